@@ -1,0 +1,4 @@
+pub mod Canon
+pub mod Carriage
+pub mod Front
+pub mod Words

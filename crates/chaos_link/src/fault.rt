@@ -1,0 +1,24 @@
+//! Why bytes are no datagram.
+
+use chaos_packet::PacketFault;
+use thiserror::Error;
+
+/// The first fault of a datagram, in the order of the checks.
+#[derive(Clone, Copy, Debug, PartialEq, Eq, Error)]
+pub enum LinkFault {
+    /// Fewer bytes than the mark and the version have.
+    #[error("fewer than four bytes")]
+    Short,
+    /// The first two bytes are not the mark.
+    #[error("no mark 43 48")]
+    BadMark,
+    /// The next two bytes are not the version.
+    #[error("no version 01 00")]
+    BadVersion,
+    /// The whole words after the version are no packet.
+    #[error("no packet: {0}")]
+    Packet(PacketFault),
+    /// A byte or more stands after the packet.
+    #[error("bytes after the packet")]
+    Trailing,
+}

@@ -1,0 +1,7 @@
+-- Items: what is numbered, and delivered in order.
+use Rattle.std.specs.Prelude.{ℕ, List}
+
+-- an opcode and data bytes
+pub record ItemView : Type 0 where
+  pub op : ℕ
+  pub body : List ℕ

@@ -1,0 +1,5 @@
+pub mod Item
+pub mod Number
+pub mod Opcode
+pub mod Packet
+pub mod Words

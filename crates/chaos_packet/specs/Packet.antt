@@ -1,0 +1,31 @@
+-- What a packet is.
+use Rattle.std.specs.List.{before_first, after_first}
+use Rattle.std.specs.Prelude.{ℕ, ◌+◌, ◌*◌, List, ◌∷◌, Option, Some, None, ◌==◌, ◌||◌, if◌then◌else◌}
+
+-- A header's fields, and the data bytes.
+pub record PacketView : Type 0 where
+  pub op : ℕ
+  pub fwd : ℕ
+  pub dst : ℕ
+  pub dst_index : ℕ
+  pub src : ℕ
+  pub src_index : ℕ
+  pub num : ℕ
+  pub ack : ℕ
+  pub body : List ℕ
+
+-- the first two words of four data bytes or more, of each word the low half first
+abbrev pub status_words : List ℕ → Option (ℕ × ℕ)
+status_words (a ∷ b ∷ c ∷ d ∷ others) = Some (a + 256 * b, c + 256 * d)
+status_words _ = None
+
+-- the receipt and the window that an OPN or STS tells
+abbrev pub status_of : PacketView → Option (ℕ × ℕ)
+status_of p = if p.op == 2 || p.op == 7 then status_words p.body else None
+
+-- An RFC's data is a contact name, and where a space (byte 32) follows it, arguments after that.
+abbrev pub contact_of : PacketView → List ℕ
+contact_of p = before_first (λ b. b == 32) p.body
+
+abbrev pub arguments_of : PacketView → List ℕ
+arguments_of p = after_first (λ b. b == 32) p.body

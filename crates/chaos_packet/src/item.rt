@@ -1,0 +1,56 @@
+//! What is numbered, kept and delivered in order.
+ghost use Rattle.std.specs.Prelude.{◌≡◌, ◌≤◌, length};
+
+use crate::limits::MAX_DATA;
+use crate::opcode::Opcode;
+use arrayvec::ArrayVec;
+use std::marker::Model;
+
+/// A controlled packet without its header: its opcode and its data. Its number is where it stands in its direction.
+#[derive(Clone, Debug, PartialEq, Eq, Drop)]
+pub struct Item {
+    pub op: Opcode,
+    /// The data bytes, at most 488.
+    pub body: ArrayVec<u8, MAX_DATA>,
+}
+
+impl Model for Item {
+    ghost use Rattle.chaos_packet.specs.Item.{ItemView};
+
+    ghost Value = { ItemView };
+
+    ghost view = { λ item. record { op = item.op; body = item.body.items } };
+
+    ghost inverse = { λ v. record { op = v.op; body = record { items = v.body } } };
+}
+
+impl Item {
+    /// An item with a copy of these bytes.
+    pub fn new(op: Opcode, bytes: &[u8]) -> Self
+        requires { length bytes.now ≤ 488 }
+        ensures { result ≡ record { op = op; body = bytes.now } }
+    {
+        Item {
+            op,
+            body: body_of(bytes),
+        }
+    }
+
+    /// The data bytes, lent.
+    pub fn bytes(&self) -> &[u8]
+        ensures value { result.now ≡ self.now.body }
+        ensures fits { length result.now ≤ 488 }
+    {
+        self.body.as_slice()
+    }
+}
+
+/// A copy of the bytes, as a packet's data.
+pub fn body_of(bytes: &[u8]) -> ArrayVec<u8, MAX_DATA>
+    requires { length bytes.now ≤ 488 }
+    ensures { result.items ≡ bytes.now }
+{
+    let mut body = ArrayVec::new();
+    let _fits = body.try_extend_from_slice(bytes);
+    body
+}

@@ -1,0 +1,149 @@
+//! A packet.
+ghost use Rattle.std.specs.Prelude.{◌≡◌, ◌+◌, ◌*◌, ◌≤◌, ◌==◌, length, position};
+ghost use Rattle.chaos_packet.specs.Packet.{status_of, status_words, contact_of, arguments_of};
+
+use crate::limits::MAX_DATA;
+use crate::number::PktNum;
+use crate::opcode::{Kind, Opcode};
+use arrayvec::ArrayVec;
+use std::marker::Model;
+
+/// A packet: its header, and at most 488 bytes of data (AI Memo 628, on packets). A contract sees a plain record,
+/// with the data as a list of bytes.
+///
+/// As words, each of 16 bits:
+///
+/// ```text
+///        high half        low half
+///      +----------------+----------------+
+///    0 | opcode         | free           |
+///    1 | forwarded (4)  | data bytes (12)|
+///    2 | destination address             |   subnet high, host low
+///    3 | destination index               |
+///    4 | source address                  |
+///    5 | source index                    |
+///    6 | number                          |
+///    7 | acknowledgement                 |
+///      +----------------+----------------+
+///    8 | data byte 1    | data byte 0    |
+///    9 | data byte 3    | data byte 2    |
+///      | ...            | ...            |
+///      +----------------+----------------+
+/// ```
+#[derive(Clone, Debug, PartialEq, Eq, Drop)]
+pub struct Packet {
+    pub op: Opcode,
+    /// How often the packet was forwarded, at most 15: the type keeps it.
+    pub fwd: u8,
+    /// The destination's address, subnet in the high half and host in the low half.
+    pub dst: u16,
+    /// The destination's index of the connection.
+    pub dst_index: u16,
+    /// The source's address.
+    pub src: u16,
+    /// The source's index of the connection.
+    pub src_index: u16,
+    /// The packet's number.
+    pub num: PktNum,
+    /// The number of the last packet that the source's user read.
+    pub ack: PktNum,
+    /// The data bytes.
+    pub body: ArrayVec<u8, MAX_DATA>,
+}
+
+impl Model for Packet {
+    ghost use Rattle.std.specs.Prelude.{◌≤◌};
+    ghost use Rattle.chaos_packet.specs.Packet.{PacketView};
+
+    ghost Value = { PacketView };
+
+    ghost view = { λ p. record {
+      op = p.op;
+      fwd = p.fwd;
+      dst = p.dst;
+      dst_index = p.dst_index;
+      src = p.src;
+      src_index = p.src_index;
+      num = p.num;
+      ack = p.ack;
+      body = p.body.items;
+    } };
+
+    ghost invariant = { λ p. p.fwd ≤ 15 };
+
+    ghost inverse = { λ v. record {
+      op = v.op;
+      fwd = v.fwd;
+      dst = v.dst;
+      dst_index = v.dst_index;
+      src = v.src;
+      src_index = v.src_index;
+      num = v.num;
+      ack = v.ack;
+      body = record { items = v.body };
+    } };
+}
+
+impl Packet {
+    /// The data bytes, lent.
+    pub fn bytes(&self) -> &[u8]
+        ensures value { result.now ≡ self.now.body }
+        ensures fits { length result.now ≤ 488 }
+    {
+        self.body.as_slice()
+    }
+
+    /// The contact name that the data of an RFC begins with: the bytes before the first space, lent.
+    pub fn contact(&self) -> &[u8]
+        ensures { result.now ≡ contact_of self.now }
+    {
+        let bytes = self.bytes();
+        match first_space(bytes) {
+            Some(place) => &bytes[..place],
+            None => bytes,
+        }
+    }
+
+    /// The arguments that follow the contact name of an RFC: the bytes after the first space, lent, and none where
+    /// there is no space.
+    pub fn arguments(&self) -> &[u8]
+        ensures { result.now ≡ arguments_of self.now }
+    {
+        let bytes = self.bytes();
+        match first_space(bytes) {
+            Some(place) => &bytes[place + 1..],
+            None => &[],
+        }
+    }
+
+    /// The receipt and the window that an OPN or STS tells, where it has four data bytes or more; those past the
+    /// fourth are ignored.
+    pub fn status(&self) -> Option<(PktNum, u16)>
+        ensures { result ≡ status_of self.now }
+    {
+        match self.op.kind() {
+            Kind::Opn | Kind::Sts => status_words(self.bytes()),
+            _ => None,
+        }
+    }
+}
+
+/// The first two words of the data.
+fn status_words(bytes: &[u8]) -> Option<(PktNum, u16)>
+    ensures { result ≡ status_words bytes.now }
+{
+    match bytes {
+        [a, b, c, d, ..] => Some((
+            PktNum(u16::from_le_bytes([*a, *b])),
+            u16::from_le_bytes([*c, *d]),
+        )),
+        _ => None,
+    }
+}
+
+/// Where the first space stands.
+fn first_space(bytes: &[u8]) -> Option<usize>
+    ensures { result ≡ position (λ b. b == 32) bytes.now }
+{
+    bytes.iter().position(|b| *b == b' ')
+}
