@@ -10,11 +10,8 @@ use chaos_packet::{MAX_WORDS, Packet, PacketFault, from_words};
 /// The most bytes of a datagram: the mark, the version and the greatest packet.
 pub const MAX_DATAGRAM: usize = 508;
 
-/// What a datagram begins with.
-pub(crate) const MARK: [u8; 2] = [0x43, 0x48];
-
-/// The version of the carriage, which follows the mark.
-pub(crate) const VERSION: [u8; 2] = [0x01, 0x00];
+/// The mark and the version that a datagram begins with.
+pub(crate) const MARK: [u8; 4] = [0x43, 0x48, 0x01, 0x00];
 
 /// The packet that the datagram carries (own profile).
 ///
@@ -51,16 +48,16 @@ pub fn from_datagram(bytes: &[u8]) -> Result<Packet, LinkFault>
 fn decode(bytes: &[u8]) -> Result<Packet, LinkFault>
     ensures { result ≡ datagram_read bytes.now }
 {
-    if bytes.len() < 4 {
+    if bytes.len() < MARK.len() {
         return Err(LinkFault::Short);
     }
     if bytes[0] != MARK[0] || bytes[1] != MARK[1] {
         return Err(LinkFault::BadMark);
     }
-    if bytes[2] != VERSION[0] || bytes[3] != VERSION[1] {
+    if bytes[2] != MARK[2] || bytes[3] != MARK[3] {
         return Err(LinkFault::BadVersion);
     }
-    let (_, after) = bytes.split_at(4);
+    let (_, after) = bytes.split_at(MARK.len());
     match words_at(after) {
         Ok((_, used)) if after.len() > 2 * used => Err(LinkFault::Trailing),
         Ok((packet, _)) => Ok(packet),

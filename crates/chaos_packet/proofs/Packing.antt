@@ -1,6 +1,7 @@
 -- The words that hold bytes, and those alone.
-use Rattle.std.proofs.Common.{◌≡◌, ℕ, zero, suc, ◌+◌, ◌-◌, ◌*◌, ◌/◌, ◌%◌, ◌<◌, ◌≤◌, List, [], ◌∷◌, ◌++◌, length, get_or, take, drop, set, refl, arith, ap, ◌∙◌, sym, length-drop, length-append}
-use Rattle.std.proofs.lemmas.List.{take_more, take_more_set, take_all, get_or_past, get_or-drop}
+use Rattle.std.proofs.Common.{◌≡◌, ℕ, zero, suc, ◌+◌, ◌-◌, ◌*◌, ◌/◌, ◌%◌, ◌<◌, ◌≤◌, List, [], ◌∷◌, ◌++◌, length, get_or, take, drop, set, refl, arith, ap, ◌∙◌, sym, length-drop, append_assoc}
+use Rattle.std.proofs.lemmas.Grind.{take-set_at}
+use Rattle.std.proofs.lemmas.List.{take_more, take_all, get_or_past, get_or-drop}
 use Rattle.chaos_packet.specs.Packet.{PacketView}
 use Rattle.chaos_packet.specs.Words.{halves, words_for, Holds, Spells, HasZeroHalves, count_of, packed, spelling_of}
 
@@ -17,19 +18,21 @@ packed_at (a ∷ []) (suc i) = let even : 2 * suc i ≡ suc (suc (2 * i)) = omeg
 packed_at (a ∷ b ∷ bs) zero = refl
 packed_at (a ∷ b ∷ bs) (suc i) = let even : 2 * suc i ≡ suc (suc (2 * i)) = omega arith in let odd : 2 * suc i + 1 ≡ suc (suc (2 * i + 1)) = omega arith in rw (odd, even) (packed_at bs i)
 
--- the store of one word more
-pub packed_stored : (ws bs : List ℕ) (i w : ℕ) → i < length ws → i < words_for (length bs) → w ≡ get_or bs (2 * i) 0 + 256 * get_or bs (2 * i + 1) 0
-    → take i ws ≡ take i (packed bs) → take (i + 1) (set ws i w) ≡ take (i + 1) (packed bs)
-packed_stored ws bs i w room there word so_far =
+-- the store of one word more, behind what stands in front
+pub packed_stored : (front ws bs : List ℕ) (m n i w : ℕ) → n ≡ m + 1 → m < length ws → i < words_for (length bs) → w ≡ get_or bs (2 * i) 0 + 256 * get_or bs (2 * i + 1) 0
+    → take m ws ≡ front ++ take i (packed bs) → take n (set ws m w) ≡ front ++ take (i + 1) (packed bs)
+packed_stored front ws bs m n i w e room there word so_far =
     let fits : i < length (packed bs) = omega (arith, length-packed bs) in
-    take_more_set ws i w room ∙ ap (λ front. front ++ w ∷ []) so_far ∙ ap (λ w. take i (packed bs) ++ w ∷ []) (word ∙ sym (packed_at bs i)) ∙ sym (take_more (packed bs) i 0 fits)
+    take-set_at ws m n w e room ∙ ap (λ l. l ++ w ∷ []) so_far ∙ append_assoc front (take i (packed bs)) (w ∷ [])
+    ∙ ap (λ v. front ++ (take i (packed bs) ++ v ∷ [])) (word ∙ sym (packed_at bs i)) ∙ ap (λ l. front ++ l) (sym (take_more (packed bs) i 0 fits))
 
 -- and with an odd count, of the last
-pub packed_last_stored : (ws bs : List ℕ) (i w : ℕ) → i < length ws → length bs ≡ 2 * i + 1 → w ≡ get_or bs (2 * i) 0
-    → take i ws ≡ take i (packed bs) → take (i + 1) (set ws i w) ≡ packed bs
-packed_last_stored ws bs i w room odd word so_far =
+pub packed_last_stored : (front ws bs : List ℕ) (m n i w : ℕ) → n ≡ m + 1 → m < length ws → length bs ≡ 2 * i + 1 → w ≡ get_or bs (2 * i) 0
+    → take m ws ≡ front ++ take i (packed bs) → take n (set ws m w) ≡ front ++ packed bs
+packed_last_stored front ws bs m n i w e room odd word so_far =
     let past : get_or bs (2 * i + 1) 0 ≡ 0 = get_or_past bs (2 * i + 1) 0 (omega arith) in
-    packed_stored ws bs i w room (omega arith) (omega (arith, past)) so_far ∙ take_all (i + 1) (packed bs) (omega (arith, length-packed bs))
+    packed_stored front ws bs m n i w e room (omega arith) (omega (arith, past)) so_far
+    ∙ ap (λ l. front ++ l) (take_all (i + 1) (packed bs) (omega (arith, length-packed bs)))
 
 -- packed words hold their bytes
 halves-packed : (bs : List ℕ) → ((i : ℕ) → get_or bs i 0 < 256) → take (length bs) (halves (packed bs)) ≡ bs

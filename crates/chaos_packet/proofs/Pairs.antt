@@ -1,5 +1,5 @@
 -- Two numbers of each word, one behind the other, and the loop that stores them.
-use Rattle.std.proofs.Common.{◌≡◌, ℕ, zero, suc, ◌+◌, ◌*◌, ◌/◌, ◌%◌, ◌<◌, ◌≤◌, List, [], ◌∷◌, ◌++◌, length, get_or, take, set, refl, arith, ap, sym, ◌∙◌}
+use Rattle.std.proofs.Common.{◌≡◌, ℕ, zero, suc, ◌+◌, ◌*◌, ◌/◌, ◌%◌, ◌<◌, ◌≤◌, List, [], ◌∷◌, ◌++◌, length, get_or, take, set, refl, arith, ap, sym, ◌∙◌, append_assoc}
 use Rattle.std.proofs.lemmas.Grind.{take-set_at}
 use Rattle.std.proofs.lemmas.List.{length-set, take_more, take-take}
 use Rattle.chaos_packet.specs.Words.{halves}
@@ -33,22 +33,25 @@ take_pair f g ws i there =
     ∙ ap (λ b. take (2 * i + 1) (pairs f g ws) ++ b ∷ []) (second_at f g ws i there) ∙ ap (λ front. front ++ g (get_or ws i 0) ∷ []) first
 
 -- two stores at the end of what was written
-take_stored : (bs : List ℕ) (i a b : ℕ) → 2 * i + 1 < length bs → take (2 * (i + 1)) (set (set bs (2 * i) a) (2 * i + 1) b) ≡ (take (2 * i) bs ++ a ∷ []) ++ b ∷ []
-take_stored bs i a b fits =
-    let inner : take (2 * i + 1) (set bs (2 * i) a) ≡ take (2 * i) bs ++ a ∷ [] = take-set_at bs (2 * i) (2 * i + 1) a refl (omega arith) in
-    let room : 2 * i + 1 < length (set bs (2 * i) a) = simp length-set fits in
-    take-set_at (set bs (2 * i) a) (2 * i + 1) (2 * (i + 1)) b (omega arith) room ∙ ap (λ front. front ++ b ∷ []) inner
+take_stored : (bs : List ℕ) (m n a b : ℕ) → n ≡ m + 2 → m + 1 < length bs → take n (set (set bs m a) (m + 1) b) ≡ (take m bs ++ a ∷ []) ++ b ∷ []
+take_stored bs m n a b e fits =
+    let inner : take (m + 1) (set bs m a) ≡ take m bs ++ a ∷ [] = take-set_at bs m (m + 1) a refl (omega arith) in
+    let room : m + 1 < length (set bs m a) = simp length-set fits in
+    take-set_at (set bs m a) (m + 1) n b (omega arith) room ∙ ap (λ front. front ++ b ∷ []) inner
 
 pub length-stored : (bs : List ℕ) (i j a b : ℕ) → length (set (set bs i a) j b) ≡ length bs
 length-stored bs i j a b = simp length-set
 
--- so the stores of one more word go on with the numbers
-pub pair_stored : (f g : ℕ → ℕ) (bs ws : List ℕ) (i : ℕ) → i < length ws → 2 * i + 1 < length bs → take (2 * i) bs ≡ take (2 * i) (pairs f g ws)
-    → take (2 * (i + 1)) (set (set bs (2 * i) (f (get_or ws i 0))) (2 * i + 1) (g (get_or ws i 0))) ≡ take (2 * (i + 1)) (pairs f g ws)
-pair_stored f g bs ws i there fits so_far =
-    take_stored bs i (f (get_or ws i 0)) (g (get_or ws i 0)) fits
-    ∙ ap (λ front. (front ++ f (get_or ws i 0) ∷ []) ++ g (get_or ws i 0) ∷ []) so_far
-    ∙ sym (take_pair f g ws i there)
+-- so the stores of one more word go on with the numbers, behind what stands in front
+pub pair_stored : (f g : ℕ → ℕ) (front bs ws : List ℕ) (m n i : ℕ) → n ≡ m + 2 → i < length ws → m + 1 < length bs → take m bs ≡ front ++ take (2 * i) (pairs f g ws)
+    → take n (set (set bs m (f (get_or ws i 0))) (m + 1) (g (get_or ws i 0))) ≡ front ++ take (2 * (i + 1)) (pairs f g ws)
+pair_stored f g front bs ws m n i e there fits so_far =
+    let first = f (get_or ws i 0) in
+    let second = g (get_or ws i 0) in
+    let before = take (2 * i) (pairs f g ws) in
+    take_stored bs m n first second e fits ∙ ap (λ l. (l ++ first ∷ []) ++ second ∷ []) so_far
+    ∙ ap (λ l. l ++ second ∷ []) (append_assoc front before (first ∷ [])) ∙ append_assoc front (before ++ first ∷ []) (second ∷ [])
+    ∙ ap (λ l. front ++ l) (sym (take_pair f g ws i there))
 
 -- lists that begin alike begin alike up to any place before
 pub take_before : (xs ys : List ℕ) (m n : ℕ) → m ≤ n → take n xs ≡ take n ys → take m xs ≡ take m ys

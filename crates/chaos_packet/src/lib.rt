@@ -16,9 +16,9 @@ mod writing;
 
 pub use fault::PacketFault;
 pub use item::Item;
-pub use limits::{HEADER_WORDS, MAX_DATA, MAX_DATA_WORDS, MAX_FORWARDS, MAX_WORDS};
+pub use limits::{HEADER_WORDS, MAX_DATA, MAX_FORWARDS, MAX_WORDS};
 pub use number::PktNum;
 pub use opcode::{Kind, Opcode};
 pub use packet::Packet;
 pub use reading::{from_words, law_spells};
-pub use writing::to_words;
+pub use writing::{to_words, write_words};

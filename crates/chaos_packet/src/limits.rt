@@ -6,9 +6,6 @@ pub const HEADER_WORDS: usize = 8;
 /// The most data bytes of a packet.
 pub const MAX_DATA: usize = 488;
 
-/// The most words of a packet's data, two bytes to a word.
-pub const MAX_DATA_WORDS: usize = 244;
-
 /// The most words of a packet: its header and the data, two bytes to a word.
 pub const MAX_WORDS: usize = 252;
 

@@ -1,13 +1,12 @@
 //! The words of a packet.
-ghost use Rattle.std.specs.Prelude.{◌≡◌, ℕ, ◌<◌, ◌≤◌, length, take, slice_index};
-ghost use Rattle.chaos_packet.specs.Words.{Spells, HasZeroHalves, packed, spelling_of};
+ghost use Rattle.std.specs.Prelude.{◌≡◌, ℕ, ◌+◌, ◌<◌, ◌≤◌, ◌++◌, length, take, slice_index};
+ghost use Rattle.chaos_packet.specs.Words.{Spells, HasZeroHalves, words_for, packed, spelling_of};
 
-use crate::limits::{MAX_DATA_WORDS, MAX_WORDS};
+use crate::limits::{HEADER_WORDS, MAX_WORDS};
 use crate::packet::Packet;
 use arrayvec::ArrayVec;
 
-/// The words that spell the packet, with zero free halves. The data bytes are copied by whole words, and nothing is
-/// allocated.
+/// The words that spell the packet, with zero free halves. Nothing is allocated.
 pub fn to_words(packet: &Packet) -> ArrayVec<u16, MAX_WORDS>
     // The words spell the packet.
     ensures spelled { Spells packet.now result.items }
@@ -17,6 +16,21 @@ pub fn to_words(packet: &Packet) -> ArrayVec<u16, MAX_WORDS>
 
     // For callers that compute: the words are a function of the packet.
     ensures exact { result.items ≡ spelling_of packet.now }
+{
+    let mut words = [0; MAX_WORDS];
+    let count = write_words(packet, &mut words);
+    let mut spelling = ArrayVec::from(words);
+    spelling.truncate(count);
+    spelling
+}
+
+/// Writes the words of [`to_words`] to the front of a buffer of the caller's, and says how many they are. The data
+/// bytes are copied by whole words.
+pub fn write_words(packet: &Packet, words: &mut [u16; MAX_WORDS]) -> usize
+    ensures count { result ≤ 252 }
+    ensures spelled { Spells packet.now (take result words.new) }
+    ensures zero { HasZeroHalves (take result words.new) }
+    ensures exact { take result words.new ≡ spelling_of packet.now }
 {
     let bytes = packet.bytes();
     let header = [
@@ -29,28 +43,24 @@ pub fn to_words(packet: &Packet) -> ArrayVec<u16, MAX_WORDS>
         packet.num.0,
         packet.ack.0,
     ];
-    let mut data = [0; MAX_DATA_WORDS];
-    let count = pack(bytes, &mut data);
-    let mut words = ArrayVec::new();
-    let _fits = words.try_extend_from_slice(&header);
-    let _fits = words.try_extend_from_slice(&data[..count]);
-    words
+    words[..HEADER_WORDS].copy_from_slice(&header);
+    pack(bytes, words)
 }
 
-/// Packs the bytes two to a word, the first in the low half, and says how many words they fill.
-fn pack(bytes: &[u8], words: &mut [u16; MAX_DATA_WORDS]) -> usize
+/// Packs the bytes behind a header, two to a word, the first in the low half, and says where they end.
+fn pack(bytes: &[u8], words: &mut [u16; MAX_WORDS]) -> usize
     requires { length bytes.now ≤ 488 }
-    ensures count { result ≤ 244 }
-    ensures packed { take result words.new ≡ packed bytes.now }
+    ensures count { result ≡ 8 + words_for (length bytes.now) }
+    ensures packed { take result words.new ≡ take 8 words.old ++ packed bytes.now }
     ensures bytes { (i : ℕ) → slice_index bytes.now i < 256 }
 {
     let pairs = bytes.len() / 2;
     for i in 0..pairs {
-        words[i] = u16::from_le_bytes([bytes[2 * i], bytes[2 * i + 1]]);
+        words[HEADER_WORDS + i] = u16::from_le_bytes([bytes[2 * i], bytes[2 * i + 1]]);
     }
     if bytes.len() % 2 == 0 {
-        return pairs;
+        return HEADER_WORDS + pairs;
     }
-    words[pairs] = u16::from(bytes[2 * pairs]);
-    pairs + 1
+    words[HEADER_WORDS + pairs] = u16::from(bytes[2 * pairs]);
+    HEADER_WORDS + pairs + 1
 }

@@ -1,11 +1,11 @@
-use Rattle.std.proofs.Common.{◌∙◌, ◌*◌, ap, arith, sym, take}
+use Rattle.std.proofs.Common.{[], ◌∙◌, ◌*◌, ap, arith, sym, take}
 use Rattle.chaos_packet.proofs.Pairs.{length-stored, pair_stored, take_before, halves-pairs}
 use Rattle.chaos_packet.proofs.reading.data_of.Goals as goal
 
 pub loop-i-preserved : goal.loop-i-preserved
 loop-i-preserved c = record {
   size = length-stored c.loop-i.bytes _ _ _ _ ∙ c.loop-i.invariant.size;
-  bytes = pair_stored _ _ c.loop-i.bytes c.args.words.now c.loop-i.i c.loop-i-test.true (omega arith) c.loop-i.invariant.bytes;
+  bytes = pair_stored _ _ [] c.loop-i.bytes c.args.words.now _ _ c.loop-i.i (omega arith) c.loop-i-test.true (omega arith) c.loop-i.invariant.bytes;
 }
 
 pub returns : goal.returns

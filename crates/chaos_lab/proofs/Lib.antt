@@ -1,0 +1,13 @@
+pub mod Lists
+pub mod Directions
+pub mod Grows
+pub mod Copies
+pub mod Ends
+pub mod Rows
+pub mod Sent
+pub mod Machines
+pub mod Reading
+pub mod Arriving
+pub mod DeliveryLaw
+pub mod Example
+pub mod Total

@@ -1,0 +1,83 @@
+//! The laws of the plain machine and of packet numbers. A law is a function that does nothing: its contract is the law, and a
+//! caller learns it by the call. Both hold of the definitions in `specs/` alone.
+
+ghost use Rattle.std.specs.Prelude.{◌≡◌, ◌↔◌, ℕ, ◌+◌, ◌-◌, ◌<◌, ◌≤◌, length, true, slice_get};
+ghost use Rattle.std.specs.FinSet.{contains};
+ghost use Rattle.chaos_packet.specs.Item.{ItemView};
+ghost use Rattle.chaos_packet.specs.Number.{num, off};
+ghost use Rattle.chaos_lab.specs.declared.side.Side.{Side};
+ghost use Rattle.chaos_lab.specs.Machine.{Machine, Event, Schedule, other, FirstMissing, Step, Run, Reached, fresh_span, greatest_window};
+ghost use Rattle.chaos_lab.specs.Machine.Phase.{Open};
+ghost use Rattle.chaos_lab.specs.Machine.Event.{ReadAt};
+ghost use Rattle.chaos_lab.specs.Numbers.{told_num};
+ghost use Rattle.chaos_lab.specs.Law.{Begins, writer, reader, IsThere, DeliversInside, RunUnclosed, ReadsItem, ReadsNext, CanHappen};
+
+/// The delivery law. Over every schedule of deliveries, losses, repeats and orders of fresh copies, and in both directions: what
+/// a user has read is a beginning of what the other wrote, the writer's counts are true, and an item that is delivered to an
+/// open end inside its window can be read in its turn.
+///
+/// Its premises stand in `Reached`: both caps of each end are 1 to 64, copies come from these two ends alone, and each is fresh
+/// when it is delivered. It promises nothing of time: not that a copy is ever delivered, nor that a waiting writer is served.
+pub fn law_delivery()
+    // what was read is a beginning of what was written
+    ensures beginning { (m : Machine) (x : Side) → Reached m →
+        Begins (reader m x).read (writer m x).written }
+    // an acknowledgement counts no more than was read, and no more than the receipt does
+    ensures acknowledged { (m : Machine) (x : Side) → Reached m →
+        ((writer m x).acked ≤ length (reader m x).read) × ((writer m x).acked ≤ (writer m x).receipted) }
+    // a receipt counts no more than arrived without a gap, which is no more than was written
+    ensures receipted { (m : Machine) (x : Side) (f : ℕ) → Reached m → FirstMissing (reader m x) f →
+        ((writer m x).receipted ≤ f) × (f ≤ length (writer m x).written) }
+    // and the first gap is somewhere
+    ensures first_missing { (m : Machine) (x : Side) → Reached m → (f : ℕ) × FirstMissing (reader m x) f }
+    // at most a window of items isn't acknowledged
+    ensures room { (m : Machine) (x : Side) → Reached m →
+        length (writer m x).written - (writer m x).acked ≤ (writer m x).send_cap }
+
+    // an item that is delivered to an open end inside its window was read, or has arrived
+    ensures arrives { (m n : Machine) (x : Side) (i : ℕ) → Reached m → DeliversInside m x i n →
+        IsThere (reader n x) i }
+    // what has arrived is never lost
+    ensures arrivals_stay { (m n : Machine) (x : Side) (events : Schedule) (i : ℕ) →
+        Reached m → Run m events n →
+        contains (reader m x).arrived i ≡ true → contains (reader n x).arrived i ≡ true }
+    // what was written and what was read stays as it is, and only more comes after it
+    ensures items_stay { (m n : Machine) (x : Side) (events : Schedule) → Reached m → Run m events n →
+        Begins (writer m x).written (writer n x).written × Begins (reader m x).read (reader n x).read }
+    // once an end was open, and until its own user closes it, a read gives the next item exactly where that has arrived
+    ensures reads { (l m n : Machine) (x : Side) (events : Schedule) →
+        Reached l → (reader l x).phase ≡ Open → RunUnclosed (other x) l events m →
+        Step m (ReadAt (other x)) n → ReadsNext (writer m x) (reader m x) (reader n x) }
+    // so an item that was delivered is what a read gives in its turn, whatever happened since
+    ensures in_turn { (l m n o : Machine) (x : Side) (events : Schedule) (i : ℕ) →
+        Reached l → DeliversInside l x i m → RunUnclosed (other x) m events n →
+        length (reader n x).read ≡ i → Step n (ReadAt (other x)) o →
+        (item : ItemView) × (slice_get (writer l x).written i ≡ Some item)
+        × ReadsItem item (reader n x) (reader o x) }
+
+    // no schedule is left out: each event has a step, but for the delivery of a copy that wasn't sent or isn't fresh
+    ensures happens { (m : Machine) (event : Event) → CanHappen m event →
+        (n : Machine) × Step m event n }
+{}
+
+/// The law of packet numbers: those of items near one another differ, modulo 65536, as the items' indices do. So an end that
+/// compares the 16-bit numbers of fresh packets decides as the plain machine does, which compares true counts.
+///
+/// An item or a count of a copy lies at most a window, 64, behind all that was written when the copy was sent. So while the copy
+/// is fresh it lies less than 32,640 + 64 behind.
+pub fn law_numbers()
+    // an item at most the greatest window ahead has a number just as far ahead
+    ensures ahead { (b n x : ℕ) → x ≤ greatest_window → off (num b (n + x)) (num b n) ≡ x }
+    // one behind, by as much as an item of a fresh copy can be, has a number at least half the circle ahead
+    ensures behind { (b n x : ℕ) → 0 < x → x < fresh_span + greatest_window →
+        32767 < off (num b n) (num b (n + x)) }
+    // the number of a told count lies between those of the present count and of all that was written exactly where the count is
+    // no smaller than the present one
+    ensures told { (b told count written : ℕ) → count ≤ written → written ≤ count + greatest_window →
+        told ≤ written → written < told + fresh_span + greatest_window →
+        (off (told_num b told) (told_num b count) ≤ off (told_num b written) (told_num b count))
+        ↔ (count ≤ told) }
+    // and then it is as far ahead as the count is
+    ensures told_by { (b told count : ℕ) → count ≤ told → told ≤ count + greatest_window →
+        off (told_num b told) (told_num b count) ≡ told - count }
+{}

@@ -1,0 +1,14 @@
+use super::*;
+
+#[test]
+fn each_side_is_the_other_of_the_other(rt: HostRuntime) {
+    assert_eq!(rt; Side::A.other(), Side::B);
+    assert_eq!(rt; Side::B.other(), Side::A);
+}
+
+// a law is learnt by its call, which does nothing
+#[test]
+fn laws_are_called() {
+    law_delivery();
+    law_numbers();
+}
