@@ -29,6 +29,8 @@ Carries p bs = (ws : List ℕ) × Spells p ws × (bs ≡ mark ++ wire ws)
 abbrev pub Canonical : List ℕ → Type 0
 Canonical bs = HasZeroHalves (words_of (drop 4 bs))
 
+-- ---- The same as functions of the bytes and of the packet, for crates that compute with them
+
 -- the canonical datagram that carries a packet
 abbrev pub datagram_of : PacketView → List ℕ
 datagram_of p = mark ++ wire (spelling_of p)

@@ -45,6 +45,8 @@ pub record HasZeroHalves (ws : List ℕ) : Type 0 where
 abbrev pub AtMostOnePacket : Type 0
 AtMostOnePacket = (p q : PacketView) (ws : List ℕ) → Spells p ws → Spells q ws → p ≡ q
 
+-- ---- The same as functions of the words and of the packet, for crates that compute with them
+
 -- the first fault of these words: too few for a header, too great a count, too few for the count
 abbrev pub words_fault : List ℕ → Option PacketFault
 words_fault ws = if nat_lt (length ws) 8 then Some Short

@@ -1,0 +1,57 @@
+//! Why a command line asks for nothing.
+ghost use Rattle.std.specs.Prelude.{◌≡◌};
+ghost use Rattle.chaosd_line.specs.Fault.{fault_of_kind, line_status};
+
+use clap::error::ErrorKind;
+use thiserror::Error;
+
+/// The status of a program that did what it was asked, or showed help.
+const DONE: u8 = 0;
+
+/// The status of a program that could not make sense of its command line.
+const BAD_LINE: u8 = 2;
+
+/// The status of a program that ran out of memory.
+const NO_MEMORY: u8 = 4;
+
+/// Why a command line asks for nothing. Cast to an integer, a fault is its number, 1 to 3.
+#[derive(Clone, Copy, Debug, PartialEq, Eq, Error)]
+pub enum LineFault {
+    /// The words are no line of the program.
+    #[error("the command line is not understood; try --help")]
+    BadLine = 1,
+    /// The words ask for help, which is shown in place of a run.
+    #[error("help was asked for")]
+    Help = 2,
+    /// Memory ran out while the words were read.
+    #[error("out of memory while reading the command line")]
+    NoMemory = 3,
+}
+
+impl LineFault {
+    /// The exit status of a program that ends by this fault: 0 where help was shown, 2 for a bad
+    /// line, 4 for want of memory.
+    pub fn status(self) -> u8
+        ensures { result ≡ line_status self }
+    {
+        match self {
+            LineFault::BadLine => BAD_LINE,
+            LineFault::Help => DONE,
+            LineFault::NoMemory => NO_MEMORY,
+        }
+    }
+}
+
+impl From<ErrorKind> for LineFault {
+    ghost from_gives = { λ kind fault. fault ≡ fault_of_kind kind };
+
+    /// The fault that clap's kind of error stands for: every kind but help and want of memory is
+    /// a bad line.
+    fn from(kind: ErrorKind) -> LineFault {
+        match kind {
+            ErrorKind::DisplayHelp => LineFault::Help,
+            ErrorKind::OutOfMemory => LineFault::NoMemory,
+            _ => LineFault::BadLine,
+        }
+    }
+}

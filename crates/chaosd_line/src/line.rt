@@ -1,0 +1,10 @@
+//! What a command line asks for.
+
+/// What a command line asks for: a subcommand, with its values.
+///
+/// Today there is `Show` alone. Each further subcommand becomes a variant when it is built.
+#[derive(Clone, Copy, Debug, PartialEq, Eq)]
+pub enum Line {
+    /// `chaosd show`: hexadecimal lines from standard input, one datagram a line, to reports.
+    Show,
+}
