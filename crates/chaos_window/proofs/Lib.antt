@@ -1,0 +1,4 @@
+pub mod Counts
+pub mod Edits
+pub mod Offsets
+pub mod SlotLemmas

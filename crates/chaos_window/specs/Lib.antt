@@ -1,0 +1,4 @@
+pub mod Held
+pub mod Receive
+pub mod Send
+pub mod Slots

@@ -1,0 +1,19 @@
+//! The two windows of a connection: what an end sent and may have to send again, and what an end holds until its
+//! user reads it (AI Memo 628, on connections).
+//!
+//! Lists and numbers alone: no sockets, no clock, and no allocation after `new`.
+#![tactic(auto)]
+
+mod arrival;
+mod held;
+mod limits;
+mod receive;
+mod send;
+mod slots;
+#[cfg(test)]
+mod tests;
+
+pub use arrival::Arrived;
+pub use limits::MAX_WINDOW;
+pub use receive::RecvWindow;
+pub use send::{Full, SendWindow};

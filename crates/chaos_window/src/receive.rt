@@ -1,0 +1,152 @@
+//! What an end holds.
+ghost use Rattle.std.specs.Prelude.{◌≡◌, ◌≤◌, IfOk};
+ghost use Rattle.std.specs.Option.{option_copied};
+ghost use Rattle.chaos_window.specs.Receive.{IsReceiveWindow, item_at, clear_receive, started_receive, arrival_of, after_arrival, after_advance, receipt_of, held_count};
+
+use crate::arrival::Arrived;
+use crate::limits::MAX_WINDOW;
+use crate::slots::Slots;
+use chaos_packet::{Item, PktNum};
+use std::alloc::{AllocError, Global};
+use std::marker::Model;
+
+/// The receive window of a connection (AI Memo 628, on connections): the items that arrived and were not read, each at
+/// its offset past the number last read.
+///
+/// ```text
+///    number last read
+///          |
+///  .. read | 1 | 2 | 3 | .. | cap | outside ..
+///            |
+///       next number
+/// ```
+///
+/// A contract sees the number and a slot for each offset. `new` takes the memory for an item in each slot, and no later
+/// call takes any.
+#[derive(Drop)]
+pub struct RecvWindow {
+    /// The number last read.
+    read: PktNum,
+    /// The next numbers, as many as the cap.
+    slots: Slots,
+}
+
+impl Model for RecvWindow {
+    ghost use Rattle.chaos_window.specs.Receive.{ReceiveView, IsReceiveWindow, receive_view};
+
+    ghost Value = { ReceiveView };
+
+    ghost view = { λ w. receive_view w.read w.slots };
+
+    ghost invariant = { λ w. IsReceiveWindow (receive_view w.read w.slots) };
+}
+
+impl RecvWindow {
+    /// A clear window, which takes the next `cap` numbers.
+    pub fn new(alloc: Global, cap: u16) -> Result<Self, AllocError>
+        requires { (1 ≤ cap) × (cap ≤ MAX_WINDOW) }
+        ensures { IfOk result (λ window. window ≡ clear_receive cap) }
+    {
+        let slots = Slots::new(alloc, cap)?;
+        Ok(RecvWindow {
+            read: PktNum(0),
+            slots,
+        })
+    }
+
+    /// Makes `num` the number last read, in a clear window.
+    pub fn start(&mut self, num: PktNum)
+        requires { self.old ≡ clear_receive self.old.cap }
+        ensures { self.new ≡ started_receive self.old.cap num }
+    {
+        self.read = num;
+    }
+
+    /// Takes an item that came with a number, and says what became of it.
+    ///
+    /// At most one move of the items held.
+    pub fn arrive(&mut self, num: PktNum, item: Item) -> Arrived
+        ensures answer { result ≡ arrival_of self.old num }
+        ensures held { self.new ≡ after_arrival self.old num item }
+    {
+        let offset = num.off(self.read);
+        if 1 <= offset && offset <= self.slots.cap() {
+            if self.slots.put(offset, item) {
+                Arrived::Took
+            } else {
+                Arrived::Duplicate
+            }
+        } else if num.after(self.read) {
+            Arrived::Outside
+        } else {
+            Arrived::Duplicate
+        }
+    }
+
+    /// Lends the next item, where it is held.
+    pub fn front(&self) -> Option<&Item>
+        ensures { option_copied result ≡ item_at self.now 1 }
+    {
+        self.held_at(1)
+    }
+
+    /// Reads the next item, where it is held, and hands it out.
+    ///
+    /// At most one move of the items held.
+    pub fn advance(&mut self) -> Option<Item>
+        ensures item { result ≡ item_at self.old 1 }
+        ensures rest { self.new ≡ after_advance self.old }
+    {
+        let item = self.slots.take_first()?;
+        self.read = self.read.next();
+        Some(item)
+    }
+
+    /// The receipt to send: the number up to which all arrived, with no gap after the number last read.
+    ///
+    /// At most a walk over the items before the first gap.
+    pub fn receipt(&self) -> PktNum
+        ensures { result ≡ receipt_of self.now }
+    {
+        self.read.plus(self.slots.unbroken())
+    }
+
+    /// The number last read.
+    pub fn read_num(&self) -> PktNum
+        ensures { result ≡ self.now.read }
+    {
+        self.read
+    }
+
+    /// The window: how far past the number last read an item is taken.
+    pub fn cap(&self) -> u16
+        ensures value { result ≡ self.now.cap }
+        // What a caller may know of any receive window.
+        ensures sound { IsReceiveWindow self.now }
+    {
+        self.slots.cap()
+    }
+
+    /// How many items are held.
+    pub fn held(&self) -> usize
+        ensures count { result ≡ held_count self.now }
+        ensures fits { (result ≤ self.now.cap) × (result ≤ MAX_WINDOW) }
+    {
+        self.slots.count()
+    }
+
+    /// Lends the item held at an offset past the number last read, the next one at 1.
+    pub fn held_at(&self, offset: u16) -> Option<&Item>
+        ensures { option_copied result ≡ item_at self.now offset }
+    {
+        self.slots.get(offset)
+    }
+
+    /// Drops every item, and makes the window as new.
+    pub fn clear(&mut self)
+        ensures { self.new ≡ clear_receive self.old.cap }
+    {
+        self.slots.clear();
+        self.read = PktNum(0);
+    }
+}

@@ -1,0 +1,212 @@
+//! What an end has sent.
+ghost use Rattle.std.specs.Prelude.{◌≡◌, ◌<◌, ◌≤◌, length, drop, slice_get, vec_len, vec_capacity, IfOk, IsErr};
+ghost use Rattle.std.specs.Option.{option_copied};
+ghost use Rattle.chaos_window.specs.Send.{IsSendWindow, outstanding_of, next_of, clear_send, started_send, after_push, after_receipt, after_acknowledgement, after_window};
+
+use crate::limits::MAX_WINDOW;
+use chaos_packet::{Item, MAX_DATA, Opcode, PktNum};
+use std::alloc::{AllocError, Global};
+use std::marker::Model;
+use thiserror::Error;
+
+/// The window has no room: as many items are outstanding as it allows.
+#[derive(Clone, Copy, Debug, PartialEq, Eq, Error)]
+#[error("the window is full")]
+pub struct Full;
+
+/// The send window of a connection (AI Memo 628, on connections): the items that may have to be sent again, the oldest
+/// first, and how far the other end has receipted and acknowledged them.
+///
+/// ```text
+///      acknowledged        receipted              sent
+///           |                  |                   |
+///   .. read | arrived, but not | kept: not known   | next ..
+///           | known to be read | to have arrived   |
+///           +------------- outstanding ------------+
+/// ```
+///
+/// A contract sees the numbers, the window and the list of the items kept. `new` takes the memory for as many items as
+/// the cap, and no later call takes any.
+#[derive(Drop)]
+pub struct SendWindow {
+    /// The greatest window.
+    cap: u16,
+    /// The number last sent.
+    sent: PktNum,
+    /// The number up to which all arrived, as far as is known.
+    receipted: PktNum,
+    /// The number up to which all were read, as far as is known.
+    acknowledged: PktNum,
+    /// The window that the other end announced, and the cap before it did.
+    window: u16,
+    /// The items past `receipted`, the oldest first.
+    kept: Vec<Item>,
+}
+
+impl Model for SendWindow {
+    ghost use Rattle.std.specs.Prelude.{◌≤◌, vec_capacity};
+    ghost use Rattle.chaos_window.specs.Send.{SendView, IsSendWindow, send_view};
+
+    ghost Value = { SendView };
+
+    ghost view = { λ w. send_view w.cap w.sent w.receipted w.acknowledged w.window w.kept.items };
+
+    ghost invariant = { λ w. IsSendWindow (send_view w.cap w.sent w.receipted w.acknowledged w.window w.kept.items)
+        × (w.cap ≤ vec_capacity w.kept) };
+}
+
+impl SendWindow {
+    /// A clear window, which keeps at most `cap` items.
+    pub fn new(alloc: Global, cap: u16) -> Result<Self, AllocError>
+        requires { (1 ≤ cap) × (cap ≤ MAX_WINDOW) }
+        ensures { IfOk result (λ window. window ≡ clear_send cap) }
+    {
+        let kept = Vec::with_capacity(alloc, cap as usize)?;
+        Ok(SendWindow {
+            cap,
+            sent: PktNum(0),
+            receipted: PktNum(0),
+            acknowledged: PktNum(0),
+            window: cap,
+            kept,
+        })
+    }
+
+    /// Makes `num` the number of the next item, in a clear window.
+    pub fn start(&mut self, num: PktNum)
+        requires { self.old ≡ clear_send self.old.cap }
+        ensures started { self.new ≡ started_send self.old.cap num }
+        ensures room { outstanding_of self.new < self.new.window }
+    {
+        let before = PktNum(num.0.wrapping_sub(1));
+        self.sent = before;
+        self.receipted = before;
+        self.acknowledged = before;
+    }
+
+    /// Sends an item of at most [`MAX_DATA`] bytes, and answers its number. It is `Full` exactly where as many items are
+    /// outstanding as the window allows, and then nothing changes.
+    ///
+    /// The bytes are copied where the item is taken, and not before.
+    pub fn push(&mut self, op: Opcode, body: &[u8]) -> Result<PktNum, Full>
+        requires { length body.now ≤ MAX_DATA }
+        ensures sent { outstanding_of self.old < self.old.window
+            → (result ≡ Ok (next_of self.old)) × (self.new ≡ after_push self.old op body.now) }
+        ensures full { self.old.window ≤ outstanding_of self.old → IsErr result × (self.new ≡ self.old) }
+    {
+        if self.outstanding() >= self.window {
+            return Err(Full);
+        }
+        let _ = self.kept.push(Item::new(op, body));
+        self.sent = self.sent.next();
+        Ok(self.sent)
+    }
+
+    /// The number last sent.
+    pub fn last(&self) -> PktNum
+        ensures { result ≡ self.now.sent }
+    {
+        self.sent
+    }
+
+    /// The number last receipted. The item kept at index i has the number i + 1 further on.
+    pub fn receipted(&self) -> PktNum
+        ensures { result ≡ self.now.receipted }
+    {
+        self.receipted
+    }
+
+    /// The window: how many items may be outstanding.
+    pub fn window(&self) -> u16
+        ensures { result ≡ self.now.window }
+    {
+        self.window
+    }
+
+    /// The greatest window.
+    pub fn cap(&self) -> u16
+        ensures value { result ≡ self.now.cap }
+        // What a caller may know of any send window.
+        ensures sound { IsSendWindow self.now }
+    {
+        self.cap
+    }
+
+    /// Takes a receipt, which says that all up to `num` arrived. It counts where `num` lies between the present receipt
+    /// and the number last sent, both included.
+    ///
+    /// The items that stay are moved once, however many are dropped.
+    pub fn receipt(&mut self, num: PktNum)
+        ensures { self.new ≡ after_receipt self.old num }
+    {
+        let arrived = num.off(self.receipted);
+        if arrived <= self.unreceipted() {
+            drop_front(&mut self.kept, arrived as usize);
+            self.receipted = num;
+        }
+    }
+
+    /// Takes an acknowledgement, which says that the other end's user read all up to `num`, so that they arrived too. It
+    /// counts where `num` lies between the present acknowledgement and the number last sent, both included.
+    ///
+    /// The items that stay are moved at most once.
+    pub fn acknowledge(&mut self, num: PktNum)
+        ensures { self.new ≡ after_acknowledgement self.old num }
+    {
+        if num.off(self.acknowledged) <= self.outstanding() {
+            // The receipt comes first, since no more may be kept than is outstanding.
+            self.receipt(num);
+            self.acknowledged = num;
+        }
+    }
+
+    /// Takes the window that the other end announced, which may be 0, and cuts it to the cap.
+    pub fn set_window(&mut self, window: u16)
+        ensures { self.new ≡ after_window self.old window }
+    {
+        self.window = window.min(self.cap);
+    }
+
+    /// Lends the item kept at an index, the oldest at 0.
+    pub fn kept(&self, index: usize) -> Option<&Item>
+        ensures { option_copied result ≡ slice_get self.now.kept index }
+    {
+        self.kept.get(index)
+    }
+
+    /// How many items are sent and not acknowledged.
+    pub fn outstanding(&self) -> u16
+        ensures count { result ≡ outstanding_of self.now }
+        ensures fits { result ≤ self.now.cap }
+    {
+        self.sent.off(self.acknowledged)
+    }
+
+    /// How many items are sent and not receipted, which is how many are kept.
+    pub fn unreceipted(&self) -> u16
+        ensures count { result ≡ length self.now.kept }
+        ensures fits { (result ≤ self.now.cap) × (result ≤ MAX_WINDOW) }
+    {
+        self.sent.off(self.receipted)
+    }
+
+    /// Drops every item, and makes the window as new.
+    pub fn clear(&mut self)
+        ensures { self.new ≡ clear_send self.old.cap }
+    {
+        self.kept.clear();
+        self.sent = PktNum(0);
+        self.receipted = PktNum(0);
+        self.acknowledged = PktNum(0);
+        self.window = self.cap;
+    }
+}
+
+/// Drops the first items.
+fn drop_front(items: &mut Vec<Item>, count: usize)
+    requires { count ≤ vec_len items.old }
+    ensures items { items.new.items ≡ drop count items.old.items }
+    ensures capacity { vec_capacity items.new ≡ vec_capacity items.old }
+{
+    items.drain(..count);
+}
