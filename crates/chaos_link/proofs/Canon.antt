@@ -1,5 +1,5 @@
 -- The one canonical datagram of a packet.
-use Rattle.std.proofs.Common.{◌≡◌, ◌++◌, List, ℕ, drop, refl, ap, ◌∙◌, sym}
+use Rattle.std.proofs.Common.{◌≡◌, ◌++◌, List, ℕ, drop, refl, ap, ◌∙◌}
 use Rattle.chaos_packet.specs.Packet.{PacketView}
 use Rattle.chaos_packet.specs.Words.{Spells, HasZeroHalves, spelling_of}
 use Rattle.chaos_packet.proofs.Packing.{spelled_only}

@@ -1,10 +1,9 @@
 -- What is read of bytes is what they carry.
-use Rattle.std.proofs.Common.{◌≡◌, ℕ, ◌+◌, ◌*◌, ◌<◌, ◌≤◌, Bool, true, false, List, [], ◌∷◌, length, get_or, take, drop, refl, arith, ap, ◌∙◌, sym, cond, not, ◌&&◌, eqb, nat_lt, Option, Some, None, Ok, Err, Result, IfOk, All, length-drop, inl, inr}
+use Rattle.std.proofs.Common.{◌≡◌, ℕ, ◌+◌, ◌*◌, ◌<◌, ◌≤◌, Bool, true, false, List, [], ◌∷◌, length, get_or, take, drop, refl, arith, ap, ◌∙◌, sym, cond, not, ◌&&◌, eqb, nat_lt, Option, Some, None, Ok, Result, IfOk, All, length-drop, inl, inr}
 use Rattle.std.proofs.lemmas.List.{take_all, get_or-drop, get_or_past}
 use Rattle.std.proofs.lemmas.List.Elements.{All-get_or}
 use Rattle.std.proofs.lemmas.Bool.{cases_lt}
 use Rattle.std.proofs.lemmas.Bool.Decides.{nat_tests}
-use Rattle.std.proofs.lemmas.Grind.{common_steps}
 use Rattle.chaos_packet.specs.Packet.{PacketView}
 use Rattle.chaos_packet.specs.Words.{Spells, words_for, count_of, words_fault, packet_at}
 use Rattle.chaos_packet.specs.declared.fault.PacketFault.{PacketFault}

@@ -1,5 +1,5 @@
 -- The first 252 words are all that matters.
-use Rattle.std.proofs.Common.{◌≡◌, ℕ, ◌+◌, ◌%◌, ◌<◌, ◌≤◌, List, length, get_or, take, drop, refl, arith, ap, ◌∙◌, length-take, min, cond, nat_lt, Some, None, Ok, Err, Result, IfOk, MatchResult, subst}
+use Rattle.std.proofs.Common.{◌≡◌, ℕ, ◌+◌, ◌%◌, ◌≤◌, List, length, take, drop, refl, arith, ap, ◌∙◌, length-take, min, cond, nat_lt, Some, None, Ok, Err, Result, IfOk, MatchResult, subst}
 use Rattle.std.proofs.lemmas.List.{take-take, get_or-take, drop-take}
 use Rattle.std.proofs.lemmas.Bool.Decides.{nat_tests}
 use Rattle.chaos_packet.specs.Packet.{PacketView}

@@ -1,4 +1,4 @@
-use Rattle.std.proofs.Common.{Ok, refl, sym}
+use Rattle.std.proofs.Common.{Ok, sym}
 use Rattle.chaos_link.proofs.Carriage.{read_carried, carried_read, all_below}
 use Rattle.chaos_link.proofs.datagram.law_carries.Goals as goal
 

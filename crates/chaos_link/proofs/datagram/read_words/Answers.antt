@@ -1,4 +1,4 @@
-use Rattle.std.proofs.Common.{◌≡◌, ◌∙◌, length, arith}
+use Rattle.std.proofs.Common.{arith}
 use Rattle.std.proofs.lemmas.List.{length-set}
 use Rattle.chaos_link.proofs.Words.{word_stored, words_in_front}
 use Rattle.chaos_link.proofs.datagram.read_words.Goals as goal

@@ -1,7 +1,5 @@
-use Rattle.std.proofs.Common.{◌≡◌, ◌∙◌, rules, sym, ap, Ok}
-use Rattle.chaos_packet.specs.Packet.{PacketView}
-use Rattle.chaos_packet.specs.Words.{Spells, HasZeroHalves, spelling_of}
-use Rattle.chaos_link.specs.Datagram.{Canonical, Carries, datagram_of, datagram_read}
+use Rattle.std.proofs.Common.{◌≡◌, ◌∙◌, rules, sym}
+use Rattle.chaos_link.specs.Datagram.{datagram_of}
 use Rattle.chaos_link.proofs.Carriage.{read_carried}
 use Rattle.chaos_link.proofs.Canon.{carried_spelling, canonical_spelling, canonical_only}
 use Rattle.chaos_link.proofs.encode.to_datagram.Goals as goal

@@ -1,0 +1,9 @@
+pub mod Buffer
+pub mod Input
+pub mod Status
+pub mod Hex
+pub mod Report
+pub mod Lines
+pub mod Entry
+pub mod Show
+pub mod Shower

@@ -1,0 +1,135 @@
+//! Bytes that wait to be written.
+ghost use Rattle.std.specs.Prelude.{◌≡◌, ◌+◌, ◌≤◌, [], ℕ, List, Some, length, take, drop, OnOk, IfOk};
+ghost use Rattle.std.specs.Io.KnownBytes.{Appends, Keeps, WriteAppends};
+ghost use Rattle.chaosd_engines.specs.Buffer.{written_of};
+
+use crate::limits::BUFFER_LEN;
+use arrayvec::ArrayVec;
+use std::io;
+use std::io::{Error, ErrorKind, Write};
+use std::marker::Model;
+
+/// Bytes that wait to be written: a writer of a fixed size, whose contents are handed on to another writer in one piece.
+/// A contract sees the bytes. It allocates nothing.
+///
+/// An engine writes its text here, asks [`WriteBuffer::room`] before each text of bounded length, and hands on what waits
+/// where there is too little, before each read and at its end.
+///
+/// Nothing is handed on when the value is dropped.
+#[derive(Drop)]
+pub struct WriteBuffer {
+    bytes: ArrayVec<u8, BUFFER_LEN>,
+}
+
+impl Model for WriteBuffer {
+    ghost Value = { List ℕ };
+
+    ghost view = { λ b. b.bytes.items };
+}
+
+impl WriteBuffer {
+    /// An empty buffer.
+    pub fn new() -> Self
+        ensures { result ≡ [] }
+    {
+        WriteBuffer {
+            bytes: ArrayVec::new(),
+        }
+    }
+
+    /// How many bytes fit before some have to be handed on.
+    pub fn room(&self) -> usize
+        ensures { result + length self.now ≡ BUFFER_LEN }
+    {
+        self.bytes.remaining_capacity()
+    }
+
+    /// Hands on all bytes, and flushes the writer that takes them. The cost is the writer's.
+    ///
+    /// # Errors
+    /// The writer's first fault, or `WriteZero` where it takes nothing. Nothing is lost: what the writer didn't take is
+    /// still here.
+    pub fn hand_on<W: Write>(&mut self, writer: &mut W) -> io::Result<()>
+        // What the writer holds, with what waits behind it, stays the same.
+        ensures kept { Keeps (written_of (W.contents writer.old) self.old) (written_of (W.contents writer.new) self.new) }
+        ensures empty { OnOk result (self.new ≡ []) }
+    {
+        let (count, end) = write_out(writer, self.bytes.as_slice());
+        remove_front(&mut self.bytes, count);
+        end?;
+        writer.flush()
+    }
+}
+
+impl Write for WriteBuffer {
+    ghost contents = { λ b. Some b };
+
+    /// Takes what fits.
+    fn write(&mut self, bytes: &[u8]) -> io::Result<usize> {
+        let count = bytes.len().min(self.room());
+        let _fits = self.bytes.try_extend_from_slice(&bytes[..count]);
+        Ok(count)
+    }
+
+    /// Does nothing: only [`WriteBuffer::hand_on`] has a writer to hand on to.
+    fn flush(&mut self) -> io::Result<()> {
+        Ok(())
+    }
+
+    #[inline]
+    fn write_all(&mut self, bytes: &[u8]) -> io::Result<()> {
+        match self.bytes.try_extend_from_slice(bytes) {
+            Ok(()) => Ok(()),
+            Err(_) => Err(Error::from(ErrorKind::WriteZero)),
+        }
+    }
+}
+
+/// Writes until all is written or a write fails, and says how many bytes were written.
+fn write_out<W: Write>(writer: &mut W, bytes: &[u8]) -> (usize, io::Result<()>)
+    ensures within { result.0 ≤ length bytes.now }
+    ensures all { OnOk result.1 (result.0 ≡ length bytes.now) }
+    ensures written { Appends (W.contents writer.old) (W.contents writer.new) (take result.0 bytes.now) }
+{
+    let mut count = 0;
+    while count < bytes.len() {
+        match write_some(writer, &bytes[count..]) {
+            Ok(more) => count += more,
+            Err(error) => return (count, Err(error)),
+        }
+    }
+    (count, Ok(()))
+}
+
+/// How many of these bytes, at least one, the writer took.
+fn write_some<W: Write>(writer: &mut W, bytes: &[u8]) -> io::Result<usize>
+    ensures some { IfOk result (λ count. (1 ≤ count) × (count ≤ length bytes.now)) }
+    ensures taken { WriteAppends (W.contents writer.old) (W.contents writer.new) result bytes.now }
+{
+    for _ in 0..u64::MAX {
+        match writer.write(bytes) {
+            Ok(0) => break,
+            Ok(count) => return Ok(count),
+            Err(error) => {
+                if error.kind() != ErrorKind::Interrupted {
+                    return Err(error);
+                }
+            }
+        }
+    }
+    Err(Error::from(ErrorKind::WriteZero))
+}
+
+/// Takes that many bytes off the front.
+fn remove_front(bytes: &mut ArrayVec<u8, BUFFER_LEN>, count: usize)
+    requires { count ≤ length bytes.old.items }
+    ensures { bytes.new.items ≡ drop count bytes.old.items }
+{
+    if count == bytes.len() {
+        bytes.clear();
+        return;
+    }
+    let mut rest = ArrayVec::new();
+    let _fits = rest.try_extend_from_slice(&bytes.as_slice()[count..]);
+    *bytes = rest;
+}

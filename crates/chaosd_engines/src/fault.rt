@@ -1,0 +1,17 @@
+//! Why a run ended early.
+
+use thiserror::Error;
+
+/// The first fault of a run. Each has a number, by which the documentation names it.
+#[derive(Clone, Copy, Debug, PartialEq, Eq, Error)]
+pub enum RunFault {
+    /// 1: the reader failed, or was interrupted 2,000,000 times.
+    #[error("the input could not be read")]
+    ReadFault,
+    /// 2: the writer failed. Nothing is said of what went out.
+    #[error("the output could not be written")]
+    WriteFault,
+    /// 3: more than 1,048,576 bytes came.
+    #[error("the input has more than 1048576 bytes")]
+    InputTooLong,
+}

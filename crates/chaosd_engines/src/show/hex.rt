@@ -1,0 +1,55 @@
+//! Bytes that are written as hexadecimal digits.
+ghost use Rattle.std.specs.Prelude.{◌≡◌, ◌≤◌, length, take, option_map, IfSome};
+ghost use Rattle.chaosd_engines.specs.Hex.{is_blank, hex_value, hex_bytes};
+
+use crate::limits::LINE_LIMIT;
+
+/// The most bytes that a line stands for.
+pub const MOST_BYTES: usize = LINE_LIMIT / 2;
+
+/// The value of a hexadecimal digit of either case.
+fn hex_value(b: u8) -> Option<u8>
+    ensures { result ≡ hex_value b }
+{
+    match b {
+        b'0'..=b'9' => Some(b - b'0'),
+        b'A'..=b'F' => Some(b - b'A' + 10),
+        b'a'..=b'f' => Some(b - b'a' + 10),
+        _ => None,
+    }
+}
+
+/// Whether the byte may stand between pairs of digits.
+fn is_blank(b: u8) -> bool
+    ensures { result ≡ is_blank b }
+{
+    b == b' ' || b == b'\t'
+}
+
+/// Puts the bytes that a line stands for at the front of `bytes`, and says how many they are, where the line is pairs of
+/// digits with blanks between them. The cost is that of one look at each byte of the line.
+#[tactic(auto, using(crate::proofs::Pairs::hex_bytes_blank, crate::proofs::Pairs::hex_bytes_pair, crate::proofs::Pairs::hex_bytes_odd, crate::proofs::Pairs::hex_bytes_end))]
+pub fn read_hex(line: &[u8], bytes: &mut [u8; MOST_BYTES]) -> Option<usize>
+    requires { length line.now ≤ LINE_LIMIT }
+    ensures within { IfSome result (λ count. count ≤ MOST_BYTES) }
+    ensures value { option_map (λ count. take count bytes.new) result ≡ hex_bytes line.now }
+{
+    let mut count = 0;
+    let mut i = 0;
+    while i < line.len() {
+        if is_blank(line[i]) {
+            i += 1;
+            continue;
+        }
+        if line.len() - i < 2 {
+            return None;
+        }
+        let (Some(high), Some(low)) = (hex_value(line[i]), hex_value(line[i + 1])) else {
+            return None;
+        };
+        bytes[count] = 16 * high + low;
+        count += 1;
+        i += 2;
+    }
+    Some(count)
+}

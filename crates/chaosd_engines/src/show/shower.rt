@@ -1,0 +1,124 @@
+//! The lines of an input that comes in chunks.
+ghost use Rattle.std.specs.Prelude.{◌≡◌, ◌+◌, ◌≤◌, ◌++◌, ◌∷◌, [], ℕ, List, Option, All, MatchOption, length, take, false, OnOk, IfOk};
+ghost use Rattle.std.specs.Io.KnownBytes.{Appends};
+ghost use Rattle.chaosd_engines.specs.Lines.{is_newline, IsCut};
+ghost use Rattle.chaosd_engines.specs.Buffer.{written_of};
+ghost use Rattle.chaosd_engines.specs.Shower.{Shows, ShowsAll};
+
+use crate::limits::{INPUT_LIMIT, LINE_LIMIT};
+use crate::show::reporter::Reporter;
+use arrayvec::ArrayVec;
+use std::io;
+use std::io::Write;
+
+/// How many bytes of a line are kept that began in an earlier chunk: as many as a line may have, a carriage return, and
+/// one more, which shows that it is too long.
+const KEPT_LEN: usize = LINE_LIMIT + 2;
+
+/// What was reported of an input, and what came of the line that hasn't ended.
+#[derive(Drop)]
+pub struct Shower {
+    pub line: ArrayVec<u8, KEPT_LEN>,
+    pub reporter: Reporter,
+}
+
+impl Shower {
+    pub fn new() -> Self
+        ensures shown { (before : Option (List ℕ)) → Shows before (written_of before result.reporter.out) result.reporter.tally result.line.items [] }
+        ensures count { result.reporter.tally.reports ≡ 0 }
+    {
+        Shower {
+            line: ArrayVec::new(),
+            reporter: Reporter::new(),
+        }
+    }
+
+    /// Takes the next bytes of the input, and reports the lines that end in them. The cost is a look at each byte, and
+    /// a copy of what comes of a line that doesn't end.
+    pub fn feed<W: Write>(&mut self, writer: &mut W, bytes: &[u8]) -> io::Result<()>
+        requires { self.old.reporter.tally.reports + length bytes.now ≤ INPUT_LIMIT }
+        ensures shown { OnOk result ((before : Option (List ℕ)) (input : List ℕ)
+            → Shows before (written_of (W.contents writer.old) self.old.reporter.out) self.old.reporter.tally self.old.line.items input
+            → Shows before (written_of (W.contents writer.new) self.new.reporter.out) self.new.reporter.tally self.new.line.items (input ++ bytes.now)) }
+        ensures count { OnOk result (self.new.reporter.tally.reports ≤ self.old.reporter.tally.reports + length bytes.now) }
+    {
+        let mut rest = bytes;
+        while let Some((piece, after)) = cut_line(rest) {
+            self.end_line(writer, piece)?;
+            rest = after;
+        }
+        keep(&mut self.line, rest);
+        Ok(())
+    }
+
+    /// Reports the line that this piece of it ends.
+    fn end_line<W: Write>(&mut self, writer: &mut W, piece: &[u8]) -> io::Result<()>
+        requires room { self.old.reporter.tally.reports ≤ INPUT_LIMIT }
+        requires piece { All (λ b. is_newline b ≡ false) piece.now }
+        ensures shown { OnOk result ((before : Option (List ℕ)) (input : List ℕ)
+            → Shows before (written_of (W.contents writer.old) self.old.reporter.out) self.old.reporter.tally self.old.line.items input
+            → Shows before (written_of (W.contents writer.new) self.new.reporter.out) self.new.reporter.tally self.new.line.items (input ++ piece.now ++ 10 ∷ [])) }
+        ensures count { OnOk result (self.new.reporter.tally.reports ≡ self.old.reporter.tally.reports + 1) }
+    {
+        if self.line.is_empty() {
+            return self.reporter.report(writer, piece);
+        }
+        keep(&mut self.line, piece);
+        self.reporter.report(writer, self.line.as_slice())?;
+        self.line.clear();
+        Ok(())
+    }
+
+    /// Reports what stands after the last end of a line, where that isn't empty.
+    fn end_input<W: Write>(&mut self, writer: &mut W) -> io::Result<()>
+        requires { self.old.reporter.tally.reports ≤ INPUT_LIMIT }
+        ensures shown { OnOk result ((before : Option (List ℕ)) (input : List ℕ)
+            → Shows before (written_of (W.contents writer.old) self.old.reporter.out) self.old.reporter.tally self.old.line.items input
+            → ShowsAll before (written_of (W.contents writer.new) self.new.reporter.out) self.new.reporter.tally input) }
+    {
+        if self.line.is_empty() {
+            return Ok(());
+        }
+        self.reporter.report(writer, self.line.as_slice())
+    }
+
+    /// Hands on the reports of the lines that ended.
+    pub fn hand_on<W: Write>(&mut self, writer: &mut W) -> io::Result<()>
+        ensures shown { (before : Option (List ℕ)) (input : List ℕ)
+            → Shows before (written_of (W.contents writer.old) self.old.reporter.out) self.old.reporter.tally self.old.line.items input
+            → Shows before (written_of (W.contents writer.new) self.new.reporter.out) self.new.reporter.tally self.new.line.items input }
+        ensures count { self.new.reporter.tally ≡ self.old.reporter.tally }
+        ensures empty { OnOk result (self.new.reporter.out ≡ []) }
+    {
+        self.reporter.out.hand_on(writer)
+    }
+
+    /// Reports what stands after the last end of a line, where that isn't empty, and hands on all reports.
+    pub fn finish<W: Write>(&mut self, writer: &mut W) -> io::Result<()>
+        requires { self.old.reporter.tally.reports ≤ INPUT_LIMIT }
+        ensures shown { OnOk result ((before : Option (List ℕ)) (input : List ℕ)
+            → Shows before (written_of (W.contents writer.old) self.old.reporter.out) self.old.reporter.tally self.old.line.items input
+            → ShowsAll before (W.contents writer.new) self.new.reporter.tally input) }
+    {
+        self.end_input(writer)?;
+        self.reporter.out.hand_on(writer)
+    }
+}
+
+/// The line that ends first, and what comes after its end; None where none ends.
+fn cut_line(bytes: &[u8]) -> Option<(&[u8], &[u8])>
+    ensures { MatchOption result (All (λ b. is_newline b ≡ false) bytes.now) (λ cut. IsCut bytes.now cut.0.now cut.1.now) }
+{
+    let at = bytes.iter().position(|byte| *byte == b'\n')?;
+    let (line, end) = bytes.split_at(at);
+    let (_, after) = end.split_at(1);
+    Some((line, after))
+}
+
+/// Keeps one more piece of a line, as much of it as there is room for.
+fn keep(line: &mut ArrayVec<u8, KEPT_LEN>, piece: &[u8])
+    ensures { line.new.items ≡ take KEPT_LEN (line.old.items ++ piece.now) }
+{
+    let count = piece.len().min(line.remaining_capacity());
+    let _fits = line.try_extend_from_slice(&piece[..count]);
+}

@@ -1,0 +1,358 @@
+//! What no clause says: texts from outside, success, and readers and writers that fail.
+mod fakes;
+
+use super::*;
+use fakes::{Dripping, FuseReader, FuseWriter, Slow, Watched, Watching};
+use std::cell::Cell;
+use std::io::Write;
+use std::process::Abort;
+use std::test::Fail;
+
+const STS: &str = "43 48 01 00 07 00 00 04 01 01 02 01 01 02 03 05 00 00 00 10 00 12 00 0D";
+
+const STS_REPORT: &str =
+    "op 007 STS\nfwd 0 count 4\nto 000401 001001\nfrom 000402 001405\nnum 0 ack 16\nreceipt 18 window 13\n";
+
+const DATA_REPORT: &str =
+    "op 200 DAT\nfwd 0 count 1\nto 000401 001001\nfrom 000402 001405\nnum 5 ack 16\ndata 41\n";
+
+/// The header of an STS that counts 489 data bytes.
+const COUNT_489: &str = "4348010007 00 01E9 0101 0201 0102 0305 0000 0010";
+
+/// The report of this input is the wanted text, with one refusal or none, whether it comes at once or byte by byte.
+fn reports(
+    rt: &(impl Abort + AllocGlobal),
+    input: &[u8],
+    wanted: &[u8],
+    refused: u64,
+) -> Result<(), Fail> {
+    let mut out = Vec::new(rt.alloc());
+    let tally = run_show(&mut &*input, &mut out)?;
+    assert_eq!(rt; out.as_slice(), wanted);
+    assert_eq!(rt; tally.refused, refused);
+    let mut drip = Vec::new(rt.alloc());
+    let again = run_show(&mut Dripping { rest: input }, &mut drip)?;
+    assert_eq!(rt; drip.as_slice(), wanted);
+    assert_eq!(rt; again, tally);
+    Ok(())
+}
+
+#[test]
+fn shows_datagrams(rt: HostRuntime) -> Result<(), Fail> {
+    let lower = "43480100070000040101020101020305000000100012000d";
+    for (line, wanted) in [
+        (STS, STS_REPORT),
+        (lower, STS_REPORT),
+        (
+            "\t43 48 0100\t070000040101020101020305  00000010 0012000D \t",
+            STS_REPORT,
+        ),
+        (
+            "43 48 01 00 80 00 00 01 01 01 02 01 01 02 03 05 00 05 00 10 00 41",
+            DATA_REPORT,
+        ),
+        (
+            "43 48 01 00 80 00 00 01 01 01 02 01 01 02 03 05 00 05 00 10 FF 41",
+            DATA_REPORT,
+        ),
+    ] {
+        reports(&rt, line.as_bytes(), wanted.as_bytes(), 0)?;
+        for end in ["\n", "\r\n", "\r"] {
+            let input = format!(in rt.alloc(); "{line}{end}")?;
+            reports(&rt, input.as_bytes(), wanted.as_bytes(), 0)?;
+        }
+    }
+    reports(&rt, b"", b"", 0)
+}
+
+#[test]
+fn shows_refusals(rt: HostRuntime) -> Result<(), Fail> {
+    for (line, wanted) in [
+        ("\n", "fault 1 Short\n"),
+        ("\r", "fault 1 Short\n"),
+        (" \t", "fault 1 Short\n"),
+        ("434801", "fault 1 Short\n"),
+        ("4G", "fault 0 Line\n"),
+        ("4 3", "fault 0 Line\n"),
+        ("434", "fault 0 Line\n"),
+        ("43480100\r\r\n", "fault 0 Line\n"),
+        ("42480100", "fault 2 BadMark\n"),
+        ("43480101", "fault 3 BadVersion\n"),
+        (
+            "43480100 0700 0004 0101 0201 0102 0305 0000 00",
+            "fault 4 Packet 1 Short\n",
+        ),
+        (COUNT_489, "fault 4 Packet 2 BadCount\n"),
+        (
+            "43480100 0700 0004 0101 0201 0102 0305 0000 0010 0012 00",
+            "fault 4 Packet 3 Truncated\n",
+        ),
+        (
+            "43480100 0700 0004 0101 0201 0102 0305 0000 0010 0012 000D 0000",
+            "fault 5 Trailing\n",
+        ),
+    ] {
+        reports(&rt, line.as_bytes(), wanted.as_bytes(), 1)?;
+    }
+    let mut full = Vec::new(rt.alloc());
+    write!(full, "{COUNT_489}")?;
+    full.extend_from_slice(&[b'4'; 980])?;
+    reports(&rt, full.as_slice(), b"fault 4 Packet 2 BadCount\n", 1)
+}
+
+#[test]
+fn shows_names(rt: HostRuntime) -> Result<(), Fail> {
+    for (code, name) in [
+        ("01", "001 RFC"),
+        ("02", "002 OPN"),
+        ("03", "003 CLS"),
+        ("04", "004 FWD"),
+        ("05", "005 ANS"),
+        ("06", "006 SNS"),
+        ("07", "007 STS"),
+        ("09", "011 LOS"),
+        ("0A", "012 LSN"),
+        ("0C", "014 EOF"),
+        ("0D", "015 UNC"),
+        ("80", "200 DAT"),
+        ("BF", "277 DAT"),
+        ("C0", "300 DWD"),
+        ("FF", "377 DWD"),
+        ("08", "010"),
+        ("7F", "177"),
+    ] {
+        let line = format!(in rt.alloc(); "43480100 {code}00 F000 FFFF 0000 0201 8000 FFFF 0000")?;
+        let wanted = format!(in rt.alloc();
+            "op {name}\nfwd 15 count 0\nto 177777 000000\nfrom 001001 100000\nnum 65535 ack 0\n"
+        )?;
+        reports(&rt, line.as_bytes(), wanted.as_bytes(), 0)?;
+    }
+    Ok(())
+}
+
+#[test]
+fn an_empty_line_among_others(rt: HostRuntime) -> Result<(), Fail> {
+    let input = format!(in rt.alloc(); "{STS}\n\n")?;
+    let mut out = Vec::new(rt.alloc());
+    let end = run_show(&mut input.as_bytes(), &mut out);
+    let wanted = format!(in rt.alloc(); "{STS_REPORT}\nfault 1 Short\n")?;
+    assert_eq!(rt; out.as_slice(), wanted.as_bytes());
+    assert_eq!(rt; show_status(&end), REFUSED);
+    assert_eq!(rt;
+        end?,
+        Tally {
+            reports: 2,
+            refused: 1
+        }
+    );
+    Ok(())
+}
+
+#[test]
+fn statuses(rt: HostRuntime) {
+    for (end, status) in [
+        (
+            Ok(Tally {
+                reports: 9,
+                refused: 0,
+            }),
+            0,
+        ),
+        (
+            Ok(Tally {
+                reports: 9,
+                refused: 9,
+            }),
+            3,
+        ),
+        (Err(RunFault::ReadFault), 1),
+        (Err(RunFault::WriteFault), 1),
+        (Err(RunFault::InputTooLong), 1),
+    ] {
+        assert_eq!(rt; show_status(&end), status);
+    }
+}
+
+/// A line of so many bytes: blanks, and then the STS.
+fn long_line(rt: &(impl Abort + AllocGlobal), len: usize) -> Result<Vec<u8>, Fail> {
+    let mut line = vec![in rt.alloc(); b' '; len.saturating_sub(STS.len())]?;
+    line.extend_from_slice(STS.as_bytes())?;
+    Ok(line)
+}
+
+#[test]
+fn line_limit(rt: HostRuntime) -> Result<(), Fail> {
+    for (len, wanted, refused) in [
+        (4_096, STS_REPORT, 0),
+        (4_097, "fault 0 Line\n", 1),
+        (40_000, "fault 0 Line\n", 1),
+    ] {
+        for end in ["", "\n", "\r\n"] {
+            let mut line = long_line(&rt, len)?;
+            line.extend_from_slice(end.as_bytes())?;
+            reports(&rt, line.as_slice(), wanted.as_bytes(), refused)?;
+        }
+    }
+    Ok(())
+}
+
+#[test]
+fn input_limit(rt: HostRuntime) -> Result<(), Fail> {
+    let mut input = vec![in rt.alloc(); b'A'; INPUT_LIMIT]?;
+    assert!(rt; input.len() == 1_048_576);
+    input[0] = b'\n';
+    let mut out = Vec::new(rt.alloc());
+    let tally = run_show(&mut input.as_slice(), &mut out)?;
+    assert_eq!(rt;
+        tally,
+        Tally {
+            reports: 2,
+            refused: 2
+        }
+    );
+    assert_eq!(rt;
+        out.as_slice(),
+        b"fault 1 Short\n\nfault 0 Line\n".as_slice()
+    );
+    input.push(b'A')?;
+    let mut cut = Vec::new(rt.alloc());
+    let end = run_show(&mut input.as_slice(), &mut cut);
+    assert_eq!(rt; end, Err(RunFault::InputTooLong));
+    assert_eq!(rt; cut.as_slice(), b"fault 1 Short\n".as_slice());
+    Ok(())
+}
+
+#[test]
+fn longest_reports(rt: HostRuntime) -> Result<(), Fail> {
+    let mut input = Vec::new(rt.alloc());
+    let mut wanted = Vec::new(rt.alloc());
+    for n in 0..100 {
+        write!(input, "43480100 8000 F1E8 FFFF FFFF FFFF FFFF FFFF FFFF ")?;
+        input.extend_from_slice(&[b'F'; 976])?;
+        writeln!(input, "")?;
+        if n > 0 {
+            writeln!(wanted, "")?;
+        }
+        write!(
+            wanted,
+            "op 200 DAT\nfwd 15 count 488\nto 177777 177777\nfrom 177777 177777\nnum 65535 ack 65535\ndata"
+        )?;
+        for _ in 0..488 {
+            write!(wanted, " FF")?;
+        }
+        writeln!(wanted, "")?;
+    }
+    reports(&rt, input.as_slice(), wanted.as_slice(), 0)
+}
+
+/// The count of three lines, of which the second is refused.
+const THREE_LINES: Tally = Tally {
+    reports: 3,
+    refused: 1,
+};
+
+#[test]
+fn reader_fails_at_each_read(rt: HostRuntime) -> Result<(), Fail> {
+    let input = format!(in rt.alloc(); "{STS}\n\n{STS}\n")?;
+    // 145 bytes are 21 reads of seven, and one more read finds the end.
+    for at in 0..22 {
+        let mut reader = FuseReader::new(input.as_bytes(), at, false);
+        let end = run_show(&mut reader, &mut Vec::new(rt.alloc()));
+        assert_eq!(rt; end, Err(RunFault::ReadFault), "at {at}");
+    }
+    let mut reader = FuseReader::new(input.as_bytes(), 22, false);
+    let end = run_show(&mut reader, &mut Vec::new(rt.alloc()));
+    assert_eq!(rt; end, Ok(THREE_LINES));
+    Ok(())
+}
+
+#[test]
+fn writer_fails_at_each_write(rt: HostRuntime) -> Result<(), Fail> {
+    let input = format!(in rt.alloc(); "{STS}\n\n{STS}")?;
+    // Each of the three reports is a write, since its line came alone.
+    for at in 0..3 {
+        let mut reader = Dripping {
+            rest: input.as_bytes(),
+        };
+        let end = run_show(&mut reader, &mut FuseWriter { left: at });
+        assert_eq!(rt; end, Err(RunFault::WriteFault), "at {at}");
+    }
+    let mut reader = Dripping {
+        rest: input.as_bytes(),
+    };
+    let end = run_show(&mut reader, &mut FuseWriter { left: 3 });
+    assert_eq!(rt; end, Ok(THREE_LINES));
+    // The fault of writing what came before is met before that of the length.
+    let mut long = vec![in rt.alloc(); b'A'; INPUT_LIMIT + 1]?;
+    assert!(rt; !long.is_empty());
+    long[0] = b'\n';
+    let end = run_show(&mut long.as_slice(), &mut FuseWriter { left: 0 });
+    assert_eq!(rt; end, Err(RunFault::WriteFault));
+    Ok(())
+}
+
+#[test]
+fn reader_is_interrupted(rt: HostRuntime) -> Result<(), Fail> {
+    let mut out = Vec::new(rt.alloc());
+    let mut few = FuseReader::new(STS.as_bytes(), 5, true);
+    few.failures = 3;
+    let tally = run_show(&mut few, &mut out)?;
+    assert_eq!(rt;
+        tally,
+        Tally {
+            reports: 1,
+            refused: 0
+        }
+    );
+    assert_eq!(rt; out.as_slice(), STS_REPORT.as_bytes());
+    let mut ever = FuseReader::new(STS.as_bytes(), 0, true);
+    let end = run_show(&mut ever, &mut out);
+    assert_eq!(rt; end, Err(RunFault::ReadFault));
+    assert_eq!(rt; ever.failures, u64::MAX - 2_000_000);
+    Ok(())
+}
+
+#[test]
+fn each_report_before_the_next_read(rt: HostRuntime) -> Result<(), Fail> {
+    let written = Cell::new(0);
+    let mut reader = Watching {
+        written: &written,
+        reads: 0,
+        missing: 0,
+    };
+    let mut writer = Watched { written: &written };
+    let tally = run_show(&mut reader, &mut writer)?;
+    assert_eq!(rt;
+        tally,
+        Tally {
+            reports: 5,
+            refused: 5
+        }
+    );
+    assert_eq!(rt; reader.missing, 0);
+    Ok(())
+}
+
+#[test]
+fn write_buffer_loses_nothing(rt: HostRuntime) -> Result<(), Fail> {
+    let mut buffer = WriteBuffer::new();
+    let mut slow = Slow {
+        taken: Vec::new(rt.alloc()),
+        left: 2,
+    };
+    write!(buffer, "{}", "abcdefgh")?;
+    assert_eq!(rt; buffer.room(), BUFFER_LEN - 8);
+    assert!(rt; buffer.hand_on(&mut slow).is_err());
+    assert_eq!(rt; slow.taken.as_slice(), b"abcdef".as_slice());
+    assert_eq!(rt; buffer.room(), BUFFER_LEN - 2);
+    slow.left = 9;
+    buffer.hand_on(&mut slow)?;
+    assert_eq!(rt; slow.taken.as_slice(), b"abcdefgh".as_slice());
+    let more = [b'x'; BUFFER_LEN];
+    assert_eq!(rt; buffer.write(&more)?, BUFFER_LEN);
+    assert_eq!(rt; buffer.write(b"y")?, 0);
+    assert!(rt; buffer.write_all(b"y").is_err());
+    buffer.flush()?;
+    assert_eq!(rt; buffer.room(), 0);
+    Ok(())
+}

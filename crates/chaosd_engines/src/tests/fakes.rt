@@ -1,0 +1,150 @@
+//! Readers and writers that fail, drip or watch.
+ghost use Rattle.std.specs.Prelude.{◌≤◌, length, IfOk};
+
+use std::cell::Cell;
+use std::io;
+use std::io::{Error, ErrorKind, Read, Write};
+
+/// Gives one byte a read.
+#[derive(Drop)]
+pub struct Dripping<'a> {
+    pub rest: &'a [u8],
+}
+
+impl Read for Dripping<'_> {
+    fn read(&mut self, buf: &mut [u8]) -> io::Result<usize> {
+        give(&mut self.rest, buf, 1)
+    }
+}
+
+/// Gives so many bytes at most.
+fn give(rest: &mut &[u8], buf: &mut [u8], most: usize) -> io::Result<usize>
+    ensures { IfOk result (λ count. count ≤ length buf.new) }
+{
+    let count = rest.len().min(buf.len()).min(most);
+    let (front, after) = rest.split_at(count);
+    buf[..count].copy_from_slice(front);
+    *rest = after;
+    Ok(count)
+}
+
+/// Gives seven bytes a read, but fails so often after so many reads.
+#[derive(Drop)]
+pub struct FuseReader<'a> {
+    rest: &'a [u8],
+    left: u64,
+    interrupts: bool,
+    pub failures: u64,
+}
+
+impl<'a> FuseReader<'a> {
+    pub fn new(rest: &'a [u8], left: u64, interrupts: bool) -> Self {
+        FuseReader {
+            rest,
+            left,
+            interrupts,
+            failures: u64::MAX,
+        }
+    }
+}
+
+impl Read for FuseReader<'_> {
+    fn read(&mut self, buf: &mut [u8]) -> io::Result<usize> {
+        if self.left == 0 && self.failures > 0 {
+            self.failures -= 1;
+            let kind = if self.interrupts {
+                ErrorKind::Interrupted
+            } else {
+                ErrorKind::Other
+            };
+            return Err(Error::from(kind));
+        }
+        self.left = self.left.saturating_sub(1);
+        give(&mut self.rest, buf, 7)
+    }
+}
+
+/// Takes all of so many writes, and fails from then on.
+#[derive(Drop)]
+pub struct FuseWriter {
+    pub left: u64,
+}
+
+impl Write for FuseWriter {
+    fn write(&mut self, buf: &[u8]) -> io::Result<usize> {
+        if self.left == 0 {
+            return Err(Error::from(ErrorKind::StorageFull));
+        }
+        self.left -= 1;
+        Ok(buf.len())
+    }
+
+    fn flush(&mut self) -> io::Result<()> {
+        Ok(())
+    }
+}
+
+/// Takes three bytes a write, is interrupted at every other, and fails after so many.
+#[derive(Drop)]
+pub struct Slow {
+    pub taken: Vec<u8>,
+    pub left: u64,
+}
+
+impl Write for Slow {
+    fn write(&mut self, buf: &[u8]) -> io::Result<usize> {
+        if self.left == 0 {
+            return Err(Error::from(ErrorKind::StorageFull));
+        }
+        self.left -= 1;
+        let count = buf.len().min(3);
+        self.taken.extend_from_slice(&buf[..count])?;
+        Ok(count)
+    }
+
+    fn flush(&mut self) -> io::Result<()> {
+        Ok(())
+    }
+}
+
+/// Gives an empty line a read, five times, and counts those before which a report was missing.
+#[derive(Drop)]
+pub struct Watching<'a> {
+    pub written: &'a Cell<usize>,
+    pub reads: usize,
+    pub missing: usize,
+}
+
+impl Read for Watching<'_> {
+    fn read(&mut self, buf: &mut [u8]) -> io::Result<usize> {
+        // A report is 14 bytes, with an empty line between each two.
+        let wanted = (15 * self.reads.min(5)).saturating_sub(1);
+        if self.written.get() != wanted {
+            self.missing = self.missing.saturating_add(1);
+        }
+        self.reads = self.reads.saturating_add(1);
+        if self.reads > 5 || buf.is_empty() {
+            return Ok(0);
+        }
+        buf[0] = b'\n';
+        Ok(1)
+    }
+}
+
+/// Counts what is written.
+#[derive(Drop)]
+pub struct Watched<'a> {
+    pub written: &'a Cell<usize>,
+}
+
+impl Write for Watched<'_> {
+    fn write(&mut self, buf: &[u8]) -> io::Result<usize> {
+        self.written
+            .set(self.written.get().saturating_add(buf.len()));
+        Ok(buf.len())
+    }
+
+    fn flush(&mut self) -> io::Result<()> {
+        Ok(())
+    }
+}
