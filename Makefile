@@ -3,13 +3,14 @@
 #   make                    proves the program and all that it stands on, and builds bin/chaosd
 #   make demo               shows the report of a status datagram
 #   make check              the gate: every proof from nothing, the wrong bodies, the tests and the program
+#   make bench              times `chaosd show` beside a plain Rust program (rustc and python3)
 #   make install PREFIX=DIR puts the program into DIR/bin
 
 PREFIX ?= /usr/local
 RT ?= rt
 SOURCES := crates.txt HANDLES $(shell find crates -path '*/out' -prune -o -type f -print)
 
-.PHONY: all demo check install clean
+.PHONY: all demo check bench install clean
 
 all: bin/chaosd
 
@@ -24,6 +25,9 @@ demo: bin/chaosd
 
 check:
 	@$(RT) ci
+
+bench: bin/chaosd
+	@python3 bench/show.py
 
 install: bin/chaosd
 	install -d $(DESTDIR)$(PREFIX)/bin

@@ -1,0 +1,58 @@
+#!/usr/bin/env python3
+"""Times `chaosd show` beside a plain Rust program that prints the same, on inputs of nearly 1 MiB.
+
+Run it by `make bench`. Each figure is the least of ten runs, taken in turn, and the outputs have to be the same.
+"""
+
+import pathlib
+import subprocess
+import tempfile
+import time
+
+HERE = pathlib.Path(__file__).parent
+LIMIT = 1_048_576
+STATUS = "43 48 01 00 07 00 00 04 01 01 02 01 01 02 03 05 00 00 00 10 00 12 00 0D"
+HEADER = "43480100800001E8010102010102030500050010"
+
+
+def filled(line):
+    """As many of these lines as an input may have."""
+    return (line + "\n").encode() * (LIMIT // (len(line) + 1))
+
+
+INPUTS = {
+    "short lines": filled(STATUS),
+    "long lines": filled(HEADER + "".join(f"{n % 256:02X}" for n in range(488))),
+    "empty lines": filled(""),
+}
+
+
+def run(command, text, out):
+    """Runs the command on the text, and gives the seconds that it took and what it wrote."""
+    with open(out, "wb") as writer:
+        start = time.perf_counter()
+        subprocess.run(command, input=None, stdin=open(text, "rb"), stdout=writer, check=False)
+        spent = time.perf_counter() - start
+    return spent, pathlib.Path(out).read_bytes()
+
+
+def main():
+    with tempfile.TemporaryDirectory() as folder:
+        plain = f"{folder}/plain_show"
+        subprocess.run(["rustc", "-O", "-o", plain, HERE / "plain_show.rs"], check=True)
+        programs = {"chaosd": [HERE.parent / "bin/chaosd", "show"], "plain": [plain]}
+        for name, content in INPUTS.items():
+            text = f"{folder}/input"
+            pathlib.Path(text).write_bytes(content)
+            best, seen = {}, {}
+            for _ in range(10):
+                for program, command in programs.items():
+                    spent, seen[program] = run(command, text, f"{folder}/output")
+                    best[program] = min(best.get(program, spent), spent)
+            assert seen["chaosd"] == seen["plain"], f"{name}: the outputs differ"
+            ratio = best["chaosd"] / best["plain"]
+            print(f"{name}: chaosd {best['chaosd'] * 1000:.1f} ms, plain Rust {best['plain'] * 1000:.1f} ms, ratio {ratio:.2f}")
+
+
+if __name__ == "__main__":
+    main()
