@@ -1,5 +1,6 @@
 pub mod Item
 pub mod Number
 pub mod Opcode
+pub mod Outbox
 pub mod Packet
 pub mod Words

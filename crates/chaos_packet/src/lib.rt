@@ -1,6 +1,7 @@
-//! Chaosnet packets: their words, their header, their opcodes and their numbers (AI Memo 628, on packets).
+//! Chaosnet packets: their words, their header, their opcodes and their numbers (AI Memo 628, on packets), and a queue
+//! of them.
 //!
-//! Values and their spelling alone: no sockets, no clock, and no allocation.
+//! Values and their spelling alone: no sockets, no clock, and no allocation but that of `Outbox::new`.
 #![tactic(auto)]
 
 mod fault;
@@ -8,6 +9,7 @@ mod item;
 mod limits;
 mod number;
 mod opcode;
+mod outbox;
 mod packet;
 mod reading;
 #[cfg(test)]
@@ -19,6 +21,7 @@ pub use item::Item;
 pub use limits::{HEADER_WORDS, MAX_DATA, MAX_FORWARDS, MAX_WORDS};
 pub use number::PktNum;
 pub use opcode::{Kind, Opcode};
+pub use outbox::Outbox;
 pub use packet::Packet;
 pub use reading::{from_words, law_spells};
 pub use writing::{to_words, write_words};

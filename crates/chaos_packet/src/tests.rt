@@ -168,3 +168,38 @@ fn item_lends_its_bytes(rt: HostRuntime) {
     assert_eq!(rt; item.bytes(), b"hello".as_slice());
     assert_eq!(rt; item.op, Opcode::DATA);
 }
+
+/// A data packet with a number and no data.
+fn numbered(num: u16) -> Packet {
+    Packet {
+        op: Opcode::DATA,
+        fwd: 0,
+        dst: 0o401,
+        dst_index: 1,
+        src: 0o402,
+        src_index: 9,
+        num: PktNum(num),
+        ack: PktNum(0),
+        body: ArrayVec::new(),
+    }
+}
+
+#[test]
+fn outbox_gives_the_oldest_packet_first(rt: HostRuntime) -> Result<(), Fail> {
+    let mut out = Outbox::new(rt.alloc(), 2)?;
+    assert!(rt; out.take().is_none());
+    for num in [7u16, 8] {
+        assert!(rt; out.room() > 0, "for {num}");
+        out.put(numbered(num));
+    }
+    assert_eq!(rt; out.room(), 0);
+    assert!(rt; out.take() == Some(numbered(7)));
+    assert!(rt; out.room() > 0);
+    out.put(numbered(9));
+    for num in [8u16, 9] {
+        assert!(rt; out.take() == Some(numbered(num)), "at {num}");
+    }
+    assert!(rt; out.take().is_none());
+    assert_eq!(rt; out.room(), 2);
+    Ok(())
+}

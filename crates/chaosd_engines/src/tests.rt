@@ -38,7 +38,7 @@ fn reports(
 }
 
 #[test]
-fn shows_datagrams(rt: HostRuntime) -> Result<(), Fail> {
+fn show_reads_and_writes(rt: HostRuntime) -> Result<(), Fail> {
     let lower = "43480100070000040101020101020305000000100012000d";
     for (line, wanted) in [
         (STS, STS_REPORT),

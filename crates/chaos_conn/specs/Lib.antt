@@ -1,0 +1,12 @@
+pub mod Act
+pub mod Acted
+pub mod Arriving
+pub mod Calls
+pub mod Config
+pub mod Inside
+pub mod Opening
+pub mod Sending
+pub mod State
+pub mod Stored
+pub mod Time
+pub mod View

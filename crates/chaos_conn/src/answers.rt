@@ -1,0 +1,78 @@
+//! What calls answer.
+
+use crate::state::State;
+use chaos_packet::{Item, Packet};
+
+/// Why a packet was dropped.
+#[derive(Clone, Copy, Debug, PartialEq, Eq)]
+pub enum Why {
+    /// It is for another host.
+    NotOurs,
+    /// Its source's address is 0.
+    NoSource,
+    /// The end takes no such packet in its state.
+    NotOpen,
+    /// It isn't between the two ends of the connection.
+    Stranger,
+    /// An end in this state takes no packet with this opcode.
+    BadOp,
+    /// It is to tell a status, and has fewer than four data bytes.
+    BadStatus,
+    /// It is an RFC, and not the one that the end took.
+    OtherNumber,
+    /// Its host has no such connection.
+    NoConn,
+}
+
+/// What became of a packet that was delivered.
+#[derive(Debug, PartialEq, Eq, Drop)]
+pub enum Delivered {
+    /// Its item is held until the user reads it.
+    Took,
+    /// Its item came before.
+    Duplicate,
+    /// Its item is past the window.
+    Outside,
+    /// It opened the connection.
+    Opened,
+    /// It told a status.
+    Status,
+    /// It asked for the status.
+    Probed,
+    /// It is uncontrolled data, handed out here and kept nowhere.
+    Unc(Packet),
+    /// It answers the request, which is thereby ended.
+    Answered(Packet),
+    /// It tells where to ask instead, and the request is ended.
+    Forwarded(Packet),
+    /// The peer closed the connection, or refused the request.
+    Closed(Packet),
+    /// The peer's host doesn't know the connection.
+    Lost(Packet),
+    /// Nothing was made of it, and nothing changed.
+    Dropped(Why),
+}
+
+/// What a read gave.
+#[derive(Debug, PartialEq, Eq, Drop)]
+pub enum ReadEnd {
+    /// The next item.
+    Item(Item),
+    /// No item yet.
+    Nothing,
+    /// No item any more: the connection is in this state.
+    Ended(State),
+}
+
+/// What a tick did.
+#[derive(Clone, Copy, Debug, PartialEq, Eq)]
+pub enum Ticked {
+    /// Nothing was due.
+    Quiet,
+    /// The peer counts as down.
+    Down,
+    /// All kept items were sent again, so many.
+    Resent(usize),
+    /// The peer was probed by an SNS.
+    Probed,
+}

@@ -1,0 +1,342 @@
+//! What arrives: the delivery table, a function a row.
+ghost use Rattle.std.specs.Prelude.{◌≡◌, ◌<◌, ◌≤◌, length};
+ghost use Rattle.chaos_packet.specs.Opcode.{kind_of};
+ghost use Rattle.chaos_packet.specs.Outbox.{room_of};
+ghost use Rattle.chaos_conn.specs.View.{heard_at};
+ghost use Rattle.chaos_conn.specs.Acted.{Acts, ActsQuietly};
+ghost use Rattle.chaos_conn.specs.Arriving.{with_ack, with_status, heard_with_ack, heard_with_status, is_between_hosts, is_between_indices, is_index, may_be_index, after_rfc, after_opn, opened, after_ans, after_fwd, ended, after_cls, after_los, after_item_came, after_data, after_eof, after_second_opn, after_sns, after_sts, after_unc, deliver_in, deliver_asking, deliver_requested, deliver_open};
+ghost use Rattle.chaos_conn.specs.Act.{Deliver, Came, Does};
+
+use crate::answers::{Delivered, Why};
+use crate::conn::Conn;
+use crate::sending::{body_of, is_rfc};
+use crate::state::State;
+use chaos_packet::{Item, Kind, Outbox, Packet, PktNum};
+use chaos_window::Arrived;
+
+impl Conn {
+    /// Takes a packet that came, and says what became of it. What it tells is taken, and an STS goes out where the
+    /// delivery table says so.
+    ///
+    /// The checks, in this order, each with `Dropped`: `NotOpen` where the end isn't live; `Stranger` where an address
+    /// isn't the one of its end; an RFC has checks of its own; `Stranger` where an index isn't the one of its end; then
+    /// the row of the state and the opcode. A packet that is dropped changes nothing.
+    ///
+    /// One copy of the data: into the window, or into the answer.
+    pub fn deliver(&mut self, packet: &Packet, now: u64, out: &mut Outbox) -> Delivered
+        requires { 0 < room_of out.old }
+        ensures { Does self.old (Deliver packet.now now) self.new out.old out.new (Came result) }
+    {
+        if !self.state.is_live() {
+            return Delivered::Dropped(Why::NotOpen);
+        }
+        if !self.is_between_hosts(packet) {
+            return Delivered::Dropped(Why::Stranger);
+        }
+        if is_rfc(packet.op.kind()) {
+            return self.take_rfc_again(packet, now, out);
+        }
+        if !self.is_between_indices(packet) {
+            return Delivered::Dropped(Why::Stranger);
+        }
+        self.deliver_in_state(packet, now, out)
+    }
+
+    /// Whether the packet is for the own address, from the peer's.
+    fn is_between_hosts(&self, packet: &Packet) -> bool
+        ensures { result ≡ is_between_hosts self.now packet.now }
+    {
+        packet.dst == self.me.address && packet.src == self.peer
+    }
+
+    /// Whether the packet is for the own index, from the peer's where that is known.
+    fn is_between_indices(&self, packet: &Packet) -> bool
+        ensures { result ≡ is_between_indices self.now packet.now }
+    {
+        packet.dst_index == self.me.index
+            && match self.peer_index {
+                Some(known) => known == packet.src_index,
+                None => true,
+            }
+    }
+
+    /// Whether the peer's index is known, and is this one.
+    fn is_peer_index(&self, index: u16) -> bool
+        ensures { result ≡ is_index self.now.peer_index index }
+    {
+        match self.peer_index {
+            Some(known) => known == index,
+            None => false,
+        }
+    }
+
+    /// The table, by the state.
+    fn deliver_in_state(&mut self, packet: &Packet, now: u64, out: &mut Outbox) -> Delivered
+        requires { 0 < room_of out.old }
+        ensures { Acts self.old (deliver_in self.old.state self.old packet.now now) self.new out.old out.new result }
+    {
+        match self.state {
+            State::RfcSent => self.deliver_asking(packet, now, out),
+            State::RfcReceived => self.deliver_requested(packet, now),
+            State::Open => self.deliver_open(packet, now, out),
+            _ => Delivered::Dropped(Why::NotOpen),
+        }
+    }
+
+    /// The rows of RfcSent.
+    fn deliver_asking(&mut self, packet: &Packet, now: u64, out: &mut Outbox) -> Delivered
+        requires { 0 < room_of out.old }
+        ensures { Acts self.old (deliver_asking self.old packet.now now (kind_of packet.now.op)) self.new out.old out.new result }
+    {
+        match packet.op.kind() {
+            Kind::Opn => self.take_opn(packet, now, out),
+            Kind::Ans => self.take_ans(packet, now),
+            Kind::Fwd => self.take_fwd(packet, now),
+            Kind::Cls => self.take_cls(packet, now),
+            Kind::Los => self.take_los(packet, now),
+            _ => Delivered::Dropped(Why::NotOpen),
+        }
+    }
+
+    /// The rows of RfcReceived.
+    fn deliver_requested(&mut self, packet: &Packet, now: u64) -> Delivered
+        ensures { ActsQuietly self.old (deliver_requested self.old packet.now now (kind_of packet.now.op)) self.new result }
+    {
+        match packet.op.kind() {
+            Kind::Cls => self.take_cls(packet, now),
+            Kind::Los => self.take_los(packet, now),
+            _ => Delivered::Dropped(Why::NotOpen),
+        }
+    }
+
+    /// The rows of Open.
+    fn deliver_open(&mut self, packet: &Packet, now: u64, out: &mut Outbox) -> Delivered
+        requires { 0 < room_of out.old }
+        ensures { Acts self.old (deliver_open self.old packet.now now (kind_of packet.now.op)) self.new out.old out.new result }
+    {
+        match packet.op.kind() {
+            Kind::Data => self.take_data(packet, now, out),
+            Kind::Eof => self.take_eof(packet, now, out),
+            Kind::Opn => self.take_second_opn(packet, now, out),
+            Kind::Sns => self.take_sns(packet, now, out),
+            Kind::Sts => self.take_sts(packet, now),
+            Kind::Unc => self.take_unc(packet, now),
+            Kind::Cls => self.take_cls(packet, now),
+            Kind::Los => self.take_los(packet, now),
+            _ => Delivered::Dropped(Why::BadOp),
+        }
+    }
+
+    /// RFC, the one that the end took, again.
+    fn take_rfc_again(&mut self, packet: &Packet, now: u64, out: &mut Outbox) -> Delivered
+        requires { 0 < room_of out.old }
+        ensures { Acts self.old (after_rfc self.old packet.now now) self.new out.old out.new result }
+    {
+        if self.asked {
+            return Delivered::Dropped(Why::BadOp);
+        }
+        if !self.is_peer_index(packet.src_index) {
+            return Delivered::Dropped(Why::Stranger);
+        }
+        if packet.num != self.request {
+            return Delivered::Dropped(Why::OtherNumber);
+        }
+        self.hear(now);
+        if self.state == State::Open {
+            self.put_sts(out);
+        }
+        Delivered::Duplicate
+    }
+
+    /// OPN, at the end that asked.
+    fn take_opn(&mut self, packet: &Packet, now: u64, out: &mut Outbox) -> Delivered
+        requires { 0 < room_of out.old }
+        ensures { Acts self.old (after_opn self.old packet.now now) self.new out.old out.new result }
+    {
+        let Some(told) = packet.status() else {
+            return Delivered::Dropped(Why::BadStatus);
+        };
+        self.hear_status(packet, now, told);
+        self.open_by(packet);
+        self.put_sts(out);
+        Delivered::Opened
+    }
+
+    /// Opens by an OPN: its number is read as item 0.
+    fn open_by(&mut self, opn: &Packet)
+        ensures { self.new ≡ opened self.old opn.now }
+    {
+        self.state = State::Open;
+        self.peer_index = Some(opn.src_index);
+        self.probed = self.last;
+        self.recv.clear();
+        self.recv.start(opn.num);
+    }
+
+    /// ANS.
+    fn take_ans(&mut self, packet: &Packet, now: u64) -> Delivered
+        ensures { ActsQuietly self.old (after_ans self.old packet.now now) self.new result }
+    {
+        self.hear(now);
+        self.state = State::Answered;
+        Delivered::Answered(copy_of(packet))
+    }
+
+    /// FWD.
+    fn take_fwd(&mut self, packet: &Packet, now: u64) -> Delivered
+        ensures { ActsQuietly self.old (after_fwd self.old packet.now now) self.new result }
+    {
+        self.hear(now);
+        self.state = State::Forwarded;
+        Delivered::Forwarded(copy_of(packet))
+    }
+
+    /// CLS.
+    fn take_cls(&mut self, packet: &Packet, now: u64) -> Delivered
+        ensures { ActsQuietly self.old (after_cls self.old packet.now now) self.new result }
+    {
+        self.hear(now);
+        self.end_in(State::ClsReceived);
+        Delivered::Closed(copy_of(packet))
+    }
+
+    /// LOS.
+    fn take_los(&mut self, packet: &Packet, now: u64) -> Delivered
+        ensures { ActsQuietly self.old (after_los self.old packet.now now) self.new result }
+    {
+        self.hear(now);
+        self.end_in(State::LosReceived);
+        Delivered::Lost(copy_of(packet))
+    }
+
+    /// Ends in a state. A request that was not accepted is dropped.
+    fn end_in(&mut self, state: State)
+        ensures { self.new ≡ ended self.old state }
+    {
+        if self.state.is_requested() {
+            self.recv.clear();
+        }
+        self.state = state;
+    }
+
+    /// Data.
+    fn take_data(&mut self, packet: &Packet, now: u64, out: &mut Outbox) -> Delivered
+        requires { 0 < room_of out.old }
+        ensures { Acts self.old (after_data self.old packet.now now) self.new out.old out.new result }
+    {
+        self.hear_ack(packet, now);
+        self.take_item(packet.num, Item::new(packet.op, packet.bytes()), out)
+    }
+
+    /// EOF, which is held without its data bytes.
+    fn take_eof(&mut self, packet: &Packet, now: u64, out: &mut Outbox) -> Delivered
+        requires { 0 < room_of out.old }
+        ensures { Acts self.old (after_eof self.old packet.now now) self.new out.old out.new result }
+    {
+        self.hear_ack(packet, now);
+        self.take_item(packet.num, Item::new(packet.op, &[]), out)
+    }
+
+    /// Holds an item that came, or tells the status.
+    fn take_item(&mut self, num: PktNum, item: Item, out: &mut Outbox) -> Delivered
+        requires { 0 < room_of out.old }
+        ensures { Acts self.old (after_item_came self.old num item) self.new out.old out.new result }
+    {
+        match self.recv.arrive(num, item) {
+            Arrived::Took => Delivered::Took,
+            Arrived::Duplicate => {
+                self.put_sts(out);
+                Delivered::Duplicate
+            }
+            Arrived::Outside => {
+                self.put_sts(out);
+                Delivered::Outside
+            }
+        }
+    }
+
+    /// OPN, at an open end.
+    fn take_second_opn(&mut self, packet: &Packet, now: u64, out: &mut Outbox) -> Delivered
+        requires { 0 < room_of out.old }
+        ensures { Acts self.old (after_second_opn self.old packet.now now) self.new out.old out.new result }
+    {
+        let Some(told) = packet.status() else {
+            return Delivered::Dropped(Why::BadStatus);
+        };
+        self.hear_status(packet, now, told);
+        self.put_sts(out);
+        Delivered::Duplicate
+    }
+
+    /// SNS.
+    fn take_sns(&mut self, packet: &Packet, now: u64, out: &mut Outbox) -> Delivered
+        requires { 0 < room_of out.old }
+        ensures { Acts self.old (after_sns self.old packet.now now) self.new out.old out.new result }
+    {
+        self.hear_ack(packet, now);
+        self.put_sts(out);
+        Delivered::Probed
+    }
+
+    /// STS.
+    fn take_sts(&mut self, packet: &Packet, now: u64) -> Delivered
+        ensures { ActsQuietly self.old (after_sts self.old packet.now now) self.new result }
+    {
+        let Some(told) = packet.status() else {
+            return Delivered::Dropped(Why::BadStatus);
+        };
+        self.hear_status(packet, now, told);
+        Delivered::Status
+    }
+
+    /// UNC.
+    fn take_unc(&mut self, packet: &Packet, now: u64) -> Delivered
+        ensures { ActsQuietly self.old (after_unc self.old packet.now now) self.new result }
+    {
+        self.hear(now);
+        Delivered::Unc(copy_of(packet))
+    }
+
+    /// Hears the peer at a moment.
+    pub(crate) fn hear(&mut self, now: u64)
+        ensures { self.new ≡ heard_at self.old now }
+    {
+        self.last = self.last.max(now);
+        self.heard = self.last;
+    }
+
+    /// Hears the peer, and takes the packet's acknowledgement.
+    fn hear_ack(&mut self, packet: &Packet, now: u64)
+        ensures { self.new ≡ heard_with_ack self.old packet.now now }
+    {
+        self.hear(now);
+        self.send.acknowledge(packet.ack);
+    }
+
+    /// Hears the peer, and takes the packet's acknowledgement, receipt and window, in this order.
+    fn hear_status(&mut self, packet: &Packet, now: u64, told: (PktNum, u16))
+        ensures { self.new ≡ heard_with_status self.old packet.now now told }
+    {
+        let (receipt, window) = told;
+        self.hear_ack(packet, now);
+        self.send.receipt(receipt);
+        self.send.set_window(window);
+    }
+}
+
+/// A copy of a packet.
+fn copy_of(packet: &Packet) -> Packet
+    ensures { result ≡ packet.now }
+{
+    Packet {
+        op: packet.op,
+        fwd: packet.fwd,
+        dst: packet.dst,
+        dst_index: packet.dst_index,
+        src: packet.src,
+        src_index: packet.src_index,
+        num: packet.num,
+        ack: packet.ack,
+        body: body_of(packet.bytes()),
+    }
+}

@@ -1,0 +1,154 @@
+//! The user's calls: writing, reading and closing.
+ghost use Rattle.std.specs.Prelude.{◌≡◌, ◌<◌, ◌≤◌, length, IfSome};
+ghost use Rattle.chaos_packet.specs.Opcode.{kind_of};
+ghost use Rattle.chaos_packet.specs.Outbox.{room_of};
+ghost use Rattle.chaos_window.specs.Receive.{item_at};
+ghost use Rattle.chaos_conn.specs.View.{moment};
+ghost use Rattle.chaos_conn.specs.Acted.{Acts, ActsQuietly};
+ghost use Rattle.chaos_conn.specs.Calls.{most_bytes, write_item, read_at_open, read_at_end};
+ghost use Rattle.chaos_conn.specs.Act.{Write, Unc, Read, Close, Did, Wrote, Gave, Does};
+
+use crate::answers::ReadEnd;
+use crate::conn::Conn;
+use crate::fault::ConnFault;
+use chaos_packet::{Kind, MAX_DATA, Opcode, Outbox, PktNum};
+
+impl Conn {
+    /// Writes data, or an EOF, and answers its number.
+    ///
+    /// Refused, in this order: `NotOpen`; `BadOp` for an opcode that is neither data nor EOF; `TooLong` for more than 488
+    /// bytes, or any with an EOF; `Full` where the window is. Nothing changes then. [`Conn::can_write`] tells beforehand.
+    pub fn write(
+        &mut self,
+        op: Opcode,
+        bytes: &[u8],
+        now: u64,
+        out: &mut Outbox,
+    ) -> Result<PktNum, ConnFault>
+        requires { 0 < room_of out.old }
+        ensures { Does self.old (Write op bytes.now now) self.new out.old out.new (Wrote result) }
+    {
+        if !self.state.is_open() {
+            return Err(ConnFault::NotOpen);
+        }
+        let Some(most) = most_bytes(op.kind()) else {
+            return Err(ConnFault::BadOp);
+        };
+        if bytes.len() > most {
+            return Err(ConnFault::TooLong);
+        }
+        self.write_item(op, bytes, now, out)
+    }
+
+    /// Writes an item where the window has room.
+    fn write_item(
+        &mut self,
+        op: Opcode,
+        bytes: &[u8],
+        now: u64,
+        out: &mut Outbox,
+    ) -> Result<PktNum, ConnFault>
+        requires room { 0 < room_of out.old }
+        requires fits { length bytes.now ≤ MAX_DATA }
+        ensures { Acts self.old (write_item self.old (record { op = op; body = bytes.now }) (moment self.old now)) self.new out.old out.new result }
+    {
+        if !self.has_window() {
+            return Err(ConnFault::Full);
+        }
+        self.last = self.last.max(now);
+        self.untold = 0;
+        self.send_item(op, bytes, out);
+        Ok(self.send.last())
+    }
+
+    /// Sends uncontrolled data, which may be lost and is kept nowhere.
+    ///
+    /// Refused, in this order: `NotOpen`; `TooLong` for more than 488 bytes. The end itself never changes.
+    pub fn unc(&mut self, bytes: &[u8], out: &mut Outbox) -> Result<(), ConnFault>
+        requires { 0 < room_of out.old }
+        ensures { Does self.old (Unc bytes.now) self.new out.old out.new (Did result) }
+    {
+        if !self.state.is_open() {
+            return Err(ConnFault::NotOpen);
+        }
+        if bytes.len() > MAX_DATA {
+            return Err(ConnFault::TooLong);
+        }
+        out.put(self.untelling_packet(Opcode::UNC, bytes));
+        Ok(())
+    }
+
+    /// Gives the connection up, in any state, and is inactive then. An open end, and one that holds a request, sends a CLS
+    /// with the text.
+    ///
+    /// Refused with `TooLong` for more than 488 bytes. Nothing changes then.
+    pub fn close(&mut self, text: &[u8], out: &mut Outbox) -> Result<(), ConnFault>
+        requires { 0 < room_of out.old }
+        ensures { Does self.old (Close text.now) self.new out.old out.new (Did result) }
+    {
+        if text.len() > MAX_DATA {
+            return Err(ConnFault::TooLong);
+        }
+        if self.state.tells_close() {
+            out.put(self.untelling_packet(Opcode::CLS, text));
+        }
+        self.reset();
+        Ok(())
+    }
+
+    /// Reads the next item, where it is held, and hands it out. Once the reads that the peer wasn't told of come to a third
+    /// of the window, an open end tells it by an STS.
+    ///
+    /// In RfcSent and RfcReceived there is nothing to read, whatever is held. An end that isn't live answers its state once
+    /// no next item is held.
+    pub fn read(&mut self, out: &mut Outbox) -> ReadEnd
+        requires { 0 < room_of out.old }
+        ensures { Does self.old Read self.new out.old out.new (Gave result) }
+    {
+        if self.state.is_opening() {
+            return ReadEnd::Nothing;
+        }
+        if self.state.is_open() {
+            return self.read_at_open(out);
+        }
+        self.read_at_end()
+    }
+
+    /// Reads at an open end.
+    fn read_at_open(&mut self, out: &mut Outbox) -> ReadEnd
+        requires { 0 < room_of out.old }
+        ensures { Acts self.old (read_at_open self.old (item_at self.old.recv 1)) self.new out.old out.new result }
+    {
+        let Some(item) = self.recv.advance() else {
+            return ReadEnd::Nothing;
+        };
+        if 3 * (self.untold + 1) >= self.config.recv_cap() {
+            self.put_sts(out);
+        } else {
+            self.untold += 1;
+        }
+        ReadEnd::Item(item)
+    }
+
+    /// Reads at an end that isn't live.
+    fn read_at_end(&mut self) -> ReadEnd
+        ensures { ActsQuietly self.old (read_at_end self.old (item_at self.old.recv 1)) self.new result }
+    {
+        match self.recv.advance() {
+            Some(item) => ReadEnd::Item(item),
+            None => ReadEnd::Ended(self.state),
+        }
+    }
+}
+
+/// How many bytes a user may write with an opcode of this kind.
+fn most_bytes(kind: Kind) -> Option<usize>
+    ensures value { result ≡ most_bytes kind }
+    ensures fits { IfSome result (λ most. most ≤ MAX_DATA) }
+{
+    match kind {
+        Kind::Data => Some(MAX_DATA),
+        Kind::Eof => Some(0),
+        _ => None,
+    }
+}

@@ -1,0 +1,118 @@
+//! One end of a connection.
+ghost use Rattle.std.specs.Prelude.{◌≡◌, IfOk};
+ghost use Rattle.chaos_conn.specs.View.{new_conn};
+
+use crate::config::ConnConfig;
+use crate::state::{End, State};
+use chaos_packet::PktNum;
+use chaos_window::{RecvWindow, SendWindow};
+use std::alloc::{AllocError, Global};
+use std::marker::Model;
+
+/// One end of a connection (AI Memo 628, on connections). A contract sees a plain record of its fields, and of each call
+/// the view after it, the packets that it put out, and its answer.
+///
+/// Its calls are of four kinds:
+///
+/// - The user's calls. [`Conn::request`] asks a peer; [`Conn::take_request`] takes a peer's request, and then
+///   [`Conn::accept`], [`Conn::answer`] or [`Conn::reject`] replies to it. At an open end [`Conn::write`] and
+///   [`Conn::unc`] send, [`Conn::front`] lends the next item and [`Conn::read`] hands it out. [`Conn::close`] gives the
+///   connection up, in any state, and makes the value ready for another.
+/// - Packets from the network: [`Conn::deliver`].
+/// - The tick: [`Conn::tick`], called now and then, sends what is due.
+/// - Looks, which change nothing: [`Conn::state`], [`Conn::config`], [`Conn::peer`], [`Conn::asked`],
+///   [`Conn::can_write`], [`Conn::drained`] and [`Conn::stored`].
+///
+/// The order: `new`; then `request`, or `take_request` and a reply; then packets, ticks, writes and reads as they come;
+/// then `close`. A call in the wrong state is refused, and changes nothing.
+///
+/// ```text
+///                           Inactive
+///             request        |    |       take_request
+///           +----------------+    +----------------+
+///           v                                      v
+///        RfcSent                              RfcReceived
+///         |   |                                |  |   |
+///         |   | OPN                     accept |  |   | answer, reject, close: Inactive
+///         |   +-----------> Open <-------------+  |
+///         |                  |                    |
+///         | ANS, FWD,        | CLS, LOS,          | CLS, LOS
+///         | CLS, LOS,        | silence            |
+///         | silence          v                    |
+///         +----------> an ended state <-----------+
+///                            |
+///                            +-- close: Inactive  (close leads there from every state)
+/// ```
+///
+/// The ended states are Answered, ClsReceived, LosReceived, HostDown and Forwarded. In them nothing is sent, and the
+/// items that are held can still be read.
+///
+/// Each call that has an outbox asks for room for one packet in it and puts at most one there; a tick asks for room for
+/// as many as the send window. Moments are milliseconds; one that is earlier than the last counts as the last.
+#[derive(Drop)]
+pub struct Conn {
+    pub(crate) state: State,
+    /// The own end.
+    pub(crate) me: End,
+    /// The peer's address.
+    pub(crate) peer: u16,
+    /// The peer's index, where it is known.
+    pub(crate) peer_index: Option<u16>,
+    /// Whether this end made the request.
+    pub(crate) asked: bool,
+    /// The request's number.
+    pub(crate) request: PktNum,
+    pub(crate) config: ConnConfig,
+    /// The moment of the last call that has one.
+    pub(crate) last: u64,
+    /// The moment when the peer was last heard.
+    pub(crate) heard: u64,
+    /// The moment from which the time to send again runs.
+    pub(crate) resent: u64,
+    /// The moment of the last probe.
+    pub(crate) probed: u64,
+    /// How many items were read since the peer was last told.
+    pub(crate) untold: u16,
+    pub(crate) send: SendWindow,
+    pub(crate) recv: RecvWindow,
+}
+
+impl Model for Conn {
+    ghost use Rattle.chaos_conn.specs.View.{ConnView, IsConn};
+    ghost use Rattle.chaos_conn.specs.Inside.{conn_view};
+
+    ghost Value = { ConnView };
+
+    ghost view = { conn_view };
+
+    ghost invariant = { λ c. IsConn (conn_view c) };
+}
+
+impl Conn {
+    /// An inactive end. It takes the memory for both windows, and no later call takes any.
+    pub fn new(alloc: Global, config: ConnConfig) -> Result<Self, AllocError>
+        ensures { IfOk result (λ conn. conn ≡ new_conn config) }
+    {
+        let send = SendWindow::new(alloc, config.send_cap())?;
+        let recv = RecvWindow::new(alloc, config.recv_cap())?;
+        Ok(Conn {
+            state: State::Inactive,
+            me: End {
+                address: 0,
+                index: 0,
+            },
+            peer: 0,
+            peer_index: None,
+            asked: false,
+            request: PktNum(0),
+            config,
+            last: 0,
+            heard: 0,
+            resent: 0,
+            probed: 0,
+            untold: 0,
+            send,
+            recv,
+        })
+    }
+}

@@ -1,0 +1,78 @@
+//! What a connection shows.
+ghost use Rattle.std.specs.Prelude.{◌≡◌, ◌≤◌, ◌==◌, length};
+ghost use Rattle.std.specs.Option.{option_copied};
+ghost use Rattle.chaos_window.specs.Send.{outstanding_of};
+ghost use Rattle.chaos_window.specs.Receive.{item_at};
+ghost use Rattle.chaos_conn.specs.View.{IsConn};
+ghost use Rattle.chaos_conn.specs.Calls.{can_write, has_window, peer_of};
+
+use crate::config::ConnConfig;
+use crate::conn::Conn;
+use crate::state::State;
+use chaos_packet::Item;
+
+impl Conn {
+    /// The state.
+    pub fn state(&self) -> State
+        ensures { result ≡ self.now.state }
+    {
+        self.state
+    }
+
+    /// The configuration. A tick asks for room for its send window.
+    pub fn config(&self) -> ConnConfig
+        ensures value { result ≡ self.now.config }
+        // What a caller may know of any connection.
+        ensures sound { IsConn self.now }
+        ensures kept_fit { length self.now.send.kept ≤ self.now.config.send_cap }
+    {
+        let _kept = self.send.unreceipted();
+        self.config
+    }
+
+    /// The peer's address, and its index where that is known. An inactive end alone has no peer.
+    pub fn peer(&self) -> Option<(u16, Option<u16>)>
+        ensures { result ≡ peer_of self.now }
+    {
+        if self.state.is_inactive() {
+            None
+        } else {
+            Some((self.peer, self.peer_index))
+        }
+    }
+
+    /// Whether this end made the request itself.
+    pub fn asked(&self) -> bool
+        ensures { result ≡ self.now.asked }
+    {
+        self.asked
+    }
+
+    /// Whether the end is open and its window has room, so that a write of data is taken.
+    pub fn can_write(&self) -> bool
+        ensures { result ≡ can_write self.now }
+    {
+        self.has_window() && self.state.is_open()
+    }
+
+    /// Whether the peer's user read all that was sent, as far as is known.
+    pub fn drained(&self) -> bool
+        ensures { result ≡ (outstanding_of self.now.send == 0) }
+    {
+        self.send.outstanding() == 0
+    }
+
+    /// Lends the next item, where it is held.
+    pub fn front(&self) -> Option<&Item>
+        ensures { option_copied result ≡ item_at self.now.recv 1 }
+    {
+        self.recv.front()
+    }
+
+    /// Whether fewer items are outstanding than the window allows.
+    pub(crate) fn has_window(&self) -> bool
+        ensures { result ≡ has_window self.now.send }
+    {
+        self.send.outstanding() < self.send.window()
+    }
+}

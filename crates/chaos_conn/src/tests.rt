@@ -1,0 +1,6 @@
+//! Dialogues from named states.
+mod arriving;
+mod opening;
+mod side;
+mod time;
+mod user;

@@ -1,0 +1,170 @@
+//! What is due at a moment.
+ghost use Rattle.std.specs.Prelude.{◌≡◌, ◌<◌, ◌≤◌, length};
+ghost use Rattle.chaos_packet.specs.Outbox.{with_put, room_of};
+ghost use Rattle.chaos_conn.specs.Sending.{all_kept, item_packet, carries_ack};
+ghost use Rattle.chaos_packet.specs.Opcode.{kind_of};
+ghost use Rattle.chaos_conn.specs.Time.{is_down, is_resend_due, is_probe_due, due_of, tells, ticked_by};
+ghost use Rattle.chaos_conn.specs.Acted.{Acts};
+ghost use Rattle.chaos_conn.specs.Act.{Tick, Ticks, Does};
+
+use crate::answers::Ticked;
+use crate::conn::Conn;
+use crate::sending::carries_ack;
+use crate::state::State;
+use chaos_packet::{Item, Outbox, Packet, PktNum};
+use chaos_window::SendWindow;
+
+/// What may be due.
+enum Due {
+    /// The peer counts as down.
+    HostDown,
+    /// All kept items are sent again.
+    Resend,
+    /// The peer is probed.
+    Probe,
+    Nothing,
+}
+
+impl Conn {
+    /// Does what is due at a moment, the first of these that applies: an end that waits for its peer, and didn't hear it
+    /// for the time `down`, is ended; all kept items are sent again, each with its own number, after the time
+    /// `retransmit`; an open end whose peer was neither heard nor probed for the time `probe` sends an SNS.
+    pub fn tick(&mut self, now: u64, out: &mut Outbox) -> Ticked
+        requires { self.old.config.send_cap ≤ room_of out.old }
+        ensures { Does self.old (Tick now) self.new out.old out.new (Ticks result) }
+    {
+        self.last = self.last.max(now);
+        match self.due() {
+            Due::HostDown => {
+                self.state = State::HostDown;
+                Ticked::Down
+            }
+            Due::Resend => self.resend(out),
+            Due::Probe => self.probe(out),
+            Due::Nothing => Ticked::Quiet,
+        }
+    }
+
+    /// What is due at the last moment.
+    fn due(&self) -> Due
+        ensures { result ≡ due_of self.now }
+    {
+        if self.is_down() {
+            Due::HostDown
+        } else if self.is_resend_due() {
+            Due::Resend
+        } else if self.is_probe_due() {
+            Due::Probe
+        } else {
+            Due::Nothing
+        }
+    }
+
+    /// Whether the peer was not heard for so long that it counts as down.
+    fn is_down(&self) -> bool
+        ensures { result ≡ is_down self.now }
+    {
+        self.state.awaits_peer() && self.last.saturating_sub(self.heard) >= self.config.down()
+    }
+
+    /// Whether items are kept, and were not sent again for so long that they are now.
+    fn is_resend_due(&self) -> bool
+        ensures { result ≡ is_resend_due self.now }
+    {
+        self.state.awaits_peer()
+            && self.send.unreceipted() > 0
+            && self.last.saturating_sub(self.resent) >= self.config.retransmit()
+    }
+
+    /// Whether the peer was neither heard nor probed for so long that it is probed now.
+    fn is_probe_due(&self) -> bool
+        ensures { result ≡ is_probe_due self.now }
+    {
+        self.state.is_open()
+            && self.last.saturating_sub(self.heard.max(self.probed)) >= self.config.probe()
+    }
+
+    /// Sends all kept items again.
+    fn resend(&mut self, out: &mut Outbox) -> Ticked
+        requires { self.old.config.send_cap ≤ room_of out.old }
+        ensures view { self.new ≡ (ticked_by Due.Resend self.old).view }
+        ensures packets { out.new ≡ with_put out.old (all_kept self.old) }
+        ensures answer { result ≡ (ticked_by Due.Resend self.old).answer }
+        ensures few { length (all_kept self.old) ≤ self.old.config.send_cap }
+    {
+        self.put_kept(out);
+        self.resent = self.last;
+        if tells(&self.send) {
+            self.untold = 0;
+        }
+        Ticked::Resent(self.send.unreceipted() as usize)
+    }
+
+    /// Probes the peer.
+    fn probe(&mut self, out: &mut Outbox) -> Ticked
+        requires { 0 < room_of out.old }
+        ensures { Acts self.old (ticked_by Due.Probe self.old) self.new out.old out.new result }
+    {
+        out.put(self.sns());
+        self.probed = self.last;
+        self.untold = 0;
+        Ticked::Probed
+    }
+
+    /// Puts all kept items out, in order.
+    #[tactic(auto, using(crate::proofs::Kept::places))]
+    fn put_kept(&self, out: &mut Outbox)
+        requires { self.now.config.send_cap ≤ room_of out.old }
+        ensures packets { out.new ≡ with_put out.old (all_kept self.now) }
+        ensures few { length (all_kept self.now) ≤ self.now.config.send_cap }
+    {
+        let send = self.sent();
+        let mut num = send.receipted().next();
+        for i in 0..send.unreceipted() as usize {
+            let Some(item) = send.kept(i) else {
+                break;
+            };
+            out.put(self.kept_packet(num, item));
+            num = num.next();
+        }
+    }
+
+    /// A kept item as a packet, with the present acknowledgement where it carries one.
+    fn kept_packet(&self, num: PktNum, item: &Item) -> Packet
+        ensures { result ≡ item_packet self.now num item.now }
+    {
+        self.item_packet(num, item.op, item.bytes())
+    }
+
+    /// Lends the window of what was sent, which keeps no more than its cap.
+    fn sent(&self) -> &SendWindow
+        ensures window { result.now ≡ self.now.send }
+        ensures few { length self.now.send.kept ≤ self.now.config.send_cap }
+    {
+        let _few = self.send.unreceipted();
+        &self.send
+    }
+}
+
+/// Whether a kept item carries the acknowledgement.
+#[tactic(auto, using(crate::proofs::Kept::places))]
+fn tells(send: &SendWindow) -> bool
+    ensures { result ≡ tells send.now.kept }
+{
+    for i in 0..send.unreceipted() as usize {
+        let Some(item) = send.kept(i) else {
+            break;
+        };
+        if item_tells(item) {
+            return true;
+        }
+    }
+    false
+}
+
+/// Whether an item is sent with the acknowledgement.
+fn item_tells(item: &Item) -> bool
+    ensures { result ≡ carries_ack (kind_of item.now.op) }
+{
+    carries_ack(item.op.kind())
+}
