@@ -1,5 +1,5 @@
 -- What the ended states have in common.
-use Rattle.std.proofs.Common.{◌≡◌, Bool, true, false, refl}
+use Rattle.std.proofs.Common.{◌≡◌, true, false, refl}
 use Rattle.chaos_conn.specs.declared.state.State.{State}
 use Rattle.chaos_conn.specs.declared.state.State.TheVariants.{Inactive, RfcSent, RfcReceived, Open, Answered, ClsReceived, LosReceived, HostDown, Forwarded}
 use Rattle.chaos_conn.specs.State.{is_ended, is_live, is_opening, is_inactive, is_requested, is_open, awaits_peer, tells_close}

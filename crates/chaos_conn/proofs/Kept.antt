@@ -1,5 +1,5 @@
 -- A list from a place on.
-use Rattle.std.proofs.Common.{◌≡◌, ℕ, ◌+◌, ◌≤◌, zero, suc, Bool, true, false, List, [], ◌∷◌, ◌++◌, drop, length, slice_get, Option, Some, None, unwrap_or, ◌<◌, refl, ap, sym, ◌∙◌, arith, append_assoc, length-append}
+use Rattle.std.proofs.Common.{◌≡◌, ℕ, ◌+◌, ◌≤◌, zero, suc, Bool, false, List, [], ◌∷◌, drop, length, slice_get, Option, Some, None, unwrap_or, ◌<◌, refl, ap, ◌∙◌, arith, append_assoc, length-append}
 use native.Mathlib.Numerals.{unary_clauses}
 use Rattle.std.specs.List.{list_any, sum_by}
 use Rattle.std.proofs.lemmas.List.Sums.{sum_by-cons}

@@ -1,5 +1,5 @@
 -- The delivery table: what a packet that arrives makes of an end.
-use Rattle.std.specs.Prelude.{ℕ, Bool, true, false, ◌&&◌, not, ◌==◌, if◌then◌else◌, List, [], Option, Some, None}
+use Rattle.std.specs.Prelude.{ℕ, Bool, true, false, ◌&&◌, not, ◌==◌, if◌then◌else◌, [], Option, Some, None}
 use Rattle.chaos_packet.specs.Item.{ItemView}
 use Rattle.chaos_packet.specs.Opcode.{kind_of}
 use Rattle.chaos_packet.specs.Packet.{PacketView, status_of}
@@ -15,8 +15,8 @@ use Rattle.chaos_conn.specs.declared.answers.Why.{Why}
 use Rattle.chaos_conn.specs.declared.answers.Why.TheVariants as why
 use Rattle.chaos_conn.specs.declared.answers.Delivered.{Delivered}
 use Rattle.chaos_conn.specs.declared.answers.Delivered.TheVariants as answer
-use Rattle.chaos_conn.specs.State.{is_live, is_requested, is_open}
-use Rattle.chaos_conn.specs.View.{ConnView, moment, heard_at}
+use Rattle.chaos_conn.specs.State.{is_live, is_requested}
+use Rattle.chaos_conn.specs.View.{ConnView, heard_at}
 use Rattle.chaos_conn.specs.Acted.{Acted, quietly}
 use Rattle.chaos_conn.specs.Sending.{is_rfc, with_sts}
 use Rattle.chaos_conn.specs.Opening.{item_of}

@@ -3,7 +3,6 @@ use Rattle.std.specs.Prelude.{ℕ, ◌-◌, max, Bool, ◌&&◌, nat_lt, nat_le,
 use Rattle.std.specs.List.{list_any}
 use Rattle.chaos_packet.specs.Item.{ItemView}
 use Rattle.chaos_packet.specs.Opcode.{kind_of}
-use Rattle.chaos_packet.specs.Packet.{PacketView}
 use Rattle.chaos_conn.specs.declared.state.State.TheVariants as st
 use Rattle.chaos_conn.specs.declared.time.Due.{Due}
 use Rattle.chaos_conn.specs.declared.time.Due.TheVariants as due

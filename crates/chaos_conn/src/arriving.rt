@@ -9,7 +9,7 @@ ghost use Rattle.chaos_conn.specs.Act.{Deliver, Came, Does};
 
 use crate::answers::{Delivered, Why};
 use crate::conn::Conn;
-use crate::sending::{body_of, is_rfc};
+use crate::sending::is_rfc;
 use crate::state::State;
 use chaos_packet::{Item, Kind, Outbox, Packet, PktNum};
 use chaos_window::Arrived;
@@ -179,7 +179,7 @@ impl Conn {
     {
         self.hear(now);
         self.state = State::Answered;
-        Delivered::Answered(copy_of(packet))
+        Delivered::Answered(packet.copy())
     }
 
     /// FWD.
@@ -188,7 +188,7 @@ impl Conn {
     {
         self.hear(now);
         self.state = State::Forwarded;
-        Delivered::Forwarded(copy_of(packet))
+        Delivered::Forwarded(packet.copy())
     }
 
     /// CLS.
@@ -197,7 +197,7 @@ impl Conn {
     {
         self.hear(now);
         self.end_in(State::ClsReceived);
-        Delivered::Closed(copy_of(packet))
+        Delivered::Closed(packet.copy())
     }
 
     /// LOS.
@@ -206,7 +206,7 @@ impl Conn {
     {
         self.hear(now);
         self.end_in(State::LosReceived);
-        Delivered::Lost(copy_of(packet))
+        Delivered::Lost(packet.copy())
     }
 
     /// Ends in a state. A request that was not accepted is dropped.
@@ -294,7 +294,7 @@ impl Conn {
         ensures { ActsQuietly self.old (after_unc self.old packet.now now) self.new result }
     {
         self.hear(now);
-        Delivered::Unc(copy_of(packet))
+        Delivered::Unc(packet.copy())
     }
 
     /// Hears the peer at a moment.
@@ -321,22 +321,5 @@ impl Conn {
         self.hear_ack(packet, now);
         self.send.receipt(receipt);
         self.send.set_window(window);
-    }
-}
-
-/// A copy of a packet.
-fn copy_of(packet: &Packet) -> Packet
-    ensures { result ≡ packet.now }
-{
-    Packet {
-        op: packet.op,
-        fwd: packet.fwd,
-        dst: packet.dst,
-        dst_index: packet.dst_index,
-        src: packet.src,
-        src_index: packet.src_index,
-        num: packet.num,
-        ack: packet.ack,
-        body: body_of(packet.bytes()),
     }
 }

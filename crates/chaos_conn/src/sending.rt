@@ -6,8 +6,7 @@ ghost use Rattle.chaos_window.specs.Send.{outstanding_of, next_of};
 ghost use Rattle.chaos_conn.specs.Sending.{packet_to_peer, untelling_packet, status_body, sts_of, sns_of, item_packet, after_item, carries_ack, is_rfc};
 
 use crate::conn::Conn;
-use arrayvec::ArrayVec;
-use chaos_packet::{Kind, MAX_DATA, Opcode, Outbox, Packet, PktNum};
+use chaos_packet::{Kind, MAX_DATA, Opcode, Outbox, Packet, PktNum, body_of};
 
 /// The number of a packet that has none, and the acknowledgement of one that tells nothing.
 const NO_NUMBER: PktNum = PktNum(0);
@@ -112,16 +111,6 @@ pub fn is_rfc(kind: Kind) -> bool
     ensures { result ≡ is_rfc kind }
 {
     matches!(kind, Kind::Rfc)
-}
-
-/// A copy of the bytes, as a packet's data.
-pub fn body_of(bytes: &[u8]) -> ArrayVec<u8, MAX_DATA>
-    requires { length bytes.now ≤ MAX_DATA }
-    ensures { result.items ≡ bytes.now }
-{
-    let mut body = ArrayVec::new();
-    let _fits = body.try_extend_from_slice(bytes);
-    body
 }
 
 /// The bytes of two words, of each word the low half first.

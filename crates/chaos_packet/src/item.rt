@@ -45,7 +45,7 @@ impl Item {
     }
 }
 
-/// A copy of the bytes, as a packet's data.
+/// A packet's data with a copy of these bytes. It takes no memory.
 pub fn body_of(bytes: &[u8]) -> ArrayVec<u8, MAX_DATA>
     requires { length bytes.now ≤ 488 }
     ensures { result.items ≡ bytes.now }

@@ -17,7 +17,7 @@ mod tests;
 mod writing;
 
 pub use fault::PacketFault;
-pub use item::Item;
+pub use item::{Item, body_of};
 pub use limits::{HEADER_WORDS, MAX_DATA, MAX_FORWARDS, MAX_WORDS};
 pub use number::PktNum;
 pub use opcode::{Kind, Opcode};

@@ -2,6 +2,7 @@
 ghost use Rattle.std.specs.Prelude.{◌≡◌, ◌+◌, ◌*◌, ◌≤◌, ◌==◌, length, position};
 ghost use Rattle.chaos_packet.specs.Packet.{status_of, status_words, contact_of, arguments_of};
 
+use crate::item::body_of;
 use crate::limits::MAX_DATA;
 use crate::number::PktNum;
 use crate::opcode::{Kind, Opcode};
@@ -85,6 +86,23 @@ impl Model for Packet {
 }
 
 impl Packet {
+    /// A copy of the packet, data and all. It takes no memory, so it can't fail.
+    pub fn copy(&self) -> Self
+        ensures { result ≡ self.now }
+    {
+        Packet {
+            op: self.op,
+            fwd: self.fwd,
+            dst: self.dst,
+            dst_index: self.dst_index,
+            src: self.src,
+            src_index: self.src_index,
+            num: self.num,
+            ack: self.ack,
+            body: body_of(self.bytes()),
+        }
+    }
+
     /// The data bytes, lent.
     pub fn bytes(&self) -> &[u8]
         ensures value { result.now ≡ self.now.body }

@@ -1,5 +1,6 @@
 //! Bytes that wait to be written.
-ghost use Rattle.std.specs.Prelude.{◌≡◌, ◌+◌, ◌≤◌, [], ℕ, List, Some, length, take, drop, OnOk, IfOk};
+ghost use Rattle.std.specs.Prelude.{◌≡◌, ◌+◌, ◌-◌, ◌≤◌, ◌↔◌, [], ℕ, List, Some, Ok, length, min, take, drop, IsOk, OnOk, IfOk};
+ghost use Rattle.std.specs.Io.{WritesAtMost};
 ghost use Rattle.std.specs.Io.KnownBytes.{Appends, Keeps, WriteAppends};
 ghost use Rattle.chaosd_engines.specs.Buffer.{written_of};
 
@@ -65,19 +66,30 @@ impl Write for WriteBuffer {
     ghost contents = { λ b. Some b };
 
     /// Takes what fits.
-    fn write(&mut self, bytes: &[u8]) -> io::Result<usize> {
+    fn write(&mut self, bytes: &[u8]) -> io::Result<usize>
+        ensures bound { WritesAtMost result bytes.now }
+        ensures bytes { WriteAppends (Some self.old) (Some self.new) result bytes.now }
+        ensures count { result ≡ Ok (min (length bytes.now) (BUFFER_LEN - length self.old)) }
+    {
         let count = bytes.len().min(self.room());
         let _fits = self.bytes.try_extend_from_slice(&bytes[..count]);
         Ok(count)
     }
 
     /// Does nothing: only [`WriteBuffer::hand_on`] has a writer to hand on to.
-    fn flush(&mut self) -> io::Result<()> {
+    fn flush(&mut self) -> io::Result<()>
+        ensures bytes { Keeps (Some self.old) (Some self.new) }
+        ensures done { IsOk result }
+    {
         Ok(())
     }
 
+    /// Takes all bytes where they fit.
     #[inline]
-    fn write_all(&mut self, bytes: &[u8]) -> io::Result<()> {
+    fn write_all(&mut self, bytes: &[u8]) -> io::Result<()>
+        ensures bytes { OnOk result (Appends (Some self.old) (Some self.new) bytes.now) }
+        ensures fits { IsOk result ↔ (length self.old + length bytes.now ≤ BUFFER_LEN) }
+    {
         match self.bytes.try_extend_from_slice(bytes) {
             Ok(()) => Ok(()),
             Err(_) => Err(Error::from(ErrorKind::WriteZero)),

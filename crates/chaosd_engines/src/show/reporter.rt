@@ -10,7 +10,7 @@ use crate::show::tally::Tally;
 use std::io;
 use std::io::Write;
 
-/// No report has more bytes, with the empty line in front of it: that of a packet with all its data has 1,577.
+/// No report has more bytes, with the empty line in front of it: that of a packet with all its data has 1,554.
 const REPORT_ROOM: usize = 2_048;
 
 /// The reports that wait to be written, and the count of all so far.

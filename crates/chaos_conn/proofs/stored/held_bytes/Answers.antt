@@ -1,5 +1,4 @@
-use Rattle.std.proofs.Common.{sym, arith, ◌∙◌, ap, ◌≡◌, ◌+◌, ◌<◌, slice_get, unwrap_or, None, is_some, cond, drop, length}
-use Rattle.std.specs.List.{sum_by}
+use Rattle.std.proofs.Common.{arith, ◌∙◌, ◌<◌, is_some, cond, length}
 use Rattle.chaos_conn.specs.Stored.{slot_bytes}
 use Rattle.chaos_conn.proofs.Kept.{slots_sum, item_at_next}
 use Rattle.chaos_conn.proofs.stored.held_bytes.Goals as goal

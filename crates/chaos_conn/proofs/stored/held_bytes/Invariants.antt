@@ -1,4 +1,4 @@
-use Rattle.std.proofs.Common.{◌≡◌, ◌≤◌, ◌+◌, ◌*◌, drop, length, count_by, is_some}
+use Rattle.std.proofs.Common.{◌≡◌, ◌≤◌, ◌+◌, ◌*◌, drop, count_by, is_some}
 use Rattle.std.specs.List.{sum_by}
 use Rattle.chaos_conn.specs.Stored.{slot_bytes}
 use Rattle.chaos_conn.proofs.stored.held_bytes.Given as goal

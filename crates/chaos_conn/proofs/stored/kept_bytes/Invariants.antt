@@ -1,4 +1,4 @@
-use Rattle.std.proofs.Common.{◌≡◌, ◌≤◌, ◌+◌, ◌*◌, drop, length}
+use Rattle.std.proofs.Common.{◌≡◌, ◌≤◌, ◌+◌, ◌*◌, drop}
 use Rattle.std.specs.List.{sum_by}
 use Rattle.chaos_conn.specs.Stored.{item_bytes}
 use Rattle.chaos_conn.proofs.stored.kept_bytes.Given as goal
