@@ -1,5 +1,5 @@
 -- The user's calls on a connection: writing, reading and closing.
-use Rattle.std.specs.Prelude.{ℕ, ◌+◌, ◌*◌, Bool, ◌&&◌, nat_lt, nat_le, if◌then◌else◌, List, [], ◌∷◌, length, Option, Some, None, Result, Ok, Err}
+use Rattle.std.specs.Prelude.{ℕ, ◌+◌, ◌*◌, Bool, ◌&&◌, ◌==◌, nat_lt, nat_le, if◌then◌else◌, List, [], ◌∷◌, length, Option, Some, None, Result, Ok, Err}
 use Rattle.chaos_packet.specs.Item.{ItemView}
 use Rattle.chaos_packet.specs.Opcode.{kind_of}
 use Rattle.chaos_packet.specs.Packet.{PacketView}
@@ -84,17 +84,25 @@ abbrev pub read_at_end : ConnView → Option ItemView → Acted ReadEnd
 read_at_end v None = quietly v (end.Ended v.state)
 read_at_end v (Some item) = quietly (record v { recv = after_advance v.recv }) (end.Item item)
 
+-- the next item to read, where it is held
+abbrev pub front_of : ConnView → Option ItemView
+front_of v = item_at v.recv 1
+
 abbrev pub act_read : ConnView → Acted ReadEnd
 act_read v =
     if is_opening v.state then quietly v end.Nothing
-    else (if is_open v.state then read_at_open v (item_at v.recv 1)
-    else read_at_end v (item_at v.recv 1))
+    else (if is_open v.state then read_at_open v (front_of v)
+    else read_at_end v (front_of v))
 
 -- ---- looks
 
 -- a write of data would not be refused for the state or the window
 abbrev pub can_write : ConnView → Bool
 can_write v = has_window v.send && is_open v.state
+
+-- the peer's user read all that was sent, as far as is known
+abbrev pub is_drained : ConnView → Bool
+is_drained v = outstanding_of v.send == 0
 
 -- the peer's address, and its index where that is known; an inactive end has no peer
 abbrev pub peer_of : ConnView → Option (ℕ × Option ℕ)

@@ -1,10 +1,8 @@
 //! What a connection shows.
-ghost use Rattle.std.specs.Prelude.{◌≡◌, ◌≤◌, ◌==◌, length};
+ghost use Rattle.std.specs.Prelude.{◌≡◌, ◌≤◌, length};
 ghost use Rattle.std.specs.Option.{option_copied};
-ghost use Rattle.chaos_window.specs.Send.{outstanding_of};
-ghost use Rattle.chaos_window.specs.Receive.{item_at};
 ghost use Rattle.chaos_conn.specs.View.{IsConn};
-ghost use Rattle.chaos_conn.specs.Calls.{can_write, has_window, peer_of};
+ghost use Rattle.chaos_conn.specs.Calls.{can_write, front_of, has_window, is_drained, peer_of};
 
 use crate::config::ConnConfig;
 use crate::conn::Conn;
@@ -57,14 +55,14 @@ impl Conn {
 
     /// Whether the peer's user read all that was sent, as far as is known.
     pub fn drained(&self) -> bool
-        ensures { result ≡ (outstanding_of self.now.send == 0) }
+        ensures { result ≡ is_drained self.now }
     {
         self.send.outstanding() == 0
     }
 
     /// Lends the next item, where it is held.
     pub fn front(&self) -> Option<&Item>
-        ensures { option_copied result ≡ item_at self.now.recv 1 }
+        ensures { option_copied result ≡ front_of self.now }
     {
         self.recv.front()
     }
