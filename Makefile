@@ -4,13 +4,14 @@
 #   make demo               shows the report of a status datagram
 #   make check              the gate: every proof from nothing, the wrong bodies, the tests and the program
 #   make bench              times `chaosd show` beside a plain Rust program (rustc and python3)
+#   make bench-links        times round trips between two UDP links beside the same in plain Rust
 #   make install PREFIX=DIR puts the program into DIR/bin
 
 PREFIX ?= /usr/local
 RT ?= rt
 SOURCES := crates.txt HANDLES $(shell find crates -path '*/out' -prune -o -type f -print)
 
-.PHONY: all demo check bench install clean
+.PHONY: all demo check bench bench-links install clean
 
 all: bin/chaosd
 
@@ -28,6 +29,9 @@ check:
 
 bench: bin/chaosd
 	@python3 bench/show.py
+
+bench-links:
+	@RT=$(RT) python3 bench/links.py
 
 install: bin/chaosd
 	install -d $(DESTDIR)$(PREFIX)/bin

@@ -7,9 +7,6 @@ ghost use Rattle.chaos_link.specs.Datagram.{Carries, IsDecidedByCarries, fault_o
 use crate::fault::LinkFault;
 use chaos_packet::{MAX_WORDS, Packet, PacketFault, from_words};
 
-/// The most bytes of a datagram: the mark, the version and the greatest packet.
-pub const MAX_DATAGRAM: usize = 508;
-
 /// The mark and the version that a datagram begins with.
 pub(crate) const MARK: [u8; 4] = [0x43, 0x48, 0x01, 0x00];
 

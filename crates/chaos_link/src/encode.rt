@@ -2,7 +2,8 @@
 ghost use Rattle.std.specs.Prelude.{◌≡◌, ◌+◌, ◌*◌, ◌≤◌, ◌++◌, ℕ, List, Ok, length, take};
 ghost use Rattle.chaos_link.specs.Datagram.{Canonical, Carries, datagram_of, datagram_read, wire};
 
-use crate::datagram::{MARK, MAX_DATAGRAM};
+use crate::datagram::MARK;
+use crate::limits::MAX_DATAGRAM;
 use arrayvec::ArrayVec;
 use chaos_packet::{MAX_WORDS, Packet, write_words};
 

@@ -1,4 +1,4 @@
-//! Why bytes are no datagram.
+//! Why bytes are no datagram, and why a peer is refused.
 
 use chaos_packet::PacketFault;
 use thiserror::Error;
@@ -21,4 +21,15 @@ pub enum LinkFault {
     /// A byte or more stands after the packet.
     #[error("bytes after the packet")]
     Trailing,
+}
+
+/// Why a peer was not added, in the order of the checks.
+#[derive(Clone, Copy, Debug, PartialEq, Eq, Error)]
+pub enum PeerFault {
+    /// No more peers fit.
+    #[error("32 peers are there already")]
+    TooMany,
+    /// A peer with this Chaosnet address is there.
+    #[error("a peer with this address is there already")]
+    Already,
 }

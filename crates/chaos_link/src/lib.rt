@@ -1,14 +1,26 @@
-//! Chaosnet packets as UDP datagrams (own profile: the memo's hardware carriage is not used).
+//! Chaosnet packets as UDP datagrams (own profile: the memo's hardware carriage is not used), and links that carry
+//! datagrams between hosts.
 //!
-//! Bytes and packets alone: no sockets, no clock, and no allocation.
+//! The datagrams are bytes and packets alone. Of the links one is a queue in memory, whose constructor allocates, and one
+//! is a UDP socket, which alone waits. Nothing here reads a clock or makes a socket.
 #![tactic(auto)]
 
 mod datagram;
 mod encode;
 mod fault;
+mod limits;
+mod link;
+mod mem;
+mod peers;
 #[cfg(test)]
 mod tests;
+mod udp;
 
-pub use datagram::{MAX_DATAGRAM, from_datagram, law_carries};
+pub use datagram::{from_datagram, law_carries};
 pub use encode::to_datagram;
-pub use fault::LinkFault;
+pub use fault::{LinkFault, PeerFault};
+pub use limits::{LINK_ROOM, MAX_DATAGRAM, MAX_PEERS, MAX_WAIT};
+pub use link::{Link, Received, Sent};
+pub use mem::MemLink;
+pub use peers::{Peer, Peers};
+pub use udp::UdpLink;

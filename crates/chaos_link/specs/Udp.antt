@@ -1,0 +1,26 @@
+-- What contracts see of a link over a socket.
+use Rattle.std.specs.Prelude.{ℕ, Bool, true, List, Option}
+use Rattle.chaos_link.specs.Link.{counted}
+use Rattle.chaos_link.specs.declared.link.Sent.{Sent}
+use Rattle.chaos_link.specs.declared.link.Sent.TheVariants as sending
+use Rattle.chaos_link.specs.declared.link.Received.{Received}
+use Rattle.chaos_link.specs.declared.link.Received.TheVariants as receiving
+use Rattle.chaos_link.specs.declared.peers.Peer.{Peer}
+
+-- its peers, how many calls failed, whether a datagram was sent since the last receive, and whether that one waited
+pub record UdpView : Type 0 where
+  pub peers : List Peer
+  pub failures : ℕ
+  pub sent : Bool
+  pub waits : Option Bool
+
+-- the link after a send with this answer
+abbrev pub after_send : Sent → UdpView → UdpView
+after_send sending.Sent link = record link { sent = true }
+after_send sending.Unknown link = link
+after_send sending.Failed link = record link { failures = counted link.failures }
+
+-- the failures after a receive with this answer
+abbrev pub failures_after : Received → ℕ → ℕ
+failures_after receiving.Failed failures = counted failures
+failures_after _ failures = failures

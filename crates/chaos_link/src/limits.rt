@@ -1,0 +1,13 @@
+//! Sizes and times, each with its unit.
+
+/// The most bytes of a datagram that carries a packet: the mark, the version and the greatest packet.
+pub const MAX_DATAGRAM: usize = 508;
+
+/// The most bytes that a link takes at once, and the bytes that a receive has room for.
+pub const LINK_ROOM: usize = 2048;
+
+/// The most peers that a link over a socket knows.
+pub const MAX_PEERS: usize = 32;
+
+/// The most milliseconds that a receive waits for a datagram.
+pub const MAX_WAIT: u64 = 10;

@@ -1,0 +1,54 @@
+//! What carries datagrams between hosts.
+ghost use Rattle.std.specs.Prelude.{◌≡◌, ◌≤◌, ℕ, Option, IfSome, length};
+ghost use Rattle.chaos_link.specs.Link.{QueueView, Rose, SendsInto, ReceivesFrom, IsWithin};
+
+use crate::limits::LINK_ROOM;
+
+/// What became of a datagram that was handed to a link.
+#[derive(Clone, Copy, Debug, PartialEq, Eq)]
+pub enum Sent {
+    /// It is on its way, where it may still be lost.
+    Sent,
+    /// The link knows nobody with that address, and did nothing.
+    Unknown,
+    /// The link failed, and counted it.
+    Failed,
+}
+
+/// What a link had for its caller.
+#[derive(Clone, Copy, Debug, PartialEq, Eq)]
+pub enum Received {
+    /// A datagram of so many bytes, in the front of the buffer.
+    Got(usize),
+    /// No datagram came.
+    Nothing,
+    /// The link failed, and counted it.
+    Failed,
+}
+
+/// A way to other hosts. It carries whole datagrams, and may lose, repeat or reorder them.
+pub trait Link {
+    /// How many calls failed so far, as [`Link::failures`] tells it.
+    ghost count: { Self → ℕ };
+
+    /// The queue that the link is. `None` for a link that is none: it claims nothing.
+    ghost queue: { Self → Option QueueView };
+
+    /// Sends a datagram of at most 2,048 bytes to the host with this Chaosnet address.
+    fn send(&mut self, to_address: u16, bytes: &[u8]) -> Sent
+        requires { length bytes.now ≤ 2048 }
+        // A failure is counted.
+        ensures failed { result ≡ Sent.Failed → Rose (count self.old) (count self.new) }
+        ensures queued { IfSome (queue self.old) (SendsInto bytes.now result (queue self.new)) };
+
+    /// Receives at most one datagram into the front of the buffer.
+    fn receive(&mut self, buffer: &mut [u8; LINK_ROOM]) -> Received
+        // A failure is counted.
+        ensures failed { result ≡ Received.Failed → Rose (count self.old) (count self.new) }
+        ensures within { IsWithin 2048 result }
+        ensures queued { IfSome (queue self.old) (ReceivesFrom buffer.old buffer.new result (queue self.new)) };
+
+    /// How many calls failed so far. The greatest `u64` stands for that many and more.
+    fn failures(&self) -> u64
+        ensures { result ≡ count self.now };
+}

@@ -1,0 +1,77 @@
+//! A link in memory.
+ghost use Rattle.std.specs.Prelude.{◌≡◌, ◌≤◌, length, Some, IfOk, map, []};
+ghost use Rattle.chaos_link.specs.Link.{QueueView};
+
+use crate::limits::LINK_ROOM;
+use crate::link::{Link, Received, Sent};
+use arrayvec::ArrayVec;
+use circular_buffer::HeapCircularBuffer;
+use std::alloc::{AllocError, Global};
+use std::marker::Model;
+
+/// One queue of datagrams, whatever address they are sent to: what is sent into it is received from it, in order. A
+/// contract sees the datagrams, the oldest first, and how many there may be.
+///
+/// `new` takes the memory for all of them, and no later call takes any.
+#[derive(Drop)]
+pub struct MemLink {
+    ring: HeapCircularBuffer<ArrayVec<u8, LINK_ROOM>>,
+}
+
+impl Model for MemLink {
+    ghost Value = { QueueView };
+
+    ghost view = { λ link. record { datagrams = map (λ d. d.items) link.ring.items; cap = link.ring.capacity } };
+}
+
+impl MemLink {
+    /// An empty queue, with room for `cap` datagrams of 2,048 bytes.
+    ///
+    /// # Errors
+    /// No memory for them.
+    pub fn new(alloc: Global, cap: usize) -> Result<Self, AllocError>
+        ensures { IfOk result (λ link. link ≡ record { datagrams = []; cap = cap }) }
+    {
+        let ring = HeapCircularBuffer::with_capacity(alloc, cap)?;
+        Ok(MemLink { ring })
+    }
+}
+
+/// A datagram with a copy of these bytes. It takes no memory.
+fn datagram_of(bytes: &[u8]) -> ArrayVec<u8, LINK_ROOM>
+    requires { length bytes.now ≤ 2048 }
+    ensures { result.items ≡ bytes.now }
+{
+    let mut datagram = ArrayVec::new();
+    let _fits = datagram.try_extend_from_slice(bytes);
+    datagram
+}
+
+impl Link for MemLink {
+    ghost count = { λ _. 0 };
+
+    ghost queue = { λ link. Some link };
+
+    /// Puts the datagram behind those that wait. One that finds the queue full is lost, and answered as sent.
+    fn send(&mut self, _to_address: u16, bytes: &[u8]) -> Sent {
+        let _lost = self.ring.try_push_back(datagram_of(bytes));
+        Sent::Sent
+    }
+
+    /// Takes the oldest datagram out. The buffer behind it stays as it was.
+    fn receive(&mut self, buffer: &mut [u8; LINK_ROOM]) -> Received {
+        match self.ring.pop_front() {
+            Some(datagram) => {
+                let count = datagram.len();
+                buffer[..count].copy_from_slice(datagram.as_slice());
+                Received::Got(count)
+            }
+            None => Received::Nothing,
+        }
+    }
+
+    /// A queue in memory never fails.
+    fn failures(&self) -> u64 {
+        0
+    }
+}

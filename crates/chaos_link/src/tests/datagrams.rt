@@ -1,0 +1,122 @@
+//! Packets as datagrams.
+use crate::*;
+use chaos_packet::PacketFault;
+use std::test::Fail;
+
+/// A status packet as a datagram.
+const STATUS: [u8; 24] = [
+    0x43, 0x48, 0x01, 0x00, 0x07, 0x00, 0x00, 0x04, 0x01, 0x01, 0x02, 0x01, 0x01, 0x02, 0x03, 0x05,
+    0x00, 0x00, 0x00, 0x10, 0x00, 0x12, 0x00, 0x0D,
+];
+
+/// A data packet of the one byte 41; its last word has a free half.
+const LETTER: [u8; 22] = [
+    0x43, 0x48, 0x01, 0x00, 0x80, 0x00, 0x00, 0x01, 0x01, 0x01, 0x02, 0x01, 0x01, 0x02, 0x03, 0x05,
+    0x00, 0x05, 0x00, 0x10, 0x00, 0x41,
+];
+
+#[test]
+fn status_datagram_is_read(rt: HostRuntime) -> Result<(), Fail> {
+    let packet = from_datagram(&STATUS)?;
+    assert_eq!(rt; packet.op.name().ok_or("named")?, "STS");
+    assert_eq!(rt; (packet.dst, packet.dst_index), (0o401, 0o1001));
+    assert_eq!(rt; (packet.src, packet.src_index), (0o402, 0o1405));
+    let (receipt, window) = packet.status().ok_or("has a status")?;
+    assert_eq!(rt; (receipt.0, window), (18, 13));
+    Ok(())
+}
+
+#[test]
+fn free_half_that_is_not_zero_gives_the_same_packet(rt: HostRuntime) -> Result<(), Fail> {
+    let mut noisy = LETTER;
+    noisy[5] = 0xEE;
+    noisy[20] = 0xFF;
+    let packet = from_datagram(&LETTER)?;
+    let same = from_datagram(&noisy)?;
+    assert!(rt; packet == same);
+    assert_eq!(rt; same.bytes(), [0x41].as_slice());
+    Ok(())
+}
+
+#[test]
+fn cut_datagram_is_refused_at_every_length(rt: HostRuntime) {
+    for len in 0..24 {
+        let wanted = match len {
+            0..4 => LinkFault::Short,
+            4..20 => LinkFault::Packet(PacketFault::Short),
+            _ => LinkFault::Packet(PacketFault::Truncated),
+        };
+        assert_eq!(rt;
+            from_datagram(&STATUS[..len]).err(),
+            Some(wanted),
+            "{len} bytes"
+        );
+    }
+}
+
+#[test]
+fn count_489_is_refused_with_and_without_its_bytes(rt: HostRuntime) {
+    let fault = Some(LinkFault::Packet(PacketFault::BadCount));
+    let mut short = STATUS;
+    short[6] = 0x01;
+    short[7] = 0xE9;
+    assert_eq!(rt; from_datagram(&short).err(), fault);
+    let mut long = [0; 510];
+    long[..8].copy_from_slice(&short[..8]);
+    assert_eq!(rt; from_datagram(&long).err(), fault);
+}
+
+#[test]
+fn mark_and_version_are_checked_in_turn(rt: HostRuntime) {
+    assert_eq!(rt;
+        from_datagram(&[0x42, 0x48, 0x01, 0x00]).err(),
+        Some(LinkFault::BadMark)
+    );
+    assert_eq!(rt;
+        from_datagram(&[0x43, 0x49, 0x02, 0x00]).err(),
+        Some(LinkFault::BadMark)
+    );
+    assert_eq!(rt;
+        from_datagram(&[0x43, 0x48, 0x02, 0x00]).err(),
+        Some(LinkFault::BadVersion)
+    );
+    assert_eq!(rt;
+        from_datagram(&[0x43, 0x48, 0x01, 0x01]).err(),
+        Some(LinkFault::BadVersion)
+    );
+}
+
+#[test]
+fn byte_after_the_packet_is_refused(rt: HostRuntime) {
+    let mut longer = [0; 26];
+    longer[..24].copy_from_slice(&STATUS);
+    assert_eq!(rt;
+        from_datagram(&longer[..25]).err(),
+        Some(LinkFault::Trailing)
+    );
+    assert_eq!(rt; from_datagram(&longer).err(), Some(LinkFault::Trailing));
+}
+
+#[test]
+fn greatest_datagram_is_read(rt: HostRuntime) -> Result<(), Fail> {
+    let mut bytes = [0x5A; MAX_DATAGRAM + 1];
+    bytes[..8].copy_from_slice(&[0x43, 0x48, 0x01, 0x00, 0x80, 0x00, 0xF1, 0xE8]);
+    let packet = from_datagram(&bytes[..MAX_DATAGRAM])?;
+    assert_eq!(rt; (packet.fwd, packet.bytes().len()), (15, 488));
+    assert_eq!(rt; from_datagram(&bytes).err(), Some(LinkFault::Trailing));
+    Ok(())
+}
+
+#[test]
+fn canonical_datagram_comes_of_either_reading(rt: HostRuntime) -> Result<(), Fail> {
+    let mut noisy = LETTER;
+    noisy[5] = 0xEE;
+    noisy[20] = 0xFF;
+    for bytes in [LETTER, noisy] {
+        let packet = from_datagram(&bytes)?;
+        assert_eq!(rt; to_datagram(&packet).as_slice(), LETTER.as_slice());
+    }
+    let packet = from_datagram(&STATUS)?;
+    assert_eq!(rt; to_datagram(&packet).as_slice(), STATUS.as_slice());
+    Ok(())
+}

@@ -1,0 +1,171 @@
+//! A link over a UDP socket.
+ghost use Rattle.std.specs.Prelude.{◌≡◌, ◌≢◌, ◌↔◌, ◌≤◌, length, Some, None, false, not, OnOk, OnErr};
+ghost use Rattle.chaos_link.specs.Link.{Rose, IsWithin, counted};
+ghost use Rattle.chaos_link.specs.Peers.{socket_of};
+ghost use Rattle.chaos_link.specs.Udp.{after_send, failures_after};
+
+use crate::limits::{LINK_ROOM, MAX_WAIT};
+use crate::link::{Link, Received, Sent};
+use crate::peers::Peers;
+use std::io;
+use std::io::ErrorKind;
+use std::marker::Model;
+use std::net::{SocketAddr, SocketAddrV4, UdpSocket};
+use std::time::Duration;
+
+/// A link over a UDP socket: datagrams go to the sockets of its peers, and come from anybody. A contract sees the peers,
+/// the failures and when a receive waits; of what the socket carries it says nothing.
+///
+/// A receive waits at most 10 milliseconds for a datagram (the system may round that up), and only where nothing was sent
+/// on the link since the receive before it. Else it polls, so whoever sends in each turn never waits.
+///
+/// The socket is to be bound and not connected. A datagram is lost, and no failure, where the system has no room to send
+/// it or tells that a socket is gone.
+#[derive(Drop)]
+pub struct UdpLink {
+    socket: UdpSocket,
+    peers: Peers,
+    failures: u64,
+    /// Whether a datagram was sent since the receive before.
+    sent: bool,
+    /// Whether the socket's receives wait, once a receive has set that.
+    waits: Option<bool>,
+}
+
+impl Model for UdpLink {
+    ghost use Rattle.chaos_link.specs.Udp.{UdpView};
+
+    ghost Value = { UdpView };
+
+    ghost view = { λ link. record { peers = link.peers; failures = link.failures; sent = link.sent; waits = link.waits } };
+}
+
+impl UdpLink {
+    /// A link over this socket to these peers. Its first receive waits.
+    pub fn new(socket: UdpSocket, peers: Peers) -> Self
+        ensures { result ≡ record { peers = peers; failures = 0; sent = false; waits = None } }
+    {
+        UdpLink {
+            socket,
+            peers,
+            failures: 0,
+            sent: false,
+            waits: None,
+        }
+    }
+}
+
+impl Link for UdpLink {
+    ghost count = { λ link. link.failures };
+
+    ghost queue = { λ _. None };
+
+    /// Sends a datagram to the socket of the peer with this address.
+    fn send(&mut self, to_address: u16, bytes: &[u8]) -> Sent
+        requires { length bytes.now ≤ 2048 }
+        ensures failed { result ≡ Sent.Failed → Rose self.old.failures self.new.failures }
+        ensures queued { Unit {0} }
+        // An address is unknown exactly where no peer has it.
+        ensures unknown { (result ≡ Sent.Unknown) ↔ (socket_of to_address self.old.peers ≡ None) }
+        // A datagram that was sent lets the next receive poll, and a failure is counted; nothing else changes.
+        ensures link { self.new ≡ after_send result self.old }
+    {
+        let Some(peer) = self.peers.find(to_address) else {
+            return Sent::Unknown;
+        };
+        match send_to(&self.socket, bytes, peer) {
+            Ok(()) => {
+                self.sent = true;
+                Sent::Sent
+            }
+            Err(_) => {
+                count_failure(&mut self.failures);
+                Sent::Failed
+            }
+        }
+    }
+
+    /// Receives a datagram, from whomever it comes. One of more than 2,048 bytes is cut to its first 2,048, which are too
+    /// many for any packet, so that it is refused as a datagram.
+    fn receive(&mut self, buffer: &mut [u8; LINK_ROOM]) -> Received
+        ensures failed { result ≡ Received.Failed → Rose self.old.failures self.new.failures }
+        ensures within { IsWithin 2048 result }
+        ensures queued { Unit {0} }
+        ensures peers { self.new.peers ≡ self.old.peers }
+        // A failure is counted, and nothing else is.
+        ensures counted { self.new.failures ≡ failures_after result self.old.failures }
+        ensures sent { self.new.sent ≡ false }
+        // It waits exactly where nothing was sent since the receive before it.
+        ensures waits { result ≢ Received.Failed → self.new.waits ≡ Some (not self.old.sent) }
+    {
+        let waits = !self.sent;
+        self.sent = false;
+        let received = match set_wait(&self.socket, &mut self.waits, waits) {
+            Ok(()) => receive_from(&self.socket, buffer),
+            Err(_) => Received::Failed,
+        };
+        if received == Received::Failed {
+            count_failure(&mut self.failures);
+        }
+        received
+    }
+
+    fn failures(&self) -> u64 {
+        self.failures
+    }
+}
+
+/// Counts one failure more, up to the greatest count.
+fn count_failure(failures: &mut u64)
+    ensures { failures.new ≡ counted failures.old }
+{
+    *failures = failures.saturating_add(1);
+}
+
+/// Sends a datagram, which may be lost at once.
+fn send_to(socket: &UdpSocket, bytes: &[u8], peer: SocketAddrV4) -> io::Result<()> {
+    match socket.send_to(bytes, SocketAddr::V4(peer)) {
+        Ok(_) => Ok(()),
+        Err(e) if is_loss(e.kind()) => Ok(()),
+        Err(e) => Err(e),
+    }
+}
+
+/// Receives a datagram, or nothing where none came in time.
+fn receive_from(socket: &UdpSocket, buffer: &mut [u8; LINK_ROOM]) -> Received
+    ensures { IsWithin 2048 result }
+{
+    match socket.recv_from(buffer) {
+        Ok((count, _from)) => Received::Got(count),
+        Err(e) if is_loss(e.kind()) => Received::Nothing,
+        Err(_) => Received::Failed,
+    }
+}
+
+/// Whether the system says no more than that a datagram was lost, or that none came: it had no room or nothing yet, a
+/// signal came, or a socket that was sent to before is gone.
+fn is_loss(kind: ErrorKind) -> bool {
+    match kind {
+        ErrorKind::WouldBlock
+        | ErrorKind::TimedOut
+        | ErrorKind::Interrupted
+        | ErrorKind::ConnectionRefused => true,
+        _ => false,
+    }
+}
+
+/// Sets whether the socket's receives wait, where `set` says that they do otherwise.
+fn set_wait(socket: &UdpSocket, set: &mut Option<bool>, waits: bool) -> io::Result<()>
+    ensures ok { OnOk result (set.new ≡ Some waits) }
+    ensures err { OnErr result (set.new ≡ set.old) }
+{
+    if *set == Some(waits) {
+        return Ok(());
+    }
+    if set.is_none() {
+        socket.set_read_timeout(Some(Duration::from_millis(MAX_WAIT)))?;
+    }
+    socket.set_nonblocking(!waits)?;
+    *set = Some(waits);
+    Ok(())
+}
