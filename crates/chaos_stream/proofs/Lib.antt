@@ -1,0 +1,3 @@
+pub mod TextLaw
+pub mod Cuts
+pub mod Putting
