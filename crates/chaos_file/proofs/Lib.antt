@@ -1,0 +1,7 @@
+pub mod Numbers
+pub mod Outcome
+pub mod Apply
+pub mod Files
+pub mod Replies
+pub mod Spelling
+pub mod Reading

@@ -1,0 +1,16 @@
+pub mod Names
+pub mod Command
+pub mod Grammar
+pub mod Views
+pub mod Error
+pub mod Answer
+pub mod FileBytes
+pub mod Store
+pub mod Entries
+pub mod Session
+pub mod Plan
+pub mod Step
+pub mod Outcome
+pub mod Apply
+pub mod Replies
+pub mod Spelling

@@ -1,0 +1,80 @@
+-- What the calls of a store do to its files.
+use Rattle.std.specs.Prelude.{◌≡◌, ◌<◌, ◌≤◌, ◌⊎◌, ℕ, Bool, true, false, List, [], Option, Some, None, unwrap_or, is_some, length, nat_lt, if◌then◌else◌}
+use Rattle.std.specs.Ordering.{nat_cmp}
+use Rattle.std.specs.Cmp.Lexicographic.{slice_cmp}
+use Rattle.std.specs.FinMap as map
+use Rattle.chaos_file.specs.declared.store.Got.{Got}
+use Rattle.chaos_file.specs.declared.store.Got.TheVariants as g
+use Rattle.chaos_file.specs.declared.store.Stored.{Stored}
+use Rattle.chaos_file.specs.declared.store.Stored.TheVariants as p
+use Rattle.chaos_file.specs.declared.store.Removed.{Removed}
+use Rattle.chaos_file.specs.declared.store.Removed.TheVariants as d
+use Rattle.chaos_file.specs.declared.store.Renamed.{Renamed}
+use Rattle.chaos_file.specs.declared.store.Renamed.TheVariants as r
+
+-- a finite map from paths to the bytes of files
+abbrev pub Files : Type 0
+Files = map.FinMap (slice_cmp nat_cmp) (List ℕ)
+
+-- a count of failures is greater afterwards, or stands at the greatest `u64`
+abbrev pub Rose : ℕ → ℕ → Type 0
+Rose before after = (before < after) ⊎ (after ≡ 18446744073709551615)
+
+abbrev pub is_there : Files → List ℕ → Bool
+is_there m path = is_some (map.get m path)
+
+-- what a look for a file of at most so many bytes finds
+pub data Look : Type 0 where
+  Missing : Look
+  Over : Look
+  Found : (bytes : List ℕ) → Look
+
+abbrev pub sized : ℕ → Option (List ℕ) → Look
+sized limit None = Missing
+sized limit (Some bytes) = if nat_lt limit (length bytes) then Over else Found bytes
+
+abbrev pub looked : Files → List ℕ → ℕ → Look
+looked m path limit = sized limit (map.get m path)
+
+-- the files with one of them moved to another path
+abbrev pub moved : Files → List ℕ → List ℕ → Files
+moved m old new = map.insert (map.remove m old) new (unwrap_or (map.get m old) [])
+
+-- ---- the calls, over the files `m`; a call that fails or finds no memory leaves them
+
+abbrev pub GotIs : Look → Got → Type 0
+GotIs look (g.Bytes bytes) = look ≡ Found bytes
+GotIs look g.Absent = look ≡ Missing
+GotIs look g.TooBig = look ≡ Over
+GotIs look g.Failed = Unit {0}
+GotIs look g.NoMemory = Unit {0}
+
+-- what is found is within the limit
+abbrev pub IsWithin : ℕ → Got → Type 0
+IsWithin limit (g.Bytes bytes) = length bytes ≤ limit
+IsWithin limit _ = Unit {0}
+
+-- the file of a path, as it is now
+abbrev pub Gets : List ℕ → ℕ → Got → Option Files → Files → Type 0
+Gets path limit answer after m = GotIs (looked m path limit) answer × (after ≡ Some m)
+
+-- the whole content of a path, new or replaced
+abbrev pub Puts : List ℕ → List ℕ → Stored → Option Files → Files → Type 0
+Puts path bytes p.Done after m = after ≡ Some (map.insert m path bytes)
+Puts path bytes p.Failed after m = after ≡ Some m
+Puts path bytes p.NoMemory after m = after ≡ Some m
+
+-- a path taken out
+abbrev pub Removes : List ℕ → Removed → Option Files → Files → Type 0
+Removes path d.Done after m = (is_there m path ≡ true) × (after ≡ Some (map.remove m path))
+Removes path d.Absent after m = (is_there m path ≡ false) × (after ≡ Some m)
+Removes path d.Failed after m = after ≡ Some m
+Removes path d.NoMemory after m = after ≡ Some m
+
+-- a file moved to a path that is free; the old path is looked for first
+abbrev pub Renames : List ℕ → List ℕ → Renamed → Option Files → Files → Type 0
+Renames old new r.Done after m = (is_there m old ≡ true) × (is_there m new ≡ false) × (after ≡ Some (moved m old new))
+Renames old new r.Absent after m = (is_there m old ≡ false) × (after ≡ Some m)
+Renames old new r.Exists after m = (is_there m old ≡ true) × (is_there m new ≡ true) × (after ≡ Some m)
+Renames old new r.Failed after m = after ≡ Some m
+Renames old new r.NoMemory after m = after ≡ Some m

@@ -1,0 +1,129 @@
+//! One folder of the system, and what is done to its files: only legal paths get here.
+ghost use Rattle.std.specs.Prelude.{◌≡◌, ◌≤◌, true, length, IfOk, IfSome};
+ghost use Rattle.chaos_file.specs.Names.{is_path};
+
+use std::alloc::Global;
+use std::io::{ErrorKind, Read, Write};
+use std::rt::Files;
+use std::{fs, io};
+
+/// How many bytes of a file are read at a time.
+const READ_SIZE: usize = 4096;
+
+/// The name under which a file is written before it is renamed. It is no legal path.
+const NEW: &str = ".new";
+
+/// A folder of the system.
+#[derive(Drop)]
+pub(crate) struct Folder<R> {
+    rt: R,
+    path: String,
+}
+
+/// Reads what a file has, or None where that is more than the limit: one byte more than it is read at most.
+fn read_within<F: Read>(alloc: Global, file: &mut F, limit: usize) -> io::Result<Option<Vec<u8>>>
+    ensures { IfOk result (λ o. IfSome o (λ v. length v.items ≤ limit)) }
+{
+    let mut bytes = Vec::new(alloc);
+    let mut chunk = [0u8; READ_SIZE];
+    for _ in 0..u64::MAX {
+        let left = limit.saturating_sub(bytes.len());
+        let most = left.saturating_add(1).min(READ_SIZE);
+        let count = match file.read(&mut chunk[..most]) {
+            Ok(count) => count,
+            Err(e) if e.kind() == ErrorKind::Interrupted => continue,
+            Err(e) => return Err(e),
+        };
+        if count == 0 {
+            return Ok(Some(bytes));
+        }
+        if count > left {
+            return Ok(None);
+        }
+        bytes.extend_from_slice(&chunk[..count])?;
+    }
+    Err(io::Error::from(ErrorKind::Other))
+}
+
+impl<R: Files> Folder<R> {
+    /// The folder of this path, where there is one.
+    pub(crate) fn open(rt: R, path: String) -> io::Result<Folder<R>>
+    where
+        R: Drop,
+    {
+        let info = rt.metadata(path.as_str())?;
+        if info.is_dir() {
+            Ok(Folder { rt, path })
+        } else {
+            Err(io::Error::from(ErrorKind::NotADirectory))
+        }
+    }
+
+    /// Where the file of this name lies.
+    fn join(&self, alloc: Global, name: &str) -> io::Result<String> {
+        let folder = self.path.as_str();
+        Ok(format!(in alloc; "{folder}/{name}")?)
+    }
+
+    /// Where the file of a legal path lies.
+    fn place(&self, alloc: Global, path: &[u8]) -> io::Result<String>
+        requires { is_path path.now ≡ true }
+    {
+        match str::from_utf8(path) {
+            Ok(name) => self.join(alloc, name),
+            Err(_) => Err(io::Error::from(ErrorKind::InvalidInput)),
+        }
+    }
+
+    /// The bytes of a file, or None where they are more than the limit.
+    pub(crate) fn get(
+        &self,
+        alloc: Global,
+        path: &[u8],
+        limit: usize,
+    ) -> io::Result<Option<Vec<u8>>>
+        requires { is_path path.now ≡ true }
+        ensures { IfOk result (λ o. IfSome o (λ v. length v.items ≤ limit)) }
+    {
+        let place = self.place(alloc, path)?;
+        let mut file = fs::open(&self.rt, place.as_str())?;
+        read_within(alloc, &mut file, limit)
+    }
+
+    /// Writes a file whole, and then gives it its path.
+    pub(crate) fn put(&self, alloc: Global, path: &[u8], bytes: &[u8]) -> io::Result<()>
+        requires { is_path path.now ≡ true }
+    {
+        let fresh = self.join(alloc, NEW)?;
+        let place = self.place(alloc, path)?;
+        let mut file = fs::create(&self.rt, fresh.as_str())?;
+        file.write_all(bytes)?;
+        drop(file);
+        fs::rename(&self.rt, fresh.as_str(), place.as_str())
+    }
+
+    /// Takes a file out.
+    pub(crate) fn remove(&self, alloc: Global, path: &[u8]) -> io::Result<()>
+        requires { is_path path.now ≡ true }
+    {
+        let place = self.place(alloc, path)?;
+        fs::remove_file(&self.rt, place.as_str())
+    }
+
+    /// Moves a file where the new path is free, and says whether it was. The old path is looked for first.
+    pub(crate) fn rename(&self, alloc: Global, old: &[u8], new: &[u8]) -> io::Result<bool>
+        requires old { is_path old.now ≡ true }
+        requires new { is_path new.now ≡ true }
+    {
+        let from = self.place(alloc, old)?;
+        let to = self.place(alloc, new)?;
+        let _info = self.rt.symlink_metadata(from.as_str())?;
+        match self.rt.symlink_metadata(to.as_str()) {
+            Ok(_) => return Ok(false),
+            Err(e) if e.kind() == ErrorKind::NotFound => {}
+            Err(e) => return Err(e),
+        }
+        fs::rename(&self.rt, from.as_str(), to.as_str())?;
+        Ok(true)
+    }
+}

@@ -1,0 +1,176 @@
+//! One open file.
+ghost use Rattle.std.specs.Prelude.{◌≡◌, ◌++◌, ◌+◌, ◌<◌, ◌≤◌, ◌^◌, take, drop, length, OnOk, OnErr};
+ghost use Rattle.chaos_file.specs.Answer.{answer_text, read_answer};
+ghost use Rattle.chaos_file.specs.Session.{HandleView, blank_handle, is_named, reader, writer, next_bytes, read_on, written};
+
+use crate::answer::{Reply, kept, tell_bytes};
+use crate::file_bytes::FileBytes;
+use crate::limits::{MAX_CHUNK, MAX_FRONT, MAX_HANDLE, MAX_PATH};
+use arrayvec::ArrayVec;
+use std::alloc::{AllocError, Global};
+use std::marker::Model;
+
+/// A file handle. One that reads holds the file's bytes as they were at its opening; one that writes holds what was
+/// written so far.
+#[derive(Drop)]
+pub(crate) struct Handle {
+    name: ArrayVec<u8, MAX_HANDLE>,
+    path: ArrayVec<u8, MAX_PATH>,
+    writes: bool,
+    bytes: FileBytes,
+    position: usize,
+}
+
+impl Model for Handle {
+    ghost use Rattle.std.specs.Prelude.{◌≤◌, length};
+    ghost use Rattle.chaos_file.specs.Session.{HandleView};
+
+    ghost Value = { HandleView };
+
+    ghost view = { λ h. record {
+      name = h.name.items;
+      path = h.path.items;
+      writes = h.writes;
+      bytes = h.bytes;
+      position = h.position;
+    } };
+
+    ghost invariant = { λ h. h.position ≤ length h.bytes };
+}
+
+impl Default for Handle {
+    fn default() -> Self
+        ensures { result ≡ blank_handle }
+    {
+        Handle {
+            name: ArrayVec::new(),
+            path: ArrayVec::new(),
+            writes: false,
+            bytes: FileBytes::new(),
+            position: 0,
+        }
+    }
+}
+
+impl Handle {
+    /// A handle that reads these bytes, from the first on.
+    pub(crate) fn reader(name: &[u8], path: &[u8], bytes: FileBytes) -> Handle
+        requires name { length name.now ≤ MAX_HANDLE }
+        requires path { length path.now ≤ MAX_PATH }
+        ensures { result ≡ reader name.now path.now bytes }
+    {
+        Handle {
+            name: kept(name),
+            path: kept(path),
+            writes: false,
+            bytes,
+            position: 0,
+        }
+    }
+
+    /// A handle that writes, without bytes yet.
+    pub(crate) fn writer(name: &[u8], path: &[u8]) -> Handle
+        requires name { length name.now ≤ MAX_HANDLE }
+        requires path { length path.now ≤ MAX_PATH }
+        ensures { result ≡ writer name.now path.now }
+    {
+        Handle {
+            name: kept(name),
+            path: kept(path),
+            writes: true,
+            bytes: FileBytes::new(),
+            position: 0,
+        }
+    }
+
+    pub(crate) fn is_named(&self, name: &[u8]) -> bool
+        ensures { result ≡ is_named name.now self.now }
+    {
+        name == self.name.as_slice()
+    }
+
+    pub(crate) fn writes(&self) -> bool
+        ensures { result ≡ self.now.writes }
+    {
+        self.writes
+    }
+
+    pub(crate) fn path(&self) -> &[u8]
+        ensures { result.now ≡ self.now.path }
+    {
+        self.path.as_slice()
+    }
+
+    pub(crate) fn bytes(&self) -> &[u8]
+        ensures { result.now ≡ self.now.bytes }
+    {
+        self.bytes.as_slice()
+    }
+
+    pub(crate) fn len(&self) -> usize
+        ensures value { result ≡ length self.now.bytes }
+        ensures small { result < 2 ^ 63 }
+    {
+        self.bytes.len()
+    }
+
+    /// The bytes that the next READ gives.
+    fn next_bytes(&self) -> &[u8]
+        ensures value { result.now ≡ next_bytes self.now }
+        ensures short { length result.now ≤ MAX_CHUNK }
+        ensures within { self.now.position + length result.now ≤ length self.now.bytes }
+        ensures small { length self.now.bytes < 2 ^ 63 }
+    {
+        chunk_from(self.bytes.as_slice(), self.position)
+    }
+
+    /// Moves past the next bytes.
+    fn read_on(&mut self)
+        ensures { self.new ≡ read_on self.old }
+    {
+        let count = self.next_bytes().len();
+        self.position += count;
+    }
+
+    /// Answers a READ with the next bytes, and moves past them.
+    pub(crate) fn read(&mut self, reply: &mut Reply)
+        requires { length reply.old.items ≤ MAX_FRONT }
+        ensures view { self.new ≡ read_on self.old }
+        ensures text { reply.new.items ≡ reply.old.items ++ answer_text (read_answer (next_bytes self.old)) }
+    {
+        tell_bytes(reply, self.next_bytes());
+        self.read_on();
+    }
+
+    /// Adds bytes.
+    pub(crate) fn append(&mut self, alloc: Global, more: &[u8]) -> Result<(), AllocError>
+        ensures ok { OnOk result (self.new ≡ written self.old more.now) }
+        ensures err { OnErr result (self.new ≡ self.old) }
+    {
+        self.bytes.append(alloc, more)
+    }
+}
+
+/// The bytes at the front, at most so many.
+fn front(bytes: &[u8], most: usize) -> &[u8]
+    ensures value { result.now ≡ take most bytes.now }
+    ensures short { length result.now ≤ most }
+    ensures within { length result.now ≤ length bytes.now }
+{
+    if bytes.len() <= most {
+        bytes
+    } else {
+        &bytes[..most]
+    }
+}
+
+/// The bytes of one READ, from a place on.
+fn chunk_from(bytes: &[u8], place: usize) -> &[u8]
+    requires { place ≤ length bytes.now }
+    ensures value { result.now ≡ take MAX_CHUNK (drop place bytes.now) }
+    ensures short { length result.now ≤ MAX_CHUNK }
+    ensures within { place + length result.now ≤ length bytes.now }
+{
+    let (_, rest) = bytes.split_at(place);
+    front(rest, MAX_CHUNK)
+}

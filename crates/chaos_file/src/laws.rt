@@ -1,0 +1,39 @@
+//! Laws of the language, over its definition alone.
+ghost use Rattle.std.specs.Prelude.{◌≡◌, ℕ, true, List, ◌++◌, length, Option, Err};
+ghost use Rattle.chaos_file.specs.Session.{SessionView, new_session};
+ghost use Rattle.chaos_file.specs.Store.{Files, Rose};
+ghost use Rattle.chaos_file.specs.Command.{CommandView, Good};
+ghost use Rattle.chaos_file.specs.Spelling.{spelled, is_good};
+ghost use Rattle.chaos_file.specs.Grammar.{parsed};
+ghost use Rattle.chaos_file.specs.Answer.{reply_to};
+ghost use Rattle.chaos_file.specs.Step.{file_step};
+ghost use Rattle.chaos_file.specs.Apply.{Applies, IsStep};
+ghost use Rattle.chaos_file.specs.Replies.{replies_of, replies_from, files_after, session_after};
+ghost use Rattle.chaos_file.specs.declared.error.FileError.TheVariants.{NoMemory};
+
+/// The bytes that are read as a command are those that spell it, with legal names and parts.
+#[tactic(auto, using(crate::proofs::Spelling::parsed_spelled, crate::proofs::Reading::read_spelled, crate::proofs::Reading::read_good))]
+pub fn law_spelling()
+    ensures read { (tid handle : List ℕ) (command : CommandView) → is_good tid handle command ≡ true →
+        parsed (spelled tid handle command) ≡ Good tid handle command }
+    ensures spelled { (bytes tid handle : List ℕ) (command : CommandView) → parsed bytes ≡ Good tid handle command →
+        bytes ≡ spelled tid handle command }
+    ensures good { (bytes tid handle : List ℕ) (command : CommandView) → parsed bytes ≡ Good tid handle command →
+        is_good tid handle command ≡ true }
+{}
+
+/// Each command of a list has one reply, and the replies to more commands go on where those before them ended.
+#[tactic(auto, using(crate::proofs::Replies::replies_append, crate::proofs::Replies::replies_length))]
+pub fn law_replies()
+    ensures one_each { (m : Files) (commands : List (List ℕ)) → length (replies_of m commands) ≡ length commands }
+    ensures go_on { (m : Files) (xs ys : List (List ℕ)) → replies_of m (xs ++ ys)
+        ≡ replies_of m xs ++ replies_from (files_after m new_session xs) (session_after m new_session xs) ys }
+{}
+
+/// Over an honest store that didn't fail, a reply that isn't for want of memory is the definition's.
+#[tactic(auto, using(crate::proofs::Replies::honest_step))]
+pub fn law_honest()
+    ensures { (m : Files) (s : SessionView) (c reply : List ℕ) (t : SessionView) (now : Option Files) →
+        Applies (Rose 0 0) m s c reply t now → ¬ (reply ≡ reply_to (parsed c) (Err NoMemory)) →
+        IsStep (file_step m s c) reply t now }
+{}

@@ -1,0 +1,38 @@
+//! FILE: a language of commands over named files, answered one reply for each command.
+//!
+//! A [`Session`] carries out commands over a [`Store`]: [`MemStore`] keeps its files in memory, [`DirStore`] in one
+//! folder of the system. The session touches no socket and no clock, and takes memory for the bytes of open files alone:
+//! names, handles and replies are fixed arrays, and a command is read in place.
+#![tactic(auto)]
+
+mod answer;
+mod command;
+mod dir_store;
+mod error;
+mod file_bytes;
+mod form;
+mod handle;
+mod handles;
+mod laws;
+mod limits;
+mod mem_store;
+mod names;
+mod parse;
+mod session;
+mod store;
+#[cfg(test)]
+mod tests;
+
+pub use answer::Reply;
+pub use command::{Command, Parsed, Word};
+pub use dir_store::DirStore;
+pub use error::FileError;
+pub use file_bytes::FileBytes;
+pub use laws::{law_honest, law_replies, law_spelling};
+pub use limits::{
+    MAX_CHUNK, MAX_FILE, MAX_HANDLE, MAX_HANDLES, MAX_NAME, MAX_PATH, MAX_REPLY, MAX_TID, NL,
+};
+pub use mem_store::MemStore;
+pub use parse::parse_command;
+pub use session::Session;
+pub use store::{Got, Removed, Renamed, Store, Stored};

@@ -1,0 +1,31 @@
+//! The limits of the language, each with its unit.
+
+/// The byte that ends a line: octal 215, the Return of the Lisp machine.
+pub const NL: u8 = 0x8D;
+
+/// The most bytes of a tid, the name that a user gives a command.
+pub const MAX_TID: usize = 8;
+
+/// The most bytes of a handle's name.
+pub const MAX_HANDLE: usize = 8;
+
+/// The most bytes of a user's name.
+pub const MAX_NAME: usize = 16;
+
+/// The most bytes of a path.
+pub const MAX_PATH: usize = 64;
+
+/// The most bytes of a file in one command or reply.
+pub const MAX_CHUNK: usize = 448;
+
+/// The most bytes of a file.
+pub const MAX_FILE: usize = 1048576;
+
+/// The most handles of a session that are open at a time.
+pub const MAX_HANDLES: usize = 8;
+
+/// The most bytes of a reply: those of a packet's data.
+pub const MAX_REPLY: usize = 488;
+
+/// The most bytes of a reply's front: tid, space, handle, space.
+pub(crate) const MAX_FRONT: usize = 18;

@@ -1,0 +1,192 @@
+//! A user's session: one reply for each command.
+ghost use Rattle.std.specs.Prelude.{◌≡◌, ◌≤◌, length, IfSome, Some, Err};
+ghost use Rattle.chaos_file.specs.Session.{SessionView, new_session};
+ghost use Rattle.chaos_file.specs.Command.{word_said};
+ghost use Rattle.chaos_file.specs.Views.{command_view, parsed_view, CommandFits, ParsedFits};
+ghost use Rattle.chaos_file.specs.Grammar.{parsed};
+ghost use Rattle.chaos_file.specs.Answer.{reply_to};
+ghost use Rattle.chaos_file.specs.Plan.{plan_command, if_known, Refuse, plan_of};
+ghost use Rattle.chaos_file.specs.Store.{Rose};
+ghost use Rattle.chaos_file.specs.Outcome.{Does, Follows};
+ghost use Rattle.chaos_file.specs.Apply.{Applies, Answers};
+ghost use Rattle.chaos_file.specs.declared.error.FileError.{FileError};
+
+mod close;
+mod open;
+mod paths;
+mod transfer;
+
+use crate::answer::{Reply, begin, end};
+use crate::command::{Command, Parsed, Word};
+use crate::error::FileError;
+use crate::handles::Handles;
+use crate::limits::{MAX_FRONT, MAX_HANDLE, MAX_NAME};
+use crate::parse::parse_command;
+use crate::store::Store;
+use arrayvec::ArrayVec;
+use std::alloc::Global;
+use std::marker::Model;
+
+/// A user's session: the name that was given, and the open files. It is dropped when its connection ends, and what its
+/// handles had written and not closed is lost.
+#[derive(Drop)]
+pub struct Session {
+    name: Option<ArrayVec<u8, MAX_NAME>>,
+    handles: Handles,
+}
+
+impl Model for Session {
+    ghost use Rattle.std.specs.Prelude.{option_map};
+    ghost use Rattle.chaos_file.specs.Session.{SessionView};
+
+    ghost Value = { SessionView };
+
+    ghost view = { λ s. record { name = option_map (λ v. v.items) s.name; handles = s.handles } };
+}
+
+impl Session {
+    /// A session without a name, and without open files. It takes no memory.
+    pub fn new() -> Self
+        ensures { result ≡ new_session }
+    {
+        Session {
+            name: None,
+            handles: Handles::new(),
+        }
+    }
+
+    /// Carries out a command, and answers it by one reply.
+    ///
+    /// Over an honest store the reply, the session and the files are those of the language's definition; or the reply is
+    /// a store fault, where the store failed in this call; or it is want of memory, at a command that may take some.
+    /// After an ERROR reply session and files are as they were. LOGIN, READ, CLOSE of a handle that reads, OPEN WRITE
+    /// and every error that is found before the store is asked touch no store and take no memory, over any store.
+    ///
+    /// A command looks at its own bytes, at the handles' names and at what it copies: a READ copies its bytes once, into
+    /// the reply, and a WRITE once, behind the handle's bytes. OPEN READ and CLOSE cost what the store's call costs.
+    pub fn apply<S: Store>(&mut self, alloc: Global, store: &mut S, command: &[u8]) -> Reply
+        ensures honest { IfSome (S.contents store.old) (λ m. Applies (Rose (S.count store.old) (S.count store.new)) m
+            self.old command.now result.items self.new (S.contents store.new)) }
+        ensures any { Answers (Rose (S.count store.old) (S.count store.new)) (store.new ≡ store.old)
+            (plan_of self.old (parsed command.now)) (parsed command.now) result.items self.old self.new }
+        ensures kept { (error : FileError) → result.items ≡ reply_to (parsed command.now) (Err error) → self.new ≡ self.old }
+        ensures kept_files { IfSome (S.contents store.old) (λ m. (error : FileError) →
+            result.items ≡ reply_to (parsed command.now) (Err error) → S.contents store.new ≡ Some m) }
+    {
+        let parsed = parse_command(command);
+        let mut reply = Reply::new();
+        begin(&mut reply, parsed.tid(), parsed.handle());
+        let done = self.act(alloc, store, parsed, &mut reply);
+        end(&mut reply, done);
+        reply
+    }
+
+    /// Carries out what was read.
+    fn act<S: Store>(
+        &mut self,
+        alloc: Global,
+        store: &mut S,
+        parsed: Parsed<'_>,
+        reply: &mut Reply,
+    ) -> Result<(), FileError>
+        requires fits { ParsedFits (parsed_view parsed) }
+        requires room { length reply.old.items ≤ MAX_FRONT }
+        ensures honest { IfSome (S.contents store.old) (λ m. Does (Rose (S.count store.old) (S.count store.new)) m
+            (plan_of self.old (parsed_view parsed.entry))
+            result reply.old.items reply.new.items self.old self.new (S.contents store.new)) }
+        ensures any { Follows (Rose (S.count store.old) (S.count store.new)) (store.new ≡ store.old)
+            (plan_of self.old (parsed_view parsed.entry))
+            result reply.old.items reply.new.items self.old self.new }
+    {
+        match parsed {
+            Parsed::BadHead => Err(FileError::Syntax),
+            Parsed::NoWord(_, _) => Err(FileError::Syntax),
+            Parsed::Unknown(_, _) => Err(FileError::UnknownCommand),
+            Parsed::BadForm(_, _, word) => Err(self.error_at(word, FileError::Syntax)),
+            Parsed::BadPath(_, _, word) => Err(self.error_at(word, FileError::IllegalPath)),
+            Parsed::Good(_, handle, command) => {
+                self.run_known(alloc, store, handle, command, reply)
+            }
+        }
+    }
+
+    /// The error of a command with this word: that no name was given comes first.
+    fn error_at(&self, word: Word, error: FileError) -> FileError
+        ensures { if_known self.now word (Refuse error) ≡ Refuse result }
+    {
+        if word == Word::Login || self.name.is_some() {
+            error
+        } else {
+            FileError::NotLoggedIn
+        }
+    }
+
+    /// Carries out a command of the right form, where the user may give it.
+    #[tactic(auto, using(crate::proofs::Outcome::settled_does, crate::proofs::Outcome::settled_follows))]
+    fn run_known<S: Store>(
+        &mut self,
+        alloc: Global,
+        store: &mut S,
+        handle: &[u8],
+        command: Command<'_>,
+        reply: &mut Reply,
+    ) -> Result<(), FileError>
+        requires handle { length handle.now ≤ MAX_HANDLE }
+        requires fits { CommandFits (command_view command) }
+        requires room { length reply.old.items ≤ MAX_FRONT }
+        ensures honest { IfSome (S.contents store.old) (λ m. Does (Rose (S.count store.old) (S.count store.new)) m
+            (if_known self.old (word_said (command_view command.entry))
+            (plan_command self.old handle.now (command_view command.entry)))
+            result reply.old.items reply.new.items self.old self.new (S.contents store.new)) }
+        ensures any { Follows (Rose (S.count store.old) (S.count store.new)) (store.new ≡ store.old)
+            (if_known self.old (word_said (command_view command.entry))
+            (plan_command self.old handle.now (command_view command.entry)))
+            result reply.old.items reply.new.items self.old self.new }
+    {
+        if command.word() == Word::Login || self.name.is_some() {
+            self.run(alloc, store, handle, command, reply)
+        } else {
+            Err(FileError::NotLoggedIn)
+        }
+    }
+
+    /// Carries out a command of the right form.
+    #[tactic(auto, using(crate::proofs::Outcome::settled_does, crate::proofs::Outcome::settled_follows))]
+    fn run<S: Store>(
+        &mut self,
+        alloc: Global,
+        store: &mut S,
+        handle: &[u8],
+        command: Command<'_>,
+        reply: &mut Reply,
+    ) -> Result<(), FileError>
+        requires handle { length handle.now ≤ MAX_HANDLE }
+        requires fits { CommandFits (command_view command) }
+        requires room { length reply.old.items ≤ MAX_FRONT }
+        ensures honest { IfSome (S.contents store.old) (λ m. Does (Rose (S.count store.old) (S.count store.new)) m
+            (plan_command self.old handle.now (command_view command.entry))
+            result reply.old.items reply.new.items self.old self.new (S.contents store.new)) }
+        ensures any { Follows (Rose (S.count store.old) (S.count store.new)) (store.new ≡ store.old)
+            (plan_command self.old handle.now (command_view command.entry))
+            result reply.old.items reply.new.items self.old self.new }
+    {
+        match command {
+            Command::Login(name) => self.log_in(name, reply),
+            Command::OpenRead(path) => self.open_read(alloc, store, handle, path, reply),
+            Command::OpenWrite(path) => self.open_write(handle, path, reply),
+            Command::Read => self.read(handle, reply),
+            Command::Write(bytes) => self.write(alloc, handle, bytes, reply),
+            Command::Close => self.close(alloc, store, handle, reply),
+            Command::Rename(old, new) => self.rename(alloc, store, old, new, reply),
+            Command::Delete(path) => self.delete(alloc, store, path, reply),
+        }
+    }
+}
+
+impl Default for Session {
+    fn default() -> Self
+        ensures { result ≡ new_session }
+    {
+        Session::new()
+    }
+}

@@ -1,0 +1,60 @@
+//! CLOSE.
+ghost use Rattle.std.specs.Prelude.{◌≡◌, ◌<◌, ◌≤◌, ◌++◌, length, IfSome};
+ghost use Rattle.chaos_file.specs.Answer.{Closed, answer_text};
+ghost use Rattle.chaos_file.specs.Session.{found, handle_at, without_handle};
+ghost use Rattle.chaos_file.specs.Plan.{plan_close};
+ghost use Rattle.chaos_file.specs.Store.{Rose};
+ghost use Rattle.chaos_file.specs.Outcome.{Does, Follows};
+
+use super::Session;
+use crate::answer::{Reply, tell_count};
+use crate::error::FileError;
+use crate::limits::MAX_FRONT;
+use crate::store::{Store, Stored};
+use std::alloc::Global;
+
+impl Session {
+    /// Takes out the handle at a place, and tells how many bytes it held.
+    fn close_at(&mut self, at: usize, reply: &mut Reply)
+        requires within { at < length self.old.handles }
+        requires room { length reply.old.items ≤ MAX_FRONT }
+        ensures session { self.new ≡ without_handle self.old at }
+        ensures text { reply.new.items ≡ reply.old.items ++ answer_text (Closed (length (handle_at self.old.handles at).bytes)) }
+    {
+        let h = self.handles.remove(at);
+        tell_count(reply, b"CLOSE ", h.len());
+    }
+
+    /// CLOSE: the bytes of a handle that writes are put into the store first; then the handle is gone.
+    pub(super) fn close<S: Store>(
+        &mut self,
+        alloc: Global,
+        store: &mut S,
+        handle: &[u8],
+        reply: &mut Reply,
+    ) -> Result<(), FileError>
+        requires { length reply.old.items ≤ MAX_FRONT }
+        ensures honest { IfSome (S.contents store.old) (λ m. Does (Rose (S.count store.old) (S.count store.new)) m
+            (plan_close self.old (found handle.now self.old.handles))
+            result reply.old.items reply.new.items self.old self.new (S.contents store.new)) }
+        ensures any { Follows (Rose (S.count store.old) (S.count store.new)) (store.new ≡ store.old)
+            (plan_close self.old (found handle.now self.old.handles))
+            result reply.old.items reply.new.items self.old self.new }
+    {
+        match self.handles.find(handle) {
+            None => Err(FileError::NoSuchHandle),
+            Some((at, h)) if h.writes() => match store.put(alloc, h.path(), h.bytes()) {
+                Stored::Done => {
+                    self.close_at(at, reply);
+                    Ok(())
+                }
+                Stored::Failed => Err(FileError::StoreFault),
+                Stored::NoMemory => Err(FileError::NoMemory),
+            },
+            Some((at, _)) => {
+                self.close_at(at, reply);
+                Ok(())
+            }
+        }
+    }
+}

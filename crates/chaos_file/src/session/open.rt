@@ -1,0 +1,104 @@
+//! LOGIN and OPEN.
+ghost use Rattle.std.specs.Prelude.{◌≡◌, ◌<◌, ◌≤◌, length, IfSome};
+ghost use Rattle.chaos_file.specs.Answer.{LoggedIn, Opened};
+ghost use Rattle.chaos_file.specs.Session.{found, logged_in, opened, writer};
+ghost use Rattle.chaos_file.specs.Plan.{Tell, Ask, GetFile, open_error, plan_open};
+ghost use Rattle.chaos_file.specs.Store.{Rose};
+ghost use Rattle.chaos_file.specs.Outcome.{Settles, Does, Follows};
+
+use super::Session;
+use crate::answer::{Reply, kept, tell, tell_count};
+use crate::error::FileError;
+use crate::handle::Handle;
+use crate::limits::{MAX_FILE, MAX_FRONT, MAX_HANDLE, MAX_HANDLES, MAX_NAME, MAX_PATH};
+use crate::store::{Got, Store};
+use std::alloc::Global;
+
+impl Session {
+    /// LOGIN: the session has this name. Its handles stay.
+    pub(super) fn log_in(&mut self, name: &[u8], reply: &mut Reply) -> Result<(), FileError>
+        requires name { length name.now ≤ MAX_NAME }
+        requires room { length reply.old.items ≤ MAX_FRONT }
+        ensures { Settles (Tell (logged_in self.old name.now) (LoggedIn name.now))
+            result reply.old.items reply.new.items self.old self.new }
+    {
+        self.name = Some(kept(name));
+        tell(reply, b"LOGIN ", name);
+        Ok(())
+    }
+
+    /// Why no handle of this name may be opened.
+    fn open_error(&self, name: &[u8]) -> Option<FileError>
+        ensures { result ≡ open_error self.now (found name.now self.now.handles) }
+    {
+        match self.handles.find(name) {
+            Some(_) => Some(FileError::HandleInUse),
+            None if self.handles.len() < MAX_HANDLES => None,
+            None => Some(FileError::TooManyHandles),
+        }
+    }
+
+    /// One open file more.
+    fn add(&mut self, handle: Handle)
+        requires { length self.old.handles < MAX_HANDLES }
+        ensures { self.new ≡ opened self.old handle }
+    {
+        self.handles.push(handle);
+    }
+
+    /// OPEN WRITE: the handle holds no bytes yet, and the store isn't asked.
+    pub(super) fn open_write(
+        &mut self,
+        name: &[u8],
+        path: &[u8],
+        reply: &mut Reply,
+    ) -> Result<(), FileError>
+        requires name { length name.now ≤ MAX_HANDLE }
+        requires path { length path.now ≤ MAX_PATH }
+        requires room { length reply.old.items ≤ MAX_FRONT }
+        ensures { Settles (plan_open self.old name.now (Tell (opened self.old (writer name.now path.now)) (Opened 0)))
+            result reply.old.items reply.new.items self.old self.new }
+    {
+        if let Some(error) = self.open_error(name) {
+            return Err(error);
+        }
+        self.add(Handle::writer(name, path));
+        tell_count(reply, b"OPEN ", 0);
+        Ok(())
+    }
+
+    /// OPEN READ: the handle holds the file's bytes as they are now.
+    pub(super) fn open_read<S: Store>(
+        &mut self,
+        alloc: Global,
+        store: &mut S,
+        name: &[u8],
+        path: &[u8],
+        reply: &mut Reply,
+    ) -> Result<(), FileError>
+        requires name { length name.now ≤ MAX_HANDLE }
+        requires path { length path.now ≤ MAX_PATH }
+        requires room { length reply.old.items ≤ MAX_FRONT }
+        ensures honest { IfSome (S.contents store.old) (λ m. Does (Rose (S.count store.old) (S.count store.new)) m
+            (plan_open self.old name.now (Ask (GetFile name.now path.now)))
+            result reply.old.items reply.new.items self.old self.new (S.contents store.new)) }
+        ensures any { Follows (Rose (S.count store.old) (S.count store.new)) (store.new ≡ store.old)
+            (plan_open self.old name.now (Ask (GetFile name.now path.now)))
+            result reply.old.items reply.new.items self.old self.new }
+    {
+        if let Some(error) = self.open_error(name) {
+            return Err(error);
+        }
+        match store.get(alloc, path, MAX_FILE) {
+            Got::Bytes(bytes) => {
+                tell_count(reply, b"OPEN ", bytes.len());
+                self.add(Handle::reader(name, path, bytes));
+                Ok(())
+            }
+            Got::Absent => Err(FileError::NoSuchFile),
+            Got::TooBig => Err(FileError::FileTooBig),
+            Got::Failed => Err(FileError::StoreFault),
+            Got::NoMemory => Err(FileError::NoMemory),
+        }
+    }
+}

@@ -1,0 +1,96 @@
+//! READ and WRITE.
+ghost use Rattle.std.specs.Prelude.{◌≡◌, ◌<◌, ◌≤◌, ◌+◌, ◌++◌, length, OnOk, OnErr};
+ghost use Rattle.chaos_file.specs.Answer.{Wrote, answer_text, read_answer};
+ghost use Rattle.chaos_file.specs.Session.{found, handle_at, next_bytes, read_on, with_handle, written};
+ghost use Rattle.chaos_file.specs.Plan.{plan_read, plan_write};
+ghost use Rattle.chaos_file.specs.Outcome.{Settles, Grows};
+
+use super::Session;
+use crate::answer::{Reply, tell_count};
+use crate::error::FileError;
+use crate::limits::{MAX_CHUNK, MAX_FILE, MAX_FRONT};
+use std::alloc::{AllocError, Global};
+
+impl Session {
+    fn read_at(&mut self, at: usize, reply: &mut Reply)
+        requires within { at < length self.old.handles }
+        requires room { length reply.old.items ≤ MAX_FRONT }
+        ensures session { self.new ≡ with_handle self.old at (read_on (handle_at self.old.handles at)) }
+        ensures text { reply.new.items
+            ≡ reply.old.items ++ answer_text (read_answer (next_bytes (handle_at self.old.handles at))) }
+    {
+        self.handles.read_at(at, reply);
+    }
+
+    /// READ: the next bytes of a handle, and `EOF` at their end.
+    pub(super) fn read(&mut self, handle: &[u8], reply: &mut Reply) -> Result<(), FileError>
+        requires { length reply.old.items ≤ MAX_FRONT }
+        ensures { Settles (plan_read self.old (found handle.now self.old.handles))
+            result reply.old.items reply.new.items self.old self.new }
+    {
+        match self.handles.find(handle) {
+            None => Err(FileError::NoSuchHandle),
+            Some((_, h)) if h.writes() => Err(FileError::WrongKind),
+            Some((at, _)) => {
+                self.read_at(at, reply);
+                Ok(())
+            }
+        }
+    }
+
+    fn append_at(&mut self, alloc: Global, at: usize, bytes: &[u8]) -> Result<(), AllocError>
+        requires { at < length self.old.handles }
+        ensures ok { OnOk result (self.new ≡ with_handle self.old at (written (handle_at self.old.handles at) bytes.now)) }
+        ensures err { OnErr result (self.new ≡ self.old) }
+    {
+        self.handles.append_at(alloc, at, bytes)
+    }
+
+    /// Adds bytes to the handle at a place, and tells how many it holds then.
+    fn write_at(
+        &mut self,
+        alloc: Global,
+        at: usize,
+        bytes: &[u8],
+        len: usize,
+        reply: &mut Reply,
+    ) -> Result<(), FileError>
+        requires within { at < length self.old.handles }
+        requires len { len ≡ length (handle_at self.old.handles at).bytes + length bytes.now }
+        requires room { length reply.old.items ≤ MAX_FRONT }
+        ensures { Grows (with_handle self.old at (written (handle_at self.old.handles at) bytes.now)) (Wrote len)
+            result reply.old.items reply.new.items self.old self.new }
+    {
+        match self.append_at(alloc, at, bytes) {
+            Ok(()) => {
+                tell_count(reply, b"WRITE ", len);
+                Ok(())
+            }
+            Err(_) => Err(FileError::NoMemory),
+        }
+    }
+
+    /// WRITE: adds bytes to a handle.
+    pub(super) fn write(
+        &mut self,
+        alloc: Global,
+        handle: &[u8],
+        bytes: &[u8],
+        reply: &mut Reply,
+    ) -> Result<(), FileError>
+        requires bytes { length bytes.now ≤ MAX_CHUNK }
+        requires room { length reply.old.items ≤ MAX_FRONT }
+        ensures { Settles (plan_write bytes.now self.old (found handle.now self.old.handles))
+            result reply.old.items reply.new.items self.old self.new }
+    {
+        match self.handles.find(handle) {
+            None => Err(FileError::NoSuchHandle),
+            Some((_, h)) if !h.writes() => Err(FileError::WrongKind),
+            Some((_, h)) if h.len() + bytes.len() > MAX_FILE => Err(FileError::FileTooBig),
+            Some((at, h)) => {
+                let len = h.len() + bytes.len();
+                self.write_at(alloc, at, bytes, len, reply)
+            }
+        }
+    }
+}

@@ -1,0 +1,98 @@
+//! Where files are kept.
+ghost use Rattle.std.specs.Prelude.{◌≡◌, ℕ, Option, IfSome};
+ghost use Rattle.chaos_file.specs.Store.{Files, Rose, Gets, Puts, Removes, Renames};
+
+use crate::file_bytes::FileBytes;
+use std::alloc::Global;
+
+/// What a `get` finds.
+#[derive(Drop)]
+pub enum Got {
+    /// The file's bytes, as they are now.
+    Bytes(FileBytes),
+    /// No file has the path.
+    Absent,
+    /// The file has more bytes than the limit.
+    TooBig,
+    /// The store failed, and its count of failures rose.
+    Failed,
+    /// There was no memory for the bytes.
+    NoMemory,
+}
+
+/// How a `put` went.
+#[derive(Clone, Copy, Debug, PartialEq, Eq)]
+pub enum Stored {
+    /// The bytes are the path's whole content.
+    Done,
+    /// The store failed, and its count of failures rose. The files stay.
+    Failed,
+    /// There was no memory. The files stay.
+    NoMemory,
+}
+
+/// How a `remove` went.
+#[derive(Clone, Copy, Debug, PartialEq, Eq)]
+pub enum Removed {
+    /// The file is gone.
+    Done,
+    /// No file has the path.
+    Absent,
+    /// The store failed, and its count of failures rose. The files stay.
+    Failed,
+    /// There was no memory. The files stay.
+    NoMemory,
+}
+
+/// How a `rename` went.
+#[derive(Clone, Copy, Debug, PartialEq, Eq)]
+pub enum Renamed {
+    /// The file has moved.
+    Done,
+    /// No file has the old path.
+    Absent,
+    /// A file has the new path already.
+    Exists,
+    /// The store failed, and its count of failures rose. The files stay.
+    Failed,
+    /// There was no memory. The files stay.
+    NoMemory,
+}
+
+/// Keeps files under paths.
+///
+/// Every store answers `Failed` only where its count of failures rose in that call. An honest store keeps its files as a
+/// map from path to bytes: each call answers by this map, changes it as it answers, and leaves it where it failed or
+/// found no memory.
+pub trait Store {
+    /// The files, where the store is known to be honest; a store that claims nothing has None.
+    ghost contents: { Self → Option Files };
+
+    /// How many calls have failed so far.
+    ghost count: { Self → ℕ };
+
+    /// The bytes of a path's file, where they are at most `limit`.
+    fn get(&mut self, alloc: Global, path: &[u8], limit: usize) -> Got
+        ensures failed { result ≡ Got.Failed → Rose (count self.old) (count self.new) }
+        ensures files { IfSome (contents self.old) (Gets path.now limit result (contents self.new)) };
+
+    /// Makes these bytes the whole content of a path, new or replaced.
+    fn put(&mut self, alloc: Global, path: &[u8], bytes: &[u8]) -> Stored
+        ensures failed { result ≡ Stored.Failed → Rose (count self.old) (count self.new) }
+        ensures files { IfSome (contents self.old) (Puts path.now bytes.now result (contents self.new)) };
+
+    /// Takes a path's file out.
+    fn remove(&mut self, alloc: Global, path: &[u8]) -> Removed
+        ensures failed { result ≡ Removed.Failed → Rose (count self.old) (count self.new) }
+        ensures files { IfSome (contents self.old) (Removes path.now result (contents self.new)) };
+
+    /// Moves a file to a path that no file has. The old path is looked for first, so that two equal paths are
+    /// `Exists` or `Absent`.
+    fn rename(&mut self, alloc: Global, old: &[u8], new: &[u8]) -> Renamed
+        ensures failed { result ≡ Renamed.Failed → Rose (count self.old) (count self.new) }
+        ensures files { IfSome (contents self.old) (Renames old.now new.now result (contents self.new)) };
+
+    /// How many calls have failed so far. The count stays at the greatest `u64`.
+    fn failures(&self) -> u64
+        ensures { result ≡ count self.now };
+}

@@ -1,0 +1,5 @@
+pub mod InUse
+pub mod Indices
+pub mod Pending
+pub mod Places
+pub mod Requests

@@ -1,0 +1,89 @@
+-- A free slot takes each request that it is given.
+use Rattle.std.proofs.Common.{◌≡◌, ℕ, ◌<◌, ◌≤◌, ◌==◌, List, nat_lt, length, slice_get, slice_set, Some, true, false, arith, refl, sym}
+use Rattle.std.proofs.lemmas.List.{get_or-set_same, length-set}
+use Rattle.std.proofs.lemmas.Option.{slice_get_read}
+use Rattle.std.proofs.lemmas.Bool.{eq-eqb}
+use Rattle.std.proofs.lemmas.Bool.Decides.{nat_tests}
+use Rattle.chaos_packet.specs.Packet.{PacketView}
+use Rattle.chaos_packet.specs.Opcode.{kind_of}
+use Rattle.chaos_packet.specs.Outbox.{OutboxView}
+use Rattle.chaos_packet.specs.declared.limits.TheConstants.{MAX_DATA}
+use Rattle.chaos_conn.specs.Sending.{is_rfc}
+use Rattle.chaos_conn.specs.State.{is_inactive}
+use Rattle.chaos_conn.specs.View.{ConnView}
+use Rattle.chaos_conn.specs.Act.{Call, Reply, TakeRequest, Request, act}
+use Rattle.chaos_conn.specs.declared.state.End.{End}
+use Rattle.chaos_conn.specs.declared.state.State.TheVariants.{RfcSent, RfcReceived}
+use Rattle.chaos_host.specs.declared.slot.Slot.{Slot}
+use Rattle.chaos_host.specs.Slot.{is_free, is_used, is_used_at, index_of, place_of, named_slot, named_state}
+use Rattle.chaos_host.specs.View.{HostView, IsHost}
+use Rattle.chaos_host.specs.Acted.{ActsAt, ActsQuietlyAt, called_slot}
+use Rattle.chaos_host.specs.Route.{IsRequest}
+use Rattle.chaos_host.proofs.Places.{some_at}
+
+-- what stands at a place that was set
+pub get_set : {X : Type 0} (xs : List X) (i : ℕ) (x : X) → i < length xs → slice_get (slice_set xs i x) i ≡ Some x
+get_set xs i x h = slice_get_read (slice_set xs i x) (length xs) i x (sym (length-set xs i x)) h (sym (get_or-set_same xs i x x h))
+
+-- the index of a slot in use names it
+pub named_set : (slots : List Slot) (place id : ℕ) (slot : Slot) → place < length slots → length slots ≤ 255 → id ≡ index_of place slot → is_used slot ≡ true
+    → named_slot (slice_set slots place slot) id ≡ Some slot
+named_set slots place id slot within few named used =
+    let at_place : place_of id ≡ place = rw named (omega arith) in
+    let there : slice_get (slice_set slots place slot) (place_of id) ≡ Some slot = rw at_place (get_set slots place slot within) in
+    let index : (index_of (place_of id) slot == id) ≡ true = rw at_place (eq-eqb (index_of place slot) id (sym named)) in
+    rw there (rw (used, index) refl)
+
+-- an inactive connection takes a request between addresses that aren't 0
+pub takes : (conn : ConnView) (p : PacketView) (me : End) (now : ℕ) → is_inactive conn.state ≡ true → (me.address == 0) ≡ false → (p.src == 0) ≡ false → is_rfc (kind_of p.op) ≡ true
+    → (act conn (TakeRequest p me now)).view.state ≡ RfcReceived
+takes conn p me now inactive here there rfc = rw (inactive, here, there, rfc) refl
+
+-- an inactive connection makes a request between addresses that aren't 0
+pub asks : (conn : ConnView) (me : End) (peer : ℕ) (contact : List ℕ) (start now : ℕ) → is_inactive conn.state ≡ true → (me.address == 0) ≡ false → (peer == 0) ≡ false → length contact ≤ MAX_DATA
+    → (act conn (Request me peer contact start now)).view.state ≡ RfcSent
+asks conn me peer contact start now inactive here there fits =
+    let short : nat_lt MAX_DATA (length contact) ≡ false = grind (arith, nat_tests) in
+    rw (short, inactive, here, there) refl
+
+-- a free slot has an inactive connection
+free_at : (slots : List Slot) (place : ℕ) (slot : Slot) → is_used_at slots place ≡ false → slice_get slots place ≡ Some slot → is_free slot ≡ true
+free_at slots place slot vacant there = let e = rw there at vacant in grind (arith, e)
+
+-- the address of a host isn't 0
+not_zero : (n : ℕ) → 1 ≤ n → (n == 0) ≡ false
+not_zero n h = grind (arith, nat_tests)
+
+-- a request that was taken is held by the connection with its index
+pub requested_holds : (v : HostView) (p : PacketView) (now place id : ℕ) (new : List Slot) (reply : Reply)
+    → IsHost v → IsRequest v p place
+    → ((slot : Slot) → slice_get v.slots place ≡ Some slot → id ≡ index_of place slot)
+    → ActsQuietlyAt v.slots new place (TakeRequest p (record { address = v.address; index = id }) now) reply
+    → named_state new id ≡ Some RfcReceived
+requested_holds v p now place id new reply host request named acts =
+    let slot = some_at v.slots place request.within in
+    let index = named slot.0 slot.1 in
+    let does = acts slot.0 slot.1 in
+    let me : End = record { address = v.address; index = id } in
+    let state = takes slot.0.conn p me now (free_at v.slots place slot.0 request.vacant slot.1) (not_zero v.address host.address) request.source request.rfc in
+    let after : Slot = called_slot slot.0 (TakeRequest p me now) in
+    let used : is_used after ≡ true = rw state refl in
+    let there = named_set v.slots place id after request.within host.table.few index used in
+    rw does.slots (rw there (rw state refl))
+
+-- a connection that was asked for has the index that was answered
+pub connected_asks : (v : HostView) (place peer : ℕ) (contact : List ℕ) (start now : ℕ) (new : List Slot) (before after : OutboxView) (id : ℕ) (reply : Reply)
+    → IsHost v → place < length v.slots → is_used_at v.slots place ≡ false → length contact ≤ MAX_DATA → (peer == 0) ≡ false
+    → ((slot : Slot) → slice_get v.slots place ≡ Some slot → id ≡ index_of place slot)
+    → ActsAt v.slots new place (Request (record { address = v.address; index = id }) peer contact start now) before after reply
+    → named_state new id ≡ Some RfcSent
+connected_asks v place peer contact start now new before after id reply host within vacant fits there named acts =
+    let slot = some_at v.slots place within in
+    let index = named slot.0 slot.1 in
+    let does = acts slot.0 slot.1 in
+    let me : End = record { address = v.address; index = id } in
+    let call : Call = Request me peer contact start now in
+    let state = asks slot.0.conn me peer contact start now (free_at v.slots place slot.0 vacant slot.1) (not_zero v.address host.address) there fits in
+    let used : is_used (called_slot slot.0 call) ≡ true = rw state refl in
+    let found = named_set v.slots place id (called_slot slot.0 call) within host.table.few index used in
+    rw does.slots (rw found (rw state refl))

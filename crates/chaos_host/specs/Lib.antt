@@ -1,0 +1,12 @@
+pub mod Acted
+pub mod Calls
+pub mod Connect
+pub mod Deliver
+pub mod Inside
+pub mod Law
+pub mod Listening
+pub mod Route
+pub mod Slot
+pub mod Stored
+pub mod Tick
+pub mod View

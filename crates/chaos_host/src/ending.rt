@@ -1,0 +1,35 @@
+//! The release of an ended connection.
+ghost use Rattle.std.specs.Prelude.{◌≡◌, ◌<◌, IfSome, IfNone, length, slice_get, true, false};
+ghost use Rattle.chaos_packet.specs.Outbox.{room_of};
+ghost use Rattle.chaos_conn.specs.State.{is_ended};
+ghost use Rattle.chaos_host.specs.declared.slot.Slot.{Slot};
+ghost use Rattle.chaos_host.specs.Acted.{HostDoes};
+ghost use Rattle.chaos_host.specs.Calls.{released};
+
+use crate::fault::CallFault;
+use crate::host::Host;
+use crate::in_slot::{close_at, is_ended_at};
+use crate::index::ConnId;
+use crate::slots::named_place;
+use chaos_packet::Outbox;
+
+impl Host {
+    /// Frees the slot of an ended connection, and sends nothing.
+    ///
+    /// Refused, in this order: `NoSuchConnection` where no connection has this index; `StillActive` where it hasn't ended.
+    /// Nothing changes then.
+    pub fn release(&mut self, id: ConnId, out: &mut Outbox) -> Result<(), CallFault>
+        requires { 0 < room_of out.old }
+        ensures does { HostDoes self.old 1 (released self.old id) self.new out.old out.new result }
+        ensures quiet { out.new ≡ out.old }
+    {
+        let Some(place) = named_place(&self.slots, id) else {
+            return Err(CallFault::NoSuchConnection);
+        };
+        if !is_ended_at(&self.slots, place) {
+            return Err(CallFault::StillActive);
+        }
+        let _ = close_at(&mut self.slots, place, b"", out);
+        Ok(())
+    }
+}

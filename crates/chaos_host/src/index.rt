@@ -1,0 +1,33 @@
+//! The own indices of connections.
+ghost use Rattle.std.specs.Prelude.{◌≡◌};
+
+use chaos_conn::End;
+use std::marker::Model;
+
+/// The own index of one of a host's connections. In the low 8 bits it has the number of the connection's slot plus 1, and in
+/// the high 8 bits the slot's generation, so that a packet for an older connection of the slot finds none. A contract sees
+/// the number.
+#[derive(Clone, Copy, Debug, PartialEq, Eq)]
+pub struct ConnId(pub u16);
+
+impl Model for ConnId {
+    ghost use Rattle.std.specs.Prelude.{ℕ};
+
+    ghost Value = { ℕ };
+
+    ghost view = { λ id. id.0 };
+
+    ghost inverse = { λ n. record { 0 = n } };
+}
+
+impl ConnId {
+    /// The own end of the connection with this index, at a host with this address.
+    pub(crate) fn end_at(self, address: u16) -> End
+        ensures { result ≡ record { address = address; index = self } }
+    {
+        End {
+            address,
+            index: self.0,
+        }
+    }
+}

@@ -1,0 +1,67 @@
+//! What a host shows of its connections.
+ghost use Rattle.std.specs.Prelude.{◌≡◌};
+ghost use Rattle.std.specs.Option.{option_copied};
+ghost use Rattle.std.specs.Result.{result_map_both};
+ghost use Rattle.chaos_conn.specs.Calls.{can_write, front_of, is_drained};
+ghost use Rattle.chaos_host.specs.View.{id_at, shown_by};
+
+use crate::fault::CallFault;
+use crate::host::Host;
+use crate::index::ConnId;
+use crate::slots::named;
+use chaos_conn::State;
+use chaos_packet::Item;
+
+impl Host {
+    /// The index of the connection in a slot, and none for a free slot or a place without a slot. Slots are numbered from 0.
+    pub fn id_of(&self, slot: usize) -> Option<ConnId>
+        ensures { result ≡ id_at self.now slot }
+    {
+        let used = self.slots.get(slot)?;
+        if used.is_free() {
+            None
+        } else {
+            Some(used.index_at(slot))
+        }
+    }
+
+    /// The state of a connection, and `NoSuchConnection` where none has this index; so it is with all calls here.
+    pub fn state(&self, id: ConnId) -> Result<State, CallFault>
+        ensures { result ≡ shown_by self.now id (λ conn. conn.state) }
+    {
+        match named(&self.slots, id) {
+            Some(slot) => Ok(slot.conn.state()),
+            None => Err(CallFault::NoSuchConnection),
+        }
+    }
+
+    /// Whether a connection is open and its window has room, so that a write of data is taken.
+    pub fn can_write(&self, id: ConnId) -> Result<bool, CallFault>
+        ensures { result ≡ shown_by self.now id (λ conn. can_write conn) }
+    {
+        match named(&self.slots, id) {
+            Some(slot) => Ok(slot.conn.can_write()),
+            None => Err(CallFault::NoSuchConnection),
+        }
+    }
+
+    /// Whether a connection's peer read all that was sent, as far as is known.
+    pub fn drained(&self, id: ConnId) -> Result<bool, CallFault>
+        ensures { result ≡ shown_by self.now id (λ conn. is_drained conn) }
+    {
+        match named(&self.slots, id) {
+            Some(slot) => Ok(slot.conn.drained()),
+            None => Err(CallFault::NoSuchConnection),
+        }
+    }
+
+    /// Lends a connection's next item, where it is held.
+    pub fn front(&self, id: ConnId) -> Result<Option<&Item>, CallFault>
+        ensures { result_map_both (λ front. option_copied front) (λ fault. fault) result ≡ shown_by self.now id (λ conn. front_of conn) }
+    {
+        match named(&self.slots, id) {
+            Some(slot) => Ok(slot.conn.front()),
+            None => Err(CallFault::NoSuchConnection),
+        }
+    }
+}

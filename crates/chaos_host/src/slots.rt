@@ -1,0 +1,64 @@
+//! The table: which slot an index names, and calls on the connection in one slot.
+ghost use Rattle.std.specs.Prelude.{◌≡◌, ◌<◌, length, slice_get, position, IfSome, IfNone, Some, None, true, false};
+ghost use Rattle.std.specs.Option.{option_copied};
+ghost use Rattle.chaos_host.specs.Slot.{place_of, named_slot, free_place, is_free, took_from, is_used_at};
+
+use crate::index::ConnId;
+use crate::slot::Slot;
+use chaos_packet::Packet;
+
+/// The slot in use whose connection has an own index: one look, and no walk.
+#[tactic(auto, using(std::proofs::lemmas::Option::gets))]
+pub fn named(slots: &Vec<Slot>, id: ConnId) -> Option<&Slot>
+    ensures { option_copied result ≡ named_slot slots.now.items id }
+{
+    let place = named_place(slots, id)?;
+    slots.get(place)
+}
+
+/// The place of the slot in use whose connection has an own index: one look, and no walk.
+#[tactic(auto, using(std::proofs::lemmas::Option::gets))]
+pub fn named_place(slots: &Vec<Slot>, id: ConnId) -> Option<usize>
+    ensures found { IfSome result (λ i. (i ≡ place_of id) × (i < length slots.now.items) × (named_slot slots.now.items id ≡ slice_get slots.now.items i)) }
+    ensures none { IfNone result (named_slot slots.now.items id ≡ None) }
+{
+    let place = usize::from(id.0 % 256).saturating_sub(1);
+    let slot = slots.get(place)?;
+    if !slot.is_free() && slot.index_at(place) == id {
+        Some(place)
+    } else {
+        None
+    }
+}
+
+/// The place of the lowest free slot.
+///
+/// A walk over the slots.
+pub fn free_place(slots: &Vec<Slot>) -> Option<usize>
+    ensures place { result ≡ free_place slots.now.items }
+    ensures vacant { IfSome result (λ i. (i < length slots.now.items) × (is_used_at slots.now.items i ≡ false)) }
+{
+    slots.iter().position(|slot| slot.is_free())
+}
+
+/// The place of the connection that took its request from where the packet comes from.
+///
+/// A walk over the slots.
+pub fn taker(slots: &Vec<Slot>, packet: &Packet) -> Option<usize>
+    ensures place { result ≡ position (took_from packet.now) slots.now.items }
+    ensures within { IfSome result (λ i. i < length slots.now.items) }
+{
+    slots.iter().position(|slot| slot.took_from(packet))
+}
+
+/// Whether there is a slot at a place, and it is in use.
+#[tactic(auto, using(std::proofs::lemmas::Option::gets))]
+pub fn is_used_at(slots: &Vec<Slot>, place: usize) -> bool
+    ensures used { result ≡ is_used_at slots.now.items place }
+    ensures within { result ≡ true → place < length slots.now.items }
+{
+    match slots.get(place) {
+        Some(slot) => !slot.is_free(),
+        None => false,
+    }
+}

@@ -1,0 +1,54 @@
+//! What a host stores.
+ghost use Rattle.std.specs.Prelude.{◌≡◌, ◌+◌, ◌*◌, ◌≤◌, length, All};
+ghost use Rattle.chaos_conn.specs.Stored.{stored_packets, stored_bytes};
+ghost use Rattle.chaos_host.specs.Slot.{HasConfig};
+ghost use Rattle.chaos_host.specs.Stored.{stored_of, packets_in, bytes_in};
+
+use crate::host::Host;
+use crate::slot::Slot;
+use chaos_conn::{ConnConfig, MAX_PACKET_BYTES};
+
+impl Host {
+    /// How many packets the connections keep and hold, and their bytes with a header for each. Whatever packets, calls and
+    /// moments came, they are at most as many as the connections times both windows, and at most 504 bytes each.
+    ///
+    /// A walk over all items.
+    pub fn stored(&self) -> (usize, usize)
+        ensures value { result ≡ stored_of self.now }
+        ensures packets_fit { result.0 ≤ length self.now.slots * (self.now.config.send_cap + self.now.config.recv_cap) }
+        ensures bytes_fit { result.1 ≤ MAX_PACKET_BYTES * result.0 }
+    {
+        stored_in(&self.slots, &self.config)
+    }
+}
+
+/// What slots with connections of this configuration store.
+fn stored_in(slots: &[Slot], config: &ConnConfig) -> (usize, usize)
+    requires few { length slots.now ≤ 255 }
+    requires config { All (HasConfig config.now) slots.now }
+    ensures packets { result.0 ≡ packets_in slots.now }
+    ensures bytes { result.1 ≡ bytes_in slots.now }
+    ensures packets_fit { result.0 ≤ length slots.now * (config.now.send_cap + config.now.recv_cap) }
+    ensures bytes_fit { result.1 ≤ 504 * result.0 }
+{
+    let each = config.send_cap() + config.recv_cap();
+    let mut packets = 0;
+    let mut bytes = 0;
+    for slot in slots {
+        let stored = stored_by(slot, each);
+        packets += stored.0;
+        bytes += stored.1;
+    }
+    (packets, bytes)
+}
+
+/// What a connection with windows of so many packets together stores.
+fn stored_by(slot: &Slot, each: u16) -> (usize, usize)
+    requires { slot.now.conn.config.send_cap + slot.now.conn.config.recv_cap ≡ each }
+    ensures packets { result.0 ≡ stored_packets slot.now.conn }
+    ensures bytes { result.1 ≡ stored_bytes slot.now.conn }
+    ensures packets_fit { result.0 ≤ each }
+    ensures bytes_fit { result.1 ≤ 504 * result.0 }
+{
+    slot.conn.stored()
+}

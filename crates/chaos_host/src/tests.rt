@@ -1,0 +1,5 @@
+//! Dialogues with a host.
+mod calls;
+mod requests;
+mod rows;
+mod side;

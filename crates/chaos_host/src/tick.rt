@@ -1,0 +1,28 @@
+//! What is due in one slot.
+ghost use Rattle.std.specs.Prelude.{◌≡◌, ◌<◌, ◌≤◌, ◌&&◌, true, length, slice_get, IfSome, Some};
+ghost use Rattle.chaos_packet.specs.Outbox.{room_of};
+ghost use Rattle.chaos_host.specs.Acted.{HostDoes};
+ghost use Rattle.chaos_host.specs.Slot.{is_used_at};
+ghost use Rattle.chaos_host.specs.Tick.{ticked};
+
+use crate::host::Host;
+use crate::in_slot::tick_at;
+use crate::slots::is_used_at;
+use chaos_conn::Ticked;
+use chaos_packet::Outbox;
+
+impl Host {
+    /// Does what is due for the connection in a slot; slots are numbered from 0. A free slot, and a place without a slot, is
+    /// `Quiet`, and nothing changes.
+    ///
+    /// It asks for room for as many packets as the send window of a connection.
+    pub fn tick(&mut self, slot: usize, now: u64, out: &mut Outbox) -> Ticked
+        requires { self.old.config.send_cap ≤ room_of out.old }
+        ensures { HostDoes self.old self.old.config.send_cap (ticked self.old slot now) self.new out.old out.new result }
+    {
+        if !is_used_at(&self.slots, slot) {
+            return Ticked::Quiet;
+        }
+        tick_at(&mut self.slots, slot, now, out)
+    }
+}
