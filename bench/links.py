@@ -1,7 +1,7 @@
 #!/usr/bin/env python3
 """Times round trips of 508-byte datagrams between two links of one process beside the same in plain Rust.
 
-Run it by `python3 bench/links.py`. It proves and builds bench/round_trips.rt over copies of the two crates in a folder of
+Run it by `python3 bench/links.py`. It proves and builds bench/round_trips.rt.in over copies of the two crates in a folder of
 its own, which takes some minutes, and needs rt (another by RT=..) and rustc. Each figure is the least of ten runs, taken in
 turn.
 """
@@ -35,7 +35,7 @@ def build_links(folder):
     lines = [line for line in (ROOT / "crates.txt").read_text().splitlines() if line.split(":")[0] in CRATES]
     (top / "crates.txt").write_text("\n".join([*lines, "round_trips: chaos_link", ""]))
     (top / "HANDLES").write_text((ROOT / "HANDLES").read_text())
-    (source / "main.rt").write_text((HERE / "round_trips.rt").read_text())
+    (source / "main.rt").write_text((HERE / "round_trips.rt.in").read_text())
     subprocess.run([RT, "run"], cwd=source.parent, check=True)
     return str(source.parent / "out/round_trips")
 
