@@ -3,3 +3,5 @@ pub mod Indices
 pub mod Pending
 pub mod Places
 pub mod Requests
+pub mod Settled
+pub mod Table

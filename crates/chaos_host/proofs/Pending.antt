@@ -43,11 +43,12 @@ count_one item n = omega (arith, sum_by-cons (λ s. cond (is_some s) 1 0) (Some 
 first_within : (n : ℕ) → nat_le 1 (suc n) ≡ true
 first_within n = grind (arith, nat_tests)
 
-some_suc : (k : ℕ) → 1 ≤ k → (n : ℕ) × (k ≡ suc n)
+pub some_suc : (k : ℕ) → 1 ≤ k → (n : ℕ) × (k ≡ suc n)
 some_suc zero h = absurd (omega arith)
 some_suc (suc n) h = (n, refl)
 
-alone : (conn : ConnView) (rfc : PacketView) (me : End) (t n : ℕ) → conn.config.recv_cap ≡ suc n → HoldsOne (requested (closed_conn conn) rfc me t) (record { op = rfc.op; body = rfc.body })
+-- a request that a closed connection takes is held alone
+pub alone : (conn : ConnView) (rfc : PacketView) (me : End) (t n : ℕ) → conn.config.recv_cap ≡ suc n → HoldsOne (requested (closed_conn conn) rfc me t) (record { op = rfc.op; body = rfc.body })
 alone conn rfc me t n cap =
     let one = count_one (record { op = rfc.op; body = rfc.body }) n in
     record {

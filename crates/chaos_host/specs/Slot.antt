@@ -1,11 +1,15 @@
 -- The slots of a host's table, and the own indices of their connections.
-use Rattle.std.specs.Prelude.{◌≡◌, ℕ, ◌+◌, ◌-◌, ◌*◌, ◌%◌, ◌≤◌, Bool, false, not, ◌&&◌, ◌==◌, if◌then◌else◌, List, length, All, Option, Some, None, option_map, slice_get, position}
+use Rattle.std.specs.Prelude.{◌≡◌, ℕ, ◌+◌, ◌-◌, ◌*◌, ◌%◌, ◌≤◌, Bool, true, false, not, ◌&&◌, ◌==◌, if◌then◌else◌, List, length, All, Option, Some, None, option_map, slice_get, position}
 use Rattle.chaos_packet.specs.Packet.{PacketView}
 use Rattle.chaos_conn.specs.Config.{ConfigView}
 use Rattle.chaos_conn.specs.State.{is_inactive}
 use Rattle.chaos_conn.specs.Arriving.{is_index, may_be_index}
 use Rattle.chaos_conn.specs.Calls.{peer_of}
 use Rattle.chaos_conn.specs.declared.state.State.{State}
+use Rattle.chaos_conn.specs.declared.state.State.TheVariants.{RfcReceived}
+use Rattle.chaos_conn.specs.View.{ConnView}
+use Rattle.chaos_conn.specs.Opening.{closed_conn}
+use Rattle.chaos_conn.specs.Stored.{stored_packets}
 use Rattle.chaos_host.specs.declared.slot.Slot.{Slot}
 
 -- a slot is free where its connection is inactive, and else in use
@@ -82,8 +86,20 @@ after_ending slot = if is_free slot then record slot { generation = (slot.genera
 abbrev pub HasConfig : ConfigView → Slot → Type 0
 HasConfig config slot = slot.conn.config ≡ config
 
--- The slots are from 1 to 255, and their connections have one configuration.
+-- an inactive connection is as a new one, but for its moments
+abbrev pub IsBlank : ConnView → Type 0
+IsBlank conn = is_inactive conn.state ≡ true → conn ≡ closed_conn conn
+
+-- while a request waits for its user, it is the one item that its connection stores
+abbrev pub HoldsRequestAlone : ConnView → Type 0
+HoldsRequestAlone conn = conn.state ≡ RfcReceived → stored_packets conn ≡ 1
+
+-- The slots are from 1 to 255, and their connections have one configuration, with a receive window. What stands in a free
+-- slot is as a new connection, and a pending request is the one stored item of its slot.
 pub record IsTable (config : ConfigView) (slots : List Slot) : Type 0 where
   pub some : 1 ≤ length slots
   pub few : length slots ≤ 255
   pub alike : All (HasConfig config) slots
+  pub window : 1 ≤ config.recv_cap
+  pub blank : All (λ slot. IsBlank slot.conn) slots
+  pub pending : All (λ slot. HoldsRequestAlone slot.conn) slots

@@ -1,7 +1,7 @@
 //! What a host stores.
 ghost use Rattle.std.specs.Prelude.{◌≡◌, ◌+◌, ◌*◌, ◌≤◌, length, All};
 ghost use Rattle.chaos_conn.specs.Stored.{stored_packets, stored_bytes};
-ghost use Rattle.chaos_host.specs.Slot.{HasConfig};
+ghost use Rattle.chaos_host.specs.Slot.{HasConfig, HoldsRequestAlone, IsBlank};
 ghost use Rattle.chaos_host.specs.Stored.{stored_of, packets_in, bytes_in};
 
 use crate::host::Host;
@@ -10,13 +10,18 @@ use chaos_conn::{ConnConfig, MAX_PACKET_BYTES};
 
 impl Host {
     /// How many packets the connections keep and hold, and their bytes with a header for each. Whatever packets, calls and
-    /// moments came, they are at most as many as the connections times both windows, and at most 504 bytes each.
+    /// moments came, they are at most as many as the connections times both windows, and at most 504 bytes each. A free slot
+    /// stores nothing, and a slot whose request waits for its user stores that one item.
     ///
     /// A walk over all items.
     pub fn stored(&self) -> (usize, usize)
         ensures value { result ≡ stored_of self.now }
         ensures packets_fit { result.0 ≤ length self.now.slots * (self.now.config.send_cap + self.now.config.recv_cap) }
         ensures bytes_fit { result.1 ≤ MAX_PACKET_BYTES * result.0 }
+        // A request that waits for its user is the one item that its slot stores.
+        ensures pending { All (λ slot. HoldsRequestAlone slot.conn) self.now.slots }
+        // What stands in a free slot stores nothing: it is as new, but for its moments.
+        ensures blank { All (λ slot. IsBlank slot.conn) self.now.slots }
     {
         stored_in(&self.slots, &self.config)
     }
