@@ -1,3 +1,5 @@
+pub mod Begins
+pub mod Count
 pub mod Item
 pub mod Number
 pub mod Opcode

@@ -1,6 +1,8 @@
 -- What a packet is.
 use Rattle.std.specs.List.{before_first, after_first}
 use Rattle.std.specs.Prelude.{ℕ, ◌+◌, ◌*◌, List, ◌∷◌, Option, Some, None, ◌==◌, ◌||◌, if◌then◌else◌}
+use Rattle.chaos_packet.specs.Item.{ItemView}
+use Rattle.chaos_packet.specs.Opcode.{op_opn, op_sts}
 
 -- A header's fields, and the data bytes.
 pub record PacketView : Type 0 where
@@ -14,6 +16,10 @@ pub record PacketView : Type 0 where
   pub ack : ℕ
   pub body : List ℕ
 
+-- the item that a packet carries
+abbrev pub item_of : PacketView → ItemView
+item_of p = record { op = p.op; body = p.body }
+
 -- the first two words of four data bytes or more, of each word the low half first
 abbrev pub status_words : List ℕ → Option (ℕ × ℕ)
 status_words (a ∷ b ∷ c ∷ d ∷ others) = Some (a + 256 * b, c + 256 * d)
@@ -21,7 +27,7 @@ status_words _ = None
 
 -- the receipt and the window that an OPN or STS tells
 abbrev pub status_of : PacketView → Option (ℕ × ℕ)
-status_of p = if p.op == 2 || p.op == 7 then status_words p.body else None
+status_of p = if p.op == op_opn || p.op == op_sts then status_words p.body else None
 
 -- An RFC's data is a contact name, and where a space (byte 32) follows it, arguments after that.
 abbrev pub contact_of : PacketView → List ℕ

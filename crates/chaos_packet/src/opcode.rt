@@ -1,6 +1,6 @@
 //! What a packet is for.
 ghost use Rattle.std.specs.Prelude.{◌≡◌, ℕ, option_map};
-ghost use Rattle.chaos_packet.specs.Opcode.{kind_of, opcode_name, is_controlled, is_data};
+ghost use Rattle.chaos_packet.specs.Opcode.{kind_of, opcode_name, is_controlled, is_data, is_rfc};
 
 use std::marker::Model;
 
@@ -47,6 +47,15 @@ pub enum Kind {
     Data,
     /// None that this host knows.
     Other,
+}
+
+impl Kind {
+    /// Whether such packets ask for a connection.
+    pub fn is_rfc(self) -> bool
+        ensures { result ≡ is_rfc self }
+    {
+        matches!(self, Kind::Rfc)
+    }
 }
 
 impl Opcode {
