@@ -2,16 +2,18 @@
 #
 #   make                    proves the program and all that it stands on, and builds bin/chaosd
 #   make demo               shows the report of a status datagram
-#   make check              the gate: every proof from nothing, the wrong bodies, the tests and the program
-#   make bench              times `chaosd show` beside a plain Rust program (rustc and python3)
-#   make bench-links        times round trips between two UDP links beside the same in plain Rust
+#   make check              the gate: claims, every proof from nothing, wrong bodies, tests, and the program as a user meets it
+#   make wrong-bodies       the wrong bodies that the gate leaves out, for before a release (about an hour)
+#   make bench              times everything beside the same in plain Rust (rustc and python3)
+#   make bench-show         `chaosd show` alone; likewise bench-codec, bench-links, bench-window, bench-host, bench-file
 #   make install PREFIX=DIR puts the program into DIR/bin
 
 PREFIX ?= /usr/local
 RT ?= rt
 SOURCES := crates.txt HANDLES $(shell find crates -path '*/out' -prune -o -type f -print)
+BENCHES := codec links window host file
 
-.PHONY: all demo check bench bench-links install clean
+.PHONY: all demo check wrong-bodies bench bench-show $(BENCHES:%=bench-%) install clean
 
 all: bin/chaosd
 
@@ -25,13 +27,18 @@ demo: bin/chaosd
 	@bin/chaosd show < examples/status.hex
 
 check:
-	@$(RT) ci
+	@RT=$(RT) tools/gate
 
-bench: bin/chaosd
+wrong-bodies:
+	@RT=$(RT) tools/wrong-bodies
+
+bench: bench-show $(BENCHES:%=bench-%)
+
+bench-show: bin/chaosd
 	@python3 bench/show.py
 
-bench-links:
-	@RT=$(RT) python3 bench/links.py
+$(BENCHES:%=bench-%): bench-%:
+	@RT=$(RT) python3 bench/beside.py $*
 
 install: bin/chaosd
 	install -d $(DESTDIR)$(PREFIX)/bin

@@ -22,6 +22,6 @@ fn main() -> std::io::Result<()> {
         let (count, _) = near.recv_from(&mut buffer)?;
         whole += u32::from(count == 508);
     }
-    println!("{} us, {whole} round trips", start.elapsed().as_micros());
+    println!("round_trip_of_508_bytes {whole} {}", start.elapsed().as_nanos());
     Ok(())
 }

@@ -1,0 +1,105 @@
+#!/usr/bin/env python3
+"""Times the libraries beside the same in plain Rust: `python3 bench/beside.py` for all benches, or with their names.
+
+Each bench is two programs that print the same lines, `what operations nanoseconds`: bench/NAME.rt.in over copies of the crates,
+proved and built by rt (another by RT=..) in a folder of its own, and bench/plain_NAME.rs, built by rustc. Both are run ten times,
+in turn, and each figure is the least. It takes some minutes, most of them for the proofs.
+"""
+
+import os
+import pathlib
+import shutil
+import subprocess
+import sys
+import tempfile
+
+HERE = pathlib.Path(__file__).resolve().parent
+ROOT = HERE.parent
+RT = os.environ.get("RT", "rt")
+RUNS = 10
+
+# the crates that the program of a bench names; those below them come along
+BENCHES = {
+    "codec": ["chaos_link", "chaos_packet"],
+    "links": ["chaos_link"],
+    "window": ["chaos_window", "chaos_packet"],
+    "host": ["chaos_host", "chaos_conn", "chaos_packet"],
+    "file": ["chaos_file"],
+}
+
+
+def lines_of_crates():
+    """The lines of crates.txt, by the crate's name."""
+    lines = (line for line in (ROOT / "crates.txt").read_text().splitlines() if ":" in line and not line.startswith("#"))
+    return {line.split(":")[0]: line for line in lines}
+
+
+def with_those_below(names, lines):
+    """These crates and all that they stand on in this repository."""
+    found = set()
+    waiting = list(names)
+    while waiting:
+        name = waiting.pop()
+        if name in lines and name not in found:
+            found.add(name)
+            waiting += lines[name].split(":")[1].split()
+    return sorted(found)
+
+
+def build_proved(name, folder):
+    """The program over the crates, in a small repository of its own."""
+    top, program = pathlib.Path(folder), f"bench_{name}"
+    lines = lines_of_crates()
+    crates = with_those_below(BENCHES[name], lines)
+    for crate in crates:
+        # what earlier checks kept comes along, so that only the program is proved anew
+        shutil.copytree(ROOT / "crates" / crate, top / "crates" / crate)
+    listed = [lines[crate] for crate in crates] + [f"{program}: {' '.join(BENCHES[name])}", ""]
+    (top / "crates.txt").write_text("\n".join(listed))
+    (top / "HANDLES").write_text((ROOT / "HANDLES").read_text())
+    source = top / "crates" / program / "src"
+    source.mkdir(parents=True)
+    (source / "main.rt").write_text((HERE / f"{name}.rt.in").read_text())
+    ran = subprocess.run([RT, "run"], cwd=source.parent, capture_output=True, text=True)
+    if ran.returncode:
+        sys.exit(f"{name}: the program could not be proved\n{ran.stdout}{ran.stderr}")
+    return str(source.parent / "out" / program)
+
+
+def build_plain(name, folder):
+    """The plain Rust program."""
+    program = f"{folder}/plain_{name}"
+    subprocess.run(["rustc", "--edition=2021", "-O", "-o", program, HERE / f"plain_{name}.rs"], check=True)
+    return program
+
+
+def figures(program):
+    """What the program tells: of each line its name and operations, and the nanoseconds of one operation."""
+    told = subprocess.run([program], capture_output=True, text=True, check=True).stdout
+    rows = [line.split() for line in told.splitlines()]
+    return {(what, int(count)): int(spent) / int(count) for what, count, spent in rows}
+
+
+def bench(name):
+    """Runs both programs in turn, and prints a line for each figure."""
+    with tempfile.TemporaryDirectory() as folder:
+        programs = {"chaos": build_proved(name, folder), "plain": build_plain(name, folder)}
+        best = {}
+        for _ in range(RUNS):
+            for kind, program in programs.items():
+                for key, spent in figures(program).items():
+                    best[kind, key] = min(best.get((kind, key), spent), spent)
+        for kind, (what, count) in list(best):
+            if kind == "chaos":
+                ours, plain = best["chaos", (what, count)], best["plain", (what, count)]
+                print(f"{name}: {what.replace('_', ' ')}: {ours:.1f} ns, plain Rust {plain:.1f} ns, ratio {ours / plain:.2f}", flush=True)
+
+
+def main():
+    names = sys.argv[1:] or list(BENCHES)
+    for name in names:
+        bench(name)
+
+
+if __name__ == "__main__":
+    main()
