@@ -38,22 +38,22 @@ pub data Reply : Type 0 where
 
 module _ {A : Type 0} where
   -- with the answer named
-  abbrev pub replying : (A → Reply) → Acted A → Acted Reply
-  replying named acted = record { view = acted.view; packets = acted.packets; answer = named acted.answer }
+  abbrev pub with_reply : (A → Reply) → Acted A → Acted Reply
+  with_reply named acted = record { view = acted.view; packets = acted.packets; answer = named acted.answer }
 
 -- what each call makes of an end
 abbrev pub act : ConnView → Call → Acted Reply
-act v (Request me peer contact start now) = replying Did (act_request v me peer contact start now)
-act v (TakeRequest rfc me now) = replying Did (act_take_request v rfc me now)
-act v (Accept start now) = replying Did (act_accept v start now)
-act v (Answer bytes) = replying Did (act_answer v bytes)
-act v (Reject text) = replying Did (act_reject v text)
-act v (Deliver packet now) = replying Came (act_deliver v packet now)
-act v (Write op bytes now) = replying Wrote (act_write v op bytes now)
-act v (Unc bytes) = replying Did (act_unc v bytes)
-act v Read = replying Gave (act_read v)
-act v (Close text) = replying Did (act_close v text)
-act v (Tick now) = replying Ticks (act_tick v now)
+act v (Request me peer contact start now) = with_reply Did (act_request v me peer contact start now)
+act v (TakeRequest rfc me now) = with_reply Did (act_take_request v rfc me now)
+act v (Accept start now) = with_reply Did (act_accept v start now)
+act v (Answer bytes) = with_reply Did (act_answer v bytes)
+act v (Reject text) = with_reply Did (act_reject v text)
+act v (Deliver packet now) = with_reply Came (act_deliver v packet now)
+act v (Write op bytes now) = with_reply Wrote (act_write v op bytes now)
+act v (Unc bytes) = with_reply Did (act_unc v bytes)
+act v Read = with_reply Gave (act_read v)
+act v (Close text) = with_reply Did (act_close v text)
+act v (Tick now) = with_reply Ticks (act_tick v now)
 
 -- how many packets a call puts out at most
 abbrev pub most_packets : ConnView → Call → ℕ

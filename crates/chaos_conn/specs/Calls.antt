@@ -1,7 +1,7 @@
 -- The user's calls on a connection: writing, reading and closing.
 use Rattle.std.specs.Prelude.{ℕ, ◌+◌, ◌*◌, Bool, ◌&&◌, ◌==◌, nat_lt, nat_le, if◌then◌else◌, List, [], ◌∷◌, length, Option, Some, None, Result, Ok, Err}
 use Rattle.chaos_packet.specs.Item.{ItemView}
-use Rattle.chaos_packet.specs.Opcode.{kind_of}
+use Rattle.chaos_packet.specs.Opcode.{op_cls, op_unc, kind_of}
 use Rattle.chaos_packet.specs.Packet.{PacketView}
 use Rattle.chaos_packet.specs.declared.limits.TheConstants.{MAX_DATA}
 use Rattle.chaos_packet.specs.declared.opcode.Kind.{Kind}
@@ -15,8 +15,8 @@ use Rattle.chaos_conn.specs.declared.answers.ReadEnd.TheVariants as end
 use Rattle.chaos_conn.specs.State.{is_open, is_opening, is_inactive, tells_close}
 use Rattle.chaos_conn.specs.View.{ConnView, moment}
 use Rattle.chaos_conn.specs.Acted.{Acted, quietly}
-use Rattle.chaos_conn.specs.Sending.{op_cls, op_unc, untelling_packet, with_item, with_sts}
-use Rattle.chaos_conn.specs.Opening.{Outcome, refused, closed_conn}
+use Rattle.chaos_conn.specs.Sending.{untelling_packet, with_item, with_sts}
+use Rattle.chaos_conn.specs.Opening.{Outcome, refusal, closed_conn}
 
 -- ---- a write
 
@@ -52,9 +52,9 @@ act_write v op bytes now =
 abbrev pub act_unc : ConnView → List ℕ → Acted Outcome
 act_unc v bytes =
     if is_open v.state then
-    (if nat_lt MAX_DATA (length bytes) then refused v fault.TooLong
+    (if nat_lt MAX_DATA (length bytes) then refusal v fault.TooLong
     else record { view = v; packets = untelling_packet v op_unc bytes ∷ []; answer = Ok tt })
-    else refused v fault.NotOpen
+    else refusal v fault.NotOpen
 
 -- ---- a close
 
@@ -64,7 +64,7 @@ cls_of v text = if tells_close v.state then untelling_packet v op_cls text ∷ [
 
 abbrev pub act_close : ConnView → List ℕ → Acted Outcome
 act_close v text =
-    if nat_lt MAX_DATA (length text) then refused v fault.TooLong
+    if nat_lt MAX_DATA (length text) then refusal v fault.TooLong
     else record { view = closed_conn v; packets = cls_of v text; answer = Ok tt }
 
 -- ---- a read

@@ -4,12 +4,11 @@ ghost use Rattle.chaos_packet.specs.Opcode.{kind_of};
 ghost use Rattle.chaos_packet.specs.Outbox.{room_of};
 ghost use Rattle.chaos_conn.specs.View.{heard_at};
 ghost use Rattle.chaos_conn.specs.Acted.{Acts, ActsQuietly};
-ghost use Rattle.chaos_conn.specs.Arriving.{with_ack, with_status, heard_with_ack, heard_with_status, is_between_hosts, is_between_indices, is_index, may_be_index, after_rfc, after_opn, opened, after_ans, after_fwd, ended, after_cls, after_los, after_item_came, after_data, after_eof, after_second_opn, after_sns, after_sts, after_unc, deliver_in, deliver_asking, deliver_requested, deliver_open};
+ghost use Rattle.chaos_conn.specs.Arriving.{with_ack, with_status, heard_with_ack, heard_with_status, is_between_hosts, is_between_indices, is_index, may_be_index, after_rfc, after_opn, after_opening, after_ans, after_fwd, after_end, after_cls, after_los, after_item_came, after_data, after_eof, after_second_opn, after_sns, after_sts, after_unc, deliver_in, deliver_asking, deliver_requested, deliver_open};
 ghost use Rattle.chaos_conn.specs.Act.{Deliver, Came, Does};
 
 use crate::answers::{Delivered, Why};
 use crate::conn::Conn;
-use crate::sending::is_rfc;
 use crate::state::State;
 use chaos_packet::{Item, Kind, Outbox, Packet, PktNum};
 use chaos_window::Arrived;
@@ -33,7 +32,7 @@ impl Conn {
         if !self.is_between_hosts(packet) {
             return Delivered::Dropped(Why::Stranger);
         }
-        if is_rfc(packet.op.kind()) {
+        if packet.op.kind().is_rfc() {
             return self.take_rfc_again(packet, now, out);
         }
         if !self.is_between_indices(packet) {
@@ -164,7 +163,7 @@ impl Conn {
 
     /// Opens by an OPN: its number is read as item 0.
     fn open_by(&mut self, opn: &Packet)
-        ensures { self.new ≡ opened self.old opn.now }
+        ensures { self.new ≡ after_opening self.old opn.now }
     {
         self.state = State::Open;
         self.peer_index = Some(opn.src_index);
@@ -211,7 +210,7 @@ impl Conn {
 
     /// Ends in a state. A request that was not accepted is dropped.
     fn end_in(&mut self, state: State)
-        ensures { self.new ≡ ended self.old state }
+        ensures { self.new ≡ after_end self.old state }
     {
         if self.state.is_requested() {
             self.recv.clear();
