@@ -10,11 +10,13 @@ use Rattle.chaos_window.specs.Send.{SendView, outstanding_of, next_of}
 use Rattle.chaos_window.specs.Receive.{item_at, after_advance}
 use Rattle.chaos_conn.specs.declared.fault.ConnFault.{ConnFault}
 use Rattle.chaos_conn.specs.declared.fault.ConnFault.TheVariants as fault
+use Rattle.chaos_conn.specs.declared.answers.ReadDone.{ReadDone}
+use Rattle.chaos_conn.specs.declared.answers.ReadDone.TheVariants as done
 use Rattle.chaos_conn.specs.declared.answers.ReadEnd.{ReadEnd}
 use Rattle.chaos_conn.specs.declared.answers.ReadEnd.TheVariants as end
 use Rattle.chaos_conn.specs.State.{is_open, is_opening, is_inactive, tells_close}
 use Rattle.chaos_conn.specs.View.{ConnView, moment}
-use Rattle.chaos_conn.specs.Acted.{Acted, quietly}
+use Rattle.chaos_conn.specs.Acted.{Acted, quietly, map_answer}
 use Rattle.chaos_conn.specs.Sending.{untelling_packet, with_item, with_sts}
 use Rattle.chaos_conn.specs.Opening.{Outcome, refusal, closed_conn}
 
@@ -69,10 +71,14 @@ act_close v text =
 
 -- ---- a read
 
--- an item was read at an open end: the peer is told once the untold reads come to a third of the window
+module _ {A : Type 0} where
+  -- the peer is told once the untold reads come to a third of the window
+  abbrev pub with_reads_told : ConnView → A → Acted A
+  with_reads_told v answer = if nat_le v.config.recv_cap (3 * v.untold) then with_sts v answer else quietly v answer
+
+-- an item was read at an open end, and counted
 abbrev pub read_open : ConnView → ItemView → Acted ReadEnd
-read_open v item =
-    if nat_le v.config.recv_cap (3 * v.untold) then with_sts v (end.Item item) else quietly v (end.Item item)
+read_open v item = with_reads_told v (end.Item item)
 
 -- at an open end the next item, where it is held, and else nothing yet
 abbrev pub read_at_open : ConnView → Option ItemView → Acted ReadEnd
@@ -93,6 +99,18 @@ act_read v =
     if is_opening v.state then quietly v end.Nothing
     else (if is_open v.state then read_at_open v (front_of v)
     else read_at_end v (front_of v))
+
+-- ---- a read that hands nothing out
+
+-- what it comes to, where a read would give this
+abbrev pub done_of : ReadEnd → ReadDone
+done_of (end.Item item) = done.Done
+done_of end.Nothing = done.Nothing
+done_of (end.Ended state) = done.Ended state
+
+-- what a read does, with another answer
+abbrev pub act_read_done : ConnView → Acted ReadDone
+act_read_done v = map_answer done_of (act_read v)
 
 -- ---- looks
 

@@ -10,7 +10,7 @@ ghost use Rattle.chaos_conn.specs.Act.{Deliver, Came, Does};
 use crate::answers::{Delivered, Why};
 use crate::conn::Conn;
 use crate::state::State;
-use chaos_packet::{Item, Kind, Outbox, Packet, PktNum};
+use chaos_packet::{Kind, MAX_DATA, Opcode, Outbox, Packet, PktNum};
 use chaos_window::Arrived;
 
 impl Conn {
@@ -21,7 +21,8 @@ impl Conn {
     /// isn't the one of its end; an RFC has checks of its own; `Stranger` where an index isn't the one of its end; then
     /// the row of the state and the opcode. A packet that is dropped changes nothing.
     ///
-    /// One copy of the data: into the window, or into the answer.
+    /// The data are copied once, into the window or into the answer, and not at all where the packet is dropped or its item
+    /// isn't taken.
     pub fn deliver(&mut self, packet: &Packet, now: u64, out: &mut Outbox) -> Delivered
         requires { 0 < room_of out.old }
         ensures { Does self.old (Deliver packet.now now) self.new out.old out.new (Came result) }
@@ -224,7 +225,7 @@ impl Conn {
         ensures { Acts self.old (after_data self.old packet.now now) self.new out.old out.new result }
     {
         self.hear_ack(packet, now);
-        self.take_item(packet.num, Item::new(packet.op, packet.bytes()), out)
+        self.take_item(packet.num, packet.op, packet.bytes(), out)
     }
 
     /// EOF, which is held without its data bytes.
@@ -233,15 +234,16 @@ impl Conn {
         ensures { Acts self.old (after_eof self.old packet.now now) self.new out.old out.new result }
     {
         self.hear_ack(packet, now);
-        self.take_item(packet.num, Item::new(packet.op, &[]), out)
+        self.take_item(packet.num, packet.op, &[], out)
     }
 
-    /// Holds an item that came, or tells the status.
-    fn take_item(&mut self, num: PktNum, item: Item, out: &mut Outbox) -> Delivered
-        requires { 0 < room_of out.old }
-        ensures { Acts self.old (after_item_came self.old num item) self.new out.old out.new result }
+    /// Holds a copy of an item that came, or tells the status.
+    fn take_item(&mut self, num: PktNum, op: Opcode, bytes: &[u8], out: &mut Outbox) -> Delivered
+        requires room { 0 < room_of out.old }
+        requires fits { length bytes.now ≤ MAX_DATA }
+        ensures { Acts self.old (after_item_came self.old num (record { op = op; body = bytes.now })) self.new out.old out.new result }
     {
-        match self.recv.arrive(num, item) {
+        match self.recv.arrive_lent(num, op, bytes) {
             Arrived::Took => Delivered::Took,
             Arrived::Duplicate => {
                 self.put_sts(out);

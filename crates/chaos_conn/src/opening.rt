@@ -11,7 +11,7 @@ ghost use Rattle.chaos_conn.specs.Act.{Request, TakeRequest, Accept, Answer, Rej
 use crate::conn::Conn;
 use crate::fault::ConnFault;
 use crate::state::{End, State};
-use chaos_packet::{Item, MAX_DATA, Opcode, Outbox, Packet, PktNum};
+use chaos_packet::{MAX_DATA, Opcode, Outbox, Packet, PktNum};
 
 impl Conn {
     /// Asks a peer for a contact, as the own end `me`: it sends an RFC, and numbers what it writes from `start` on. The
@@ -120,7 +120,7 @@ impl Conn {
         self.request = rfc.num;
         self.recv.clear();
         self.recv.start(PktNum(rfc.num.0.wrapping_sub(1)));
-        let _ = self.recv.arrive(rfc.num, Item::new(rfc.op, rfc.bytes()));
+        let _ = self.recv.arrive_lent(rfc.num, rfc.op, rfc.bytes());
     }
 
     /// Accepts the request that it holds: it sends an OPN, and numbers what it writes from `start` on.

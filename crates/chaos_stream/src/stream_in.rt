@@ -68,7 +68,7 @@ impl StreamIn {
     {
         if self.peek(conn).is_used_up_by(count) {
             self.place = 0;
-            let _ = conn.read(out);
+            conn.read_done(out);
         } else {
             self.place += count;
         }
