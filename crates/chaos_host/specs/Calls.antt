@@ -1,8 +1,8 @@
 -- A user's calls on one connection, which its own index names.
 use Rattle.std.specs.Prelude.{ℕ, if◌then◌else◌, Option, Some, None, Result, Ok, Err, []}
 use Rattle.chaos_conn.specs.State.{is_ended}
-use Rattle.chaos_conn.specs.Act.{Call, Close, Reply, Did, Wrote, Gave, act}
-use Rattle.chaos_conn.specs.declared.answers.ReadEnd.{ReadEnd}
+use Rattle.chaos_conn.specs.Act.{Call, Close, Reply, act}
+use Rattle.chaos_conn.specs.declared.fault.ConnFault.{ConnFault}
 use Rattle.chaos_host.specs.declared.fault.CallFault.{CallFault}
 use Rattle.chaos_host.specs.declared.fault.CallFault.TheVariants.{NoSuchConnection, Refused, StillActive}
 use Rattle.chaos_host.specs.declared.slot.Slot.{Slot}
@@ -48,17 +48,14 @@ released v id = released_in v id (named_slot v.slots id)
 
 -- ---- what callers are told
 
--- the refusal of a connection is told as one; every other fault is the host's own
-abbrev pub told : Result (Unit {0}) CallFault → HostReply
-told (Ok done) = Ok (Did (Ok done))
-told (Err (Refused why)) = Ok (Did (Err why))
-told (Err fault) = Err fault
+module _ {A : Type 0} where
+  -- of a call that the connection may refuse: its refusal is a reply of the connection, and every other fault is the host's own
+  abbrev pub reply_of : (Result A ConnFault → Reply) → Result A CallFault → HostReply
+  reply_of reply (Ok done) = Ok (reply (Ok done))
+  reply_of reply (Err (Refused why)) = Ok (reply (Err why))
+  reply_of reply (Err fault) = Err fault
 
-abbrev pub told_number : Result ℕ CallFault → HostReply
-told_number (Ok number) = Ok (Wrote (Ok number))
-told_number (Err (Refused why)) = Ok (Wrote (Err why))
-told_number (Err fault) = Err fault
-
-abbrev pub told_read : Result ReadEnd CallFault → HostReply
-told_read (Ok end) = Ok (Gave end)
-told_read (Err fault) = Err fault
+  -- of a call that the connection never refuses: each fault is the host's own
+  abbrev pub plain_reply_of : (A → Reply) → Result A CallFault → HostReply
+  plain_reply_of reply (Ok answer) = Ok (reply answer)
+  plain_reply_of reply (Err fault) = Err fault

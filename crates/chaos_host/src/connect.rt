@@ -8,9 +8,8 @@ ghost use Rattle.chaos_host.specs.Connect.{connected, connected_in};
 
 use crate::fault::ConnectFault;
 use crate::host::Host;
-use crate::in_slot::{index_at, request_at};
 use crate::index::ConnId;
-use crate::slots::free_place;
+use crate::slots::{free_place, index_at};
 use chaos_packet::{MAX_DATA, Outbox, PktNum};
 
 impl Host {
@@ -67,7 +66,9 @@ impl Host {
     {
         let id = index_at(&self.slots, place);
         let me = id.end_at(self.address);
-        let _ = request_at(&mut self.slots, place, me, peer, contact, start, now, out);
+        let _ = self.slots[place]
+            .conn
+            .request(me, peer, contact, start, now, out);
         id
     }
 }

@@ -10,9 +10,9 @@ ghost use Rattle.chaos_host.specs.Deliver.{delivered, delivered_by, delivered_in
 
 use crate::answers::HostDelivered;
 use crate::host::Host;
-use crate::in_slot::{deliver_at, index_at, take_request_at};
 use crate::replies::loss;
 use crate::route::Route;
+use crate::slots::index_at;
 use chaos_conn::Why;
 use chaos_packet::{Outbox, Packet};
 
@@ -84,7 +84,7 @@ impl Host {
         ensures not_new { (id : ℕ) → result ≢ HostDelivered.Requested id }
     {
         let id = index_at(&self.slots, place);
-        HostDelivered::At(id, deliver_at(&mut self.slots, place, packet, now, out))
+        HostDelivered::At(id, self.slots[place].conn.deliver(packet, now, out))
     }
 
     /// The connection in a free slot takes a request.
@@ -101,7 +101,7 @@ impl Host {
     {
         let id = index_at(&self.slots, place);
         let me = id.end_at(self.address);
-        let _ = take_request_at(&mut self.slots, place, packet, me, now);
+        let _ = self.slots[place].conn.take_request(packet, me, now);
         HostDelivered::Requested(id)
     }
 }

@@ -8,9 +8,8 @@ ghost use Rattle.chaos_host.specs.Calls.{released};
 
 use crate::fault::CallFault;
 use crate::host::Host;
-use crate::in_slot::{close_at, is_ended_at};
 use crate::index::ConnId;
-use crate::slots::named_place;
+use crate::slots::{is_ended_at, named_place};
 use chaos_packet::Outbox;
 
 impl Host {
@@ -29,7 +28,9 @@ impl Host {
         if !is_ended_at(&self.slots, place) {
             return Err(CallFault::StillActive);
         }
-        let _ = close_at(&mut self.slots, place, b"", out);
+        let slot = &mut self.slots[place];
+        let _ = slot.conn.close(b"", out);
+        slot.end_call();
         Ok(())
     }
 }

@@ -6,7 +6,6 @@ ghost use Rattle.chaos_host.specs.Slot.{is_used_at};
 ghost use Rattle.chaos_host.specs.Tick.{ticked};
 
 use crate::host::Host;
-use crate::in_slot::tick_at;
 use crate::slots::is_used_at;
 use chaos_conn::Ticked;
 use chaos_packet::Outbox;
@@ -23,6 +22,6 @@ impl Host {
         if !is_used_at(&self.slots, slot) {
             return Ticked::Quiet;
         }
-        tick_at(&mut self.slots, slot, now, out)
+        self.slots[slot].conn.tick(now, out)
     }
 }
