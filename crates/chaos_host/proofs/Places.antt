@@ -142,19 +142,30 @@ in_place id (Some s) slot e = when (is_used s && (index_of (place_of id) s == id
     when true s slot e = e
     when false s slot e = absurd (cc)
 
--- a call was done by the connection that an index names
-pub named_called : (v : HostView) (id : ℕ) (slot : Slot) (call : Call) (conn : ConnView) (before after : OutboxView) (reply : Reply)
-    → IsHost v → named_slot v.slots id ≡ Some slot → Does slot.conn call conn before after reply
-    → IsHost (host_with v (place_of id) (with_conn slot conn))
-named_called v id slot call conn before after reply host which does =
-    let there = in_place id (slice_get v.slots (place_of id)) slot which in
-    host_called v (place_of id) slot call conn before after reply host (within_at v.slots (place_of id) slot there) (read_at v.slots (place_of id) slot there) does
+-- a host of these parts
+abbrev pub host_of : ℕ → ConfigView → List (List ℕ) → List Slot → HostView
+host_of address config listeners slots = record { address = address; config = config; listeners = listeners; slots = slots }
 
-pub called_done : (v : HostView) (id : ℕ) (slot : Slot) (call : Call) (conn : ConnView) (before after : OutboxView) (reply : Reply) (told : HostReply)
-    → named_slot v.slots id ≡ Some slot → Does slot.conn call conn before after reply → most_packets slot.conn call ≤ 1 → told ≡ Ok reply
-    → HostDoes v 1 (called v id call) (host_with v (place_of id) (with_conn slot conn)) before after told
-called_done v id slot call conn before after reply told which does one e =
-    rw which (on_slot_done v (place_of id) slot 1 call conn before after reply (Ok (act slot.conn call).answer) told does one (e ∙ ap Ok does.answer))
+-- a slot of these parts
+abbrev pub slot_of : ℕ → ConnView → Slot
+slot_of generation conn = record { generation = generation; conn = conn }
+
+-- The connection that an index names did a call: the host is one. These lemmas take a host and a slot by their parts, so that
+-- `search` finds them.
+pub named_called : (address : ℕ) (config : ConfigView) (listeners : List (List ℕ)) (slots : List Slot) (id generation : ℕ) (was conn : ConnView) (call : Call) (before after : OutboxView) (reply : Reply)
+    → IsHost (host_of address config listeners slots) → named_slot slots id ≡ Some (slot_of generation was) → Does was call conn before after reply
+    → IsHost (host_of address config listeners (slice_set slots (place_of id) (slot_of generation conn)))
+named_called address config listeners slots id generation was conn call before after reply host which does =
+    let slot = slot_of generation was in
+    let there = in_place id (slice_get slots (place_of id)) slot which in
+    host_called (host_of address config listeners slots) (place_of id) slot call conn before after reply host (within_at slots (place_of id) slot there) (read_at slots (place_of id) slot there) does
+
+-- and it did that call
+pub called_done : (v : HostView) (address : ℕ) (config : ConfigView) (listeners : List (List ℕ)) (slots : List Slot) (id generation : ℕ) (was conn : ConnView) (call : Call) (before after : OutboxView) (reply : Reply) (told : HostReply)
+    → v ≡ host_of address config listeners slots → named_slot slots id ≡ Some (slot_of generation was) → Does was call conn before after reply → told ≡ Ok reply → most_packets was call ≤ 1
+    → HostDoes v 1 (called v id call) (host_of address config listeners (slice_set slots (place_of id) (slot_of generation conn))) before after told
+called_done v address config listeners slots id generation was conn call before after reply told host which does same one =
+    rw host (rw which (on_slot_done (host_of address config listeners slots) (place_of id) (slot_of generation was) 1 call conn before after reply (Ok (act was call).answer) told does one (same ∙ ap Ok does.answer)))
 
 -- a call that changes nothing
 pub untouched_done : {A : Type 0} (v : HostView) (most : ℕ) (out : OutboxView) (told answer : A) → answer ≡ told
@@ -181,19 +192,21 @@ ending_slot_done v place slot new call conn before after reply told answer does 
   size = length-set v.slots place _;
 }
 
--- a call that may end it was done by the connection that an index names
-pub named_ended : (v : HostView) (id : ℕ) (slot new : Slot) (call : Call) (conn : ConnView) (before after : OutboxView) (reply : Reply)
-    → IsHost v → named_slot v.slots id ≡ Some slot → Does slot.conn call conn before after reply → new ≡ after_ending (with_conn slot conn)
-    → IsHost (host_with v (place_of id) new)
-named_ended v id slot new call conn before after reply host which does ended =
-    let there = in_place id (slice_get v.slots (place_of id)) slot which in
-    host_ended v (place_of id) slot new call conn before after reply host (within_at v.slots (place_of id) slot there) (read_at v.slots (place_of id) slot there) does ended
+-- The connection that an index names did a call that may end it: the host is one.
+pub named_ended : (address : ℕ) (config : ConfigView) (listeners : List (List ℕ)) (slots : List Slot) (id generation : ℕ) (was conn : ConnView) (new : Slot) (call : Call) (before after : OutboxView) (reply : Reply)
+    → IsHost (host_of address config listeners slots) → named_slot slots id ≡ Some (slot_of generation was) → Does was call conn before after reply → new ≡ after_ending (slot_of generation conn)
+    → IsHost (host_of address config listeners (slice_set slots (place_of id) new))
+named_ended address config listeners slots id generation was conn new call before after reply host which does ended =
+    let slot = slot_of generation was in
+    let there = in_place id (slice_get slots (place_of id)) slot which in
+    host_ended (host_of address config listeners slots) (place_of id) slot new call conn before after reply host (within_at slots (place_of id) slot there) (read_at slots (place_of id) slot there) does ended
 
-pub ending_done : (v : HostView) (id : ℕ) (slot new : Slot) (call : Call) (conn : ConnView) (before after : OutboxView) (reply : Reply) (told : HostReply)
-    → named_slot v.slots id ≡ Some slot → Does slot.conn call conn before after reply → most_packets slot.conn call ≤ 1 → new ≡ after_ending (with_conn slot conn) → told ≡ Ok reply
-    → HostDoes v 1 (ending v id call) (host_with v (place_of id) new) before after told
-ending_done v id slot new call conn before after reply told which does one ended e =
-    rw which (ending_slot_done v (place_of id) slot new call conn before after reply (Ok (act slot.conn call).answer) told does one ended (e ∙ ap Ok does.answer))
+-- and it did that call
+pub ending_done : (v : HostView) (address : ℕ) (config : ConfigView) (listeners : List (List ℕ)) (slots : List Slot) (id generation : ℕ) (was conn : ConnView) (new : Slot) (call : Call) (before after : OutboxView) (reply : Reply) (told : HostReply)
+    → v ≡ host_of address config listeners slots → named_slot slots id ≡ Some (slot_of generation was) → Does was call conn before after reply → new ≡ after_ending (slot_of generation conn) → told ≡ Ok reply → most_packets was call ≤ 1
+    → HostDoes v 1 (ending v id call) (host_of address config listeners (slice_set slots (place_of id) new)) before after told
+ending_done v address config listeners slots id generation was conn new call before after reply told host which does ended same one =
+    rw host (rw which (ending_slot_done (host_of address config listeners slots) (place_of id) (slot_of generation was) new call conn before after reply (Ok (act was call).answer) told does one ended (same ∙ ap Ok does.answer)))
 
 -- a connection's refusal is told as one
 pub refusal_reply : {A : Type 0} (reply : Result A ConnFault → Reply) (done : Result A ConnFault) (result : Result A CallFault)
