@@ -14,8 +14,8 @@ use crate::state::State;
 use chaos_packet::{Item, Outbox, Packet, PktNum};
 use chaos_window::SendWindow;
 
-/// What may be due.
-enum Due {
+/// What may be due at a moment. The definition of a tick goes by it, so it is public to the definitions of crates above.
+pub enum Due {
     /// The peer counts as down.
     HostDown,
     /// All kept items are sent again.
@@ -64,7 +64,7 @@ impl Conn {
     fn is_down(&self) -> bool
         ensures { result ≡ is_down self.now }
     {
-        self.state.awaits_peer() && self.last.saturating_sub(self.heard) >= self.config.down()
+        self.state.awaits_peer() && self.last - self.heard >= self.config.down()
     }
 
     /// Whether items are kept, and were not sent again for so long that they are now.
@@ -73,15 +73,14 @@ impl Conn {
     {
         self.state.awaits_peer()
             && self.send.unreceipted() > 0
-            && self.last.saturating_sub(self.resent) >= self.config.retransmit()
+            && self.last - self.resent >= self.config.retransmit()
     }
 
     /// Whether the peer was neither heard nor probed for so long that it is probed now.
     fn is_probe_due(&self) -> bool
         ensures { result ≡ is_probe_due self.now }
     {
-        self.state.is_open()
-            && self.last.saturating_sub(self.heard.max(self.probed)) >= self.config.probe()
+        self.state.is_open() && self.last - self.heard.max(self.probed) >= self.config.probe()
     }
 
     /// Sends all kept items again.

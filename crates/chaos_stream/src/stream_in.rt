@@ -2,12 +2,11 @@
 ghost use Rattle.std.specs.Prelude.{◌≡◌, ◌+◌, ◌<◌, ◌≤◌, drop};
 ghost use Rattle.chaos_packet.specs.Opcode.{kind_of};
 ghost use Rattle.chaos_packet.specs.Outbox.{room_of};
-ghost use Rattle.chaos_conn.specs.State.{is_opening};
 ghost use Rattle.chaos_stream.specs.Reading.{peek_of, lent_by, item_sight, Consumes};
 ghost use Rattle.chaos_stream.specs.Shown.{sight_of};
 
 use crate::peek::Peek;
-use chaos_conn::{Conn, State};
+use chaos_conn::Conn;
 use chaos_packet::{Item, Kind, MAX_DATA, Outbox};
 use std::marker::Model;
 
@@ -48,7 +47,7 @@ impl StreamIn {
     {
         let place = self.place;
         let state = conn.state();
-        if is_opening(state) {
+        if state.is_opening() {
             return Peek::Nothing;
         }
         match conn.front() {
@@ -69,18 +68,11 @@ impl StreamIn {
     {
         if self.peek(conn).is_used_up_by(count) {
             self.place = 0;
-            let _ = conn.read(out);
+            conn.read_done(out);
         } else {
             self.place += count;
         }
     }
-}
-
-/// Whether an end in this state waits to be opened, so that nothing can be read.
-fn is_opening(state: State) -> bool
-    ensures { result ≡ is_opening state }
-{
-    matches!(state, State::RfcSent | State::RfcReceived)
 }
 
 /// What an item shows from a place on.
