@@ -22,11 +22,11 @@ use Rattle.chaos_host.specs.declared.slot.Slot.{Slot}
 use Rattle.chaos_host.specs.declared.answers.HostDelivered.TheVariants as answer
 use Rattle.chaos_host.specs.Slot.{index_of, place_of, with_index, named_slot, is_used, is_used_in, is_used_at, IsTable, HasConfig, after_ending}
 use Rattle.chaos_host.specs.View.{HostView, IsHost}
-use Rattle.chaos_host.specs.Acted.{HostDoes, untouched, on_slot, ending_slot}
-use Rattle.chaos_host.specs.Deliver.{delivered_in, requested_in}
-use Rattle.chaos_host.specs.Connect.{connected_in}
-use Rattle.chaos_host.specs.Calls.{HostReply, called, ending, released, reply_of}
-use Rattle.chaos_host.specs.Tick.{ticked, ticked_in}
+use Rattle.chaos_host.specs.Acted.{HostDoes, no_effect, on_slot, on_slot_then_free}
+use Rattle.chaos_host.specs.Deliver.{deliver_slot, take_request_slot}
+use Rattle.chaos_host.specs.Connect.{connect_slot}
+use Rattle.chaos_host.specs.Calls.{HostReply, host_call, host_end, host_release, reply_of}
+use Rattle.chaos_host.specs.Tick.{host_tick, tick_slot}
 use Rattle.chaos_host.proofs.Table.{table_called, table_ended}
 
 -- a place within has a slot
@@ -95,7 +95,7 @@ pub delivered_done : (v : HostView) (p : PacketView) (now place : ℕ) (slot : S
     → place < length v.slots → slot ≡ slice_index_or v.slots place slot
     → ((s : Slot) → slice_get v.slots place ≡ Some s → id ≡ index_of place s)
     → Does slot.conn (Deliver p now) conn before after (Came result)
-    → HostDoes v 1 (delivered_in v p now place (slice_get v.slots place)) (host_with v place (with_conn slot conn)) before after (answer.At id result)
+    → HostDoes v 1 (deliver_slot v p now place (slice_get v.slots place)) (host_with v place (with_conn slot conn)) before after (answer.At id result)
 delivered_done v p now place slot conn before after id result within read named does =
     let there = stands v.slots place slot within read in
     let index = named slot there in
@@ -107,7 +107,7 @@ pub requested_done : (v : HostView) (p : PacketView) (now place : ℕ) (slot : S
     → place < length v.slots → slot ≡ slice_index_or v.slots place slot
     → ((s : Slot) → slice_get v.slots place ≡ Some s → id ≡ index_of place s)
     → DoesQuietly slot.conn (TakeRequest p (record { address = v.address; index = id }) now) conn reply
-    → HostDoes v 1 (requested_in v p now place (slice_get v.slots place)) (host_with v place (with_conn slot conn)) out out (answer.Requested id)
+    → HostDoes v 1 (take_request_slot v p now place (slice_get v.slots place)) (host_with v place (with_conn slot conn)) out out (answer.Requested id)
 requested_done v p now place slot conn out id reply within read named acted =
     let there = stands v.slots place slot within read in
     let index = named slot there in
@@ -126,7 +126,7 @@ pub connected_done : (v : HostView) (place peer : ℕ) (contact : List ℕ) (sta
     → place < length v.slots → slot ≡ slice_index_or v.slots place slot
     → ((s : Slot) → slice_get v.slots place ≡ Some s → id ≡ index_of place s)
     → Does slot.conn (Request (record { address = v.address; index = id }) peer contact start now) conn before after reply
-    → HostDoes v 1 (connected_in v place peer contact start now (slice_get v.slots place)) (host_with v place (with_conn slot conn)) before after (Ok id)
+    → HostDoes v 1 (connect_slot v place peer contact start now (slice_get v.slots place)) (host_with v place (with_conn slot conn)) before after (Ok id)
 connected_done v place peer contact start now slot conn before after id reply within read named acted =
     let there = stands v.slots place slot within read in
     let index = named slot there in
@@ -163,13 +163,13 @@ named_called address config listeners slots id generation was conn call before a
 -- and it did that call
 pub called_done : (v : HostView) (address : ℕ) (config : ConfigView) (listeners : List (List ℕ)) (slots : List Slot) (id generation : ℕ) (was conn : ConnView) (call : Call) (before after : OutboxView) (reply : Reply) (told : HostReply)
     → v ≡ host_of address config listeners slots → named_slot slots id ≡ Some (slot_of generation was) → Does was call conn before after reply → told ≡ Ok reply → most_packets was call ≤ 1
-    → HostDoes v 1 (called v id call) (host_of address config listeners (slice_set slots (place_of id) (slot_of generation conn))) before after told
+    → HostDoes v 1 (host_call v id call) (host_of address config listeners (slice_set slots (place_of id) (slot_of generation conn))) before after told
 called_done v address config listeners slots id generation was conn call before after reply told host which does same one =
     rw host (rw which (on_slot_done (host_of address config listeners slots) (place_of id) (slot_of generation was) 1 call conn before after reply (Ok (act was call).answer) told does one (same ∙ ap Ok does.answer)))
 
 -- a call that changes nothing
 pub untouched_done : {A : Type 0} (v : HostView) (most : ℕ) (out : OutboxView) (told answer : A) → answer ≡ told
-    → HostDoes v most (untouched v told) v out out answer
+    → HostDoes v most (no_effect v told) v out out answer
 untouched_done v most out told answer e = record {
   view = refl;
   packets = rw append-nil refl;
@@ -182,7 +182,7 @@ untouched_done v most out told answer e = record {
 -- a call that may end it was done by the connection in a slot
 pub ending_slot_done : {A : Type 0} (v : HostView) (place : ℕ) (slot new : Slot) (call : Call) (conn : ConnView) (before after : OutboxView) (reply : Reply) (told answer : A)
     → Does slot.conn call conn before after reply → most_packets slot.conn call ≤ 1 → new ≡ after_ending (with_conn slot conn) → answer ≡ told
-    → HostDoes v 1 (ending_slot v place slot call told) (host_with v place new) before after answer
+    → HostDoes v 1 (on_slot_then_free v place slot call told) (host_with v place new) before after answer
 ending_slot_done v place slot new call conn before after reply told answer does one ended e = record {
   view = ap (host_with v place) ended ∙ ap (λ (c : ConnView). host_with v place (after_ending (with_conn slot c))) does.view;
   packets = does.packets;
@@ -204,7 +204,7 @@ named_ended address config listeners slots id generation was conn new call befor
 -- and it did that call
 pub ending_done : (v : HostView) (address : ℕ) (config : ConfigView) (listeners : List (List ℕ)) (slots : List Slot) (id generation : ℕ) (was conn : ConnView) (new : Slot) (call : Call) (before after : OutboxView) (reply : Reply) (told : HostReply)
     → v ≡ host_of address config listeners slots → named_slot slots id ≡ Some (slot_of generation was) → Does was call conn before after reply → new ≡ after_ending (slot_of generation conn) → told ≡ Ok reply → most_packets was call ≤ 1
-    → HostDoes v 1 (ending v id call) (host_of address config listeners (slice_set slots (place_of id) new)) before after told
+    → HostDoes v 1 (host_end v id call) (host_of address config listeners (slice_set slots (place_of id) new)) before after told
 ending_done v address config listeners slots id generation was conn new call before after reply told host which does ended same one =
     rw host (rw which (ending_slot_done (host_of address config listeners slots) (place_of id) (slot_of generation was) new call conn before after reply (Ok (act was call).answer) told does one ended (same ∙ ap Ok does.answer)))
 
@@ -217,11 +217,11 @@ refusal_reply reply (Err why) (Err fault) e = rw e refl
 
 -- no connection has the index
 pub nobody_called : (v : HostView) (id : ℕ) (call : Call) (out : OutboxView) → named_slot v.slots id ≡ None
-    → HostDoes v 1 (called v id call) v out out (Err NoSuchConnection)
+    → HostDoes v 1 (host_call v id call) v out out (Err NoSuchConnection)
 nobody_called v id call out none = rw none (untouched_done v 1 out (Err NoSuchConnection) (Err NoSuchConnection) refl)
 
 pub nobody_ending : (v : HostView) (id : ℕ) (call : Call) (out : OutboxView) → named_slot v.slots id ≡ None
-    → HostDoes v 1 (ending v id call) v out out (Err NoSuchConnection)
+    → HostDoes v 1 (host_end v id call) v out out (Err NoSuchConnection)
 nobody_ending v id call out none = rw none (untouched_done v 1 out (Err NoSuchConnection) (Err NoSuchConnection) refl)
 
 -- ---- release
@@ -249,7 +249,7 @@ pub released_done : (v : HostView) (id place : ℕ) (slot new : Slot) (conn : Co
     → (place ≡ place_of id) × (place < length v.slots) × (named_slot v.slots id ≡ slice_get v.slots place) → slot ≡ slice_index_or v.slots place slot
     → ((s : Slot) → slice_get v.slots place ≡ Some s → is_ended s.conn.state ≡ true)
     → Does slot.conn (Close []) conn before after reply → new ≡ after_ending (with_conn slot conn)
-    → HostDoes v 1 (released v id) (host_with v place new) before after (Ok tt) × (after ≡ before)
+    → HostDoes v 1 (host_release v id) (host_with v place new) before after (Ok tt) × (after ≡ before)
 released_done v id place slot new conn before after reply found read ended does freed =
     let over = ended slot (stands v.slots place slot found.1 read) in
     let which = found_at v.slots id place slot found read in
@@ -261,7 +261,7 @@ released_done v id place slot new conn before after reply found read ended does 
 pub unreleased_done : (v : HostView) (id place : ℕ) (out : OutboxView)
     → place < length v.slots → named_slot v.slots id ≡ slice_get v.slots place
     → ((slot : Slot) → slice_get v.slots place ≡ Some slot → is_ended slot.conn.state ≡ false)
-    → HostDoes v 1 (released v id) v out out (Err StillActive)
+    → HostDoes v 1 (host_release v id) v out out (Err StillActive)
 unreleased_done v id place out within named active =
     let slot = some_at v.slots place within in
     let live = active slot.0 slot.1 in
@@ -269,7 +269,7 @@ unreleased_done v id place out within named active =
     rw which (rw live (untouched_done v 1 out (Err StillActive) (Err StillActive) refl))
 
 pub nobody_released : (v : HostView) (id : ℕ) (out : OutboxView) → named_slot v.slots id ≡ None
-    → HostDoes v 1 (released v id) v out out (Err NoSuchConnection)
+    → HostDoes v 1 (host_release v id) v out out (Err NoSuchConnection)
 nobody_released v id out none = rw none (untouched_done v 1 out (Err NoSuchConnection) (Err NoSuchConnection) refl)
 
 -- ---- ticks
@@ -278,7 +278,7 @@ nobody_released v id out none = rw none (untouched_done v 1 out (Err NoSuchConne
 pub ticked_done : (v : HostView) (place now : ℕ) (slot : Slot) (conn : ConnView) (before after : OutboxView) (result : Ticked)
     → IsTable v.config v.slots → place < length v.slots → slot ≡ slice_index_or v.slots place slot → is_used_at v.slots place ≡ true
     → Does slot.conn (Tick now) conn before after (Ticks result)
-    → HostDoes v v.config.send_cap (ticked v place now) (host_with v place (with_conn slot conn)) before after result
+    → HostDoes v v.config.send_cap (host_tick v place now) (host_with v place (with_conn slot conn)) before after result
 ticked_done v place now slot conn before after result table within read used does =
     let there = stands v.slots place slot within read in
     let in_use : is_used slot ≡ true = rw there at used in
@@ -287,9 +287,9 @@ ticked_done v place now slot conn before after result table within read used doe
     rw there (rw in_use (on_slot_done v place slot v.config.send_cap (Tick now) conn before after (Ticks result) (act_tick slot.conn now).answer result does (rw one (omega arith)) (cc)))
 
 -- a free slot, or none, is quiet
-quiet_in : (v : HostView) (place now : ℕ) (out : OutboxView) (o : Option Slot) → is_used_in o ≡ false → HostDoes v v.config.send_cap (ticked_in v place now o) v out out ti.Quiet
+quiet_in : (v : HostView) (place now : ℕ) (out : OutboxView) (o : Option Slot) → is_used_in o ≡ false → HostDoes v v.config.send_cap (tick_slot v place now o) v out out ti.Quiet
 quiet_in v place now out None h = untouched_done v v.config.send_cap out ti.Quiet ti.Quiet refl
 quiet_in v place now out (Some slot) h = rw h (untouched_done v v.config.send_cap out ti.Quiet ti.Quiet refl)
 
-pub quiet_done : (v : HostView) (place now : ℕ) (out : OutboxView) → is_used_at v.slots place ≡ false → HostDoes v v.config.send_cap (ticked v place now) v out out ti.Quiet
+pub quiet_done : (v : HostView) (place now : ℕ) (out : OutboxView) → is_used_at v.slots place ≡ false → HostDoes v v.config.send_cap (host_tick v place now) v out out ti.Quiet
 quiet_done v place now out h = quiet_in v place now out (slice_get v.slots place) h

@@ -5,10 +5,9 @@ use Rattle.std.proofs.lemmas.Option.{slice_get_read}
 use Rattle.std.proofs.lemmas.Bool.{eq-eqb}
 use Rattle.std.proofs.lemmas.Bool.Decides.{nat_tests}
 use Rattle.chaos_packet.specs.Packet.{PacketView}
-use Rattle.chaos_packet.specs.Opcode.{kind_of}
+use Rattle.chaos_packet.specs.Opcode.{kind_of, is_rfc}
 use Rattle.chaos_packet.specs.Outbox.{OutboxView}
 use Rattle.chaos_packet.specs.declared.limits.TheConstants.{MAX_DATA}
-use Rattle.chaos_conn.specs.Sending.{is_rfc}
 use Rattle.chaos_conn.specs.State.{is_inactive}
 use Rattle.chaos_conn.specs.View.{ConnView}
 use Rattle.chaos_conn.specs.Act.{Reply, TakeRequest, Request, Does, DoesQuietly, act}

@@ -18,26 +18,26 @@ abbrev pub with_slot : HostView → ℕ → Slot → HostView
 with_slot v place slot = record v { slots = slice_set v.slots place slot }
 
 -- a slot after a call on its connection
-abbrev pub called_slot : Slot → Call → Slot
-called_slot slot call = record slot { conn = (act slot.conn call).view }
+abbrev pub slot_after_call : Slot → Call → Slot
+slot_after_call slot call = record slot { conn = (act slot.conn call).view }
 
 module _ {A : Type 0} where
   -- a call that changes nothing and puts nothing out
-  abbrev pub untouched : HostView → A → HostActed A
-  untouched v answer = record { view = v; packets = []; answer = answer }
+  abbrev pub no_effect : HostView → A → HostActed A
+  no_effect v answer = record { view = v; packets = []; answer = answer }
 
   -- a call on the connection in one slot
   abbrev pub on_slot : HostView → ℕ → Slot → Call → A → HostActed A
   on_slot v place slot call answer = record {
-    view = with_slot v place (called_slot slot call);
+    view = with_slot v place (slot_after_call slot call);
     packets = (act slot.conn call).packets;
     answer = answer;
   }
 
   -- a call that may end the connection in one slot: the slot is then free, and its generation moves on
-  abbrev pub ending_slot : HostView → ℕ → Slot → Call → A → HostActed A
-  ending_slot v place slot call answer = record {
-    view = with_slot v place (after_ending (called_slot slot call));
+  abbrev pub on_slot_then_free : HostView → ℕ → Slot → Call → A → HostActed A
+  on_slot_then_free v place slot call answer = record {
+    view = with_slot v place (after_ending (slot_after_call slot call));
     packets = (act slot.conn call).packets;
     answer = answer;
   }

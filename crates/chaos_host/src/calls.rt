@@ -3,7 +3,7 @@ ghost use Rattle.std.specs.Prelude.{◌<◌};
 ghost use Rattle.chaos_packet.specs.Outbox.{room_of};
 ghost use Rattle.chaos_conn.specs.Act.{Accept, Answer, Reject, Write, Unc, Read, Close, Did, Wrote, Gave};
 ghost use Rattle.chaos_host.specs.Acted.{HostDoes};
-ghost use Rattle.chaos_host.specs.Calls.{called, ending, reply_of, plain_reply_of};
+ghost use Rattle.chaos_host.specs.Calls.{host_call, host_end, reply_of, plain_reply_of};
 
 use crate::fault::CallFault;
 use crate::host::Host;
@@ -25,7 +25,7 @@ impl Host {
         out: &mut Outbox,
     ) -> Result<(), CallFault>
         requires { 0 < room_of out.old }
-        ensures { HostDoes self.old 1 (called self.old id (Accept start now)) self.new out.old out.new (reply_of Did result) }
+        ensures { HostDoes self.old 1 (host_call self.old id (Accept start now)) self.new out.old out.new (reply_of Did result) }
     {
         let slot = named_mut(&mut self.slots, id)?;
         let done = slot.conn.accept(start, now, out);
@@ -42,7 +42,7 @@ impl Host {
         out: &mut Outbox,
     ) -> Result<PktNum, CallFault>
         requires { 0 < room_of out.old }
-        ensures { HostDoes self.old 1 (called self.old id (Write op bytes.now now)) self.new out.old out.new (reply_of Wrote result) }
+        ensures { HostDoes self.old 1 (host_call self.old id (Write op bytes.now now)) self.new out.old out.new (reply_of Wrote result) }
     {
         let slot = named_mut(&mut self.slots, id)?;
         let done = slot.conn.write(op, bytes, now, out);
@@ -52,7 +52,7 @@ impl Host {
     /// Sends uncontrolled data, which may be lost and is kept nowhere.
     pub fn unc(&mut self, id: ConnId, bytes: &[u8], out: &mut Outbox) -> Result<(), CallFault>
         requires { 0 < room_of out.old }
-        ensures { HostDoes self.old 1 (called self.old id (Unc bytes.now)) self.new out.old out.new (reply_of Did result) }
+        ensures { HostDoes self.old 1 (host_call self.old id (Unc bytes.now)) self.new out.old out.new (reply_of Did result) }
     {
         let slot = named_mut(&mut self.slots, id)?;
         slot.conn.unc(bytes, out).map_err(CallFault::Refused)
@@ -61,7 +61,7 @@ impl Host {
     /// Reads the next item, where it is held, and hands it out.
     pub fn read(&mut self, id: ConnId, out: &mut Outbox) -> Result<ReadEnd, CallFault>
         requires { 0 < room_of out.old }
-        ensures { HostDoes self.old 1 (called self.old id Read) self.new out.old out.new (plain_reply_of Gave result) }
+        ensures { HostDoes self.old 1 (host_call self.old id Read) self.new out.old out.new (plain_reply_of Gave result) }
     {
         let slot = named_mut(&mut self.slots, id)?;
         Ok(slot.conn.read(out))
@@ -70,7 +70,7 @@ impl Host {
     /// Answers the request that a connection holds by one ANS, and frees its slot: a simple transaction.
     pub fn answer(&mut self, id: ConnId, bytes: &[u8], out: &mut Outbox) -> Result<(), CallFault>
         requires { 0 < room_of out.old }
-        ensures { HostDoes self.old 1 (ending self.old id (Answer bytes.now)) self.new out.old out.new (reply_of Did result) }
+        ensures { HostDoes self.old 1 (host_end self.old id (Answer bytes.now)) self.new out.old out.new (reply_of Did result) }
     {
         let slot = named_mut(&mut self.slots, id)?;
         let done = slot.conn.answer(bytes, out);
@@ -81,7 +81,7 @@ impl Host {
     /// Refuses the request that a connection holds by a CLS with a text, and frees its slot.
     pub fn reject(&mut self, id: ConnId, text: &[u8], out: &mut Outbox) -> Result<(), CallFault>
         requires { 0 < room_of out.old }
-        ensures { HostDoes self.old 1 (ending self.old id (Reject text.now)) self.new out.old out.new (reply_of Did result) }
+        ensures { HostDoes self.old 1 (host_end self.old id (Reject text.now)) self.new out.old out.new (reply_of Did result) }
     {
         let slot = named_mut(&mut self.slots, id)?;
         let done = slot.conn.reject(text, out);
@@ -93,7 +93,7 @@ impl Host {
     /// the text.
     pub fn close(&mut self, id: ConnId, text: &[u8], out: &mut Outbox) -> Result<(), CallFault>
         requires { 0 < room_of out.old }
-        ensures { HostDoes self.old 1 (ending self.old id (Close text.now)) self.new out.old out.new (reply_of Did result) }
+        ensures { HostDoes self.old 1 (host_end self.old id (Close text.now)) self.new out.old out.new (reply_of Did result) }
     {
         let slot = named_mut(&mut self.slots, id)?;
         let done = slot.conn.close(text, out);

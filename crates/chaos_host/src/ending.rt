@@ -4,7 +4,7 @@ ghost use Rattle.chaos_packet.specs.Outbox.{room_of};
 ghost use Rattle.chaos_conn.specs.State.{is_ended};
 ghost use Rattle.chaos_host.specs.declared.slot.Slot.{Slot};
 ghost use Rattle.chaos_host.specs.Acted.{HostDoes};
-ghost use Rattle.chaos_host.specs.Calls.{released};
+ghost use Rattle.chaos_host.specs.Calls.{host_release};
 
 use crate::fault::CallFault;
 use crate::host::Host;
@@ -19,7 +19,7 @@ impl Host {
     /// Nothing changes then.
     pub fn release(&mut self, id: ConnId, out: &mut Outbox) -> Result<(), CallFault>
         requires { 0 < room_of out.old }
-        ensures does { HostDoes self.old 1 (released self.old id) self.new out.old out.new result }
+        ensures does { HostDoes self.old 1 (host_release self.old id) self.new out.old out.new result }
         ensures quiet { out.new ≡ out.old }
     {
         let Some(place) = named_place(&self.slots, id) else {
