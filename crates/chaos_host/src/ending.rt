@@ -4,13 +4,12 @@ ghost use Rattle.chaos_packet.specs.Outbox.{room_of};
 ghost use Rattle.chaos_conn.specs.State.{is_ended};
 ghost use Rattle.chaos_host.specs.declared.slot.Slot.{Slot};
 ghost use Rattle.chaos_host.specs.Acted.{HostDoes};
-ghost use Rattle.chaos_host.specs.Calls.{released};
+ghost use Rattle.chaos_host.specs.Calls.{host_release};
 
 use crate::fault::CallFault;
 use crate::host::Host;
-use crate::in_slot::{close_at, is_ended_at};
 use crate::index::ConnId;
-use crate::slots::named_place;
+use crate::slots::{is_ended_at, named_place};
 use chaos_packet::Outbox;
 
 impl Host {
@@ -20,7 +19,7 @@ impl Host {
     /// Nothing changes then.
     pub fn release(&mut self, id: ConnId, out: &mut Outbox) -> Result<(), CallFault>
         requires { 0 < room_of out.old }
-        ensures does { HostDoes self.old 1 (released self.old id) self.new out.old out.new result }
+        ensures does { HostDoes self.old 1 (host_release self.old id) self.new out.old out.new result }
         ensures quiet { out.new ≡ out.old }
     {
         let Some(place) = named_place(&self.slots, id) else {
@@ -29,7 +28,9 @@ impl Host {
         if !is_ended_at(&self.slots, place) {
             return Err(CallFault::StillActive);
         }
-        let _ = close_at(&mut self.slots, place, b"", out);
+        let slot = &mut self.slots[place];
+        let _ = slot.conn.close(b"", out);
+        slot.end_call();
         Ok(())
     }
 }

@@ -12,7 +12,6 @@ mod deliver;
 mod ending;
 mod fault;
 mod host;
-mod in_slot;
 mod index;
 mod law;
 mod limits;

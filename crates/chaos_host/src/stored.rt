@@ -18,7 +18,7 @@ impl Host {
         ensures value { result ≡ stored_of self.now }
         ensures packets_fit { result.0 ≤ length self.now.slots * (self.now.config.send_cap + self.now.config.recv_cap) }
         ensures bytes_fit { result.1 ≤ MAX_PACKET_BYTES * result.0 }
-        // A request that waits for its user is the one item that its slot stores.
+        // A request that waits for its user is an RFC, which its slot holds in front, and the slot stores nothing else.
         ensures pending { All (λ slot. HoldsRequestAlone slot.conn) self.now.slots }
         // What stands in a free slot stores nothing: it is as new, but for its moments.
         ensures blank { All (λ slot. IsBlank slot.conn) self.now.slots }
