@@ -87,7 +87,7 @@ impl RecvWindow {
     {
         let arrived = arrival(self.read, &self.slots, num);
         if arrived == Arrived::Took {
-            self.slots.put(num.off(self.read), Item::new(op, bytes));
+            self.slots.put_lent(num.off(self.read), op, bytes);
         }
         arrived
     }

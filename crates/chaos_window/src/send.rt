@@ -1,5 +1,5 @@
 //! What an end has sent.
-ghost use Rattle.std.specs.Prelude.{◌≡◌, ◌<◌, ◌≤◌, length, drop, slice_get, IfOk, IsErr};
+ghost use Rattle.std.specs.Prelude.{◌≡◌, ◌<◌, ◌≤◌, [], ◌∷◌, ◌++◌, length, drop, slice_get, IfOk, IsErr};
 ghost use Rattle.std.specs.Option.{option_copied};
 ghost use Rattle.chaos_window.specs.Send.{IsSendWindow, outstanding_of, next_of, clear_send, started_send, after_push, after_receipt, after_acknowledgement, after_window};
 
@@ -98,7 +98,7 @@ impl SendWindow {
         if self.outstanding() >= self.window {
             return Err(Full);
         }
-        let _ = self.kept.push_back(Item::new(op, body));
+        add_item(&mut self.kept, op, body);
         self.sent = self.sent.next();
         Ok(self.sent)
     }
@@ -200,6 +200,23 @@ impl SendWindow {
         self.receipted = PktNum(0);
         self.acknowledged = PktNum(0);
         self.window = self.cap;
+    }
+}
+
+/// Adds an item with a copy of these bytes at the back.
+///
+/// An item is put there empty and gets its bytes where it lies, so that none is moved.
+#[tactic(auto, using(crate::proofs::Last::last))]
+fn add_item(items: &mut HeapCircularBuffer<Item>, op: Opcode, body: &[u8])
+    requires room { length items.old.items < items.old.capacity }
+    requires fits { length body.now ≤ MAX_DATA }
+    ensures items { items.new.items ≡ items.old.items ++ (record { op = op; body = body.now }) ∷ [] }
+    ensures capacity { items.new.capacity ≡ items.old.capacity }
+{
+    let back = items.len();
+    let _ = items.push_back(Item::new(op, &[]));
+    if let Some(item) = items.get_mut(back) {
+        let _fits = item.body.try_extend_from_slice(body);
     }
 }
 

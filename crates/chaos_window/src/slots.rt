@@ -5,7 +5,7 @@ ghost use Rattle.std.specs.Option.{option_copied};
 ghost use Rattle.chaos_window.specs.Slots.{slot_at, with_item_at, lowered_slots};
 
 use crate::limits::MAX_WINDOW;
-use chaos_packet::Item;
+use chaos_packet::{Item, MAX_DATA, Opcode};
 use circular_buffer::HeapCircularBuffer;
 use std::alloc::{AllocError, Global};
 use std::marker::Model;
@@ -66,6 +66,15 @@ impl Slots {
         ensures { self.new ≡ with_item_at self.old offset item }
     {
         set_slot(&mut self.ring, offset as usize - 1, item);
+    }
+
+    /// Puts an item with a copy of these bytes at an offset.
+    pub fn put_lent(&mut self, offset: u16, op: Opcode, bytes: &[u8])
+        requires within { (1 ≤ offset) × (offset ≤ length self.old) }
+        requires fits { length bytes.now ≤ MAX_DATA }
+        ensures { self.new ≡ with_item_at self.old offset (record { op = op; body = bytes.now }) }
+    {
+        fill_slot(&mut self.ring, offset as usize - 1, op, bytes);
     }
 
     /// Takes the item at offset 1 out, where there is one, and lowers the offsets of the others by one.
@@ -134,6 +143,21 @@ fn add_empty(slots: &mut HeapCircularBuffer<Option<Item>>, count: usize)
 {
     for i in 0..count {
         let _ = slots.push_back(None);
+    }
+}
+
+/// Puts an item with a copy of these bytes into a slot.
+///
+/// An item is put there empty and gets its bytes where it lies, so that none is moved.
+fn fill_slot(slots: &mut HeapCircularBuffer<Option<Item>>, index: usize, op: Opcode, bytes: &[u8])
+    requires within { index < length slots.old.items }
+    requires fits { length bytes.now ≤ MAX_DATA }
+    ensures items { slots.new.items ≡ slice_set slots.old.items index (Some (record { op = op; body = bytes.now })) }
+    ensures capacity { slots.new.capacity ≡ slots.old.capacity }
+{
+    if let Some(slot) = slots.get_mut(index) {
+        let item = slot.insert(Item::new(op, &[]));
+        let _fits = item.body.try_extend_from_slice(bytes);
     }
 }
 
