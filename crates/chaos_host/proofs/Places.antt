@@ -1,37 +1,30 @@
 -- Calls on the connection in one slot, as calls of the host.
-use Rattle.std.proofs.Common.{◌≡◌, ℕ, ◌<◌, ◌≤◌, List, [], length, slice_get, slice_set, slice_index_or, Option, Some, None, Result, Ok, Err, MatchResult, IsErrAnd, true, false, inl, inr, arith, refl, ap, sym, Bool, ◌&&◌, ◌==◌, if◌then◌else◌, ◌∙◌, append-nil, All}
-use Rattle.std.proofs.lemmas.List.{length-set}
-use Rattle.std.proofs.lemmas.Option.{slice_get_read, slice_get_cases, slice_get_within, get_or_from_slice_get}
+use Rattle.std.proofs.Common.{◌≡◌, ℕ, ◌<◌, ◌≤◌, List, length, slice_get, slice_set, slice_index_or, get_or, Option, Some, None, Result, Ok, Err, MatchResult, IsErrAnd, true, false, arith, refl, ap, sym, Bool, ◌&&◌, ◌==◌, if◌then◌else◌, ◌∙◌, append-nil, All}
+use Rattle.std.proofs.lemmas.List.{length-set, set-get_or}
+use Rattle.std.proofs.lemmas.Option.{slice_get_read, slice_get_within, get_or_from_slice_get}
 use Rattle.chaos_packet.specs.Packet.{PacketView}
 use Rattle.chaos_packet.specs.Outbox.{OutboxView}
-use Rattle.chaos_conn.specs.State.{is_ended, tells_close}
-use Rattle.chaos_conn.specs.declared.state.State.{State}
-use Rattle.chaos_conn.specs.declared.state.State.TheVariants as st
+use Rattle.chaos_conn.specs.State.{is_ended}
 use Rattle.chaos_conn.specs.Config.{ConfigView}
 use Rattle.chaos_conn.specs.View.{ConnView}
-use Rattle.chaos_conn.specs.declared.answers.Ticked.TheVariants as ti
 use Rattle.chaos_conn.specs.declared.fault.ConnFault.{ConnFault}
 use Rattle.chaos_host.specs.declared.fault.CallFault.{CallFault}
-use Rattle.chaos_host.specs.declared.fault.CallFault.TheVariants.{NoSuchConnection, Refused, StillActive}
-use Rattle.chaos_conn.specs.Act.{Call, Reply, Deliver, TakeRequest, Request, Close, Tick, Came, Ticks, Does, DoesQuietly, most_packets, act}
+use Rattle.chaos_host.specs.declared.fault.CallFault.TheVariants.{Refused, StillActive}
+use Rattle.chaos_conn.specs.Act.{Call, Reply, Deliver, TakeRequest, Request, Tick, Came, Ticks, Does, DoesQuietly, most_packets, act}
 use Rattle.chaos_conn.specs.Arriving.{act_deliver}
 use Rattle.chaos_conn.specs.Time.{act_tick}
 use Rattle.chaos_conn.specs.declared.answers.Delivered.{Delivered}
 use Rattle.chaos_conn.specs.declared.answers.Ticked.{Ticked}
 use Rattle.chaos_host.specs.declared.slot.Slot.{Slot}
 use Rattle.chaos_host.specs.declared.answers.HostDelivered.TheVariants as answer
-use Rattle.chaos_host.specs.Slot.{index_of, place_of, with_index, named_slot, is_used, is_used_in, is_used_at, IsTable, HasConfig, after_ending}
+use Rattle.chaos_host.specs.Slot.{index_of, place_of, with_index, named_slot, is_used, is_used_at, IsTable, HasConfig, after_ending}
 use Rattle.chaos_host.specs.View.{HostView, IsHost}
 use Rattle.chaos_host.specs.Acted.{HostDoes, no_effect, on_slot, on_slot_then_free}
 use Rattle.chaos_host.specs.Deliver.{deliver_slot, take_request_slot}
 use Rattle.chaos_host.specs.Connect.{connect_slot}
 use Rattle.chaos_host.specs.Calls.{HostReply, host_call, host_end, host_release, reply_of}
-use Rattle.chaos_host.specs.Tick.{host_tick, tick_slot}
+use Rattle.chaos_host.specs.Tick.{host_tick}
 use Rattle.chaos_host.proofs.Table.{table_called, table_ended}
-
--- a place within has a slot
-pub some_at : {X : Type 0} (xs : List X) (i : ℕ) → i < length xs → (x : X) × (slice_get xs i ≡ Some x)
-some_at xs i h = elim (slice_get_cases xs i).1 [ inl w ↦ (w.0, w.2) | inr w ↦ absurd (omega arith) ]
 
 -- a slot of a table has its configuration
 pub config_at : (config : ConfigView) (slots : List Slot) (i : ℕ) (slot : Slot) → All (HasConfig config) slots → slice_get slots i ≡ Some slot → slot.conn.config ≡ config
@@ -215,62 +208,27 @@ refusal_reply reply (Ok x) result e = ap (reply_of reply) e
 refusal_reply reply (Err why) (Ok y) e = absurd e
 refusal_reply reply (Err why) (Err fault) e = rw e refl
 
--- no connection has the index
-pub nobody_called : (v : HostView) (id : ℕ) (call : Call) (out : OutboxView) → named_slot v.slots id ≡ None
-    → HostDoes v 1 (host_call v id call) v out out (Err NoSuchConnection)
-nobody_called v id call out none = rw none (untouched_done v 1 out (Err NoSuchConnection) (Err NoSuchConnection) refl)
-
-pub nobody_ending : (v : HostView) (id : ℕ) (call : Call) (out : OutboxView) → named_slot v.slots id ≡ None
-    → HostDoes v 1 (host_end v id call) v out out (Err NoSuchConnection)
-nobody_ending v id call out none = rw none (untouched_done v 1 out (Err NoSuchConnection) (Err NoSuchConnection) refl)
-
 -- ---- release
 
--- a close at an ended connection isn't told
-pub ended_tells_nobody : (s : State) → is_ended s ≡ true → tells_close s ≡ false
-ended_tells_nobody st.Inactive e = refl
-ended_tells_nobody st.RfcSent e = refl
-ended_tells_nobody st.RfcReceived e = absurd (cc)
-ended_tells_nobody st.Open e = absurd (cc)
-ended_tells_nobody st.Answered e = refl
-ended_tells_nobody st.ClsReceived e = refl
-ended_tells_nobody st.LosReceived e = refl
-ended_tells_nobody st.HostDown e = refl
-ended_tells_nobody st.Forwarded e = refl
+-- what was found and left as it is changes nothing
+same_slots : (slots : List Slot) (id : ℕ) (slot : Slot) → named_slot slots id ≡ Some slot → slice_set slots (place_of id) slot ≡ slots
+same_slots slots id slot which =
+    let there = in_place id (slice_get slots (place_of id)) slot which in
+    let read = read_at slots (place_of id) slot there in
+    let set : slice_set slots (place_of id) (get_or slots (place_of id) slot) ≡ slots = set-get_or slots (place_of id) slot in
+    rw (get_or_from_slice_get slots (place_of id) slot slot there) at set
 
--- what was found by an index stands there
-found_at : (slots : List Slot) (id place : ℕ) (slot : Slot)
-    → (place ≡ place_of id) × (place < length slots) × (named_slot slots id ≡ slice_get slots place) → slot ≡ slice_index_or slots place slot
-    → named_slot slots id ≡ Some slot
-found_at slots id place slot found read = found.2 ∙ stands slots place slot found.1 read
+-- an active connection is not released: the host is one
+pub named_kept : (address : ℕ) (config : ConfigView) (listeners : List (List ℕ)) (slots : List Slot) (id : ℕ) (slot : Slot)
+    → IsHost (host_of address config listeners slots) → named_slot slots id ≡ Some slot → IsHost (host_of address config listeners (slice_set slots (place_of id) slot))
+named_kept address config listeners slots id slot host which = rw (same_slots slots id slot which) host
 
--- an ended connection, which an index names, was released
-pub released_done : (v : HostView) (id place : ℕ) (slot new : Slot) (conn : ConnView) (before after : OutboxView) (reply : Reply)
-    → (place ≡ place_of id) × (place < length v.slots) × (named_slot v.slots id ≡ slice_get v.slots place) → slot ≡ slice_index_or v.slots place slot
-    → ((s : Slot) → slice_get v.slots place ≡ Some s → is_ended s.conn.state ≡ true)
-    → Does slot.conn (Close []) conn before after reply → new ≡ after_ending (with_conn slot conn)
-    → HostDoes v 1 (host_release v id) (host_with v place new) before after (Ok tt) × (after ≡ before)
-released_done v id place slot new conn before after reply found read ended does freed =
-    let over = ended slot (stands v.slots place slot found.1 read) in
-    let which = found_at v.slots id place slot found read in
-    let silent = ended_tells_nobody slot.conn.state over in
-    let same : after ≡ before = does.packets ∙ rw (silent, append-nil) refl in
-    (rw found.0 (rw which (rw over (ending_slot_done v (place_of id) slot new (Close []) conn before after reply (Ok tt) (Ok tt) does (omega arith) freed refl))), same)
-
--- an active connection is not released
-pub unreleased_done : (v : HostView) (id place : ℕ) (out : OutboxView)
-    → place < length v.slots → named_slot v.slots id ≡ slice_get v.slots place
-    → ((slot : Slot) → slice_get v.slots place ≡ Some slot → is_ended slot.conn.state ≡ false)
-    → HostDoes v 1 (host_release v id) v out out (Err StillActive)
-unreleased_done v id place out within named active =
-    let slot = some_at v.slots place within in
-    let live = active slot.0 slot.1 in
-    let which : named_slot v.slots id ≡ Some slot.0 = named ∙ slot.1 in
-    rw which (rw live (untouched_done v 1 out (Err StillActive) (Err StillActive) refl))
-
-pub nobody_released : (v : HostView) (id : ℕ) (out : OutboxView) → named_slot v.slots id ≡ None
-    → HostDoes v 1 (host_release v id) v out out (Err NoSuchConnection)
-nobody_released v id out none = rw none (untouched_done v 1 out (Err NoSuchConnection) (Err NoSuchConnection) refl)
+-- and nothing changed
+pub unreleased_done : (v : HostView) (address : ℕ) (config : ConfigView) (listeners : List (List ℕ)) (slots : List Slot) (id generation : ℕ) (conn : ConnView) (out : OutboxView)
+    → v ≡ host_of address config listeners slots → named_slot slots id ≡ Some (slot_of generation conn) → is_ended conn.state ≡ false
+    → HostDoes v 1 (host_release v id) (host_of address config listeners (slice_set slots (place_of id) (slot_of generation conn))) out out (Err StillActive)
+unreleased_done v address config listeners slots id generation conn out host which active =
+    rw (same_slots slots id (slot_of generation conn) which) (rw host (rw which (rw active (untouched_done (host_of address config listeners slots) 1 out (Err StillActive) (Err StillActive) refl))))
 
 -- ---- ticks
 
@@ -285,11 +243,3 @@ ticked_done v place now slot conn before after result table within read used doe
     let one : slot.conn.config ≡ v.config = config_at v.config v.slots place slot table.alike there in
     let same = does.answer in
     rw there (rw in_use (on_slot_done v place slot v.config.send_cap (Tick now) conn before after (Ticks result) (act_tick slot.conn now).answer result does (rw one (omega arith)) (cc)))
-
--- a free slot, or none, is quiet
-quiet_in : (v : HostView) (place now : ℕ) (out : OutboxView) (o : Option Slot) → is_used_in o ≡ false → HostDoes v v.config.send_cap (tick_slot v place now o) v out out ti.Quiet
-quiet_in v place now out None h = untouched_done v v.config.send_cap out ti.Quiet ti.Quiet refl
-quiet_in v place now out (Some slot) h = rw h (untouched_done v v.config.send_cap out ti.Quiet ti.Quiet refl)
-
-pub quiet_done : (v : HostView) (place now : ℕ) (out : OutboxView) → is_used_at v.slots place ≡ false → HostDoes v v.config.send_cap (host_tick v place now) v out out ti.Quiet
-quiet_done v place now out h = quiet_in v place now out (slice_get v.slots place) h

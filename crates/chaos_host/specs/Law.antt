@@ -8,6 +8,7 @@ use Rattle.chaos_conn.specs.declared.state.End.{End}
 use Rattle.chaos_conn.specs.declared.state.State.TheVariants.{RfcReceived}
 use Rattle.chaos_conn.specs.Calls.{front_of}
 use Rattle.chaos_conn.specs.Act.{Call, TakeRequest, Answer, Reject, Close, Did, act}
+use Rattle.chaos_host.specs.declared.limits.TheConstants.{MAX_CONNS}
 use Rattle.chaos_host.specs.declared.slot.Slot.{Slot}
 use Rattle.chaos_host.specs.Slot.{is_used, index_of, named_slot, HoldsRequest}
 
@@ -22,9 +23,9 @@ may_end _ = false
 abbrev pub StaysInUse : Type 0
 StaysInUse = (conn : ConnView) (call : Call) → may_end call ≡ false → is_inactive conn.state ≡ false → is_inactive (act conn call).view.state ≡ false
 
--- In a table of at most 255 slots an own index names the slot in use that has it.
+-- In a table of at most MAX_CONNS slots an own index names the slot in use that has it.
 abbrev pub IndexNames : Type 0
-IndexNames = (slots : List Slot) (place id : ℕ) (slot : Slot) → length slots ≤ 255 → slice_get slots place ≡ Some slot → is_used slot ≡ true → index_of place slot ≡ id
+IndexNames = (slots : List Slot) (place id : ℕ) (slot : Slot) → length slots ≤ MAX_CONNS → slice_get slots place ≡ Some slot → is_used slot ≡ true → index_of place slot ≡ id
     → named_slot slots id ≡ Some slot
 
 -- And it names no other: the slot that it names is in use, and has that index at its place.

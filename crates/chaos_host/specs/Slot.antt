@@ -12,6 +12,7 @@ use Rattle.chaos_conn.specs.declared.state.State.{State}
 use Rattle.chaos_conn.specs.declared.state.State.TheVariants.{RfcReceived}
 use Rattle.chaos_conn.specs.View.{ConnView}
 use Rattle.chaos_conn.specs.Opening.{closed_conn}
+use Rattle.chaos_host.specs.declared.limits.TheConstants.{MAX_CONNS}
 use Rattle.chaos_host.specs.declared.slot.Slot.{Slot}
 
 -- a slot is free where its connection is inactive, and else in use
@@ -111,7 +112,7 @@ HoldsRequestAlone conn = conn.state ≡ RfcReceived → HoldsRequest conn
 -- slot is as a new connection, and a pending request is the one item that its slot stores.
 pub record IsTable (config : ConfigView) (slots : List Slot) : Type 0 where
   pub some : 1 ≤ length slots
-  pub few : length slots ≤ 255
+  pub few : length slots ≤ MAX_CONNS
   pub alike : All (HasConfig config) slots
   pub window : 1 ≤ config.recv_cap
   pub blank : All (λ slot. IsBlank slot.conn) slots

@@ -1,7 +1,7 @@
 //! The user's calls on one connection, which its own index names.
 ghost use Rattle.std.specs.Prelude.{◌<◌};
 ghost use Rattle.chaos_packet.specs.Outbox.{room_of};
-ghost use Rattle.chaos_conn.specs.Act.{Accept, Answer, Reject, Write, Unc, Read, Close, Did, Wrote, Gave};
+ghost use Rattle.chaos_conn.specs.Act.{Accept, Answer, Reject, Write, Unc, Read, FinishRead, Close, Did, Wrote, Gave, Finished};
 ghost use Rattle.chaos_host.specs.Acted.{HostDoes};
 ghost use Rattle.chaos_host.specs.Calls.{host_call, host_end, reply_of, plain_reply_of};
 
@@ -9,7 +9,7 @@ use crate::fault::CallFault;
 use crate::host::Host;
 use crate::index::ConnId;
 use crate::slots::named_mut;
-use chaos_conn::ReadEnd;
+use chaos_conn::{ReadDone, ReadEnd};
 use chaos_packet::{Opcode, Outbox, PktNum};
 
 impl Host {
@@ -65,6 +65,16 @@ impl Host {
     {
         let slot = named_mut(&mut self.slots, id)?;
         Ok(slot.conn.read(out))
+    }
+
+    /// Reads the next item, where it is held, and drops it where it lies: what [`Host::read`] does, with nothing handed out.
+    /// [`Host::front`] lends the item beforehand.
+    pub fn read_done(&mut self, id: ConnId, out: &mut Outbox) -> Result<ReadDone, CallFault>
+        requires { 0 < room_of out.old }
+        ensures { HostDoes self.old 1 (host_call self.old id FinishRead) self.new out.old out.new (plain_reply_of Finished result) }
+    {
+        let slot = named_mut(&mut self.slots, id)?;
+        Ok(slot.conn.read_done(out))
     }
 
     /// Answers the request that a connection holds by one ANS, and frees its slot: a simple transaction.

@@ -9,7 +9,7 @@ ghost use Rattle.chaos_host.specs.Calls.{host_release};
 use crate::fault::CallFault;
 use crate::host::Host;
 use crate::index::ConnId;
-use crate::slots::{is_ended_at, named_place};
+use crate::slots::named_mut;
 use chaos_packet::Outbox;
 
 impl Host {
@@ -22,13 +22,10 @@ impl Host {
         ensures does { HostDoes self.old 1 (host_release self.old id) self.new out.old out.new result }
         ensures quiet { out.new ≡ out.old }
     {
-        let Some(place) = named_place(&self.slots, id) else {
-            return Err(CallFault::NoSuchConnection);
-        };
-        if !is_ended_at(&self.slots, place) {
+        let slot = named_mut(&mut self.slots, id)?;
+        if !slot.conn.state().is_ended() {
             return Err(CallFault::StillActive);
         }
-        let slot = &mut self.slots[place];
         let _ = slot.conn.close(b"", out);
         slot.end_call();
         Ok(())
