@@ -34,10 +34,7 @@ fn kept_bytes(send: &SendWindow) -> usize
 {
     let mut bytes = 0;
     for i in 0..send.unreceipted() as usize {
-        let Some(item) = send.kept(i) else {
-            break;
-        };
-        bytes += HEADER_BYTES + item.bytes().len();
+        bytes += HEADER_BYTES + send.kept(i).unwrap().bytes().len();
     }
     bytes
 }

@@ -51,7 +51,7 @@ impl StreamIn {
             return Peek::Nothing;
         }
         match conn.front() {
-            Some(item) => shown(item, place),
+            Some(item) => peek_at(item, place),
             None if state.is_open() => Peek::Nothing,
             None => Peek::Ended,
         }
@@ -76,7 +76,7 @@ impl StreamIn {
 }
 
 /// What an item shows from a place on.
-fn shown(item: &Item, place: usize) -> Peek<'_>
+fn peek_at(item: &Item, place: usize) -> Peek<'_>
     ensures value { sight_of result ≡ item_sight (kind_of item.now.op) (drop place item.now.body) }
     ensures fits { place ≤ MAX_DATA → place + lent_by (item_sight (kind_of item.now.op) (drop place item.now.body)) ≤ MAX_DATA }
 {
