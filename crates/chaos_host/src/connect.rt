@@ -34,9 +34,7 @@ impl Host {
         // The connection with the index that is answered has asked.
         ensures asks { IfOk result (λ id. named_state self.new.slots id ≡ Some State.RfcSent) }
     {
-        let Some(place) = free_place(&self.slots) else {
-            return Err(ConnectFault::TableFull);
-        };
+        let place = free_place(&self.slots).ok_or(ConnectFault::TableFull)?;
         if contact.len() > MAX_DATA {
             return Err(ConnectFault::TooLong);
         }
