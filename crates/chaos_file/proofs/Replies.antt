@@ -4,7 +4,8 @@ use Rattle.chaos_file.specs.declared.error.FileError.TheVariants as e
 use Rattle.chaos_file.specs.Grammar.{parsed}
 use Rattle.chaos_file.specs.Answer.{reply_to}
 use Rattle.chaos_file.specs.Session.{SessionView}
-use Rattle.chaos_file.specs.Store.{Files, Rose}
+use Rattle.chaos_packet.specs.Count.{Rose}
+use Rattle.chaos_file.specs.Store.{Files}
 use Rattle.chaos_file.specs.Step.{file_step}
 use Rattle.chaos_file.specs.Apply.{Applies, IsStep}
 use Rattle.chaos_file.specs.Replies.{files_after, session_after, replies_from}

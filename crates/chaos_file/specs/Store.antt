@@ -1,8 +1,9 @@
 -- What the calls of a store do to its files.
-use Rattle.std.specs.Prelude.{◌≡◌, ◌<◌, ◌≤◌, ◌⊎◌, ℕ, Bool, true, false, List, [], Option, Some, None, unwrap_or, is_some, length, nat_lt, if◌then◌else◌}
+use Rattle.std.specs.Prelude.{◌≡◌, ◌≤◌, ℕ, Bool, true, false, List, [], Option, Some, None, unwrap_or, is_some, length, nat_lt, if◌then◌else◌}
 use Rattle.std.specs.Ordering.{nat_cmp}
 use Rattle.std.specs.Cmp.Lexicographic.{slice_cmp}
 use Rattle.std.specs.FinMap as map
+use Rattle.chaos_packet.specs.Count.{with_failure}
 use Rattle.chaos_file.specs.declared.store.Got.{Got}
 use Rattle.chaos_file.specs.declared.store.Got.TheVariants as g
 use Rattle.chaos_file.specs.declared.store.Stored.{Stored}
@@ -15,10 +16,6 @@ use Rattle.chaos_file.specs.declared.store.Renamed.TheVariants as r
 -- a finite map from paths to the bytes of files
 abbrev pub Files : Type 0
 Files = map.FinMap (slice_cmp nat_cmp) (List ℕ)
-
--- a count of failures is greater afterwards, or stands at the greatest `u64`
-abbrev pub Rose : ℕ → ℕ → Type 0
-Rose before after = (before < after) ⊎ (after ≡ 18446744073709551615)
 
 abbrev pub is_there : Files → List ℕ → Bool
 is_there m path = is_some (map.get m path)
@@ -78,3 +75,21 @@ Renames old new r.Absent after m = (is_there m old ≡ false) × (after ≡ Some
 Renames old new r.Exists after m = (is_there m old ≡ true) × (is_there m new ≡ true) × (after ≡ Some m)
 Renames old new r.Failed after m = after ≡ Some m
 Renames old new r.NoMemory after m = after ≡ Some m
+
+-- ---- the failures after a call with this answer: one more where it failed
+
+abbrev pub failures_after_get : Got → ℕ → ℕ
+failures_after_get g.Failed count = with_failure count
+failures_after_get _ count = count
+
+abbrev pub failures_after_put : Stored → ℕ → ℕ
+failures_after_put p.Failed count = with_failure count
+failures_after_put _ count = count
+
+abbrev pub failures_after_remove : Removed → ℕ → ℕ
+failures_after_remove d.Failed count = with_failure count
+failures_after_remove _ count = count
+
+abbrev pub failures_after_rename : Renamed → ℕ → ℕ
+failures_after_rename r.Failed count = with_failure count
+failures_after_rename _ count = count

@@ -1,7 +1,8 @@
 //! Laws of the language, over its definition alone.
 ghost use Rattle.std.specs.Prelude.{◌≡◌, ℕ, true, List, ◌++◌, length, Option, Err};
 ghost use Rattle.chaos_file.specs.Session.{SessionView, new_session};
-ghost use Rattle.chaos_file.specs.Store.{Files, Rose};
+ghost use Rattle.chaos_packet.specs.Count.{Rose};
+ghost use Rattle.chaos_file.specs.Store.{Files};
 ghost use Rattle.chaos_file.specs.Command.{CommandView, Good};
 ghost use Rattle.chaos_file.specs.Spelling.{spelled, is_good};
 ghost use Rattle.chaos_file.specs.Grammar.{parsed};

@@ -6,7 +6,7 @@ ghost use Rattle.chaos_file.specs.Views.{command_view, parsed_view, CommandFits,
 ghost use Rattle.chaos_file.specs.Grammar.{parsed};
 ghost use Rattle.chaos_file.specs.Answer.{reply_to};
 ghost use Rattle.chaos_file.specs.Plan.{plan_command, if_known, Refuse, plan_of};
-ghost use Rattle.chaos_file.specs.Store.{Rose};
+ghost use Rattle.chaos_packet.specs.Count.{Rose};
 ghost use Rattle.chaos_file.specs.Outcome.{Does, Follows};
 ghost use Rattle.chaos_file.specs.Apply.{Applies, Answers};
 ghost use Rattle.chaos_file.specs.declared.error.FileError.{FileError};

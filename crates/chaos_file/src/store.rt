@@ -1,6 +1,7 @@
 //! Where files are kept.
 ghost use Rattle.std.specs.Prelude.{◌≡◌, ℕ, Option, IfSome};
-ghost use Rattle.chaos_file.specs.Store.{Files, Rose, Gets, Puts, Removes, Renames};
+ghost use Rattle.chaos_packet.specs.Count.{Rose};
+ghost use Rattle.chaos_file.specs.Store.{Files, Gets, Puts, Removes, Renames};
 
 use crate::file_bytes::FileBytes;
 use std::alloc::Global;

@@ -3,7 +3,7 @@ ghost use Rattle.std.specs.Prelude.{◌≡◌, ◌<◌, ◌≤◌, ◌++◌, len
 ghost use Rattle.chaos_file.specs.Answer.{Closed, answer_text};
 ghost use Rattle.chaos_file.specs.Session.{found, handle_at, without_handle};
 ghost use Rattle.chaos_file.specs.Plan.{plan_close};
-ghost use Rattle.chaos_file.specs.Store.{Rose};
+ghost use Rattle.chaos_packet.specs.Count.{Rose};
 ghost use Rattle.chaos_file.specs.Outcome.{Does, Follows};
 
 use super::Session;

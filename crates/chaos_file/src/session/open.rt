@@ -3,7 +3,7 @@ ghost use Rattle.std.specs.Prelude.{◌≡◌, ◌<◌, ◌≤◌, length, IfSom
 ghost use Rattle.chaos_file.specs.Answer.{LoggedIn, Opened};
 ghost use Rattle.chaos_file.specs.Session.{found, logged_in, opened, writer};
 ghost use Rattle.chaos_file.specs.Plan.{Tell, Ask, GetFile, open_error, plan_open};
-ghost use Rattle.chaos_file.specs.Store.{Rose};
+ghost use Rattle.chaos_packet.specs.Count.{Rose};
 ghost use Rattle.chaos_file.specs.Outcome.{Settles, Does, Follows};
 
 use super::Session;

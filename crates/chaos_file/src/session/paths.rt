@@ -1,7 +1,7 @@
 //! RENAME and DELETE.
 ghost use Rattle.std.specs.Prelude.{◌≡◌, ◌≤◌, length, IfSome};
 ghost use Rattle.chaos_file.specs.Plan.{Ask, RenameFile, RemoveFile};
-ghost use Rattle.chaos_file.specs.Store.{Rose};
+ghost use Rattle.chaos_packet.specs.Count.{Rose};
 ghost use Rattle.chaos_file.specs.Outcome.{Does, Follows};
 
 use super::Session;

@@ -7,7 +7,8 @@ use Rattle.chaos_file.specs.Answer.{reply_to}
 use Rattle.chaos_file.specs.Outcome.{Does}
 use Rattle.chaos_file.specs.Plan.{plan_of}
 use Rattle.chaos_file.specs.Apply.{Applies}
-use Rattle.chaos_file.specs.Store.{Files, Rose}
+use Rattle.chaos_packet.specs.Count.{Rose}
+use Rattle.chaos_file.specs.Store.{Files}
 use Rattle.chaos_file.proofs.Apply.{does_applies, follows_answers, answers_kept, applies_kept, refused_short, front_to, some_weaker}
 use Rattle.chaos_file.proofs.session.Session.apply.Goals as goal
 
