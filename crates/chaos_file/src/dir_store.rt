@@ -1,8 +1,8 @@
 //! Files in a folder of the system.
-ghost use Rattle.std.specs.Prelude.{◌≡◌, ◌⊎◌, true, false, None, IfOk};
+ghost use Rattle.std.specs.Prelude.{◌≡◌, ◌⊎◌, ◌≤◌, true, false, length, None, IfOk};
 ghost use Rattle.chaos_packet.specs.Count.{Rose, with_failure};
 ghost use Rattle.chaos_file.specs.Names.{is_path};
-ghost use Rattle.chaos_file.specs.Store.{IsWithin, failures_after_get, failures_after_put, failures_after_remove, failures_after_rename};
+ghost use Rattle.chaos_file.specs.Store.{Gives, failures_after_get, failures_after_put, failures_after_remove, failures_after_rename};
 
 mod folder;
 
@@ -75,7 +75,7 @@ fn told_as<T: Drop>(fault: io::Error, absent: T, no_memory: T, failed: T) -> T
 impl<R: Files> Folder<R> {
     fn got(&self, alloc: Global, path: &[u8], limit: usize) -> Got
         ensures illegal { is_path path.now ≡ false → result ≡ Got.Failed }
-        ensures limit { IsWithin limit result }
+        ensures limit { Gives (λ bytes. length bytes ≤ limit) result }
     {
         if !is_path(path) {
             return Got::Failed;
@@ -130,6 +130,8 @@ impl<R: Files> Store for DirStore<R> {
     // It claims no files, so that no call's `files` says anything.
     ghost contents = { λ _. None };
 
+    ghost may_give = { λ _ _ limit bytes. length bytes ≤ limit };
+
     ghost count = { λ s. s };
 
     fn get(&mut self, alloc: Global, path: &[u8], limit: usize) -> Got
@@ -137,7 +139,7 @@ impl<R: Files> Store for DirStore<R> {
         ensures files { Unit {0} }
         ensures counted { self.new ≡ failures_after_get result self.old }
         ensures illegal { is_path path.now ≡ false → result ≡ Got.Failed }
-        ensures limit { IsWithin limit result }
+        ensures gives { Gives (λ bytes. length bytes ≤ limit) result }
     {
         let got = self.folder.got(alloc, path, limit);
         if matches!(&got, Got::Failed) {

@@ -28,6 +28,8 @@ struct Noting<S> {
 impl<S: Store> Store for Noting<S> {
     ghost contents = { λ s. S.contents s.inner };
 
+    ghost may_give = { λ s. S.may_give s.inner };
+
     ghost count = { λ s. S.count s.inner };
 
     fn get(&mut self, alloc: Global, path: &[u8], limit: usize) -> Got {
