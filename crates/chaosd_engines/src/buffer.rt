@@ -1,5 +1,5 @@
 //! Bytes that wait to be written.
-ghost use Rattle.std.specs.Prelude.{◌≡◌, ◌+◌, ◌-◌, ◌≤◌, ◌↔◌, [], ℕ, List, Some, Ok, length, min, take, drop, IsOk, OnOk, IfOk};
+ghost use Rattle.std.specs.Prelude.{◌≡◌, ◌+◌, ◌-◌, ◌≤◌, ◌↔◌, [], ℕ, List, Some, Ok, length, min, take, drop, IsOk, OnOk, OnErr, IfOk};
 ghost use Rattle.std.specs.Io.{WritesAtMost};
 ghost use Rattle.std.specs.Io.KnownBytes.{Appends, Keeps, WriteAppends};
 ghost use Rattle.chaosd_engines.specs.Buffer.{written_of};
@@ -85,10 +85,14 @@ impl Write for WriteBuffer {
     }
 
     /// Takes all bytes where they fit.
+    ///
+    /// # Errors
+    /// `WriteZero` where they don't; nothing is taken then.
     #[inline]
     fn write_all(&mut self, bytes: &[u8]) -> io::Result<()>
         ensures bytes { OnOk result (Appends (Some self.old) (Some self.new) bytes.now) }
         ensures fits { IsOk result ↔ (length self.old + length bytes.now ≤ BUFFER_LEN) }
+        ensures refused { OnErr result (self.new ≡ self.old) }
     {
         match self.bytes.try_extend_from_slice(bytes) {
             Ok(()) => Ok(()),

@@ -5,15 +5,11 @@ ghost use Rattle.chaosd_engines.specs.Lines.{is_newline, IsCut};
 ghost use Rattle.chaosd_engines.specs.Buffer.{written_of};
 ghost use Rattle.chaosd_engines.specs.Shower.{Shows, ShowsAll};
 
-use crate::limits::{INPUT_LIMIT, LINE_LIMIT};
+use crate::limits::{INPUT_LIMIT, KEPT_LEN};
 use crate::show::reporter::Reporter;
 use arrayvec::ArrayVec;
 use std::io;
 use std::io::Write;
-
-/// How many bytes of a line are kept that began in an earlier chunk: as many as a line may have, a carriage return, and
-/// one more, which shows that it is too long.
-const KEPT_LEN: usize = LINE_LIMIT + 2;
 
 /// What was reported of an input, and what came of the line that hasn't ended.
 #[derive(Drop)]
