@@ -9,13 +9,11 @@ use Rattle.chaos_link.specs.declared.fault.LinkFault.{LinkFault}
 use Rattle.chaos_link.specs.Datagram.{Carries, datagram_read, IsDecidedByCarries}
 use Rattle.chaosd_engines.specs.declared.limits.TheConstants.{LINE_LIMIT}
 use Rattle.chaosd_engines.specs.Hex.{is_blank, hex_value, with_pair, hex_bytes}
+use Rattle.chaosd_engines.proofs.Digits.{digit_within}
 use Rattle.chaosd_engines.specs.Entry.Entry.{Unreadable, Read}
 use Rattle.chaosd_engines.specs.Entry.{entry_of, entry_of_text, entry_of_bytes, entry_of_datagram, IsReportedAsCarried}
 
 -- ---- what is written in hexadecimal is bytes
-
-digit_within : (b d : ℕ) → hex_value b ≡ Some d → d < 16
-digit_within b d h = grind (arith, nat_tests)
 
 pair_within : (high low : Option ℕ) (rest : Option (List ℕ)) (bytes : List ℕ) → ((d : ℕ) → high ≡ Some d → d < 16) → ((d : ℕ) → low ≡ Some d → d < 16)
     → ((l : List ℕ) → rest ≡ Some l → All (λ b. b < 256) l) → with_pair high low rest ≡ Some bytes → All (λ b. b < 256) bytes

@@ -32,12 +32,12 @@ handed (Some x) None waiting text none p = absurd p
 handed (Some x) (Some y) waiting text none p = sym (append-nil y) ∙ ap (λ l. y ++ l) (sym none) ∙ p
 
 -- handing on changes nothing of what was shown
-pub shown_kept : (before written written' : Option (List ℕ)) (tally : Tally) (kept input : List ℕ) → Keeps written written' → Shows before written tally kept input → Shows before written' tally kept input
-shown_kept before written written' tally kept input keeps s = record {
+pub shown_kept : (before written written' : Option (List ℕ)) (tally tally' : Tally) (kept input : List ℕ) → Keeps written written' → tally' ≡ tally → Shows before written tally kept input → Shows before written' tally' kept input
+shown_kept before written written' tally tally' kept input keeps same s = record {
   ended = s.ended;
   begun = s.begun;
   text = Appends-kept before written written' _ s.text keeps;
-  count = s.count;
+  count = same ∙ s.count;
   front = s.front;
   unended = s.unended;
   goes_on = s.goes_on;
@@ -49,11 +49,11 @@ pub ended_handed : (before held : Option (List ℕ)) (waiting : List ℕ) (tally
 ended_handed before held waiting tally kept input s none = handed before held waiting _ none (ended_shown before _ tally kept input s)
 
 -- the reports of all
-pub all_handed : (before written held : Option (List ℕ)) (waiting : List ℕ) (tally : Tally) (input : List ℕ) → ShowsAll before written tally input
-    → Keeps written (written_of held waiting) → waiting ≡ [] → ShowsAll before held tally input
-all_handed before written held waiting tally input s keeps none = record {
+pub all_handed : (before written held : Option (List ℕ)) (waiting : List ℕ) (tally tally' : Tally) (input : List ℕ) → ShowsAll before written tally input
+    → Keeps written (written_of held waiting) → waiting ≡ [] → tally' ≡ tally → ShowsAll before held tally' input
+all_handed before written held waiting tally tally' input s keeps none same = record {
   text = handed before held waiting _ none (Appends-kept before written _ _ s.text keeps);
-  count = s.count;
+  count = same ∙ s.count;
 }
 
 -- ---- what was read

@@ -11,13 +11,14 @@ use Rattle.std.proofs.lemmas.List.{take-take, take_min}
 use Rattle.std.proofs.lemmas.List.Elements.{All-nil, All-append}
 use Rattle.std.proofs.lemmas.List.Splits.{slice_split_none, slice_split_at}
 use Rattle.std.proofs.lemmas.List.Sums.{sum_by-append}
+use Rattle.chaos_link.specs.declared.fault.LinkFault.TheVariants.{Short}
 use Rattle.chaosd_engines.specs.declared.limits.TheConstants.{KEPT_LEN, LINE_LIMIT}
 use Rattle.chaosd_engines.specs.declared.show.tally.Tally.{Tally}
 use Rattle.chaosd_engines.specs.Buffer.{written_of}
 use Rattle.chaosd_engines.specs.Lines.{is_newline, pieces_of, all_but_last, without_empty_last, ended_lines, lines_of}
 use Rattle.chaosd_engines.specs.Hex.{hex_bytes}
-use Rattle.chaosd_engines.specs.Entry.Entry.{Unreadable}
-use Rattle.chaosd_engines.specs.Entry.{Entry, entry_of, entry_text, entry_of_bytes, is_refusal}
+use Rattle.chaosd_engines.specs.Entry.Entry.{Unreadable, Refused}
+use Rattle.chaosd_engines.specs.Entry.{Entry, entry_of, entry_of_text, entry_text, entry_of_bytes, is_refusal}
 use Rattle.chaosd_engines.specs.Show.{line_report, reports_of, tally_of, gap, counted}
 use Rattle.chaosd_engines.specs.Shower.{Shows, ShowsAll}
 
@@ -51,6 +52,12 @@ front_decides f g false long e =
 -- so what is kept of a line decides what it is
 pub same_front : (f g : List ℕ) → take KEPT_LEN f ≡ take KEPT_LEN g → entry_of f ≡ entry_of g
 same_front f g e = front_decides f g (ltb (length f) KEPT_LEN) refl e
+
+-- an empty line is the empty datagram
+pub empty_text : (text : List ℕ) → eqb (length text) 0 ≡ true → entry_of_text text ≡ Refused Short
+unfolding hex_bytes
+empty_text [] none = refl
+empty_text (b ∷ bs) none = absurd (grind (arith, nat_tests, none))
 
 -- ---- one line more
 
@@ -199,6 +206,11 @@ last_shown before written written' tally tally' kept input raw some e more next 
 pub on_ok : {X E P Q S : Type 0} (r : Result X E) → (P → Q → S) → OnOk r P → OnOk r Q → OnOk r S
 on_ok (Ok x) f p q = f p q
 on_ok (Err e) f p q = tt
+
+-- a text, and the one behind it
+pub then_put : {X E : Type 0} (r : Result X E) (old first last all mid new : List ℕ) → mid ≡ old ++ first → OnOk r (new ≡ mid ++ last) → all ≡ first ++ last → OnOk r (new ≡ old ++ all)
+then_put (Ok x) old first last all mid new p q e = q ∙ ap (λ l. l ++ last) p ∙ append_assoc old first last ∙ ap (λ l. old ++ l) (sym e)
+then_put (Err x) old first last all mid new p q e = tt
 
 front_append : (n : ℕ) (xs ys : List ℕ) → length xs ≤ n → take n (xs ++ ys) ≡ xs ++ take (n - length xs) ys
 front_append n [] ys le = ap (λ k. take k ys) (omega arith)

@@ -320,7 +320,10 @@ fn each_report_before_the_next_read(rt: HostRuntime) -> Result<(), Fail> {
         reads: 0,
         missing: 0,
     };
-    let mut writer = Watched { written: &written };
+    let mut writer = Watched {
+        written: &written,
+        waiting: 0,
+    };
     let tally = run_show(&mut reader, &mut writer)?;
     assert_eq!(rt;
         tally,

@@ -4,12 +4,12 @@ ghost use Rattle.std.specs.Io.KnownBytes.{Appends, IsAtEnd};
 ghost use Rattle.chaosd_engines.specs.Lines.{lines_of, ended_lines};
 ghost use Rattle.chaosd_engines.specs.Show.{report_of, reports_of, ReportsRead, tally_of};
 
+use crate::buffer::NotWritten;
 use crate::fault::RunFault;
 use crate::input::read_chunk;
 use crate::limits::{CHUNK_LEN, INPUT_LIMIT};
 use crate::show::shower::Shower;
 use crate::show::tally::Tally;
-use std::io;
 use std::io::{Read, Write};
 
 /// Reads lines of hexadecimal digits, one datagram a line, to the end of the input, and writes a report of each.
@@ -58,8 +58,8 @@ pub fn run_show<R: Read, W: Write>(reader: &mut R, writer: &mut W) -> Result<Tal
     Ok(shower.reporter.tally)
 }
 
-/// A writer's fault as the fault of a run.
-fn written(end: io::Result<()>) -> Result<(), RunFault>
+/// What wasn't written as the fault of a run.
+fn written(end: Result<(), NotWritten>) -> Result<(), RunFault>
     ensures { MatchResult end (λ _. IsOk result) (λ _. result ≡ Err RunFault.WriteFault) }
 {
     match end {

@@ -131,20 +131,23 @@ impl Read for Watching<'_> {
     }
 }
 
-/// Counts what is written.
+/// A writer with a buffer, which counts what is flushed.
 #[derive(Drop)]
 pub struct Watched<'a> {
     pub written: &'a Cell<usize>,
+    pub waiting: usize,
 }
 
 impl Write for Watched<'_> {
     fn write(&mut self, buf: &[u8]) -> io::Result<usize> {
-        self.written
-            .set(self.written.get().saturating_add(buf.len()));
+        self.waiting = self.waiting.saturating_add(buf.len());
         Ok(buf.len())
     }
 
     fn flush(&mut self) -> io::Result<()> {
+        self.written
+            .set(self.written.get().saturating_add(self.waiting));
+        self.waiting = 0;
         Ok(())
     }
 }
