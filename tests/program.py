@@ -111,9 +111,40 @@ def reports(checks):
         ("what follows a refusal is reported, status 3", b"\n" + STATUS, REFUSED, SHORT_REPORT + b"\n" + STATUS_REPORT),
         ("what goes before a refusal is reported, status 3", STATUS + b"\n\n", REFUSED, STATUS_REPORT + b"\n" + SHORT_REPORT),
         ("a line of 4,096 bytes and a carriage return is read", STATUS.rjust(LINE_LIMIT) + b"\r\n", DONE, STATUS_REPORT),
+        ("a line of 40,000 bytes is refused, status 3", STATUS.rjust(40_000), REFUSED, b"fault 0 Line\n"),
         ("a line of 4,097 bytes is refused, status 3", STATUS.rjust(LINE_LIMIT + 1) + b"\n", REFUSED, b"fault 0 Line\n"),
     ]:
         checks.check(name, run(["show"], given).problems(status, out, b""))
+
+
+def names(checks):
+    """The opcodes' numbers and names, and the greatest and the least of each field."""
+    opcodes = {
+        0o1: "RFC", 0o2: "OPN", 0o3: "CLS", 0o4: "FWD", 0o5: "ANS", 0o6: "SNS", 0o7: "STS", 0o11: "LOS", 0o12: "LSN",
+        0o14: "EOF", 0o15: "UNC", 0o200: "DAT", 0o277: "DAT", 0o300: "DWD", 0o377: "DWD",
+        0o0: "", 0o10: "", 0o13: "", 0o16: "", 0o20: "", 0o177: "",
+    }  # fmt: skip
+    given = "".join(f"43480100 {op:02x}00 F000 FFFF 0000 0201 8000 FFFF 0000\n" for op in opcodes)
+    rest = "fwd 15 count 0\nto 177777 000000\nfrom 001001 100000\nnum 65535 ack 0\n"
+    wanted = "\n".join(f"op {op:03o} {name}".rstrip() + "\n" + rest for op, name in opcodes.items())
+    checks.check("opcodes have their names", run(["show"], given.encode()).problems(DONE, wanted.encode(), b""))
+
+
+def longest_reports(checks):
+    """Reports of packets with all their data, one after another."""
+    bodies = [[(n + at) % 256 for at in range(488)] for n in range(100)]
+    given, wanted = [], []
+    for body in bodies:
+        # Bytes lie two to a word, the first in the low half, and a word goes with its high half first.
+        carried = "".join(f"{body[at + 1]:02X}{body[at]:02x}" for at in range(0, 488, 2))
+        given.append(f"43480100 8000 F1E8 FFFF FFFF FFFF FFFF FFFF FFFF {carried}\n")
+        told = "".join(f" {byte:02X}" for byte in body)
+        wanted.append(
+            "op 200 DAT\nfwd 15 count 488\nto 177777 177777\nfrom 177777 177777\nnum 65535 ack 65535\n"
+            f"data{told}\n"
+        )
+    ended = run(["show"], "".join(given).encode())
+    checks.check("100 packets with all their data", ended.problems(DONE, "\n".join(wanted).encode(), b""))
 
 
 def limits(checks):
@@ -123,6 +154,11 @@ def limits(checks):
     checks.check("an input of 1,048,576 bytes is read", run(["show"], longest).problems(REFUSED, text, b""))
     ended = run(["show"], longest + b"\n")
     checks.check("one byte more is a fault, status 1, behind the reports", ended.problems(FAULT, text, [b"chaosd: ", b"1048576"]))
+    with open("/dev/full", "wb") as full:
+        ended = run(["show"], longest + b"\n", stdout=full)
+    checks.check("the fault of writing what came before is met first", ended.problems(FAULT, None, [b"chaosd: the output"]))
+    ended = run(["show"], b"A" * INPUT_LIMIT)
+    checks.check("a line of 1,048,576 bytes is refused", ended.problems(REFUSED, b"fault 0 Line\n", b""))
 
 
 def lines(checks):
@@ -227,7 +263,7 @@ def main():
     if not PROGRAM.is_file():
         sys.exit(f"{PROGRAM} isn't there: run make first")
     checks = Checks()
-    for group in [reports, limits, lines, writers, readers, typed_lines]:
+    for group in [reports, names, longest_reports, limits, lines, writers, readers, typed_lines]:
         group(checks)
     print(f"{checks.count} checks of the program, {checks.failed} failed")
     sys.exit(1 if checks.failed else 0)
