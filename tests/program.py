@@ -117,6 +117,46 @@ def reports(checks):
         checks.check(name, run(["show"], given).problems(status, out, b""))
 
 
+def forms(checks):
+    """The forms in which a datagram may be written, and the first fault of each that is refused."""
+    digits = STATUS.replace(b" ", b"")
+    for line in [digits, digits.lower(), b"\t" + STATUS[:12] + digits[8:20] + b"  " + digits[20:] + b" \t", STATUS + b"\r"]:
+        for end in [b"", b"\n", b"\r\n"] if not line.endswith(b"\r") else [b"", b"\n"]:
+            checks.check(f"{line + end} is read", run(["show"], line + end).problems(DONE, STATUS_REPORT, b""))
+    free_half = DATA[:-5] + b"FF 41"
+    checks.check("a last half word is free", run(["show"], free_half).problems(DONE, DATA_REPORT, b""))
+    count_489 = b"43480100 0700 01E9 0101 0201 0102 0305 0000 0010"
+    refused = [
+        (b"", b"1 Short"),
+        (b"\r", b"1 Short"),
+        (b" \t", b"1 Short"),
+        (b"434801", b"1 Short"),
+        (b"4G", b"0 Line"),
+        (b"4 3", b"0 Line"),
+        (b"434", b"0 Line"),
+        (b"43 48 01 00 \x00", b"0 Line"),
+        (b"43 48 01 00 \xff\xff", b"0 Line"),
+        (b"43480100\r\r", b"0 Line"),
+        (b"42480100", b"2 BadMark"),
+        (b"43490100", b"2 BadMark"),
+        (b"43480101", b"3 BadVersion"),
+        (b"43480200", b"3 BadVersion"),
+        (b"43480100", b"4 Packet 1 Short"),
+        (b"43480100 0700 0004 0101 0201 0102 0305 0000 00", b"4 Packet 1 Short"),
+        (count_489, b"4 Packet 2 BadCount"),
+        (count_489 + b"4" * 980, b"4 Packet 2 BadCount"),
+        (STATUS[:-3], b"4 Packet 3 Truncated"),
+        (STATUS + b" 00", b"5 Trailing"),
+        (STATUS + b" 0000", b"5 Trailing"),
+    ]
+    for line, fault in refused:
+        ended = run(["show"], line + b"\n")
+        checks.check(f"{line[:48]} is refused: {fault.decode()}", ended.problems(REFUSED, b"fault " + fault + b"\n", b""))
+    given = b"".join(line + b"\n" for line, _ in refused)
+    wanted = b"\n".join(b"fault " + fault + b"\n" for _, fault in refused)
+    checks.check("all these refusals in one input", run(["show"], given).problems(REFUSED, wanted, b""))
+
+
 def names(checks):
     """The opcodes' numbers and names, and the greatest and the least of each field."""
     opcodes = {
@@ -263,7 +303,7 @@ def main():
     if not PROGRAM.is_file():
         sys.exit(f"{PROGRAM} isn't there: run make first")
     checks = Checks()
-    for group in [reports, names, longest_reports, limits, lines, writers, readers, typed_lines]:
+    for group in [reports, forms, names, longest_reports, limits, lines, writers, readers, typed_lines]:
         group(checks)
     print(f"{checks.count} checks of the program, {checks.failed} failed")
     sys.exit(1 if checks.failed else 0)

