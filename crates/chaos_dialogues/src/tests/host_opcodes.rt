@@ -132,10 +132,10 @@ fn keeps_to(
     let (num, bytes) = came;
     let (_, _, answer, state, sent) = row;
     let got = station.deliver(rt, &between(Opcode(op), 1, 9, num, bytes));
-    assert_eq!(rt; name_at_host(rt, &got), answer, "{op} in {place:?}");
     let now = station.host.state(ConnId(1)).unwrap_or(State::Inactive);
-    assert_eq!(rt; now, state, "{op} in {place:?}");
-    assert_eq!(rt; count(&mut station.out), sent, "{op} in {place:?}");
+    let seen = (name_at_host(rt, &got), now, count(&mut station.out));
+    let at = place as u8;
+    assert_eq!(rt; seen, (answer, state, sent), "of opcode {op} at place {at}");
     Ok(())
 }
 

@@ -23,14 +23,6 @@ fn is_spelled(rt: &impl Abort, packet: &Packet, bytes: &[u8]) {
 }
 
 #[test]
-fn host_is_made_with_memory(rt: HostRuntime) -> Result<(), Fail> {
-    let host = Host::new(rt.alloc(), 0o401, 3, ConnConfig::usual())?;
-    assert_eq!(rt; (host.conns(), host.stored()), (3, (0, 0)));
-    assert_eq!(rt; host.config(), ConnConfig::usual());
-    Ok(())
-}
-
-#[test]
 fn first_fault_of_a_host_is_told(rt: HostRuntime) {
     let config = ConnConfig::usual();
     assert!(rt;

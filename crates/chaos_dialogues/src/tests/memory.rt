@@ -6,7 +6,7 @@ use std::test::Fail;
 
 /// A host that isn't made for want of memory keeps nothing: made again, it is as new.
 #[test]
-fn want_of_memory_makes_no_host(rt: HostRuntime) -> Result<(), Fail> {
+fn host_is_made_with_memory(rt: HostRuntime) -> Result<(), Fail> {
     let usual = ConnConfig::usual();
     let host = match Host::new(rt.alloc(), HERE, 3, usual) {
         Err(MakeFault::NoMemory) => {
@@ -16,6 +16,7 @@ fn want_of_memory_makes_no_host(rt: HostRuntime) -> Result<(), Fail> {
         made => made?,
     };
     assert_eq!(rt; (host.conns(), host.stored()), (3, (0, 0)));
+    assert_eq!(rt; host.config(), usual);
     for slot in 0..3usize {
         assert!(rt; host.id_of(slot).is_none(), "{slot}");
     }

@@ -15,7 +15,7 @@ use std::test::Fail;
 pub type Row = (u8, u8, &'static str, State, usize);
 
 /// Where an end may be.
-#[derive(Clone, Copy, Debug)]
+#[derive(Clone, Copy)]
 pub enum Place {
     Inactive,
     RfcSent,
@@ -192,10 +192,12 @@ pub fn short_rows(place: Place) -> &'static [Row] {
 
 /// The first row that has an opcode.
 pub fn row_of(rt: &impl Abort, rows: &'static [Row], op: u8) -> Row {
-    *rows
-        .iter()
-        .find(|row| row.0 <= op && op <= row.1)
-        .expect(rt, "a row")
+    for row in rows {
+        if row.0 <= op && op <= row.1 {
+            return *row;
+        }
+    }
+    panic!(rt; "opcode {op} has no row")
 }
 
 /// An answer's name in the tables.
@@ -274,9 +276,9 @@ fn keeps_to(
     let (num, bytes) = came;
     let (_, _, answer, state, sent) = row;
     let got = side.deliver(rt, &packet(Opcode(op), num, 0, bytes));
-    assert_eq!(rt; name_of(&got), answer, "{op} in {place:?}");
-    assert_eq!(rt; side.conn.state(), state, "{op} in {place:?}");
-    assert_eq!(rt; count(&mut side.out), sent, "{op} in {place:?}");
+    let seen = (name_of(&got), side.conn.state(), count(&mut side.out));
+    let at = place as u8;
+    assert_eq!(rt; seen, (answer, state, sent), "of opcode {op} at place {at}");
     Ok(())
 }
 

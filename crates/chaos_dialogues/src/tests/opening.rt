@@ -56,11 +56,8 @@ fn pair_opens_writes_reads_and_closes(rt: HostRuntime) -> Result<(), Fail> {
     assert!(rt; b.conn.can_write());
     assert!(rt; !b.conn.drained());
     b.is_heard_by(&rt, &mut a, Delivered::Took);
-    assert!(rt;
-        a.conn
-            .front()
-            .is_some_and(|item| item.bytes() == b"hello".as_slice())
-    );
+    let front = a.conn.front().ok_or("an item in front")?;
+    assert_eq!(rt; front.bytes(), b"hello".as_slice());
     a.reads(&rt, ReadEnd::Item(Item::new(Opcode::DATA, b"hello")));
     a.does(&rt, Call::Close(b"bye"), Ok(()));
     let cls = oldest(&rt, &mut a.out);

@@ -170,7 +170,11 @@ impl Side {
     ) {
         assert!(rt; self.out.room() > 0);
         let got = self.conn.write(op, bytes, self.now, &mut self.out);
-        assert_eq!(rt; got.map(|number| number.0), want);
+        let got = match got {
+            Ok(number) => Ok(number.0),
+            Err(fault) => Err(fault),
+        };
+        assert_eq!(rt; got, want);
     }
 
     /// Data of one byte is written so often, and goes out; the next write finds the window full.
