@@ -17,8 +17,6 @@ mod opening;
 mod sending;
 mod state;
 mod stored;
-#[cfg(test)]
-mod tests;
 mod time;
 
 pub use answers::{Delivered, ReadDone, ReadEnd, Ticked, Why};

@@ -22,8 +22,6 @@ mod route;
 mod slot;
 mod slots;
 mod stored;
-#[cfg(test)]
-mod tests;
 mod tick;
 
 pub use answers::HostDelivered;

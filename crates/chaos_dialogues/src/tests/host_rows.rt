@@ -1,6 +1,8 @@
-use super::side::{listening, packet, rfc};
-use crate::{Host, HostDelivered, MakeFault};
-use chaos_conn::ConnConfig;
+use super::outbox::oldest;
+use super::packets::{between, rfc};
+use super::station::listening;
+use chaos_conn::{ConnConfig, Why};
+use chaos_host::{Host, HostDelivered, MakeFault};
 use chaos_packet::{Opcode, Packet, from_words, to_words};
 use std::process::Abort;
 use std::test::Fail;
@@ -18,14 +20,6 @@ fn is_spelled(rt: &impl Abort, packet: &Packet, bytes: &[u8]) {
     for (word, pair) in words.iter().zip(bytes.chunks_exact(2)) {
         assert_eq!(rt; word.to_be_bytes().as_slice(), pair);
     }
-}
-
-#[test]
-fn host_is_made_with_memory(rt: HostRuntime) -> Result<(), Fail> {
-    let host = Host::new(rt.alloc(), 0o401, 3, ConnConfig::usual())?;
-    assert_eq!(rt; (host.conns(), host.stored()), (3, (0, 0)));
-    assert_eq!(rt; host.config(), ConnConfig::usual());
-    Ok(())
 }
 
 #[test]
@@ -58,19 +52,16 @@ fn unknown_contact_is_refused(rt: HostRuntime) -> Result<(), Fail> {
         0x68, 0x74, 0x73, 0x69, 0x63, 0x20, 0x6E, 0x6F, 0x61, 0x74, 0x74, 0x63, 0x6E, 0x20, 0x6D,
         0x61, 0x2E, 0x65,
     ];
-    let mut side = listening(rt.alloc(), 1, 13)?;
-    assert_eq!(rt;
-        side.deliver(&rt, &spelled(&request)?),
-        HostDelivered::NoServer
-    );
-    let packet = side.out.take().ok_or("a CLS")?;
+    let mut station = listening(rt.alloc(), 1, 13)?;
+    station.gets(&rt, &spelled(&request)?, HostDelivered::NoServer);
+    let packet = oldest(&rt, &mut station.out);
     assert_eq!(rt;
         packet.bytes(),
         b"No server for this contact name.".as_slice()
     );
     is_spelled(&rt, &packet, &refusal);
-    assert!(rt; side.host.id_of(0).is_none());
-    side.is_quiet(&rt);
+    assert!(rt; station.host.id_of(0).is_none());
+    station.is_quiet(&rt);
     Ok(())
 }
 
@@ -79,40 +70,34 @@ fn lost_connection_is_told_between_exchanged_ends(rt: HostRuntime) -> Result<(),
     let data = [
         0x8000, 0x0001, 0x0101, 0x0201, 0x0102, 0x0305, 0x0005, 0x0010, 0x0041,
     ];
-    let mut side = listening(rt.alloc(), 1, 13)?;
-    assert_eq!(rt;
-        side.deliver(&rt, &spelled(&data)?),
-        HostDelivered::NoConnection
-    );
-    side.sends(&rt, Opcode::LOS, 0o1405, 0o1001, b"No such connection.");
-    side.is_quiet(&rt);
+    let mut station = listening(rt.alloc(), 1, 13)?;
+    station.gets(&rt, &spelled(&data)?, HostDelivered::NoConnection);
+    station.sends(&rt, Opcode::LOS, 0o1405, 0o1001, b"No such connection.");
+    station.is_quiet(&rt);
     Ok(())
 }
 
 #[test]
 fn full_table_refuses_a_new_peer(rt: HostRuntime) -> Result<(), Fail> {
-    let mut side = listening(rt.alloc(), 255, 64)?;
+    let mut station = listening(rt.alloc(), 255, 64)?;
     for place in 1..256u16 {
-        side.takes(&rt, place, place);
+        station.takes(&rt, place, place);
     }
-    assert_eq!(rt; side.host.stored(), (255, 255 * 20));
-    assert_eq!(rt; side.deliver(&rt, &rfc(256)), HostDelivered::TableFull);
-    side.sends(&rt, Opcode::CLS, 256, 0, b"Connection table full.");
-    side.is_quiet(&rt);
-    let each = 2 * side.host.config().send_cap() as usize;
-    let most = side.host.conns() * each;
+    station.stores(&rt, 255, 255 * 20);
+    station.gets(&rt, &rfc(256), HostDelivered::TableFull);
+    station.sends(&rt, Opcode::CLS, 256, 0, b"Connection table full.");
+    station.is_quiet(&rt);
+    let each = 2 * station.host.config().send_cap() as usize;
+    let most = station.host.conns() * each;
     assert_eq!(rt; (most, 504 * most), (32_640, 16_450_560));
     Ok(())
 }
 
 #[test]
 fn close_of_no_connection_is_dropped(rt: HostRuntime) -> Result<(), Fail> {
-    let mut side = listening(rt.alloc(), 1, 13)?;
-    let cls = packet(Opcode::CLS, 1, 1, 0, b"");
-    assert_eq!(rt;
-        side.deliver(&rt, &cls),
-        HostDelivered::Dropped(chaos_conn::Why::NoConn)
-    );
-    side.is_quiet(&rt);
+    let mut station = listening(rt.alloc(), 1, 13)?;
+    let cls = between(Opcode::CLS, 1, 1, 0, b"");
+    station.gets(&rt, &cls, HostDelivered::Dropped(Why::NoConn));
+    station.is_quiet(&rt);
     Ok(())
 }
