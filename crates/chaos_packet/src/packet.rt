@@ -9,7 +9,7 @@ use crate::opcode::{Kind, Opcode};
 use arrayvec::ArrayVec;
 use std::marker::Model;
 
-/// A packet: its header, and at most 488 bytes of data (AI Memo 628, on packets). A contract sees a plain record,
+/// A packet: its header, and at most [`MAX_DATA`] bytes of data (AI Memo 628, on packets). A contract sees a plain record,
 /// with the data as a list of bytes.
 ///
 /// As words, each of 16 bits:
@@ -34,7 +34,7 @@ use std::marker::Model;
 #[derive(Clone, Debug, PartialEq, Eq, Drop)]
 pub struct Packet {
     pub op: Opcode,
-    /// How often the packet was forwarded, at most 15: the type keeps it.
+    /// How often the packet was forwarded, at most [`MAX_FORWARDS`](crate::MAX_FORWARDS) times: the type keeps it.
     pub fwd: u8,
     /// The destination's address, subnet in the high half and host in the low half.
     pub dst: u16,
@@ -54,6 +54,7 @@ pub struct Packet {
 
 impl Model for Packet {
     ghost use Rattle.std.specs.Prelude.{◌≤◌};
+    ghost use Rattle.chaos_packet.specs.declared.limits.TheConstants.{MAX_FORWARDS};
     ghost use Rattle.chaos_packet.specs.Packet.{PacketView};
 
     ghost Value = { PacketView };
@@ -70,7 +71,7 @@ impl Model for Packet {
       body = p.body.items;
     } };
 
-    ghost invariant = { λ p. p.fwd ≤ 15 };
+    ghost invariant = { λ p. p.fwd ≤ MAX_FORWARDS };
 
     ghost inverse = { λ v. record {
       op = v.op;
@@ -106,7 +107,7 @@ impl Packet {
     /// The data bytes, lent.
     pub fn bytes(&self) -> &[u8]
         ensures value { result.now ≡ self.now.body }
-        ensures fits { length result.now ≤ 488 }
+        ensures fits { length result.now ≤ MAX_DATA }
     {
         self.body.as_slice()
     }
