@@ -1,9 +1,10 @@
 //! A packet.
 ghost use Rattle.std.specs.Prelude.{◌≡◌, ◌+◌, ◌*◌, ◌≤◌, ◌==◌, length, position};
 ghost use Rattle.chaos_packet.specs.Packet.{status_of, status_words, contact_of, arguments_of};
+ghost use Rattle.chaos_packet.specs.Words.{header_of};
 
 use crate::item::body_of;
-use crate::limits::MAX_DATA;
+use crate::limits::{HEADER_WORDS, MAX_DATA};
 use crate::number::PktNum;
 use crate::opcode::{Kind, Opcode};
 use arrayvec::ArrayVec;
@@ -110,6 +111,22 @@ impl Packet {
         ensures fits { length result.now ≤ MAX_DATA }
     {
         self.body.as_slice()
+    }
+
+    /// The words of the header, with a zero free half.
+    pub fn header(&self) -> [u16; HEADER_WORDS]
+        ensures words { result ≡ header_of self.now }
+    {
+        [
+            u16::from(self.op.0) * 256,
+            u16::from(self.fwd) * 4096 + self.bytes().len() as u16,
+            self.dst,
+            self.dst_index,
+            self.src,
+            self.src_index,
+            self.num.0,
+            self.ack.0,
+        ]
     }
 
     /// The contact name that the data of an RFC begins with: the bytes before the first space, lent.

@@ -32,19 +32,8 @@ pub fn write_words(packet: &Packet, words: &mut [u16; MAX_WORDS]) -> usize
     ensures zero { HasZeroHalves (take result words.new) }
     ensures exact { take result words.new ≡ spelling_of packet.now }
 {
-    let bytes = packet.bytes();
-    let header = [
-        u16::from(packet.op.0) * 256,
-        u16::from(packet.fwd) * 4096 + bytes.len() as u16,
-        packet.dst,
-        packet.dst_index,
-        packet.src,
-        packet.src_index,
-        packet.num.0,
-        packet.ack.0,
-    ];
-    words[..HEADER_WORDS].copy_from_slice(&header);
-    pack(bytes, words)
+    words[..HEADER_WORDS].copy_from_slice(&packet.header());
+    pack(packet.bytes(), words)
 }
 
 /// Packs the bytes behind a header, two to a word, the first in the low half, and says where they end.
