@@ -11,6 +11,7 @@ mod fault;
 mod limits;
 mod link;
 mod mem;
+mod pairs;
 mod peers;
 #[cfg(test)]
 mod tests;
