@@ -1,11 +1,92 @@
-// What `show` prints, in plain Rust: buffered lines, the bytes in a Vec, the packet in a struct, buffered writing.
-use std::io::{self, BufRead, BufReader, BufWriter, Write};
+// What `show` prints, in plain Rust by somebody who cares for speed: lines cut from one buffer, digits by tables, the
+// packet's words read in place, and one fixed buffer of text. It takes no memory.
+use std::io::{self, ErrorKind, Read, Write};
 
-struct Packet {
-    op: u8,
-    fwd: u8,
-    words: [u16; 6],
-    body: Vec<u8>,
+const LINE_LIMIT: usize = 4_096;
+const CHUNK: usize = 16_384;
+const TEXT: usize = 16_384;
+
+/// No report has more bytes, with the empty line in front of it.
+const ROOM: usize = 2_048;
+
+/// The value of each byte as a hexadecimal digit, and what is none.
+const NO_DIGIT: u8 = 0xFF;
+static VALUES: [u8; 256] = values();
+
+/// A space and two digits for each byte.
+static TRIPLES: [[u8; 3]; 256] = triples();
+
+const fn values() -> [u8; 256] {
+    let mut table = [NO_DIGIT; 256];
+    let mut n = 0;
+    while n < 10 {
+        table[b'0' as usize + n] = n as u8;
+        n += 1;
+    }
+    let mut n = 0;
+    while n < 6 {
+        table[b'A' as usize + n] = 10 + n as u8;
+        table[b'a' as usize + n] = 10 + n as u8;
+        n += 1;
+    }
+    table
+}
+
+const fn triples() -> [[u8; 3]; 256] {
+    let digits = *b"0123456789ABCDEF";
+    let mut table = [[b' '; 3]; 256];
+    let mut n = 0;
+    while n < 256 {
+        table[n][1] = digits[n / 16];
+        table[n][2] = digits[n % 16];
+        n += 1;
+    }
+    table
+}
+
+/// Text that waits to be written.
+struct Text {
+    bytes: [u8; TEXT],
+    len: usize,
+}
+
+impl Text {
+    fn put(&mut self, text: &[u8]) {
+        self.bytes[self.len..self.len + text.len()].copy_from_slice(text);
+        self.len += text.len();
+    }
+
+    fn decimal(&mut self, mut n: u16) {
+        let mut digits = [0; 5];
+        let mut at = digits.len();
+        loop {
+            at -= 1;
+            digits[at] = b'0' + (n % 10) as u8;
+            n /= 10;
+            if n == 0 {
+                break;
+            }
+        }
+        self.put(&digits[at..]);
+    }
+
+    fn octal(&mut self, n: u16) {
+        self.put(&[15, 12, 9, 6, 3, 0].map(|shift| b'0' + (n >> shift & 7) as u8));
+    }
+
+    fn data(&mut self, body: &[u8]) {
+        let end = self.len + 3 * body.len();
+        for (place, byte) in self.bytes[self.len..end].chunks_exact_mut(3).zip(body) {
+            place.copy_from_slice(&TRIPLES[usize::from(*byte)]);
+        }
+        self.len = end;
+    }
+
+    fn hand_on(&mut self) -> io::Result<()> {
+        io::stdout().write_all(&self.bytes[..self.len])?;
+        self.len = 0;
+        io::stdout().flush()
+    }
 }
 
 enum Fault {
@@ -19,30 +100,40 @@ enum Fault {
     Trailing,
 }
 
-fn digit(b: u8) -> Option<u8> {
-    match b {
-        b'0'..=b'9' => Some(b - b'0'),
-        b'A'..=b'F' => Some(b - b'A' + 10),
-        b'a'..=b'f' => Some(b - b'a' + 10),
-        _ => None,
-    }
+struct Packet {
+    op: u8,
+    fwd: u8,
+    words: [u16; 6],
+    body: [u8; 488],
+    count: usize,
 }
 
-fn hex(line: &[u8]) -> Option<Vec<u8>> {
-    let mut bytes = Vec::with_capacity(line.len() / 2);
+/// The bytes that a line stands for, at the front of `bytes`.
+fn hex(line: &[u8], bytes: &mut [u8; LINE_LIMIT / 2]) -> Option<usize> {
+    let mut count = 0;
     let mut i = 0;
     while i < line.len() {
-        if line[i] == b' ' || line[i] == b'\t' {
+        let high = VALUES[usize::from(line[i])];
+        if high == NO_DIGIT {
+            if line[i] != b' ' && line[i] != b'\t' {
+                return None;
+            }
             i += 1;
             continue;
         }
-        if line.len() - i < 2 {
+        let low = VALUES[usize::from(*line.get(i + 1)?)];
+        if low == NO_DIGIT {
             return None;
         }
-        bytes.push(16 * digit(line[i])? + digit(line[i + 1])?);
+        bytes[count] = 16 * high + low;
+        count += 1;
         i += 2;
     }
-    Some(bytes)
+    Some(count)
+}
+
+fn word(bytes: &[u8], at: usize) -> u16 {
+    u16::from_be_bytes([bytes[4 + 2 * at], bytes[5 + 2 * at]])
 }
 
 fn decode(bytes: &[u8]) -> Result<Packet, Fault> {
@@ -55,127 +146,167 @@ fn decode(bytes: &[u8]) -> Result<Packet, Fault> {
     if bytes[2..4] != [1, 0] {
         return Err(Fault::BadVersion);
     }
-    let words: Vec<u16> = bytes[4..]
-        .chunks_exact(2)
-        .map(|w| u16::from_be_bytes([w[0], w[1]]))
-        .collect();
-    if words.len() < 8 {
+    let words = (bytes.len() - 4) / 2;
+    if words < 8 {
         return Err(Fault::PacketShort);
     }
-    let count = usize::from(words[1] % 4096);
+    let count = usize::from(word(bytes, 1) % 4096);
     if count > 488 {
         return Err(Fault::BadCount);
     }
-    let used = 8 + (count + 1) / 2;
-    if words.len() < used {
+    let used = 8 + count.div_ceil(2);
+    if words < used {
         return Err(Fault::Truncated);
     }
     if bytes.len() > 4 + 2 * used {
         return Err(Fault::Trailing);
     }
-    let mut body: Vec<u8> = words[8..used]
-        .iter()
-        .flat_map(|w| w.to_le_bytes())
-        .collect();
-    body.truncate(count);
+    let mut body = [0; 488];
+    for (pair, swapped) in body.chunks_exact_mut(2).zip(bytes[20..].chunks_exact(2)) {
+        pair.copy_from_slice(&[swapped[1], swapped[0]]);
+    }
     Ok(Packet {
-        op: (words[0] >> 8) as u8,
-        fwd: (words[1] >> 12) as u8,
-        words: [words[2], words[3], words[4], words[5], words[6], words[7]],
+        op: bytes[4],
+        fwd: bytes[6] >> 4,
+        words: [2, 3, 4, 5, 6, 7].map(|at| word(bytes, at)),
         body,
+        count,
     })
 }
 
-fn name(op: u8) -> Option<&'static str> {
-    Some(match op {
-        0o1 => "RFC",
-        0o2 => "OPN",
-        0o3 => "CLS",
-        0o4 => "FWD",
-        0o5 => "ANS",
-        0o6 => "SNS",
-        0o7 => "STS",
-        0o11 => "LOS",
-        0o12 => "LSN",
-        0o14 => "EOF",
-        0o15 => "UNC",
-        0o200..=0o277 => "DAT",
-        0o300..=0o377 => "DWD",
-        _ => return None,
-    })
+fn name(op: u8) -> &'static [u8] {
+    match op {
+        0o1 => b" RFC\n",
+        0o2 => b" OPN\n",
+        0o3 => b" CLS\n",
+        0o4 => b" FWD\n",
+        0o5 => b" ANS\n",
+        0o6 => b" SNS\n",
+        0o7 => b" STS\n",
+        0o11 => b" LOS\n",
+        0o12 => b" LSN\n",
+        0o14 => b" EOF\n",
+        0o15 => b" UNC\n",
+        0o200..=0o277 => b" DAT\n",
+        0o300..=0o377 => b" DWD\n",
+        _ => b"\n",
+    }
 }
 
-fn print(out: &mut impl Write, p: &Packet) -> io::Result<()> {
-    match name(p.op) {
-        Some(name) => writeln!(out, "op {:03o} {}", p.op, name)?,
-        None => writeln!(out, "op {:03o}", p.op)?,
+fn print(text: &mut Text, p: &Packet) {
+    let op = [6, 3, 0].map(|shift| b'0' + (p.op >> shift & 7));
+    text.put(b"op ");
+    text.put(&op);
+    text.put(name(p.op));
+    text.put(b"fwd ");
+    text.decimal(u16::from(p.fwd));
+    text.put(b" count ");
+    text.decimal(p.count as u16);
+    text.put(b"\nto ");
+    text.octal(p.words[0]);
+    text.put(b" ");
+    text.octal(p.words[1]);
+    text.put(b"\nfrom ");
+    text.octal(p.words[2]);
+    text.put(b" ");
+    text.octal(p.words[3]);
+    text.put(b"\nnum ");
+    text.decimal(p.words[4]);
+    text.put(b" ack ");
+    text.decimal(p.words[5]);
+    text.put(b"\n");
+    let body = &p.body[..p.count];
+    if (p.op == 2 || p.op == 7) && body.len() >= 4 {
+        text.put(b"receipt ");
+        text.decimal(u16::from_le_bytes([body[0], body[1]]));
+        text.put(b" window ");
+        text.decimal(u16::from_le_bytes([body[2], body[3]]));
+        text.put(b"\n");
+    } else if !body.is_empty() {
+        text.put(b"data");
+        text.data(body);
+        text.put(b"\n");
     }
-    writeln!(out, "fwd {} count {}", p.fwd, p.body.len())?;
-    writeln!(out, "to {:06o} {:06o}", p.words[0], p.words[1])?;
-    writeln!(out, "from {:06o} {:06o}", p.words[2], p.words[3])?;
-    writeln!(out, "num {} ack {}", p.words[4], p.words[5])?;
-    if (p.op == 2 || p.op == 7) && p.body.len() >= 4 {
-        let b = &p.body;
-        writeln!(
-            out,
-            "receipt {} window {}",
-            u16::from_le_bytes([b[0], b[1]]),
-            u16::from_le_bytes([b[2], b[3]])
-        )?;
-    } else if !p.body.is_empty() {
-        write!(out, "data")?;
-        for b in &p.body {
-            write!(out, " {:02X}", b)?;
-        }
-        writeln!(out)?;
-    }
-    Ok(())
 }
 
-fn fault(f: Fault) -> &'static str {
+fn fault(f: Fault) -> &'static [u8] {
     match f {
-        Fault::Line => "fault 0 Line",
-        Fault::Short => "fault 1 Short",
-        Fault::BadMark => "fault 2 BadMark",
-        Fault::BadVersion => "fault 3 BadVersion",
-        Fault::PacketShort => "fault 4 Packet 1 Short",
-        Fault::BadCount => "fault 4 Packet 2 BadCount",
-        Fault::Truncated => "fault 4 Packet 3 Truncated",
-        Fault::Trailing => "fault 5 Trailing",
+        Fault::Line => b"fault 0 Line\n",
+        Fault::Short => b"fault 1 Short\n",
+        Fault::BadMark => b"fault 2 BadMark\n",
+        Fault::BadVersion => b"fault 3 BadVersion\n",
+        Fault::PacketShort => b"fault 4 Packet 1 Short\n",
+        Fault::BadCount => b"fault 4 Packet 2 BadCount\n",
+        Fault::Truncated => b"fault 4 Packet 3 Truncated\n",
+        Fault::Trailing => b"fault 5 Trailing\n",
     }
+}
+
+/// The reports so far, and the bytes of the line that is reported.
+struct Reporter {
+    text: Text,
+    bytes: [u8; LINE_LIMIT / 2],
+    is_first: bool,
+}
+
+impl Reporter {
+    fn report(&mut self, line: &[u8]) -> io::Result<()> {
+        if TEXT - self.text.len < ROOM {
+            self.text.hand_on()?;
+        }
+        if !self.is_first {
+            self.text.put(b"\n");
+        }
+        self.is_first = false;
+        let line = line.strip_suffix(b"\r").unwrap_or(line);
+        let read = if line.len() > LINE_LIMIT {
+            Err(Fault::Line)
+        } else {
+            hex(line, &mut self.bytes)
+                .ok_or(Fault::Line)
+                .and_then(|count| decode(&self.bytes[..count]))
+        };
+        match read {
+            Ok(packet) => print(&mut self.text, &packet),
+            Err(f) => self.text.put(fault(f)),
+        }
+        Ok(())
+    }
+}
+
+/// Where the line ends that begins the bytes.
+fn newline(bytes: &[u8]) -> Option<usize> {
+    bytes.iter().position(|byte| *byte == b'\n')
 }
 
 fn main() -> io::Result<()> {
-    let mut input = BufReader::new(io::stdin().lock());
-    let mut out = BufWriter::new(io::stdout().lock());
-    let mut line = Vec::new();
-    let mut first = true;
+    let mut reporter = Reporter {
+        text: Text { bytes: [0; TEXT], len: 0 },
+        bytes: [0; LINE_LIMIT / 2],
+        is_first: true,
+    };
+    let mut input = io::stdin().lock();
+    let mut chunk = [0; CHUNK + LINE_LIMIT + 2];
+    let mut kept = 0;
     loop {
-        line.clear();
-        if input.read_until(b'\n', &mut line)? == 0 {
-            break;
-        }
-        if line.last() == Some(&b'\n') {
-            line.pop();
-        }
-        if line.last() == Some(&b'\r') {
-            line.pop();
-        }
-        if !first {
-            writeln!(out)?;
-        }
-        first = false;
-        let read = if line.len() > 4096 {
-            Err(Fault::Line)
-        } else {
-            hex(&line)
-                .ok_or(Fault::Line)
-                .and_then(|bytes| decode(&bytes))
+        reporter.text.hand_on()?;
+        let end = match input.read(&mut chunk[kept..]) {
+            Ok(0) => break,
+            Ok(count) => kept + count,
+            Err(error) if error.kind() == ErrorKind::Interrupted => continue,
+            Err(error) => return Err(error),
         };
-        match read {
-            Ok(packet) => print(&mut out, &packet)?,
-            Err(f) => writeln!(out, "{}", fault(f))?,
+        let mut start = 0;
+        while let Some(at) = newline(&chunk[start..end]) {
+            reporter.report(&chunk[start..start + at])?;
+            start += at + 1;
         }
+        // A line of which so much is kept is too long, whatever comes.
+        kept = (end - start).min(LINE_LIMIT + 2);
+        chunk.copy_within(start..start + kept, 0);
     }
-    out.flush()
+    if kept > 0 {
+        reporter.report(&chunk[..kept])?;
+    }
+    reporter.text.hand_on()
 }

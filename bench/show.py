@@ -1,7 +1,8 @@
 #!/usr/bin/env python3
 """Times `chaosd show` beside a plain Rust program that prints the same, on inputs of nearly 1 MiB.
 
-Run it by `make bench`. Each figure is the least of ten runs, taken in turn, and the outputs have to be the same.
+Run it by `make bench`. The plain program is built for the same processors (x86-64-v2). Each figure is the least of twenty
+runs, taken in turn, and the outputs have to be the same.
 """
 
 import pathlib
@@ -39,13 +40,13 @@ def run(command, text, out):
 def main():
     with tempfile.TemporaryDirectory() as folder:
         plain = f"{folder}/plain_show"
-        subprocess.run(["rustc", "-O", "-o", plain, HERE / "plain_show.rs"], check=True)
+        subprocess.run(["rustc", "-O", "-C", "target-cpu=x86-64-v2", "-o", plain, HERE / "plain_show.rs"], check=True)
         programs = {"chaosd": [HERE.parent / "bin/chaosd", "show"], "plain": [plain]}
         for name, content in INPUTS.items():
             text = f"{folder}/input"
             pathlib.Path(text).write_bytes(content)
             best, seen = {}, {}
-            for _ in range(10):
+            for _ in range(20):
                 for program, command in programs.items():
                     spent, seen[program] = run(command, text, f"{folder}/output")
                     best[program] = min(best.get(program, spent), spent)

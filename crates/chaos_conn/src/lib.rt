@@ -17,11 +17,9 @@ mod opening;
 mod sending;
 mod state;
 mod stored;
-#[cfg(test)]
-mod tests;
 mod time;
 
-pub use answers::{Delivered, ReadEnd, Ticked, Why};
+pub use answers::{Delivered, ReadDone, ReadEnd, Ticked, Why};
 pub use config::ConnConfig;
 pub use conn::Conn;
 pub use fault::{ConfigFault, ConnFault};

@@ -11,8 +11,8 @@ use Rattle.chaos_file.specs.declared.command.Word.{Word}
 use Rattle.chaos_file.specs.declared.command.Word.TheVariants as w
 use Rattle.chaos_file.specs.Names.{is_name, is_path}
 use Rattle.chaos_file.specs.Command.{CommandView, Login, OpenRead, OpenWrite, Read, Write, Close, Rename, Delete, FormView, Malformed, IllegalPath, Formed, ParsedView, NoWord, Good}
-use Rattle.chaos_file.specs.Grammar.{is_nil, space, cut, after_front, Head, head_of, head_after, named_head, word_of, word_end, formed_if, legal_if, login_form, open_write_form, open_form, write_form, paths_form, rename_form, delete_form, form_of, parsed_form, parsed_word, parsed_tail, parsed_head, parsed}
-use Rattle.chaos_file.specs.Spelling.{spelled_command, spelled, is_legal, is_good}
+use Rattle.chaos_file.specs.Grammar.{is_nil, space, cut, after_front, Head, head_of, head_after, named_head, word_of, word_end, formed_if, legal_if, login_form, open_write_form, open_form, write_form, paths_form, rename_form, delete_form, form_of, parse_of_form, parse_of_word, parse_of_tail, parse_of_head, parse_of}
+use Rattle.chaos_file.specs.Spelling.{spelling_of_command, spelling_of, is_legal, is_good}
 use Rattle.chaos_file.proofs.Files.{bytes_same}
 use Rattle.chaos_file.proofs.Spelling.{both_left, both_right}
 
@@ -87,11 +87,11 @@ where_parts false f c h = (cc, cc)
 
 -- a word and what stands behind it spell a legal command
 Spells : List ℕ → List ℕ → Bool → CommandView → Type 0
-Spells word rest bare command = (word ++ rest ≡ spelled_command command) × (is_legal bare command ≡ true)
+Spells word rest bare command = (word ++ rest ≡ spelling_of_command command) × (is_legal bare command ≡ true)
 
-spells : (word rest : List ℕ) (bare : Bool) (c d : CommandView) → c ≡ d → word ++ rest ≡ spelled_command c → is_legal bare c ≡ true → Spells word rest bare d
+spells : (word rest : List ℕ) (bare : Bool) (c d : CommandView) → c ≡ d → word ++ rest ≡ spelling_of_command c → is_legal bare c ≡ true → Spells word rest bare d
 unfolding Spells
-spells word rest bare c d e h k = (h ∙ ap spelled_command e, ap (is_legal bare) (sym e) ∙ k)
+spells word rest bare c d e h k = (h ∙ ap spelling_of_command e, ap (is_legal bare) (sym e) ∙ k)
 
 unmade : (c : CommandView) → Malformed ≡ Formed c → ⊥
 unmade c h = cc
@@ -115,7 +115,7 @@ open_parts rest c (Some path) e h =
     spells (codes "OPEN") rest false (OpenRead path) c p.1 (ap (λ r. codes "OPEN" ++ r) (front_parts (codes " READ" ++ NL ∷ []) rest path e)) p.0
 
 -- a word with nothing behind it
-alone_parts : (word rest : List ℕ) (bare : Bool) (c d : CommandView) → word ++ [] ≡ spelled_command c → not bare ≡ is_legal bare c → formed_if (not bare && is_nil rest) c ≡ Formed d → Spells word rest bare d
+alone_parts : (word rest : List ℕ) (bare : Bool) (c d : CommandView) → word ++ [] ≡ spelling_of_command c → not bare ≡ is_legal bare c → formed_if (not bare && is_nil rest) c ≡ Formed d → Spells word rest bare d
 alone_parts word rest bare c d s l h =
     let p : ((not bare && is_nil rest) ≡ true) × (c ≡ d) = formed_parts (not bare && is_nil rest) c d h in
     spells word rest bare c d p.1
@@ -203,10 +203,10 @@ word_parts bytes word h =
 -- the two names are given back, and the rest spells the command
 SpellsTail : List ℕ → List ℕ → List ℕ → ParsedView → Type 0
 SpellsTail t h tail (Good tid handle command) =
-    (t ≡ tid) × (h ≡ handle) × (tail ≡ spelled_command command) × (is_legal (is_nil h) command ≡ true)
+    (t ≡ tid) × (h ≡ handle) × (tail ≡ spelling_of_command command) × (is_legal (is_nil h) command ≡ true)
 SpellsTail t h tail _ = Unit {0}
 
-form_spells : (t h : List ℕ) (word : Word) (end : ℕ) (tail : List ℕ) → take end tail ≡ letters word → (f : FormView) → form_of word (is_nil h) (drop end tail) ≡ f → SpellsTail t h tail (parsed_form t h word f)
+form_spells : (t h : List ℕ) (word : Word) (end : ℕ) (tail : List ℕ) → take end tail ≡ letters word → (f : FormView) → form_of word (is_nil h) (drop end tail) ≡ f → SpellsTail t h tail (parse_of_form t h word f)
 unfolding SpellsTail Spells
 form_spells t h word end tail e Malformed f = tt
 form_spells t h word end tail e IllegalPath f = tt
@@ -214,7 +214,7 @@ form_spells t h word end tail e (Formed command) f =
     let s : Spells (letters word) (drop end tail) (is_nil h) command = form_parts (is_nil h) (drop end tail) command word f in
     (refl, refl, sym (take-append-drop end tail) ∙ ap (λ x. x ++ drop end tail) e ∙ s.0, s.1)
 
-word_spells : (t h : List ℕ) (end : ℕ) (tail : List ℕ) → (o : Option Word) → word_of (take end tail) ≡ o → SpellsTail t h tail (parsed_word t h (drop end tail) o)
+word_spells : (t h : List ℕ) (end : ℕ) (tail : List ℕ) → (o : Option Word) → word_of (take end tail) ≡ o → SpellsTail t h tail (parse_of_word t h (drop end tail) o)
 unfolding SpellsTail
 word_spells t h end tail None e = tt
 word_spells t h end tail (Some word) e = form_spells t h word end tail (word_parts (take end tail) word e) (form_of word (is_nil h) (drop end tail)) refl
@@ -224,8 +224,8 @@ unfolding SpellsTail
 tail_or t h tail p s true = tt
 tail_or t h tail p s false = s
 
-tail_spells : (t h tail : List ℕ) (end : ℕ) → SpellsTail t h tail (parsed_tail t h tail end)
-tail_spells t h tail end = tail_or t h tail (parsed_word t h (drop end tail) (word_of (take end tail))) (word_spells t h end tail (word_of (take end tail)) refl) (end == 0)
+tail_spells : (t h tail : List ℕ) (end : ℕ) → SpellsTail t h tail (parse_of_tail t h tail end)
+tail_spells t h tail end = tail_or t h tail (parse_of_word t h (drop end tail) (word_of (take end tail))) (word_spells t h end tail (word_of (take end tail)) refl) (end == 0)
 
 -- the head of a command: its two legal names, and what follows
 IsHead : List ℕ → Head → Type 0
@@ -251,23 +251,23 @@ unfolding IsHead
 head_parts bytes h None e k = (cc, cc, cc)
 head_parts bytes h (Some q) e k = named_parts bytes q.0 q.1 h (cut_parts space bytes q e) (cut space q.1) refl k
 
-whole : (bytes : List ℕ) (h : Head) (tid handle : List ℕ) (command : CommandView) → IsHead bytes h → (p : ParsedView) → SpellsTail h.tid h.handle h.tail p → p ≡ Good tid handle command → (bytes ≡ spelled tid handle command) × (is_good tid handle command ≡ true)
+whole : (bytes : List ℕ) (h : Head) (tid handle : List ℕ) (command : CommandView) → IsHead bytes h → (p : ParsedView) → SpellsTail h.tid h.handle h.tail p → p ≡ Good tid handle command → (bytes ≡ spelling_of tid handle command) × (is_good tid handle command ≡ true)
 unfolding IsHead SpellsTail
 whole bytes h tid handle command i p s e =
     let P : ParsedView → Type 0 = λ x. SpellsTail h.tid h.handle h.tail x in
-    let g : (h.tid ≡ tid) × (h.handle ≡ handle) × (h.tail ≡ spelled_command command) × (is_legal (is_nil h.handle) command ≡ true) = subst P e s in (
+    let g : (h.tid ≡ tid) × (h.handle ≡ handle) × (h.tail ≡ spelling_of_command command) × (is_legal (is_nil h.handle) command ≡ true) = subst P e s in (
       i.0 ∙ ap (λ x. x ++ space ∷ (h.handle ++ space ∷ h.tail)) g.0 ∙ ap (λ x. tid ++ space ∷ (x ++ space ∷ h.tail)) g.1 ∙ ap (λ x. tid ++ space ∷ (handle ++ space ∷ x)) g.2,
       both (is_name 1 MAX_TID tid) (is_name 0 MAX_HANDLE handle && is_legal (is_nil handle) command) (ap (is_name 1 MAX_TID) (sym g.0) ∙ i.1)
           (both (is_name 0 MAX_HANDLE handle) (is_legal (is_nil handle) command) (ap (is_name 0 MAX_HANDLE) (sym g.1) ∙ i.2) (ap (λ x. is_legal (is_nil x) command) (sym g.1) ∙ g.3)),
     )
 
-read_from : (bytes tid handle : List ℕ) (command : CommandView) → (o : Option Head) → head_of bytes ≡ o → parsed_head o ≡ Good tid handle command → (bytes ≡ spelled tid handle command) × (is_good tid handle command ≡ true)
+read_from : (bytes tid handle : List ℕ) (command : CommandView) → (o : Option Head) → head_of bytes ≡ o → parse_of_head o ≡ Good tid handle command → (bytes ≡ spelling_of tid handle command) × (is_good tid handle command ≡ true)
 read_from bytes tid handle command None e h = (cc, cc)
 read_from bytes tid handle command (Some g) e h =
-    whole bytes g tid handle command (head_parts bytes g (cut space bytes) refl e) (parsed_tail g.tid g.handle g.tail (word_end g.tail)) (tail_spells g.tid g.handle g.tail (word_end g.tail)) h
+    whole bytes g tid handle command (head_parts bytes g (cut space bytes) refl e) (parse_of_tail g.tid g.handle g.tail (word_end g.tail)) (tail_spells g.tid g.handle g.tail (word_end g.tail)) h
 
-pub read_spelled : (bytes tid handle : List ℕ) (command : CommandView) → parsed bytes ≡ Good tid handle command → bytes ≡ spelled tid handle command
+pub read_spelled : (bytes tid handle : List ℕ) (command : CommandView) → parse_of bytes ≡ Good tid handle command → bytes ≡ spelling_of tid handle command
 read_spelled bytes tid handle command h = (read_from bytes tid handle command (head_of bytes) refl h).0
 
-pub read_good : (bytes tid handle : List ℕ) (command : CommandView) → parsed bytes ≡ Good tid handle command → is_good tid handle command ≡ true
+pub read_good : (bytes tid handle : List ℕ) (command : CommandView) → parse_of bytes ≡ Good tid handle command → is_good tid handle command ≡ true
 read_good bytes tid handle command h = (read_from bytes tid handle command (head_of bytes) refl h).1

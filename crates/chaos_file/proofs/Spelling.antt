@@ -10,8 +10,8 @@ use Rattle.chaos_file.specs.declared.command.Word.{Word}
 use Rattle.chaos_file.specs.declared.command.Word.TheVariants as w
 use Rattle.chaos_file.specs.Names.{is_name, is_path, is_path_byte, begins_with_dot}
 use Rattle.chaos_file.specs.Command.{CommandView, Login, OpenRead, OpenWrite, Read, Write, Close, Rename, Delete, FormView, Malformed, Formed, Good}
-use Rattle.chaos_file.specs.Grammar.{is_nil, space, cut, head_of, head_after, named_head, ends_word, word_end, formed_if, legal_if, paths_form, parsed_form, parsed_tail, parsed_head, parsed}
-use Rattle.chaos_file.specs.Spelling.{spelled_command, spelled, is_legal, is_good}
+use Rattle.chaos_file.specs.Grammar.{is_nil, space, cut, head_of, head_after, named_head, ends_word, word_end, formed_if, legal_if, paths_form, parse_of_form, parse_of_tail, parse_of_head, parse_of}
+use Rattle.chaos_file.specs.Spelling.{spelling_of_command, spelling_of, is_legal, is_good}
 
 pub both_left : (a b : Bool) → (a && b) ≡ true → a ≡ true
 both_left true b h = refl
@@ -80,45 +80,45 @@ head_spelled tid handle tail t h =
 ended_word : (front rest : List ℕ) (b : ℕ) → list_all (λ x. not (ends_word x)) front ≡ true → ends_word b ≡ true → word_end (front ++ b ∷ rest) ≡ length front
 ended_word front rest b h e = rw (position_front ends_word front rest b h e)
 
-good_if : (tid handle : List ℕ) (word : Word) (command : CommandView) → (v : Bool) → v ≡ true → parsed_form tid handle word (formed_if v command) ≡ Good tid handle command
-good_if tid handle word command v h = ap (λ b. parsed_form tid handle word (formed_if b command)) h
+good_if : (tid handle : List ℕ) (word : Word) (command : CommandView) → (v : Bool) → v ≡ true → parse_of_form tid handle word (formed_if v command) ≡ Good tid handle command
+good_if tid handle word command v h = ap (λ b. parse_of_form tid handle word (formed_if b command)) h
 
-good_unless : (tid handle : List ℕ) (word : Word) (command : CommandView) (f : Bool → FormView) → f true ≡ Formed command → (bare v : Bool) → (not bare && v) ≡ true → parsed_form tid handle word (if bare then Malformed else f v) ≡ Good tid handle command
+good_unless : (tid handle : List ℕ) (word : Word) (command : CommandView) (f : Bool → FormView) → f true ≡ Formed command → (bare v : Bool) → (not bare && v) ≡ true → parse_of_form tid handle word (if bare then Malformed else f v) ≡ Good tid handle command
 good_unless tid handle word command f g true v h = cc
-good_unless tid handle word command f g false v h = ap (λ b. parsed_form tid handle word (f b)) h ∙ ap (parsed_form tid handle word) g
+good_unless tid handle word command f g false v h = ap (λ b. parse_of_form tid handle word (f b)) h ∙ ap (parse_of_form tid handle word) g
 
-good_where : (tid handle : List ℕ) (word : Word) (command : CommandView) (f : Bool → FormView) → f true ≡ Formed command → (bare v : Bool) → (bare && v) ≡ true → parsed_form tid handle word (if bare then f v else Malformed) ≡ Good tid handle command
-good_where tid handle word command f g true v h = ap (λ b. parsed_form tid handle word (f b)) h ∙ ap (parsed_form tid handle word) g
+good_where : (tid handle : List ℕ) (word : Word) (command : CommandView) (f : Bool → FormView) → f true ≡ Formed command → (bare v : Bool) → (bare && v) ≡ true → parse_of_form tid handle word (if bare then f v else Malformed) ≡ Good tid handle command
+good_where tid handle word command f g true v h = ap (λ b. parse_of_form tid handle word (f b)) h ∙ ap (parse_of_form tid handle word) g
 good_where tid handle word command f g false v h = cc
 
-tail_spelled : (tid handle : List ℕ) → (command : CommandView) → is_legal (is_nil handle) command ≡ true → parsed_tail tid handle (spelled_command command) (word_end (spelled_command command)) ≡ Good tid handle command
+tail_spelled : (tid handle : List ℕ) → (command : CommandView) → is_legal (is_nil handle) command ≡ true → parse_of_tail tid handle (spelling_of_command command) (word_end (spelling_of_command command)) ≡ Good tid handle command
 tail_spelled tid handle (Login name) h =
-    ap (parsed_tail tid handle (spelled_command (Login name))) (ended_word (codes "LOGIN") name space refl refl)
+    ap (parse_of_tail tid handle (spelling_of_command (Login name))) (ended_word (codes "LOGIN") name space refl refl)
     ∙ good_if tid handle w.Login (Login name) (is_nil handle && is_name 1 MAX_NAME name) h
 tail_spelled tid handle (OpenRead path) h =
-    ap (parsed_tail tid handle (spelled_command (OpenRead path))) (ended_word (codes "OPEN") (codes "READ" ++ NL ∷ path) space refl refl)
+    ap (parse_of_tail tid handle (spelling_of_command (OpenRead path))) (ended_word (codes "OPEN") (codes "READ" ++ NL ∷ path) space refl refl)
     ∙ good_unless tid handle w.Open (OpenRead path) (λ v. legal_if v (OpenRead path)) refl (is_nil handle) (is_path path) h
 tail_spelled tid handle (OpenWrite path) h =
-    ap (parsed_tail tid handle (spelled_command (OpenWrite path))) (ended_word (codes "OPEN") (codes "WRITE" ++ NL ∷ path) space refl refl)
+    ap (parse_of_tail tid handle (spelling_of_command (OpenWrite path))) (ended_word (codes "OPEN") (codes "WRITE" ++ NL ∷ path) space refl refl)
     ∙ good_unless tid handle w.Open (OpenWrite path) (λ v. legal_if v (OpenWrite path)) refl (is_nil handle) (is_path path) h
 tail_spelled tid handle Read h = good_if tid handle w.Read Read (not (is_nil handle) && true) (ap (λ v. v && true) h)
 tail_spelled tid handle (Write bytes) h =
-    ap (parsed_tail tid handle (spelled_command (Write bytes))) (ended_word (codes "WRITE") bytes NL refl refl)
+    ap (parse_of_tail tid handle (spelling_of_command (Write bytes))) (ended_word (codes "WRITE") bytes NL refl refl)
     ∙ good_unless tid handle w.Write (Write bytes) (λ v. formed_if v (Write bytes)) refl (is_nil handle) (nat_le (length bytes) MAX_CHUNK) h
 tail_spelled tid handle Close h = good_if tid handle w.Close Close (not (is_nil handle) && true) (ap (λ v. v && true) h)
 tail_spelled tid handle (Rename old new) h =
     let paths : (is_path old && is_path new) ≡ true = both_right (is_nil handle) (is_path old && is_path new) h in
     let halves : cut NL (old ++ NL ∷ new) ≡ Some (old, new) = cut_front NL old new (without is_path_byte NL refl old (path_bytes old (both_left (is_path old) (is_path new) paths))) in
-    ap (parsed_tail tid handle (spelled_command (Rename old new))) (ended_word (codes "RENAME") (old ++ NL ∷ new) NL refl refl)
-    ∙ ap (λ p. parsed_form tid handle w.Rename (if is_nil handle then paths_form p else Malformed)) halves
+    ap (parse_of_tail tid handle (spelling_of_command (Rename old new))) (ended_word (codes "RENAME") (old ++ NL ∷ new) NL refl refl)
+    ∙ ap (λ p. parse_of_form tid handle w.Rename (if is_nil handle then paths_form p else Malformed)) halves
     ∙ good_where tid handle w.Rename (Rename old new) (λ v. legal_if v (Rename old new)) refl (is_nil handle) (is_path old && is_path new) h
 tail_spelled tid handle (Delete path) h =
-    ap (parsed_tail tid handle (spelled_command (Delete path))) (ended_word (codes "DELETE") path NL refl refl)
+    ap (parse_of_tail tid handle (spelling_of_command (Delete path))) (ended_word (codes "DELETE") path NL refl refl)
     ∙ good_where tid handle w.Delete (Delete path) (λ v. legal_if v (Delete path)) refl (is_nil handle) (is_path path) h
 
-pub parsed_spelled : (tid handle : List ℕ) (command : CommandView) → is_good tid handle command ≡ true → parsed (spelled tid handle command) ≡ Good tid handle command
+pub parsed_spelled : (tid handle : List ℕ) (command : CommandView) → is_good tid handle command ≡ true → parse_of (spelling_of tid handle command) ≡ Good tid handle command
 parsed_spelled tid handle command h =
     let t : is_name 1 MAX_TID tid ≡ true = both_left (is_name 1 MAX_TID tid) (is_name 0 MAX_HANDLE handle && is_legal (is_nil handle) command) h in
     let others : (is_name 0 MAX_HANDLE handle && is_legal (is_nil handle) command) ≡ true = both_right (is_name 1 MAX_TID tid) (is_name 0 MAX_HANDLE handle && is_legal (is_nil handle) command) h in
-    ap parsed_head (head_spelled tid handle (spelled_command command) t (both_left (is_name 0 MAX_HANDLE handle) (is_legal (is_nil handle) command) others))
+    ap parse_of_head (head_spelled tid handle (spelling_of_command command) t (both_left (is_name 0 MAX_HANDLE handle) (is_legal (is_nil handle) command) others))
     ∙ tail_spelled tid handle command (both_right (is_name 0 MAX_HANDLE handle) (is_legal (is_nil handle) command) others)

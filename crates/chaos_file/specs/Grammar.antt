@@ -122,25 +122,25 @@ form_of w.Delete bare rest = if bare then delete_form (after_front (NL ∷ []) r
 
 -- ---- a whole command
 
-abbrev pub parsed_form : List ℕ → List ℕ → Word → FormView → ParsedView
-parsed_form tid handle word Malformed = BadForm tid handle word
-parsed_form tid handle word IllegalPath = BadPath tid handle word
-parsed_form tid handle word (Formed command) = Good tid handle command
+abbrev pub parse_of_form : List ℕ → List ℕ → Word → FormView → ParsedView
+parse_of_form tid handle word Malformed = BadForm tid handle word
+parse_of_form tid handle word IllegalPath = BadPath tid handle word
+parse_of_form tid handle word (Formed command) = Good tid handle command
 
-abbrev pub parsed_word : List ℕ → List ℕ → List ℕ → Option Word → ParsedView
-parsed_word tid handle rest None = Unknown tid handle
-parsed_word tid handle rest (Some word) = parsed_form tid handle word (form_of word (is_nil handle) rest)
+abbrev pub parse_of_word : List ℕ → List ℕ → List ℕ → Option Word → ParsedView
+parse_of_word tid handle rest None = Unknown tid handle
+parse_of_word tid handle rest (Some word) = parse_of_form tid handle word (form_of word (is_nil handle) rest)
 
 -- what the bytes behind the head say, where their word ends at `end`
-abbrev pub parsed_tail : List ℕ → List ℕ → List ℕ → ℕ → ParsedView
-parsed_tail tid handle tail end =
+abbrev pub parse_of_tail : List ℕ → List ℕ → List ℕ → ℕ → ParsedView
+parse_of_tail tid handle tail end =
     if end == 0 then NoWord tid handle
-    else parsed_word tid handle (drop end tail) (word_of (take end tail))
+    else parse_of_word tid handle (drop end tail) (word_of (take end tail))
 
-abbrev pub parsed_head : Option Head → ParsedView
-parsed_head None = BadHead
-parsed_head (Some h) = parsed_tail h.tid h.handle h.tail (word_end h.tail)
+abbrev pub parse_of_head : Option Head → ParsedView
+parse_of_head None = BadHead
+parse_of_head (Some h) = parse_of_tail h.tid h.handle h.tail (word_end h.tail)
 
 -- what a command's bytes say
-abbrev pub parsed : List ℕ → ParsedView
-parsed bytes = parsed_head (head_of bytes)
+abbrev pub parse_of : List ℕ → ParsedView
+parse_of bytes = parse_of_head (head_of bytes)

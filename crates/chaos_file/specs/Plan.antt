@@ -7,7 +7,7 @@ use Rattle.chaos_file.specs.declared.error.FileError.{FileError}
 use Rattle.chaos_file.specs.declared.error.FileError.TheVariants as e
 use Rattle.chaos_file.specs.Command.{CommandView, Login, OpenRead, OpenWrite, Read, Write, Close, Rename, Delete, ParsedView, BadHead, NoWord, Unknown, BadForm, BadPath, Good, word_said}
 use Rattle.chaos_file.specs.Answer.{Answer, LoggedIn, Opened, Wrote, Closed, read_answer}
-use Rattle.chaos_file.specs.Session.{HandleView, SessionView, writer, next_bytes, read_on, written, found, logged_in, with_handle, without_handle, opened}
+use Rattle.chaos_file.specs.Session.{HandleView, SessionView, writer, next_bytes, after_read, with_bytes, handle_named, with_name, with_handle, without_handle, with_new_handle}
 
 -- what is asked of the store
 pub data Request : Type 0 where
@@ -33,7 +33,7 @@ abbrev pub plan_read : SessionView → Option (ℕ × HandleView) → Plan
 plan_read s None = Refuse e.NoSuchHandle
 plan_read s (Some f) =
     if f.1.writes then Refuse e.WrongKind
-    else Tell (with_handle s f.0 (read_on f.1)) (read_answer (next_bytes f.1))
+    else Tell (with_handle s f.0 (after_read f.1)) (read_answer (next_bytes f.1))
 
 -- WRITE: no such handle, or one that reads, or a file too big
 abbrev pub plan_write : List ℕ → SessionView → Option (ℕ × HandleView) → Plan
@@ -41,7 +41,7 @@ plan_write bytes s None = Refuse e.NoSuchHandle
 plan_write bytes s (Some f) =
     if f.1.writes then
     (if nat_lt MAX_FILE (length f.1.bytes + length bytes) then Refuse e.FileTooBig
-    else Grow (with_handle s f.0 (written f.1 bytes)) (Wrote (length f.1.bytes + length bytes)))
+    else Grow (with_handle s f.0 (with_bytes f.1 bytes)) (Wrote (length f.1.bytes + length bytes)))
     else Refuse e.WrongKind
 
 -- CLOSE: the bytes of a handle that writes are put into the store, and the handle is gone
@@ -61,16 +61,16 @@ plan_unless None plan = plan
 plan_unless (Some error) plan = Refuse error
 
 abbrev pub plan_open : SessionView → List ℕ → Plan → Plan
-plan_open s handle plan = plan_unless (open_error s (found handle s.handles)) plan
+plan_open s handle plan = plan_unless (open_error s (handle_named handle s.handles)) plan
 
 -- a command of the right form, by a user who may give it
 abbrev pub plan_command : SessionView → List ℕ → CommandView → Plan
-plan_command s handle (Login name) = Tell (logged_in s name) (LoggedIn name)
+plan_command s handle (Login name) = Tell (with_name s name) (LoggedIn name)
 plan_command s handle (OpenRead path) = plan_open s handle (Ask (GetFile handle path))
-plan_command s handle (OpenWrite path) = plan_open s handle (Tell (opened s (writer handle path)) (Opened 0))
-plan_command s handle Read = plan_read s (found handle s.handles)
-plan_command s handle (Write bytes) = plan_write bytes s (found handle s.handles)
-plan_command s handle Close = plan_close s (found handle s.handles)
+plan_command s handle (OpenWrite path) = plan_open s handle (Tell (with_new_handle s (writer handle path)) (Opened 0))
+plan_command s handle Read = plan_read s (handle_named handle s.handles)
+plan_command s handle (Write bytes) = plan_write bytes s (handle_named handle s.handles)
+plan_command s handle Close = plan_close s (handle_named handle s.handles)
 plan_command s handle (Rename old new) = Ask (RenameFile old new)
 plan_command s handle (Delete path) = Ask (RemoveFile path)
 
@@ -79,8 +79,11 @@ is_login w.Login = true
 is_login _ = false
 
 -- every word but LOGIN wants a user who has given a name
+abbrev pub may_say : SessionView → Word → Bool
+may_say s word = is_login word || is_some s.name
+
 abbrev pub if_known : SessionView → Word → Plan → Plan
-if_known s word plan = if is_login word || is_some s.name then plan else Refuse e.NotLoggedIn
+if_known s word plan = if may_say s word then plan else Refuse e.NotLoggedIn
 
 -- the checks in their order: head and word, the word known, the user known, form, paths, and then the command's own
 abbrev pub plan_of : SessionView → ParsedView → Plan

@@ -1,7 +1,7 @@
 -- A list of commands, one after the other.
-use Rattle.std.specs.Prelude.{ℕ, List, [], ◌∷◌}
+use Rattle.std.specs.Prelude.{◌≡◌, ℕ, List, [], ◌∷◌, Some}
 use Rattle.chaos_file.specs.Session.{SessionView, new_session}
-use Rattle.chaos_file.specs.Store.{Files}
+use Rattle.chaos_file.specs.Store.{Files, Found, look_for, StoreChange, change}
 use Rattle.chaos_file.specs.Step.{file_step}
 
 -- the files after a list of commands
@@ -22,3 +22,7 @@ replies_from m s (c ∷ commands) = (file_step m s c).reply ∷ replies_from (fi
 -- the replies to a list of commands from a new session on
 abbrev pub replies_of : Files → List (List ℕ) → List (List ℕ)
 replies_of m commands = replies_from m new_session commands
+
+-- how a `MemStore` changed, from these files to those
+abbrev pub memory_change : Files → Files → StoreChange
+memory_change old new = change (λ m. Some m) (λ m path limit bytes. look_for m path limit ≡ Found bytes) (λ m. 0) old new

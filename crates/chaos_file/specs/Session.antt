@@ -34,12 +34,12 @@ abbrev pub next_bytes : HandleView → List ℕ
 next_bytes h = take MAX_CHUNK (drop h.position h.bytes)
 
 -- moved past those bytes
-abbrev pub read_on : HandleView → HandleView
-read_on h = record h { position = h.position + length (next_bytes h) }
+abbrev pub after_read : HandleView → HandleView
+after_read h = record h { position = h.position + length (next_bytes h) }
 
 -- with bytes added
-abbrev pub written : HandleView → List ℕ → HandleView
-written h bytes = record h { bytes = h.bytes ++ bytes }
+abbrev pub with_bytes : HandleView → List ℕ → HandleView
+with_bytes h bytes = record h { bytes = h.bytes ++ bytes }
 
 -- ---- the handles of a session
 
@@ -53,18 +53,18 @@ blank_handle = record { name = []; path = []; writes = false; bytes = []; positi
 abbrev pub handle_at : List HandleView → ℕ → HandleView
 handle_at handles place = slice_index_or handles place blank_handle
 
-abbrev pub found_at : List HandleView → Option ℕ → Option (ℕ × HandleView)
-found_at handles None = None
-found_at handles (Some place) = Some (place, handle_at handles place)
+abbrev pub handle_with_place : List HandleView → Option ℕ → Option (ℕ × HandleView)
+handle_with_place handles None = None
+handle_with_place handles (Some place) = Some (place, handle_at handles place)
 
 -- the handle of this name, with its place
-abbrev pub found : List ℕ → List HandleView → Option (ℕ × HandleView)
-found name handles = found_at handles (position (is_named name) handles)
+abbrev pub handle_named : List ℕ → List HandleView → Option (ℕ × HandleView)
+handle_named name handles = handle_with_place handles (position (is_named name) handles)
 
 -- ---- a session changed
 
-abbrev pub logged_in : SessionView → List ℕ → SessionView
-logged_in s name = record s { name = Some name }
+abbrev pub with_name : SessionView → List ℕ → SessionView
+with_name s name = record s { name = Some name }
 
 abbrev pub with_handle : SessionView → ℕ → HandleView → SessionView
 with_handle s place h = record s { handles = slice_set s.handles place h }
@@ -72,5 +72,5 @@ with_handle s place h = record s { handles = slice_set s.handles place h }
 abbrev pub without_handle : SessionView → ℕ → SessionView
 without_handle s place = record s { handles = remove s.handles place }
 
-abbrev pub opened : SessionView → HandleView → SessionView
-opened s h = record s { handles = s.handles ++ h ∷ [] }
+abbrev pub with_new_handle : SessionView → HandleView → SessionView
+with_new_handle s h = record s { handles = s.handles ++ h ∷ [] }

@@ -6,19 +6,19 @@ use Rattle.chaos_file.specs.Command.{CommandView, Login, OpenRead, OpenWrite, Re
 use Rattle.chaos_file.specs.Grammar.{is_nil, space}
 
 -- a word, and what stands behind it
-abbrev pub spelled_command : CommandView → List ℕ
-spelled_command (Login name) = codes "LOGIN" ++ space ∷ name
-spelled_command (OpenRead path) = codes "OPEN" ++ space ∷ (codes "READ" ++ NL ∷ path)
-spelled_command (OpenWrite path) = codes "OPEN" ++ space ∷ (codes "WRITE" ++ NL ∷ path)
-spelled_command Read = codes "READ"
-spelled_command (Write bytes) = codes "WRITE" ++ NL ∷ bytes
-spelled_command Close = codes "CLOSE"
-spelled_command (Rename old new) = codes "RENAME" ++ NL ∷ (old ++ NL ∷ new)
-spelled_command (Delete path) = codes "DELETE" ++ NL ∷ path
+abbrev pub spelling_of_command : CommandView → List ℕ
+spelling_of_command (Login name) = codes "LOGIN" ++ space ∷ name
+spelling_of_command (OpenRead path) = codes "OPEN" ++ space ∷ (codes "READ" ++ NL ∷ path)
+spelling_of_command (OpenWrite path) = codes "OPEN" ++ space ∷ (codes "WRITE" ++ NL ∷ path)
+spelling_of_command Read = codes "READ"
+spelling_of_command (Write bytes) = codes "WRITE" ++ NL ∷ bytes
+spelling_of_command Close = codes "CLOSE"
+spelling_of_command (Rename old new) = codes "RENAME" ++ NL ∷ (old ++ NL ∷ new)
+spelling_of_command (Delete path) = codes "DELETE" ++ NL ∷ path
 
 -- tid SP handle SP word rest
-abbrev pub spelled : List ℕ → List ℕ → CommandView → List ℕ
-spelled tid handle command = tid ++ space ∷ (handle ++ space ∷ spelled_command command)
+abbrev pub spelling_of : List ℕ → List ℕ → CommandView → List ℕ
+spelling_of tid handle command = tid ++ space ∷ (handle ++ space ∷ spelling_of_command command)
 
 -- the parts of a command are legal; `bare`: its handle is empty
 abbrev pub is_legal : Bool → CommandView → Bool

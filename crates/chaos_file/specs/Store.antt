@@ -1,8 +1,10 @@
 -- What the calls of a store do to its files.
-use Rattle.std.specs.Prelude.{◌≡◌, ◌<◌, ◌≤◌, ◌⊎◌, ℕ, Bool, true, false, List, [], Option, Some, None, unwrap_or, is_some, length, nat_lt, if◌then◌else◌}
+use Rattle.std.specs.Prelude.{◌≡◌, ◌≤◌, ℕ, Bool, true, false, List, [], Option, Some, None, unwrap_or, is_some, length, nat_lt, if◌then◌else◌}
 use Rattle.std.specs.Ordering.{nat_cmp}
 use Rattle.std.specs.Cmp.Lexicographic.{slice_cmp}
 use Rattle.std.specs.FinMap as map
+use Rattle.chaos_packet.specs.Count.{Rose, with_failure}
+use Rattle.chaos_file.specs.declared.limits.TheConstants.{MAX_FILE}
 use Rattle.chaos_file.specs.declared.store.Got.{Got}
 use Rattle.chaos_file.specs.declared.store.Got.TheVariants as g
 use Rattle.chaos_file.specs.declared.store.Stored.{Stored}
@@ -16,10 +18,6 @@ use Rattle.chaos_file.specs.declared.store.Renamed.TheVariants as r
 abbrev pub Files : Type 0
 Files = map.FinMap (slice_cmp nat_cmp) (List ℕ)
 
--- a count of failures is greater afterwards, or stands at the greatest `u64`
-abbrev pub Rose : ℕ → ℕ → Type 0
-Rose before after = (before < after) ⊎ (after ≡ 18446744073709551615)
-
 abbrev pub is_there : Files → List ℕ → Bool
 is_there m path = is_some (map.get m path)
 
@@ -29,16 +27,16 @@ pub data Look : Type 0 where
   Over : Look
   Found : (bytes : List ℕ) → Look
 
-abbrev pub sized : ℕ → Option (List ℕ) → Look
-sized limit None = Missing
-sized limit (Some bytes) = if nat_lt limit (length bytes) then Over else Found bytes
+abbrev pub look_within : ℕ → Option (List ℕ) → Look
+look_within limit None = Missing
+look_within limit (Some bytes) = if nat_lt limit (length bytes) then Over else Found bytes
 
-abbrev pub looked : Files → List ℕ → ℕ → Look
-looked m path limit = sized limit (map.get m path)
+abbrev pub look_for : Files → List ℕ → ℕ → Look
+look_for m path limit = look_within limit (map.get m path)
 
 -- the files with one of them moved to another path
-abbrev pub moved : Files → List ℕ → List ℕ → Files
-moved m old new = map.insert (map.remove m old) new (unwrap_or (map.get m old) [])
+abbrev pub with_moved : Files → List ℕ → List ℕ → Files
+with_moved m old new = map.insert (map.remove m old) new (unwrap_or (map.get m old) [])
 
 -- ---- the calls, over the files `m`; a call that fails or finds no memory leaves them
 
@@ -49,14 +47,14 @@ GotIs look g.TooBig = look ≡ Over
 GotIs look g.Failed = Unit {0}
 GotIs look g.NoMemory = Unit {0}
 
--- what is found is within the limit
-abbrev pub IsWithin : ℕ → Got → Type 0
-IsWithin limit (g.Bytes bytes) = length bytes ≤ limit
-IsWithin limit _ = Unit {0}
+-- bytes that are found are such as may be given
+abbrev pub Gives : (List ℕ → Type 0) → Got → Type 0
+Gives MayGive (g.Bytes bytes) = MayGive bytes
+Gives MayGive _ = Unit {0}
 
 -- the file of a path, as it is now
 abbrev pub Gets : List ℕ → ℕ → Got → Option Files → Files → Type 0
-Gets path limit answer after m = GotIs (looked m path limit) answer × (after ≡ Some m)
+Gets path limit answer after m = GotIs (look_for m path limit) answer × (after ≡ Some m)
 
 -- the whole content of a path, new or replaced
 abbrev pub Puts : List ℕ → List ℕ → Stored → Option Files → Files → Type 0
@@ -73,8 +71,47 @@ Removes path d.NoMemory after m = after ≡ Some m
 
 -- a file moved to a path that is free; the old path is looked for first
 abbrev pub Renames : List ℕ → List ℕ → Renamed → Option Files → Files → Type 0
-Renames old new r.Done after m = (is_there m old ≡ true) × (is_there m new ≡ false) × (after ≡ Some (moved m old new))
+Renames old new r.Done after m = (is_there m old ≡ true) × (is_there m new ≡ false) × (after ≡ Some (with_moved m old new))
 Renames old new r.Absent after m = (is_there m old ≡ false) × (after ≡ Some m)
 Renames old new r.Exists after m = (is_there m old ≡ true) × (is_there m new ≡ true) × (after ≡ Some m)
 Renames old new r.Failed after m = after ≡ Some m
 Renames old new r.NoMemory after m = after ≡ Some m
+
+-- ---- the failures after a call with this answer: one more where it failed
+
+abbrev pub failures_after_get : Got → ℕ → ℕ
+failures_after_get g.Failed count = with_failure count
+failures_after_get _ count = count
+
+abbrev pub failures_after_put : Stored → ℕ → ℕ
+failures_after_put p.Failed count = with_failure count
+failures_after_put _ count = count
+
+abbrev pub failures_after_remove : Removed → ℕ → ℕ
+failures_after_remove d.Failed count = with_failure count
+failures_after_remove _ count = count
+
+abbrev pub failures_after_rename : Renamed → ℕ → ℕ
+failures_after_rename r.Failed count = with_failure count
+failures_after_rename _ count = count
+
+-- ---- what a command leaves of a store
+
+-- its files before and afterwards, where it is honest; which bytes a `get` of a path may give; that its count of
+-- failures rose; and that it is as it was
+pub record StoreChange : Type 1 where
+  pub before : Option Files
+  pub after : Option Files
+  pub may_give : List ℕ → List ℕ → Type 0
+  pub rose : Type 0
+  pub same : Type 0
+
+-- how a store changed, by its files, by what it may give within a limit, and by its count
+abbrev pub change : {A : Type 0} → (A → Option Files) → (A → List ℕ → ℕ → List ℕ → Type 0) → (A → ℕ) → A → A → StoreChange
+change contents may_give count old new = record {
+  before = contents old;
+  after = contents new;
+  may_give = λ path bytes. may_give old path MAX_FILE bytes;
+  rose = Rose (count old) (count new);
+  same = new ≡ old;
+}

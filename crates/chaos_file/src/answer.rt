@@ -2,7 +2,7 @@
 ghost use Rattle.std.specs.Prelude.{◌≡◌, ◌≤◌, ◌+◌, ◌∷◌, ◌++◌, [], length, OnErr};
 ghost use Rattle.std.specs.Fmt.{decimal};
 ghost use Rattle.chaos_file.specs.Answer.{reply_front, answer_text, read_answer};
-ghost use Rattle.chaos_file.specs.Outcome.{ended};
+ghost use Rattle.chaos_file.specs.Outcome.{whole_reply};
 
 use crate::error::FileError;
 use crate::limits::{MAX_CHUNK, MAX_FRONT, MAX_HANDLE, MAX_REPLY, MAX_TID};
@@ -59,7 +59,7 @@ pub(crate) fn begin(reply: &mut Reply, tid: &[u8], handle: &[u8])
 /// Writes the end of a reply: the error, where there is one.
 pub(crate) fn end(reply: &mut Reply, done: Result<(), FileError>)
     requires { OnErr done (length reply.old.items ≤ MAX_FRONT) }
-    ensures { reply.new.items ≡ ended done reply.old.items }
+    ensures { reply.new.items ≡ whole_reply done reply.old.items }
 {
     if let Err(error) = done {
         put(reply, error.text());

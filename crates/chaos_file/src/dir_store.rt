@@ -1,7 +1,8 @@
 //! Files in a folder of the system.
-ghost use Rattle.std.specs.Prelude.{◌≡◌, true, false, None, IfOk};
+ghost use Rattle.std.specs.Prelude.{◌≡◌, ◌⊎◌, ◌≤◌, true, false, length, None, IfOk};
+ghost use Rattle.chaos_packet.specs.Count.{Rose, with_failure};
 ghost use Rattle.chaos_file.specs.Names.{is_path};
-ghost use Rattle.chaos_file.specs.Store.{Rose, IsWithin};
+ghost use Rattle.chaos_file.specs.Store.{Gives, failures_after_get, failures_after_put, failures_after_remove, failures_after_rename};
 
 mod folder;
 
@@ -18,10 +19,14 @@ use std::rt::Files;
 /// A store that keeps each file as a file of one folder, under its path as name. Contracts see its count of failures.
 ///
 /// What the system keeps in the folder no clause can say, so this store claims no contents. It answers `Failed` for what
-/// the system refuses, but for a file that isn't there and for memory; and for a path that isn't legal, so that none
-/// leads out of the folder but by a link that lies in it. A `put` writes the file `.new` of the folder and then renames
-/// it over the path, so that a path has its old content or its new one whole; a `.new` that was left behind is
-/// overwritten. Each call takes memory for the joined paths, and `get` for the file's bytes.
+/// the system refuses, but for a file that isn't there and for memory; for a path that isn't legal; and where a path's
+/// name in the folder is no file, as a folder, a link, a fifo or a device: a link isn't followed, and no open waits. So
+/// no path leads out of the folder.
+///
+/// A `put` writes the file `.new` of the folder, flushes it to the disk and then renames it over the path, so that a path
+/// has its old content or its new one whole, and one that was answered `Done` survives a loss of power. What was left at
+/// `.new` is taken away first, and never followed. `remove` and `rename` move names alone, of links and fifos too, and
+/// flush nothing. Each call takes memory for the joined paths, and `get` for the file's bytes.
 #[derive(Drop)]
 pub struct DirStore<R> {
     folder: Folder<R>,
@@ -50,22 +55,74 @@ impl<R: Files> DirStore<R> {
     }
 
     fn note_failure(&mut self)
-        ensures { Rose self.old self.new }
+        ensures { self.new ≡ with_failure self.old }
     {
         self.failures = self.failures.saturating_add(1);
     }
+}
 
-    /// Whether a path is legal, so that it may be handed to the system; one that isn't counts as a failure.
-    fn admits(&mut self, path: &[u8]) -> bool
-        ensures value { result ≡ is_path path.now }
-        ensures kept { result ≡ true → self.new ≡ self.old }
-        ensures failed { result ≡ false → Rose self.old self.new }
+/// What a fault of the system is told as, by its kind.
+fn told_as<T: Drop>(fault: io::Error, absent: T, no_memory: T, failed: T) -> T
+    ensures { (result ≡ absent) ⊎ ((result ≡ no_memory) ⊎ (result ≡ failed)) }
+{
+    match fault.kind() {
+        ErrorKind::NotFound => absent,
+        ErrorKind::OutOfMemory => no_memory,
+        _ => failed,
+    }
+}
+
+impl<R: Files> Folder<R> {
+    fn got(&self, alloc: Global, path: &[u8], limit: usize) -> Got
+        ensures illegal { is_path path.now ≡ false → result ≡ Got.Failed }
+        ensures limit { Gives (λ bytes. length bytes ≤ limit) result }
     {
-        let legal = is_path(path);
-        if !legal {
-            self.note_failure();
+        if !is_path(path) {
+            return Got::Failed;
         }
-        legal
+        match self.get(alloc, path, limit) {
+            Ok(Some(bytes)) => Got::Bytes(FileBytes::from_vec(bytes)),
+            Ok(None) => Got::TooBig,
+            Err(fault) => told_as(fault, Got::Absent, Got::NoMemory, Got::Failed),
+        }
+    }
+
+    fn stored(&self, alloc: Global, path: &[u8], bytes: &[u8]) -> Stored
+        ensures { is_path path.now ≡ false → result ≡ Stored.Failed }
+    {
+        if !is_path(path) {
+            return Stored::Failed;
+        }
+        match self.put(alloc, path, bytes) {
+            Ok(()) => Stored::Done,
+            Err(fault) => told_as(fault, Stored::Failed, Stored::NoMemory, Stored::Failed),
+        }
+    }
+
+    fn removed(&self, alloc: Global, path: &[u8]) -> Removed
+        ensures { is_path path.now ≡ false → result ≡ Removed.Failed }
+    {
+        if !is_path(path) {
+            return Removed::Failed;
+        }
+        match self.remove(alloc, path) {
+            Ok(()) => Removed::Done,
+            Err(fault) => told_as(fault, Removed::Absent, Removed::NoMemory, Removed::Failed),
+        }
+    }
+
+    fn renamed(&self, alloc: Global, old: &[u8], new: &[u8]) -> Renamed
+        ensures illegal_old { is_path old.now ≡ false → result ≡ Renamed.Failed }
+        ensures illegal_new { is_path new.now ≡ false → result ≡ Renamed.Failed }
+    {
+        if !is_path(old) || !is_path(new) {
+            return Renamed::Failed;
+        }
+        match self.rename(alloc, old, new) {
+            Ok(true) => Renamed::Done,
+            Ok(false) => Renamed::Exists,
+            Err(fault) => told_as(fault, Renamed::Absent, Renamed::NoMemory, Renamed::Failed),
+        }
     }
 }
 
@@ -73,96 +130,62 @@ impl<R: Files> Store for DirStore<R> {
     // It claims no files, so that no call's `files` says anything.
     ghost contents = { λ _. None };
 
+    ghost may_give = { λ _ _ limit bytes. length bytes ≤ limit };
+
     ghost count = { λ s. s };
 
     fn get(&mut self, alloc: Global, path: &[u8], limit: usize) -> Got
         ensures failed { result ≡ Got.Failed → Rose self.old self.new }
         ensures files { Unit {0} }
+        ensures counted { self.new ≡ failures_after_get result self.old }
         ensures illegal { is_path path.now ≡ false → result ≡ Got.Failed }
-        ensures limit { IsWithin limit result }
+        ensures gives { Gives (λ bytes. length bytes ≤ limit) result }
     {
-        if !self.admits(path) {
-            return Got::Failed;
+        let got = self.folder.got(alloc, path, limit);
+        if matches!(&got, Got::Failed) {
+            self.note_failure();
         }
-        match self.folder.get(alloc, path, limit) {
-            Ok(Some(bytes)) => Got::Bytes(FileBytes::from_vec(bytes)),
-            Ok(None) => Got::TooBig,
-            Err(e) => match e.kind() {
-                ErrorKind::NotFound => Got::Absent,
-                ErrorKind::OutOfMemory => Got::NoMemory,
-                _ => {
-                    self.note_failure();
-                    Got::Failed
-                }
-            },
-        }
+        got
     }
 
     fn put(&mut self, alloc: Global, path: &[u8], bytes: &[u8]) -> Stored
         ensures failed { result ≡ Stored.Failed → Rose self.old self.new }
         ensures files { Unit {0} }
+        ensures counted { self.new ≡ failures_after_put result self.old }
         ensures illegal { is_path path.now ≡ false → result ≡ Stored.Failed }
     {
-        if !self.admits(path) {
-            return Stored::Failed;
+        let stored = self.folder.stored(alloc, path, bytes);
+        if stored == Stored::Failed {
+            self.note_failure();
         }
-        match self.folder.put(alloc, path, bytes) {
-            Ok(()) => Stored::Done,
-            Err(e) => match e.kind() {
-                ErrorKind::OutOfMemory => Stored::NoMemory,
-                _ => {
-                    self.note_failure();
-                    Stored::Failed
-                }
-            },
-        }
+        stored
     }
 
     fn remove(&mut self, alloc: Global, path: &[u8]) -> Removed
         ensures failed { result ≡ Removed.Failed → Rose self.old self.new }
         ensures files { Unit {0} }
+        ensures counted { self.new ≡ failures_after_remove result self.old }
         ensures illegal { is_path path.now ≡ false → result ≡ Removed.Failed }
     {
-        if !self.admits(path) {
-            return Removed::Failed;
+        let removed = self.folder.removed(alloc, path);
+        if removed == Removed::Failed {
+            self.note_failure();
         }
-        match self.folder.remove(alloc, path) {
-            Ok(()) => Removed::Done,
-            Err(e) => match e.kind() {
-                ErrorKind::NotFound => Removed::Absent,
-                ErrorKind::OutOfMemory => Removed::NoMemory,
-                _ => {
-                    self.note_failure();
-                    Removed::Failed
-                }
-            },
-        }
+        removed
     }
 
     fn rename(&mut self, alloc: Global, old: &[u8], new: &[u8]) -> Renamed
         ensures failed { result ≡ Renamed.Failed → Rose self.old self.new }
         ensures files { Unit {0} }
+        ensures counted { self.new ≡ failures_after_rename result self.old }
         ensures illegal_old { is_path old.now ≡ false → result ≡ Renamed.Failed }
         ensures illegal_new { is_path new.now ≡ false → result ≡ Renamed.Failed }
     {
-        if !self.admits(old) {
-            return Renamed::Failed;
+        let renamed = self.folder.renamed(alloc, old, new);
+        if renamed == Renamed::Failed {
+            self.note_failure();
         }
-        if !self.admits(new) {
-            return Renamed::Failed;
-        }
-        match self.folder.rename(alloc, old, new) {
-            Ok(true) => Renamed::Done,
-            Ok(false) => Renamed::Exists,
-            Err(e) => match e.kind() {
-                ErrorKind::NotFound => Renamed::Absent,
-                ErrorKind::OutOfMemory => Renamed::NoMemory,
-                _ => {
-                    self.note_failure();
-                    Renamed::Failed
-                }
-            },
-        }
+        renamed
     }
 
     fn failures(&self) -> u64 {

@@ -1,7 +1,7 @@
 //! One open file.
 ghost use Rattle.std.specs.Prelude.{◌≡◌, ◌++◌, ◌+◌, ◌<◌, ◌≤◌, ◌^◌, take, drop, length, OnOk, OnErr};
 ghost use Rattle.chaos_file.specs.Answer.{answer_text, read_answer};
-ghost use Rattle.chaos_file.specs.Session.{HandleView, blank_handle, is_named, reader, writer, next_bytes, read_on, written};
+ghost use Rattle.chaos_file.specs.Session.{HandleView, blank_handle, is_named, reader, writer, next_bytes, after_read, with_bytes};
 
 use crate::answer::{Reply, kept, tell_bytes};
 use crate::file_bytes::FileBytes;
@@ -121,12 +121,13 @@ impl Handle {
         ensures within { self.now.position + length result.now ≤ length self.now.bytes }
         ensures small { length self.now.bytes < 2 ^ 63 }
     {
-        chunk_from(self.bytes.as_slice(), self.position)
+        let (_, rest) = self.bytes.as_slice().split_at(self.position);
+        front(rest, MAX_CHUNK)
     }
 
     /// Moves past the next bytes.
     fn read_on(&mut self)
-        ensures { self.new ≡ read_on self.old }
+        ensures { self.new ≡ after_read self.old }
     {
         let count = self.next_bytes().len();
         self.position += count;
@@ -135,7 +136,7 @@ impl Handle {
     /// Answers a READ with the next bytes, and moves past them.
     pub(crate) fn read(&mut self, reply: &mut Reply)
         requires { length reply.old.items ≤ MAX_FRONT }
-        ensures view { self.new ≡ read_on self.old }
+        ensures view { self.new ≡ after_read self.old }
         ensures text { reply.new.items ≡ reply.old.items ++ answer_text (read_answer (next_bytes self.old)) }
     {
         tell_bytes(reply, self.next_bytes());
@@ -144,7 +145,7 @@ impl Handle {
 
     /// Adds bytes.
     pub(crate) fn append(&mut self, alloc: Global, more: &[u8]) -> Result<(), AllocError>
-        ensures ok { OnOk result (self.new ≡ written self.old more.now) }
+        ensures ok { OnOk result (self.new ≡ with_bytes self.old more.now) }
         ensures err { OnErr result (self.new ≡ self.old) }
     {
         self.bytes.append(alloc, more)
@@ -162,15 +163,4 @@ fn front(bytes: &[u8], most: usize) -> &[u8]
     } else {
         &bytes[..most]
     }
-}
-
-/// The bytes of one READ, from a place on.
-fn chunk_from(bytes: &[u8], place: usize) -> &[u8]
-    requires { place ≤ length bytes.now }
-    ensures value { result.now ≡ take MAX_CHUNK (drop place bytes.now) }
-    ensures short { length result.now ≤ MAX_CHUNK }
-    ensures within { place + length result.now ≤ length bytes.now }
-{
-    let (_, rest) = bytes.split_at(place);
-    front(rest, MAX_CHUNK)
 }

@@ -1,7 +1,7 @@
 //! The open files of a session.
 ghost use Rattle.std.specs.Prelude.{◌≡◌, ◌<◌, ◌≤◌, ◌+◌, ◌∷◌, ◌++◌, [], length, position, remove, slice_set, IfSome, OnOk, OnErr, option_map};
 ghost use Rattle.chaos_file.specs.Answer.{answer_text, read_answer};
-ghost use Rattle.chaos_file.specs.Session.{HandleView, is_named, found, handle_at, read_on, next_bytes, written};
+ghost use Rattle.chaos_file.specs.Session.{HandleView, is_named, handle_named, handle_at, after_read, next_bytes, with_bytes};
 
 use crate::answer::Reply;
 use crate::handle::Handle;
@@ -50,7 +50,7 @@ impl Handles {
 
     /// The handle of this name, with its place.
     pub(crate) fn find(&self, name: &[u8]) -> Option<(usize, &Handle)>
-        ensures value { option_map (λ p. (p.0, p.1.now)) result ≡ found name.now self.now }
+        ensures value { option_map (λ p. (p.0, p.1.now)) result ≡ handle_named name.now self.now }
         ensures within { IfSome result (λ p. p.0 < length self.now) }
     {
         let at = self.place(name)?;
@@ -61,7 +61,7 @@ impl Handles {
     pub(crate) fn read_at(&mut self, at: usize, reply: &mut Reply)
         requires within { at < length self.old }
         requires room { length reply.old.items ≤ MAX_FRONT }
-        ensures view { self.new ≡ slice_set self.old at (read_on (handle_at self.old at)) }
+        ensures view { self.new ≡ slice_set self.old at (after_read (handle_at self.old at)) }
         ensures text { reply.new.items ≡ reply.old.items ++ answer_text (read_answer (next_bytes (handle_at self.old at))) }
     {
         let h = &mut self.open.as_mut_slice()[at];
@@ -76,7 +76,7 @@ impl Handles {
         bytes: &[u8],
     ) -> Result<(), AllocError>
         requires { at < length self.old }
-        ensures ok { OnOk result (self.new ≡ slice_set self.old at (written (handle_at self.old at) bytes.now)) }
+        ensures ok { OnOk result (self.new ≡ slice_set self.old at (with_bytes (handle_at self.old at) bytes.now)) }
         ensures err { OnErr result (self.new ≡ self.old) }
     {
         let h = &mut self.open.as_mut_slice()[at];

@@ -1,24 +1,24 @@
 //! Laws of the language, over its definition alone.
-ghost use Rattle.std.specs.Prelude.{◌≡◌, ℕ, true, List, ◌++◌, length, Option, Err};
+ghost use Rattle.std.specs.Prelude.{◌≡◌, ℕ, true, List, ◌++◌, length, Err};
 ghost use Rattle.chaos_file.specs.Session.{SessionView, new_session};
-ghost use Rattle.chaos_file.specs.Store.{Files, Rose};
+ghost use Rattle.chaos_file.specs.Store.{Files};
 ghost use Rattle.chaos_file.specs.Command.{CommandView, Good};
-ghost use Rattle.chaos_file.specs.Spelling.{spelled, is_good};
-ghost use Rattle.chaos_file.specs.Grammar.{parsed};
+ghost use Rattle.chaos_file.specs.Spelling.{spelling_of, is_good};
+ghost use Rattle.chaos_file.specs.Grammar.{parse_of};
 ghost use Rattle.chaos_file.specs.Answer.{reply_to};
 ghost use Rattle.chaos_file.specs.Step.{file_step};
-ghost use Rattle.chaos_file.specs.Apply.{Applies, IsStep};
-ghost use Rattle.chaos_file.specs.Replies.{replies_of, replies_from, files_after, session_after};
+ghost use Rattle.chaos_file.specs.Apply.{IsApplied, IsStep};
+ghost use Rattle.chaos_file.specs.Replies.{memory_change, replies_of, replies_from, files_after, session_after};
 ghost use Rattle.chaos_file.specs.declared.error.FileError.TheVariants.{NoMemory};
 
 /// The bytes that are read as a command are those that spell it, with legal names and parts.
 #[tactic(auto, using(crate::proofs::Spelling::parsed_spelled, crate::proofs::Reading::read_spelled, crate::proofs::Reading::read_good))]
 pub fn law_spelling()
     ensures read { (tid handle : List ℕ) (command : CommandView) → is_good tid handle command ≡ true →
-        parsed (spelled tid handle command) ≡ Good tid handle command }
-    ensures spelled { (bytes tid handle : List ℕ) (command : CommandView) → parsed bytes ≡ Good tid handle command →
-        bytes ≡ spelled tid handle command }
-    ensures good { (bytes tid handle : List ℕ) (command : CommandView) → parsed bytes ≡ Good tid handle command →
+        parse_of (spelling_of tid handle command) ≡ Good tid handle command }
+    ensures spelled { (bytes tid handle : List ℕ) (command : CommandView) → parse_of bytes ≡ Good tid handle command →
+        bytes ≡ spelling_of tid handle command }
+    ensures good { (bytes tid handle : List ℕ) (command : CommandView) → parse_of bytes ≡ Good tid handle command →
         is_good tid handle command ≡ true }
 {}
 
@@ -30,10 +30,10 @@ pub fn law_replies()
         ≡ replies_of m xs ++ replies_from (files_after m new_session xs) (session_after m new_session xs) ys }
 {}
 
-/// Over an honest store that didn't fail, a reply that isn't for want of memory is the definition's.
+/// Over a store in memory, which never fails, a reply that isn't for want of memory is the definition's, and so are the
+/// session and the files.
 #[tactic(auto, using(crate::proofs::Replies::honest_step))]
 pub fn law_honest()
-    ensures { (m : Files) (s : SessionView) (c reply : List ℕ) (t : SessionView) (now : Option Files) →
-        Applies (Rose 0 0) m s c reply t now → ¬ (reply ≡ reply_to (parsed c) (Err NoMemory)) →
-        IsStep (file_step m s c) reply t now }
+    ensures { (m n : Files) (s t : SessionView) (c reply : List ℕ) → IsApplied (memory_change m n) s t c reply →
+        ¬ (reply ≡ reply_to (parse_of c) (Err NoMemory)) → IsStep (memory_change m n) (file_step m s c) reply t }
 {}

@@ -1,4 +1,5 @@
 //! The limits of the language, each with its unit.
+use chaos_packet::MAX_DATA;
 
 /// The byte that ends a line: octal 215, the Return of the Lisp machine.
 pub const NL: u8 = 0x8D;
@@ -25,7 +26,7 @@ pub const MAX_FILE: usize = 1048576;
 pub const MAX_HANDLES: usize = 8;
 
 /// The most bytes of a reply: those of a packet's data.
-pub const MAX_REPLY: usize = 488;
+pub const MAX_REPLY: usize = MAX_DATA;
 
 /// The most bytes of a reply's front: tid, space, handle, space.
 pub(crate) const MAX_FRONT: usize = 18;

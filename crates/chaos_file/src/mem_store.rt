@@ -1,7 +1,7 @@
 //! Files in memory.
 ghost use Rattle.std.specs.Prelude.{◌≡◌, ◌≤◌, [], ◌∷◌, ◌++◌, Some, None, find, option_map, vec_len, vec_capacity, OnOk, OnErr, IfOk};
 ghost use Rattle.std.specs.FinMap as map;
-ghost use Rattle.chaos_file.specs.Store.{Files, Rose, Gets, Puts, Removes, Renames};
+ghost use Rattle.chaos_file.specs.Store.{Files, Found, look_for, Gets, Puts, Removes, Renames};
 ghost use Rattle.chaos_file.specs.Entries.{is_at, files_of, others};
 
 use crate::file_bytes::FileBytes;
@@ -156,6 +156,8 @@ impl MemStore {
 
 impl Store for MemStore {
     ghost contents = { λ s. Some s };
+
+    ghost may_give = { λ s path limit bytes. look_for s path limit ≡ Found bytes };
 
     ghost count = { λ _. 0 };
 

@@ -1,6 +1,6 @@
 //! Reading a command, in place.
 ghost use Rattle.std.specs.Prelude.{◌≡◌, ◌<◌, ◌≤◌, ◌==◌, length, option_map, position, IfSome};
-ghost use Rattle.chaos_file.specs.Grammar.{head_of, cut, word_of, word_end, ends_word, parsed_tail, parsed};
+ghost use Rattle.chaos_file.specs.Grammar.{head_of, cut, word_of, word_end, ends_word, parse_of_tail, parse_of};
 ghost use Rattle.chaos_file.specs.Views.{front_view, parsed_view, NamesFit, ParsedFits};
 
 use crate::command::{Parsed, Word};
@@ -96,7 +96,7 @@ fn word_end(tail: &[u8]) -> usize
 fn parsed_tail<'a>(tid: &'a [u8], handle: &'a [u8], tail: &'a [u8], end: usize) -> Parsed<'a>
     requires names { NamesFit tid.now handle.now }
     requires within { end ≤ length tail.now }
-    ensures value { parsed_view result ≡ parsed_tail tid.now handle.now tail.now end }
+    ensures value { parsed_view result ≡ parse_of_tail tid.now handle.now tail.now end }
     ensures fits { ParsedFits (parsed_view result) }
 {
     if end == 0 {
@@ -115,7 +115,7 @@ fn parsed_tail<'a>(tid: &'a [u8], handle: &'a [u8], tail: &'a [u8], end: usize) 
 /// What a command's bytes say, by the grammar of the language. It takes no memory, and looks at each byte a few times
 /// at most; the parts are lent from `bytes`.
 pub fn parse_command(bytes: &[u8]) -> Parsed<'_>
-    ensures value { parsed_view result ≡ parsed bytes.now }
+    ensures value { parsed_view result ≡ parse_of bytes.now }
     ensures fits { ParsedFits (parsed_view result) }
 {
     match front_of(bytes) {

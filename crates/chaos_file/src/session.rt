@@ -1,15 +1,12 @@
 //! A user's session: one reply for each command.
-ghost use Rattle.std.specs.Prelude.{◌≡◌, ◌≤◌, length, IfSome, Some, Err};
+ghost use Rattle.std.specs.Prelude.{◌≡◌, ◌≤◌, length};
 ghost use Rattle.chaos_file.specs.Session.{SessionView, new_session};
 ghost use Rattle.chaos_file.specs.Command.{word_said};
 ghost use Rattle.chaos_file.specs.Views.{command_view, parsed_view, CommandFits, ParsedFits};
-ghost use Rattle.chaos_file.specs.Grammar.{parsed};
-ghost use Rattle.chaos_file.specs.Answer.{reply_to};
-ghost use Rattle.chaos_file.specs.Plan.{plan_command, if_known, Refuse, plan_of};
-ghost use Rattle.chaos_file.specs.Store.{Rose};
-ghost use Rattle.chaos_file.specs.Outcome.{Does, Follows};
-ghost use Rattle.chaos_file.specs.Apply.{Applies, Answers};
-ghost use Rattle.chaos_file.specs.declared.error.FileError.{FileError};
+ghost use Rattle.chaos_file.specs.Plan.{plan_command, may_say, if_known, Refuse, plan_of};
+ghost use Rattle.chaos_file.specs.Store.{change};
+ghost use Rattle.chaos_file.specs.Outcome.{IsDone};
+ghost use Rattle.chaos_file.specs.Apply.{IsApplied};
 
 mod close;
 mod open;
@@ -65,13 +62,7 @@ impl Session {
     /// A command looks at its own bytes, at the handles' names and at what it copies: a READ copies its bytes once, into
     /// the reply, and a WRITE once, behind the handle's bytes. OPEN READ and CLOSE cost what the store's call costs.
     pub fn apply<S: Store>(&mut self, alloc: Global, store: &mut S, command: &[u8]) -> Reply
-        ensures honest { IfSome (S.contents store.old) (λ m. Applies (Rose (S.count store.old) (S.count store.new)) m
-            self.old command.now result.items self.new (S.contents store.new)) }
-        ensures any { Answers (Rose (S.count store.old) (S.count store.new)) (store.new ≡ store.old)
-            (plan_of self.old (parsed command.now)) (parsed command.now) result.items self.old self.new }
-        ensures kept { (error : FileError) → result.items ≡ reply_to (parsed command.now) (Err error) → self.new ≡ self.old }
-        ensures kept_files { IfSome (S.contents store.old) (λ m. (error : FileError) →
-            result.items ≡ reply_to (parsed command.now) (Err error) → S.contents store.new ≡ Some m) }
+        ensures { IsApplied (change S.contents S.may_give S.count store.old store.new) self.old self.new command.now result.items }
     {
         let parsed = parse_command(command);
         let mut reply = Reply::new();
@@ -91,12 +82,9 @@ impl Session {
     ) -> Result<(), FileError>
         requires fits { ParsedFits (parsed_view parsed) }
         requires room { length reply.old.items ≤ MAX_FRONT }
-        ensures honest { IfSome (S.contents store.old) (λ m. Does (Rose (S.count store.old) (S.count store.new)) m
+        ensures { IsDone (change S.contents S.may_give S.count store.old store.new)
             (plan_of self.old (parsed_view parsed.entry))
-            result reply.old.items reply.new.items self.old self.new (S.contents store.new)) }
-        ensures any { Follows (Rose (S.count store.old) (S.count store.new)) (store.new ≡ store.old)
-            (plan_of self.old (parsed_view parsed.entry))
-            result reply.old.items reply.new.items self.old self.new }
+            (record { done = result; front = reply.old.items; reply = reply.new.items; old = self.old; new = self.new }) }
     {
         match parsed {
             Parsed::BadHead => Err(FileError::Syntax),
@@ -110,11 +98,18 @@ impl Session {
         }
     }
 
+    /// Whether a command with this word may be given: every word but LOGIN wants a user's name.
+    fn may_say(&self, word: Word) -> bool
+        ensures { result ≡ may_say self.now word }
+    {
+        word == Word::Login || self.name.is_some()
+    }
+
     /// The error of a command with this word: that no name was given comes first.
     fn error_at(&self, word: Word, error: FileError) -> FileError
         ensures { if_known self.now word (Refuse error) ≡ Refuse result }
     {
-        if word == Word::Login || self.name.is_some() {
+        if self.may_say(word) {
             error
         } else {
             FileError::NotLoggedIn
@@ -122,7 +117,7 @@ impl Session {
     }
 
     /// Carries out a command of the right form, where the user may give it.
-    #[tactic(auto, using(crate::proofs::Outcome::settled_does, crate::proofs::Outcome::settled_follows))]
+    #[tactic(auto, using(crate::proofs::Outcome::settled_done))]
     fn run_known<S: Store>(
         &mut self,
         alloc: Global,
@@ -134,16 +129,11 @@ impl Session {
         requires handle { length handle.now ≤ MAX_HANDLE }
         requires fits { CommandFits (command_view command) }
         requires room { length reply.old.items ≤ MAX_FRONT }
-        ensures honest { IfSome (S.contents store.old) (λ m. Does (Rose (S.count store.old) (S.count store.new)) m
-            (if_known self.old (word_said (command_view command.entry))
-            (plan_command self.old handle.now (command_view command.entry)))
-            result reply.old.items reply.new.items self.old self.new (S.contents store.new)) }
-        ensures any { Follows (Rose (S.count store.old) (S.count store.new)) (store.new ≡ store.old)
-            (if_known self.old (word_said (command_view command.entry))
-            (plan_command self.old handle.now (command_view command.entry)))
-            result reply.old.items reply.new.items self.old self.new }
+        ensures { IsDone (change S.contents S.may_give S.count store.old store.new)
+            (if_known self.old (word_said (command_view command.entry)) (plan_command self.old handle.now (command_view command.entry)))
+            (record { done = result; front = reply.old.items; reply = reply.new.items; old = self.old; new = self.new }) }
     {
-        if command.word() == Word::Login || self.name.is_some() {
+        if self.may_say(command.word()) {
             self.run(alloc, store, handle, command, reply)
         } else {
             Err(FileError::NotLoggedIn)
@@ -151,7 +141,7 @@ impl Session {
     }
 
     /// Carries out a command of the right form.
-    #[tactic(auto, using(crate::proofs::Outcome::settled_does, crate::proofs::Outcome::settled_follows))]
+    #[tactic(auto, using(crate::proofs::Outcome::settled_done))]
     fn run<S: Store>(
         &mut self,
         alloc: Global,
@@ -163,12 +153,9 @@ impl Session {
         requires handle { length handle.now ≤ MAX_HANDLE }
         requires fits { CommandFits (command_view command) }
         requires room { length reply.old.items ≤ MAX_FRONT }
-        ensures honest { IfSome (S.contents store.old) (λ m. Does (Rose (S.count store.old) (S.count store.new)) m
+        ensures { IsDone (change S.contents S.may_give S.count store.old store.new)
             (plan_command self.old handle.now (command_view command.entry))
-            result reply.old.items reply.new.items self.old self.new (S.contents store.new)) }
-        ensures any { Follows (Rose (S.count store.old) (S.count store.new)) (store.new ≡ store.old)
-            (plan_command self.old handle.now (command_view command.entry))
-            result reply.old.items reply.new.items self.old self.new }
+            (record { done = result; front = reply.old.items; reply = reply.new.items; old = self.old; new = self.new }) }
     {
         match command {
             Command::Login(name) => self.log_in(name, reply),

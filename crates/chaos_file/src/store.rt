@@ -1,6 +1,7 @@
 //! Where files are kept.
-ghost use Rattle.std.specs.Prelude.{◌≡◌, ℕ, Option, IfSome};
-ghost use Rattle.chaos_file.specs.Store.{Files, Rose, Gets, Puts, Removes, Renames};
+ghost use Rattle.std.specs.Prelude.{◌≡◌, ℕ, List, Option, IfSome};
+ghost use Rattle.chaos_packet.specs.Count.{Rose};
+ghost use Rattle.chaos_file.specs.Store.{Files, Gives, Gets, Puts, Removes, Renames};
 
 use crate::file_bytes::FileBytes;
 use std::alloc::Global;
@@ -68,12 +69,17 @@ pub trait Store {
     /// The files, where the store is known to be honest; a store that claims nothing has None.
     ghost contents: { Self → Option Files };
 
+    /// The bytes that a `get` of a path may give within a limit. What is known of every answer is said here; a store
+    /// that says nothing allows all.
+    ghost may_give: { Self → List ℕ → ℕ → List ℕ → Type 0 };
+
     /// How many calls have failed so far.
     ghost count: { Self → ℕ };
 
     /// The bytes of a path's file, where they are at most `limit`.
     fn get(&mut self, alloc: Global, path: &[u8], limit: usize) -> Got
         ensures failed { result ≡ Got.Failed → Rose (count self.old) (count self.new) }
+        ensures gives { Gives (may_give self.old path.now limit) result }
         ensures files { IfSome (contents self.old) (Gets path.now limit result (contents self.new)) };
 
     /// Makes these bytes the whole content of a path, new or replaced.

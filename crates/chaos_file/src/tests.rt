@@ -1,50 +1,75 @@
-//! Worked dialogues: what is said, and what is answered. `^` stands for the byte that ends a line.
+//! Worked dialogues over both stores. A row is a command and the reply that is wanted, ` => ` between them. `^` stands
+//! for the byte that ends a line, `%` for 448 times the byte `A`.
 use super::*;
 
+mod commands;
 mod folders;
 mod memory;
+mod rows;
 mod sessions;
+mod stores;
 
 use arrayvec::ArrayVec;
-use std::alloc::Global;
 use std::process::Abort;
+use std::rt::Files;
+use std::test::Fail;
+use std::{fs, io};
 
-/// A command, and the reply that is wanted.
-type Turn = (&'static str, &'static str);
+/// Adds a letter so many times.
+fn fill(bytes: &mut ArrayVec<u8, 500>, letter: u8, count: usize) {
+    for _ in 0..count {
+        let _ = bytes.try_push(letter);
+    }
+}
 
-/// A file is written, closed, opened and read to its end.
-const WRITTEN_AND_READ: [Turn; 7] = [
-    ("T1  LOGIN LISPM", "T1  LOGIN LISPM"),
-    ("T2 H1 OPEN WRITE^A.LISP", "T2 H1 OPEN 0"),
-    ("T3 H1 WRITE^(A)", "T3 H1 WRITE 3"),
-    ("T4 H1 CLOSE", "T4 H1 CLOSE 3"),
-    ("T5 H2 OPEN READ^A.LISP", "T5 H2 OPEN 3"),
-    ("T6 H2 READ", "T6 H2 READ^(A)"),
-    ("T7 H2 READ", "T7 H2 EOF"),
-];
-
-/// The bytes that a text stands for, and behind them `count` times the byte `A`.
-fn typed(text: &str, count: usize) -> ArrayVec<u8, 500> {
+/// The bytes that a text stands for.
+fn typed(text: &str) -> ArrayVec<u8, 500> {
     let mut bytes = ArrayVec::new();
     for b in text.bytes() {
-        let _ = bytes.try_push(if b == b'^' { NL } else { b });
-    }
-    for _ in 0..count {
-        let _ = bytes.try_push(b'A');
+        match b {
+            b'^' => fill(&mut bytes, NL, 1),
+            b'%' => fill(&mut bytes, b'A', MAX_CHUNK),
+            _ => fill(&mut bytes, b, 1),
+        }
     }
     bytes
 }
 
-/// Gives the commands to a session in turn, and compares each reply.
+/// Gives the commands of a dialogue in turn, and compares each reply.
 fn talk<S: Store>(
-    rt: &impl Abort,
-    alloc: Global,
+    rt: &(impl Abort + AllocGlobal),
     session: &mut Session,
     store: &mut S,
-    turns: &[Turn],
+    dialogue: &str,
 ) {
-    for (said, wanted) in turns {
-        let reply = session.apply(alloc, store, typed(said, 0).as_slice());
-        assert_eq!(rt; reply.as_slice(), typed(wanted, 0).as_slice(), "to {said}");
+    for row in dialogue.lines() {
+        if let Some((said, wanted)) = row.split_once(" => ") {
+            let reply = session.apply(rt.alloc(), store, typed(said).as_slice());
+            assert_eq!(rt; reply.as_slice(), typed(wanted).as_slice(), "to {said}");
+        }
     }
+}
+
+/// The store of a new folder.
+fn fresh_store<'a, R: Files + AllocGlobal>(rt: &'a R, folder: &str) -> io::Result<DirStore<&'a R>> {
+    let _ = rt.remove_dir_all(rt.alloc(), folder);
+    fs::create_dir(rt, folder)?;
+    DirStore::open(rt, String::from_str(rt.alloc(), folder)?)
+}
+
+/// A dialogue of a new session over each store, empty at its beginning. No call of a store fails, and what isn't there is
+/// no failure.
+fn over_both(
+    rt: &(impl Abort + AllocGlobal + Files),
+    folder: &str,
+    dialogue: &str,
+) -> Result<(), Fail> {
+    let mut memory = MemStore::new(rt.alloc());
+    talk(rt, &mut Session::new(), &mut memory, dialogue);
+    assert_eq!(rt; memory.failures(), 0);
+    let mut files = fresh_store(rt, folder)?;
+    talk(rt, &mut Session::new(), &mut files, dialogue);
+    assert_eq!(rt; files.failures(), 0);
+    rt.remove_dir_all(rt.alloc(), folder)?;
+    Ok(())
 }

@@ -1,7 +1,7 @@
 -- A connection in use stays so, but where its user ends it.
 use Rattle.std.proofs.Common.{◌≡◌, ℕ, List, Bool, true, false, if◌then◌else◌, not, Option, Some, None, refl, length, ◌==◌, nat_lt, arith}
 use Rattle.chaos_packet.specs.Item.{ItemView}
-use Rattle.chaos_packet.specs.Opcode.{kind_of}
+use Rattle.chaos_packet.specs.Opcode.{kind_of, is_rfc}
 use Rattle.chaos_packet.specs.Packet.{PacketView, status_of}
 use Rattle.chaos_packet.specs.declared.limits.TheConstants.{MAX_DATA}
 use Rattle.chaos_packet.specs.declared.opcode.Kind.{Kind}
@@ -9,7 +9,6 @@ use Rattle.chaos_packet.specs.declared.opcode.Kind.TheVariants as kind
 use Rattle.chaos_conn.specs.declared.state.State.{State}
 use Rattle.chaos_conn.specs.declared.state.State.TheVariants as st
 use Rattle.chaos_conn.specs.State.{is_inactive, is_live, is_open, is_opening, is_requested}
-use Rattle.chaos_conn.specs.Sending.{is_rfc}
 use Rattle.chaos_conn.specs.View.{ConnView, moment, heard_at}
 use Rattle.chaos_conn.specs.Acted.{Acted}
 use Rattle.chaos_conn.specs.Calls.{most_bytes, act_read, read_at_open, read_at_end, write_at_most}
@@ -17,7 +16,7 @@ use Rattle.chaos_conn.specs.Time.{act_tick, at_moment, is_down, is_resend_due, i
 use Rattle.chaos_conn.specs.Arriving.{act_deliver, is_between_hosts, is_between_indices, is_index, deliver_in, deliver_open, deliver_asking, deliver_requested, after_opn_telling, after_second_opn_telling, after_sts_telling, after_item_came, heard_with_ack, after_rfc, repeated_request}
 use Rattle.chaos_conn.specs.declared.state.End.{End}
 use Rattle.chaos_conn.specs.Opening.{act_request, act_take_request}
-use Rattle.chaos_conn.specs.Act.{Call, act, Request, TakeRequest, Accept, Answer, Reject, Deliver, Write, Unc, Read, Close, Tick}
+use Rattle.chaos_conn.specs.Act.{Call, act, Request, TakeRequest, Accept, Answer, Reject, Deliver, Write, Unc, Read, FinishRead, Close, Tick}
 use Rattle.chaos_host.specs.Law.{StaysInUse, may_end}
 
 -- a test of states that fails at each one that a connection in use comes to
@@ -177,6 +176,7 @@ module _ (misses : State → Bool) (none : Misses misses) where
   goes_on v (Write op bytes now) e used h = either (is_open v.state) _ _ (used_write_at_most v (most_bytes (kind_of op)) (record { op = op; body = bytes }) (moment v now) h) h
   goes_on v (Unc bytes) e used h = either (is_open v.state) _ _ (either (nat_lt MAX_DATA (length bytes)) _ _ h h) h
   goes_on v Read e used h = used_read v h
+  goes_on v FinishRead e used h = used_read v h
   goes_on v (Close text) e used h = absurd (cc)
   goes_on v (Tick now) e used h = used_tick v now h
 

@@ -4,8 +4,8 @@ use Rattle.std.proofs.lemmas.List.Sums.{sum_by-cons}
 use Rattle.std.proofs.lemmas.Bool.Decides.{nat_tests}
 use Rattle.chaos_packet.specs.Item.{ItemView}
 use Rattle.chaos_packet.specs.Number.{off}
-use Rattle.chaos_packet.specs.Opcode.{kind_of}
-use Rattle.chaos_packet.specs.Packet.{PacketView}
+use Rattle.chaos_packet.specs.Opcode.{kind_of, is_rfc}
+use Rattle.chaos_packet.specs.Packet.{PacketView, item_of}
 use Rattle.chaos_packet.specs.declared.limits.TheConstants.{MAX_DATA}
 use Rattle.chaos_packet.specs.declared.opcode.Kind.{Kind}
 use Rattle.chaos_packet.specs.declared.opcode.Kind.TheVariants as kind
@@ -14,13 +14,14 @@ use Rattle.chaos_conn.specs.declared.state.End.{End}
 use Rattle.chaos_conn.specs.declared.state.State.{State}
 use Rattle.chaos_conn.specs.declared.state.State.TheVariants as st
 use Rattle.chaos_conn.specs.State.{is_live}
-use Rattle.chaos_conn.specs.Sending.{is_rfc}
 use Rattle.chaos_conn.specs.View.{ConnView, moment}
 use Rattle.chaos_conn.specs.Acted.{Acted, quietly}
-use Rattle.chaos_conn.specs.Opening.{refused, requested, closed_conn}
+use Rattle.chaos_conn.specs.Opening.{refusal, after_taking_rfc, closed_conn}
 use Rattle.chaos_conn.specs.Arriving.{act_deliver, is_between_hosts, is_between_indices, is_index, after_rfc, deliver_requested, deliver_in}
-use Rattle.chaos_conn.specs.Act.{Did, Request, TakeRequest, Accept, Answer, Reject, Deliver, Write, Unc, Read, Close, Tick}
-use Rattle.chaos_host.specs.Law.{HoldsOne, TakesOne, PendingStays}
+use Rattle.chaos_conn.specs.Act.{Did, Request, TakeRequest, Accept, Answer, Reject, Deliver, Write, Unc, Read, FinishRead, Close, Tick}
+use Rattle.chaos_conn.specs.Calls.{front_of}
+use Rattle.chaos_host.specs.Slot.{HoldsRequest}
+use Rattle.chaos_host.specs.Law.{TakesOne, PendingStays}
 
 -- ---- the request is held alone
 
@@ -48,27 +49,30 @@ some_suc zero h = absurd (omega arith)
 some_suc (suc n) h = (n, refl)
 
 -- a request that a closed connection takes is held alone
-pub alone : (conn : ConnView) (rfc : PacketView) (me : End) (t n : ℕ) → conn.config.recv_cap ≡ suc n → HoldsOne (requested (closed_conn conn) rfc me t) (record { op = rfc.op; body = rfc.body })
-alone conn rfc me t n cap =
-    let one = count_one (record { op = rfc.op; body = rfc.body }) n in
-    record {
+pub alone : (conn : ConnView) (rfc : PacketView) (me : End) (t n : ℕ) → conn.config.recv_cap ≡ suc n → is_rfc (kind_of rfc.op) ≡ true
+    → HoldsRequest (after_taking_rfc (closed_conn conn) rfc me t) × (front_of (after_taking_rfc (closed_conn conn) rfc me t) ≡ Some (item_of rfc))
+alone conn rfc me t n cap asks =
+    let one = count_one (item_of rfc) n in
+    let request : HoldsRequest (after_taking_rfc (closed_conn conn) rfc me t) = record {
+      kept = refl;
       stored = rw (cap, offset_one rfc.num, first_within n) (omega (arith, one));
-      front = rw (cap, offset_one rfc.num, first_within n) refl;
-    }
+      front = rw (cap, offset_one rfc.num, first_within n) asks;
+    } in
+    (request, rw (cap, offset_one rfc.num, first_within n) refl)
 
 -- a request that wasn't refused was taken
-taken : (refuses asks : Bool) (v w : ConnView) (f g : ConnFault) (item : ItemView) → HoldsOne w item
-    → Did (if refuses then refused v f else (if asks then quietly w (Ok tt) else refused v g)).answer ≡ Did (Ok tt)
-    → HoldsOne (if refuses then refused v f else (if asks then quietly w (Ok tt) else refused v g)).view item
-taken true asks v w f g item h e = absurd (cc)
-taken false true v w f g item h e = h
-taken false false v w f g item h e = absurd (cc)
+taken : (P : ConnView → Type 0) (refuses asks : Bool) (v w : ConnView) (f g : ConnFault) → (asks ≡ true → P w)
+    → Did (if refuses then refusal v f else (if asks then quietly w (Ok tt) else refusal v g)).answer ≡ Did (Ok tt)
+    → P (if refuses then refusal v f else (if asks then quietly w (Ok tt) else refusal v g)).view
+taken P true asks v w f g h e = absurd (cc)
+taken P false true v w f g h e = h refl
+taken P false false v w f g h e = absurd (cc)
 
 pub takes_one : TakesOne
 takes_one conn rfc me now some e =
     let cap = some_suc conn.config.recv_cap some in
-    let one = alone conn rfc me (moment (closed_conn conn) now) cap.0 cap.1 in
-    taken (me.address == 0 || rfc.src == 0) (is_rfc (kind_of rfc.op)) (closed_conn conn) (requested (closed_conn conn) rfc me (moment (closed_conn conn) now)) _ _ _ one e
+    taken (λ c. HoldsRequest c × (front_of c ≡ Some (item_of rfc))) (me.address == 0 || rfc.src == 0) (is_rfc (kind_of rfc.op)) (closed_conn conn)
+    (after_taking_rfc (closed_conn conn) rfc me (moment (closed_conn conn) now)) _ _ (alone conn rfc me (moment (closed_conn conn) now) cap.0 cap.1) e
 
 -- ---- and stays so
 
@@ -127,5 +131,6 @@ pending_stays v (Deliver p now) e h = keeps_deliver v p now e h
 pending_stays v (Write op bytes now) e h = rw e (refl, refl)
 pending_stays v (Unc bytes) e h = rw e (refl, refl)
 pending_stays v Read e h = rw e (refl, refl)
+pending_stays v FinishRead e h = rw e (refl, refl)
 pending_stays v (Close text) e h = either v (nat_lt MAX_DATA (length text)) _ _ (λ k. (refl, refl)) (λ k. absurd (cc)) h
 pending_stays v (Tick now) e h = rw e (refl, refl)

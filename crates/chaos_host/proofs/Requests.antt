@@ -1,25 +1,23 @@
 -- A free slot takes each request that it is given.
-use Rattle.std.proofs.Common.{◌≡◌, ℕ, ◌<◌, ◌≤◌, ◌==◌, List, nat_lt, length, slice_get, slice_set, Some, true, false, arith, refl, sym}
+use Rattle.std.proofs.Common.{◌≡◌, ℕ, ◌<◌, ◌≤◌, ◌==◌, List, nat_lt, length, slice_get, slice_set, slice_index_or, Some, true, false, arith, refl, ap, sym, ◌∙◌}
 use Rattle.std.proofs.lemmas.List.{get_or-set_same, length-set}
 use Rattle.std.proofs.lemmas.Option.{slice_get_read}
 use Rattle.std.proofs.lemmas.Bool.{eq-eqb}
 use Rattle.std.proofs.lemmas.Bool.Decides.{nat_tests}
 use Rattle.chaos_packet.specs.Packet.{PacketView}
-use Rattle.chaos_packet.specs.Opcode.{kind_of}
+use Rattle.chaos_packet.specs.Opcode.{kind_of, is_rfc}
 use Rattle.chaos_packet.specs.Outbox.{OutboxView}
 use Rattle.chaos_packet.specs.declared.limits.TheConstants.{MAX_DATA}
-use Rattle.chaos_conn.specs.Sending.{is_rfc}
 use Rattle.chaos_conn.specs.State.{is_inactive}
 use Rattle.chaos_conn.specs.View.{ConnView}
-use Rattle.chaos_conn.specs.Act.{Call, Reply, TakeRequest, Request, act}
+use Rattle.chaos_conn.specs.Act.{Reply, TakeRequest, Request, Does, DoesQuietly, act}
 use Rattle.chaos_conn.specs.declared.state.End.{End}
 use Rattle.chaos_conn.specs.declared.state.State.TheVariants.{RfcSent, RfcReceived}
 use Rattle.chaos_host.specs.declared.slot.Slot.{Slot}
 use Rattle.chaos_host.specs.Slot.{is_free, is_used, is_used_at, index_of, place_of, named_slot, named_state}
 use Rattle.chaos_host.specs.View.{HostView, IsHost}
-use Rattle.chaos_host.specs.Acted.{ActsAt, ActsQuietlyAt, called_slot}
 use Rattle.chaos_host.specs.Route.{IsRequest}
-use Rattle.chaos_host.proofs.Places.{some_at}
+use Rattle.chaos_host.proofs.Places.{with_conn, stands}
 
 -- what stands at a place that was set
 pub get_set : {X : Type 0} (xs : List X) (i : ℕ) (x : X) → i < length xs → slice_get (slice_set xs i x) i ≡ Some x
@@ -55,35 +53,29 @@ not_zero : (n : ℕ) → 1 ≤ n → (n == 0) ≡ false
 not_zero n h = grind (arith, nat_tests)
 
 -- a request that was taken is held by the connection with its index
-pub requested_holds : (v : HostView) (p : PacketView) (now place id : ℕ) (new : List Slot) (reply : Reply)
-    → IsHost v → IsRequest v p place
-    → ((slot : Slot) → slice_get v.slots place ≡ Some slot → id ≡ index_of place slot)
-    → ActsQuietlyAt v.slots new place (TakeRequest p (record { address = v.address; index = id }) now) reply
-    → named_state new id ≡ Some RfcReceived
-requested_holds v p now place id new reply host request named acts =
-    let slot = some_at v.slots place request.within in
-    let index = named slot.0 slot.1 in
-    let does = acts slot.0 slot.1 in
+pub requested_holds : (v : HostView) (p : PacketView) (now place : ℕ) (slot : Slot) (conn : ConnView) (id : ℕ) (reply : Reply)
+    → IsHost v → IsRequest v p place → slot ≡ slice_index_or v.slots place slot
+    → ((s : Slot) → slice_get v.slots place ≡ Some s → id ≡ index_of place s)
+    → DoesQuietly slot.conn (TakeRequest p (record { address = v.address; index = id }) now) conn reply
+    → named_state (slice_set v.slots place (with_conn slot conn)) id ≡ Some RfcReceived
+requested_holds v p now place slot conn id reply host request read named does =
+    let there = stands v.slots place slot request.within read in
+    let index = named slot there in
     let me : End = record { address = v.address; index = id } in
-    let state = takes slot.0.conn p me now (free_at v.slots place slot.0 request.vacant slot.1) (not_zero v.address host.address) request.source request.rfc in
-    let after : Slot = called_slot slot.0 (TakeRequest p me now) in
-    let used : is_used after ≡ true = rw state refl in
-    let there = named_set v.slots place id after request.within host.table.few index used in
-    rw does.slots (rw there (rw state refl))
+    let state : conn.state ≡ RfcReceived = ap (λ (c : ConnView). c.state) does.view ∙ takes slot.conn p me now (free_at v.slots place slot request.vacant there) (not_zero v.address host.address) request.source request.rfc in
+    let found = named_set v.slots place id (with_conn slot conn) request.within host.table.few index (rw state refl) in
+    rw found (rw state refl)
 
 -- a connection that was asked for has the index that was answered
-pub connected_asks : (v : HostView) (place peer : ℕ) (contact : List ℕ) (start now : ℕ) (new : List Slot) (before after : OutboxView) (id : ℕ) (reply : Reply)
-    → IsHost v → place < length v.slots → is_used_at v.slots place ≡ false → length contact ≤ MAX_DATA → (peer == 0) ≡ false
-    → ((slot : Slot) → slice_get v.slots place ≡ Some slot → id ≡ index_of place slot)
-    → ActsAt v.slots new place (Request (record { address = v.address; index = id }) peer contact start now) before after reply
-    → named_state new id ≡ Some RfcSent
-connected_asks v place peer contact start now new before after id reply host within vacant fits there named acts =
-    let slot = some_at v.slots place within in
-    let index = named slot.0 slot.1 in
-    let does = acts slot.0 slot.1 in
+pub connected_asks : (v : HostView) (place peer : ℕ) (contact : List ℕ) (start now : ℕ) (slot : Slot) (conn : ConnView) (before after : OutboxView) (id : ℕ) (reply : Reply)
+    → IsHost v → place < length v.slots → is_used_at v.slots place ≡ false → length contact ≤ MAX_DATA → (peer == 0) ≡ false → slot ≡ slice_index_or v.slots place slot
+    → ((s : Slot) → slice_get v.slots place ≡ Some s → id ≡ index_of place s)
+    → Does slot.conn (Request (record { address = v.address; index = id }) peer contact start now) conn before after reply
+    → named_state (slice_set v.slots place (with_conn slot conn)) id ≡ Some RfcSent
+connected_asks v place peer contact start now slot conn before after id reply host within vacant fits far read named does =
+    let there = stands v.slots place slot within read in
+    let index = named slot there in
     let me : End = record { address = v.address; index = id } in
-    let call : Call = Request me peer contact start now in
-    let state = asks slot.0.conn me peer contact start now (free_at v.slots place slot.0 vacant slot.1) (not_zero v.address host.address) there fits in
-    let used : is_used (called_slot slot.0 call) ≡ true = rw state refl in
-    let found = named_set v.slots place id (called_slot slot.0 call) within host.table.few index used in
-    rw does.slots (rw found (rw state refl))
+    let state : conn.state ≡ RfcSent = ap (λ (c : ConnView). c.state) does.view ∙ asks slot.conn me peer contact start now (free_at v.slots place slot vacant there) (not_zero v.address host.address) far fits in
+    let found = named_set v.slots place id (with_conn slot conn) within host.table.few index (rw state refl) in
+    rw found (rw state refl)

@@ -1,24 +1,22 @@
 -- What a connection stores while it is inactive, and while it waits for its user: whatever call is made, both stay so.
 use Rattle.std.proofs.Common.{◌≡◌, ℕ, ◌≤◌, ◌==◌, ◌||◌, nat_lt, suc, Bool, true, false, if◌then◌else◌, length, Option, Some, None, refl}
 use Rattle.chaos_packet.specs.Item.{ItemView}
-use Rattle.chaos_packet.specs.Opcode.{kind_of}
+use Rattle.chaos_packet.specs.Opcode.{kind_of, is_rfc}
 use Rattle.chaos_packet.specs.declared.limits.TheConstants.{MAX_DATA}
 use Rattle.chaos_conn.specs.declared.state.State.{State}
 use Rattle.chaos_conn.specs.declared.state.State.TheVariants as st
 use Rattle.chaos_conn.specs.State.{is_inactive, is_requested}
-use Rattle.chaos_conn.specs.Sending.{is_rfc}
-use Rattle.chaos_conn.specs.Stored.{stored_packets}
 use Rattle.chaos_conn.specs.View.{ConnView, moment}
 use Rattle.chaos_conn.specs.Acted.{Acted}
 use Rattle.chaos_conn.specs.Opening.{closed_conn}
 use Rattle.chaos_conn.specs.Calls.{front_of, read_at_end}
-use Rattle.chaos_conn.specs.Act.{Call, act, Request, TakeRequest, Accept, Answer, Reject, Deliver, Write, Unc, Read, Close, Tick}
+use Rattle.chaos_conn.specs.Act.{Call, act, Request, TakeRequest, Accept, Answer, Reject, Deliver, Write, Unc, Read, FinishRead, Close, Tick}
 use Rattle.chaos_host.specs.Law.{may_end}
-use Rattle.chaos_host.specs.Slot.{IsBlank, HoldsRequestAlone}
+use Rattle.chaos_host.specs.Slot.{IsBlank, HoldsRequest, HoldsRequestAlone}
 use Rattle.chaos_host.proofs.InUse.{goes_on, stays_in_use}
 use Rattle.chaos_host.proofs.Pending.{alone, some_suc, pending_stays}
 
--- An inactive connection is as a new one, and a pending request is the one item that is stored.
+-- An inactive connection is as a new one, and a pending request is held alone.
 pub record IsSettled (v : ConnView) : Type 0 where
   pub blank : IsBlank v
   pub pending : HoldsRequestAlone v
@@ -27,6 +25,10 @@ pub record IsSettled (v : ConnView) : Type 0 where
 either : {A : Type 0} (b : Bool) (x y : Acted A) → IsSettled x.view → IsSettled y.view → IsSettled (if b then x else y).view
 either true x y hx hy = hx
 either false x y hx hy = hy
+
+either_where : {A : Type 0} (b : Bool) (x y : Acted A) → (b ≡ true → IsSettled x.view) → IsSettled y.view → IsSettled (if b then x else y).view
+either_where true x y hx hy = hx refl
+either_where false x y hx hy = hy
 
 -- nothing is to be shown of a connection that is neither inactive nor pending
 passes : (v : ConnView) → is_inactive v.state ≡ false → is_requested v.state ≡ false → IsSettled v
@@ -51,8 +53,8 @@ from_closed v (Request me peer contact start now) some =
     either (nat_lt MAX_DATA (length contact)) _ _ (closed v) (either (me.address == 0 || peer == 0) _ _ (closed v) (passes _ refl refl))
 from_closed v (TakeRequest p me now) some =
     let cap = some_suc v.config.recv_cap some in
-    let one = alone v p me (moment (closed_conn v) now) cap.0 cap.1 in
-    either (me.address == 0 || p.src == 0) _ _ (closed v) (either (is_rfc (kind_of p.op)) _ _ (record { blank = λ h. absurd (cc); pending = λ h. one.stored }) (closed v))
+    let taken = λ (asks : is_rfc (kind_of p.op) ≡ true). alone v p me (moment (closed_conn v) now) cap.0 cap.1 asks in
+    either (me.address == 0 || p.src == 0) _ _ (closed v) (either_where (is_rfc (kind_of p.op)) _ _ (λ asks. record { blank = λ h. absurd (cc); pending = λ h. (taken asks).0 }) (closed v))
 from_closed v (Accept start now) some = closed v
 from_closed v (Answer bytes) some = either (nat_lt MAX_DATA (length bytes)) _ _ (closed v) (closed v)
 from_closed v (Reject text) some = either (nat_lt MAX_DATA (length text)) _ _ (closed v) (closed v)
@@ -60,6 +62,9 @@ from_closed v (Deliver p now) some = closed v
 from_closed v (Write op bytes now) some = closed v
 from_closed v (Unc bytes) some = closed v
 from_closed v Read some =
+    let cap = some_suc v.config.recv_cap some in
+    read_nothing (closed_conn v) (front_of (closed_conn v)) (holds_nothing v cap.0 cap.1) (closed v)
+from_closed v FinishRead some =
     let cap = some_suc v.config.recv_cap some in
     read_nothing (closed_conn v) (front_of (closed_conn v)) (holds_nothing v cap.0 cap.1) (closed v)
 from_closed v (Close text) some = either (nat_lt MAX_DATA (length text)) _ _ (closed v) (closed v)
@@ -75,10 +80,10 @@ abbrev is_waiting : State → Bool
 is_waiting s = is_inactive s || is_requested s
 
 -- a pending request is stored alone as long as it is pending
-stored_as : (v w : ConnView) → w.send ≡ v.send → w.recv ≡ v.recv → stored_packets v ≡ 1 → stored_packets w ≡ 1
-stored_as v w send recv h = rw (send, recv) h
+stored_as : (v w : ConnView) → w.send ≡ v.send → w.recv ≡ v.recv → HoldsRequest v → HoldsRequest w
+stored_as v w send recv h = record { kept = rw send h.kept; stored = rw (send, recv) h.stored; front = rw recv h.front }
 
-still_pending : (v : ConnView) (call : Call) → v.state ≡ st.RfcReceived → stored_packets v ≡ 1 → HoldsRequestAlone (act v call).view
+still_pending : (v : ConnView) (call : Call) → v.state ≡ st.RfcReceived → HoldsRequest v → HoldsRequestAlone (act v call).view
 still_pending v call e h k =
     let same = pending_stays v call e k in
     stored_as v (act v call).view same.0 same.1 h
@@ -124,6 +129,7 @@ from_use v (Deliver p now) used h = in_use v (Deliver p now) refl used h
 from_use v (Write op bytes now) used h = in_use v (Write op bytes now) refl used h
 from_use v (Unc bytes) used h = in_use v (Unc bytes) refl used h
 from_use v Read used h = in_use v Read refl used h
+from_use v FinishRead used h = in_use v FinishRead refl used h
 from_use v (Tick now) used h = in_use v (Tick now) refl used h
 
 -- ---- any connection

@@ -54,9 +54,9 @@ ended_conn : (slot new : Slot) → new ≡ after_ending slot → new.conn ≡ sl
 ended_conn slot new e = ap (λ (s : Slot). s.conn) e ∙ either_conn (is_free slot) _ slot refl
 
 -- A table with a slot whose connection did such a call is a table.
-pub table_ended : (config : ConfigView) (slots : List Slot) (place : ℕ) (slot called new : Slot) (call : Call)
-    → place < length slots → slot ≡ slice_index_or slots place slot → called.conn ≡ (act slot.conn call).view → called.conn.config ≡ slot.conn.config → new ≡ after_ending called
+pub table_ended : (config : ConfigView) (slots : List Slot) (place : ℕ) (slot acted new : Slot) (call : Call)
+    → place < length slots → slot ≡ slice_index_or slots place slot → acted.conn ≡ (act slot.conn call).view → acted.conn.config ≡ slot.conn.config → new ≡ after_ending acted
     → IsTable config slots → IsTable config (slice_set slots place new)
-table_ended config slots place slot called new call within read conn kept e table =
-    let same = ended_conn called new e in
+table_ended config slots place slot acted new call within read conn kept e table =
+    let same = ended_conn acted new e in
     table_called config slots place slot new call within read (same ∙ conn) (ap (λ (c : ConnView). c.config) same ∙ kept) table

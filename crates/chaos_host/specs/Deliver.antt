@@ -3,7 +3,7 @@ use Rattle.std.specs.Prelude.{ℕ, List, [], ◌∷◌, Option, Some, None, code
 use Rattle.chaos_packet.specs.Packet.{PacketView}
 use Rattle.chaos_conn.specs.Act.{Deliver, TakeRequest}
 use Rattle.chaos_conn.specs.Arriving.{act_deliver}
-use Rattle.chaos_conn.specs.Sending.{op_cls}
+use Rattle.chaos_packet.specs.Opcode.{op_cls, op_los}
 use Rattle.chaos_conn.specs.declared.answers.Why.TheVariants as why
 use Rattle.chaos_host.specs.declared.answers.HostDelivered.{HostDelivered}
 use Rattle.chaos_host.specs.declared.answers.HostDelivered.TheVariants as answer
@@ -13,13 +13,9 @@ use Rattle.chaos_host.specs.declared.slot.Slot.{Slot}
 use Rattle.chaos_host.specs.Slot.{index_of}
 use Rattle.chaos_host.specs.Route.{route}
 use Rattle.chaos_host.specs.View.{HostView, own_end}
-use Rattle.chaos_host.specs.Acted.{HostActed, untouched, on_slot}
+use Rattle.chaos_host.specs.Acted.{HostActed, no_effect, on_slot}
 
 -- ---- replies of the host itself, with number and acknowledgement 0
-
--- the opcode of a LOS, octal 11
-abbrev pub op_los : ℕ
-op_los = 9
 
 -- the refusal of a request: a CLS to where it came from, from the host's address and index 0
 abbrev pub refusal : HostView → PacketView → List ℕ → PacketView
@@ -44,8 +40,8 @@ abbrev pub table_full : HostView → PacketView → PacketView
 table_full v p = refusal v p (codes "Connection table full.")
 
 -- what tells of a lost connection: a LOS between the ends of the packet, exchanged
-abbrev pub loss : PacketView → PacketView
-loss p = record {
+abbrev pub los_packet : PacketView → PacketView
+los_packet p = record {
   op = op_los;
   fwd = 0;
   dst = p.src;
@@ -58,35 +54,35 @@ loss p = record {
 }
 
 -- a packet that is answered by one packet, and changes nothing
-abbrev pub replied : HostView → PacketView → HostDelivered → HostActed HostDelivered
-replied v reply told = record { view = v; packets = reply ∷ []; answer = told }
+abbrev pub reply_with : HostView → PacketView → HostDelivered → HostActed HostDelivered
+reply_with v reply told = record { view = v; packets = reply ∷ []; answer = told }
 
 -- ---- delivery to a slot
 
 -- the connection in this slot gets the packet
-abbrev pub delivered_in : HostView → PacketView → ℕ → ℕ → Option Slot → HostActed HostDelivered
-delivered_in v p now place None = untouched v (answer.Dropped why.NoConn)
-delivered_in v p now place (Some slot) =
+abbrev pub deliver_slot : HostView → PacketView → ℕ → ℕ → Option Slot → HostActed HostDelivered
+deliver_slot v p now place None = no_effect v (answer.Dropped why.NoConn)
+deliver_slot v p now place (Some slot) =
     on_slot v place slot (Deliver p now) (answer.At (index_of place slot) (act_deliver slot.conn p now).answer)
 
 -- the connection in this slot takes the request
-abbrev pub requested_in : HostView → PacketView → ℕ → ℕ → Option Slot → HostActed HostDelivered
-requested_in v p now place None = untouched v answer.TableFull
-requested_in v p now place (Some slot) =
+abbrev pub take_request_slot : HostView → PacketView → ℕ → ℕ → Option Slot → HostActed HostDelivered
+take_request_slot v p now place None = no_effect v answer.TableFull
+take_request_slot v p now place (Some slot) =
     on_slot v place slot (TakeRequest p (own_end v place slot) now) (answer.Requested (index_of place slot))
 
 -- ---- delivery
 
 -- a packet goes where its route leads
-abbrev pub delivered_by : HostView → PacketView → ℕ → Route → HostActed HostDelivered
-delivered_by v p now to.NotOurs = untouched v (answer.Dropped why.NotOurs)
-delivered_by v p now to.NoSource = untouched v (answer.Dropped why.NoSource)
-delivered_by v p now (to.Slot place) = delivered_in v p now place (slice_get v.slots place)
-delivered_by v p now to.NoServer = replied v (no_server v p) answer.NoServer
-delivered_by v p now to.TableFull = replied v (table_full v p) answer.TableFull
-delivered_by v p now (to.Request place) = requested_in v p now place (slice_get v.slots place)
-delivered_by v p now to.NoConnection = replied v (loss p) answer.NoConnection
-delivered_by v p now to.NoConn = untouched v (answer.Dropped why.NoConn)
+abbrev pub deliver_by : HostView → PacketView → ℕ → Route → HostActed HostDelivered
+deliver_by v p now to.NotOurs = no_effect v (answer.Dropped why.NotOurs)
+deliver_by v p now to.NoSource = no_effect v (answer.Dropped why.NoSource)
+deliver_by v p now (to.Slot place) = deliver_slot v p now place (slice_get v.slots place)
+deliver_by v p now to.NoServer = reply_with v (no_server v p) answer.NoServer
+deliver_by v p now to.TableFull = reply_with v (table_full v p) answer.TableFull
+deliver_by v p now (to.Request place) = take_request_slot v p now place (slice_get v.slots place)
+deliver_by v p now to.SendLos = reply_with v (los_packet p) answer.NoConnection
+deliver_by v p now to.DropSilently = no_effect v (answer.Dropped why.NoConn)
 
-abbrev pub delivered : HostView → PacketView → ℕ → HostActed HostDelivered
-delivered v p now = delivered_by v p now (route v p)
+abbrev pub host_deliver : HostView → PacketView → ℕ → HostActed HostDelivered
+host_deliver v p now = deliver_by v p now (route v p)

@@ -4,6 +4,7 @@ pub mod Connect
 pub mod Deliver
 pub mod Inside
 pub mod Law
+pub mod Lending
 pub mod Listening
 pub mod Route
 pub mod Slot

@@ -1,10 +1,9 @@
 -- Where a packet that comes to a host goes.
 use Rattle.std.specs.Prelude.{◌≡◌, ℕ, ◌<◌, Bool, true, false, ⊤, not, ◌==◌, if◌then◌else◌, length, Option, Some, None, position}
-use Rattle.chaos_packet.specs.Opcode.{kind_of}
+use Rattle.chaos_packet.specs.Opcode.{kind_of, is_rfc}
 use Rattle.chaos_packet.specs.Packet.{PacketView, contact_of}
 use Rattle.chaos_packet.specs.declared.opcode.Kind.{Kind}
 use Rattle.chaos_packet.specs.declared.opcode.Kind.TheVariants as kind
-use Rattle.chaos_conn.specs.Sending.{is_rfc}
 use Rattle.chaos_host.specs.declared.route.Route.{Route}
 use Rattle.chaos_host.specs.declared.route.Route.TheVariants as to
 use Rattle.chaos_host.specs.declared.slot.Slot.{Slot}
@@ -49,13 +48,13 @@ needs_conn kind.Sns = true
 needs_conn kind.Sts = true
 needs_conn _ = false
 
-abbrev pub route_lost : PacketView → Route
-route_lost p = if needs_conn (kind_of p.op) then to.NoConnection else to.NoConn
+abbrev pub route_no_conn : PacketView → Route
+route_no_conn p = if needs_conn (kind_of p.op) then to.SendLos else to.DropSilently
 
 -- a packet whose destination index names this connection goes to it where it comes from its peer
 abbrev pub route_named : PacketView → Option Slot → Route
-route_named p None = route_lost p
-route_named p (Some slot) = if comes_from p slot then to.Slot (place_of p.dst_index) else route_lost p
+route_named p None = route_no_conn p
+route_named p (Some slot) = if comes_from p slot then to.Slot (place_of p.dst_index) else route_no_conn p
 
 abbrev pub route_other : HostView → PacketView → Route
 route_other v p = route_named p (named_slot v.slots p.dst_index)

@@ -1,15 +1,18 @@
 -- The slots of a host's table, and the own indices of their connections.
-use Rattle.std.specs.Prelude.{◌≡◌, ℕ, ◌+◌, ◌-◌, ◌*◌, ◌%◌, ◌≤◌, Bool, true, false, not, ◌&&◌, ◌==◌, if◌then◌else◌, List, length, All, Option, Some, None, option_map, slice_get, position}
+use Rattle.std.specs.Prelude.{◌≡◌, ℕ, ◌+◌, ◌-◌, ◌*◌, ◌%◌, ◌≤◌, Bool, true, false, not, ◌&&◌, ◌==◌, if◌then◌else◌, List, [], length, All, Option, Some, None, option_map, slice_get, position}
 use Rattle.chaos_packet.specs.Packet.{PacketView}
+use Rattle.chaos_packet.specs.Item.{ItemView}
+use Rattle.chaos_packet.specs.Opcode.{kind_of, is_rfc}
 use Rattle.chaos_conn.specs.Config.{ConfigView}
 use Rattle.chaos_conn.specs.State.{is_inactive}
 use Rattle.chaos_conn.specs.Arriving.{is_index, may_be_index}
-use Rattle.chaos_conn.specs.Calls.{peer_of}
+use Rattle.chaos_conn.specs.Calls.{peer_of, front_of}
+use Rattle.chaos_conn.specs.Stored.{stored_packets}
 use Rattle.chaos_conn.specs.declared.state.State.{State}
 use Rattle.chaos_conn.specs.declared.state.State.TheVariants.{RfcReceived}
 use Rattle.chaos_conn.specs.View.{ConnView}
 use Rattle.chaos_conn.specs.Opening.{closed_conn}
-use Rattle.chaos_conn.specs.Stored.{stored_packets}
+use Rattle.chaos_host.specs.declared.limits.TheConstants.{MAX_CONNS}
 use Rattle.chaos_host.specs.declared.slot.Slot.{Slot}
 
 -- a slot is free where its connection is inactive, and else in use
@@ -90,15 +93,26 @@ HasConfig config slot = slot.conn.config ≡ config
 abbrev pub IsBlank : ConnView → Type 0
 IsBlank conn = is_inactive conn.state ≡ true → conn ≡ closed_conn conn
 
--- while a request waits for its user, it is the one item that its connection stores
+-- an item is there, and it is an RFC
+abbrev pub is_request : Option ItemView → Bool
+is_request None = false
+is_request (Some item) = is_rfc (kind_of item.op)
+
+-- Nothing is kept, and the one packet that is stored is held in front: a request.
+pub record HoldsRequest (conn : ConnView) : Type 0 where
+  pub kept : conn.send.kept ≡ []
+  pub stored : stored_packets conn ≡ 1
+  pub front : is_request (front_of conn) ≡ true
+
+-- while a request waits for its user, its connection stores nothing else
 abbrev pub HoldsRequestAlone : ConnView → Type 0
-HoldsRequestAlone conn = conn.state ≡ RfcReceived → stored_packets conn ≡ 1
+HoldsRequestAlone conn = conn.state ≡ RfcReceived → HoldsRequest conn
 
 -- The slots are from 1 to 255, and their connections have one configuration, with a receive window. What stands in a free
--- slot is as a new connection, and a pending request is the one stored item of its slot.
+-- slot is as a new connection, and a pending request is the one item that its slot stores.
 pub record IsTable (config : ConfigView) (slots : List Slot) : Type 0 where
   pub some : 1 ≤ length slots
-  pub few : length slots ≤ 255
+  pub few : length slots ≤ MAX_CONNS
   pub alike : All (HasConfig config) slots
   pub window : 1 ≤ config.recv_cap
   pub blank : All (λ slot. IsBlank slot.conn) slots

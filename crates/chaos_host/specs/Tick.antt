@@ -7,14 +7,14 @@ use Rattle.chaos_conn.specs.declared.answers.Ticked.TheVariants.{Quiet}
 use Rattle.chaos_host.specs.declared.slot.Slot.{Slot}
 use Rattle.chaos_host.specs.Slot.{is_used}
 use Rattle.chaos_host.specs.View.{HostView}
-use Rattle.chaos_host.specs.Acted.{HostActed, untouched, on_slot}
+use Rattle.chaos_host.specs.Acted.{HostActed, no_effect, on_slot}
 
 -- the connection in a slot in use does what is due; a free slot, and a place without a slot, is quiet
-abbrev pub ticked_in : HostView → ℕ → ℕ → Option Slot → HostActed Ticked
-ticked_in v place now None = untouched v Quiet
-ticked_in v place now (Some slot) =
+abbrev pub tick_slot : HostView → ℕ → ℕ → Option Slot → HostActed Ticked
+tick_slot v place now None = no_effect v Quiet
+tick_slot v place now (Some slot) =
     if is_used slot then on_slot v place slot (Tick now) (act_tick slot.conn now).answer
-    else untouched v Quiet
+    else no_effect v Quiet
 
-abbrev pub ticked : HostView → ℕ → ℕ → HostActed Ticked
-ticked v place now = ticked_in v place now (slice_get v.slots place)
+abbrev pub host_tick : HostView → ℕ → ℕ → HostActed Ticked
+host_tick v place now = tick_slot v place now (slice_get v.slots place)

@@ -60,10 +60,10 @@ own_end v place slot = record { address = v.address; index = index_of place slot
 
 module _ {A : Type 0} where
   -- what a connection shows, where there is one
-  abbrev pub shown : (ConnView → A) → Option Slot → Result A CallFault
-  shown look None = Err NoSuchConnection
-  shown look (Some slot) = Ok (look slot.conn)
+  abbrev pub look_slot : (ConnView → A) → Option Slot → Result A CallFault
+  look_slot look None = Err NoSuchConnection
+  look_slot look (Some slot) = Ok (look slot.conn)
 
   -- what the connection with an own index shows
-  abbrev pub shown_by : HostView → ℕ → (ConnView → A) → Result A CallFault
-  shown_by v id look = shown look (named_slot v.slots id)
+  abbrev pub host_look : HostView → ℕ → (ConnView → A) → Result A CallFault
+  host_look v id look = look_slot look (named_slot v.slots id)

@@ -1,16 +1,15 @@
 //! The user's calls on one connection, which its own index names.
-ghost use Rattle.std.specs.Prelude.{◌≡◌, ◌<◌, Ok};
+ghost use Rattle.std.specs.Prelude.{◌<◌};
 ghost use Rattle.chaos_packet.specs.Outbox.{room_of};
-ghost use Rattle.chaos_conn.specs.Act.{Accept, Answer, Reject, Write, Unc, Read, Close, Did, Wrote};
+ghost use Rattle.chaos_conn.specs.Act.{Accept, Answer, Reject, Write, Unc, Read, FinishRead, Close, Did, Wrote, Gave, Finished};
 ghost use Rattle.chaos_host.specs.Acted.{HostDoes};
-ghost use Rattle.chaos_host.specs.Calls.{called, ending, told, told_number, told_read};
+ghost use Rattle.chaos_host.specs.Calls.{host_call, host_end, reply_of, plain_reply_of};
 
 use crate::fault::CallFault;
 use crate::host::Host;
-use crate::in_slot::{accept_at, answer_at, close_at, read_at, reject_at, unc_at, write_at};
 use crate::index::ConnId;
-use crate::slots::named_place;
-use chaos_conn::{ConnFault, ReadEnd};
+use crate::slots::named_mut;
+use chaos_conn::{ReadDone, ReadEnd};
 use chaos_packet::{Opcode, Outbox, PktNum};
 
 impl Host {
@@ -26,12 +25,11 @@ impl Host {
         out: &mut Outbox,
     ) -> Result<(), CallFault>
         requires { 0 < room_of out.old }
-        ensures { HostDoes self.old 1 (called self.old id (Accept start now)) self.new out.old out.new (told result) }
+        ensures { HostDoes self.old 1 (host_call self.old id (Accept start now)) self.new out.old out.new (reply_of Did result) }
     {
-        let Some(place) = named_place(&self.slots, id) else {
-            return Err(CallFault::NoSuchConnection);
-        };
-        refusing(accept_at(&mut self.slots, place, start, now, out))
+        let slot = named_mut(&mut self.slots, id)?;
+        let done = slot.conn.accept(start, now, out);
+        done.map_err(CallFault::Refused)
     }
 
     /// Writes data, or an EOF, and answers its number.
@@ -44,87 +42,72 @@ impl Host {
         out: &mut Outbox,
     ) -> Result<PktNum, CallFault>
         requires { 0 < room_of out.old }
-        ensures { HostDoes self.old 1 (called self.old id (Write op bytes.now now)) self.new out.old out.new (told_number result) }
+        ensures { HostDoes self.old 1 (host_call self.old id (Write op bytes.now now)) self.new out.old out.new (reply_of Wrote result) }
     {
-        let Some(place) = named_place(&self.slots, id) else {
-            return Err(CallFault::NoSuchConnection);
-        };
-        refusing_number(write_at(&mut self.slots, place, op, bytes, now, out))
+        let slot = named_mut(&mut self.slots, id)?;
+        let done = slot.conn.write(op, bytes, now, out);
+        done.map_err(CallFault::Refused)
     }
 
     /// Sends uncontrolled data, which may be lost and is kept nowhere.
     pub fn unc(&mut self, id: ConnId, bytes: &[u8], out: &mut Outbox) -> Result<(), CallFault>
         requires { 0 < room_of out.old }
-        ensures { HostDoes self.old 1 (called self.old id (Unc bytes.now)) self.new out.old out.new (told result) }
+        ensures { HostDoes self.old 1 (host_call self.old id (Unc bytes.now)) self.new out.old out.new (reply_of Did result) }
     {
-        let Some(place) = named_place(&self.slots, id) else {
-            return Err(CallFault::NoSuchConnection);
-        };
-        refusing(unc_at(&mut self.slots, place, bytes, out))
+        let slot = named_mut(&mut self.slots, id)?;
+        slot.conn.unc(bytes, out).map_err(CallFault::Refused)
     }
 
     /// Reads the next item, where it is held, and hands it out.
     pub fn read(&mut self, id: ConnId, out: &mut Outbox) -> Result<ReadEnd, CallFault>
         requires { 0 < room_of out.old }
-        ensures { HostDoes self.old 1 (called self.old id Read) self.new out.old out.new (told_read result) }
+        ensures { HostDoes self.old 1 (host_call self.old id Read) self.new out.old out.new (plain_reply_of Gave result) }
     {
-        let Some(place) = named_place(&self.slots, id) else {
-            return Err(CallFault::NoSuchConnection);
-        };
-        Ok(read_at(&mut self.slots, place, out))
+        let slot = named_mut(&mut self.slots, id)?;
+        Ok(slot.conn.read(out))
+    }
+
+    /// Reads the next item, where it is held, and drops it where it lies: what [`Host::read`] does, with nothing handed out.
+    /// [`Host::front`] lends the item beforehand.
+    pub fn read_done(&mut self, id: ConnId, out: &mut Outbox) -> Result<ReadDone, CallFault>
+        requires { 0 < room_of out.old }
+        ensures { HostDoes self.old 1 (host_call self.old id FinishRead) self.new out.old out.new (plain_reply_of Finished result) }
+    {
+        let slot = named_mut(&mut self.slots, id)?;
+        Ok(slot.conn.read_done(out))
     }
 
     /// Answers the request that a connection holds by one ANS, and frees its slot: a simple transaction.
     pub fn answer(&mut self, id: ConnId, bytes: &[u8], out: &mut Outbox) -> Result<(), CallFault>
         requires { 0 < room_of out.old }
-        ensures { HostDoes self.old 1 (ending self.old id (Answer bytes.now)) self.new out.old out.new (told result) }
+        ensures { HostDoes self.old 1 (host_end self.old id (Answer bytes.now)) self.new out.old out.new (reply_of Did result) }
     {
-        let Some(place) = named_place(&self.slots, id) else {
-            return Err(CallFault::NoSuchConnection);
-        };
-        refusing(answer_at(&mut self.slots, place, bytes, out))
+        let slot = named_mut(&mut self.slots, id)?;
+        let done = slot.conn.answer(bytes, out);
+        slot.end_call();
+        done.map_err(CallFault::Refused)
     }
 
     /// Refuses the request that a connection holds by a CLS with a text, and frees its slot.
     pub fn reject(&mut self, id: ConnId, text: &[u8], out: &mut Outbox) -> Result<(), CallFault>
         requires { 0 < room_of out.old }
-        ensures { HostDoes self.old 1 (ending self.old id (Reject text.now)) self.new out.old out.new (told result) }
+        ensures { HostDoes self.old 1 (host_end self.old id (Reject text.now)) self.new out.old out.new (reply_of Did result) }
     {
-        let Some(place) = named_place(&self.slots, id) else {
-            return Err(CallFault::NoSuchConnection);
-        };
-        refusing(reject_at(&mut self.slots, place, text, out))
+        let slot = named_mut(&mut self.slots, id)?;
+        let done = slot.conn.reject(text, out);
+        slot.end_call();
+        done.map_err(CallFault::Refused)
     }
 
     /// Gives a connection up, in any state, and frees its slot. An open one, and one that holds a request, sends a CLS with
     /// the text.
     pub fn close(&mut self, id: ConnId, text: &[u8], out: &mut Outbox) -> Result<(), CallFault>
         requires { 0 < room_of out.old }
-        ensures { HostDoes self.old 1 (ending self.old id (Close text.now)) self.new out.old out.new (told result) }
+        ensures { HostDoes self.old 1 (host_end self.old id (Close text.now)) self.new out.old out.new (reply_of Did result) }
     {
-        let Some(place) = named_place(&self.slots, id) else {
-            return Err(CallFault::NoSuchConnection);
-        };
-        refusing(close_at(&mut self.slots, place, text, out))
-    }
-}
-
-/// What a connection's call did, as the host tells it.
-fn refusing(done: Result<(), ConnFault>) -> Result<(), CallFault>
-    ensures { told result ≡ Ok (Did done) }
-{
-    match done {
-        Ok(()) => Ok(()),
-        Err(fault) => Err(CallFault::Refused(fault)),
-    }
-}
-
-/// What a connection's write did, as the host tells it.
-fn refusing_number(done: Result<PktNum, ConnFault>) -> Result<PktNum, CallFault>
-    ensures { told_number result ≡ Ok (Wrote done) }
-{
-    match done {
-        Ok(number) => Ok(number),
-        Err(fault) => Err(CallFault::Refused(fault)),
+        let slot = named_mut(&mut self.slots, id)?;
+        let done = slot.conn.close(text, out);
+        slot.end_call();
+        done.map_err(CallFault::Refused)
     }
 }

@@ -4,13 +4,12 @@ ghost use Rattle.chaos_conn.specs.declared.state.State.{State};
 ghost use Rattle.chaos_host.specs.Slot.{named_state, is_used_at};
 ghost use Rattle.chaos_packet.specs.Outbox.{room_of};
 ghost use Rattle.chaos_host.specs.Acted.{HostDoes};
-ghost use Rattle.chaos_host.specs.Connect.{connected, connected_in};
+ghost use Rattle.chaos_host.specs.Connect.{host_connect, connect_slot};
 
 use crate::fault::ConnectFault;
 use crate::host::Host;
-use crate::in_slot::{index_at, request_at};
 use crate::index::ConnId;
-use crate::slots::free_place;
+use crate::slots::{free_place, index_at};
 use chaos_packet::{MAX_DATA, Outbox, PktNum};
 
 impl Host {
@@ -31,13 +30,11 @@ impl Host {
         out: &mut Outbox,
     ) -> Result<ConnId, ConnectFault>
         requires { 0 < room_of out.old }
-        ensures does { HostDoes self.old 1 (connected self.old peer contact.now start now) self.new out.old out.new result }
+        ensures does { HostDoes self.old 1 (host_connect self.old peer contact.now start now) self.new out.old out.new result }
         // The connection with the index that is answered has asked.
         ensures asks { IfOk result (λ id. named_state self.new.slots id ≡ Some State.RfcSent) }
     {
-        let Some(place) = free_place(&self.slots) else {
-            return Err(ConnectFault::TableFull);
-        };
+        let place = free_place(&self.slots).ok_or(ConnectFault::TableFull)?;
         if contact.len() > MAX_DATA {
             return Err(ConnectFault::TooLong);
         }
@@ -62,12 +59,14 @@ impl Host {
         requires fits { length contact.now ≤ MAX_DATA }
         requires peer { (peer == 0) ≡ false }
         requires room { 0 < room_of out.old }
-        ensures does { HostDoes self.old 1 (connected_in self.old place peer contact.now start now (slice_get self.old.slots place)) self.new out.old out.new (Ok result) }
+        ensures does { HostDoes self.old 1 (connect_slot self.old place peer contact.now start now (slice_get self.old.slots place)) self.new out.old out.new (Ok result) }
         ensures asks { named_state self.new.slots result ≡ Some State.RfcSent }
     {
         let id = index_at(&self.slots, place);
         let me = id.end_at(self.address);
-        let _ = request_at(&mut self.slots, place, me, peer, contact, start, now, out);
+        let _ = self.slots[place]
+            .conn
+            .request(me, peer, contact, start, now, out);
         id
     }
 }

@@ -6,13 +6,13 @@ ghost use Rattle.chaos_host.specs.Slot.{named_state};
 ghost use Rattle.chaos_packet.specs.Outbox.{room_of};
 ghost use Rattle.chaos_host.specs.Acted.{HostDoes};
 ghost use Rattle.chaos_host.specs.Route.{IsRouted, IsRequest};
-ghost use Rattle.chaos_host.specs.Deliver.{delivered, delivered_by, delivered_in, requested_in};
+ghost use Rattle.chaos_host.specs.Deliver.{host_deliver, deliver_by, deliver_slot, take_request_slot};
 
 use crate::answers::HostDelivered;
 use crate::host::Host;
-use crate::in_slot::{deliver_at, index_at, take_request_at};
-use crate::replies::loss;
+use crate::replies::los_packet;
 use crate::route::Route;
+use crate::slots::index_at;
 use chaos_conn::Why;
 use chaos_packet::{Outbox, Packet};
 
@@ -34,7 +34,7 @@ impl Host {
     /// by one look, however many connections there are.
     pub fn deliver(&mut self, packet: &Packet, now: u64, out: &mut Outbox) -> HostDelivered
         requires { 0 < room_of out.old }
-        ensures does { HostDoes self.old 1 (delivered self.old packet.now now) self.new out.old out.new result }
+        ensures does { HostDoes self.old 1 (host_deliver self.old packet.now now) self.new out.old out.new result }
         // A request that is told as taken is held by the connection with that index.
         ensures holds { (id : ℕ) → result ≡ HostDelivered.Requested id → named_state self.new.slots id ≡ Some State.RfcReceived }
     {
@@ -46,7 +46,7 @@ impl Host {
     fn follow(&mut self, route: Route, packet: &Packet, now: u64, out: &mut Outbox) -> HostDelivered
         requires sound { IsRouted self.old packet.now route }
         requires room { 0 < room_of out.old }
-        ensures does { HostDoes self.old 1 (delivered_by self.old packet.now now route) self.new out.old out.new result }
+        ensures does { HostDoes self.old 1 (deliver_by self.old packet.now now route) self.new out.old out.new result }
         ensures holds { (id : ℕ) → result ≡ HostDelivered.Requested id → named_state self.new.slots id ≡ Some State.RfcReceived }
     {
         match route {
@@ -62,11 +62,11 @@ impl Host {
                 HostDelivered::TableFull
             }
             Route::Request(place) => self.take_request(place, packet, now, out),
-            Route::NoConnection => {
-                out.put(loss(packet));
+            Route::SendLos => {
+                out.put(los_packet(packet));
                 HostDelivered::NoConnection
             }
-            Route::NoConn => HostDelivered::Dropped(Why::NoConn),
+            Route::DropSilently => HostDelivered::Dropped(Why::NoConn),
         }
     }
 
@@ -80,11 +80,11 @@ impl Host {
     ) -> HostDelivered
         requires within { place < length self.old.slots }
         requires room { 0 < room_of out.old }
-        ensures does { HostDoes self.old 1 (delivered_in self.old packet.now now place (slice_get self.old.slots place)) self.new out.old out.new result }
+        ensures does { HostDoes self.old 1 (deliver_slot self.old packet.now now place (slice_get self.old.slots place)) self.new out.old out.new result }
         ensures not_new { (id : ℕ) → result ≢ HostDelivered.Requested id }
     {
         let id = index_at(&self.slots, place);
-        HostDelivered::At(id, deliver_at(&mut self.slots, place, packet, now, out))
+        HostDelivered::At(id, self.slots[place].conn.deliver(packet, now, out))
     }
 
     /// The connection in a free slot takes a request.
@@ -96,12 +96,12 @@ impl Host {
         out: &mut Outbox,
     ) -> HostDelivered
         requires { IsRequest self.old packet.now place }
-        ensures does { HostDoes self.old 1 (requested_in self.old packet.now now place (slice_get self.old.slots place)) self.new out.old out.new result }
+        ensures does { HostDoes self.old 1 (take_request_slot self.old packet.now now place (slice_get self.old.slots place)) self.new out.old out.new result }
         ensures holds { (id : ℕ) → result ≡ HostDelivered.Requested id → named_state self.new.slots id ≡ Some State.RfcReceived }
     {
         let id = index_at(&self.slots, place);
         let me = id.end_at(self.address);
-        let _ = take_request_at(&mut self.slots, place, packet, me, now);
+        let _ = self.slots[place].conn.take_request(packet, me, now);
         HostDelivered::Requested(id)
     }
 }

@@ -4,13 +4,12 @@ ghost use Rattle.chaos_packet.specs.Outbox.{room_of};
 ghost use Rattle.chaos_conn.specs.State.{is_ended};
 ghost use Rattle.chaos_host.specs.declared.slot.Slot.{Slot};
 ghost use Rattle.chaos_host.specs.Acted.{HostDoes};
-ghost use Rattle.chaos_host.specs.Calls.{released};
+ghost use Rattle.chaos_host.specs.Calls.{host_release};
 
 use crate::fault::CallFault;
 use crate::host::Host;
-use crate::in_slot::{close_at, is_ended_at};
 use crate::index::ConnId;
-use crate::slots::named_place;
+use crate::slots::named_mut;
 use chaos_packet::Outbox;
 
 impl Host {
@@ -20,16 +19,15 @@ impl Host {
     /// Nothing changes then.
     pub fn release(&mut self, id: ConnId, out: &mut Outbox) -> Result<(), CallFault>
         requires { 0 < room_of out.old }
-        ensures does { HostDoes self.old 1 (released self.old id) self.new out.old out.new result }
+        ensures does { HostDoes self.old 1 (host_release self.old id) self.new out.old out.new result }
         ensures quiet { out.new ≡ out.old }
     {
-        let Some(place) = named_place(&self.slots, id) else {
-            return Err(CallFault::NoSuchConnection);
-        };
-        if !is_ended_at(&self.slots, place) {
+        let slot = named_mut(&mut self.slots, id)?;
+        if !slot.conn.state().is_ended() {
             return Err(CallFault::StillActive);
         }
-        let _ = close_at(&mut self.slots, place, b"", out);
+        let _ = slot.conn.close(b"", out);
+        slot.end_call();
         Ok(())
     }
 }

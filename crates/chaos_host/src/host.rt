@@ -13,6 +13,56 @@ use std::marker::Model;
 
 /// A host: its address, the contacts that it listens to, and a table of slots, each with a connection. A contract sees a
 /// plain record of these, and of each call the view after it, the packets that it put out, and its answer.
+///
+/// Its calls are of five kinds:
+///
+/// - The table's. [`Host::new`] makes it, with all memory that it will ever have. [`Host::listen`] adds a contact;
+///   [`Host::connect`] asks a peer for one, by the connection of the lowest free slot. [`Host::release`] frees the slot of a
+///   connection that has ended.
+/// - The user's calls on one connection, which a [`ConnId`] names. [`Host::accept`], [`Host::answer`] or [`Host::reject`]
+///   replies to a request that it holds. [`Host::write`] and [`Host::unc`] send; [`Host::read`] hands the next item out, or
+///   [`Host::front`] lends it and [`Host::read_done`] passes over it. [`Host::close`] gives it up. `answer`, `reject` and
+///   `close` free its slot.
+/// - Packets from the network: [`Host::deliver`], which finds the connection, or takes a new request.
+/// - The tick: [`Host::tick`], called now and then for each slot, sends what is due there.
+/// - Looks, which change nothing: [`Host::state`], [`Host::can_write`] and [`Host::drained`] of a connection;
+///   [`Host::id_of`], [`Host::stored`], [`Host::config`] and [`Host::conns`] of the table.
+///
+/// The order: `new`; then `listen` for each contact; then packets, ticks and the user's calls as they come. An index is told
+/// by `connect`, and by `deliver` with a new request. It names its connection until the slot is freed, and no call on it
+/// touches any other slot; after that the call is refused with `NoSuchConnection`.
+///
+/// A turn, at a moment `now` and with an empty outbox `out` of room for one send window:
+///
+/// ```text
+/// // What came.
+/// match host.deliver(&packet, now, &mut out) {
+///     HostDelivered::Requested(id) => host.accept(id, start, now, &mut out)?,
+///     HostDelivered::At(id, Delivered::Took) => {
+///         send_all(&mut out);
+///         // The user: each item is taken where its reply can be written.
+///         if host.can_write(id)? {
+///             if let Some(item) = host.front(id)? {
+///                 let reply = reply_to(item);
+///                 host.write(id, Opcode::DATA, &reply, now, &mut out)?;
+///                 send_all(&mut out);
+///                 host.read_done(id, &mut out)?;
+///             }
+///         }
+///     }
+///     _ => {}
+/// }
+/// send_all(&mut out);
+/// // What is due.
+/// for slot in 0..host.conns() {
+///     host.tick(slot, now, &mut out);
+///     send_all(&mut out);
+/// }
+/// ```
+///
+/// Each call that has an outbox asks for room for one packet in it and puts at most one there; a tick asks for room for
+/// as many as the send window, and `send_all` above hands each packet of the outbox to the network. Moments are
+/// milliseconds; one that is earlier than the last of its connection counts as that. After `new` no call takes memory.
 #[derive(Drop)]
 pub struct Host {
     pub(crate) address: u16,
@@ -37,7 +87,8 @@ impl Host {
     /// A host with this address and so many connections, all of one configuration, which listens to nothing. It takes the
     /// memory for all packets that the connections will keep and hold, and no later call takes any.
     ///
-    /// Refused, in this order: `BadAddress` for address 0; `BadCount` where the connections aren't 1 to 255; `NoMemory`.
+    /// Refused, in this order: `BadAddress` for address 0; `BadCount` where the connections aren't 1 to 255; `NoMemory`, and
+    /// then what was taken before is given back.
     pub fn new(
         alloc: Global,
         address: u16,
@@ -52,15 +103,13 @@ impl Host {
         if conns == 0 || conns > MAX_CONNS {
             return Err(MakeFault::BadCount);
         }
-        match new_slots(alloc, conns, config) {
-            Ok(slots) => Ok(Host {
-                address,
-                config,
-                listeners: ArrayVec::new(),
-                slots,
-            }),
-            Err(_) => Err(MakeFault::NoMemory),
-        }
+        let slots = new_slots(alloc, conns, config).map_err(|_| MakeFault::NoMemory)?;
+        Ok(Host {
+            address,
+            config,
+            listeners: ArrayVec::new(),
+            slots,
+        })
     }
 
     /// The configuration of the connections. A tick asks for room for its send window.

@@ -12,7 +12,6 @@ mod deliver;
 mod ending;
 mod fault;
 mod host;
-mod in_slot;
 mod index;
 mod law;
 mod limits;
@@ -23,8 +22,6 @@ mod route;
 mod slot;
 mod slots;
 mod stored;
-#[cfg(test)]
-mod tests;
 mod tick;
 
 pub use answers::HostDelivered;

@@ -78,7 +78,7 @@ pub fn has_listener(listeners: &ArrayVec<Contact, MAX_LISTENERS>, contact: &[u8]
 /// The first fault of a contact that is to be added to these.
 fn listen_fault(listeners: &ArrayVec<Contact, MAX_LISTENERS>, contact: &[u8]) -> Option<ListenFault>
     ensures value { result ≡ listen_fault listeners.now.items contact.now }
-    ensures fits { IfNone result ((length listeners.now.items < 16) × (length contact.now ≤ MAX_CONTACT)) }
+    ensures fits { IfNone result ((length listeners.now.items < MAX_LISTENERS) × (length contact.now ≤ MAX_CONTACT)) }
 {
     if listeners.len() >= MAX_LISTENERS {
         Some(ListenFault::TooMany)
@@ -109,7 +109,7 @@ fn has_space(bytes: &[u8]) -> bool
 
 /// Adds a contact.
 fn add(listeners: &mut ArrayVec<Contact, MAX_LISTENERS>, contact: &[u8])
-    requires room { length listeners.old.items < 16 }
+    requires room { length listeners.old.items < MAX_LISTENERS }
     requires fits { length contact.now ≤ MAX_CONTACT }
     ensures { listeners.new.items ≡ listeners.old.items ++ contact.now ∷ [] }
 {

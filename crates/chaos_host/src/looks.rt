@@ -3,7 +3,7 @@ ghost use Rattle.std.specs.Prelude.{◌≡◌};
 ghost use Rattle.std.specs.Option.{option_copied};
 ghost use Rattle.std.specs.Result.{result_map_both};
 ghost use Rattle.chaos_conn.specs.Calls.{can_write, front_of, is_drained};
-ghost use Rattle.chaos_host.specs.View.{id_at, shown_by};
+ghost use Rattle.chaos_host.specs.View.{id_at, host_look};
 
 use crate::fault::CallFault;
 use crate::host::Host;
@@ -27,41 +27,29 @@ impl Host {
 
     /// The state of a connection, and `NoSuchConnection` where none has this index; so it is with all calls here.
     pub fn state(&self, id: ConnId) -> Result<State, CallFault>
-        ensures { result ≡ shown_by self.now id (λ conn. conn.state) }
+        ensures { result ≡ host_look self.now id (λ conn. conn.state) }
     {
-        match named(&self.slots, id) {
-            Some(slot) => Ok(slot.conn.state()),
-            None => Err(CallFault::NoSuchConnection),
-        }
+        Ok(named(&self.slots, id)?.conn.state())
     }
 
     /// Whether a connection is open and its window has room, so that a write of data is taken.
     pub fn can_write(&self, id: ConnId) -> Result<bool, CallFault>
-        ensures { result ≡ shown_by self.now id (λ conn. can_write conn) }
+        ensures { result ≡ host_look self.now id (λ conn. can_write conn) }
     {
-        match named(&self.slots, id) {
-            Some(slot) => Ok(slot.conn.can_write()),
-            None => Err(CallFault::NoSuchConnection),
-        }
+        Ok(named(&self.slots, id)?.conn.can_write())
     }
 
     /// Whether a connection's peer read all that was sent, as far as is known.
     pub fn drained(&self, id: ConnId) -> Result<bool, CallFault>
-        ensures { result ≡ shown_by self.now id (λ conn. is_drained conn) }
+        ensures { result ≡ host_look self.now id (λ conn. is_drained conn) }
     {
-        match named(&self.slots, id) {
-            Some(slot) => Ok(slot.conn.drained()),
-            None => Err(CallFault::NoSuchConnection),
-        }
+        Ok(named(&self.slots, id)?.conn.drained())
     }
 
     /// Lends a connection's next item, where it is held.
     pub fn front(&self, id: ConnId) -> Result<Option<&Item>, CallFault>
-        ensures { result_map_both (λ front. option_copied front) (λ fault. fault) result ≡ shown_by self.now id (λ conn. front_of conn) }
+        ensures { result_map_both (λ front. option_copied front) (λ fault. fault) result ≡ host_look self.now id (λ conn. front_of conn) }
     {
-        match named(&self.slots, id) {
-            Some(slot) => Ok(slot.conn.front()),
-            None => Err(CallFault::NoSuchConnection),
-        }
+        Ok(named(&self.slots, id)?.conn.front())
     }
 }

@@ -1,6 +1,6 @@
 //! The packets that a host itself answers.
 ghost use Rattle.std.specs.Prelude.{◌≡◌, ◌≤◌, length};
-ghost use Rattle.chaos_host.specs.Deliver.{refusal, no_server, table_full, loss};
+ghost use Rattle.chaos_host.specs.Deliver.{refusal, no_server, table_full, los_packet};
 
 use crate::host::Host;
 use chaos_packet::{MAX_DATA, Opcode, Packet, PktNum, body_of};
@@ -43,8 +43,8 @@ impl Host {
 }
 
 /// What tells of a lost connection: a LOS between the ends of the packet, exchanged.
-pub fn loss(packet: &Packet) -> Packet
-    ensures { result ≡ loss packet.now }
+pub fn los_packet(packet: &Packet) -> Packet
+    ensures { result ≡ los_packet packet.now }
 {
     Packet {
         op: Opcode::LOS,

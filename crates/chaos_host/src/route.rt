@@ -1,8 +1,7 @@
 //! Where a packet goes: the checks of delivery, in their order.
 ghost use Rattle.std.specs.Prelude.{◌≡◌, ◌==◌, true, false};
-ghost use Rattle.chaos_packet.specs.Opcode.{kind_of};
-ghost use Rattle.chaos_conn.specs.Sending.{is_rfc};
-ghost use Rattle.chaos_host.specs.Route.{route, route_rfc, route_new, route_other, route_lost, needs_conn, IsRouted};
+ghost use Rattle.chaos_packet.specs.Opcode.{kind_of, is_rfc};
+ghost use Rattle.chaos_host.specs.Route.{route, route_rfc, route_new, route_other, route_no_conn, needs_conn, IsRouted};
 
 use crate::host::Host;
 use crate::index::ConnId;
@@ -25,10 +24,10 @@ pub enum Route {
     TableFull,
     /// To the free slot at this place, as a new request.
     Request(usize),
-    /// Nowhere: it takes it that there is a connection, and there is none.
-    NoConnection,
-    /// Nowhere: no connection is there for it.
-    NoConn,
+    /// Nowhere: it takes it that there is a connection, and there is none. Its sender is told by a LOS.
+    SendLos,
+    /// Nowhere: there is no connection for it, and nobody is told.
+    DropSilently,
 }
 
 impl Host {
@@ -43,7 +42,7 @@ impl Host {
         if packet.src == 0 {
             return Route::NoSource;
         }
-        if is_rfc(packet.op.kind()) {
+        if packet.op.kind().is_rfc() {
             self.route_rfc(packet)
         } else {
             self.route_other(packet)
@@ -86,24 +85,24 @@ impl Host {
         ensures sound { IsRouted self.now packet.now result }
     {
         let Some(place) = named_place(&self.slots, ConnId(packet.dst_index)) else {
-            return route_lost(packet);
+            return route_no_conn(packet);
         };
         if self.slots[place].comes_from(packet) {
             Route::Slot(place)
         } else {
-            route_lost(packet)
+            route_no_conn(packet)
         }
     }
 }
 
 /// Where a packet goes for which there is no connection.
-fn route_lost(packet: &Packet) -> Route
-    ensures { result ≡ route_lost packet.now }
+fn route_no_conn(packet: &Packet) -> Route
+    ensures { result ≡ route_no_conn packet.now }
 {
     if needs_conn(packet.op.kind()) {
-        Route::NoConnection
+        Route::SendLos
     } else {
-        Route::NoConn
+        Route::DropSilently
     }
 }
 
@@ -115,11 +114,4 @@ fn needs_conn(kind: Kind) -> bool
         kind,
         Kind::Opn | Kind::Eof | Kind::Data | Kind::Sns | Kind::Sts
     )
-}
-
-/// Whether a packet of this kind asks for a connection.
-fn is_rfc(kind: Kind) -> bool
-    ensures { result ≡ is_rfc kind }
-{
-    matches!(kind, Kind::Rfc)
 }

@@ -3,6 +3,7 @@ ghost use Rattle.std.specs.Prelude.{◌≡◌, ◌<◌};
 ghost use Rattle.chaos_host.specs.Slot.{is_free, is_used, index_of, took_from, comes_from, after_ending};
 
 use crate::index::ConnId;
+use crate::limits::MAX_CONNS;
 use chaos_conn::{Conn, State};
 use chaos_packet::Packet;
 
@@ -24,7 +25,7 @@ impl Slot {
 
     /// The own index of the connection in this slot, at its place in the table.
     pub fn index_at(&self, place: usize) -> ConnId
-        requires { place < 255 }
+        requires { place < MAX_CONNS }
         ensures { result ≡ index_of place self.now }
     {
         ConnId(256 * u16::from(self.generation) + (place as u16 + 1))

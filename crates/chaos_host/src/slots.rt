@@ -1,19 +1,25 @@
-//! The table: which slot an index names, and calls on the connection in one slot.
-ghost use Rattle.std.specs.Prelude.{◌≡◌, ◌<◌, length, slice_get, position, IfSome, IfNone, Some, None, true, false};
-ghost use Rattle.std.specs.Option.{option_copied};
-ghost use Rattle.chaos_host.specs.Slot.{place_of, named_slot, free_place, is_free, took_from, is_used_at};
+//! The table: which slot an index names, and looks at the slot at a place.
+ghost use Rattle.std.specs.Prelude.{◌≡◌, ◌<◌, ◌≤◌, length, slice_get, position, IfOk, IfErr, IfSome, IfNone, Some, None, true, false};
+ghost use Rattle.std.specs.Borrow.{sem};
+ghost use Rattle.chaos_host.specs.Lending.{LendsNamed};
+ghost use Rattle.chaos_host.specs.declared.fault.CallFault.{CallFault};
+ghost use Rattle.chaos_host.specs.declared.slot.Slot.{Slot};
+ghost use Rattle.chaos_host.specs.Slot.{index_of, place_of, named_slot, free_place, is_free, took_from, is_used_at};
 
+use crate::fault::CallFault;
 use crate::index::ConnId;
+use crate::limits::MAX_CONNS;
 use crate::slot::Slot;
 use chaos_packet::Packet;
 
-/// The slot in use whose connection has an own index: one look, and no walk.
+/// The slot in use whose connection has an own index: one look, and no walk. `NoSuchConnection` where none has it.
 #[tactic(auto, using(std::proofs::lemmas::Option::gets))]
-pub fn named(slots: &Vec<Slot>, id: ConnId) -> Option<&Slot>
-    ensures { option_copied result ≡ named_slot slots.now.items id }
+pub fn named(slots: &Vec<Slot>, id: ConnId) -> Result<&Slot, CallFault>
+    ensures found { IfOk result (λ slot. named_slot slots.now.items id ≡ Some slot.now) }
+    ensures none { IfErr result (λ why. (why ≡ CallFault.NoSuchConnection) × (named_slot slots.now.items id ≡ None)) }
 {
-    let place = named_place(slots, id)?;
-    slots.get(place)
+    let place = named_place(slots, id).ok_or(CallFault::NoSuchConnection)?;
+    Ok(&slots[place])
 }
 
 /// The place of the slot in use whose connection has an own index: one look, and no walk.
@@ -61,4 +67,25 @@ pub fn is_used_at(slots: &Vec<Slot>, place: usize) -> bool
         Some(slot) => !slot.is_free(),
         None => false,
     }
+}
+
+/// The own index of the connection in the slot at a place.
+#[tactic(auto, using(std::proofs::lemmas::Option::gets))]
+pub fn index_at(slots: &Vec<Slot>, place: usize) -> ConnId
+    requires within { place < length slots.now.items }
+    requires few { length slots.now.items ≤ MAX_CONNS }
+    ensures { (slot : Slot) → slice_get slots.now.items place ≡ Some slot → result ≡ index_of place slot }
+{
+    slots[place].index_at(place)
+}
+
+/// The same slot, lent to be changed.
+#[tactic(auto, using(std::proofs::lemmas::Option::gets))]
+pub fn named_mut(slots: &mut Vec<Slot>, id: ConnId) -> Result<&mut Slot, CallFault>
+    ensures* writes_back { sem 𝓛 (LendsNamed slots.entry id result) }
+    ensures found { IfOk result (λ slot. named_slot slots.old.items id ≡ Some slot.now) }
+    ensures none { IfErr result (λ why. (why ≡ CallFault.NoSuchConnection) × (named_slot slots.old.items id ≡ None)) }
+{
+    let place = named_place(slots, id).ok_or(CallFault::NoSuchConnection)?;
+    Ok(&mut slots[place])
 }

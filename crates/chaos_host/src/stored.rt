@@ -5,6 +5,7 @@ ghost use Rattle.chaos_host.specs.Slot.{HasConfig, HoldsRequestAlone, IsBlank};
 ghost use Rattle.chaos_host.specs.Stored.{stored_of, packets_in, bytes_in};
 
 use crate::host::Host;
+use crate::limits::MAX_CONNS;
 use crate::slot::Slot;
 use chaos_conn::{ConnConfig, MAX_PACKET_BYTES};
 
@@ -18,7 +19,7 @@ impl Host {
         ensures value { result ≡ stored_of self.now }
         ensures packets_fit { result.0 ≤ length self.now.slots * (self.now.config.send_cap + self.now.config.recv_cap) }
         ensures bytes_fit { result.1 ≤ MAX_PACKET_BYTES * result.0 }
-        // A request that waits for its user is the one item that its slot stores.
+        // A request that waits for its user is an RFC, which its slot holds in front, and the slot stores nothing else.
         ensures pending { All (λ slot. HoldsRequestAlone slot.conn) self.now.slots }
         // What stands in a free slot stores nothing: it is as new, but for its moments.
         ensures blank { All (λ slot. IsBlank slot.conn) self.now.slots }
@@ -29,12 +30,12 @@ impl Host {
 
 /// What slots with connections of this configuration store.
 fn stored_in(slots: &[Slot], config: &ConnConfig) -> (usize, usize)
-    requires few { length slots.now ≤ 255 }
+    requires few { length slots.now ≤ MAX_CONNS }
     requires config { All (HasConfig config.now) slots.now }
     ensures packets { result.0 ≡ packets_in slots.now }
     ensures bytes { result.1 ≡ bytes_in slots.now }
     ensures packets_fit { result.0 ≤ length slots.now * (config.now.send_cap + config.now.recv_cap) }
-    ensures bytes_fit { result.1 ≤ 504 * result.0 }
+    ensures bytes_fit { result.1 ≤ MAX_PACKET_BYTES * result.0 }
 {
     let each = config.send_cap() + config.recv_cap();
     let mut packets = 0;
@@ -53,7 +54,7 @@ fn stored_by(slot: &Slot, each: u16) -> (usize, usize)
     ensures packets { result.0 ≡ stored_packets slot.now.conn }
     ensures bytes { result.1 ≡ stored_bytes slot.now.conn }
     ensures packets_fit { result.0 ≤ each }
-    ensures bytes_fit { result.1 ≤ 504 * result.0 }
+    ensures bytes_fit { result.1 ≤ MAX_PACKET_BYTES * result.0 }
 {
     slot.conn.stored()
 }

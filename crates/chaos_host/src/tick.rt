@@ -3,10 +3,9 @@ ghost use Rattle.std.specs.Prelude.{◌≡◌, ◌<◌, ◌≤◌, ◌&&◌, tru
 ghost use Rattle.chaos_packet.specs.Outbox.{room_of};
 ghost use Rattle.chaos_host.specs.Acted.{HostDoes};
 ghost use Rattle.chaos_host.specs.Slot.{is_used_at};
-ghost use Rattle.chaos_host.specs.Tick.{ticked};
+ghost use Rattle.chaos_host.specs.Tick.{host_tick};
 
 use crate::host::Host;
-use crate::in_slot::tick_at;
 use crate::slots::is_used_at;
 use chaos_conn::Ticked;
 use chaos_packet::Outbox;
@@ -18,11 +17,11 @@ impl Host {
     /// It asks for room for as many packets as the send window of a connection.
     pub fn tick(&mut self, slot: usize, now: u64, out: &mut Outbox) -> Ticked
         requires { self.old.config.send_cap ≤ room_of out.old }
-        ensures { HostDoes self.old self.old.config.send_cap (ticked self.old slot now) self.new out.old out.new result }
+        ensures { HostDoes self.old self.old.config.send_cap (host_tick self.old slot now) self.new out.old out.new result }
     {
         if !is_used_at(&self.slots, slot) {
             return Ticked::Quiet;
         }
-        tick_at(&mut self.slots, slot, now, out)
+        self.slots[slot].conn.tick(now, out)
     }
 }

@@ -1,4 +1,5 @@
 pub mod Canon
 pub mod Carriage
 pub mod Front
+pub mod Turned
 pub mod Words

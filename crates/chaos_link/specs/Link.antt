@@ -1,21 +1,9 @@
 -- What the calls of a link do.
-use Rattle.std.specs.Prelude.{◌≡◌, ◌+◌, ◌<◌, ◌≤◌, ◌⊎◌, ◌++◌, ◌∷◌, [], ℕ, List, Option, Some, length, drop, if◌then◌else◌, nat_lt, min}
+use Rattle.std.specs.Prelude.{◌≡◌, ◌≤◌, ◌++◌, ◌∷◌, [], ℕ, List, Option, Some, length, drop, if◌then◌else◌, nat_lt}
 use Rattle.chaos_link.specs.declared.link.Sent.{Sent}
 use Rattle.chaos_link.specs.declared.link.Sent.TheVariants as sending
 use Rattle.chaos_link.specs.declared.link.Received.{Received}
 use Rattle.chaos_link.specs.declared.link.Received.TheVariants as receiving
-
--- the greatest count of failures
-abbrev pub max_count : ℕ
-max_count = 18446744073709551615
-
--- The count is greater afterwards, or stands at its greatest.
-abbrev pub Rose : ℕ → ℕ → Type 0
-Rose before after = (before < after) ⊎ (after ≡ max_count)
-
--- one failure more
-abbrev pub counted : ℕ → ℕ
-counted count = min (count + 1) max_count
 
 -- the datagrams of a queue, the oldest first, and how many there may be
 pub record QueueView : Type 0 where

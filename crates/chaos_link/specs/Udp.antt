@@ -1,6 +1,6 @@
 -- What contracts see of a link over a socket.
 use Rattle.std.specs.Prelude.{ℕ, Bool, true, List, Option}
-use Rattle.chaos_link.specs.Link.{counted}
+use Rattle.chaos_packet.specs.Count.{with_failure}
 use Rattle.chaos_link.specs.declared.link.Sent.{Sent}
 use Rattle.chaos_link.specs.declared.link.Sent.TheVariants as sending
 use Rattle.chaos_link.specs.declared.link.Received.{Received}
@@ -18,9 +18,9 @@ pub record UdpView : Type 0 where
 abbrev pub after_send : Sent → UdpView → UdpView
 after_send sending.Sent link = record link { sent = true }
 after_send sending.Unknown link = link
-after_send sending.Failed link = record link { failures = counted link.failures }
+after_send sending.Failed link = record link { failures = with_failure link.failures }
 
 -- the failures after a receive with this answer
 abbrev pub failures_after : Received → ℕ → ℕ
-failures_after receiving.Failed failures = counted failures
+failures_after receiving.Failed failures = with_failure failures
 failures_after _ failures = failures

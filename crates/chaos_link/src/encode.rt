@@ -1,14 +1,16 @@
 //! The bytes of a packet on a link.
-ghost use Rattle.std.specs.Prelude.{◌≡◌, ◌+◌, ◌*◌, ◌≤◌, ◌++◌, ℕ, List, Ok, length, take};
+ghost use Rattle.std.specs.Prelude.{◌≡◌, ◌*◌, ◌<◌, ◌≤◌, ℕ, List, Ok, length, take, slice_index};
+ghost use Rattle.chaos_packet.specs.Words.{HasZeroHalves, Spells, packed, spelling_of, words_for};
 ghost use Rattle.chaos_link.specs.Datagram.{Canonical, Carries, datagram_of, datagram_read, wire};
 
 use crate::datagram::MARK;
-use crate::limits::MAX_DATAGRAM;
+use crate::limits::{MARK_BYTES, MAX_DATAGRAM};
+use crate::pairs::{put_words, turn_pairs};
 use arrayvec::ArrayVec;
-use chaos_packet::{MAX_WORDS, Packet, write_words};
+use chaos_packet::Packet;
 
-/// The one canonical datagram that carries the packet: its free halves are zero (own profile). The cost is that of the
-/// packet's words, and nothing is allocated.
+/// The one canonical datagram that carries the packet: its free halves are zero (own profile). The data bytes
+/// are copied once, by whole words, and nothing is allocated.
 pub fn to_datagram(packet: &Packet) -> ArrayVec<u8, MAX_DATAGRAM>
     // The datagram carries the packet, and its free halves are zero.
     ensures carried { Carries packet.now result.items }
@@ -23,25 +25,41 @@ pub fn to_datagram(packet: &Packet) -> ArrayVec<u8, MAX_DATAGRAM>
     // For callers that compute: the datagram is a function of the packet.
     ensures exact { result.items ≡ datagram_of packet.now }
 {
-    let mut words = [0; MAX_WORDS];
-    let count = write_words(packet, &mut words);
-    let mut bytes = [0; MAX_DATAGRAM];
-    bytes[..MARK.len()].copy_from_slice(&MARK);
-    let end = put_words(&words[..count], &mut bytes);
-    let mut datagram = ArrayVec::from(bytes);
+    let mut datagram = ArrayVec::from([0; MAX_DATAGRAM]);
+    let end = write_datagram(packet, datagram.as_mut_slice());
     datagram.truncate(end);
     datagram
 }
 
-/// Puts the words behind the mark, each high byte first, and says where they end.
-fn put_words(words: &[u16], bytes: &mut [u8; MAX_DATAGRAM]) -> usize
-    requires { length words.now ≤ 252 }
-    ensures end { result ≡ 4 + 2 * length words.now }
-    ensures bytes { take result bytes.new ≡ take 4 bytes.old ++ wire words.now }
+/// Writes the datagram of [`to_datagram`] to the front of the bytes, and says where it ends.
+#[inline(always)]
+fn write_datagram(packet: &Packet, bytes: &mut [u8]) -> usize
+    requires { length bytes.old ≡ MAX_DATAGRAM }
+    ensures long { length bytes.new ≡ MAX_DATAGRAM }
+    ensures exact { take result bytes.new ≡ datagram_of packet.now }
+    ensures spelled { Spells packet.now (spelling_of packet.now) }
+    ensures zero { HasZeroHalves (spelling_of packet.now) }
 {
-    for i in 0..words.len() {
-        bytes[4 + 2 * i] = (words[i] / 256) as u8;
-        bytes[4 + 2 * i + 1] = (words[i] % 256) as u8;
+    bytes[..MARK_BYTES].copy_from_slice(&MARK);
+    let front = put_words(&packet.header(), MARK_BYTES, bytes);
+    front + put_data(packet.bytes(), &mut bytes[front..])
+}
+
+/// Puts data bytes as the words that hold them, each high byte first, and says where they end.
+#[inline(always)]
+fn put_data(from: &[u8], to: &mut [u8]) -> usize
+    requires { 2 * words_for (length from.now) ≤ length to.old }
+    ensures end { result ≡ 2 * words_for (length from.now) }
+    ensures fits { result ≤ length to.new }
+    ensures bytes { take result to.new ≡ wire (packed from.now) }
+    ensures small { (i : ℕ) → slice_index from.now i < 256 }
+{
+    let pairs = from.len() / 2;
+    turn_pairs(from, to);
+    if from.len() % 2 == 0 {
+        return 2 * pairs;
     }
-    4 + 2 * words.len()
+    to[2 * pairs] = 0;
+    to[2 * pairs + 1] = from[2 * pairs];
+    2 * pairs + 2
 }

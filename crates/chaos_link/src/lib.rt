@@ -11,6 +11,7 @@ mod fault;
 mod limits;
 mod link;
 mod mem;
+mod pairs;
 mod peers;
 #[cfg(test)]
 mod tests;
@@ -19,7 +20,7 @@ mod udp;
 pub use datagram::{from_datagram, law_carries};
 pub use encode::to_datagram;
 pub use fault::{LinkFault, PeerFault};
-pub use limits::{LINK_ROOM, MAX_DATAGRAM, MAX_PEERS, MAX_WAIT};
+pub use limits::{LINK_ROOM, MARK_BYTES, MAX_DATAGRAM, MAX_PEERS, MAX_WAIT};
 pub use link::{Link, Received, Sent};
 pub use mem::MemLink;
 pub use peers::{Peer, Peers};

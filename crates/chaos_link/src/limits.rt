@@ -1,5 +1,8 @@
 //! Sizes and times, each with its unit.
 
+/// The bytes of the mark and the version that a datagram begins with.
+pub const MARK_BYTES: usize = 4;
+
 /// The most bytes of a datagram that carries a packet: the mark, the version and the greatest packet.
 pub const MAX_DATAGRAM: usize = 508;
 

@@ -1,6 +1,7 @@
 //! What carries datagrams between hosts.
 ghost use Rattle.std.specs.Prelude.{◌≡◌, ◌≤◌, ℕ, Option, IfSome, length};
-ghost use Rattle.chaos_link.specs.Link.{QueueView, Rose, SendsInto, ReceivesFrom, IsWithin};
+ghost use Rattle.chaos_packet.specs.Count.{Rose};
+ghost use Rattle.chaos_link.specs.Link.{QueueView, SendsInto, ReceivesFrom, IsWithin};
 
 use crate::limits::LINK_ROOM;
 
@@ -34,9 +35,9 @@ pub trait Link {
     /// The queue that the link is. `None` for a link that is none: it claims nothing.
     ghost queue: { Self → Option QueueView };
 
-    /// Sends a datagram of at most 2,048 bytes to the host with this Chaosnet address.
+    /// Sends a datagram of at most [`LINK_ROOM`] bytes to the host with this Chaosnet address.
     fn send(&mut self, to_address: u16, bytes: &[u8]) -> Sent
-        requires { length bytes.now ≤ 2048 }
+        requires { length bytes.now ≤ LINK_ROOM }
         // A failure is counted.
         ensures failed { result ≡ Sent.Failed → Rose (count self.old) (count self.new) }
         ensures queued { IfSome (queue self.old) (SendsInto bytes.now result (queue self.new)) };
@@ -45,7 +46,7 @@ pub trait Link {
     fn receive(&mut self, buffer: &mut [u8; LINK_ROOM]) -> Received
         // A failure is counted.
         ensures failed { result ≡ Received.Failed → Rose (count self.old) (count self.new) }
-        ensures within { IsWithin 2048 result }
+        ensures within { IsWithin LINK_ROOM result }
         ensures queued { IfSome (queue self.old) (ReceivesFrom buffer.old buffer.new result (queue self.new)) };
 
     /// How many calls failed so far. The greatest `u64` stands for that many and more.

@@ -39,7 +39,7 @@ impl MemLink {
 
 /// A datagram with a copy of these bytes. It takes no memory.
 fn datagram_of(bytes: &[u8]) -> ArrayVec<u8, LINK_ROOM>
-    requires { length bytes.now ≤ 2048 }
+    requires { length bytes.now ≤ LINK_ROOM }
     ensures { result.items ≡ bytes.now }
 {
     let mut datagram = ArrayVec::new();

@@ -29,18 +29,22 @@ impl Default for Peer {
     }
 }
 
-/// The hosts that a link reaches, each address once, at most 32. A contract sees them in the order of their coming.
+/// The hosts that a link reaches, each address once, at most [`MAX_PEERS`] of them. A contract sees them in the order of their coming.
 #[derive(Drop)]
 pub struct Peers {
     table: ArrayVec<Peer, MAX_PEERS>,
 }
 
 impl Model for Peers {
+    ghost use Rattle.std.specs.Prelude.{◌≤◌, List, length};
+    ghost use Rattle.chaos_link.specs.declared.limits.TheConstants.{MAX_PEERS};
+    ghost use Rattle.chaos_link.specs.declared.peers.Peer.{Peer};
+
     ghost Value = { List Peer };
 
     ghost view = { λ peers. peers.table.items };
 
-    ghost invariant = { λ peers. length peers.table.items ≤ 32 };
+    ghost invariant = { λ peers. length peers.table.items ≤ MAX_PEERS };
 }
 
 impl Peers {
@@ -72,8 +76,8 @@ impl Peers {
     pub fn add(&mut self, peer: Peer) -> Result<(), PeerFault>
         ensures ok { OnOk result (self.new ≡ self.old ++ peer ∷ []) }
         ensures err { OnErr result (self.new ≡ self.old) }
-        ensures too_many { IsErrOf result PeerFault.TooMany ↔ (length self.old ≡ 32) }
-        ensures already { IsErrOf result PeerFault.Already ↔ ((length self.old < 32) × IsKnown peer.address self.old) }
+        ensures too_many { IsErrOf result PeerFault.TooMany ↔ (length self.old ≡ MAX_PEERS) }
+        ensures already { IsErrOf result PeerFault.Already ↔ ((length self.old < MAX_PEERS) × IsKnown peer.address self.old) }
     {
         if self.table.is_full() {
             return Err(PeerFault::TooMany);

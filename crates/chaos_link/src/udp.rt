@@ -1,6 +1,7 @@
 //! A link over a UDP socket.
 ghost use Rattle.std.specs.Prelude.{◌≡◌, ◌≢◌, ◌↔◌, ◌≤◌, length, Some, None, false, not, OnOk, OnErr};
-ghost use Rattle.chaos_link.specs.Link.{Rose, IsWithin, counted};
+ghost use Rattle.chaos_packet.specs.Count.{Rose, with_failure};
+ghost use Rattle.chaos_link.specs.Link.{IsWithin};
 ghost use Rattle.chaos_link.specs.Peers.{socket_of};
 ghost use Rattle.chaos_link.specs.Udp.{after_send, failures_after};
 
@@ -62,7 +63,7 @@ impl Link for UdpLink {
 
     /// Sends a datagram to the socket of the peer with this address.
     fn send(&mut self, to_address: u16, bytes: &[u8]) -> Sent
-        requires { length bytes.now ≤ 2048 }
+        requires { length bytes.now ≤ LINK_ROOM }
         ensures failed { result ≡ Sent.Failed → Rose self.old.failures self.new.failures }
         ensures queued { Unit {0} }
         // An address is unknown exactly where no peer has it.
@@ -89,7 +90,7 @@ impl Link for UdpLink {
     /// many for any packet, so that it is refused as a datagram.
     fn receive(&mut self, buffer: &mut [u8; LINK_ROOM]) -> Received
         ensures failed { result ≡ Received.Failed → Rose self.old.failures self.new.failures }
-        ensures within { IsWithin 2048 result }
+        ensures within { IsWithin LINK_ROOM result }
         ensures queued { Unit {0} }
         ensures peers { self.new.peers ≡ self.old.peers }
         // A failure is counted, and nothing else is.
@@ -117,7 +118,7 @@ impl Link for UdpLink {
 
 /// Counts one failure more, up to the greatest count.
 fn count_failure(failures: &mut u64)
-    ensures { failures.new ≡ counted failures.old }
+    ensures { failures.new ≡ with_failure failures.old }
 {
     *failures = failures.saturating_add(1);
 }
@@ -133,7 +134,7 @@ fn send_to(socket: &UdpSocket, bytes: &[u8], peer: SocketAddrV4) -> io::Result<(
 
 /// Receives a datagram, or nothing where none came in time.
 fn receive_from(socket: &UdpSocket, buffer: &mut [u8; LINK_ROOM]) -> Received
-    ensures { IsWithin 2048 result }
+    ensures { IsWithin LINK_ROOM result }
 {
     match socket.recv_from(buffer) {
         Ok((count, _from)) => Received::Got(count),

@@ -23,7 +23,7 @@ second_at f g (w ∷ ws) zero there = refl
 second_at f g (w ∷ ws) (suc i) there = let place : 2 * suc i + 1 ≡ suc (suc (2 * i + 1)) = omega arith in rw place (second_at f g ws i (omega arith))
 
 -- the numbers of one more word
-take_pair : (f g : ℕ → ℕ) (ws : List ℕ) (i : ℕ) → i < length ws
+pub take_pair : (f g : ℕ → ℕ) (ws : List ℕ) (i : ℕ) → i < length ws
     → take (2 * (i + 1)) (pairs f g ws) ≡ (take (2 * i) (pairs f g ws) ++ f (get_or ws i 0) ∷ []) ++ g (get_or ws i 0) ∷ []
 take_pair f g ws i there =
     let both : 2 * (i + 1) ≡ 2 * i + 1 + 1 = omega arith in
@@ -33,7 +33,7 @@ take_pair f g ws i there =
     ∙ ap (λ b. take (2 * i + 1) (pairs f g ws) ++ b ∷ []) (second_at f g ws i there) ∙ ap (λ front. front ++ g (get_or ws i 0) ∷ []) first
 
 -- two stores at the end of what was written
-take_stored : (bs : List ℕ) (m n a b : ℕ) → n ≡ m + 2 → m + 1 < length bs → take n (set (set bs m a) (m + 1) b) ≡ (take m bs ++ a ∷ []) ++ b ∷ []
+pub take_stored : (bs : List ℕ) (m n a b : ℕ) → n ≡ m + 2 → m + 1 < length bs → take n (set (set bs m a) (m + 1) b) ≡ (take m bs ++ a ∷ []) ++ b ∷ []
 take_stored bs m n a b e fits =
     let inner : take (m + 1) (set bs m a) ≡ take m bs ++ a ∷ [] = take-set_at bs m (m + 1) a refl (omega arith) in
     let room : m + 1 < length (set bs m a) = simp length-set fits in

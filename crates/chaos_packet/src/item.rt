@@ -10,7 +10,7 @@ use std::marker::Model;
 #[derive(Clone, Debug, PartialEq, Eq, Drop)]
 pub struct Item {
     pub op: Opcode,
-    /// The data bytes, at most 488.
+    /// The data bytes.
     pub body: ArrayVec<u8, MAX_DATA>,
 }
 
@@ -27,7 +27,7 @@ impl Model for Item {
 impl Item {
     /// An item with a copy of these bytes.
     pub fn new(op: Opcode, bytes: &[u8]) -> Self
-        requires { length bytes.now ≤ 488 }
+        requires { length bytes.now ≤ MAX_DATA }
         ensures { result ≡ record { op = op; body = bytes.now } }
     {
         Item {
@@ -39,7 +39,7 @@ impl Item {
     /// The data bytes, lent.
     pub fn bytes(&self) -> &[u8]
         ensures value { result.now ≡ self.now.body }
-        ensures fits { length result.now ≤ 488 }
+        ensures fits { length result.now ≤ MAX_DATA }
     {
         self.body.as_slice()
     }
@@ -47,7 +47,7 @@ impl Item {
 
 /// A packet's data with a copy of these bytes. It takes no memory.
 pub fn body_of(bytes: &[u8]) -> ArrayVec<u8, MAX_DATA>
-    requires { length bytes.now ≤ 488 }
+    requires { length bytes.now ≤ MAX_DATA }
     ensures { result.items ≡ bytes.now }
 {
     let mut body = ArrayVec::new();

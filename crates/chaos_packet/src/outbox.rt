@@ -3,30 +3,27 @@ ghost use Rattle.std.specs.Prelude.{◌≡◌, ◌+◌, ◌<◌, length, [], ◌
 ghost use Rattle.chaos_packet.specs.Outbox.{room_of, with_put, without_oldest};
 
 use crate::packet::Packet;
+use circular_buffer::HeapCircularBuffer;
 use std::alloc::{AllocError, Global};
 use std::marker::Model;
 
 /// A queue of packets that wait to be sent, with room for a fixed number of them. A contract sees the packets, the
 /// oldest first, and that number.
 ///
-/// `new` takes the memory for all of them, and no later call takes any.
+/// `new` takes the memory for all of them, and no later call takes any. The packets lie in a ring: to put one in or to
+/// take one out moves no other.
 #[derive(Drop)]
 pub struct Outbox {
-    /// The packets, the oldest first.
-    packets: Vec<Packet>,
-    /// How many there may be.
-    cap: usize,
+    /// The packets, the oldest first, with a place for each that may wait.
+    ring: HeapCircularBuffer<Packet>,
 }
 
 impl Model for Outbox {
-    ghost use Rattle.std.specs.Prelude.{◌≤◌, vec_len, vec_capacity};
     ghost use Rattle.chaos_packet.specs.Outbox.{OutboxView};
 
     ghost Value = { OutboxView };
 
-    ghost view = { λ out. record { packets = out.packets.items; cap = out.cap } };
-
-    ghost invariant = { λ out. (vec_len out.packets ≤ out.cap) × (out.cap ≤ vec_capacity out.packets) };
+    ghost view = { λ out. record { packets = out.ring.items; cap = out.ring.capacity } };
 }
 
 impl Outbox {
@@ -34,8 +31,8 @@ impl Outbox {
     pub fn new(alloc: Global, cap: usize) -> Result<Self, AllocError>
         ensures { IfOk result (λ out. out ≡ record { packets = []; cap = cap }) }
     {
-        let packets = Vec::with_capacity(alloc, cap)?;
-        Ok(Outbox { packets, cap })
+        let ring = HeapCircularBuffer::with_capacity(alloc, cap)?;
+        Ok(Outbox { ring })
     }
 
     /// How many more packets fit.
@@ -44,7 +41,7 @@ impl Outbox {
         // No more packets wait than fit.
         ensures sound { length self.now.packets + result ≡ self.now.cap }
     {
-        self.cap - self.packets.len()
+        self.ring.capacity() - self.ring.len()
     }
 
     /// Puts a packet in, behind those that wait. The caller sees to the room: [`Outbox::room`] tells it.
@@ -52,19 +49,14 @@ impl Outbox {
         requires { 0 < room_of self.old }
         ensures { self.new ≡ with_put self.old (packet ∷ []) }
     {
-        let _ = self.packets.push(packet);
+        let _none = self.ring.push_back(packet);
     }
 
     /// Takes the oldest packet out, where there is one.
-    ///
-    /// One move of the packets that stay.
     pub fn take(&mut self) -> Option<Packet>
         ensures oldest { result ≡ slice_get self.old.packets 0 }
         ensures rest { self.new ≡ without_oldest self.old }
     {
-        if self.packets.is_empty() {
-            return None;
-        }
-        Some(self.packets.remove(0))
+        self.ring.pop_front()
     }
 }

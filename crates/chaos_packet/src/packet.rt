@@ -1,15 +1,16 @@
 //! A packet.
 ghost use Rattle.std.specs.Prelude.{◌≡◌, ◌+◌, ◌*◌, ◌≤◌, ◌==◌, length, position};
 ghost use Rattle.chaos_packet.specs.Packet.{status_of, status_words, contact_of, arguments_of};
+ghost use Rattle.chaos_packet.specs.Words.{header_of};
 
 use crate::item::body_of;
-use crate::limits::MAX_DATA;
+use crate::limits::{HEADER_WORDS, MAX_DATA};
 use crate::number::PktNum;
 use crate::opcode::{Kind, Opcode};
 use arrayvec::ArrayVec;
 use std::marker::Model;
 
-/// A packet: its header, and at most 488 bytes of data (AI Memo 628, on packets). A contract sees a plain record,
+/// A packet: its header, and at most [`MAX_DATA`] bytes of data (AI Memo 628, on packets). A contract sees a plain record,
 /// with the data as a list of bytes.
 ///
 /// As words, each of 16 bits:
@@ -34,7 +35,7 @@ use std::marker::Model;
 #[derive(Clone, Debug, PartialEq, Eq, Drop)]
 pub struct Packet {
     pub op: Opcode,
-    /// How often the packet was forwarded, at most 15: the type keeps it.
+    /// How often the packet was forwarded, at most [`MAX_FORWARDS`](crate::MAX_FORWARDS) times: the type keeps it.
     pub fwd: u8,
     /// The destination's address, subnet in the high half and host in the low half.
     pub dst: u16,
@@ -54,6 +55,7 @@ pub struct Packet {
 
 impl Model for Packet {
     ghost use Rattle.std.specs.Prelude.{◌≤◌};
+    ghost use Rattle.chaos_packet.specs.declared.limits.TheConstants.{MAX_FORWARDS};
     ghost use Rattle.chaos_packet.specs.Packet.{PacketView};
 
     ghost Value = { PacketView };
@@ -70,7 +72,7 @@ impl Model for Packet {
       body = p.body.items;
     } };
 
-    ghost invariant = { λ p. p.fwd ≤ 15 };
+    ghost invariant = { λ p. p.fwd ≤ MAX_FORWARDS };
 
     ghost inverse = { λ v. record {
       op = v.op;
@@ -106,9 +108,25 @@ impl Packet {
     /// The data bytes, lent.
     pub fn bytes(&self) -> &[u8]
         ensures value { result.now ≡ self.now.body }
-        ensures fits { length result.now ≤ 488 }
+        ensures fits { length result.now ≤ MAX_DATA }
     {
         self.body.as_slice()
+    }
+
+    /// The words of the header, with a zero free half.
+    pub fn header(&self) -> [u16; HEADER_WORDS]
+        ensures words { result ≡ header_of self.now }
+    {
+        [
+            u16::from(self.op.0) * 256,
+            u16::from(self.fwd) * 4096 + self.bytes().len() as u16,
+            self.dst,
+            self.dst_index,
+            self.src,
+            self.src_index,
+            self.num.0,
+            self.ack.0,
+        ]
     }
 
     /// The contact name that the data of an RFC begins with: the bytes before the first space, lent.

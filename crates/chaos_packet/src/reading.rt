@@ -30,7 +30,7 @@ pub fn from_words(words: &[u16]) -> Result<(Packet, usize), PacketFault>
 
     // For callers that compute: the packet and its length are functions of the words.
     ensures packet { IfOk result (λ r. r.0 ≡ packet_at words.now) }
-    ensures used { IfOk result (λ r. r.1 ≡ 8 + words_for (count_of words.now)) }
+    ensures used { IfOk result (λ r. r.1 ≡ HEADER_WORDS + words_for (count_of words.now)) }
 {
     if words.len() < HEADER_WORDS {
         return Err(PacketFault::Short);
@@ -59,7 +59,7 @@ pub fn from_words(words: &[u16]) -> Result<(Packet, usize), PacketFault>
 
 /// The first `count` bytes that the words hold.
 fn data_of(words: &[u16], count: usize) -> ArrayVec<u8, MAX_DATA>
-    requires small { count ≤ 488 }
+    requires small { count ≤ MAX_DATA }
     requires size { length words.now ≡ words_for count }
     ensures { result.items ≡ take count (halves words.now) }
 {

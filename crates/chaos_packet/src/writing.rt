@@ -2,7 +2,7 @@
 ghost use Rattle.std.specs.Prelude.{◌≡◌, ℕ, ◌+◌, ◌<◌, ◌≤◌, ◌++◌, length, take, slice_index};
 ghost use Rattle.chaos_packet.specs.Words.{Spells, HasZeroHalves, words_for, packed, spelling_of};
 
-use crate::limits::{HEADER_WORDS, MAX_WORDS};
+use crate::limits::{HEADER_WORDS, MAX_DATA, MAX_WORDS};
 use crate::packet::Packet;
 use arrayvec::ArrayVec;
 
@@ -27,31 +27,20 @@ pub fn to_words(packet: &Packet) -> ArrayVec<u16, MAX_WORDS>
 /// Writes the words of [`to_words`] to the front of a buffer of the caller's, and says how many they are. The data
 /// bytes are copied by whole words.
 pub fn write_words(packet: &Packet, words: &mut [u16; MAX_WORDS]) -> usize
-    ensures count { result ≤ 252 }
+    ensures count { result ≤ MAX_WORDS }
     ensures spelled { Spells packet.now (take result words.new) }
     ensures zero { HasZeroHalves (take result words.new) }
     ensures exact { take result words.new ≡ spelling_of packet.now }
 {
-    let bytes = packet.bytes();
-    let header = [
-        u16::from(packet.op.0) * 256,
-        u16::from(packet.fwd) * 4096 + bytes.len() as u16,
-        packet.dst,
-        packet.dst_index,
-        packet.src,
-        packet.src_index,
-        packet.num.0,
-        packet.ack.0,
-    ];
-    words[..HEADER_WORDS].copy_from_slice(&header);
-    pack(bytes, words)
+    words[..HEADER_WORDS].copy_from_slice(&packet.header());
+    pack(packet.bytes(), words)
 }
 
 /// Packs the bytes behind a header, two to a word, the first in the low half, and says where they end.
 fn pack(bytes: &[u8], words: &mut [u16; MAX_WORDS]) -> usize
-    requires { length bytes.now ≤ 488 }
-    ensures count { result ≡ 8 + words_for (length bytes.now) }
-    ensures packed { take result words.new ≡ take 8 words.old ++ packed bytes.now }
+    requires { length bytes.now ≤ MAX_DATA }
+    ensures count { result ≡ HEADER_WORDS + words_for (length bytes.now) }
+    ensures packed { take result words.new ≡ take HEADER_WORDS words.old ++ packed bytes.now }
     ensures bytes { (i : ℕ) → slice_index bytes.now i < 256 }
 {
     let pairs = bytes.len() / 2;

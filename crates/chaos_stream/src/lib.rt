@@ -8,8 +8,6 @@
 mod law;
 mod peek;
 mod stream_in;
-#[cfg(test)]
-mod tests;
 mod writing;
 
 pub use law::law_text;

@@ -1,4 +1,1 @@
-pub mod Counts
-pub mod Edits
-pub mod Offsets
-pub mod SlotLemmas
+pub mod Last

@@ -8,7 +8,7 @@ mod words;
 
 use crate::status::refused_status;
 use crate::words::words_of;
-use chaosd_engines::{run_show, show_status};
+use chaosd_engines::{RunFault, run_show, show_status};
 use chaosd_line::{Line, LineFault, parse_line};
 use clap::Error;
 use std::io;
@@ -31,9 +31,13 @@ fn run_line<R: Input + Print + Eprint>(rt: &R, line: Line) -> u8 {
     }
 }
 
-/// Shows help on standard output, or the mistake in the line on standard error.
+/// Shows help on standard output, or the mistake in the line on standard error. That it could not
+/// be written is told on standard error.
 fn refuse<R: Print + Eprint>(rt: &R, error: &Error) -> u8 {
     let is_shown = error.print(rt).is_ok();
+    if !is_shown {
+        let _ = eprintln!(rt; "chaosd: {}", RunFault::WriteFault);
+    }
     refused_status(LineFault::from(error.kind()), is_shown)
 }
 

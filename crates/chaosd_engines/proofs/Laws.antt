@@ -7,14 +7,13 @@ use Rattle.std.proofs.lemmas.List.Elements.{All-nil, All-cons}
 use Rattle.chaos_packet.specs.Packet.{PacketView}
 use Rattle.chaos_link.specs.declared.fault.LinkFault.{LinkFault}
 use Rattle.chaos_link.specs.Datagram.{Carries, datagram_read, IsDecidedByCarries}
+use Rattle.chaosd_engines.specs.declared.limits.TheConstants.{LINE_LIMIT}
 use Rattle.chaosd_engines.specs.Hex.{is_blank, hex_value, with_pair, hex_bytes}
+use Rattle.chaosd_engines.proofs.Digits.{digit_within}
 use Rattle.chaosd_engines.specs.Entry.Entry.{Unreadable, Read}
 use Rattle.chaosd_engines.specs.Entry.{entry_of, entry_of_text, entry_of_bytes, entry_of_datagram, IsReportedAsCarried}
 
 -- ---- what is written in hexadecimal is bytes
-
-digit_within : (b d : ℕ) → hex_value b ≡ Some d → d < 16
-digit_within b d h = grind (arith, nat_tests)
 
 pair_within : (high low : Option ℕ) (rest : Option (List ℕ)) (bytes : List ℕ) → ((d : ℕ) → high ≡ Some d → d < 16) → ((d : ℕ) → low ≡ Some d → d < 16)
     → ((l : List ℕ) → rest ≡ Some l → All (λ b. b < 256) l) → with_pair high low rest ≡ Some bytes → All (λ b. b < 256) bytes
@@ -49,25 +48,25 @@ carried_from : IsDecidedByCarries → (p : PacketView) (bytes : List ℕ) → Al
 carried_from law p bytes within (Ok q) is e = let same : q ≡ p = cc in (law p bytes within).0 (is ∙ ap Ok same)
 carried_from law p bytes within (Err f) is e = absurd (cc)
 
-bytes_from : IsDecidedByCarries → (p : PacketView) (text : List ℕ) → length text ≤ 4096 → (found : Option (List ℕ)) → hex_bytes text ≡ found → entry_of_bytes found ≡ Read p
-    → (bytes : List ℕ) × (length text ≤ 4096) × (hex_bytes text ≡ Some bytes) × Carries p bytes
+bytes_from : IsDecidedByCarries → (p : PacketView) (text : List ℕ) → length text ≤ LINE_LIMIT → (found : Option (List ℕ)) → hex_bytes text ≡ found → entry_of_bytes found ≡ Read p
+    → (bytes : List ℕ) × (length text ≤ LINE_LIMIT) × (hex_bytes text ≡ Some bytes) × Carries p bytes
 bytes_from law p text short None is e = absurd (cc)
 bytes_from law p text short (Some bytes) is e = (bytes, short, is, carried_from law p bytes (bytes_within text bytes is) (datagram_read bytes) refl e)
 
-text_from : IsDecidedByCarries → (p : PacketView) (text : List ℕ) (long : Bool) → ltb 4096 (length text) ≡ long → cond long Unreadable (entry_of_bytes (hex_bytes text)) ≡ Read p
-    → (bytes : List ℕ) × (length text ≤ 4096) × (hex_bytes text ≡ Some bytes) × Carries p bytes
+text_from : IsDecidedByCarries → (p : PacketView) (text : List ℕ) (long : Bool) → ltb LINE_LIMIT (length text) ≡ long → cond long Unreadable (entry_of_bytes (hex_bytes text)) ≡ Read p
+    → (bytes : List ℕ) × (length text ≤ LINE_LIMIT) × (hex_bytes text ≡ Some bytes) × Carries p bytes
 text_from law p text true is e = absurd (cc)
 text_from law p text false is e = bytes_from law p text (grind (arith, nat_tests)) (hex_bytes text) refl e
 
-text_back : IsDecidedByCarries → (p : PacketView) (text bytes : List ℕ) → length text ≤ 4096 → hex_bytes text ≡ Some bytes → Carries p bytes → entry_of_text text ≡ Read p
+text_back : IsDecidedByCarries → (p : PacketView) (text bytes : List ℕ) → length text ≤ LINE_LIMIT → hex_bytes text ≡ Some bytes → Carries p bytes → entry_of_text text ≡ Read p
 text_back law p text bytes short is carried =
-    let test : ltb 4096 (length text) ≡ false = grind (arith, nat_tests) in
+    let test : ltb LINE_LIMIT (length text) ≡ false = grind (arith, nat_tests) in
     ap (λ b. cond b Unreadable (entry_of_bytes (hex_bytes text))) test ∙ ap entry_of_bytes is ∙ ap entry_of_datagram ((law p bytes (bytes_within text bytes is)).1 carried)
 
 -- a line is reported as a packet exactly where its bytes carry it
 pub reported_as_carried : IsDecidedByCarries → IsReportedAsCarried
 unfolding entry_of
 reported_as_carried law p raw = (
-  λ e. text_from law p (strip_last 13 raw) (ltb 4096 (length (strip_last 13 raw))) refl e,
+  λ e. text_from law p (strip_last 13 raw) (ltb LINE_LIMIT (length (strip_last 13 raw))) refl e,
   λ (bytes, short, is, carried). text_back law p (strip_last 13 raw) bytes short is carried,
 )

@@ -3,8 +3,9 @@ use Rattle.std.proofs.Common.{◌≡◌, ℕ, ◌+◌, ◌<◌, ◌≤◌, List,
 use Rattle.std.specs.Prelude.{Option, None, Some, Result, Ok, Err, OnOk, IsOk, IfSome, MatchResult}
 use Rattle.std.specs.Io.KnownBytes.{Appends, Keeps, Consumes, IsAtEnd}
 use Rattle.std.proofs.KnownBytes.{Appends-kept, Consumes-trans}
-use Rattle.std.proofs.Math.Seq.{take-append_seam, take-append-add}
+use Rattle.std.proofs.Math.Seq.{take-append-add}
 use Rattle.std.proofs.lemmas.List.{take-append-le, take-take}
+use Rattle.chaosd_engines.specs.declared.limits.TheConstants.{INPUT_LIMIT}
 use Rattle.chaosd_engines.specs.declared.fault.RunFault.{RunFault}
 use Rattle.chaosd_engines.specs.declared.fault.RunFault.TheVariants.{WriteFault}
 use Rattle.chaosd_engines.specs.declared.show.tally.Tally.{Tally}
@@ -31,12 +32,12 @@ handed (Some x) None waiting text none p = absurd p
 handed (Some x) (Some y) waiting text none p = sym (append-nil y) ∙ ap (λ l. y ++ l) (sym none) ∙ p
 
 -- handing on changes nothing of what was shown
-pub shown_kept : (before written written' : Option (List ℕ)) (tally : Tally) (kept input : List ℕ) → Keeps written written' → Shows before written tally kept input → Shows before written' tally kept input
-shown_kept before written written' tally kept input keeps s = record {
+pub shown_kept : (before written written' : Option (List ℕ)) (tally tally' : Tally) (kept input : List ℕ) → Keeps written written' → tally' ≡ tally → Shows before written tally kept input → Shows before written' tally' kept input
+shown_kept before written written' tally tally' kept input keeps same s = record {
   ended = s.ended;
   begun = s.begun;
   text = Appends-kept before written written' _ s.text keeps;
-  count = s.count;
+  count = same ∙ s.count;
   front = s.front;
   unended = s.unended;
   goes_on = s.goes_on;
@@ -48,20 +49,14 @@ pub ended_handed : (before held : Option (List ℕ)) (waiting : List ℕ) (tally
 ended_handed before held waiting tally kept input s none = handed before held waiting _ none (ended_shown before _ tally kept input s)
 
 -- the reports of all
-pub all_handed : (before written held : Option (List ℕ)) (waiting : List ℕ) (tally : Tally) (input : List ℕ) → ShowsAll before written tally input
-    → Keeps written (written_of held waiting) → waiting ≡ [] → ShowsAll before held tally input
-all_handed before written held waiting tally input s keeps none = record {
+pub all_handed : (before written held : Option (List ℕ)) (waiting : List ℕ) (tally tally' : Tally) (input : List ℕ) → ShowsAll before written tally input
+    → Keeps written (written_of held waiting) → waiting ≡ [] → tally' ≡ tally → ShowsAll before held tally' input
+all_handed before written held waiting tally tally' input s keeps none same = record {
   text = handed before held waiting _ none (Appends-kept before written _ _ s.text keeps);
-  count = s.count;
+  count = same ∙ s.count;
 }
 
 -- ---- what was read
-
--- what was read is a beginning of the input
-pub of_beginning : (P : List ℕ → Type 0) (old new : Option (List ℕ)) (read : List ℕ) → Consumes old new read → P read → IfSome old (λ input. (count : ℕ) × P (take count input))
-of_beginning P None new read c p = tt
-of_beginning P (Some x) None read c p = absurd c
-of_beginning P (Some x) (Some y) read c p = (length read, subst P (sym (ap (take (length read)) c ∙ take-append_seam read y)) p)
 
 -- at the end it is the input
 pub of_all : (P : List ℕ → Type 0) (old mid new : Option (List ℕ)) (read last : List ℕ) → Consumes old mid read → Consumes mid new last → last ≡ [] → IsAtEnd new → P read → IfSome old P
@@ -73,17 +68,17 @@ of_all P (Some x) (Some y) (Some z) read last c d none end p =
 
 -- a chunk that goes past the limit
 pub past_limit : (P : List ℕ → Type 0) (old mid new : Option (List ℕ)) (read chunk : List ℕ) (room count within : ℕ) → Consumes old mid read → Consumes mid new (take count chunk)
-    → room + length read ≡ 1048576 → count ≤ length chunk → within ≡ min count room → within < count
-    → P (read ++ take within chunk) → IfSome old (λ input. (1048576 < length input) × P (take 1048576 input))
+    → room + length read ≡ INPUT_LIMIT → count ≤ length chunk → within ≡ min count room → within < count
+    → P (read ++ take within chunk) → IfSome old (λ input. (INPUT_LIMIT < length input) × P (take INPUT_LIMIT input))
 past_limit P None mid new read chunk room count within c d fits le m past p = tt
 past_limit P (Some x) None new read chunk room count within c d fits le m past p = absurd c
 past_limit P (Some x) (Some y) None read chunk room count within c d fits le m past p = absurd d
 past_limit P (Some x) (Some y) (Some z) read chunk room count within c d fits le m past p =
     let whole : x ≡ read ++ (take count chunk ++ z) = c ∙ ap (λ l. read ++ l) d in
     let got : length (take count chunk) ≡ count = omega (arith, length-take count chunk) in
-    let limit : 1048576 ≡ length read + within = omega arith in
-    let front : take 1048576 x ≡ read ++ take within chunk =
-    ap (take 1048576) whole ∙ ap (λ n. take n (read ++ (take count chunk ++ z))) limit ∙ take-append-add read (take count chunk ++ z) within
+    let limit : INPUT_LIMIT ≡ length read + within = omega arith in
+    let front : take INPUT_LIMIT x ≡ read ++ take within chunk =
+    ap (take INPUT_LIMIT) whole ∙ ap (λ n. take n (read ++ (take count chunk ++ z))) limit ∙ take-append-add read (take count chunk ++ z) within
     ∙ ap (λ l. read ++ l) (take-append-le within (take count chunk) z (omega arith) ∙ take-take within count chunk (omega arith)) in
     let long : length x ≡ length read + (length (take count chunk) + length z) = ap length whole ∙ length-append read _ ∙ ap (λ n. length read + n) (length-append (take count chunk) z) in
     (omega arith, subst P (sym front) p)

@@ -11,12 +11,14 @@ use Rattle.std.proofs.lemmas.List.{take-take, take_min}
 use Rattle.std.proofs.lemmas.List.Elements.{All-nil, All-append}
 use Rattle.std.proofs.lemmas.List.Splits.{slice_split_none, slice_split_at}
 use Rattle.std.proofs.lemmas.List.Sums.{sum_by-append}
+use Rattle.chaos_link.specs.declared.fault.LinkFault.TheVariants.{Short}
+use Rattle.chaosd_engines.specs.declared.limits.TheConstants.{KEPT_LEN, LINE_LIMIT}
 use Rattle.chaosd_engines.specs.declared.show.tally.Tally.{Tally}
 use Rattle.chaosd_engines.specs.Buffer.{written_of}
 use Rattle.chaosd_engines.specs.Lines.{is_newline, pieces_of, all_but_last, without_empty_last, ended_lines, lines_of}
 use Rattle.chaosd_engines.specs.Hex.{hex_bytes}
-use Rattle.chaosd_engines.specs.Entry.Entry.{Unreadable}
-use Rattle.chaosd_engines.specs.Entry.{Entry, entry_of, entry_text, entry_of_bytes, is_refusal}
+use Rattle.chaosd_engines.specs.Entry.Entry.{Unreadable, Refused}
+use Rattle.chaosd_engines.specs.Entry.{Entry, entry_of, entry_of_text, entry_text, entry_of_bytes, is_refusal}
 use Rattle.chaosd_engines.specs.Show.{line_report, reports_of, tally_of, gap, counted}
 use Rattle.chaosd_engines.specs.Shower.{Shows, ShowsAll}
 
@@ -30,26 +32,32 @@ take_front (suc n) (x ∷ xs) ys = ap (λ l. x ∷ l) (take_front n xs ys)
 length-strip_last : (b : ℕ) (xs : List ℕ) → length xs ≤ length (strip_last b xs) + 1
 length-strip_last b xs = grind (arith, common_steps)
 
--- a line of 4,098 bytes or more is too long, whatever its last byte
-long_entry : (raw : List ℕ) → 4098 ≤ length raw → entry_of raw ≡ Unreadable
+-- a line of as many bytes as are kept is too long, whatever its last byte
+long_entry : (raw : List ℕ) → KEPT_LEN ≤ length raw → entry_of raw ≡ Unreadable
 unfolding entry_of
 long_entry raw long =
-    let test : ltb 4096 (length (strip_last 13 raw)) ≡ true = lt-ltb 4096 _ (omega (arith, length-strip_last 13 raw)) in
+    let test : ltb LINE_LIMIT (length (strip_last 13 raw)) ≡ true = lt-ltb LINE_LIMIT _ (omega (arith, length-strip_last 13 raw)) in
     ap (λ b. cond b Unreadable (entry_of_bytes (hex_bytes (strip_last 13 raw)))) test
 
-front_decides : (f g : List ℕ) (is_short : Bool) → ltb (length f) 4098 ≡ is_short → take 4098 f ≡ take 4098 g → entry_of f ≡ entry_of g
+front_decides : (f g : List ℕ) (is_short : Bool) → ltb (length f) KEPT_LEN ≡ is_short → take KEPT_LEN f ≡ take KEPT_LEN g → entry_of f ≡ entry_of g
 front_decides f g true short e =
-    let len : length (take 4098 f) ≡ length (take 4098 g) = ap length e in
-    let few : length f < 4098 = grind (arith, nat_tests) in
-    ap entry_of (sym (take_all 4098 f (omega arith)) ∙ e ∙ take_all 4098 g (omega (arith, length-take 4098 f, length-take 4098 g)))
+    let len : length (take KEPT_LEN f) ≡ length (take KEPT_LEN g) = ap length e in
+    let few : length f < KEPT_LEN = grind (arith, nat_tests) in
+    ap entry_of (sym (take_all KEPT_LEN f (omega arith)) ∙ e ∙ take_all KEPT_LEN g (omega (arith, length-take KEPT_LEN f, length-take KEPT_LEN g)))
 front_decides f g false long e =
-    let len : length (take 4098 f) ≡ length (take 4098 g) = ap length e in
-    let many : 4098 ≤ length f = grind (arith, nat_tests) in
-    long_entry f many ∙ sym (long_entry g (omega (arith, length-take 4098 f, length-take 4098 g)))
+    let len : length (take KEPT_LEN f) ≡ length (take KEPT_LEN g) = ap length e in
+    let many : KEPT_LEN ≤ length f = grind (arith, nat_tests) in
+    long_entry f many ∙ sym (long_entry g (omega (arith, length-take KEPT_LEN f, length-take KEPT_LEN g)))
 
--- so the first 4,098 bytes of a line decide what it is
-pub same_front : (f g : List ℕ) → take 4098 f ≡ take 4098 g → entry_of f ≡ entry_of g
-same_front f g e = front_decides f g (ltb (length f) 4098) refl e
+-- so what is kept of a line decides what it is
+pub same_front : (f g : List ℕ) → take KEPT_LEN f ≡ take KEPT_LEN g → entry_of f ≡ entry_of g
+same_front f g e = front_decides f g (ltb (length f) KEPT_LEN) refl e
+
+-- an empty line is the empty datagram
+pub empty_text : (text : List ℕ) → eqb (length text) 0 ≡ true → entry_of_text text ≡ Refused Short
+unfolding hex_bytes
+empty_text [] none = refl
+empty_text (b ∷ bs) none = absurd (grind (arith, nat_tests, none))
 
 -- ---- one line more
 
@@ -130,25 +138,25 @@ pub none_more : (before written : Option (List ℕ)) (tally : Tally) (kept input
 none_more before written tally kept input s = shown_of before written tally kept _ _ (sym (append-nil input)) s
 
 -- more of a line came, and none of its end
-pub goes_on_piece : (before written : Option (List ℕ)) (tally : Tally) (kept kept' input piece : List ℕ) → All (λ b. is_newline b ≡ false) piece → kept' ≡ take 4098 (kept ++ piece)
+pub goes_on_piece : (before written : Option (List ℕ)) (tally : Tally) (kept kept' input piece : List ℕ) → All (λ b. is_newline b ≡ false) piece → kept' ≡ take KEPT_LEN (kept ++ piece)
     → Shows before written tally kept input → Shows before written tally kept' (input ++ piece)
 goes_on_piece before written tally kept kept' input piece unended e s = record {
   ended = s.ended;
   begun = s.begun ++ piece;
   text = s.text;
   count = s.count;
-  front = e ∙ ap (λ l. take 4098 (l ++ piece)) s.front ∙ take_front 4098 s.begun piece;
+  front = e ∙ ap (λ l. take KEPT_LEN (l ++ piece)) s.front ∙ take_front KEPT_LEN s.begun piece;
   unended = All-append (λ b. is_newline b ≡ false) s.begun piece s.unended unended;
   goes_on = λ rest. ap pieces_of (append_assoc input piece rest) ∙ s.goes_on (piece ++ rest) ∙ ap (λ l. s.ended ++ pieces_of l) (sym (append_assoc s.begun piece rest));
 }
 
 -- the end of a line came, and the line was reported
 pub line_ends : (before written written' : Option (List ℕ)) (tally tally' : Tally) (kept kept' input piece raw : List ℕ) → All (λ b. is_newline b ≡ false) piece
-    → take 4098 raw ≡ take 4098 (kept ++ piece) → Appends written written' (gap (eqb tally.reports 0) ++ line_report raw) → tally' ≡ counted tally raw → kept' ≡ []
+    → take KEPT_LEN raw ≡ take KEPT_LEN (kept ++ piece) → Appends written written' (gap (eqb tally.reports 0) ++ line_report raw) → tally' ≡ counted tally raw → kept' ≡ []
     → Shows before written tally kept input → Shows before written' tally' kept' (input ++ piece ++ 10 ∷ [])
 line_ends before written written' tally tally' kept kept' input piece raw unended e more next none s =
     let line = s.begun ++ piece in
-    let alike : take 4098 raw ≡ take 4098 line = e ∙ ap (λ l. take 4098 (l ++ piece)) s.front ∙ take_front 4098 s.begun piece in
+    let alike : take KEPT_LEN raw ≡ take KEPT_LEN line = e ∙ ap (λ l. take KEPT_LEN (l ++ piece)) s.front ∙ take_front KEPT_LEN s.begun piece in
     let reported = line_more before written written' tally tally' s.ended line raw (same_front raw line alike) s.text s.count more next in
     record {
       ended = s.ended ++ line ∷ [];
@@ -178,7 +186,7 @@ ended_shown before written tally kept input s =
 -- the input ends with the end of a line
 pub all_shown : (before written : Option (List ℕ)) (tally : Tally) (kept input : List ℕ) → eqb (length kept) 0 ≡ true → Shows before written tally kept input → ShowsAll before written tally input
 all_shown before written tally kept input none s =
-    let short : eqb (length s.begun) 0 ≡ true = grind (arith, nat_tests, length-take 4098 s.begun, ap length s.front) in
+    let short : eqb (length s.begun) 0 ≡ true = grind (arith, nat_tests, length-take KEPT_LEN s.begun, ap length s.front) in
     let lines : lines_of input ≡ s.ended = ap without_empty_last (pieces_now before written tally kept input s) ∙ drops_empty_last s.ended s.begun short in
     record { text = subst (Appends before written) (ap reports_of (sym lines)) s.text; count = s.count ∙ ap tally_of (sym lines) }
 
@@ -187,9 +195,9 @@ pub last_shown : (before written written' : Option (List ℕ)) (tally tally' : T
     → Appends written written' (gap (eqb tally.reports 0) ++ line_report raw) → tally' ≡ counted tally raw
     → Shows before written tally kept input → ShowsAll before written' tally' input
 last_shown before written written' tally tally' kept input raw some e more next s =
-    let long : eqb (length s.begun) 0 ≡ false = grind (arith, nat_tests, length-take 4098 s.begun, ap length s.front) in
+    let long : eqb (length s.begun) 0 ≡ false = grind (arith, nat_tests, length-take KEPT_LEN s.begun, ap length s.front) in
     let lines : lines_of input ≡ s.ended ++ s.begun ∷ [] = ap without_empty_last (pieces_now before written tally kept input s) ∙ keeps_last s.ended s.begun long in
-    let alike : take 4098 raw ≡ take 4098 s.begun = ap (take 4098) (e ∙ s.front) ∙ take-take 4098 4098 s.begun (omega arith) in
+    let alike : take KEPT_LEN raw ≡ take KEPT_LEN s.begun = ap (take KEPT_LEN) (e ∙ s.front) ∙ take-take KEPT_LEN KEPT_LEN s.begun (omega arith) in
     let reported = line_more before written written' tally tally' s.ended s.begun raw (same_front raw s.begun alike) s.text s.count more next in
     record { text = subst (Appends before written') (ap reports_of (sym lines)) reported.0; count = reported.1 ∙ ap tally_of (sym lines) }
 
@@ -198,6 +206,11 @@ last_shown before written written' tally tally' kept input raw some e more next 
 pub on_ok : {X E P Q S : Type 0} (r : Result X E) → (P → Q → S) → OnOk r P → OnOk r Q → OnOk r S
 on_ok (Ok x) f p q = f p q
 on_ok (Err e) f p q = tt
+
+-- a text, and the one behind it
+pub then_put : {X E : Type 0} (r : Result X E) (old first last all mid new : List ℕ) → mid ≡ old ++ first → OnOk r (new ≡ mid ++ last) → all ≡ first ++ last → OnOk r (new ≡ old ++ all)
+then_put (Ok x) old first last all mid new p q e = q ∙ ap (λ l. l ++ last) p ∙ append_assoc old first last ∙ ap (λ l. old ++ l) (sym e)
+then_put (Err x) old first last all mid new p q e = tt
 
 front_append : (n : ℕ) (xs ys : List ℕ) → length xs ≤ n → take n (xs ++ ys) ≡ xs ++ take (n - length xs) ys
 front_append n [] ys le = ap (λ k. take k ys) (omega arith)
@@ -210,8 +223,8 @@ no_ok : (X E : Type 0) (e : E) → IsOk {T = X} {E = E} (Err e) → ⊥
 no_ok X E e h = cc
 
 -- what is kept of a line with one more piece
-pub keeps_front : {X E : Type 0} (r : Result X E) (old piece new : List ℕ) (room count : ℕ) → room + length old ≡ 4098 → count ≡ min (length piece) room
-    → IsOk r ↔ (length old + length (take count piece) ≤ 4098) → OnOk r (new ≡ old ++ take count piece) → new ≡ take 4098 (old ++ piece)
+pub keeps_front : {X E : Type 0} (r : Result X E) (old piece new : List ℕ) (room count : ℕ) → room + length old ≡ KEPT_LEN → count ≡ min (length piece) room
+    → IsOk r ↔ (length old + length (take count piece) ≤ KEPT_LEN) → OnOk r (new ≡ old ++ take count piece) → new ≡ take KEPT_LEN (old ++ piece)
 keeps_front (Ok x) old piece new room count e m fits items =
-    items ∙ ap (λ n. old ++ take n piece) (omega arith) ∙ ap (λ l. old ++ l) (take_min (4098 - length old) piece) ∙ sym (front_append 4098 old piece (omega arith))
+    items ∙ ap (λ n. old ++ take n piece) (omega arith) ∙ ap (λ l. old ++ l) (take_min (KEPT_LEN - length old) piece) ∙ sym (front_append KEPT_LEN old piece (omega arith))
 keeps_front {X} {E} (Err x) old piece new room count e m fits items = absurd (no_ok X E x (fits.1 (omega (arith, length-take count piece))))

@@ -7,6 +7,7 @@ use Rattle.chaos_packet.specs.Packet.{PacketView}
 use Rattle.chaos_link.specs.declared.fault.LinkFault.{LinkFault}
 use Rattle.chaos_link.specs.declared.fault.LinkFault.TheVariants.{Short, BadMark, BadVersion, Packet, Trailing}
 use Rattle.chaos_link.specs.Datagram.{Carries, datagram_read}
+use Rattle.chaosd_engines.specs.declared.limits.TheConstants.{LINE_LIMIT}
 use Rattle.chaosd_engines.specs.Hex.{hex_bytes}
 use Rattle.chaosd_engines.specs.Report.{line, packet_text}
 
@@ -26,9 +27,9 @@ abbrev pub entry_of_bytes : Option (List ℕ) → Entry
 entry_of_bytes None = Unreadable
 entry_of_bytes (Some bytes) = entry_of_datagram (datagram_read bytes)
 
--- what a line is that is read without the carriage return at its end: at most 4,096 bytes are read
+-- what a line is that is read without the carriage return at its end: no more bytes are read than a line may have
 abbrev pub entry_of_text : List ℕ → Entry
-entry_of_text text = if nat_lt 4096 (length text) then Unreadable else entry_of_bytes (hex_bytes text)
+entry_of_text text = if nat_lt LINE_LIMIT (length text) then Unreadable else entry_of_bytes (hex_bytes text)
 
 -- what a line is, as it stands in the input: a byte 13 at its end is ignored
 unfoldable pub entry_of : List ℕ → Entry
@@ -59,9 +60,9 @@ abbrev pub is_refusal : Entry → Bool
 is_refusal (Read packet) = false
 is_refusal _ = true
 
--- The line, without a byte 13 at its end, has 4,096 bytes at most and writes bytes that carry the packet.
+-- The line, without a byte 13 at its end, is no longer than a line may be, and writes bytes that carry the packet.
 abbrev pub LineCarries : List ℕ → PacketView → Type 0
-LineCarries raw p = (bytes : List ℕ) × (length (strip_last 13 raw) ≤ 4096) × (hex_bytes (strip_last 13 raw) ≡ Some bytes) × Carries p bytes
+LineCarries raw p = (bytes : List ℕ) × (length (strip_last 13 raw) ≤ LINE_LIMIT) × (hex_bytes (strip_last 13 raw) ≡ Some bytes) × Carries p bytes
 
 -- A line is reported as a packet exactly where it carries that packet.
 abbrev pub IsReportedAsCarried : Type 0

@@ -1,5 +1,5 @@
 //! Bytes that wait to be written.
-ghost use Rattle.std.specs.Prelude.{◌≡◌, ◌+◌, ◌-◌, ◌≤◌, ◌↔◌, [], ℕ, List, Some, Ok, length, min, take, drop, IsOk, OnOk, IfOk};
+ghost use Rattle.std.specs.Prelude.{◌≡◌, ◌+◌, ◌-◌, ◌≤◌, ◌↔◌, ◌++◌, [], ℕ, List, Some, Ok, length, min, take, drop, IsOk, OnOk, OnErr, IfOk};
 ghost use Rattle.std.specs.Io.{WritesAtMost};
 ghost use Rattle.std.specs.Io.KnownBytes.{Appends, Keeps, WriteAppends};
 ghost use Rattle.chaosd_engines.specs.Buffer.{written_of};
@@ -9,6 +9,13 @@ use arrayvec::ArrayVec;
 use std::io;
 use std::io::{Error, ErrorKind, Write};
 use std::marker::Model;
+
+/// What didn't fit, or wasn't taken by the writer.
+///
+/// It is the fault of all that writes here, in place of an `io::Error`: that one is some 90 bytes, which each call that may
+/// answer it has to fill.
+#[derive(Clone, Copy)]
+pub struct NotWritten;
 
 /// Bytes that wait to be written: a writer of a fixed size, whose contents are handed on to another writer in one piece.
 /// A contract sees the bytes. It allocates nothing.
@@ -43,6 +50,19 @@ impl WriteBuffer {
         ensures { result + length self.now ≡ BUFFER_LEN }
     {
         self.bytes.remaining_capacity()
+    }
+
+    /// Takes all bytes where they fit, and else none.
+    #[inline]
+    pub(crate) fn put(&mut self, bytes: &[u8]) -> Result<(), NotWritten>
+        ensures taken { OnOk result (self.new ≡ self.old ++ bytes.now) }
+        ensures fits { IsOk result ↔ (length self.old + length bytes.now ≤ BUFFER_LEN) }
+        ensures refused { OnErr result (self.new ≡ self.old) }
+    {
+        match self.bytes.try_extend_from_slice(bytes) {
+            Ok(()) => Ok(()),
+            Err(_) => Err(NotWritten),
+        }
     }
 
     /// Hands on all bytes, and flushes the writer that takes them. The cost is the writer's.
@@ -85,14 +105,18 @@ impl Write for WriteBuffer {
     }
 
     /// Takes all bytes where they fit.
+    ///
+    /// # Errors
+    /// `WriteZero` where they don't; nothing is taken then.
     #[inline]
     fn write_all(&mut self, bytes: &[u8]) -> io::Result<()>
         ensures bytes { OnOk result (Appends (Some self.old) (Some self.new) bytes.now) }
         ensures fits { IsOk result ↔ (length self.old + length bytes.now ≤ BUFFER_LEN) }
+        ensures refused { OnErr result (self.new ≡ self.old) }
     {
-        match self.bytes.try_extend_from_slice(bytes) {
+        match self.put(bytes) {
             Ok(()) => Ok(()),
-            Err(_) => Err(Error::from(ErrorKind::WriteZero)),
+            Err(NotWritten) => Err(Error::from(ErrorKind::WriteZero)),
         }
     }
 }

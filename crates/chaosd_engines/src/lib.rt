@@ -1,5 +1,5 @@
-//! The engines of the program `chaosd`, for other programs to embed: each works on a reader and a writer, or on a link,
-//! that its caller hands in, and answers a count or a fault.
+//! The engines of the program `chaosd`, for other programs to embed: each works on a reader and a writer that its caller
+//! hands in, and answers a count or a fault.
 //!
 //! No sockets, no files and no clock of its own. An engine that takes no allocator allocates nothing.
 #![tactic(auto)]

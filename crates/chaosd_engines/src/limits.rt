@@ -6,6 +6,10 @@ pub const INPUT_LIMIT: usize = 1_048_576;
 /// The most bytes of a line, without the byte that ends it and a carriage return before that.
 pub const LINE_LIMIT: usize = 4_096;
 
+/// How many bytes of a line are kept that began in an earlier chunk: as many as a line may have, a carriage return, and
+/// one more, which shows that it is too long.
+pub const KEPT_LEN: usize = LINE_LIMIT + 2;
+
 /// How many bytes a write buffer collects before it hands them on.
 pub const BUFFER_LEN: usize = 16_384;
 

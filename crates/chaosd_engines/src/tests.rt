@@ -1,8 +1,9 @@
-//! What no clause says: texts from outside, success, and readers and writers that fail.
+//! What no clause says: texts from outside, success, and readers and writers that fail. What the program alone shows as
+//! well, as names and limits, stands in tests/program.py.
 mod fakes;
 
 use super::*;
-use fakes::{Dripping, FuseReader, FuseWriter, Slow, Watched, Watching};
+use fakes::{FuseReader, FuseWriter, Watched, Watching};
 use std::cell::Cell;
 use std::io::Write;
 use std::process::Abort;
@@ -13,11 +14,10 @@ const STS: &str = "43 48 01 00 07 00 00 04 01 01 02 01 01 02 03 05 00 00 00 10 0
 const STS_REPORT: &str =
     "op 007 STS\nfwd 0 count 4\nto 000401 001001\nfrom 000402 001405\nnum 0 ack 16\nreceipt 18 window 13\n";
 
+const DATA: &str = "43 48 01 00 80 00 00 01 01 01 02 01 01 02 03 05 00 05 00 10 FF 41";
+
 const DATA_REPORT: &str =
     "op 200 DAT\nfwd 0 count 1\nto 000401 001001\nfrom 000402 001405\nnum 5 ack 16\ndata 41\n";
-
-/// The header of an STS that counts 489 data bytes.
-const COUNT_489: &str = "4348010007 00 01E9 0101 0201 0102 0305 0000 0010";
 
 /// The report of this input is the wanted text, with one refusal or none, whether it comes at once or byte by byte.
 fn reports(
@@ -31,7 +31,7 @@ fn reports(
     assert_eq!(rt; out.as_slice(), wanted);
     assert_eq!(rt; tally.refused, refused);
     let mut drip = Vec::new(rt.alloc());
-    let again = run_show(&mut Dripping { rest: input }, &mut drip)?;
+    let again = run_show(&mut FuseReader::dripping(input), &mut drip)?;
     assert_eq!(rt; drip.as_slice(), wanted);
     assert_eq!(rt; again, tally);
     Ok(())
@@ -39,95 +39,10 @@ fn reports(
 
 #[test]
 fn show_reads_and_writes(rt: HostRuntime) -> Result<(), Fail> {
-    let lower = "43480100070000040101020101020305000000100012000d";
-    for (line, wanted) in [
-        (STS, STS_REPORT),
-        (lower, STS_REPORT),
-        (
-            "\t43 48 0100\t070000040101020101020305  00000010 0012000D \t",
-            STS_REPORT,
-        ),
-        (
-            "43 48 01 00 80 00 00 01 01 01 02 01 01 02 03 05 00 05 00 10 00 41",
-            DATA_REPORT,
-        ),
-        (
-            "43 48 01 00 80 00 00 01 01 01 02 01 01 02 03 05 00 05 00 10 FF 41",
-            DATA_REPORT,
-        ),
-    ] {
-        reports(&rt, line.as_bytes(), wanted.as_bytes(), 0)?;
-        for end in ["\n", "\r\n", "\r"] {
-            let input = format!(in rt.alloc(); "{line}{end}")?;
-            reports(&rt, input.as_bytes(), wanted.as_bytes(), 0)?;
-        }
-    }
+    reports(&rt, STS.as_bytes(), STS_REPORT.as_bytes(), 0)?;
+    reports(&rt, DATA.as_bytes(), DATA_REPORT.as_bytes(), 0)?;
+    reports(&rt, b"what is this\r\n", b"fault 0 Line\n", 1)?;
     reports(&rt, b"", b"", 0)
-}
-
-#[test]
-fn shows_refusals(rt: HostRuntime) -> Result<(), Fail> {
-    for (line, wanted) in [
-        ("\n", "fault 1 Short\n"),
-        ("\r", "fault 1 Short\n"),
-        (" \t", "fault 1 Short\n"),
-        ("434801", "fault 1 Short\n"),
-        ("4G", "fault 0 Line\n"),
-        ("4 3", "fault 0 Line\n"),
-        ("434", "fault 0 Line\n"),
-        ("43480100\r\r\n", "fault 0 Line\n"),
-        ("42480100", "fault 2 BadMark\n"),
-        ("43480101", "fault 3 BadVersion\n"),
-        (
-            "43480100 0700 0004 0101 0201 0102 0305 0000 00",
-            "fault 4 Packet 1 Short\n",
-        ),
-        (COUNT_489, "fault 4 Packet 2 BadCount\n"),
-        (
-            "43480100 0700 0004 0101 0201 0102 0305 0000 0010 0012 00",
-            "fault 4 Packet 3 Truncated\n",
-        ),
-        (
-            "43480100 0700 0004 0101 0201 0102 0305 0000 0010 0012 000D 0000",
-            "fault 5 Trailing\n",
-        ),
-    ] {
-        reports(&rt, line.as_bytes(), wanted.as_bytes(), 1)?;
-    }
-    let mut full = Vec::new(rt.alloc());
-    write!(full, "{COUNT_489}")?;
-    full.extend_from_slice(&[b'4'; 980])?;
-    reports(&rt, full.as_slice(), b"fault 4 Packet 2 BadCount\n", 1)
-}
-
-#[test]
-fn shows_names(rt: HostRuntime) -> Result<(), Fail> {
-    for (code, name) in [
-        ("01", "001 RFC"),
-        ("02", "002 OPN"),
-        ("03", "003 CLS"),
-        ("04", "004 FWD"),
-        ("05", "005 ANS"),
-        ("06", "006 SNS"),
-        ("07", "007 STS"),
-        ("09", "011 LOS"),
-        ("0A", "012 LSN"),
-        ("0C", "014 EOF"),
-        ("0D", "015 UNC"),
-        ("80", "200 DAT"),
-        ("BF", "277 DAT"),
-        ("C0", "300 DWD"),
-        ("FF", "377 DWD"),
-        ("08", "010"),
-        ("7F", "177"),
-    ] {
-        let line = format!(in rt.alloc(); "43480100 {code}00 F000 FFFF 0000 0201 8000 FFFF 0000")?;
-        let wanted = format!(in rt.alloc();
-            "op {name}\nfwd 15 count 0\nto 177777 000000\nfrom 001001 100000\nnum 65535 ack 0\n"
-        )?;
-        reports(&rt, line.as_bytes(), wanted.as_bytes(), 0)?;
-    }
-    Ok(())
 }
 
 #[test]
@@ -146,103 +61,6 @@ fn an_empty_line_among_others(rt: HostRuntime) -> Result<(), Fail> {
         }
     );
     Ok(())
-}
-
-#[test]
-fn statuses(rt: HostRuntime) {
-    for (end, status) in [
-        (
-            Ok(Tally {
-                reports: 9,
-                refused: 0,
-            }),
-            0,
-        ),
-        (
-            Ok(Tally {
-                reports: 9,
-                refused: 9,
-            }),
-            3,
-        ),
-        (Err(RunFault::ReadFault), 1),
-        (Err(RunFault::WriteFault), 1),
-        (Err(RunFault::InputTooLong), 1),
-    ] {
-        assert_eq!(rt; show_status(&end), status);
-    }
-}
-
-/// A line of so many bytes: blanks, and then the STS.
-fn long_line(rt: &(impl Abort + AllocGlobal), len: usize) -> Result<Vec<u8>, Fail> {
-    let mut line = vec![in rt.alloc(); b' '; len.saturating_sub(STS.len())]?;
-    line.extend_from_slice(STS.as_bytes())?;
-    Ok(line)
-}
-
-#[test]
-fn line_limit(rt: HostRuntime) -> Result<(), Fail> {
-    for (len, wanted, refused) in [
-        (4_096, STS_REPORT, 0),
-        (4_097, "fault 0 Line\n", 1),
-        (40_000, "fault 0 Line\n", 1),
-    ] {
-        for end in ["", "\n", "\r\n"] {
-            let mut line = long_line(&rt, len)?;
-            line.extend_from_slice(end.as_bytes())?;
-            reports(&rt, line.as_slice(), wanted.as_bytes(), refused)?;
-        }
-    }
-    Ok(())
-}
-
-#[test]
-fn input_limit(rt: HostRuntime) -> Result<(), Fail> {
-    let mut input = vec![in rt.alloc(); b'A'; INPUT_LIMIT]?;
-    assert!(rt; input.len() == 1_048_576);
-    input[0] = b'\n';
-    let mut out = Vec::new(rt.alloc());
-    let tally = run_show(&mut input.as_slice(), &mut out)?;
-    assert_eq!(rt;
-        tally,
-        Tally {
-            reports: 2,
-            refused: 2
-        }
-    );
-    assert_eq!(rt;
-        out.as_slice(),
-        b"fault 1 Short\n\nfault 0 Line\n".as_slice()
-    );
-    input.push(b'A')?;
-    let mut cut = Vec::new(rt.alloc());
-    let end = run_show(&mut input.as_slice(), &mut cut);
-    assert_eq!(rt; end, Err(RunFault::InputTooLong));
-    assert_eq!(rt; cut.as_slice(), b"fault 1 Short\n".as_slice());
-    Ok(())
-}
-
-#[test]
-fn longest_reports(rt: HostRuntime) -> Result<(), Fail> {
-    let mut input = Vec::new(rt.alloc());
-    let mut wanted = Vec::new(rt.alloc());
-    for n in 0..100 {
-        write!(input, "43480100 8000 F1E8 FFFF FFFF FFFF FFFF FFFF FFFF ")?;
-        input.extend_from_slice(&[b'F'; 976])?;
-        writeln!(input, "")?;
-        if n > 0 {
-            writeln!(wanted, "")?;
-        }
-        write!(
-            wanted,
-            "op 200 DAT\nfwd 15 count 488\nto 177777 177777\nfrom 177777 177777\nnum 65535 ack 65535\ndata"
-        )?;
-        for _ in 0..488 {
-            write!(wanted, " FF")?;
-        }
-        writeln!(wanted, "")?;
-    }
-    reports(&rt, input.as_slice(), wanted.as_slice(), 0)
 }
 
 /// The count of three lines, of which the second is refused.
@@ -270,24 +88,16 @@ fn reader_fails_at_each_read(rt: HostRuntime) -> Result<(), Fail> {
 fn writer_fails_at_each_write(rt: HostRuntime) -> Result<(), Fail> {
     let input = format!(in rt.alloc(); "{STS}\n\n{STS}")?;
     // Each of the three reports is a write, since its line came alone.
-    for at in 0..3 {
-        let mut reader = Dripping {
-            rest: input.as_bytes(),
+    for at in 0..4 {
+        let mut reader = FuseReader::dripping(input.as_bytes());
+        let mut writer = FuseWriter::new(rt.alloc(), at, usize::MAX);
+        let wanted = if at < 3 {
+            Err(RunFault::WriteFault)
+        } else {
+            Ok(THREE_LINES)
         };
-        let end = run_show(&mut reader, &mut FuseWriter { left: at });
-        assert_eq!(rt; end, Err(RunFault::WriteFault), "at {at}");
+        assert_eq!(rt; run_show(&mut reader, &mut writer), wanted, "at {at}");
     }
-    let mut reader = Dripping {
-        rest: input.as_bytes(),
-    };
-    let end = run_show(&mut reader, &mut FuseWriter { left: 3 });
-    assert_eq!(rt; end, Ok(THREE_LINES));
-    // The fault of writing what came before is met before that of the length.
-    let mut long = vec![in rt.alloc(); b'A'; INPUT_LIMIT + 1]?;
-    assert!(rt; !long.is_empty());
-    long[0] = b'\n';
-    let end = run_show(&mut long.as_slice(), &mut FuseWriter { left: 0 });
-    assert_eq!(rt; end, Err(RunFault::WriteFault));
     Ok(())
 }
 
@@ -320,7 +130,10 @@ fn each_report_before_the_next_read(rt: HostRuntime) -> Result<(), Fail> {
         reads: 0,
         missing: 0,
     };
-    let mut writer = Watched { written: &written };
+    let mut writer = Watched {
+        written: &written,
+        waiting: 0,
+    };
     let tally = run_show(&mut reader, &mut writer)?;
     assert_eq!(rt;
         tally,
@@ -336,11 +149,8 @@ fn each_report_before_the_next_read(rt: HostRuntime) -> Result<(), Fail> {
 #[test]
 fn write_buffer_loses_nothing(rt: HostRuntime) -> Result<(), Fail> {
     let mut buffer = WriteBuffer::new();
-    let mut slow = Slow {
-        taken: Vec::new(rt.alloc()),
-        left: 2,
-    };
-    write!(buffer, "{}", "abcdefgh")?;
+    let mut slow = FuseWriter::new(rt.alloc(), 2, 3);
+    buffer.write_all(b"abcdefgh")?;
     assert_eq!(rt; buffer.room(), BUFFER_LEN - 8);
     assert!(rt; buffer.hand_on(&mut slow).is_err());
     assert_eq!(rt; slow.taken.as_slice(), b"abcdef".as_slice());

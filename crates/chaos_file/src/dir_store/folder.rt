@@ -3,12 +3,10 @@ ghost use Rattle.std.specs.Prelude.{◌≡◌, ◌≤◌, true, length, IfOk, If
 ghost use Rattle.chaos_file.specs.Names.{is_path};
 
 use std::alloc::Global;
+use std::fs::{File, OpenFile};
 use std::io::{ErrorKind, Read, Write};
 use std::rt::Files;
 use std::{fs, io};
-
-/// How many bytes of a file are read at a time.
-const READ_SIZE: usize = 4096;
 
 /// The name under which a file is written before it is renamed. It is no legal path.
 const NEW: &str = ".new";
@@ -21,28 +19,25 @@ pub(crate) struct Folder<R> {
 }
 
 /// Reads what a file has, or None where that is more than the limit: one byte more than it is read at most.
-fn read_within<F: Read>(alloc: Global, file: &mut F, limit: usize) -> io::Result<Option<Vec<u8>>>
+fn read_within<F: Read + Drop>(alloc: Global, file: F, limit: usize) -> io::Result<Option<Vec<u8>>>
     ensures { IfOk result (λ o. IfSome o (λ v. length v.items ≤ limit)) }
 {
     let mut bytes = Vec::new(alloc);
-    let mut chunk = [0u8; READ_SIZE];
-    for _ in 0..u64::MAX {
-        let left = limit.saturating_sub(bytes.len());
-        let most = left.saturating_add(1).min(READ_SIZE);
-        let count = match file.read(&mut chunk[..most]) {
-            Ok(count) => count,
-            Err(e) if e.kind() == ErrorKind::Interrupted => continue,
-            Err(e) => return Err(e),
-        };
-        if count == 0 {
-            return Ok(Some(bytes));
-        }
-        if count > left {
-            return Ok(None);
-        }
-        bytes.extend_from_slice(&chunk[..count])?;
+    file.take((limit as u64).saturating_add(1))
+        .read_to_end(&mut bytes)?;
+    if bytes.len() > limit {
+        return Ok(None);
     }
-    Err(io::Error::from(ErrorKind::Other))
+    Ok(Some(bytes))
+}
+
+/// What is opened is to be a file: a folder, a link, a fifo, a socket and a device are refused.
+fn require_file(info: fs::Metadata) -> io::Result<()> {
+    if info.is_file() {
+        Ok(())
+    } else {
+        Err(io::Error::from(ErrorKind::InvalidInput))
+    }
 }
 
 impl<R: Files> Folder<R> {
@@ -85,21 +80,41 @@ impl<R: Files> Folder<R> {
         requires { is_path path.now ≡ true }
         ensures { IfOk result (λ o. IfSome o (λ v. length v.items ≤ limit)) }
     {
-        let place = self.place(alloc, path)?;
-        let mut file = fs::open(&self.rt, place.as_str())?;
-        read_within(alloc, &mut file, limit)
+        let file = self.open_file(self.place(alloc, path)?.as_str())?;
+        read_within(alloc, file, limit)
     }
 
-    /// Writes a file whole, and then gives it its path.
+    /// Opens a file of the folder, and nothing else: the kind is asked before the open, since the open of a fifo would
+    /// wait for its writer, and again of what was opened.
+    fn open_file(&self, place: &str) -> io::Result<R::File> {
+        require_file(self.rt.symlink_metadata(place)?)?;
+        let file = fs::open(&self.rt, place)?;
+        require_file(file.metadata()?)?;
+        Ok(file)
+    }
+
+    /// Writes a file whole, and then gives it its path. The bytes are on the disk before the path leads to them, and the
+    /// path is on the disk at the end.
     pub(crate) fn put(&self, alloc: Global, path: &[u8], bytes: &[u8]) -> io::Result<()>
         requires { is_path path.now ≡ true }
     {
         let fresh = self.join(alloc, NEW)?;
         let place = self.place(alloc, path)?;
-        let mut file = fs::create(&self.rt, fresh.as_str())?;
+        self.clear(fresh.as_str())?;
+        let mut file = File::create_new(&self.rt, fresh.as_str())?;
         file.write_all(bytes)?;
+        file.sync_all()?;
         drop(file);
-        fs::rename(&self.rt, fresh.as_str(), place.as_str())
+        fs::rename(&self.rt, fresh.as_str(), place.as_str())?;
+        fs::open(&self.rt, self.path.as_str())?.sync_all()
+    }
+
+    /// Takes away what was left behind, where there is such: a link itself, and never what it leads to.
+    fn clear(&self, place: &str) -> io::Result<()> {
+        match fs::remove_file(&self.rt, place) {
+            Err(e) if e.kind() != ErrorKind::NotFound => Err(e),
+            _ => Ok(()),
+        }
     }
 
     /// Takes a file out.

@@ -1,10 +1,10 @@
 //! CLOSE.
-ghost use Rattle.std.specs.Prelude.{◌≡◌, ◌<◌, ◌≤◌, ◌++◌, length, IfSome};
+ghost use Rattle.std.specs.Prelude.{◌≡◌, ◌<◌, ◌≤◌, ◌++◌, length};
 ghost use Rattle.chaos_file.specs.Answer.{Closed, answer_text};
-ghost use Rattle.chaos_file.specs.Session.{found, handle_at, without_handle};
+ghost use Rattle.chaos_file.specs.Session.{handle_named, handle_at, without_handle};
 ghost use Rattle.chaos_file.specs.Plan.{plan_close};
-ghost use Rattle.chaos_file.specs.Store.{Rose};
-ghost use Rattle.chaos_file.specs.Outcome.{Does, Follows};
+ghost use Rattle.chaos_file.specs.Store.{change};
+ghost use Rattle.chaos_file.specs.Outcome.{IsDone};
 
 use super::Session;
 use crate::answer::{Reply, tell_count};
@@ -34,12 +34,9 @@ impl Session {
         reply: &mut Reply,
     ) -> Result<(), FileError>
         requires { length reply.old.items ≤ MAX_FRONT }
-        ensures honest { IfSome (S.contents store.old) (λ m. Does (Rose (S.count store.old) (S.count store.new)) m
-            (plan_close self.old (found handle.now self.old.handles))
-            result reply.old.items reply.new.items self.old self.new (S.contents store.new)) }
-        ensures any { Follows (Rose (S.count store.old) (S.count store.new)) (store.new ≡ store.old)
-            (plan_close self.old (found handle.now self.old.handles))
-            result reply.old.items reply.new.items self.old self.new }
+        ensures { IsDone (change S.contents S.may_give S.count store.old store.new)
+            (plan_close self.old (handle_named handle.now self.old.handles))
+            (record { done = result; front = reply.old.items; reply = reply.new.items; old = self.old; new = self.new }) }
     {
         match self.handles.find(handle) {
             None => Err(FileError::NoSuchHandle),

@@ -1,10 +1,10 @@
 //! LOGIN and OPEN.
-ghost use Rattle.std.specs.Prelude.{◌≡◌, ◌<◌, ◌≤◌, length, IfSome};
+ghost use Rattle.std.specs.Prelude.{◌≡◌, ◌<◌, ◌≤◌, length};
 ghost use Rattle.chaos_file.specs.Answer.{LoggedIn, Opened};
-ghost use Rattle.chaos_file.specs.Session.{found, logged_in, opened, writer};
+ghost use Rattle.chaos_file.specs.Session.{handle_named, with_name, with_new_handle, writer};
 ghost use Rattle.chaos_file.specs.Plan.{Tell, Ask, GetFile, open_error, plan_open};
-ghost use Rattle.chaos_file.specs.Store.{Rose};
-ghost use Rattle.chaos_file.specs.Outcome.{Settles, Does, Follows};
+ghost use Rattle.chaos_file.specs.Store.{change};
+ghost use Rattle.chaos_file.specs.Outcome.{Settles, IsDone};
 
 use super::Session;
 use crate::answer::{Reply, kept, tell, tell_count};
@@ -19,8 +19,8 @@ impl Session {
     pub(super) fn log_in(&mut self, name: &[u8], reply: &mut Reply) -> Result<(), FileError>
         requires name { length name.now ≤ MAX_NAME }
         requires room { length reply.old.items ≤ MAX_FRONT }
-        ensures { Settles (Tell (logged_in self.old name.now) (LoggedIn name.now))
-            result reply.old.items reply.new.items self.old self.new }
+        ensures { Settles (Tell (with_name self.old name.now) (LoggedIn name.now))
+            (record { done = result; front = reply.old.items; reply = reply.new.items; old = self.old; new = self.new }) }
     {
         self.name = Some(kept(name));
         tell(reply, b"LOGIN ", name);
@@ -29,7 +29,7 @@ impl Session {
 
     /// Why no handle of this name may be opened.
     fn open_error(&self, name: &[u8]) -> Option<FileError>
-        ensures { result ≡ open_error self.now (found name.now self.now.handles) }
+        ensures { result ≡ open_error self.now (handle_named name.now self.now.handles) }
     {
         match self.handles.find(name) {
             Some(_) => Some(FileError::HandleInUse),
@@ -41,7 +41,7 @@ impl Session {
     /// One open file more.
     fn add(&mut self, handle: Handle)
         requires { length self.old.handles < MAX_HANDLES }
-        ensures { self.new ≡ opened self.old handle }
+        ensures { self.new ≡ with_new_handle self.old handle }
     {
         self.handles.push(handle);
     }
@@ -56,8 +56,8 @@ impl Session {
         requires name { length name.now ≤ MAX_HANDLE }
         requires path { length path.now ≤ MAX_PATH }
         requires room { length reply.old.items ≤ MAX_FRONT }
-        ensures { Settles (plan_open self.old name.now (Tell (opened self.old (writer name.now path.now)) (Opened 0)))
-            result reply.old.items reply.new.items self.old self.new }
+        ensures { Settles (plan_open self.old name.now (Tell (with_new_handle self.old (writer name.now path.now)) (Opened 0)))
+            (record { done = result; front = reply.old.items; reply = reply.new.items; old = self.old; new = self.new }) }
     {
         if let Some(error) = self.open_error(name) {
             return Err(error);
@@ -79,12 +79,9 @@ impl Session {
         requires name { length name.now ≤ MAX_HANDLE }
         requires path { length path.now ≤ MAX_PATH }
         requires room { length reply.old.items ≤ MAX_FRONT }
-        ensures honest { IfSome (S.contents store.old) (λ m. Does (Rose (S.count store.old) (S.count store.new)) m
+        ensures { IsDone (change S.contents S.may_give S.count store.old store.new)
             (plan_open self.old name.now (Ask (GetFile name.now path.now)))
-            result reply.old.items reply.new.items self.old self.new (S.contents store.new)) }
-        ensures any { Follows (Rose (S.count store.old) (S.count store.new)) (store.new ≡ store.old)
-            (plan_open self.old name.now (Ask (GetFile name.now path.now)))
-            result reply.old.items reply.new.items self.old self.new }
+            (record { done = result; front = reply.old.items; reply = reply.new.items; old = self.old; new = self.new }) }
     {
         if let Some(error) = self.open_error(name) {
             return Err(error);

@@ -1,8 +1,8 @@
 //! RENAME and DELETE.
-ghost use Rattle.std.specs.Prelude.{◌≡◌, ◌≤◌, length, IfSome};
+ghost use Rattle.std.specs.Prelude.{◌≡◌, ◌≤◌, length};
 ghost use Rattle.chaos_file.specs.Plan.{Ask, RenameFile, RemoveFile};
-ghost use Rattle.chaos_file.specs.Store.{Rose};
-ghost use Rattle.chaos_file.specs.Outcome.{Does, Follows};
+ghost use Rattle.chaos_file.specs.Store.{change};
+ghost use Rattle.chaos_file.specs.Outcome.{IsDone};
 
 use super::Session;
 use crate::answer::{Reply, put};
@@ -22,12 +22,9 @@ impl Session {
         reply: &mut Reply,
     ) -> Result<(), FileError>
         requires { length reply.old.items ≤ MAX_FRONT }
-        ensures honest { IfSome (S.contents store.old) (λ m. Does (Rose (S.count store.old) (S.count store.new)) m
+        ensures { IsDone (change S.contents S.may_give S.count store.old store.new)
             (Ask (RenameFile old.now new.now))
-            result reply.old.items reply.new.items self.now self.now (S.contents store.new)) }
-        ensures any { Follows (Rose (S.count store.old) (S.count store.new)) (store.new ≡ store.old)
-            (Ask (RenameFile old.now new.now))
-            result reply.old.items reply.new.items self.now self.now }
+            (record { done = result; front = reply.old.items; reply = reply.new.items; old = self.now; new = self.now }) }
     {
         match store.rename(alloc, old, new) {
             Renamed::Done => {
@@ -50,12 +47,9 @@ impl Session {
         reply: &mut Reply,
     ) -> Result<(), FileError>
         requires { length reply.old.items ≤ MAX_FRONT }
-        ensures honest { IfSome (S.contents store.old) (λ m. Does (Rose (S.count store.old) (S.count store.new)) m
+        ensures { IsDone (change S.contents S.may_give S.count store.old store.new)
             (Ask (RemoveFile path.now))
-            result reply.old.items reply.new.items self.now self.now (S.contents store.new)) }
-        ensures any { Follows (Rose (S.count store.old) (S.count store.new)) (store.new ≡ store.old)
-            (Ask (RemoveFile path.now))
-            result reply.old.items reply.new.items self.now self.now }
+            (record { done = result; front = reply.old.items; reply = reply.new.items; old = self.now; new = self.now }) }
     {
         match store.remove(alloc, path) {
             Removed::Done => {

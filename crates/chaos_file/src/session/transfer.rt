@@ -1,7 +1,7 @@
 //! READ and WRITE.
 ghost use Rattle.std.specs.Prelude.{◌≡◌, ◌<◌, ◌≤◌, ◌+◌, ◌++◌, length, OnOk, OnErr};
 ghost use Rattle.chaos_file.specs.Answer.{Wrote, answer_text, read_answer};
-ghost use Rattle.chaos_file.specs.Session.{found, handle_at, next_bytes, read_on, with_handle, written};
+ghost use Rattle.chaos_file.specs.Session.{handle_named, handle_at, next_bytes, after_read, with_handle, with_bytes};
 ghost use Rattle.chaos_file.specs.Plan.{plan_read, plan_write};
 ghost use Rattle.chaos_file.specs.Outcome.{Settles, Grows};
 
@@ -15,7 +15,7 @@ impl Session {
     fn read_at(&mut self, at: usize, reply: &mut Reply)
         requires within { at < length self.old.handles }
         requires room { length reply.old.items ≤ MAX_FRONT }
-        ensures session { self.new ≡ with_handle self.old at (read_on (handle_at self.old.handles at)) }
+        ensures session { self.new ≡ with_handle self.old at (after_read (handle_at self.old.handles at)) }
         ensures text { reply.new.items
             ≡ reply.old.items ++ answer_text (read_answer (next_bytes (handle_at self.old.handles at))) }
     {
@@ -25,8 +25,8 @@ impl Session {
     /// READ: the next bytes of a handle, and `EOF` at their end.
     pub(super) fn read(&mut self, handle: &[u8], reply: &mut Reply) -> Result<(), FileError>
         requires { length reply.old.items ≤ MAX_FRONT }
-        ensures { Settles (plan_read self.old (found handle.now self.old.handles))
-            result reply.old.items reply.new.items self.old self.new }
+        ensures { Settles (plan_read self.old (handle_named handle.now self.old.handles))
+            (record { done = result; front = reply.old.items; reply = reply.new.items; old = self.old; new = self.new }) }
     {
         match self.handles.find(handle) {
             None => Err(FileError::NoSuchHandle),
@@ -40,7 +40,7 @@ impl Session {
 
     fn append_at(&mut self, alloc: Global, at: usize, bytes: &[u8]) -> Result<(), AllocError>
         requires { at < length self.old.handles }
-        ensures ok { OnOk result (self.new ≡ with_handle self.old at (written (handle_at self.old.handles at) bytes.now)) }
+        ensures ok { OnOk result (self.new ≡ with_handle self.old at (with_bytes (handle_at self.old.handles at) bytes.now)) }
         ensures err { OnErr result (self.new ≡ self.old) }
     {
         self.handles.append_at(alloc, at, bytes)
@@ -58,8 +58,8 @@ impl Session {
         requires within { at < length self.old.handles }
         requires len { len ≡ length (handle_at self.old.handles at).bytes + length bytes.now }
         requires room { length reply.old.items ≤ MAX_FRONT }
-        ensures { Grows (with_handle self.old at (written (handle_at self.old.handles at) bytes.now)) (Wrote len)
-            result reply.old.items reply.new.items self.old self.new }
+        ensures { Grows (with_handle self.old at (with_bytes (handle_at self.old.handles at) bytes.now)) (Wrote len) result
+            (record { done = result; front = reply.old.items; reply = reply.new.items; old = self.old; new = self.new }) }
     {
         match self.append_at(alloc, at, bytes) {
             Ok(()) => {
@@ -80,8 +80,8 @@ impl Session {
     ) -> Result<(), FileError>
         requires bytes { length bytes.now ≤ MAX_CHUNK }
         requires room { length reply.old.items ≤ MAX_FRONT }
-        ensures { Settles (plan_write bytes.now self.old (found handle.now self.old.handles))
-            result reply.old.items reply.new.items self.old self.new }
+        ensures { Settles (plan_write bytes.now self.old (handle_named handle.now self.old.handles))
+            (record { done = result; front = reply.old.items; reply = reply.new.items; old = self.old; new = self.new }) }
     {
         match self.handles.find(handle) {
             None => Err(FileError::NoSuchHandle),

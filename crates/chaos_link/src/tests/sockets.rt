@@ -132,11 +132,14 @@ fn failures_are_counted(rt: HostRuntime) -> Result<(), Fail> {
     Ok(())
 }
 
-/// Whether a receive of nothing waits. One that polls may be held up by a busy machine; one that waits is never quick.
+/// Whether a receive of nothing waits. One that polls may be held up by a busy machine; one that waits is never quick,
+/// and takes no second, far as that is from the 10 milliseconds of a wait.
 fn waits(rt: &(impl Abort + Clock), link: &mut UdpLink) -> Result<bool, Fail> {
     let start = Instant::now(rt)?;
     assert_eq!(rt; link.receive(&mut [0; LINK_ROOM]), Received::Nothing);
-    Ok(start.elapsed(rt)?.as_millis() >= 9)
+    let millis = start.elapsed(rt)?.as_millis();
+    assert!(rt; millis < 1_000);
+    Ok(millis >= 9)
 }
 
 #[test]

@@ -1,69 +1,99 @@
 //! The report of a line.
 ghost use Rattle.std.specs.Prelude.{◌≡◌, ◌≤◌, ◌++◌, length, OnOk, IfOk};
 ghost use Rattle.std.specs.Io.BufRead.{strip_last};
-ghost use Rattle.std.specs.Io.KnownBytes.{Appends};
+ghost use Rattle.chaos_link.specs.Datagram.{datagram_read};
 ghost use Rattle.chaosd_engines.specs.Report.{line};
-ghost use Rattle.chaosd_engines.specs.Entry.{fault_text, entry_of, entry_text, is_refusal};
+ghost use Rattle.chaosd_engines.specs.Entry.{fault_text, entry_of, entry_of_datagram, entry_of_text, entry_text, is_refusal};
 ghost use Rattle.chaosd_engines.specs.Show.{gap, line_report};
 
+use crate::buffer::{NotWritten, WriteBuffer};
 use crate::limits::LINE_LIMIT;
 use crate::show::hex::{MOST_BYTES, read_hex};
 use crate::show::report::put_packet;
 use chaos_link::{LinkFault, from_datagram};
 use chaos_packet::PacketFault;
-use std::io;
-use std::io::Write;
 
 /// Writes the report of a line behind an empty line, or behind nothing where it is the first, and says whether it is a
 /// refusal.
-pub fn put_report<W: Write>(
-    w: &mut W,
+pub fn put_report(
+    out: &mut WriteBuffer,
     is_first: bool,
     raw: &[u8],
     datagram: &mut [u8; MOST_BYTES],
-) -> io::Result<bool>
-    ensures text { OnOk result (Appends (W.contents w.old) (W.contents w.new) (gap is_first ++ line_report raw.now)) }
+) -> Result<bool, NotWritten>
+    ensures text { OnOk result (out.new ≡ out.old ++ (gap is_first ++ line_report raw.now)) }
     ensures refused { IfOk result (λ refused. refused ≡ is_refusal (entry_of raw.now)) }
 {
     if !is_first {
-        w.write_all(b"\n")?;
+        out.put(b"\n")?;
     }
-    put_entry(w, raw, datagram)
+    put_entry(out, raw, datagram)
 }
 
 /// Writes the report of a line, and says whether it is a refusal. `datagram` holds the line's bytes meanwhile.
-#[tactic(auto, unfolding(crate::specs::Entry::entry_of, crate::specs::Entry::entry_text))]
-fn put_entry<W: Write>(w: &mut W, raw: &[u8], datagram: &mut [u8; MOST_BYTES]) -> io::Result<bool>
-    ensures text { OnOk result (Appends (W.contents w.old) (W.contents w.new) (line_report raw.now)) }
+#[tactic(auto, using(crate::proofs::Steps::empty_text), unfolding(crate::specs::Entry::entry_of, crate::specs::Entry::entry_text))]
+fn put_entry(
+    out: &mut WriteBuffer,
+    raw: &[u8],
+    datagram: &mut [u8; MOST_BYTES],
+) -> Result<bool, NotWritten>
+    ensures text { OnOk result (out.new ≡ out.old ++ line_report raw.now) }
     ensures refused { IfOk result (λ refused. refused ≡ is_refusal (entry_of raw.now)) }
 {
     let line = without_return(raw);
-    if line.len() > LINE_LIMIT {
-        w.write_all(b"fault 0 Line\n")?;
+    // An empty line is the empty datagram: no place is made for a packet, as `from_datagram` does.
+    if line.is_empty() {
+        put_line(out, fault_text(LinkFault::Short))?;
         return Ok(true);
     }
-    let Some(count) = read_hex(line, datagram) else {
-        w.write_all(b"fault 0 Line\n")?;
+    put_text(out, line, datagram)
+}
+
+/// Writes the report of a line without a carriage return, and says whether it is a refusal.
+#[tactic(auto, unfolding(crate::specs::Entry::entry_text))]
+fn put_text(
+    out: &mut WriteBuffer,
+    text: &[u8],
+    datagram: &mut [u8; MOST_BYTES],
+) -> Result<bool, NotWritten>
+    ensures text { OnOk result (out.new ≡ out.old ++ entry_text (entry_of_text text.now)) }
+    ensures refused { IfOk result (λ refused. refused ≡ is_refusal (entry_of_text text.now)) }
+{
+    if text.len() > LINE_LIMIT {
+        out.put(b"fault 0 Line\n")?;
+        return Ok(true);
+    }
+    let Some(count) = read_hex(text, datagram) else {
+        out.put(b"fault 0 Line\n")?;
         return Ok(true);
     };
-    match from_datagram(&datagram[..count]) {
+    put_datagram(out, &datagram[..count])
+}
+
+/// Writes the report of a datagram, and says whether it is a refusal.
+#[tactic(auto, unfolding(crate::specs::Entry::entry_text))]
+fn put_datagram(out: &mut WriteBuffer, bytes: &[u8]) -> Result<bool, NotWritten>
+    ensures text { OnOk result (out.new ≡ out.old ++ entry_text (entry_of_datagram (datagram_read bytes.now))) }
+    ensures refused { IfOk result (λ refused. refused ≡ is_refusal (entry_of_datagram (datagram_read bytes.now))) }
+{
+    match from_datagram(bytes) {
         Ok(packet) => {
-            put_packet(w, &packet)?;
+            put_packet(out, &packet)?;
             Ok(false)
         }
         Err(fault) => {
-            put_line(w, fault_text(fault))?;
+            put_line(out, fault_text(fault))?;
             Ok(true)
         }
     }
 }
 
 /// Writes a text, and the end of its line.
-fn put_line<W: Write>(w: &mut W, text: &str) -> io::Result<()>
-    ensures { OnOk result (Appends (W.contents w.old) (W.contents w.new) (line text.now)) }
+fn put_line(out: &mut WriteBuffer, text: &str) -> Result<(), NotWritten>
+    ensures { OnOk result (out.new ≡ out.old ++ line text.now) }
 {
-    w.write_all(text.as_bytes())?;
-    w.write_all(b"\n")
+    out.put(text.as_bytes())?;
+    out.put(b"\n")
 }
 
 /// A line without a carriage return at its end.

@@ -7,16 +7,34 @@ use crate::limits::LINE_LIMIT;
 /// The most bytes that a line stands for.
 pub const MOST_BYTES: usize = LINE_LIMIT / 2;
 
+/// What stands in the table for a byte that is no digit.
+const NO_DIGIT: u8 = 255;
+
+/// The value of each byte as a hexadecimal digit of either case.
+static VALUES: [u8; 256] = [
+    255, 255, 255, 255, 255, 255, 255, 255, 255, 255, 255, 255, 255, 255, 255, 255, 255, 255, 255,
+    255, 255, 255, 255, 255, 255, 255, 255, 255, 255, 255, 255, 255, 255, 255, 255, 255, 255, 255,
+    255, 255, 255, 255, 255, 255, 255, 255, 255, 255, 0, 1, 2, 3, 4, 5, 6, 7, 8, 9, 255, 255, 255,
+    255, 255, 255, 255, 10, 11, 12, 13, 14, 15, 255, 255, 255, 255, 255, 255, 255, 255, 255, 255,
+    255, 255, 255, 255, 255, 255, 255, 255, 255, 255, 255, 255, 255, 255, 255, 255, 10, 11, 12, 13,
+    14, 15, 255, 255, 255, 255, 255, 255, 255, 255, 255, 255, 255, 255, 255, 255, 255, 255, 255,
+    255, 255, 255, 255, 255, 255, 255, 255, 255, 255, 255, 255, 255, 255, 255, 255, 255, 255, 255,
+    255, 255, 255, 255, 255, 255, 255, 255, 255, 255, 255, 255, 255, 255, 255, 255, 255, 255, 255,
+    255, 255, 255, 255, 255, 255, 255, 255, 255, 255, 255, 255, 255, 255, 255, 255, 255, 255, 255,
+    255, 255, 255, 255, 255, 255, 255, 255, 255, 255, 255, 255, 255, 255, 255, 255, 255, 255, 255,
+    255, 255, 255, 255, 255, 255, 255, 255, 255, 255, 255, 255, 255, 255, 255, 255, 255, 255, 255,
+    255, 255, 255, 255, 255, 255, 255, 255, 255, 255, 255, 255, 255, 255, 255, 255, 255, 255, 255,
+    255, 255, 255, 255, 255, 255, 255, 255, 255, 255, 255, 255, 255, 255, 255, 255, 255, 255, 255,
+    255, 255, 255,
+];
+
 /// The value of a hexadecimal digit of either case.
+#[inline]
 fn hex_value(b: u8) -> Option<u8>
     ensures { result ≡ hex_value b }
 {
-    match b {
-        b'0'..=b'9' => Some(b - b'0'),
-        b'A'..=b'F' => Some(b - b'A' + 10),
-        b'a'..=b'f' => Some(b - b'a' + 10),
-        _ => None,
-    }
+    let value = VALUES[b as usize];
+    if value == NO_DIGIT { None } else { Some(value) }
 }
 
 /// Whether the byte may stand between pairs of digits.
@@ -28,7 +46,7 @@ fn is_blank(b: u8) -> bool
 
 /// Puts the bytes that a line stands for at the front of `bytes`, and says how many they are, where the line is pairs of
 /// digits with blanks between them. The cost is that of one look at each byte of the line.
-#[tactic(auto, using(crate::proofs::Pairs::hex_bytes_blank, crate::proofs::Pairs::hex_bytes_pair, crate::proofs::Pairs::hex_bytes_odd, crate::proofs::Pairs::hex_bytes_end))]
+#[tactic(auto, using(crate::proofs::Digits::digit_is_no_blank, crate::proofs::Pairs::hex_bytes_blank, crate::proofs::Pairs::hex_bytes_pair, crate::proofs::Pairs::hex_bytes_odd, crate::proofs::Pairs::hex_bytes_end))]
 pub fn read_hex(line: &[u8], bytes: &mut [u8; MOST_BYTES]) -> Option<usize>
     requires { length line.now ≤ LINE_LIMIT }
     ensures within { IfSome result (λ count. count ≤ MOST_BYTES) }
@@ -37,14 +55,17 @@ pub fn read_hex(line: &[u8], bytes: &mut [u8; MOST_BYTES]) -> Option<usize>
     let mut count = 0;
     let mut i = 0;
     while i < line.len() {
-        if is_blank(line[i]) {
+        let Some(high) = hex_value(line[i]) else {
+            if !is_blank(line[i]) {
+                return None;
+            }
             i += 1;
             continue;
-        }
+        };
         if line.len() - i < 2 {
             return None;
         }
-        let (Some(high), Some(low)) = (hex_value(line[i]), hex_value(line[i + 1])) else {
+        let Some(low) = hex_value(line[i + 1]) else {
             return None;
         };
         bytes[count] = 16 * high + low;

@@ -1,13 +1,12 @@
 //! The reports of lines, one after another.
 ghost use Rattle.std.specs.Prelude.{◌≡◌, ◌≤◌, ◌<◌, ◌==◌, ◌++◌, [], length, OnOk};
-ghost use Rattle.std.specs.Io.KnownBytes.{Appends};
+ghost use Rattle.std.specs.Io.KnownBytes.{Appends, Keeps};
 
-use crate::buffer::WriteBuffer;
+use crate::buffer::{NotWritten, WriteBuffer};
 use crate::limits::INPUT_LIMIT;
 use crate::show::entry::put_report;
 use crate::show::hex::MOST_BYTES;
 use crate::show::tally::Tally;
-use std::io;
 use std::io::Write;
 
 /// No report has more bytes, with the empty line in front of it: that of a packet with all its data has 1,554.
@@ -41,16 +40,38 @@ impl Reporter {
         }
     }
 
+    /// Hands on the reports that wait.
+    pub fn hand_on<W: Write>(&mut self, writer: &mut W) -> Result<(), NotWritten>
+        ensures kept { Keeps (written_of (W.contents writer.old) self.old.out) (written_of (W.contents writer.new) self.new.out) }
+        ensures empty { OnOk result (self.new.out ≡ []) }
+        ensures tally { self.new.tally ≡ self.old.tally }
+    {
+        match self.out.hand_on(writer) {
+            Ok(()) => Ok(()),
+            Err(_) => Err(NotWritten),
+        }
+    }
+
+    /// Hands on the reports that wait where another might not fit behind them.
+    #[inline]
+    fn make_room<W: Write>(&mut self, writer: &mut W) -> Result<(), NotWritten>
+        ensures kept { Keeps (written_of (W.contents writer.old) self.old.out) (written_of (W.contents writer.new) self.new.out) }
+        ensures tally { self.new.tally ≡ self.old.tally }
+    {
+        if self.out.room() < REPORT_ROOM {
+            self.hand_on(writer)?;
+        }
+        Ok(())
+    }
+
     /// Reports one more line, and counts it.
-    pub fn report<W: Write>(&mut self, writer: &mut W, raw: &[u8]) -> io::Result<()>
+    pub fn report<W: Write>(&mut self, writer: &mut W, raw: &[u8]) -> Result<(), NotWritten>
         requires { self.old.tally.reports ≤ INPUT_LIMIT }
         ensures text { OnOk result (Appends (written_of (W.contents writer.old) self.old.out) (written_of (W.contents writer.new) self.new.out)
             (gap (self.old.tally.reports == 0) ++ line_report raw.now)) }
         ensures tally { OnOk result (self.new.tally ≡ counted self.old.tally raw.now) }
     {
-        if self.out.room() < REPORT_ROOM {
-            self.out.hand_on(writer)?;
-        }
+        self.make_room(writer)?;
         let refused = put_report(
             &mut self.out,
             self.tally.reports == 0,

@@ -1,15 +1,15 @@
 //! The run over an input.
 ghost use Rattle.std.specs.Prelude.{◌≡◌, ◌<◌, ◌≤◌, ℕ, Err, length, take, OnOk, IfOk, IsOk, IfSome, MatchResult};
-ghost use Rattle.std.specs.Io.KnownBytes.{Appends};
+ghost use Rattle.std.specs.Io.KnownBytes.{Appends, IsAtEnd};
 ghost use Rattle.chaosd_engines.specs.Lines.{lines_of, ended_lines};
-ghost use Rattle.chaosd_engines.specs.Show.{report_of, reports_of, tally_of};
+ghost use Rattle.chaosd_engines.specs.Show.{report_of, reports_of, ReportsRead, tally_of};
 
+use crate::buffer::NotWritten;
 use crate::fault::RunFault;
 use crate::input::read_chunk;
 use crate::limits::{CHUNK_LEN, INPUT_LIMIT};
 use crate::show::shower::Shower;
 use crate::show::tally::Tally;
-use std::io;
 use std::io::{Read, Write};
 
 /// Reads lines of hexadecimal digits, one datagram a line, to the end of the input, and writes a report of each.
@@ -25,15 +25,16 @@ pub fn run_show<R: Read, W: Write>(reader: &mut R, writer: &mut W) -> Result<Tal
     // What was written is the report of all that was read, and the tally counts it.
     ensures report { OnOk result (IfSome (R.remaining reader.old) (λ input. Appends (W.contents writer.old) (W.contents writer.new) (report_of input))) }
     ensures tally { IfOk result (λ tally. IfSome (R.remaining reader.old) (λ input. tally ≡ tally_of (lines_of input))) }
+    ensures ended { OnOk result (IsAtEnd (R.remaining reader.new)) }
     ensures within { OnOk result (IfSome (R.remaining reader.old) (λ input. length input ≤ INPUT_LIMIT)) }
 
     // An input is refused as too long only where it is, and the lines that ended within the limit were reported.
     ensures too_long { result ≡ Err RunFault.InputTooLong → IfSome (R.remaining reader.old) (λ input.
         (INPUT_LIMIT < length input) × Appends (W.contents writer.old) (W.contents writer.new) (reports_of (ended_lines (take INPUT_LIMIT input)))) }
 
-    // Where the reader failed, the lines that ended in what it gave were reported.
-    ensures unread { result ≡ Err RunFault.ReadFault → IfSome (R.remaining reader.old) (λ input. (count : ℕ)
-        × Appends (W.contents writer.old) (W.contents writer.new) (reports_of (ended_lines (take count input)))) }
+    // Where the reader failed, the lines that ended in what it had given were reported, and no more.
+    ensures unread { result ≡ Err RunFault.ReadFault
+        → ReportsRead (R.remaining reader.old) (R.remaining reader.new) (W.contents writer.old) (W.contents writer.new) }
 {
     let mut shower = Shower::new();
     let mut chunk = [0; CHUNK_LEN];
@@ -57,8 +58,8 @@ pub fn run_show<R: Read, W: Write>(reader: &mut R, writer: &mut W) -> Result<Tal
     Ok(shower.reporter.tally)
 }
 
-/// A writer's fault as the fault of a run.
-fn written(end: io::Result<()>) -> Result<(), RunFault>
+/// What wasn't written as the fault of a run.
+fn written(end: Result<(), NotWritten>) -> Result<(), RunFault>
     ensures { MatchResult end (λ _. IsOk result) (λ _. result ≡ Err RunFault.WriteFault) }
 {
     match end {

@@ -5,15 +5,11 @@ ghost use Rattle.chaosd_engines.specs.Lines.{is_newline, IsCut};
 ghost use Rattle.chaosd_engines.specs.Buffer.{written_of};
 ghost use Rattle.chaosd_engines.specs.Shower.{Shows, ShowsAll};
 
-use crate::limits::{INPUT_LIMIT, LINE_LIMIT};
+use crate::buffer::NotWritten;
+use crate::limits::{INPUT_LIMIT, KEPT_LEN};
 use crate::show::reporter::Reporter;
 use arrayvec::ArrayVec;
-use std::io;
 use std::io::Write;
-
-/// How many bytes of a line are kept that began in an earlier chunk: as many as a line may have, a carriage return, and
-/// one more, which shows that it is too long.
-const KEPT_LEN: usize = LINE_LIMIT + 2;
 
 /// What was reported of an input, and what came of the line that hasn't ended.
 #[derive(Drop)]
@@ -35,7 +31,7 @@ impl Shower {
 
     /// Takes the next bytes of the input, and reports the lines that end in them. The cost is a look at each byte, and
     /// a copy of what comes of a line that doesn't end.
-    pub fn feed<W: Write>(&mut self, writer: &mut W, bytes: &[u8]) -> io::Result<()>
+    pub fn feed<W: Write>(&mut self, writer: &mut W, bytes: &[u8]) -> Result<(), NotWritten>
         requires { self.old.reporter.tally.reports + length bytes.now ≤ INPUT_LIMIT }
         ensures shown { OnOk result ((before : Option (List ℕ)) (input : List ℕ)
             → Shows before (written_of (W.contents writer.old) self.old.reporter.out) self.old.reporter.tally self.old.line.items input
@@ -52,7 +48,7 @@ impl Shower {
     }
 
     /// Reports the line that this piece of it ends.
-    fn end_line<W: Write>(&mut self, writer: &mut W, piece: &[u8]) -> io::Result<()>
+    fn end_line<W: Write>(&mut self, writer: &mut W, piece: &[u8]) -> Result<(), NotWritten>
         requires room { self.old.reporter.tally.reports ≤ INPUT_LIMIT }
         requires piece { All (λ b. is_newline b ≡ false) piece.now }
         ensures shown { OnOk result ((before : Option (List ℕ)) (input : List ℕ)
@@ -70,7 +66,7 @@ impl Shower {
     }
 
     /// Reports what stands after the last end of a line, where that isn't empty.
-    fn end_input<W: Write>(&mut self, writer: &mut W) -> io::Result<()>
+    fn end_input<W: Write>(&mut self, writer: &mut W) -> Result<(), NotWritten>
         requires { self.old.reporter.tally.reports ≤ INPUT_LIMIT }
         ensures shown { OnOk result ((before : Option (List ℕ)) (input : List ℕ)
             → Shows before (written_of (W.contents writer.old) self.old.reporter.out) self.old.reporter.tally self.old.line.items input
@@ -83,25 +79,25 @@ impl Shower {
     }
 
     /// Hands on the reports of the lines that ended.
-    pub fn hand_on<W: Write>(&mut self, writer: &mut W) -> io::Result<()>
+    pub fn hand_on<W: Write>(&mut self, writer: &mut W) -> Result<(), NotWritten>
         ensures shown { (before : Option (List ℕ)) (input : List ℕ)
             → Shows before (written_of (W.contents writer.old) self.old.reporter.out) self.old.reporter.tally self.old.line.items input
             → Shows before (written_of (W.contents writer.new) self.new.reporter.out) self.new.reporter.tally self.new.line.items input }
         ensures count { self.new.reporter.tally ≡ self.old.reporter.tally }
         ensures empty { OnOk result (self.new.reporter.out ≡ []) }
     {
-        self.reporter.out.hand_on(writer)
+        self.reporter.hand_on(writer)
     }
 
     /// Reports what stands after the last end of a line, where that isn't empty, and hands on all reports.
-    pub fn finish<W: Write>(&mut self, writer: &mut W) -> io::Result<()>
+    pub fn finish<W: Write>(&mut self, writer: &mut W) -> Result<(), NotWritten>
         requires { self.old.reporter.tally.reports ≤ INPUT_LIMIT }
         ensures shown { OnOk result ((before : Option (List ℕ)) (input : List ℕ)
             → Shows before (written_of (W.contents writer.old) self.old.reporter.out) self.old.reporter.tally self.old.line.items input
             → ShowsAll before (W.contents writer.new) self.new.reporter.tally input) }
     {
         self.end_input(writer)?;
-        self.reporter.out.hand_on(writer)
+        self.reporter.hand_on(writer)
     }
 }
 

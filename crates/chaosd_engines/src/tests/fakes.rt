@@ -1,21 +1,10 @@
 //! Readers and writers that fail, drip or watch.
 ghost use Rattle.std.specs.Prelude.{◌≤◌, length, IfOk};
 
+use std::alloc::Global;
 use std::cell::Cell;
 use std::io;
 use std::io::{Error, ErrorKind, Read, Write};
-
-/// Gives one byte a read.
-#[derive(Drop)]
-pub struct Dripping<'a> {
-    pub rest: &'a [u8],
-}
-
-impl Read for Dripping<'_> {
-    fn read(&mut self, buf: &mut [u8]) -> io::Result<usize> {
-        give(&mut self.rest, buf, 1)
-    }
-}
 
 /// Gives so many bytes at most.
 fn give(rest: &mut &[u8], buf: &mut [u8], most: usize) -> io::Result<usize>
@@ -28,22 +17,36 @@ fn give(rest: &mut &[u8], buf: &mut [u8], most: usize) -> io::Result<usize>
     Ok(count)
 }
 
-/// Gives seven bytes a read, but fails so often after so many reads.
+/// Gives so many bytes a read, but fails so often after so many reads.
 #[derive(Drop)]
 pub struct FuseReader<'a> {
     rest: &'a [u8],
+    most: usize,
     left: u64,
     interrupts: bool,
     pub failures: u64,
 }
 
 impl<'a> FuseReader<'a> {
+    /// Gives seven bytes a read, and fails after so many.
     pub fn new(rest: &'a [u8], left: u64, interrupts: bool) -> Self {
         FuseReader {
             rest,
+            most: 7,
             left,
             interrupts,
             failures: u64::MAX,
+        }
+    }
+
+    /// Gives one byte a read, and never fails.
+    pub fn dripping(rest: &'a [u8]) -> Self {
+        FuseReader {
+            rest,
+            most: 1,
+            left: u64::MAX,
+            interrupts: false,
+            failures: 0,
         }
     }
 }
@@ -60,14 +63,26 @@ impl Read for FuseReader<'_> {
             return Err(Error::from(kind));
         }
         self.left = self.left.saturating_sub(1);
-        give(&mut self.rest, buf, 7)
+        give(&mut self.rest, buf, self.most)
     }
 }
 
-/// Takes all of so many writes, and fails from then on.
+/// Takes so many bytes a write, and fails after so many writes.
 #[derive(Drop)]
 pub struct FuseWriter {
+    pub taken: Vec<u8>,
     pub left: u64,
+    most: usize,
+}
+
+impl FuseWriter {
+    pub fn new(alloc: Global, left: u64, most: usize) -> Self {
+        FuseWriter {
+            taken: Vec::new(alloc),
+            left,
+            most,
+        }
+    }
 }
 
 impl Write for FuseWriter {
@@ -76,28 +91,7 @@ impl Write for FuseWriter {
             return Err(Error::from(ErrorKind::StorageFull));
         }
         self.left -= 1;
-        Ok(buf.len())
-    }
-
-    fn flush(&mut self) -> io::Result<()> {
-        Ok(())
-    }
-}
-
-/// Takes three bytes a write, is interrupted at every other, and fails after so many.
-#[derive(Drop)]
-pub struct Slow {
-    pub taken: Vec<u8>,
-    pub left: u64,
-}
-
-impl Write for Slow {
-    fn write(&mut self, buf: &[u8]) -> io::Result<usize> {
-        if self.left == 0 {
-            return Err(Error::from(ErrorKind::StorageFull));
-        }
-        self.left -= 1;
-        let count = buf.len().min(3);
+        let count = buf.len().min(self.most);
         self.taken.extend_from_slice(&buf[..count])?;
         Ok(count)
     }
@@ -131,20 +125,23 @@ impl Read for Watching<'_> {
     }
 }
 
-/// Counts what is written.
+/// A writer with a buffer, which counts what is flushed.
 #[derive(Drop)]
 pub struct Watched<'a> {
     pub written: &'a Cell<usize>,
+    pub waiting: usize,
 }
 
 impl Write for Watched<'_> {
     fn write(&mut self, buf: &[u8]) -> io::Result<usize> {
-        self.written
-            .set(self.written.get().saturating_add(buf.len()));
+        self.waiting = self.waiting.saturating_add(buf.len());
         Ok(buf.len())
     }
 
     fn flush(&mut self) -> io::Result<()> {
+        self.written
+            .set(self.written.get().saturating_add(self.waiting));
+        self.waiting = 0;
         Ok(())
     }
 }

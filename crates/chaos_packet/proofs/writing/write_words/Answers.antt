@@ -6,13 +6,13 @@ use Rattle.chaos_packet.proofs.writing.write_words.Goals as goal
 pub returns-clause-spelled : goal.returns-clause-spelled
 returns-clause-spelled c =
     let spelling : take c.pack.result c.pack.new.words ≡ spelling_of c.args.packet.now = search rules in
-    let bytes : (i : ℕ) → get_or c.args.packet.now.body i 0 < 256 = rw (← c.bytes-bytes.ensures.value) c.pack.ensures.bytes in
-    let small : length c.args.packet.now.body ≤ 488 = rw (← c.bytes-bytes.ensures.value) c.bytes-bytes.ensures.fits in
+    let bytes : (i : ℕ) → get_or c.args.packet.now.body i 0 < 256 = rw (← c.bytes.ensures.value) c.pack.ensures.bytes in
+    let small : length c.args.packet.now.body ≤ 488 = rw (← c.bytes.ensures.value) c.bytes.ensures.fits in
     rw spelling (spelling_spells c.args.packet.now bytes small)
 
 pub returns-clause-zero : goal.returns-clause-zero
 returns-clause-zero c =
     let spelling : take c.pack.result c.pack.new.words ≡ spelling_of c.args.packet.now = search rules in
-    let bytes : (i : ℕ) → get_or c.args.packet.now.body i 0 < 256 = rw (← c.bytes-bytes.ensures.value) c.pack.ensures.bytes in
-    let small : length c.args.packet.now.body ≤ 488 = rw (← c.bytes-bytes.ensures.value) c.bytes-bytes.ensures.fits in
+    let bytes : (i : ℕ) → get_or c.args.packet.now.body i 0 < 256 = rw (← c.bytes.ensures.value) c.pack.ensures.bytes in
+    let small : length c.args.packet.now.body ≤ 488 = rw (← c.bytes.ensures.value) c.bytes.ensures.fits in
     rw spelling (spelling_zero c.args.packet.now bytes small)

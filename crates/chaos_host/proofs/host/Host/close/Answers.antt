@@ -1,14 +1,9 @@
-use Rattle.chaos_conn.specs.Act.{Close, Did}
-use Rattle.chaos_host.specs.Inside.{host_view}
-use Rattle.chaos_host.specs.Calls.{told}
-use Rattle.chaos_host.proofs.Places.{ending_done}
+use Rattle.std.proofs.Common.{rules}
+use Rattle.chaos_host.proofs.Places.{named_ended, ending_done, refusal_reply}
 use Rattle.chaos_host.proofs.host.Host.close.Goals as goal
 
-pub invariant_of-self : goal.invariant_of-self
-invariant_of-self c = record { address = c.self.invariant.address; table = c.close_at.ensures.keeps _ c.self.invariant.table }
+pub invariant_of-self-2 : goal.invariant_of-self-2
+invariant_of-self-2 c = search (named_ended, c.in_ok-slot.ensures.found)
 
 pub returns : goal.returns
-returns c =
-    let found = c.in-Some.ensures.found in
-    rw (← c.self.view_is) (ending_done (host_view c.self.inside) c.args.id c.in-Some.place (Close c.args.text.now) c.close_at.new.slots.items c.args.out.now c.close_at.new.out (Did c.close_at.result) (told c.refusing.result)
-    found.0 found.1 found.2 c.close_at.ensures.ends c.refusing.ensures)
+returns c = search (rules, ending_done, refusal_reply, c.in_ok-slot.ensures.found)

@@ -1,9 +1,9 @@
 use Rattle.std.proofs.Common.{◌≡◌, [], ◌++◌, take, ap, arith, length-append, length-take}
-use Rattle.std.proofs.KnownBytes.{Consumes-nil}
+use Rattle.std.proofs.KnownBytes.{Consumes-nil, Consumes-kept}
 use Rattle.std.specs.Io.KnownBytes.{Appends}
 use Rattle.chaosd_engines.specs.Lines.{ended_lines, lines_of}
 use Rattle.chaosd_engines.specs.Show.{reports_of, report_of, tally_of}
-use Rattle.chaosd_engines.proofs.Runs.{went_well, ended_handed, of_beginning, of_all, past_limit, chunk_more}
+use Rattle.chaosd_engines.proofs.Runs.{went_well, ended_handed, of_all, past_limit, chunk_more}
 use Rattle.chaosd_engines.proofs.show.run.run_show.Goals as goal
 
 pub reads-init : goal.reads-init
@@ -26,9 +26,11 @@ reads-preserved g c =
 
 pub returns-in_err-count-clause-unread : goal.returns-in_err-count-clause-unread
 returns-in_err-count-clause-unread g c _ =
-    let (input, read, fits, few, shown) = c.reads.invariant in
-    of_beginning (λ l. Appends (g.W.Write.contents c.args.writer.now) (g.W.Write.contents c.hand_on.new.writer) (reports_of (ended_lines l))) _ _ input read
-    (ended_handed _ _ _ _ _ input (c.hand_on.ensures.shown _ input shown) (went_well _ _ _ c.written.ensures c.in_ok-written.was c.hand_on.ensures.empty))
+    let (input, read, fits, few, shown) = c.reads.invariant in (
+      input,
+      Consumes-kept _ _ _ input read c.in_err-count.ensures.read.0,
+      ended_handed _ _ _ _ _ input (c.hand_on.ensures.shown _ input shown) (went_well _ _ _ c.written.ensures c.in_ok-written.was c.hand_on.ensures.empty),
+    )
 
 pub returns-then-within-count-clause-too_long : goal.returns-then-within-count-clause-too_long
 returns-then-within-count-clause-too_long g c _ =

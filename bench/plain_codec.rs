@@ -1,0 +1,166 @@
+// Packets of 448 data bytes read from datagrams and written to them, in plain Rust: beside chaos_link's codec.
+use std::time::Instant;
+
+const ROUNDS: u32 = 1_000_000;
+const BYTES: usize = 448;
+const PACKETS: usize = 16;
+const MAX_DATA: usize = 488;
+const MAX_DATAGRAM: usize = 508;
+const HEADER_END: usize = 20;
+const MARK: [u8; 4] = [0x43, 0x48, 0x01, 0x00];
+
+/// Bytes in place, so many of which count.
+struct Bytes<const N: usize> {
+    len: usize,
+    all: [u8; N],
+}
+
+impl<const N: usize> Bytes<N> {
+    fn as_slice(&self) -> &[u8] {
+        &self.all[..self.len]
+    }
+}
+
+struct Packet {
+    op: u8,
+    fwd: u8,
+    dst: u16,
+    dst_index: u16,
+    src: u16,
+    src_index: u16,
+    num: u16,
+    ack: u16,
+    body: Bytes<MAX_DATA>,
+}
+
+#[derive(Debug)]
+enum Fault {
+    Short,
+    BadMark,
+    BadVersion,
+    ShortHeader,
+    BadCount,
+    Truncated,
+    Trailing,
+}
+
+/// Copies pairs of bytes, each turned round: by whole words, which vectors turn at once.
+fn swap_pairs(to: &mut [u8], from: &[u8]) {
+    for (to, from) in to.chunks_exact_mut(2).zip(from.chunks_exact(2)) {
+        to.copy_from_slice(&u16::from_be_bytes([from[0], from[1]]).to_le_bytes());
+    }
+}
+
+#[inline(never)]
+fn from_datagram(bytes: &[u8]) -> Result<Packet, Fault> {
+    if bytes.len() < MARK.len() {
+        return Err(Fault::Short);
+    }
+    if bytes[..2] != MARK[..2] {
+        return Err(Fault::BadMark);
+    }
+    if bytes[2..4] != MARK[2..] {
+        return Err(Fault::BadVersion);
+    }
+    let Some(header) = bytes.get(4..).and_then(|rest| rest.first_chunk::<16>()) else {
+        return Err(Fault::ShortHeader);
+    };
+    let word = |i: usize| u16::from_be_bytes([header[2 * i], header[2 * i + 1]]);
+    let count = usize::from(word(1) % 4096);
+    if count > MAX_DATA {
+        return Err(Fault::BadCount);
+    }
+    let rest = &bytes[HEADER_END..];
+    let even = count + count % 2;
+    if rest.len() < even {
+        return Err(Fault::Truncated);
+    }
+    if rest.len() > even {
+        return Err(Fault::Trailing);
+    }
+    let mut packet = Packet {
+        op: header[0],
+        fwd: (word(1) / 4096) as u8,
+        dst: word(2),
+        dst_index: word(3),
+        src: word(4),
+        src_index: word(5),
+        num: word(6),
+        ack: word(7),
+        body: Bytes { len: count, all: [0; MAX_DATA] },
+    };
+    swap_pairs(&mut packet.body.all[..even], rest);
+    Ok(packet)
+}
+
+#[inline(never)]
+fn to_datagram(packet: &Packet) -> Bytes<MAX_DATAGRAM> {
+    let data = packet.body.as_slice();
+    let header = [
+        u16::from(packet.op) << 8,
+        u16::from(packet.fwd) << 12 | data.len() as u16,
+        packet.dst,
+        packet.dst_index,
+        packet.src,
+        packet.src_index,
+        packet.num,
+        packet.ack,
+    ];
+    let even = data.len() + data.len() % 2;
+    let mut datagram = Bytes { len: HEADER_END + even, all: [0; MAX_DATAGRAM] };
+    let (front, rest) = datagram.all.split_at_mut(HEADER_END);
+    front[..4].copy_from_slice(&MARK);
+    for (to, word) in front[4..].chunks_exact_mut(2).zip(header) {
+        to.copy_from_slice(&word.to_be_bytes());
+    }
+    swap_pairs(rest, data);
+    if let [last] = data.chunks_exact(2).remainder() {
+        rest[even - 1] = *last;
+    }
+    datagram
+}
+
+fn numbered(num: u16) -> Packet {
+    let mut body = Bytes { len: BYTES, all: [0; MAX_DATA] };
+    for (i, byte) in body.all[..BYTES].iter_mut().enumerate() {
+        *byte = num as u8 ^ i as u8;
+    }
+    Packet { op: 0o200, fwd: 0, dst: 0o401, dst_index: 1, src: 0o402, src_index: 2, num, ack: 0, body }
+}
+
+fn sum_of(packet: &Packet, place: usize) -> u32 {
+    let byte = packet.body.as_slice().get(place % MAX_DATA).copied().unwrap_or(0);
+    u32::from(packet.num) + u32::from(byte)
+}
+
+fn read_all(datagrams: &[Bytes<MAX_DATAGRAM>]) -> u32 {
+    let mut sum = 0u32;
+    for round in 0..ROUNDS as usize {
+        if let Ok(packet) = from_datagram(datagrams[round % PACKETS].as_slice()) {
+            sum = sum.wrapping_add(sum_of(&packet, round));
+        }
+    }
+    sum
+}
+
+fn write_all(packets: &[Packet]) -> u32 {
+    let mut sum = 0u32;
+    for round in 0..ROUNDS as usize {
+        let datagram = to_datagram(&packets[round % PACKETS]);
+        let byte = datagram.as_slice().get(round % MAX_DATAGRAM).copied().unwrap_or(0);
+        sum = sum.wrapping_add(u32::from(byte));
+    }
+    sum
+}
+
+fn main() {
+    let packets: Vec<Packet> = (0..PACKETS as u16).map(numbered).collect();
+    let datagrams: Vec<_> = packets.iter().map(to_datagram).collect();
+    let start = Instant::now();
+    let read = read_all(&datagrams);
+    let reading = start.elapsed().as_micros();
+    let start = Instant::now();
+    let written = write_all(&packets);
+    let writing = start.elapsed().as_micros();
+    println!("{reading} us read {read}, {writing} us written {written}");
+}

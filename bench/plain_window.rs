@@ -1,0 +1,118 @@
+//! The same receive window in plain Rust: a deque of 64 places, each with an item or none.
+use std::collections::VecDeque;
+use std::time::Instant;
+
+const WINDOW: u16 = 64;
+const FILLS: u32 = 5_000;
+
+struct Item {
+    #[allow(dead_code)]
+    op: u8,
+    len: u16,
+    body: [u8; 488],
+}
+
+impl Item {
+    fn empty(op: u8) -> Self {
+        Item { op, len: 0, body: [0; 488] }
+    }
+
+    fn fill(&mut self, bytes: &[u8]) {
+        self.body[..bytes.len()].copy_from_slice(bytes);
+        self.len = bytes.len() as u16;
+    }
+
+    fn bytes(&self) -> &[u8] {
+        &self.body[..usize::from(self.len)]
+    }
+}
+
+#[derive(PartialEq)]
+enum Arrived {
+    Took,
+    Duplicate,
+    Outside,
+}
+
+struct Window {
+    read: u16,
+    slots: VecDeque<Option<Item>>,
+}
+
+impl Window {
+    fn new() -> Self {
+        Window { read: 0, slots: (0..WINDOW).map(|_| None).collect() }
+    }
+
+    fn arrive_lent(&mut self, num: u16, op: u8, bytes: &[u8]) -> Arrived {
+        let offset = num.wrapping_sub(self.read);
+        if (1..=WINDOW).contains(&offset) {
+            let slot = &mut self.slots[usize::from(offset) - 1];
+            if slot.is_some() {
+                return Arrived::Duplicate;
+            }
+            slot.insert(Item::empty(op)).fill(bytes);
+            Arrived::Took
+        } else if offset > WINDOW && offset < 32768 {
+            Arrived::Outside
+        } else {
+            Arrived::Duplicate
+        }
+    }
+
+    fn front(&self) -> Option<&Item> {
+        self.slots.front()?.as_ref()
+    }
+
+    fn discard(&mut self) -> bool {
+        if self.front().is_none() {
+            return false;
+        }
+        self.slots.pop_front();
+        self.slots.push_back(None);
+        self.read = self.read.wrapping_add(1);
+        true
+    }
+}
+
+/// Takes an item with the number that far past the number last read, and counts it where it was taken.
+fn arrives(window: &mut Window, offset: u16, bytes: &[u8]) -> u32 {
+    let num = window.read.wrapping_add(offset);
+    u32::from(window.arrive_lent(num, 0o200, bytes) == Arrived::Took)
+}
+
+/// Reads the items that are held, and adds up their first bytes.
+fn drained(window: &mut Window) -> u32 {
+    let mut sum = 0u32;
+    for _ in 0..WINDOW {
+        let first = window.front().and_then(|item| item.bytes().first().copied());
+        sum = sum.wrapping_add(u32::from(first.unwrap_or(0)));
+        window.discard();
+    }
+    sum
+}
+
+/// Fills, from the front on or from the end, and drains, and adds up what was taken and what was read.
+fn fills(window: &mut Window, bytes: &mut [u8; 448], from_end: bool) -> (u32, u32) {
+    let (mut took, mut sum) = (0u32, 0u32);
+    for fill in 0..FILLS {
+        bytes[0] = (fill % 256) as u8;
+        let length = 441 + (fill % 8) as usize;
+        for step in 0..WINDOW {
+            let offset = if from_end { WINDOW - step } else { step + 1 };
+            took = took.wrapping_add(arrives(window, offset, &bytes[..length]));
+        }
+        sum = sum.wrapping_add(drained(window));
+    }
+    (took, sum)
+}
+
+fn main() {
+    let mut window = Window::new();
+    let mut bytes = [0x5A; 448];
+    for (name, from_end) in [("in order", false), ("reversed", true)] {
+        let start = Instant::now();
+        let (took, sum) = fills(&mut window, &mut bytes, from_end);
+        println!("{name} {} us, took {took}, sum {sum}", start.elapsed().as_micros());
+    }
+}

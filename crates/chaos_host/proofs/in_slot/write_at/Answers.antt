@@ -1,9 +1,0 @@
-use Rattle.chaos_conn.specs.Act.{Write}
-use Rattle.chaos_host.proofs.Table.{table_called}
-use Rattle.chaos_host.proofs.in_slot.write_at.Goals as goal
-
-pub returns-clause-keeps : goal.returns-clause-keeps
-returns-clause-keeps c config table =
-    let slot = c.index_mut.result.now in
-    table_called config c.args.slots.now.items c.args.place slot (record slot { conn = c.write.new.self }) (Write c.args.op c.args.bytes.now c.args.now)
-    c.requires.within c.index_mut.ensures.value c.write.ensures.view c.write.ensures.config table

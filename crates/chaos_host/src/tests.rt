@@ -1,5 +1,0 @@
-//! Dialogues with a host.
-mod calls;
-mod requests;
-mod rows;
-mod side;
