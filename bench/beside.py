@@ -1,7 +1,8 @@
 #!/usr/bin/env python3
 """Times the libraries beside the same in plain Rust: `python3 bench/beside.py` for all benches, or with their names.
 
-Each bench is two programs that print the same lines, `what operations nanoseconds`: bench/NAME.rt.in over copies of the crates,
+Each bench is two programs that print the same lines, `what operations nanoseconds`, and where they have one what all came to,
+which has to be the same: bench/NAME.rt.in over copies of the crates,
 proved and built by rt (another by RT=..) in a folder of its own, and bench/plain_NAME.rs, built by rustc. Both are run ten times,
 in turn, and each figure is the least. It takes some minutes, most of them for the proofs.
 """
@@ -18,9 +19,9 @@ ROOT = HERE.parent
 RT = os.environ.get("RT", "rt")
 RUNS = 10
 
-# the crates that the program of a bench names; those below them come along
+# the libraries that the program of a bench names; crates of this repository below them come along
 BENCHES = {
-    "codec": ["chaos_link", "chaos_packet"],
+    "codec": ["chaos_link", "chaos_packet", "arrayvec"],
     "links": ["chaos_link"],
     "window": ["chaos_window", "chaos_packet"],
     "host": ["chaos_host", "chaos_conn", "chaos_packet"],
@@ -74,10 +75,10 @@ def build_plain(name, folder):
 
 
 def figures(program):
-    """What the program tells: of each line its name and operations, and the nanoseconds of one operation."""
+    """What the program tells: of each line its name, operations and what they came to, and the nanoseconds of one of them."""
     told = subprocess.run([program], capture_output=True, text=True, check=True).stdout
     rows = [line.split() for line in told.splitlines()]
-    return {(what, int(count)): int(spent) / int(count) for what, count, spent in rows}
+    return {(what, int(count), *sums): int(spent) / int(count) for what, count, spent, *sums in rows}
 
 
 def bench(name):
@@ -89,10 +90,11 @@ def bench(name):
             for kind, program in programs.items():
                 for key, spent in figures(program).items():
                     best[kind, key] = min(best.get((kind, key), spent), spent)
-        for kind, (what, count) in list(best):
-            if kind == "chaos":
-                ours, plain = best["chaos", (what, count)], best["plain", (what, count)]
-                print(f"{name}: {what.replace('_', ' ')}: {ours:.1f} ns, plain Rust {plain:.1f} ns, ratio {ours / plain:.2f}", flush=True)
+        keys = [key for kind, key in best if kind == "chaos"]
+        assert all(("plain", key) in best for key in keys), f"{name}: the programs disagree: {sorted(best)}"
+        for key in keys:
+            ours, plain = best["chaos", key], best["plain", key]
+            print(f"{name}: {key[0].replace('_', ' ')}: {ours:.1f} ns, plain Rust {plain:.1f} ns, ratio {ours / plain:.2f}", flush=True)
 
 
 def main():

@@ -158,9 +158,10 @@ fn main() {
     let datagrams: Vec<_> = packets.iter().map(to_datagram).collect();
     let start = Instant::now();
     let read = read_all(&datagrams);
-    let reading = start.elapsed().as_micros();
+    let reading = start.elapsed().as_nanos();
     let start = Instant::now();
     let written = write_all(&packets);
-    let writing = start.elapsed().as_micros();
-    println!("{reading} us read {read}, {writing} us written {written}");
+    let writing = start.elapsed().as_nanos();
+    println!("decode_of_448_bytes {ROUNDS} {reading} {read}");
+    println!("encode_of_448_bytes {ROUNDS} {writing} {written}");
 }

@@ -110,9 +110,9 @@ fn fills(window: &mut Window, bytes: &mut [u8; 448], from_end: bool) -> (u32, u3
 fn main() {
     let mut window = Window::new();
     let mut bytes = [0x5A; 448];
-    for (name, from_end) in [("in order", false), ("reversed", true)] {
+    for (name, from_end) in [("item_in_order", false), ("item_reversed", true)] {
         let start = Instant::now();
         let (took, sum) = fills(&mut window, &mut bytes, from_end);
-        println!("{name} {} us, took {took}, sum {sum}", start.elapsed().as_micros());
+        println!("{name} {took} {} {sum}", start.elapsed().as_nanos());
     }
 }
