@@ -21,7 +21,7 @@ pub(crate) const MARK: [u8; 4] = [0x43, 0x48, 0x01, 0x00];
 /// ```
 ///
 /// After the mark and the version come the packet's words, each high byte first, and nothing more. The cost is that of
-/// the packet's words, which are read once and copied once; nothing is allocated.
+/// the packet's words; nothing is allocated.
 ///
 /// # Errors
 /// The first fault, in the order of [`LinkFault`]: read off the number of bytes, the first four bytes and word 1 alone.
