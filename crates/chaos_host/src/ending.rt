@@ -1,8 +1,6 @@
 //! The release of an ended connection.
-ghost use Rattle.std.specs.Prelude.{◌≡◌, ◌<◌, IfSome, IfNone, length, slice_get, true, false};
+ghost use Rattle.std.specs.Prelude.{◌≡◌, ◌<◌};
 ghost use Rattle.chaos_packet.specs.Outbox.{room_of};
-ghost use Rattle.chaos_conn.specs.State.{is_ended};
-ghost use Rattle.chaos_host.specs.declared.slot.Slot.{Slot};
 ghost use Rattle.chaos_host.specs.Acted.{HostDoes};
 ghost use Rattle.chaos_host.specs.Calls.{host_release};
 
