@@ -1,6 +1,9 @@
 -- Files and their entries.
-use Rattle.std.proofs.Common.{◌≡◌, ℕ, Bool, true, false, cond, List, [], ◌∷◌, ◌++◌, Option, Some, None, refl, ap, ◌∙◌, sym, rules}
-use Rattle.std.specs.Prelude.{not, find, option_map}
+use Prim.Native.Nat.compare
+use lib.Dec.{is_le}
+use Rattle.std.proofs.Common.{◌≡◌, ℕ, ◌+◌, Bool, true, false, cond, List, [], ◌∷◌, ◌++◌, Option, Some, None, refl, ap, ◌∙◌, sym, zero, suc, rules, arith}
+use Rattle.std.specs.Prelude.{not, find, option_map, position, is_some, unwrap_or, nat_lt, length}
+use Rattle.std.specs.List.{position_or_len}
 use Rattle.std.specs.Str.{bytes_eq}
 use Rattle.std.specs.Ordering.{nat_cmp}
 use Rattle.std.specs.Cmp.Lexicographic.{slice_cmp, nat_list_cmp_total}
@@ -8,8 +11,8 @@ use Rattle.std.specs.FinMap as map
 use Rattle.std.specs.FinMap.{get-from_entries, get-insert, get-remove, same_map, slice_cmp-IsAntisymmetric, nat_cmp-IsAntisymmetric}
 use Rattle.std.proofs.lemmas.Map.Text.{is_eq-slice_cmp}
 use Rattle.std.proofs.lemmas.Slice.Eq.{bytes_eq-Decides}
-use Rattle.chaos_file.specs.Store.{Files}
-use Rattle.chaos_file.specs.Entries.{Entry, is_at, files_of, others}
+use Rattle.chaos_file.specs.Store.{Files, with_moved}
+use Rattle.chaos_file.specs.Entries.{Entry, is_at, files_of, others, with_path}
 
 -- the bytes of a path's first entry
 abbrev pub file_at : List ℕ → List Entry → Option (List ℕ)
@@ -114,9 +117,109 @@ insert_removed m k v = same_files _ _ (λ q. get_inserted (map.remove m k) k v q
 pub files_set : (k v : List ℕ) (es : List Entry) → files_of (others k es ++ (k, v) ∷ []) ≡ map.insert (files_of es) k v
 files_set k v es = files_replaced k (k, v) es (gone (files_of es) k) ∙ insert_removed (files_of es) k v
 
-pub still_absent : (m : Files) (k q : List ℕ) → map.get m q ≡ None → map.get (map.remove m k) q ≡ None
-still_absent m k q none = get_removed m k q ∙ ap (cond (bytes_eq q k) None) none ∙ elim (bytes_eq q k) as (λ b. ◌≡◌ {A = Option (List ℕ)} (cond b None None) None) [ true ↦ refl | false ↦ refl ]
-
 pub files_none : files_of [] ≡ map.empty
 unfolding files_of
 files_none = refl
+
+-- ---- the first entry of a path is given another path, which has none
+
+-- the first entry of a path at another path
+with_first : List ℕ → List ℕ → List Entry → List Entry
+with_first old new [] = []
+with_first old new (e ∷ es) = cond (is_at old e) ((new, e.1) ∷ es) (e ∷ with_first old new es)
+
+one_more : (n : ℕ) → 1 + n ≡ suc n
+one_more n = omega arith
+
+lt_both : (a b : ℕ) → nat_lt (suc a) (suc b) ≡ nat_lt a b
+lt_both a b = ap is_le (compare.suc-suc (suc a) b)
+
+lt_first : (b : ℕ) → nat_lt 0 (suc b) ≡ true
+lt_first zero = refl
+lt_first (suc b) = ap is_le (compare.suc-suc 0 (suc b) ∙ compare.zero-suc b)
+
+first_there : (old : List ℕ) (es : List Entry) → nat_lt (position_or_len (is_at old) es) (length es) ≡ is_some (file_at old es)
+first_there old [] = refl
+first_there old (e ∷ es) = elim (bytes_eq old e.0) as (λ b. nat_lt (cond (not b) (1 + position_or_len (is_at old) es) 0) (length (e ∷ es)) ≡ is_some (cond b (Some e.1) (file_at old es))) [ true ↦ lt_first (length es) | false ↦ ap (λ k. nat_lt k (suc (length es))) (one_more (position_or_len (is_at old) es)) ∙ lt_both (position_or_len (is_at old) es) (length es) ∙ first_there old es ]
+
+set_step : (old new : List ℕ) (e : Entry) (es : List Entry) → nat_lt (position_or_len (is_at old) (e ∷ es)) (length (e ∷ es)) ≡ true → (nat_lt (position_or_len (is_at old) es) (length es) ≡ true → with_path es (position_or_len (is_at old) es) new ≡ with_first old new es) → with_path (e ∷ es) (position_or_len (is_at old) (e ∷ es)) new ≡ with_first old new (e ∷ es)
+unfolding with_first
+set_step old new e es =
+    elim (bytes_eq old e.0) as (λ b. nat_lt (cond (not b) (1 + position_or_len (is_at old) es) 0) (length (e ∷ es)) ≡ true → (nat_lt (position_or_len (is_at old) es) (length es) ≡ true → with_path es (position_or_len (is_at old) es) new ≡ with_first old new es) → with_path (e ∷ es) (cond (not b) (1 + position_or_len (is_at old) es) 0) new ≡ cond b ((new, e.1) ∷ es) (e ∷ with_first old new es))
+    [ true ↦ λ there same. refl | false ↦ λ there same. ap (λ k. with_path (e ∷ es) k new) (one_more (position_or_len (is_at old) es)) ∙ ap (λ rest. e ∷ rest) (same (sym (ap (λ k. nat_lt k (suc (length es))) (one_more (position_or_len (is_at old) es)) ∙ lt_both (position_or_len (is_at old) es) (length es)) ∙ there)) ]
+
+set_first : (old new : List ℕ) (es : List Entry) → nat_lt (position_or_len (is_at old) es) (length es) ≡ true → with_path es (position_or_len (is_at old) es) new ≡ with_first old new es
+set_first old new [] there = let e : false ≡ true = there in cc
+set_first old new (e ∷ es) there = set_step old new e es there (set_first old new es)
+
+none_tail : (a : Bool) (x : List ℕ) (f : Option (List ℕ)) → cond a (Some x) f ≡ None → f ≡ None
+none_tail true x f h = let e : Some x ≡ None = h in cc
+none_tail false x f h = h
+
+none_head : (a : Bool) (x : List ℕ) (f : Option (List ℕ)) → cond a (Some x) f ≡ None → a ≡ true → ⊥
+none_head true x f h e = let k : Some x ≡ None = h in cc
+none_head false x f h e = let k : false ≡ true = e in cc
+
+step_at : (n a : Bool) (x f : Option (List ℕ)) → a ≡ false → cond n x f ≡ cond n x (cond a x f)
+step_at n a x f h = ap (λ b. cond n x (cond b x f)) (sym h)
+
+step_past : (n a : Bool) (x f g : Option (List ℕ)) → (n ≡ true → a ≡ true → ⊥) → cond a x (cond n g f) ≡ cond n g (cond a x f)
+step_past true true x f g never = absurd (never refl refl)
+step_past true false x f g never = refl
+step_past false true x f g never = refl
+step_past false false x f g never = refl
+
+file_first_cons : (q old new : List ℕ) (e : Entry) (es : List Entry) → cond (bytes_eq new e.0) (Some e.1) (file_at new es) ≡ None → bytes_eq q old ≡ false → file_at q (with_first old new es) ≡ cond (bytes_eq q new) (file_at old es) (file_at q es) → (t : Bool) → bytes_eq old e.0 ≡ t → file_at q (cond t ((new, e.1) ∷ es) (e ∷ with_first old new es)) ≡ cond (bytes_eq q new) (cond t (Some e.1) (file_at old es)) (file_at q (e ∷ es))
+file_first_cons q old new e es none apart rest true h = step_at (bytes_eq q new) (bytes_eq q e.0) (Some e.1) (file_at q es) (sym (ap (λ z. bytes_eq q z) (bytes_same old e.0 h)) ∙ apart)
+file_first_cons q old new e es none apart rest false h =
+    ap (cond (bytes_eq q e.0) (Some e.1)) rest
+    ∙ step_past (bytes_eq q new) (bytes_eq q e.0) (Some e.1) (file_at q es) (file_at old es)
+    (λ n a. none_head (bytes_eq new e.0) e.1 (file_at new es) none (sym (ap (λ z. bytes_eq z e.0) (bytes_same q new n)) ∙ a))
+
+file_first : (q old new : List ℕ) (es : List Entry) → file_at new es ≡ None → bytes_eq q old ≡ false → file_at q (with_first old new es) ≡ cond (bytes_eq q new) (file_at old es) (file_at q es)
+unfolding with_first
+file_first q old new [] none apart = elim (bytes_eq q new) as (λ b. ◌≡◌ {A = Option (List ℕ)} None (cond b None None)) [ true ↦ refl | false ↦ refl ]
+file_first q old new (e ∷ es) none apart = file_first_cons q old new e es none apart (file_first q old new es (none_tail (bytes_eq new e.0) e.1 (file_at new es) none) apart) (bytes_eq old e.0) refl
+
+some_is : (x : Option (List ℕ)) → is_some x ≡ true → x ≡ Some (unwrap_or x [])
+some_is None h = let e : false ≡ true = h in cc
+some_is (Some b) h = refl
+
+none_both : (n : Bool) (x : Option (List ℕ)) → (n ≡ true → ⊥) → None ≡ cond n x None
+none_both true x never = absurd (never refl)
+none_both false x never = refl
+
+moved_at : (q old new : List ℕ) (es : List Entry) → file_at new es ≡ None → is_some (file_at old es) ≡ true → (o : Bool) → bytes_eq q old ≡ o → cond o None (file_at q (with_first old new es)) ≡ cond (bytes_eq q new) (Some (unwrap_or (file_at old es) [])) (cond o None (file_at q es))
+moved_at q old new es none there true h = none_both (bytes_eq q new) (Some (unwrap_or (file_at old es) [])) (λ n.
+    let same : old ≡ new = sym (bytes_same q old h) ∙ bytes_same q new n in
+    let k : false ≡ true = sym (ap is_some (ap (λ z. file_at z es) same ∙ none)) ∙ there in cc)
+moved_at q old new es none there false h = file_first q old new es none h ∙ ap (λ x. cond (bytes_eq q new) x (file_at q es)) (some_is (file_at old es) there)
+
+files_first : (old new : List ℕ) (es : List Entry) → map.get (files_of es) new ≡ None → is_some (file_at old es) ≡ true → files_of (others old (with_first old new es)) ≡ with_moved (files_of es) old new
+files_first old new es none there = same_files _ _ (λ q.
+    get_files (others old (with_first old new es)) q ∙ file_others old q (with_first old new es)
+    ∙ moved_at q old new es (sym (get_files es new) ∙ none) there (bytes_eq q old) refl
+    ∙ ap (λ x. cond (bytes_eq q new) (Some (unwrap_or x [])) (cond (bytes_eq q old) None (file_at q es))) (sym (get_files es old))
+    ∙ ap (λ x. cond (bytes_eq q new) (Some (unwrap_or (map.get (files_of es) old) [])) (cond (bytes_eq q old) None x)) (sym (get_files es q))
+    ∙ ap (cond (bytes_eq q new) (Some (unwrap_or (map.get (files_of es) old) []))) (sym (get_removed (files_of es) old q))
+    ∙ sym (get_inserted (map.remove (files_of es) old) new (unwrap_or (map.get (files_of es) old) []) q))
+
+first_is : (b : Bool) (n place : ℕ) → cond b (Some n) None ≡ Some place → (b ≡ true) × (n ≡ place)
+first_is true n place h = let e : Some n ≡ Some place = h in (refl, cc)
+first_is false n place h = let e : ◌≡◌ {A = Option ℕ} None (Some place) = h in cc
+
+-- the entry at a path's first place moves to a path that has none, and no other entry of the old path is left
+pub files_moved : (old new : List ℕ) (es : List Entry) (place : ℕ) → position (is_at old) es ≡ Some place → map.get (files_of es) new ≡ None → files_of (others old (with_path es place new)) ≡ with_moved (files_of es) old new
+files_moved old new es place first none =
+    let at = first_is (nat_lt (position_or_len (is_at old) es) (length es)) (position_or_len (is_at old) es) place first in
+    ap (λ i. files_of (others old (with_path es i new))) (sym at.1)
+    ∙ ap (λ xs. files_of (others old xs)) (set_first old new es at.0)
+    ∙ files_first old new es none (sym (first_there old es) ∙ at.0)
+
+some_not_none : (b : Bool) (n : ℕ) → cond b (Some n) None ≡ None → b ≡ false
+some_not_none true n h = let e : Some n ≡ None = h in cc
+some_not_none false n h = refl
+
+-- a path without a place has no file
+pub none_placed : (old : List ℕ) (es : List Entry) → position (is_at old) es ≡ None → is_some (map.get (files_of es) old) ≡ false
+none_placed old es h = ap is_some (get_files es old) ∙ sym (first_there old es) ∙ some_not_none (nat_lt (position_or_len (is_at old) es) (length es)) (position_or_len (is_at old) es) h

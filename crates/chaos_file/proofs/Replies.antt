@@ -1,5 +1,5 @@
 -- The replies to a list of commands.
-use Rattle.std.proofs.Common.{◌≡◌, ℕ, List, [], ◌∷◌, ◌++◌, Option, Err, length, refl, ap, suc, arith, inl, inr}
+use Rattle.std.proofs.Common.{◌≡◌, ℕ, List, [], ◌∷◌, ◌++◌, Err, length, refl, ap, suc, arith, inl, inr}
 use Rattle.chaos_file.specs.declared.error.FileError.TheVariants as e
 use Rattle.chaos_file.specs.Grammar.{parse_of}
 use Rattle.chaos_file.specs.Answer.{reply_to}

@@ -1,8 +1,8 @@
 //! Files in memory.
-ghost use Rattle.std.specs.Prelude.{◌≡◌, ◌≤◌, [], ◌∷◌, ◌++◌, Some, None, find, option_map, vec_len, vec_capacity, OnOk, OnErr, IfOk};
+ghost use Rattle.std.specs.Prelude.{◌≡◌, ◌≤◌, ◌<◌, true, [], ◌∷◌, ◌++◌, Some, None, IfSome, length, find, position, option_map, vec_len, vec_capacity, OnOk, OnErr, IfOk};
 ghost use Rattle.std.specs.FinMap as map;
-ghost use Rattle.chaos_file.specs.Store.{Files, Found, look_for, Gets, Puts, Removes, Renames};
-ghost use Rattle.chaos_file.specs.Entries.{is_at, files_of, others};
+ghost use Rattle.chaos_file.specs.Store.{Files, Found, is_there, look_for, with_moved, Gets, Puts, Removes, Renames};
+ghost use Rattle.chaos_file.specs.Entries.{is_at, files_of, others, with_path};
 
 use crate::file_bytes::FileBytes;
 use crate::store::{Got, Removed, Renamed, Store, Stored};
@@ -27,8 +27,8 @@ impl Model for Entry {
 /// A store that keeps its files in memory, which contracts see as the map of its files. It is always honest, and never
 /// fails.
 ///
-/// A call looks at each path in turn. `get`, `put` and `rename` copy the file's bytes once, and take the memory for them
-/// before they change anything.
+/// A call looks at each path in turn. `get` and `put` copy the file's bytes once, `rename` the new path alone; they take
+/// the memory for it before they change anything.
 #[derive(Drop)]
 pub struct MemStore {
     entries: Vec<Entry>,
@@ -98,6 +98,24 @@ fn drop_at(entries: &mut Vec<Entry>, path: &[u8])
     entries.retain(|e| !e.is_at(path));
 }
 
+/// The place of a path's first entry.
+fn place_of(entries: &[Entry], path: &[u8]) -> Option<usize>
+    ensures value { result ≡ position (is_at path.now) entries.now }
+    ensures within { IfSome result (λ place. place < length entries.now) }
+{
+    entries.iter().position(|e| e.is_at(path))
+}
+
+/// Gives the entry at a place another path, and takes out the other entries of its old one.
+fn move_entry(entries: &mut Vec<Entry>, place: usize, old: &[u8], path: FileBytes)
+    requires { place < length entries.old.items }
+    ensures { entries.new.items ≡ others old.now (with_path entries.old.items place path) }
+{
+    let entry = &mut entries.as_mut_slice()[place];
+    entry.path = path;
+    drop_at(entries, old);
+}
+
 /// Takes a path's entries out, and puts one in.
 fn replace(entries: &mut Vec<Entry>, path: &[u8], entry: Entry) -> Result<(), AllocError>
     ensures ok { OnOk result (entries.new.items ≡ others path.now entries.old.items ++ entry ∷ []) }
@@ -143,14 +161,15 @@ impl MemStore {
         drop_at(&mut self.entries, path);
     }
 
-    /// Takes a path out, and puts in an entry of a path that has none.
-    #[tactic(auto, using(crate::proofs::Files::files_replaced, crate::proofs::Files::still_absent))]
-    fn set_instead(&mut self, path: &[u8], entry: Entry) -> Result<(), AllocError>
-        requires { map.get self.old entry.0 ≡ None }
-        ensures ok { OnOk result (self.new ≡ map.insert (map.remove self.old path.now) entry.0 entry.1) }
-        ensures err { OnErr result (self.new ≡ self.old) }
+    /// Moves a file to a path that has none. Its bytes stay where they lie.
+    fn move_file(&mut self, old: &[u8], path: FileBytes)
+        requires free { map.get self.old path ≡ None }
+        requires there { is_there self.old old.now ≡ true }
+        ensures { self.new ≡ with_moved self.old old.now path }
     {
-        replace(&mut self.entries, path, entry)
+        if let Some(place) = place_of(self.entries.as_slice(), old) {
+            move_entry(&mut self.entries, place, old, path);
+        }
     }
 }
 
@@ -193,17 +212,17 @@ impl Store for MemStore {
     }
 
     fn rename(&mut self, alloc: Global, old: &[u8], new: &[u8]) -> Renamed {
-        let Some(bytes) = self.lookup(old) else {
+        if self.lookup(old).is_none() {
             return Renamed::Absent;
-        };
+        }
         if self.lookup(new).is_some() {
             return Renamed::Exists;
         }
-        let Ok(entry) = make_entry(alloc, new, bytes) else {
-            return Renamed::NoMemory;
-        };
-        match self.set_instead(old, entry) {
-            Ok(()) => Renamed::Done,
+        match copied(alloc, new) {
+            Ok(path) => {
+                self.move_file(old, path);
+                Renamed::Done
+            }
             Err(_) => Renamed::NoMemory,
         }
     }

@@ -57,7 +57,8 @@ impl Session {
     /// Over an honest store the reply, the session and the files are those of the language's definition; or the reply is
     /// a store fault, where the store failed in this call; or it is want of memory, at a command that may take some.
     /// After an ERROR reply session and files are as they were. LOGIN, READ, CLOSE of a handle that reads, OPEN WRITE
-    /// and every error that is found before the store is asked touch no store and take no memory, over any store.
+    /// and every error that is found before the store is asked touch no store and take no memory, over any store; and a
+    /// handle that reads holds just the bytes that the store's `get` gave.
     ///
     /// A command looks at its own bytes, at the handles' names and at what it copies: a READ copies its bytes once, into
     /// the reply, and a WRITE once, behind the handle's bytes. OPEN READ and CLOSE cost what the store's call costs.

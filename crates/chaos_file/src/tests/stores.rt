@@ -6,16 +6,16 @@ use std::alloc::Global;
 #[test]
 fn a_store_in_memory_is_a_map(rt: HostRuntime) {
     let mut store = MemStore::new(rt.alloc());
-    assert_eq!(rt; store.put(rt.alloc(), b"A", b"one"), Stored::Done);
-    assert_eq!(rt; store.put(rt.alloc(), b"A", b"two"), Stored::Done);
-    assert_eq!(rt; store.rename(rt.alloc(), b"A", b"B"), Renamed::Done);
-    assert_eq!(rt; store.remove(rt.alloc(), b"A"), Removed::Absent);
+    assert!(rt; store.put(rt.alloc(), b"A", b"one") == Stored::Done);
+    assert!(rt; store.put(rt.alloc(), b"A", b"two") == Stored::Done);
+    assert!(rt; store.rename(rt.alloc(), b"A", b"B") == Renamed::Done);
+    assert!(rt; store.remove(rt.alloc(), b"A") == Removed::Absent);
     match store.get(rt.alloc(), b"B", 3) {
         Got::Bytes(bytes) => assert_eq!(rt; bytes.as_slice(), b"two".as_slice()),
         _ => assert!(rt; false, "no bytes"),
     }
     assert!(rt; matches!(&store.get(rt.alloc(), b"B", 2), Got::TooBig));
-    assert_eq!(rt; store.remove(rt.alloc(), b"B"), Removed::Done);
+    assert!(rt; store.remove(rt.alloc(), b"B") == Removed::Done);
 }
 
 /// A store over another that writes down each call's name.
