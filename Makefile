@@ -10,7 +10,7 @@
 
 PREFIX ?= /usr/local
 RT ?= rt
-SOURCES := crates.txt HANDLES $(shell find crates -path '*/out' -prune -o -type f -print)
+SOURCES := crates.txt HANDLES $(shell find crates \( -name out -o -name must-fail -o -name wrong-bodies \) -prune -o -type f -print)
 BENCHES := codec links window host file
 
 .PHONY: all demo check wrong-bodies bench bench-show $(BENCHES:%=bench-%) install clean

@@ -305,7 +305,7 @@ def main():
     checks = Checks()
     for group in [reports, forms, names, longest_reports, limits, lines, writers, readers, typed_lines]:
         group(checks)
-    print(f"{checks.count} checks of the program, {checks.failed} failed")
+    print(f"{checks.count - checks.failed} passed, {checks.failed} failed")
     sys.exit(1 if checks.failed else 0)
 
 
