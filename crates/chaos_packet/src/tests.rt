@@ -1,3 +1,5 @@
+mod queues;
+
 use super::*;
 use arrayvec::ArrayVec;
 use std::test::Fail;
