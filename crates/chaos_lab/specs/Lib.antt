@@ -1,3 +1,9 @@
 pub mod Machine
 pub mod Numbers
 pub mod Law
+pub mod Shown
+pub mod Laboratory
+pub mod Tied
+pub mod Inside
+pub mod Makes
+pub mod Sound
