@@ -1,5 +1,5 @@
 -- An acceptance.
-use Rattle.std.proofs.Common.{◌≡◌, ℕ, suc, max, [], ◌∷◌, ◌++◌, length, drop, true, ltb, Some, None, Option, refl, sym, ap, ◌∙◌, subst, inl, inr, ◌⊎◌, arith, Result, Ok, Err}
+use Rattle.std.proofs.Common.{◌≡◌, ℕ, suc, max, [], ◌∷◌, ◌++◌, length, map, drop, true, ltb, Some, None, Option, refl, sym, ap, ◌∙◌, subst, inl, inr, ◌⊎◌, arith, Result, Ok, Err}
 use Rattle.std.specs.Prelude.{slice_get}
 use Rattle.std.specs.FinSet.{contains}
 use Rattle.std.proofs.lemmas.Bool.{cond_both, cond-true, cond-false, false_from_ne_true}
@@ -22,7 +22,8 @@ use Rattle.chaos_lab.proofs.Ends.{EndOk, Fits, IsNew}
 use Rattle.chaos_packet.specs.Item.{ItemView}
 use Rattle.chaos_packet.specs.Words.{halves}
 use Rattle.chaos_window.specs.Send.{SendView, after_push, started_send, clear_send}
-use Rattle.chaos_window.specs.Receive.{started_receive, after_advance, receipt_of}
+use Rattle.chaos_packet.specs.Packet.{item_of}
+use Rattle.chaos_window.specs.Receive.{ReceiveView, item_at, started_receive, after_advance, receipt_of}
 use Rattle.chaos_conn.specs.View.{ConnView, moment}
 use Rattle.chaos_conn.specs.Acted.{Acted, quietly}
 use Rattle.chaos_conn.proofs.Ended.{ended_is_over}
@@ -30,11 +31,11 @@ use Rattle.chaos_conn.specs.Opening.{Outcome, opening}
 use Rattle.chaos_conn.specs.Sending.{with_item, with_sts, sns_of, all_kept, packets_from, item_packet, packet_to_peer, carries_ack, is_rfc}
 use Rattle.chaos_conn.specs.Time.{act_tick}
 use Rattle.chaos_conn.specs.Opening.{act_accept, accepting, opn_item, closed_conn}
-use Rattle.chaos_conn.specs.Calls.{act_read, read_open, act_close, cls_of}
+use Rattle.chaos_conn.specs.Calls.{front_of}
 use Rattle.chaos_conn.specs.State.{is_ended}
 use Rattle.chaos_lab.specs.Shown.{Rest, send_view, recv_view, send_shown, recv_shown, there_at, shown, shown_in, shown_at, met_view, IsPut, Leaves, HasItems, IsFirst}
 use Rattle.chaos_lab.proofs.SendTie.{arrived_within}
-use Rattle.chaos_lab.proofs.RecvTie.{advanced_is, receipt_is}
+use Rattle.chaos_lab.proofs.RecvTie.{advanced_is, front_is, receipt_is}
 use Rattle.chaos_lab.proofs.TickTie.{item_put}
 use Rattle.chaos_lab.proofs.OpenEnd.{IsOpen, open_is}
 
@@ -42,11 +43,15 @@ use Rattle.chaos_lab.proofs.OpenEnd.{IsOpen, open_is}
 abbrev pub opn_of : ℕ → ℕ → ItemView
 opn_of b' cap = record { op = 2; body = halves (told_num b' 1 ∷ cap ∷ []) }
 
+-- the OPN alone went out
+abbrev pub Accepts : ItemView → Acted Outcome → Type 0
+Accepts opn acted = (acted.answer ≡ Ok tt) × (map item_of acted.packets ≡ opn ∷ [])
+
 -- an item goes out from an end that may write
 abbrev sends_first : ConnView → ItemView → Acted Outcome
 sends_first w item = with_item w item (Ok tt)
 
-accept_rfc : (rest : Rest) (b b' start now : ℕ) (first : ItemView) (e p : Plain) → is_ended rest.ended ≡ true → e.phase ≡ RfcReceived → Sound e p → Sound p e → EndOk B e → next_item p e ≡ Some first → Leaves B start b' p (record (read_item (Some first) e) { phase = Open; written = e.written ++ opn_of b' e.recv_cap ∷ [] }) (act_accept (shown_in st.RfcReceived B rest b b' p e) start now)
+accept_rfc : (rest : Rest) (b b' start now : ℕ) (first : ItemView) (e p : Plain) → is_ended rest.ended ≡ true → e.phase ≡ RfcReceived → Sound e p → Sound p e → EndOk B e → next_item p e ≡ Some first → Leaves B start b' p (record (read_item (Some first) e) { phase = Open; written = e.written ++ opn_of b' e.recv_cap ∷ [] }) (act_accept (shown_in st.RfcReceived B rest b b' p e) start now) × Accepts (opn_of b' e.recv_cap) (act_accept (shown_in st.RfcReceived B rest b b' p e) start now) × (front_of (shown_in st.RfcReceived B rest b b' p e) ≡ Some first)
 accept_rfc rest b b' start now first e p end at d back o next =
     let v : ConnView = shown_in st.RfcReceived B rest b b' p e in
     let opn : ItemView = opn_of b' e.recv_cap in
@@ -84,23 +89,35 @@ accept_rfc rest b b' start now first e p end at d back o next =
       users = λ n i h. let none : None ≡ Some i = sym (ap (λ ws. slice_get (ws ++ opn ∷ []) (suc n)) nil) ∙ h in absurd (cc);
     } in
     let opens : IsOpen p g = record { phase = refl; met = (omega (arith, more), omega (arith, longer)); reader = reader } in
-    subst (Leaves B start b' p g) (sym (ap opening starts ∙ ap (sends_first w) item))
-    (record {
-      rest = rest';
-      ended = end;
-      view = (λ j. record w { resent = t; send = send j }) ∙ sym (open_is B rest' start b' p g opens);
-      packets = All-push (IsPut B start b' g) [] _ (All-nil _)
-          (item_put B start b' 0 (num (off start 1) 1) opn p g w (record { me = refl; me_index = refl; peer = refl; met = λ i l u. (refl, refl, opens.met.0) }) its at_first (omega (arith, receipted)) (omega (arith, longer)) number);
-    })
+    let goes : act_accept v start now ≡ sends_first w opn = ap opening starts ∙ ap (sends_first w) item in (
+      subst (Leaves B start b' p g) (sym goes)
+          (record {
+            rest = rest';
+            ended = end;
+            view = (λ j. record w { resent = t; send = send j }) ∙ sym (open_is B rest' start b' p g opens);
+            packets = All-push (IsPut B start b' g) [] _ (All-nil _)
+                (item_put B start b' 0 (num (off start 1) 1) opn p g w (record { me = refl; me_index = refl; peer = refl; met = λ i l u. (refl, refl, opens.met.0) }) its at_first (omega (arith, receipted)) (omega (arith, longer)) number);
+          }),
+      subst (Accepts opn) (sym goes) (refl, refl),
+      ap (λ (u : ReceiveView). item_at u 1) (cond-true (contains e.arrived 0) (recv_view b' p e) (started_receive e.recv_cap 0) was.1) ∙ front_is b' p e o.caps.2 ∙ there,
+    )
   where
     some_is : {x y : ItemView} → Some x ≡ Some y → x ≡ y
     some_is h = cc
 
+-- it reads the RFC, and writes its OPN
+pub record Accepted (rest : Rest) (b b' start now : ℕ) (p e : Plain) (v : ConnView) : Type 0 where
+  pub item : ItemView
+  pub next : next_item p e ≡ Some item
+  pub leaves : Leaves B start b' p (record (read_item (next_item p e) e) { phase = Open; written = e.written ++ opn_of b' e.recv_cap ∷ [] }) (act_accept v start now)
+  pub accepts : Accepts (opn_of b' e.recv_cap) (act_accept v start now)
+  pub front : front_of v ≡ Some item
+
 -- an acceptance is refused, and changes nothing, or it is allowed in the plain machine and done
-pub accept_leaves : (rest : Rest) (b b' start now : ℕ) (e p : Plain) → is_ended rest.ended ≡ true → Sound e p → Sound p e → EndOk B e → (act_accept (shown B rest b b' p e) start now ≡ quietly (shown B rest b b' p e) (Err fa.WrongState)) ⊎ ((e.phase ≡ RfcReceived) × Leaves B start b' p (record (read_item (next_item p e) e) { phase = Open; written = e.written ++ opn_of b' e.recv_cap ∷ [] }) (act_accept (shown B rest b b' p e) start now))
+pub accept_leaves : (rest : Rest) (b b' start now : ℕ) (e p : Plain) → is_ended rest.ended ≡ true → Sound e p → Sound p e → EndOk B e → (act_accept (shown B rest b b' p e) start now ≡ quietly (shown B rest b b' p e) (Err fa.WrongState)) ⊎ ((e.phase ≡ RfcReceived) × Accepted rest b b' start now p e (shown B rest b b' p e))
 accept_leaves rest b b' start now e p end d back o = at_phase e.phase refl
   where
-    at_phase : (phase : Phase) → e.phase ≡ phase → (act_accept (shown_at phase B rest b b' p e) start now ≡ quietly (shown_at phase B rest b b' p e) (Err fa.WrongState)) ⊎ ((e.phase ≡ RfcReceived) × Leaves B start b' p (record (read_item (next_item p e) e) { phase = Open; written = e.written ++ opn_of b' e.recv_cap ∷ [] }) (act_accept (shown_at phase B rest b b' p e) start now))
+    at_phase : (phase : Phase) → e.phase ≡ phase → (act_accept (shown_at phase B rest b b' p e) start now ≡ quietly (shown_at phase B rest b b' p e) (Err fa.WrongState)) ⊎ ((e.phase ≡ RfcReceived) × Accepted rest b b' start now p e (shown_at phase B rest b b' p e))
     at_phase Inactive at = inl refl
     at_phase RfcSent at = inl refl
     at_phase Open at = inl refl
@@ -109,4 +126,14 @@ accept_leaves rest b b' start now e p end d back o = at_phase e.phase refl
     at_phase RfcReceived at =
         let was : IsNew B e.written e.read × (contains e.arrived 0 ≡ true) × ((i : ℕ) → contains e.arrived i ≡ true → i ≡ 0) = subst (λ (ph : Phase). Fits ph B e.written e.read e.arrived) at o.fits in
         let first = member_at p.written (length e.read) (back.within (length e.read) (ap (contains e.arrived) was.0.0 ∙ was.1)) in
-        inr (at, subst (λ (n : Option ItemView). Leaves B start b' p (record (read_item n e) { phase = Open; written = e.written ++ opn_of b' e.recv_cap ∷ [] }) (act_accept (shown_in st.RfcReceived B rest b b' p e) start now)) (sym first.1) (accept_rfc rest b b' start now first.0 e p end at d back o first.1))
+        let all = accept_rfc rest b b' start now first.0 e p end at d back o first.1 in
+        inr (
+          at,
+          record {
+            item = first.0;
+            next = first.1;
+            leaves = subst (λ (n : Option ItemView). Leaves B start b' p (record (read_item n e) { phase = Open; written = e.written ++ opn_of b' e.recv_cap ∷ [] }) (act_accept (shown_in st.RfcReceived B rest b b' p e) start now)) (sym first.1) all.0;
+            accepts = all.1;
+            front = all.2;
+          },
+        )

@@ -106,6 +106,17 @@ opened_leaves rest b b' r f w pk now e p len_e len_p end m at near t s =
     ∙ (λ j. with_sts (record (met_view st.Open A (record (heard_rest rest now) { probed = max rest.last now }) b b' p e) { peer_index = Some (s.header.src_index j); send = send j; recv = recv j }) de.Opened)))
     (leaves_sts de.Opened A (record (heard_rest rest now) { probed = max rest.last now }) b b' p g end o))
 
+-- and it is answered that it opened the end
+pub opened_answer : (rest : Rest) (b b' r f w : ℕ) (pk : PacketView) (now : ℕ) (e p : Plain) (len_e len_p : ℕ) → Known A b b' e p len_e len_p → e.phase ≡ RfcSent → StandsFor B b' b p pk (Nth 0) (Status r f w) → (act_deliver (shown_in st.RfcSent A rest b b' p e) pk now).answer ≡ de.Opened
+opened_answer rest b b' r f w pk now e p len_e len_p m at s =
+    let v : ConnView = shown_in st.RfcSent A rest b b' p e in
+    let kind : kind_of pk.op ≡ k.Opn = ap kind_of (m.items.first (record { op = pk.op; body = pk.body }) s.what.0).0 in
+    let new : IsNew A e.written e.read × IsNone e.arrived = subst (λ (ph : Phase). Fits ph A e.written e.read e.arrived) at m.ok.fits in
+    ap (λ a. a.answer)
+    (to_asked rest b b' pk now p e (Nth 0) new.0.0 s.header s.header.dst_index (ap is_rfc kind)
+    ∙ ap (deliver_asking v pk now) kind
+    ∙ ap (after_opn_telling v pk now) s.tells.1)
+
 -- what isn't for it
 asked_other : (kind : Kind) (rest : Rest) (b b' : ℕ) (pk : PacketView) (now : ℕ) (p e : Plain) (op : OpKind) → e.phase ≡ RfcSent → length e.read ≡ 0 → is_ended rest.ended ≡ true → HasHeader B pk kind → pk.dst_index ≡ 1 → kind_of pk.op ≡ op → is_rfc op ≡ false → deliver_asking (shown_in st.RfcSent A rest b b' p e) pk now op ≡ dropped (shown_in st.RfcSent A rest b b' p e) wh.NotOpen → Leaves A b b' p e (act_deliver (shown_in st.RfcSent A rest b b' p e) pk now)
 asked_other kind rest b b' pk now p e op at none end h index is not_rfc drops =

@@ -26,3 +26,14 @@ pub mod AcceptTie
 pub mod Refusals
 pub mod Made
 pub mod Happening
+pub mod TiedOn
+pub mod Items
+pub mod Opened
+pub mod Rebase
+pub mod StartTie
+pub mod OnSide
+pub mod UserTies
+pub mod CopyTies
+pub mod LabTies
+pub mod Runs
+pub mod HeadlineLaw

@@ -4,6 +4,7 @@ pub mod Law
 pub mod Shown
 pub mod Laboratory
 pub mod Tied
+pub mod Headline
 pub mod Inside
 pub mod Makes
 pub mod Sound

@@ -1,7 +1,7 @@
--- What holds in every laboratory.
+-- What holds in every rig.
 use Rattle.std.specs.Prelude.{◌≡◌, ◌≤◌, []}
 use Rattle.chaos_window.specs.declared.limits.TheConstants.{MAX_WINDOW}
-use Rattle.chaos_lab.specs.declared.lab.Lab.TheInside.{Inside}
+use Rattle.chaos_lab.specs.declared.rig.Rig.TheInside.{Inside}
 use Rattle.chaos_lab.specs.Laboratory.{LabView}
 use Rattle.chaos_lab.specs.Inside.{end_view}
 

@@ -1,55 +1,47 @@
 //! The laboratory.
-ghost use Rattle.std.specs.Prelude.{◌≡◌, ℕ, ◌<◌, ◌+◌, ◌-◌, ◌≤◌, [], ◌∷◌, ◌++◌, length, map, Option, Some, None, Ok, Err, IfOk, IfErr, OnErr, OnOk, slice_get, nat_lt, vec_len, vec_capacity, ◌⊎◌};
-ghost use Rattle.chaos_lab.specs.Machine.{other, fresh_span};
-ghost use Rattle.chaos_conn.specs.Act.Call.{Accept, Close, Deliver, Read, TakeRequest, Tick, Write};
-ghost use Rattle.chaos_lab.specs.declared.side.Side.TheVariants.{B};
+ghost use Rattle.std.specs.Prelude.{◌≡◌, ℕ, List, ◌∷◌, map, IfOk, OnOk, OnErr};
 ghost use Rattle.chaos_conn.specs.Stored.{stored_packets, stored_bytes};
-ghost use Rattle.chaos_lab.specs.Shown.{place_of};
-ghost use Rattle.chaos_lab.specs.Laboratory.{Happens, lab_end, lab_start, after_all, StopsWithin, Calls, CallsWith, is_fresh, is_request, stamp};
+ghost use Rattle.chaos_packet.specs.Begins.{Begins};
+ghost use Rattle.chaos_packet.specs.Packet.{item_of};
+ghost use Rattle.chaos_lab.specs.declared.side.Side.{Side};
+ghost use Rattle.chaos_lab.specs.declared.stamped.Stamped.{Stamped};
+ghost use Rattle.chaos_lab.specs.Machine.{Machine, Step, Run, other};
+ghost use Rattle.chaos_lab.specs.Laboratory.{Happening, Happens, lab_end, lab_start, after_all, StopsWithin};
 ghost use Rattle.chaos_lab.specs.Laboratory.Happening.{DeliverCopy};
-ghost use Rattle.chaos_lab.specs.Inside.{end_view, happening_of, HasRoom};
-ghost use Rattle.chaos_lab.specs.Makes.{MakesAt};
+ghost use Rattle.chaos_lab.specs.Headline.{ComesInside, Unclosed, ReadsInTurn};
+ghost use Rattle.chaos_lab.specs.Inside.{happening_of};
+ghost use Rattle.chaos_lab.specs.Tied.{Ties, HasMachine, lab_machine, plain_event, plain_run};
 
 use crate::event::{Event, Stepped};
 use crate::fault::LabFault;
-use crate::both_ends::BothEnds;
-use crate::lab_end::LabEnd;
+use crate::rig::Rig;
 use crate::side::Side;
 use crate::stamped::Stamped;
 use chaos_conn::ConnConfig;
-use chaos_packet::{Item, Kind, Opcode, Outbox, PktNum};
-use chaos_window::MAX_WINDOW;
+use chaos_packet::{Item, PktNum};
 use std::alloc::{AllocError, Global};
 use std::marker::Model;
 
-/// How many items either end may write before a copy is stale.
-const FRESH_SPAN: usize = 32_640;
-
-/// Two ends of one connection, and every packet that was ever sent between them.
+/// Two ends of one connection, and every packet that was ever sent between them. A contract sees both connections with all that
+/// each wrote and its user read, and the packets with their stamps.
+///
+/// In every laboratory both connections and all packets stand for a state of the plain machine (`Ties`), and each event that is
+/// taken is a step of that machine. So what [`crate::law_delivery`] says of the machine holds of the two connections:
+/// [`Lab::law_headline`].
 #[derive(Drop)]
 pub struct Lab {
-    ends: BothEnds,
-    /// Every packet that was sent, the oldest first.
-    copies: Vec<Stamped>,
-    /// Whether B took a request.
-    asked: bool,
-    /// The greatest moment that was ticked.
-    clock: u64,
-    /// Empty between two events.
-    out: Outbox,
+    rig: Rig,
 }
 
 impl Model for Lab {
-    ghost use Rattle.std.specs.Prelude.{◌≡◌, ◌≤◌, []};
     ghost use Rattle.chaos_lab.specs.Laboratory.{LabView};
-    ghost use Rattle.chaos_lab.specs.Inside.{end_view};
-    ghost use Rattle.chaos_lab.specs.Sound.{lab_view, IsSound};
+    ghost use Rattle.chaos_lab.specs.Tied.{HasMachine};
 
     ghost Value = { LabView };
 
-    ghost view = { lab_view };
+    ghost view = { λ s. s.rig };
 
-    ghost invariant = { IsSound };
+    ghost invariant = { λ s. HasMachine s.rig };
 }
 
 impl Lab {
@@ -61,60 +53,25 @@ impl Lab {
         config_b: ConnConfig,
         start_a: PktNum,
     ) -> Result<Self, AllocError>
-        ensures { IfOk result (λ lab. lab ≡ lab_start config_a config_b start_a) }
+        ensures start { IfOk result (λ lab. lab ≡ lab_start config_a config_b start_a) }
+        // which stands for the plain machine's start
+        ensures machine { IfOk result (λ lab. Ties (lab_machine config_a config_b) lab) }
     {
-        let mut out = Outbox::new(alloc, MAX_WINDOW as usize)?;
-        let a = LabEnd::asking(alloc, config_a, start_a, &mut out)?;
-        let b = LabEnd::new(alloc, config_b)?;
-        let (_, _) = (config_a.send_cap(), config_b.send_cap());
-        let mut copies = Vec::with_capacity(alloc, MAX_WINDOW as usize)?;
-        let ends = BothEnds { a, b };
-        post(&mut copies, &mut out, Side::A, &ends);
-        Ok(Lab {
-            ends,
-            copies,
-            asked: false,
-            clock: 0,
-            out,
-        })
+        let rig = Rig::new(alloc, config_a, config_b, start_a)?;
+        Ok(Lab { rig })
     }
 
-    /// All that an end wrote, its item 0 first.
-    pub fn written(&self, side: Side) -> &[Item]
-        ensures { result.now ≡ (lab_end self.now side).written }
+    /// Lets an event happen. A call without a moment of its own gets the greatest one that was ticked.
+    ///
+    /// Refused, in this order: `NoSuchCopy` where the copy isn't there; `Stale` where an end has written 32,640 items or more
+    /// since it was sent; `NoMemory` where one of the lists can't grow; `Refused` where the connection refuses its call. Nothing
+    /// changes then.
+    pub fn step(&mut self, _alloc: Global, event: &Event<'_>) -> Result<Stepped, LabFault>
+        ensures happens { Happens self.old (happening_of event.now) self.new result }
+        // an event that is taken is a step of the plain machine, of the row that the table has for it
+        ensures machine { IfOk result (λ _. (m : Machine) → Ties m self.old → (n : Machine) × Step m (plain_event self.old (happening_of event.now)) n × Ties n self.new) }
     {
-        match side {
-            Side::A => self.ends.a.written.as_slice(),
-            Side::B => self.ends.b.written.as_slice(),
-        }
-    }
-
-    /// All that the user at an end read, item 0 of the other end first.
-    pub fn read(&self, side: Side) -> &[Item]
-        ensures { result.now ≡ (lab_end self.now side).read }
-    {
-        match side {
-            Side::A => self.ends.a.read.as_slice(),
-            Side::B => self.ends.b.read.as_slice(),
-        }
-    }
-
-    /// Every packet that was sent, with its stamp, the oldest first. An event names a copy by its place here.
-    pub fn copies(&self) -> &[Stamped]
-        ensures { result.now ≡ self.now.copies }
-    {
-        self.copies.as_slice()
-    }
-
-    /// How many packets an end stores, and their bytes with a header for each.
-    pub fn stored(&self, side: Side) -> (usize, usize)
-        ensures packets { result.0 ≡ stored_packets (lab_end self.now side).conn }
-        ensures bytes { result.1 ≡ stored_bytes (lab_end self.now side).conn }
-    {
-        match side {
-            Side::A => self.ends.a.conn.stored(),
-            Side::B => self.ends.b.conn.stored(),
-        }
+        self.rig.step(event)
     }
 
     /// Lets events happen, one after the other. A refused event changes nothing, and the next one follows. Where there is no
@@ -122,184 +79,51 @@ impl Lab {
     pub fn run(&mut self, _alloc: Global, events: &[Event<'_>]) -> Result<(), AllocError>
         ensures all { OnOk result (self.new ≡ after_all self.old (map happening_of events.now)) }
         ensures no_memory { OnErr result (StopsWithin self.old (map happening_of events.now) self.new) }
+        // the events that were taken are a run of the plain machine
+        ensures machine { OnOk result ((m : Machine) → Ties m self.old → (n : Machine) × Run m (plain_run self.old (map happening_of events.now)) n × Ties n self.new) }
     {
-        for event in events {
-            if let Err(LabFault::NoMemory) = self.happen(event) {
-                return Err(AllocError);
-            }
-        }
-        Ok(())
+        self.rig.run(events)
     }
 
-    /// Lets an event happen.
-    pub fn step(&mut self, _alloc: Global, event: Event<'_>) -> Result<Stepped, LabFault>
-        ensures { Happens self.old (happening_of event.entry) self.new result }
+    /// All that an end wrote, its item 0 first.
+    pub fn written(&self, side: Side) -> &[Item]
+        ensures { result.now ≡ (lab_end self.now side).written }
     {
-        let event = event;
-        self.happen(&event)
+        self.rig.written(side)
     }
 
-    /// Lets an event happen.
-    fn happen(&mut self, event: &Event<'_>) -> Result<Stepped, LabFault>
-        ensures { Happens self.old (happening_of event.now) self.new result }
+    /// All that the user at an end read, item 0 of the other end first.
+    pub fn read(&self, side: Side) -> &[Item]
+        ensures { result.now ≡ (lab_end self.now side).read }
     {
-        match event {
-            Event::Write(side, op, bytes) => self.write(*side, *op, bytes),
-            Event::Read(side) => self.read_next(*side),
-            Event::Tick(side, moment) => self.tick(*side, *moment),
-            Event::Close(side, text) => self.close(*side, text),
-            Event::Accept(start) => self.accept(*start),
-            Event::Deliver(k) => self.deliver(*k),
-        }
+        self.rig.read(side)
     }
 
-    /// A user writes an item.
-    fn write(&mut self, side: Side, op: Opcode, bytes: &[u8]) -> Result<Stepped, LabFault>
-        ensures { Calls self.old side (Write op bytes.now self.old.clock) self.new result }
+    /// Every packet that was sent, with its stamp, the oldest first. An event names a copy by its place here.
+    pub fn copies(&self) -> &[Stamped]
+        ensures { result.now ≡ self.now.copies }
     {
-        grow(&mut self.ends, &mut self.copies)?;
-        let stepped = self.ends.write(side, op, bytes, self.clock, &mut self.out)?;
-        post(&mut self.copies, &mut self.out, side, &self.ends);
-        Ok(stepped)
+        self.rig.copies()
     }
 
-    /// A user reads.
-    fn read_next(&mut self, side: Side) -> Result<Stepped, LabFault>
-        ensures { Calls self.old side Read self.new result }
+    /// How many packets an end stores, and their bytes with a header for each.
+    pub fn stored(&self, side: Side) -> (usize, usize)
+        ensures packets { result.0 ≡ stored_packets (lab_end self.now side).conn }
+        ensures bytes { result.1 ≡ stored_bytes (lab_end self.now side).conn }
     {
-        grow(&mut self.ends, &mut self.copies)?;
-        let stepped = self.ends.read(side, &mut self.out)?;
-        post(&mut self.copies, &mut self.out, side, &self.ends);
-        Ok(stepped)
+        self.rig.stored(side)
     }
 
-    /// An end gets its own moment.
-    fn tick(&mut self, side: Side, moment: u64) -> Result<Stepped, LabFault>
-        ensures { Calls self.old side (Tick moment) self.new result }
+    /// What is true of every laboratory, whatever happened in it and whatever will.
+    pub fn law_headline(&self)
+        // both connections and all packets stand for a state of the plain machine
+        ensures machine { HasMachine self.now }
+        // in each direction, what was read is a beginning of what was written
+        ensures beginning { (x : Side) → Begins (lab_end self.now (other x)).read (lab_end self.now x).written }
+        // an item that comes to an open end inside its window is what a read answers in its turn, until the end's own user closes
+        ensures in_turn { (copy : ℕ) (s : Stamped) (i : ℕ) (events : List Happening) → ComesInside self.now copy s i → Unclosed (other s.side) events →
+            ReadsInTurn (after_all self.now (DeliverCopy copy ∷ events)) (other s.side) i (item_of s.packet) }
     {
-        grow(&mut self.ends, &mut self.copies)?;
-        let stepped = self.ends.tick(side, moment, &mut self.out)?;
-        self.clock = self.clock.max(moment);
-        post(&mut self.copies, &mut self.out, side, &self.ends);
-        Ok(stepped)
-    }
-
-    /// A user closes its end.
-    fn close(&mut self, side: Side, text: &[u8]) -> Result<Stepped, LabFault>
-        ensures { Calls self.old side (Close text.now) self.new result }
-    {
-        grow(&mut self.ends, &mut self.copies)?;
-        let stepped = self.ends.close(side, text, &mut self.out)?;
-        post(&mut self.copies, &mut self.out, side, &self.ends);
-        Ok(stepped)
-    }
-
-    /// B's user accepts the request.
-    fn accept(&mut self, start: PktNum) -> Result<Stepped, LabFault>
-        ensures { Calls self.old B (Accept start self.old.clock) self.new result }
-    {
-        grow(&mut self.ends, &mut self.copies)?;
-        let stepped = self.ends.accept(start, self.clock, &mut self.out)?;
-        post(&mut self.copies, &mut self.out, Side::B, &self.ends);
-        Ok(stepped)
-    }
-
-    /// A copy comes to the end that it was sent to.
-    fn deliver(&mut self, k: usize) -> Result<Stepped, LabFault>
-        ensures { Happens self.old (DeliverCopy k) self.new result }
-    {
-        let Some(copy) = self.copies.get(k) else {
-            return Err(LabFault::NoSuchCopy);
-        };
-        if !is_fresh(&self.ends, copy) {
-            return Err(LabFault::Stale);
-        }
-        if is_request(self.asked, copy) {
-            return self.take_request(k);
-        }
-        self.deliver_packet(k)
-    }
-
-    /// B takes the request that a copy carries.
-    fn take_request(&mut self, k: usize) -> Result<Stepped, LabFault>
-        ensures { CallsWith (slice_get self.old.copies k) (λ copy. Calls self.old B (TakeRequest copy.packet (place_of B) self.old.clock) self.new result) }
-    {
-        grow(&mut self.ends, &mut self.copies)?;
-        let Some(copy) = self.copies.get(k) else {
-            return Err(LabFault::NoSuchCopy);
-        };
-        let stepped = self.ends.take_request(&copy.packet, self.clock, &mut self.out)?;
-        self.asked = true;
-        post(&mut self.copies, &mut self.out, Side::B, &self.ends);
-        Ok(stepped)
-    }
-
-    /// A copy comes as a packet of the connection.
-    fn deliver_packet(&mut self, k: usize) -> Result<Stepped, LabFault>
-        ensures { CallsWith (slice_get self.old.copies k) (λ copy. Calls self.old (other copy.side) (Deliver copy.packet self.old.clock) self.new result) }
-    {
-        grow(&mut self.ends, &mut self.copies)?;
-        let Some(copy) = self.copies.get(k) else {
-            return Err(LabFault::NoSuchCopy);
-        };
-        let side = copy.side.other();
-        let stepped = self.ends.deliver(side, &copy.packet, self.clock, &mut self.out)?;
-        post(&mut self.copies, &mut self.out, side, &self.ends);
-        Ok(stepped)
-    }
-}
-
-/// Makes room for all that one call may add.
-fn grow(ends: &mut BothEnds, copies: &mut Vec<Stamped>) -> Result<(), LabFault>
-    ensures ends { (end_view ends.new.a ≡ end_view ends.old.a) × (end_view ends.new.b ≡ end_view ends.old.b) }
-    ensures copies { copies.new.items ≡ copies.old.items }
-    ensures room { OnOk result (HasRoom ends.new.a × HasRoom ends.new.b × (vec_len copies.new + MAX_WINDOW ≤ vec_capacity copies.new)) }
-    ensures err { IfErr result (λ fault. fault ≡ LabFault.NoMemory) }
-{
-    if ends.grow().is_err() || copies.reserve(MAX_WINDOW as usize).is_err() {
-        return Err(LabFault::NoMemory);
-    }
-    Ok(())
-}
-
-/// Whether each end has written few enough items since a copy was sent.
-fn is_fresh(ends: &BothEnds, copy: &Stamped) -> bool
-    ensures { result ≡ is_fresh (end_view ends.now.a) (end_view ends.now.b) copy.now }
-{
-    is_near(ends.a.written.len(), copy.len_a) && is_near(ends.b.written.len(), copy.len_b)
-}
-
-/// Whether a length exceeds its stamp by less than what makes a copy stale.
-fn is_near(len: usize, stamp: usize) -> bool
-    ensures { result ≡ nat_lt (len - stamp) fresh_span }
-{
-    len.saturating_sub(stamp) < FRESH_SPAN
-}
-
-/// Whether a copy asks B, which took no request yet.
-fn is_request(asked: bool, copy: &Stamped) -> bool
-    ensures { result ≡ is_request asked copy.now }
-{
-    copy.side == Side::A && !asked && copy.packet.op.kind() == Kind::Rfc
-}
-
-/// Takes what was put out into the copies.
-fn post(copies: &mut Vec<Stamped>, out: &mut Outbox, side: Side, ends: &BothEnds)
-    requires few { length out.old.packets ≤ MAX_WINDOW }
-    requires room { vec_len copies.old + MAX_WINDOW ≤ vec_capacity copies.old }
-    ensures copies { copies.new.items ≡ copies.old.items ++ map (stamp side (length ends.now.a.written.items) (length ends.now.b.written.items)) out.old.packets }
-    ensures out { out.new ≡ record out.old { packets = [] } }
-{
-    let (len_a, len_b) = (ends.a.written.len(), ends.b.written.len());
-    for _ in 0..MAX_WINDOW {
-        let Some(packet) = out.take() else {
-            break;
-        };
-        copies.push_reserved(Stamped {
-            side,
-            packet,
-            len_a,
-            len_b,
-        });
+        let _ = &self.rig;
     }
 }

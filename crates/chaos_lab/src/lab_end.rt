@@ -69,12 +69,15 @@ impl LabEnd {
         requires empty { out.old.packets ≡ [] }
         requires fits { 0 < out.old.cap }
         ensures end { IfOk result (λ e. end_view e ≡ record { conn = (lab_request config start).view; first = start; written = rfc_item lab_contact ∷ []; read = [] }) }
+        ensures number { IfOk result (λ e. start < 65536) }
         ensures packets { IfOk result (λ e. out.new ≡ record out.old { packets = (lab_request config start).packets }) }
     {
         let mut end = LabEnd::new(alloc, config)?;
         end.first = start;
         end.written.push(Item::new(Opcode::RFC, CONTACT))?;
-        let _ = end.conn.request(PLACE_A, PLACE_B.address, CONTACT, start, 0, out);
+        let _ = end
+            .conn
+            .request(PLACE_A, PLACE_B.address, CONTACT, start, 0, out);
         Ok(end)
     }
 
@@ -137,7 +140,8 @@ impl LabEnd {
     {
         let delivered = self.conn.deliver(packet, now, out);
         if let Delivered::Opened = &delivered {
-            self.read.push_reserved(Item::new(packet.op, packet.bytes()));
+            self.read
+                .push_reserved(Item::new(packet.op, packet.bytes()));
         }
         Ok(Stepped::Delivered(delivered))
     }
@@ -164,7 +168,12 @@ impl LabEnd {
     }
 
     /// Takes a request.
-    pub(crate) fn take_request(&mut self, rfc: &Packet, now: u64, out: &mut Outbox) -> Result<Stepped, LabFault>
+    pub(crate) fn take_request(
+        &mut self,
+        rfc: &Packet,
+        now: u64,
+        out: &mut Outbox,
+    ) -> Result<Stepped, LabFault>
         requires empty { out.old.packets ≡ [] }
         ensures { Makes (end_view self.old) (TakeRequest rfc.now (place_of B) now) (end_view self.new) out.old out.new result }
     {
@@ -175,7 +184,12 @@ impl LabEnd {
     }
 
     /// Accepts the request, which is read by that.
-    pub(crate) fn accept(&mut self, start: PktNum, now: u64, out: &mut Outbox) -> Result<Stepped, LabFault>
+    pub(crate) fn accept(
+        &mut self,
+        start: PktNum,
+        now: u64,
+        out: &mut Outbox,
+    ) -> Result<Stepped, LabFault>
         requires room { HasRoom self.old }
         requires empty { out.old.packets ≡ [] }
         requires fits { 0 < out.old.cap }

@@ -14,6 +14,7 @@ mod fault;
 mod lab;
 mod lab_end;
 mod law;
+mod rig;
 mod side;
 mod stamped;
 #[cfg(test)]

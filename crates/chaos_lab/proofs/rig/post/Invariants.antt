@@ -1,6 +1,6 @@
 use Rattle.std.proofs.Common.{◌≡◌, ◌+◌, ◌≤◌, ◌++◌, length, map, vec_len, vec_capacity}
 use Rattle.chaos_lab.specs.Laboratory.{stamp}
-use Rattle.chaos_lab.proofs.lab.post.Given as goal
+use Rattle.chaos_lab.proofs.rig.post.Given as goal
 
 -- what was put out is in the copies, or still to come
 abbrev pub invariant-loop : goal.invariant-loop

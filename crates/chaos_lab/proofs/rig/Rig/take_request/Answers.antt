@@ -3,7 +3,7 @@ use Rattle.std.proofs.lemmas.Option.{gets}
 use Rattle.chaos_conn.specs.Act.Call.{TakeRequest}
 use Rattle.chaos_lab.specs.declared.side.Side.TheVariants.{B}
 use Rattle.chaos_lab.specs.Shown.{place_of}
-use Rattle.chaos_lab.proofs.lab.Lab.take_request.Goals as goal
+use Rattle.chaos_lab.proofs.rig.Rig.take_request.Goals as goal
 use Rattle.chaos_lab.proofs.Made.{AreSame, makes_at_err, makes_ok}
 
 -- a refused request changes nothing

@@ -1,5 +1,5 @@
 use Rattle.std.proofs.Common.{rules, ◌≡◌, Err}
-use Rattle.chaos_lab.proofs.lab.Lab.write.Goals as goal
+use Rattle.chaos_lab.proofs.rig.Rig.write.Goals as goal
 use Rattle.chaos_lab.proofs.Made.{makes_at_err}
 
 -- a refused write changes nothing
