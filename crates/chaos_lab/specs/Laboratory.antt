@@ -16,7 +16,7 @@ use Rattle.chaos_conn.specs.Opening.{Outcome, act_request, rfc_item}
 use Rattle.chaos_conn.specs.Calls.{front_of}
 use Rattle.chaos_conn.specs.Act.{Call, Reply, act}
 use Rattle.chaos_conn.specs.Act.Call.{TakeRequest, Accept, Deliver, Write, Read, Close, Tick}
-use Rattle.chaos_conn.specs.Act.Reply.{Did, Came, Wrote, Gave, Ticks}
+use Rattle.chaos_conn.specs.Act.Reply.{Did, Came, Wrote, Gave, Ticks, Finished}
 use Rattle.chaos_lab.specs.declared.side.Side.{Side}
 use Rattle.chaos_lab.specs.declared.side.Side.TheVariants.{A, B}
 use Rattle.chaos_lab.specs.declared.stamped.Stamped.{Stamped}
@@ -88,6 +88,7 @@ abbrev pub answer_of : Call → Reply → Stepped
 answer_of call (Wrote (Ok number)) = stepped.Wrote number
 answer_of call (Wrote (Err why)) = stepped.Closed
 answer_of call (Gave given) = stepped.Read given
+answer_of call (Finished done) = stepped.Closed
 answer_of call (Ticks ticked) = stepped.Ticked ticked
 answer_of call (Came delivered) = stepped.Delivered delivered
 answer_of (Accept start now) (Did done) = stepped.Accepted start
