@@ -7,113 +7,129 @@ use std::alloc::Global;
 use std::process::Abort;
 use std::test::Fail;
 
-/// The data byte of the item with a number.
-fn byte_of(num: u16) -> u8 {
-    (num % 256) as u8
+/// A call and what it is to answer, or what is wanted of the window after the calls so far. The data byte of an item is
+/// the low half of its number.
+#[derive(Drop)]
+enum Step {
+    /// The item with this number arrives.
+    Arrive(u16, Arrived),
+    /// The item with this number arrives lent.
+    Lent(u16, Arrived),
+    /// The item with this number is read.
+    Read(u16),
+    /// The item with this number is lent, and then dropped.
+    Discard(u16),
+    /// Nothing can be read.
+    Nothing,
+    Clear,
+    /// The number last read, the receipt, and how many items are held.
+    Stands(u16, u16, usize),
 }
 
-/// Hands in a data item with each of these numbers, and holds the answer against the one that is wanted.
-fn arrive_each<W: Receives>(
-    rt: &impl Abort,
-    window: &mut W,
-    lent: bool,
-    wanted: &[(u16, Arrived)],
-) {
-    for (num, answer) in wanted {
-        let bytes = [byte_of(*num)];
-        let arrived = if lent {
-            window.arrive_lent(PktNum(*num), Opcode::DATA, &bytes)
-        } else {
-            window.arrive(PktNum(*num), Item::new(Opcode::DATA, &bytes))
-        };
-        assert!(rt; arrived == *answer, "the item {num}");
+/// The data bytes of the item with a number.
+fn bytes_of(num: u16) -> [u8; 1] {
+    [(num % 256) as u8]
+}
+
+/// Makes a call, or holds the window against what is wanted.
+fn take<W: Receives>(rt: &impl Abort, window: &mut W, step: &Step) {
+    match step {
+        Step::Arrive(num, wanted) => {
+            let item = Item::new(Opcode::DATA, &bytes_of(*num));
+            let arrived = window.arrive(PktNum(*num), item);
+            assert!(rt; arrived == *wanted, "the item {num}");
+        }
+        Step::Lent(num, wanted) => {
+            let arrived = window.arrive_lent(PktNum(*num), Opcode::DATA, &bytes_of(*num));
+            assert!(rt; arrived == *wanted, "the item {num}");
+        }
+        Step::Read(num) => {
+            let item = Item::new(Opcode::DATA, &bytes_of(*num));
+            assert!(rt; window.advance() == Some(item), "the item {num}");
+        }
+        Step::Discard(num) => {
+            let front = window.front().map(|item| item.bytes());
+            assert!(rt; front == Some(bytes_of(*num).as_slice()), "the item {num}");
+            assert!(rt; window.discard(), "the item {num}");
+        }
+        Step::Nothing => {
+            assert!(rt; window.held_at(1).is_none());
+            assert!(rt; window.advance().is_none());
+            assert!(rt; !window.discard());
+        }
+        Step::Clear => window.clear(),
+        Step::Stands(read, receipt, held) => {
+            let stands = (window.read_num().0, window.receipt().0, window.held());
+            assert_eq!(rt; stands, (*read, *receipt, *held));
+        }
     }
 }
 
-/// Reads the items with these numbers, and then no more.
-fn read_each<W: Receives>(rt: &impl Abort, window: &mut W, nums: &[u16]) {
-    for num in nums {
-        let item = Item::new(Opcode::DATA, &[byte_of(*num)]);
-        assert!(rt; window.advance() == Some(item), "the item {num}");
-    }
-    assert!(rt; window.advance().is_none());
-}
-
-/// Drops the items with these numbers, and then no more.
-fn discard_each<W: Receives>(rt: &impl Abort, window: &mut W, nums: &[u16]) {
-    for num in nums {
-        let front = window.front().map(|item| item.bytes());
-        assert!(rt; front == Some([byte_of(*num)].as_slice()), "the item {num}");
-        assert!(rt; window.discard(), "the item {num}");
-    }
-    assert!(rt; !window.discard());
-}
-
-fn read_in_order<W: Receives + Drop>(
-    rt: &impl Abort,
-    alloc: Global,
-    lent: bool,
-) -> Result<(), Fail> {
+/// Takes the steps in a window of cap 3 that last read 65535.
+fn walk<W: Receives + Drop>(rt: &impl Abort, alloc: Global, steps: &[Step]) -> Result<(), Fail> {
     let mut window = W::started(alloc, 3, PktNum(65535))?;
-    let early = [(2, Arrived::Took), (0, Arrived::Took), (1, Arrived::Took)];
-    arrive_each(rt, &mut window, lent, &early);
-    assert_eq!(rt; window.held(), 3);
-    read_each(rt, &mut window, &[0, 1, 2]);
-    assert!(rt; window.read_num() == PktNum(2));
-    let past = [
-        (2, Arrived::Duplicate),
-        (32769, Arrived::Outside),
-        (32770, Arrived::Duplicate),
-    ];
-    arrive_each(rt, &mut window, lent, &past);
-    // Past the end of the ring, and in front of it again.
-    arrive_each(
-        rt,
-        &mut window,
-        lent,
-        &[
-            (4, Arrived::Took),
-            (3, Arrived::Took),
-            (3, Arrived::Duplicate),
-        ],
-    );
-    discard_each(rt, &mut window, &[3, 4]);
-    arrive_each(
-        rt,
-        &mut window,
-        lent,
-        &[(7, Arrived::Took), (5, Arrived::Took)],
-    );
-    discard_each(rt, &mut window, &[5]);
-    window.clear();
-    assert!(rt; window.held() == 0 && window.read_num() == PktNum(0));
-    Ok(())
-}
-
-fn gap_hides_the_front<W: Receives + Drop>(rt: &impl Abort, alloc: Global) -> Result<(), Fail> {
-    let mut window = W::started(alloc, 3, PktNum(65535))?;
-    arrive_each(rt, &mut window, false, &[(1, Arrived::Took)]);
-    assert!(rt; window.front().is_none());
-    assert!(rt; window.held_at(2).map(|item| item.bytes()) == Some([1].as_slice()));
     assert_eq!(rt; window.cap(), 3);
-    assert!(rt; window.receipt() == PktNum(65535));
-    arrive_each(rt, &mut window, true, &[(0, Arrived::Took)]);
-    assert!(rt; window.receipt() == PktNum(1));
-    read_each(rt, &mut window, &[0, 1]);
+    for step in steps {
+        take(rt, &mut window, step);
+    }
     Ok(())
 }
 
 #[test]
 fn items_are_read_in_the_order_of_their_numbers(rt: HostRuntime) -> Result<(), Fail> {
-    for lent in [false, true] {
-        read_in_order::<RecvWindow>(&rt, rt.alloc(), lent)?;
-        read_in_order::<PlainReceive>(&rt, rt.alloc(), lent)?;
-    }
-    Ok(())
+    let steps = [
+        Step::Arrive(2, Arrived::Took),
+        Step::Arrive(0, Arrived::Took),
+        Step::Arrive(1, Arrived::Took),
+        Step::Stands(65535, 2, 3),
+        Step::Read(0),
+        Step::Read(1),
+        Step::Read(2),
+        Step::Nothing,
+        Step::Arrive(2, Arrived::Duplicate),
+        Step::Arrive(32769, Arrived::Outside),
+        Step::Arrive(32770, Arrived::Duplicate),
+        Step::Stands(2, 2, 0),
+    ];
+    walk::<RecvWindow>(&rt, rt.alloc(), &steps)?;
+    walk::<PlainReceive>(&rt, rt.alloc(), &steps)
+}
+
+#[test]
+fn lent_items_are_copied_and_discarded_in_the_order_of_their_numbers(
+    rt: HostRuntime,
+) -> Result<(), Fail> {
+    let steps = [
+        Step::Lent(2, Arrived::Took),
+        Step::Lent(0, Arrived::Took),
+        Step::Lent(0, Arrived::Duplicate),
+        Step::Lent(3, Arrived::Outside),
+        Step::Discard(0),
+        Step::Nothing,
+        Step::Lent(3, Arrived::Took),
+        Step::Lent(1, Arrived::Took),
+        Step::Discard(1),
+        Step::Discard(2),
+        Step::Discard(3),
+        Step::Stands(3, 3, 0),
+        Step::Clear,
+        Step::Stands(0, 0, 0),
+    ];
+    walk::<RecvWindow>(&rt, rt.alloc(), &steps)?;
+    walk::<PlainReceive>(&rt, rt.alloc(), &steps)
 }
 
 #[test]
 fn a_gap_hides_the_front_until_it_is_filled(rt: HostRuntime) -> Result<(), Fail> {
-    gap_hides_the_front::<RecvWindow>(&rt, rt.alloc())?;
-    gap_hides_the_front::<PlainReceive>(&rt, rt.alloc())
+    let steps = [
+        Step::Arrive(1, Arrived::Took),
+        Step::Nothing,
+        Step::Stands(65535, 65535, 1),
+        Step::Arrive(0, Arrived::Took),
+        Step::Stands(65535, 1, 2),
+        Step::Read(0),
+        Step::Discard(1),
+    ];
+    walk::<RecvWindow>(&rt, rt.alloc(), &steps)?;
+    walk::<PlainReceive>(&rt, rt.alloc(), &steps)
 }

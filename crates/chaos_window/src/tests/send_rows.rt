@@ -7,12 +7,20 @@ use std::alloc::Global;
 use std::process::Abort;
 use std::test::Fail;
 
-/// Pushes a data item of one byte for each of these, and holds its number against the one that is wanted.
-fn push_each<W: Sends>(rt: &impl Abort, window: &mut W, wanted: &[(u8, u16)]) {
-    for (byte, num) in wanted {
-        let pushed = window.push(Opcode::DATA, &[*byte]);
-        assert!(rt; pushed == Ok(PktNum(*num)), "the item {byte}");
-    }
+/// A call, or what is wanted of the window after the calls so far.
+#[derive(Drop)]
+enum Step {
+    /// A data item of one byte gets this number.
+    Push(u8, u16),
+    Full,
+    Receipt(u16),
+    Acknowledge(u16),
+    SetWindow(u16),
+    Clear,
+    /// The data items kept have these bytes, and so many are outstanding.
+    Keeps(&'static [u8], u16),
+    /// The number last sent, the number last receipted, and the window.
+    Stands(u16, u16, u16),
 }
 
 /// Holds the items kept against data items of these bytes, the oldest first.
@@ -28,59 +36,87 @@ fn keeps<W: Sends>(rt: &impl Abort, window: &W, wanted: &[u8]) {
     assert_eq!(rt; window.unreceipted() as usize, wanted.len());
 }
 
-fn numbers_go_round<W: Sends + Drop>(rt: &impl Abort, alloc: Global) -> Result<(), Fail> {
-    let mut window = W::started(alloc, 4, PktNum(65534))?;
-    push_each(rt, &mut window, &[(b'a', 65534)]);
-    window.acknowledge(PktNum(65534));
-    push_each(
-        rt,
-        &mut window,
-        &[(b'b', 65535), (b'c', 0), (b'd', 1), (b'e', 2)],
-    );
-    assert!(rt; window.push(Opcode::DATA, b"f") == Err(Full));
-    window.receipt(PktNum(3));
-    keeps(rt, &window, b"bcde");
-    window.receipt(PktNum(0));
-    keeps(rt, &window, b"de");
-    assert_eq!(rt; window.outstanding(), 4);
-    assert!(rt; window.last() == PktNum(2) && window.receipted() == PktNum(0));
-    Ok(())
+/// Makes a call, or holds the window against what is wanted.
+fn take<W: Sends>(rt: &impl Abort, window: &mut W, step: &Step) {
+    match step {
+        Step::Push(byte, num) => {
+            let pushed = window.push(Opcode::DATA, &[*byte]);
+            assert!(rt; pushed == Ok(PktNum(*num)), "the item {byte}");
+        }
+        Step::Full => assert!(rt; window.push(Opcode::DATA, b"x") == Err(Full)),
+        Step::Receipt(num) => window.receipt(PktNum(*num)),
+        Step::Acknowledge(num) => window.acknowledge(PktNum(*num)),
+        Step::SetWindow(size) => window.set_window(*size),
+        Step::Clear => window.clear(),
+        Step::Keeps(bytes, outstanding) => {
+            keeps(rt, window, bytes);
+            assert_eq!(rt; window.outstanding(), *outstanding);
+        }
+        Step::Stands(last, receipted, size) => {
+            let stands = (window.last().0, window.receipted().0, window.window());
+            assert_eq!(rt; stands, (*last, *receipted, *size));
+        }
+    }
 }
 
-fn acknowledgements_and_windows<W: Sends + Drop>(
+/// Takes the steps in a window of cap 4 that starts at a number.
+fn walk<W: Sends + Drop>(
     rt: &impl Abort,
     alloc: Global,
+    start: u16,
+    steps: &[Step],
 ) -> Result<(), Fail> {
-    let mut window = W::started(alloc, 4, PktNum(10))?;
-    push_each(rt, &mut window, &[(b'a', 10), (b'b', 11), (b'c', 12)]);
-    window.acknowledge(PktNum(11));
-    for _ in 0..2 {
-        keeps(rt, &window, b"c");
-        assert_eq!(rt; window.outstanding(), 1);
-        window.receipt(PktNum(10));
+    let mut window = W::started(alloc, 4, PktNum(start))?;
+    assert_eq!(rt; window.cap(), 4);
+    for step in steps {
+        take(rt, &mut window, step);
     }
-    window.set_window(0);
-    assert!(rt; window.push(Opcode::DATA, b"d") == Err(Full));
-    window.set_window(9);
-    assert_eq!(rt; (window.window(), window.cap()), (4, 4));
-    push_each(rt, &mut window, &[(b'd', 13)]);
-    keeps(rt, &window, b"cd");
-    window.clear();
-    keeps(rt, &window, b"");
-    assert!(rt; window.last() == PktNum(0));
     Ok(())
 }
 
 #[test]
 fn numbers_go_round_and_receipts_count_up_to_the_last_sent(rt: HostRuntime) -> Result<(), Fail> {
-    numbers_go_round::<SendWindow>(&rt, rt.alloc())?;
-    numbers_go_round::<PlainSend>(&rt, rt.alloc())
+    let steps = [
+        Step::Push(b'a', 65534),
+        Step::Acknowledge(65534),
+        Step::Push(b'b', 65535),
+        Step::Push(b'c', 0),
+        Step::Push(b'd', 1),
+        Step::Push(b'e', 2),
+        Step::Full,
+        Step::Receipt(3),
+        Step::Keeps(b"bcde", 4),
+        Step::Receipt(0),
+        Step::Keeps(b"de", 4),
+        Step::Stands(2, 0, 4),
+    ];
+    walk::<SendWindow>(&rt, rt.alloc(), 65534, &steps)?;
+    walk::<PlainSend>(&rt, rt.alloc(), 65534, &steps)
 }
 
 #[test]
 fn acknowledgements_raise_the_receipt_and_windows_are_cut_to_the_cap(
     rt: HostRuntime,
 ) -> Result<(), Fail> {
-    acknowledgements_and_windows::<SendWindow>(&rt, rt.alloc())?;
-    acknowledgements_and_windows::<PlainSend>(&rt, rt.alloc())
+    let steps = [
+        Step::Push(b'a', 10),
+        Step::Push(b'b', 11),
+        Step::Push(b'c', 12),
+        Step::Acknowledge(11),
+        Step::Keeps(b"c", 1),
+        Step::Receipt(10),
+        Step::Keeps(b"c", 1),
+        Step::Stands(12, 11, 4),
+        Step::SetWindow(0),
+        Step::Full,
+        Step::SetWindow(9),
+        Step::Stands(12, 11, 4),
+        Step::Push(b'd', 13),
+        Step::Keeps(b"cd", 2),
+        Step::Clear,
+        Step::Keeps(b"", 0),
+        Step::Stands(0, 0, 4),
+    ];
+    walk::<SendWindow>(&rt, rt.alloc(), 10, &steps)?;
+    walk::<PlainSend>(&rt, rt.alloc(), 10, &steps)
 }
