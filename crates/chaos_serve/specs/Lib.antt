@@ -1,0 +1,4 @@
+pub mod Applied
+pub mod Host
+pub mod Serve
+pub mod Task
