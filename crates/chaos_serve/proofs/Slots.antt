@@ -17,11 +17,13 @@ use Rattle.chaos_host.specs.declared.slot.Slot.{Slot}
 use Rattle.chaos_host.specs.Slot.{is_used, index_of, place_of, named_slot, with_index}
 use Rattle.chaos_host.specs.View.{HostView}
 use Rattle.chaos_host.specs.Acted.{HostActed, HostDoes, no_effect, slot_after_call}
-use Rattle.chaos_serve.specs.Serve.{written, replied, finished, Turn, NotOpen, Nothing, Full, LastItem, Command, turn_of, turn_by, Serves}
-use Rattle.chaos_serve.specs.Host.{in_slot, replied_at, finished_at, ServesBy, ServesIn, ServesOne, turn_at}
+use Rattle.chaos_serve.specs.Calls.{after_reply_at, after_eof_at, ServesByCalls, work_at}
+use Rattle.chaos_serve.specs.Host.{in_slot, ServesIn, ServesOne}
+use Rattle.chaos_serve.specs.Serve.{reply_write, after_reply, after_eof, Serves}
+use Rattle.chaos_serve.specs.Work.{Work, NotOpen, Nothing, Full, LastItem, Command, work_of, work_by}
 use Rattle.chaos_file.specs.Store.{StoreChange}
-use Rattle.chaos_serve.specs.declared.Served.TheVariants as told
-use Rattle.chaos_serve.specs.declared.Served.{Served}
+use Rattle.chaos_serve.specs.declared.served.Served.TheVariants as told
+use Rattle.chaos_serve.specs.declared.served.Served.{Served}
 use Rattle.chaos_serve.proofs.Taken.{read_leaves, only_open}
 
 -- what stands at a place that was set
@@ -58,7 +60,7 @@ named_after slots id slot new e generation active =
     rw there (rw active (rw index refl))
 
 -- a command is taken at an open end alone
-opened_by : (state : State) (front : Option ItemView) (room : Bool) (body : List ℕ) → Command body ≡ turn_by state front room → is_open state ≡ true
+opened_by : (state : State) (front : Option ItemView) (room : Bool) (body : List ℕ) → Command body ≡ work_by state front room → is_open state ≡ true
 opened_by st.Open front room body e = refl
 opened_by st.Inactive front room body e = absurd (cc)
 opened_by st.RfcSent front room body e = absurd (cc)
@@ -69,10 +71,10 @@ opened_by st.LosReceived front room body e = absurd (cc)
 opened_by st.HostDown front room body e = absurd (cc)
 opened_by st.Forwarded front room body e = absurd (cc)
 
-opened_for : (v : ConnView) (body : List ℕ) → Command body ≡ turn_of v → is_open v.state ≡ true
+opened_for : (v : ConnView) (body : List ℕ) → Command body ≡ work_of v → is_open v.state ≡ true
 opened_for v body e = opened_by v.state (front_of v) (can_write v) body e
 
-pub finished_in : (h : HostView) (id : ℕ) (slot : Slot) → named_slot h.slots id ≡ Some slot → finished_at h id ≡ in_slot h (place_of id) slot (finished slot.conn)
+pub finished_in : (h : HostView) (id : ℕ) (slot : Slot) → named_slot h.slots id ≡ Some slot → after_eof_at h id ≡ in_slot h (place_of id) slot (after_eof slot.conn)
 finished_in h id slot e = rw e refl
 
 abbrev left_with : HostView → List PacketView → Served → List Slot → HostActed Served
@@ -80,14 +82,14 @@ left_with h packets answer slots = record { view = record h { slots = slots }; p
 
 -- the read and the write, one after the other, are those of the connection, in its own slot
 pub replied_in : (h : HostView) (id : ℕ) (slot : Slot) (reply : List ℕ) (now : ℕ) → named_slot h.slots id ≡ Some slot → is_open slot.conn.state ≡ true
-    → replied_at h id reply now ≡ in_slot h (place_of id) slot (replied slot.conn reply now)
+    → after_reply_at h id reply now ≡ in_slot h (place_of id) slot (after_reply slot.conn reply now)
 replied_in h id slot reply now e opened =
     let at = only_open slot.conn.state opened in
     let left = read_leaves slot.conn at in
     let active : is_inactive (act slot.conn FinishRead).view.state ≡ false = ap is_inactive (left.state ∙ at) in
     let after = named_after h.slots id slot (slot_after_call slot FinishRead) e refl active in
-    let same = set-set h.slots (place_of id) (slot_after_call slot FinishRead) (record slot { conn = (written slot.conn reply now).view }) in
-    rw (e, after) (ap (left_with h (replied slot.conn reply now).packets told.Replied) same)
+    let same = set-set h.slots (place_of id) (slot_after_call slot FinishRead) (record slot { conn = (reply_write slot.conn reply now).view }) in
+    rw (e, after) (ap (left_with h (after_reply slot.conn reply now).packets told.Replied) same)
 
 -- a slot is set to what stands there
 same_slot : (slots : List Slot) (i : ℕ) (slot : Slot) → slice_get slots i ≡ Some slot → slice_set slots i slot ≡ slots
@@ -99,20 +101,20 @@ quiet_in h id slot answer e =
     let there = (is_named h.slots id slot e).there in
     ap (left_with h [] answer) (sym (same_slot h.slots (place_of id) slot there))
 
--- the same told by the host's calls and by the slot, for each turn
+-- the same told by the host's calls and by the slot, for each kind of work
 module _ (store : StoreChange) (s t : SessionView) (does : HostActed Served → Type 0) (h : HostView) (id now : ℕ) (slot : Slot) (e : named_slot h.slots id ≡ Some slot) where
-  by_turn : (turn : Turn) → turn ≡ turn_of slot.conn → ServesBy store s t does h id now (Some turn) → Serves store s t (λ acted. does (in_slot h (place_of id) slot acted)) slot.conn now turn
-  by_turn (NotOpen state) e' done = (done.0, subst does (quiet_in h id slot _ e) done.1)
-  by_turn Nothing e' done = (done.0, subst does (quiet_in h id slot _ e) done.1)
-  by_turn Full e' done = (done.0, subst does (quiet_in h id slot _ e) done.1)
-  by_turn LastItem e' done = (done.0, subst does (finished_in h id slot e) done.1)
-  by_turn (Command body) e' done = (done.0, done.1, subst does (replied_in h id slot done.0 now e (opened_for slot.conn body e')) done.2)
+  by_work : (work : Work) → work ≡ work_of slot.conn → ServesByCalls store s t does h id now (Some work) → Serves store s t (λ acted. does (in_slot h (place_of id) slot acted)) slot.conn now work
+  by_work (NotOpen state) e' done = (done.0, subst does (quiet_in h id slot _ e) done.1)
+  by_work Nothing e' done = (done.0, subst does (quiet_in h id slot _ e) done.1)
+  by_work Full e' done = (done.0, subst does (quiet_in h id slot _ e) done.1)
+  by_work LastItem e' done = (done.0, subst does (finished_in h id slot e) done.1)
+  by_work (Command body) e' done = (done.0, done.1, subst does (replied_in h id slot done.0 now e (opened_for slot.conn body e')) done.2)
 
 pub serves_in : (store : StoreChange) (s t : SessionView) (does : HostActed Served → Type 0) (h : HostView) (id now : ℕ) (found : Option Slot) → found ≡ named_slot h.slots id
-    → ServesBy store s t does h id now (option_map (λ slot. turn_of slot.conn) found) → ServesIn store s t does h (place_of id) now found
+    → ServesByCalls store s t does h id now (option_map (λ slot. work_of slot.conn) found) → ServesIn store s t does h (place_of id) now found
 serves_in store s t does h id now None e done = done
-serves_in store s t does h id now (Some slot) e done = by_turn store s t does h id now slot (sym e) (turn_of slot.conn) refl done
+serves_in store s t does h id now (Some slot) e done = by_work store s t does h id now slot (sym e) (work_of slot.conn) refl done
 
 pub serves_one : (store : StoreChange) (s t : SessionView) (old : HostView) (id now : ℕ) (new : HostView) (before after : OutboxView) (answer : Served)
-    → ServesBy store s t (λ acted. HostDoes old 2 acted new before after answer) old id now (turn_at old id) → ServesOne store s t old id now new before after answer
+    → ServesByCalls store s t (λ acted. HostDoes old 2 acted new before after answer) old id now (work_at old id) → ServesOne store s t old id now new before after answer
 serves_one store s t old id now new before after answer done = serves_in store s t (λ acted. HostDoes old 2 acted new before after answer) old id now (named_slot old.slots id) refl done

@@ -14,7 +14,7 @@ use Rattle.chaos_conn.specs.declared.state.State.{State}
 use Rattle.chaos_conn.specs.declared.state.State.TheVariants as st
 use Rattle.chaos_conn.specs.Calls.{can_write, has_window, front_of, read_at_open, act_read, act_write}
 use Rattle.chaos_conn.specs.State.{is_open, is_opening}
-use Rattle.chaos_serve.specs.Serve.{written}
+use Rattle.chaos_serve.specs.Serve.{reply_write}
 
 -- an end that can write
 record CanWrite (v : ConnView) : Type 0 where
@@ -60,13 +60,13 @@ read_leaves v e =
     let opened : is_open v.state ≡ true = ap is_open e in
     rw (opening, opened) l
 
--- an end that can write takes at most 488 bytes
+-- an end that can write takes at most MAX_DATA bytes
 write_taken : (v : ConnView) (bytes : List ℕ) (now : ℕ) → v.state ≡ st.Open → has_window v.send ≡ true → length bytes ≤ MAX_DATA → (act_write v op_data bytes now).answer ≡ Ok (next_of v.send)
 write_taken v bytes now state window short =
     let fits : nat_lt MAX_DATA (length bytes) ≡ false = grind (arith, nat_tests) in
     rw state (rw fits (rw window refl))
 
-pub reply_taken : (v : ConnView) (reply : List ℕ) (now : ℕ) → can_write v ≡ true → length reply ≤ MAX_DATA → (written v reply now).answer ≡ Wrote (Ok (next_of v.send))
+pub reply_taken : (v : ConnView) (reply : List ℕ) (now : ℕ) → can_write v ≡ true → length reply ≤ MAX_DATA → (reply_write v reply now).answer ≡ Wrote (Ok (next_of v.send))
 reply_taken v reply now can short =
     let w = can_both v can in
     let l = read_leaves v w.is_in in
