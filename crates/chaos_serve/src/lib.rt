@@ -10,6 +10,8 @@ mod host;
 mod law;
 mod served;
 mod task;
+#[cfg(test)]
+mod tests;
 
 pub use conn::serve_conn;
 pub use host::serve_one;

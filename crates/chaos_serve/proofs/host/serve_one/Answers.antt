@@ -1,4 +1,3 @@
-use Rattle.std.proofs.Common.{◌≡◌}
 use Rattle.chaos_file.specs.Store.{change}
 use Rattle.chaos_serve.proofs.Slots.{serves_one}
 use Rattle.chaos_serve.proofs.host.serve_one.Goals as goal
