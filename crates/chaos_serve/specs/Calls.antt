@@ -1,0 +1,41 @@
+-- The calls on a host by which it serves a connection.
+use Rattle.std.specs.Prelude.{ℕ, List, ◌++◌, Option, Some, None, option_map}
+use Rattle.chaos_packet.specs.Opcode.{op_data}
+use Rattle.chaos_conn.specs.Act.{FinishRead, Write}
+use Rattle.chaos_file.specs.Session.{SessionView}
+use Rattle.chaos_file.specs.Store.{StoreChange}
+use Rattle.chaos_host.specs.Slot.{named_slot}
+use Rattle.chaos_host.specs.View.{HostView}
+use Rattle.chaos_host.specs.Acted.{HostActed, no_effect}
+use Rattle.chaos_host.specs.Calls.{HostReply, host_call}
+use Rattle.chaos_serve.specs.Answer.{IsAnswered, IsUnused}
+use Rattle.chaos_serve.specs.Work.{Work, NotOpen, Nothing, Full, LastItem, Command, work_of}
+use Rattle.chaos_serve.specs.declared.served.Served.{Served}
+use Rattle.chaos_serve.specs.declared.served.Served.TheVariants as told
+
+-- the write of a reply by the connection with an own index, after the read of its command
+abbrev pub reply_write_at : HostView → ℕ → List ℕ → ℕ → HostActed HostReply
+reply_write_at h id reply now = host_call (host_call h id FinishRead).view id (Write op_data reply now)
+
+abbrev pub after_reply_at : HostView → ℕ → List ℕ → ℕ → HostActed Served
+after_reply_at h id reply now = record {
+  view = (reply_write_at h id reply now).view;
+  packets = (host_call h id FinishRead).packets ++ (reply_write_at h id reply now).packets;
+  answer = told.Replied;
+}
+
+abbrev pub after_eof_at : HostView → ℕ → HostActed Served
+after_eof_at h id = record { view = (host_call h id FinishRead).view; packets = (host_call h id FinishRead).packets; answer = told.Eof }
+
+-- what is to be done at the connection with an own index, where there is one
+abbrev pub work_at : HostView → ℕ → Option Work
+work_at h id = option_map (λ slot. work_of slot.conn) (named_slot h.slots id)
+
+-- what serving does, told by those calls
+abbrev pub ServesByCalls : StoreChange → SessionView → SessionView → (HostActed Served → Type 0) → HostView → ℕ → ℕ → Option Work → Type 0
+ServesByCalls store s t does h id now None = IsUnused store s t × does (no_effect h told.NoSuchConnection)
+ServesByCalls store s t does h id now (Some (NotOpen state)) = IsUnused store s t × does (no_effect h (told.Ended state))
+ServesByCalls store s t does h id now (Some Nothing) = IsUnused store s t × does (no_effect h told.Idle)
+ServesByCalls store s t does h id now (Some Full) = IsUnused store s t × does (no_effect h told.NoRoom)
+ServesByCalls store s t does h id now (Some LastItem) = IsUnused store s t × does (after_eof_at h id)
+ServesByCalls store s t does h id now (Some (Command body)) = (reply : List ℕ) × IsAnswered store s t body reply × does (after_reply_at h id reply now)

@@ -1,0 +1,77 @@
+//! FILE over one connection.
+ghost use Rattle.std.specs.Prelude.{◌≡◌, ◌≤◌};
+ghost use Rattle.chaos_packet.specs.Outbox.{room_of};
+ghost use Rattle.chaos_file.specs.Store.{change};
+ghost use Rattle.chaos_serve.specs.Serve.{ActsTwice, ServesConn, after_reply, after_eof};
+ghost use Rattle.chaos_serve.specs.Task.{work_in};
+ghost use Rattle.chaos_serve.specs.Work.{work_of};
+
+use crate::served::Served;
+use crate::task::{Task, task_by};
+use chaos_conn::Conn;
+use chaos_file::{Session, Store};
+use chaos_packet::{Opcode, Outbox};
+use std::alloc::Global;
+
+/// What is to be done at an end.
+fn task_of(conn: &Conn) -> Task<'_>
+    ensures { work_in result ≡ work_of conn.now }
+{
+    task_by(conn.state(), conn.front(), conn.can_write())
+}
+
+/// Reads the command in front, and writes its reply.
+#[tactic(auto, using(crate::proofs::Twice::put_twice, crate::proofs::Twice::length_both))]
+fn answer(conn: &mut Conn, reply: &[u8], now: u64, out: &mut Outbox) -> Served
+    requires { 2 ≤ room_of out.old }
+    ensures { ActsTwice conn.old (after_reply conn.old reply.now now) conn.new out.old out.new result }
+{
+    let _command = conn.read_done(out);
+    let _number = conn.write(Opcode::DATA, reply, now, out);
+    Served::Replied
+}
+
+/// Reads the EOF in front.
+fn finish(conn: &mut Conn, out: &mut Outbox) -> Served
+    requires { 2 ≤ room_of out.old }
+    ensures { ActsTwice conn.old (after_eof conn.old) conn.new out.old out.new result }
+{
+    let _eof = conn.read_done(out);
+    Served::Eof
+}
+
+/// Serves the item in front of a connection: one command at most.
+///
+/// An open end alone is served. A data item is a command, and is taken only where its reply can be written: its bytes are
+/// carried out where they lie, then the item is read, and then the reply is written as one packet of opcode 200. An EOF is
+/// read and not answered. A command that was read is never carried out again, whatever copies of it come.
+///
+/// Each case that changes nothing has its own answer, see [`Served`]. That the reply is taken is told by
+/// [`law_reply_taken`](crate::law_reply_taken).
+///
+/// It puts at most two packets out, and asks for room for two: a status and the reply. The cost is that of the command. A
+/// command's bytes are copied only as [`Session::apply`] says, and a reply's bytes once, into the packet that is kept, and
+/// once more into the packet that goes out. No memory is taken but by `apply`.
+pub fn serve_conn<S: Store>(
+    alloc: Global,
+    conn: &mut Conn,
+    session: &mut Session,
+    store: &mut S,
+    now: u64,
+    out: &mut Outbox,
+) -> Served
+    requires { 2 ≤ room_of out.old }
+    ensures { ServesConn (change S.contents S.may_give S.count store.old store.new) session.old session.new
+        conn.old now conn.new out.old out.new result }
+{
+    match task_of(conn) {
+        Task::NotOpen(state) => Served::Ended(state),
+        Task::Nothing => Served::Idle,
+        Task::Full => Served::NoRoom,
+        Task::LastItem => finish(conn, out),
+        Task::Command(body) => {
+            let reply = session.apply(alloc, store, body);
+            answer(conn, reply.as_slice(), now, out)
+        }
+    }
+}

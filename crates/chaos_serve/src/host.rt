@@ -1,0 +1,100 @@
+//! FILE over one of a host's connections.
+ghost use Rattle.std.specs.Prelude.{◌≡◌, ◌≤◌, option_map};
+ghost use Rattle.chaos_packet.specs.Outbox.{room_of};
+ghost use Rattle.chaos_file.specs.Store.{change};
+ghost use Rattle.chaos_host.specs.Acted.{HostDoes};
+ghost use Rattle.chaos_serve.specs.Calls.{ServesByCalls, after_eof_at, after_reply_at, work_at};
+ghost use Rattle.chaos_serve.specs.Host.{ServesOne};
+ghost use Rattle.chaos_serve.specs.Task.{work_in};
+
+use crate::served::Served;
+use crate::task::{Task, task_by};
+use chaos_file::{Session, Store};
+use chaos_host::{ConnId, Host};
+use chaos_packet::{Opcode, Outbox};
+use std::alloc::Global;
+
+/// What is to be done at a connection, and none where the host has no such connection.
+fn task_at(host: &Host, id: ConnId) -> Option<Task<'_>>
+    ensures { option_map (λ task. work_in task) result ≡ work_at host.now id }
+{
+    let Ok(state) = host.state(id) else {
+        return None;
+    };
+    let Ok(front) = host.front(id) else {
+        return None;
+    };
+    let Ok(can_write) = host.can_write(id) else {
+        return None;
+    };
+    Some(task_by(state, front, can_write))
+}
+
+/// Reads the command in front, and writes its reply.
+#[tactic(auto, using(crate::proofs::Twice::put_twice, crate::proofs::Twice::length_both))]
+fn answer_at(host: &mut Host, id: ConnId, reply: &[u8], now: u64, out: &mut Outbox) -> Served
+    requires { 2 ≤ room_of out.old }
+    ensures { HostDoes host.old 2 (after_reply_at host.old id reply.now now) host.new out.old out.new result }
+{
+    let _command = host.read_done(id, out);
+    let _number = host.write(id, Opcode::DATA, reply, now, out);
+    Served::Replied
+}
+
+/// Reads the EOF in front.
+fn finish_at(host: &mut Host, id: ConnId, out: &mut Outbox) -> Served
+    requires { 2 ≤ room_of out.old }
+    ensures { HostDoes host.old 1 (after_eof_at host.old id) host.new out.old out.new result }
+{
+    let _eof = host.read_done(id, out);
+    Served::Eof
+}
+
+/// Serves the item in front of a connection, by calls of the host.
+fn serve_by_calls<S: Store>(
+    alloc: Global,
+    host: &mut Host,
+    id: ConnId,
+    session: &mut Session,
+    store: &mut S,
+    now: u64,
+    out: &mut Outbox,
+) -> Served
+    requires { 2 ≤ room_of out.old }
+    ensures { ServesByCalls (change S.contents S.may_give S.count store.old store.new) session.old session.new
+        (λ acted. HostDoes host.old 2 acted host.new out.old out.new result) host.old id now (work_at host.old id) }
+{
+    let Some(task) = task_at(host, id) else {
+        return Served::NoSuchConnection;
+    };
+    match task {
+        Task::NotOpen(state) => Served::Ended(state),
+        Task::Nothing => Served::Idle,
+        Task::Full => Served::NoRoom,
+        Task::LastItem => finish_at(host, id, out),
+        Task::Command(body) => {
+            let reply = session.apply(alloc, store, body);
+            answer_at(host, id, reply.as_slice(), now, out)
+        }
+    }
+}
+
+/// Serves the item in front of one of a host's connections, one command at most: what [`serve_conn`](crate::serve_conn)
+/// does at its end, with the same answers and the same cost. No other connection changes.
+///
+/// `NoSuchConnection`, and nothing changes, where no connection has this index. It asks for room for two packets.
+pub fn serve_one<S: Store>(
+    alloc: Global,
+    host: &mut Host,
+    id: ConnId,
+    session: &mut Session,
+    store: &mut S,
+    now: u64,
+    out: &mut Outbox,
+) -> Served
+    requires { 2 ≤ room_of out.old }
+    ensures { ServesOne (change S.contents S.may_give S.count store.old store.new) session.old session.new
+        host.old id now host.new out.old out.new result }
+{
+    serve_by_calls(alloc, host, id, session, store, now, out)
+}

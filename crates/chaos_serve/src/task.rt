@@ -1,0 +1,35 @@
+//! What is to be done at an end.
+ghost use Rattle.std.specs.Prelude.{◌≡◌};
+ghost use Rattle.std.specs.Option.{option_copied};
+ghost use Rattle.chaos_serve.specs.Task.{work_in};
+ghost use Rattle.chaos_serve.specs.Work.{work_by};
+
+use chaos_conn::State;
+use chaos_packet::{Item, Kind};
+
+/// What is to be done at an end. A command's bytes are lent from where the connection holds them.
+#[derive(Drop)]
+pub(crate) enum Task<'a> {
+    NotOpen(State),
+    Nothing,
+    Full,
+    LastItem,
+    Command(&'a [u8]),
+}
+
+/// What is to be done at an end in this state, with this item in front, where a write is taken or not.
+pub(crate) fn task_by(state: State, front: Option<&Item>, can_write: bool) -> Task<'_>
+    ensures { work_in result ≡ work_by state (option_copied front.entry) can_write }
+{
+    if !state.is_open() {
+        return Task::NotOpen(state);
+    }
+    let Some(item) = front else {
+        return Task::Nothing;
+    };
+    match item.op.kind() {
+        Kind::Eof => Task::LastItem,
+        _ if can_write => Task::Command(item.bytes()),
+        _ => Task::Full,
+    }
+}
