@@ -10,7 +10,8 @@ use Rattle.chaos_lab.specs.Machine.{PlainEnd, Kind, Copy, Machine, Event, Schedu
 use Rattle.chaos_lab.specs.Machine.Phase.{Open}
 use Rattle.chaos_lab.specs.Machine.Kind.{Nth}
 use Rattle.chaos_lab.specs.Machine.Event.{ReadAt, Deliver}
-use Rattle.chaos_lab.specs.Law.{Begins, writer, reader, IsThere, DeliversInside, RunUnclosed, ReadsItem, ReadsNext}
+use Rattle.chaos_packet.specs.Begins.{Begins}
+use Rattle.chaos_lab.specs.Law.{writer, reader, IsThere, DeliversInside, RunUnclosed, ReadsItem, ReadsNext}
 use Rattle.chaos_lab.proofs.Directions.{Sound, missing_between, first_missing}
 use Rattle.chaos_lab.proofs.Grows.{Grows, item_stays}
 use Rattle.chaos_lab.proofs.Lists.{member_at}
@@ -36,7 +37,7 @@ beginning m x r = (sound m x r).begins
 
 pub acknowledged :
     (m : Machine) (x : Side) → Reached m →
-    ((writer m x).acked ≤ length (reader m x).read) × ((writer m x).acked ≤ (writer m x).receipted)
+    ((writer m x).acknowledged ≤ length (reader m x).read) × ((writer m x).acknowledged ≤ (writer m x).receipted)
 acknowledged m x r = ((sound m x r).acked_read, (sound m x r).in_order)
 
 pub receipted :
@@ -47,7 +48,7 @@ receipted m x f r h = missing_between (writer m x) (reader m x) f (sound m x r) 
 pub some_missing : (m : Machine) (x : Side) → Reached m → (f : ℕ) × FirstMissing (reader m x) f
 some_missing m x r = first_missing (writer m x) (reader m x) (sound m x r)
 
-pub room : (m : Machine) (x : Side) → Reached m → length (writer m x).written - (writer m x).acked ≤ (writer m x).send_cap
+pub room : (m : Machine) (x : Side) → Reached m → length (writer m x).written - (writer m x).acknowledged ≤ (writer m x).send_cap
 room m x r = omega (arith, (sound m x r).room)
 
 -- ---- what stays

@@ -5,27 +5,27 @@ use Rattle.std.proofs.lemmas.Bool.{false≢true, false_from_ne_true, cases_Bool}
 use Rattle.std.specs.Ordering.{nat_cmp}
 use Rattle.std.specs.FinSet.{FinSet, contains, insert}
 use Rattle.chaos_packet.specs.Item.{ItemView}
-use Rattle.chaos_lab.specs.Law.{Begins}
+use Rattle.chaos_packet.specs.Begins.{Begins}
 use Rattle.chaos_lab.specs.Machine.{PlainEnd, FirstMissing, hear}
 use Rattle.chaos_lab.specs.Machine.Told.{Acknowledges, Status}
 use Rattle.chaos_lab.proofs.Lists.{contains-insert_cases, contains-insert_keeps, length-one_more, begins_longer, begins_one_more}
 
 -- over the fields of its two ends, so that a change of any other field needs no proof
 pub record Direction
-    (written : List ItemView) (acked receipted window send_cap : ℕ) (read : List ItemView) (arrived : FinSet nat_cmp) (recv_cap : ℕ) : Type 0 where
+    (written : List ItemView) (acknowledged receipted window send_cap : ℕ) (read : List ItemView) (arrived : FinSet nat_cmp) (recv_cap : ℕ) : Type 0 where
   pub begins : Begins read written
   pub within : (i : ℕ) → contains arrived i ≡ true → i < length written
   pub inside : (i : ℕ) → contains arrived i ≡ true → i < length read + recv_cap
   pub front : (i : ℕ) → i < length read → contains arrived i ≡ true
-  pub acked_read : acked ≤ length read
-  pub in_order : acked ≤ receipted
+  pub acked_read : acknowledged ≤ length read
+  pub in_order : acknowledged ≤ receipted
   pub receipted_arrived : (i : ℕ) → i < receipted → contains arrived i ≡ true
-  pub room : length written ≤ acked + send_cap
+  pub room : length written ≤ acknowledged + send_cap
   pub window_cap : window ≤ send_cap
 
 -- the direction that e writes and p reads is sound
 abbrev pub Sound : PlainEnd → PlainEnd → Type 0
-Sound e p = Direction e.written e.acked e.receipted e.window e.send_cap p.read p.arrived p.recv_cap
+Sound e p = Direction e.written e.acknowledged e.receipted e.window e.send_cap p.read p.arrived p.recv_cap
 
 -- ---- the writer hears, and writes
 
@@ -66,7 +66,7 @@ sound_status e p read receipt window d le all =
     }
 
 pub sound_written :
-    (e p : PlainEnd) (item : ItemView) → Sound e p → length e.written < e.acked + e.send_cap →
+    (e p : PlainEnd) (item : ItemView) → Sound e p → length e.written < e.acknowledged + e.send_cap →
     Sound (record e { written = e.written ++ item ∷ [] }) p
 sound_written e p item d room =
     let longer = length-one_more e.written item in

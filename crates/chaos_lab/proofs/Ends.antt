@@ -176,7 +176,7 @@ step_read x e p item h fits here is =
 
 pub step_written :
     (x : Side) (e p : PlainEnd) (item : ItemView) → EndHolds x e p → Fits e.phase x (e.written ++ item ∷ []) e.read e.arrived →
-    length e.written < e.acked + e.send_cap → EndStep x e p (record e { written = e.written ++ item ∷ [] })
+    length e.written < e.acknowledged + e.send_cap → EndStep x e p (record e { written = e.written ++ item ∷ [] })
 step_written x e p item h fits room =
     let longer = length-one_more e.written item in
     record {

@@ -3,7 +3,7 @@ use Rattle.std.proofs.Common.{◌≡◌, ℕ, ◌≤◌, [], ◌∷◌, ◌++◌
 use Rattle.std.specs.Prelude.{slice_get}
 use Rattle.std.specs.FinSet.{contains, insert}
 use Rattle.chaos_packet.specs.Item.{ItemView}
-use Rattle.chaos_lab.specs.Law.{Begins}
+use Rattle.chaos_packet.specs.Begins.{Begins}
 use Rattle.chaos_lab.specs.Machine.{PlainEnd, Told, hear}
 use Rattle.chaos_lab.specs.Machine.Told.{Nothing, Acknowledges, Status}
 use Rattle.chaos_lab.proofs.Lists.{contains-insert_keeps, begins_itself, begins_longer, begins_through, begins_shorter, slice_get-begins}

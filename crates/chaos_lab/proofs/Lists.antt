@@ -5,7 +5,7 @@ use Rattle.std.proofs.lemmas.Grind.{common_steps}
 use Rattle.std.specs.Ordering.{nat_cmp}
 use Rattle.std.specs.FinSet.{FinSet, contains, insert, members}
 use Rattle.chaos_packet.specs.Item.{ItemView}
-use Rattle.chaos_lab.specs.Law.{Begins}
+use Rattle.chaos_packet.specs.Begins.{Begins}
 
 -- ---- sets of indices
 

@@ -106,8 +106,8 @@ write_goes_on item p e =
     (⊎_elim
     (λ (at : e.phase ≡ Open).
     ⊎_elim
-    (λ (room : length e.written - e.acked < e.window). inl (record e { written = e.written ++ item ∷ [] }, (at, room, refl)))
-    (λ (full : e.window ≤ length e.written - e.acked). inr (λ f r. let room = r.1 in omega arith))
+    (λ (room : length e.written - e.acknowledged < e.window). inl (record e { written = e.written ++ item ∷ [] }, (at, room, refl)))
+    (λ (full : e.window ≤ length e.written - e.acknowledged). inr (λ f r. let room = r.1 in omega arith))
     (grind arith))
     (λ (not : e.phase ≢ Open). inr (λ f r. not r.0))
     (is_open e.phase))

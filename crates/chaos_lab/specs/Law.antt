@@ -10,10 +10,6 @@ use Rattle.chaos_lab.specs.Machine.Phase.{Open}
 use Rattle.chaos_lab.specs.Machine.Kind.{Nth}
 use Rattle.chaos_lab.specs.Machine.Event.{CloseAt, Deliver}
 
--- xs is the first members of ys
-abbrev pub Begins : {X : Type 0} → List X → List X → Type 0
-Begins xs ys = take (length xs) ys ≡ xs
-
 -- the end that writes this direction
 abbrev pub writer : Machine → Side → PlainEnd
 writer m x = end_of m x

@@ -1,3 +1,10 @@
 pub mod Machine
 pub mod Numbers
 pub mod Law
+pub mod Shown
+pub mod Laboratory
+pub mod Tied
+pub mod Headline
+pub mod Inside
+pub mod Makes
+pub mod Sound

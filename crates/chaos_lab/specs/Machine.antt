@@ -21,7 +21,7 @@ pub record PlainEnd : Type 0 where
   -- all that it wrote
   pub written : List ItemView
   -- how many of these the peer told that its user read, and how many that arrived; the window that the peer announced
-  pub acked : ℕ
+  pub acknowledged : ℕ
   pub receipted : ℕ
   pub window : ℕ
   -- all that its user read, and the indices of the peer's items that arrived
@@ -116,8 +116,8 @@ pub record IsSent (m : Machine) (x : Side) (c : Copy) : Type 0 where
 -- Tell: its counts rise to those that the peer tells
 abbrev pub tell : Told → PlainEnd → PlainEnd
 tell Nothing e = e
-tell (Acknowledges a) e = record e { acked = max e.acked a; receipted = max e.receipted a }
-tell (Status a r w) e = record e { acked = max e.acked a; receipted = max e.receipted (max a r) }
+tell (Acknowledges a) e = record e { acknowledged = max e.acknowledged a; receipted = max e.receipted a }
+tell (Status a r w) e = record e { acknowledged = max e.acknowledged a; receipted = max e.receipted (max a r) }
 
 -- Announce: its window becomes the one that the peer tells with a status, cut to its own cap
 abbrev pub announce : Told → PlainEnd → PlainEnd
@@ -164,7 +164,7 @@ Opened c peer e f =
 -- an open end writes an item, while those that aren't acknowledged are fewer than its window
 abbrev pub Write : ItemView → Row
 Write item peer e f =
-    (e.phase ≡ Open) × (length e.written - e.acked < e.window) × (f ≡ record e { written = e.written ++ item ∷ [] })
+    (e.phase ≡ Open) × (length e.written - e.acknowledged < e.window) × (f ≡ record e { written = e.written ++ item ∷ [] })
 
 -- an item comes to an open end
 abbrev pub Arrive : Copy → Row
@@ -252,7 +252,7 @@ AreCaps c = (1 ≤ c.send) × (c.send ≤ greatest_window) × (1 ≤ c.recv) × 
 -- an end with these caps that has read nothing and heard nothing
 abbrev pub new_end : Phase → List ItemView → Caps → PlainEnd
 new_end phase written c =
-    record { phase = phase; written = written; acked = 0; receipted = 0; window = c.send; read = []; arrived = empty; send_cap = c.send; recv_cap = c.recv }
+    record { phase = phase; written = written; acknowledged = 0; receipted = 0; window = c.send; read = []; arrived = empty; send_cap = c.send; recv_cap = c.recv }
 
 -- A has sent its RFC, which is copy 0
 abbrev pub start : Caps → Caps → ItemView → Machine

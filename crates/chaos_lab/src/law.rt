@@ -10,7 +10,8 @@ ghost use Rattle.chaos_lab.specs.Machine.{Machine, Event, Schedule, other, First
 ghost use Rattle.chaos_lab.specs.Machine.Phase.{Open};
 ghost use Rattle.chaos_lab.specs.Machine.Event.{ReadAt};
 ghost use Rattle.chaos_lab.specs.Numbers.{told_num};
-ghost use Rattle.chaos_lab.specs.Law.{Begins, writer, reader, IsThere, DeliversInside, RunUnclosed, ReadsItem, ReadsNext, CanHappen};
+ghost use Rattle.chaos_packet.specs.Begins.{Begins};
+ghost use Rattle.chaos_lab.specs.Law.{writer, reader, IsThere, DeliversInside, RunUnclosed, ReadsItem, ReadsNext, CanHappen};
 
 /// The delivery law. Over every schedule of deliveries, losses, repeats and orders of fresh copies, and in both directions: what
 /// a user has read is a beginning of what the other wrote, the writer's counts are true, and an item that is delivered to an
@@ -24,7 +25,7 @@ pub fn law_delivery()
         Begins (reader m x).read (writer m x).written }
     // an acknowledgement counts no more than was read, and no more than the receipt does
     ensures acknowledged { (m : Machine) (x : Side) → Reached m →
-        ((writer m x).acked ≤ length (reader m x).read) × ((writer m x).acked ≤ (writer m x).receipted) }
+        ((writer m x).acknowledged ≤ length (reader m x).read) × ((writer m x).acknowledged ≤ (writer m x).receipted) }
     // a receipt counts no more than arrived without a gap, which is no more than was written
     ensures receipted { (m : Machine) (x : Side) (f : ℕ) → Reached m → FirstMissing (reader m x) f →
         ((writer m x).receipted ≤ f) × (f ≤ length (writer m x).written) }
@@ -32,7 +33,7 @@ pub fn law_delivery()
     ensures first_missing { (m : Machine) (x : Side) → Reached m → (f : ℕ) × FirstMissing (reader m x) f }
     // at most a window of items isn't acknowledged
     ensures room { (m : Machine) (x : Side) → Reached m →
-        length (writer m x).written - (writer m x).acked ≤ (writer m x).send_cap }
+        length (writer m x).written - (writer m x).acknowledged ≤ (writer m x).send_cap }
 
     // an item that is delivered to an open end inside its window was read, or has arrived
     ensures arrives { (m n : Machine) (x : Side) (i : ℕ) → Reached m → DeliversInside m x i n →

@@ -1,17 +1,28 @@
 //! The laboratory: two ends of one connection (AI Memo 628, on connections) over a network that loses, repeats and reorders
 //! packets, and what is true of them whatever it does.
 //!
-//! So far it has the plain machine (`specs/Machine.antt`), which says in whole lists and true counts what two ends may do, and
-//! two laws: [`law_delivery`] over all its schedules, and [`law_numbers`], by which 16-bit packet numbers stand for true counts.
-//! It will grow into two real connections that are run over schedules, and tied to this machine.
+//! [`Lab`] runs two real connections over a schedule of [`Event`]s, and keeps every packet that was ever sent. The plain machine
+//! (`specs/Machine.antt`) says in whole lists and true counts what two ends may do, with two laws: [`law_delivery`] over all its
+//! schedules, and [`law_numbers`], by which 16-bit packet numbers stand for true counts.
 //!
-//! No sockets, no clock, no allocation: nothing here runs but [`Side::other`].
+//! No sockets and no clock: moments are handed in.
 #![tactic(auto)]
 
+mod both_ends;
+mod event;
+mod fault;
+mod lab;
+mod lab_end;
 mod law;
+mod rig;
 mod side;
+mod stamped;
 #[cfg(test)]
 mod tests;
 
+pub use event::{Event, Stepped};
+pub use fault::LabFault;
+pub use lab::Lab;
 pub use law::{law_delivery, law_numbers};
 pub use side::Side;
+pub use stamped::Stamped;

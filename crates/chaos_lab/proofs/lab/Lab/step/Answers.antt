@@ -1,0 +1,19 @@
+use Rattle.std.proofs.Common.{rules}
+use Rattle.chaos_lab.specs.Tied.{HasMachine}
+use Rattle.chaos_lab.specs.Laboratory.{Happens}
+use Rattle.chaos_lab.specs.Inside.{happening_of}
+use Rattle.chaos_lab.proofs.Runs.{keeps_machine, step_on}
+use Rattle.chaos_lab.proofs.lab.Lab.step.Goals as goal
+
+-- it still stands for a plain machine
+pub invariant_of-self : goal.invariant_of-self
+invariant_of-self c =
+    let machine : HasMachine c.args.self.now = search rules in
+    let happens : Happens c.args.self.now (happening_of c.args.event.now) c.step.new.self c.step.result = search rules in
+    keeps_machine c.args.self.now c.step.new.self (happening_of c.args.event.now) c.step.result machine happens
+
+-- the plain machine's step
+pub returns-clause-machine : goal.returns-clause-machine
+returns-clause-machine c =
+    let happens : Happens c.args.self.now (happening_of c.args.event.now) c.step.new.self c.step.result = search rules in
+    step_on c.args.self.now c.step.new.self (happening_of c.args.event.now) c.step.result happens

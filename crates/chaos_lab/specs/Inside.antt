@@ -1,0 +1,43 @@
+-- The parts of the laboratory as what contracts see.
+use Rattle.std.specs.Prelude.{◌≡◌, ℕ, ◌<◌, ◌≤◌, List, [], map, length, vec_len, vec_capacity, Result}
+use Rattle.chaos_packet.specs.Outbox.{OutboxView, with_put}
+use Rattle.chaos_packet.specs.Packet.{PacketView}
+use Rattle.chaos_window.specs.declared.limits.TheConstants.{MAX_WINDOW}
+use Rattle.chaos_conn.specs.View.{ConnView}
+use Rattle.chaos_conn.specs.Act.{Call, act}
+use Rattle.chaos_conn.specs.Act.Call.{TakeRequest, Accept, Deliver, Write, Read, Close, Tick}
+use Rattle.chaos_lab.specs.declared.side.Side.TheVariants.{B}
+use Rattle.chaos_lab.specs.declared.lab_end.LabEnd.{LabEnd}
+use Rattle.chaos_lab.specs.declared.both_ends.BothEnds.{BothEnds}
+use Rattle.chaos_lab.specs.declared.event.Event.{Event}
+use Rattle.chaos_lab.specs.declared.event.Event.TheVariants as event
+use Rattle.chaos_lab.specs.declared.event.Stepped.{Stepped}
+use Rattle.chaos_lab.specs.declared.fault.LabFault.{LabFault}
+use Rattle.chaos_lab.specs.Shown.{place_of}
+use Rattle.chaos_lab.specs.Laboratory.Happening.{WriteBy, ReadBy, TickOf, CloseBy, AcceptFrom, DeliverCopy}
+use Rattle.chaos_lab.specs.Laboratory.{EndView, Happening, end_after, answer_of, refusal_of}
+
+abbrev pub end_view : LabEnd → EndView
+end_view e = record { conn = e.conn; first = e.first; written = e.written.items; read = e.read.items }
+
+-- both lists have room for one more item
+pub record HasRoom (e : LabEnd) : Type 0 where
+  pub written : vec_len e.written < vec_capacity e.written
+  pub read : vec_len e.read < vec_capacity e.read
+
+-- so at both ends, and both windows fit the outbox
+pub record AreReady (e : BothEnds) (out : OutboxView) : Type 0 where
+  pub room_a : HasRoom e.a
+  pub room_b : HasRoom e.b
+  pub window_a : e.a.conn.config.send_cap ≤ MAX_WINDOW
+  pub window_b : e.b.conn.config.send_cap ≤ MAX_WINDOW
+  pub empty : out.packets ≡ []
+  pub fits : MAX_WINDOW ≤ out.cap
+
+abbrev pub happening_of : Event → Happening
+happening_of (event.Write side op bytes) = WriteBy side op bytes.now
+happening_of (event.Read side) = ReadBy side
+happening_of (event.Tick side now) = TickOf side now
+happening_of (event.Close side text) = CloseBy side text.now
+happening_of (event.Accept start) = AcceptFrom start
+happening_of (event.Deliver k) = DeliverCopy k

@@ -1,0 +1,129 @@
+//! The laboratory.
+ghost use Rattle.std.specs.Prelude.{◌≡◌, ℕ, List, ◌∷◌, map, IfOk, OnOk, OnErr};
+ghost use Rattle.chaos_conn.specs.Stored.{stored_packets, stored_bytes};
+ghost use Rattle.chaos_packet.specs.Begins.{Begins};
+ghost use Rattle.chaos_packet.specs.Packet.{item_of};
+ghost use Rattle.chaos_lab.specs.declared.side.Side.{Side};
+ghost use Rattle.chaos_lab.specs.declared.stamped.Stamped.{Stamped};
+ghost use Rattle.chaos_lab.specs.Machine.{Machine, Step, Run, other};
+ghost use Rattle.chaos_lab.specs.Laboratory.{Happening, Happens, lab_end, lab_start, after_all, StopsWithin};
+ghost use Rattle.chaos_lab.specs.Laboratory.Happening.{DeliverCopy};
+ghost use Rattle.chaos_lab.specs.Headline.{ComesInside, Unclosed, ReadsInTurn};
+ghost use Rattle.chaos_lab.specs.Inside.{happening_of};
+ghost use Rattle.chaos_lab.specs.Tied.{Ties, HasMachine, lab_machine, plain_event, plain_run};
+
+use crate::event::{Event, Stepped};
+use crate::fault::LabFault;
+use crate::rig::Rig;
+use crate::side::Side;
+use crate::stamped::Stamped;
+use chaos_conn::ConnConfig;
+use chaos_packet::{Item, PktNum};
+use std::alloc::{AllocError, Global};
+use std::marker::Model;
+
+/// Two ends of one connection, and every packet that was ever sent between them. A contract sees both connections with all that
+/// each wrote and its user read, and the packets with their stamps.
+///
+/// In every laboratory both connections and all packets stand for a state of the plain machine (`Ties`), and each event that is
+/// taken is a step of that machine. So what [`crate::law_delivery`] says of the machine holds of the two connections:
+/// [`Lab::law_headline`].
+#[derive(Drop)]
+pub struct Lab {
+    rig: Rig,
+}
+
+impl Model for Lab {
+    ghost use Rattle.chaos_lab.specs.Laboratory.{LabView};
+    ghost use Rattle.chaos_lab.specs.Tied.{HasMachine};
+
+    ghost Value = { LabView };
+
+    ghost view = { λ s. s.rig };
+
+    ghost invariant = { λ s. HasMachine s.rig };
+}
+
+impl Lab {
+    /// Two ends with these configurations. A, which is host 401 octal, has asked B, which is host 402 octal, for the contact
+    /// `LAB` at moment 0, and numbers what it writes from `start_a` on. Its RFC is copy 0.
+    pub fn new(
+        alloc: Global,
+        config_a: ConnConfig,
+        config_b: ConnConfig,
+        start_a: PktNum,
+    ) -> Result<Self, AllocError>
+        ensures start { IfOk result (λ lab. lab ≡ lab_start config_a config_b start_a) }
+        // which stands for the plain machine's start
+        ensures machine { IfOk result (λ lab. Ties (lab_machine config_a config_b) lab) }
+    {
+        let rig = Rig::new(alloc, config_a, config_b, start_a)?;
+        Ok(Lab { rig })
+    }
+
+    /// Lets an event happen. A call without a moment of its own gets the greatest one that was ticked.
+    ///
+    /// Refused, in this order: `NoSuchCopy` where the copy isn't there; `Stale` where an end has written 32,640 items or more
+    /// since it was sent; `NoMemory` where one of the lists can't grow; `Refused` where the connection refuses its call. Nothing
+    /// changes then.
+    pub fn step(&mut self, _alloc: Global, event: &Event<'_>) -> Result<Stepped, LabFault>
+        ensures happens { Happens self.old (happening_of event.now) self.new result }
+        // an event that is taken is a step of the plain machine, of the row that the table has for it
+        ensures machine { IfOk result (λ _. (m : Machine) → Ties m self.old → (n : Machine) × Step m (plain_event self.old (happening_of event.now)) n × Ties n self.new) }
+    {
+        self.rig.step(event)
+    }
+
+    /// Lets events happen, one after the other. A refused event changes nothing, and the next one follows. Where there is no
+    /// memory it stops, with the laboratory as after the events before that one.
+    pub fn run(&mut self, _alloc: Global, events: &[Event<'_>]) -> Result<(), AllocError>
+        ensures all { OnOk result (self.new ≡ after_all self.old (map happening_of events.now)) }
+        ensures no_memory { OnErr result (StopsWithin self.old (map happening_of events.now) self.new) }
+        // the events that were taken are a run of the plain machine
+        ensures machine { OnOk result ((m : Machine) → Ties m self.old → (n : Machine) × Run m (plain_run self.old (map happening_of events.now)) n × Ties n self.new) }
+    {
+        self.rig.run(events)
+    }
+
+    /// All that an end wrote, its item 0 first.
+    pub fn written(&self, side: Side) -> &[Item]
+        ensures { result.now ≡ (lab_end self.now side).written }
+    {
+        self.rig.written(side)
+    }
+
+    /// All that the user at an end read, item 0 of the other end first.
+    pub fn read(&self, side: Side) -> &[Item]
+        ensures { result.now ≡ (lab_end self.now side).read }
+    {
+        self.rig.read(side)
+    }
+
+    /// Every packet that was sent, with its stamp, the oldest first. An event names a copy by its place here.
+    pub fn copies(&self) -> &[Stamped]
+        ensures { result.now ≡ self.now.copies }
+    {
+        self.rig.copies()
+    }
+
+    /// How many packets an end stores, and their bytes with a header for each.
+    pub fn stored(&self, side: Side) -> (usize, usize)
+        ensures packets { result.0 ≡ stored_packets (lab_end self.now side).conn }
+        ensures bytes { result.1 ≡ stored_bytes (lab_end self.now side).conn }
+    {
+        self.rig.stored(side)
+    }
+
+    /// What is true of every laboratory, whatever happened in it and whatever will.
+    pub fn law_headline(&self)
+        // both connections and all packets stand for a state of the plain machine
+        ensures machine { HasMachine self.now }
+        // in each direction, what was read is a beginning of what was written
+        ensures beginning { (x : Side) → Begins (lab_end self.now (other x)).read (lab_end self.now x).written }
+        // an item that comes to an open end inside its window is what a read answers in its turn, until the end's own user closes
+        ensures in_turn { (copy : ℕ) (s : Stamped) (i : ℕ) (events : List Happening) → ComesInside self.now copy s i → Unclosed (other s.side) events →
+            ReadsInTurn (after_all self.now (DeliverCopy copy ∷ events)) (other s.side) i (item_of s.packet) }
+    {
+        let _ = &self.rig;
+    }
+}

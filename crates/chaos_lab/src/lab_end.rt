@@ -1,0 +1,222 @@
+//! One end of the laboratory.
+ghost use Rattle.std.specs.Prelude.{◌≡◌, ℕ, ◌<◌, ◌≤◌, [], ◌∷◌, ◌++◌, length, OnOk, OnErr, IfOk, Ok, Some, None, map, slice_get};
+ghost use Rattle.chaos_packet.specs.Outbox.{with_put};
+ghost use Rattle.chaos_packet.specs.Packet.{item_of};
+ghost use Rattle.chaos_conn.specs.Act.Call.{Accept, Close, Deliver, Read, TakeRequest, Tick, Write};
+ghost use Rattle.chaos_lab.specs.declared.side.Side.TheVariants.{B};
+ghost use Rattle.chaos_lab.specs.Shown.{place_of};
+ghost use Rattle.chaos_conn.specs.Calls.{front_of};
+ghost use Rattle.chaos_lab.specs.Inside.{end_view, HasRoom};
+ghost use Rattle.chaos_lab.specs.Makes.{Makes};
+ghost use Rattle.chaos_conn.specs.View.{new_conn};
+ghost use Rattle.chaos_conn.specs.Opening.{rfc_item};
+ghost use Rattle.chaos_lab.specs.Laboratory.{lab_request, lab_contact};
+
+use crate::event::Stepped;
+use crate::fault::LabFault;
+use chaos_conn::{Conn, ConnConfig, Delivered, End, ReadEnd};
+use chaos_packet::{Item, Opcode, Outbox, Packet, PktNum};
+use chaos_window::MAX_WINDOW;
+use std::alloc::{AllocError, Global};
+
+/// What A asks for.
+const CONTACT: &[u8] = b"LAB";
+
+/// Where A is.
+const PLACE_A: End = End {
+    address: 0o401,
+    index: 1,
+};
+
+/// Where B is.
+const PLACE_B: End = End {
+    address: 0o402,
+    index: 1,
+};
+
+/// A connection with its whole history.
+#[derive(Drop)]
+pub(crate) struct LabEnd {
+    pub(crate) conn: Conn,
+    /// The number of its item 0.
+    pub(crate) first: PktNum,
+    /// All that it wrote.
+    pub(crate) written: Vec<Item>,
+    /// All that its user read.
+    pub(crate) read: Vec<Item>,
+}
+
+impl LabEnd {
+    /// An end that wasn't asked.
+    pub(crate) fn new(alloc: Global, config: ConnConfig) -> Result<Self, AllocError>
+        ensures { IfOk result (λ e. end_view e ≡ record { conn = new_conn config; first = 0; written = []; read = [] }) }
+    {
+        Ok(LabEnd {
+            conn: Conn::new(alloc, config)?,
+            first: PktNum(0),
+            written: Vec::new(alloc),
+            read: Vec::new(alloc),
+        })
+    }
+
+    /// The end that asks the other at moment 0.
+    pub(crate) fn asking(
+        alloc: Global,
+        config: ConnConfig,
+        start: PktNum,
+        out: &mut Outbox,
+    ) -> Result<Self, AllocError>
+        requires empty { out.old.packets ≡ [] }
+        requires fits { 0 < out.old.cap }
+        ensures end { IfOk result (λ e. end_view e ≡ record { conn = (lab_request config start).view; first = start; written = rfc_item lab_contact ∷ []; read = [] }) }
+        ensures number { IfOk result (λ e. start < 65536) }
+        ensures packets { IfOk result (λ e. out.new ≡ record out.old { packets = (lab_request config start).packets }) }
+    {
+        let mut end = LabEnd::new(alloc, config)?;
+        end.first = start;
+        end.written.push(Item::new(Opcode::RFC, CONTACT))?;
+        let _ = end
+            .conn
+            .request(PLACE_A, PLACE_B.address, CONTACT, start, 0, out);
+        Ok(end)
+    }
+
+    /// Makes room for one more item in both lists.
+    pub(crate) fn grow(&mut self) -> Result<(), AllocError>
+        ensures same { end_view self.new ≡ end_view self.old }
+        ensures room { OnOk result (HasRoom self.new) }
+    {
+        self.written.reserve(1)?;
+        self.read.reserve(1)
+    }
+
+    /// Writes an item.
+    pub(crate) fn write(
+        &mut self,
+        op: Opcode,
+        bytes: &[u8],
+        now: u64,
+        out: &mut Outbox,
+    ) -> Result<Stepped, LabFault>
+        requires room { HasRoom self.old }
+        requires empty { out.old.packets ≡ [] }
+        requires fits { 0 < out.old.cap }
+        ensures { Makes (end_view self.old) (Write op bytes.now now) (end_view self.new) out.old out.new result }
+    {
+        match self.conn.write(op, bytes, now, out) {
+            Ok(number) => {
+                self.written.push_reserved(Item::new(op, bytes));
+                Ok(Stepped::Wrote(number))
+            }
+            Err(why) => Err(LabFault::Refused(why)),
+        }
+    }
+
+    /// Reads the next item, and keeps a copy of it.
+    pub(crate) fn read(&mut self, out: &mut Outbox) -> Result<Stepped, LabFault>
+        requires room { HasRoom self.old }
+        requires empty { out.old.packets ≡ [] }
+        requires fits { 0 < out.old.cap }
+        ensures { Makes (end_view self.old) Read (end_view self.new) out.old out.new result }
+    {
+        let given = self.conn.read(out);
+        if let ReadEnd::Item(item) = &given {
+            self.read.push_reserved(Item::new(item.op, item.bytes()));
+        }
+        Ok(Stepped::Read(given))
+    }
+
+    /// Takes a packet. An OPN that opens the end is read by that.
+    pub(crate) fn deliver(
+        &mut self,
+        packet: &Packet,
+        now: u64,
+        out: &mut Outbox,
+    ) -> Result<Stepped, LabFault>
+        requires room { HasRoom self.old }
+        requires empty { out.old.packets ≡ [] }
+        requires fits { 0 < out.old.cap }
+        ensures { Makes (end_view self.old) (Deliver packet.now now) (end_view self.new) out.old out.new result }
+    {
+        let delivered = self.conn.deliver(packet, now, out);
+        if let Delivered::Opened = &delivered {
+            self.read
+                .push_reserved(Item::new(packet.op, packet.bytes()));
+        }
+        Ok(Stepped::Delivered(delivered))
+    }
+
+    /// Ticks.
+    pub(crate) fn tick(&mut self, moment: u64, out: &mut Outbox) -> Result<Stepped, LabFault>
+        requires empty { out.old.packets ≡ [] }
+        requires fits { (self.old.conn.config.send_cap ≤ MAX_WINDOW) × (MAX_WINDOW ≤ out.old.cap) }
+        ensures { Makes (end_view self.old) (Tick moment) (end_view self.new) out.old out.new result }
+    {
+        Ok(Stepped::Ticked(self.conn.tick(moment, out)))
+    }
+
+    /// Closes.
+    pub(crate) fn close(&mut self, text: &[u8], out: &mut Outbox) -> Result<Stepped, LabFault>
+        requires empty { out.old.packets ≡ [] }
+        requires fits { 0 < out.old.cap }
+        ensures { Makes (end_view self.old) (Close text.now) (end_view self.new) out.old out.new result }
+    {
+        match self.conn.close(text, out) {
+            Ok(()) => Ok(Stepped::Closed),
+            Err(why) => Err(LabFault::Refused(why)),
+        }
+    }
+
+    /// Takes a request.
+    pub(crate) fn take_request(
+        &mut self,
+        rfc: &Packet,
+        now: u64,
+        out: &mut Outbox,
+    ) -> Result<Stepped, LabFault>
+        requires empty { out.old.packets ≡ [] }
+        ensures { Makes (end_view self.old) (TakeRequest rfc.now (place_of B) now) (end_view self.new) out.old out.new result }
+    {
+        match self.conn.take_request(rfc, PLACE_B, now) {
+            Ok(()) => Ok(Stepped::Requested),
+            Err(why) => Err(LabFault::Refused(why)),
+        }
+    }
+
+    /// Accepts the request, which is read by that.
+    pub(crate) fn accept(
+        &mut self,
+        start: PktNum,
+        now: u64,
+        out: &mut Outbox,
+    ) -> Result<Stepped, LabFault>
+        requires room { HasRoom self.old }
+        requires empty { out.old.packets ≡ [] }
+        requires fits { 0 < out.old.cap }
+        ensures { Makes (end_view self.old) (Accept start now) (end_view self.new) out.old out.new result }
+    {
+        let rfc = self.front();
+        match self.conn.accept(start, now, out) {
+            Ok(()) => {
+                self.first = start;
+                if let Some(rfc) = rfc {
+                    self.read.push_reserved(rfc);
+                }
+                if let Some(opn) = out.take() {
+                    self.written.push_reserved(Item::new(opn.op, opn.bytes()));
+                    out.put(opn);
+                }
+                Ok(Stepped::Accepted(start))
+            }
+            Err(why) => Err(LabFault::Refused(why)),
+        }
+    }
+
+    /// A copy of the next item that its user can read.
+    fn front(&self) -> Option<Item>
+        ensures { result ≡ front_of self.now.conn }
+    {
+        let item = self.conn.front()?;
+        Some(Item::new(item.op, item.bytes()))
+    }
+}

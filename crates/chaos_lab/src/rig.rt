@@ -1,0 +1,314 @@
+//! Two connections and the packets between them.
+ghost use Rattle.std.specs.Prelude.{◌≡◌, ℕ, ◌<◌, ◌+◌, ◌-◌, ◌≤◌, [], ◌∷◌, ◌++◌, length, map, Option, Some, None, Ok, Err, IfOk, IfErr, OnErr, OnOk, slice_get, nat_lt, vec_len, vec_capacity, ◌⊎◌};
+ghost use Rattle.chaos_lab.specs.Machine.{other, fresh_span};
+ghost use Rattle.chaos_conn.specs.Act.Call.{Accept, Close, Deliver, Read, TakeRequest, Tick, Write};
+ghost use Rattle.chaos_lab.specs.declared.side.Side.TheVariants.{B};
+ghost use Rattle.chaos_conn.specs.Config.{IsConfig};
+ghost use Rattle.chaos_conn.specs.Stored.{stored_packets, stored_bytes};
+ghost use Rattle.chaos_lab.specs.Shown.{place_of};
+ghost use Rattle.chaos_lab.specs.Laboratory.{Happens, happen, lab_end, lab_start, after_all, StopsWithin, Calls, CallsWith, is_fresh, is_request, stamp};
+ghost use Rattle.chaos_lab.specs.Laboratory.Happening.{DeliverCopy};
+ghost use Rattle.chaos_lab.specs.Inside.{end_view, happening_of, HasRoom};
+ghost use Rattle.chaos_lab.specs.Makes.{MakesAt};
+
+use crate::both_ends::BothEnds;
+use crate::event::{Event, Stepped};
+use crate::fault::LabFault;
+use crate::lab_end::LabEnd;
+use crate::side::Side;
+use crate::stamped::Stamped;
+use chaos_conn::ConnConfig;
+use chaos_packet::{Item, Kind, Opcode, Outbox, PktNum};
+use chaos_window::MAX_WINDOW;
+use std::alloc::{AllocError, Global};
+use std::marker::Model;
+
+/// How many items either end may write before a copy is stale.
+const FRESH_SPAN: usize = 32_640;
+
+/// Two ends of one connection, and every packet that was ever sent between them.
+#[derive(Drop)]
+pub(crate) struct Rig {
+    ends: BothEnds,
+    /// Every packet that was sent, the oldest first.
+    copies: Vec<Stamped>,
+    /// Whether B took a request.
+    asked: bool,
+    /// The greatest moment that was ticked.
+    clock: u64,
+    /// Empty between two events.
+    out: Outbox,
+}
+
+impl Model for Rig {
+    ghost use Rattle.std.specs.Prelude.{◌≡◌, ◌≤◌, []};
+    ghost use Rattle.chaos_lab.specs.Laboratory.{LabView};
+    ghost use Rattle.chaos_lab.specs.Inside.{end_view};
+    ghost use Rattle.chaos_lab.specs.Sound.{lab_view, IsSound};
+
+    ghost Value = { LabView };
+
+    ghost view = { lab_view };
+
+    ghost invariant = { IsSound };
+}
+
+impl Rig {
+    /// Two ends with these configurations. A, which is host 401 octal, has asked B, which is host 402 octal, for the contact
+    /// `LAB` at moment 0, and numbers what it writes from `start_a` on. Its RFC is copy 0.
+    pub(crate) fn new(
+        alloc: Global,
+        config_a: ConnConfig,
+        config_b: ConnConfig,
+        start_a: PktNum,
+    ) -> Result<Self, AllocError>
+        ensures start { IfOk result (λ rig. rig ≡ lab_start config_a config_b start_a) }
+        ensures number { IfOk result (λ rig. start_a < 65536) }
+        ensures configs { IsConfig config_a × IsConfig config_b }
+    {
+        let (_, _) = (config_a.send_cap(), config_b.send_cap());
+        let mut out = Outbox::new(alloc, MAX_WINDOW as usize)?;
+        let a = LabEnd::asking(alloc, config_a, start_a, &mut out)?;
+        let b = LabEnd::new(alloc, config_b)?;
+        let mut copies = Vec::with_capacity(alloc, MAX_WINDOW as usize)?;
+        let ends = BothEnds { a, b };
+        post(&mut copies, &mut out, Side::A, &ends);
+        Ok(Rig {
+            ends,
+            copies,
+            asked: false,
+            clock: 0,
+            out,
+        })
+    }
+
+    /// All that an end wrote, its item 0 first.
+    pub(crate) fn written(&self, side: Side) -> &[Item]
+        ensures { result.now ≡ (lab_end self.now side).written }
+    {
+        match side {
+            Side::A => self.ends.a.written.as_slice(),
+            Side::B => self.ends.b.written.as_slice(),
+        }
+    }
+
+    /// All that the user at an end read, item 0 of the other end first.
+    pub(crate) fn read(&self, side: Side) -> &[Item]
+        ensures { result.now ≡ (lab_end self.now side).read }
+    {
+        match side {
+            Side::A => self.ends.a.read.as_slice(),
+            Side::B => self.ends.b.read.as_slice(),
+        }
+    }
+
+    /// Every packet that was sent, with its stamp, the oldest first. An event names a copy by its place here.
+    pub(crate) fn copies(&self) -> &[Stamped]
+        ensures { result.now ≡ self.now.copies }
+    {
+        self.copies.as_slice()
+    }
+
+    /// How many packets an end stores, and their bytes with a header for each.
+    pub(crate) fn stored(&self, side: Side) -> (usize, usize)
+        ensures packets { result.0 ≡ stored_packets (lab_end self.now side).conn }
+        ensures bytes { result.1 ≡ stored_bytes (lab_end self.now side).conn }
+    {
+        match side {
+            Side::A => self.ends.a.conn.stored(),
+            Side::B => self.ends.b.conn.stored(),
+        }
+    }
+
+    /// Lets events happen, one after the other. A refused event changes nothing, and the next one follows. Where there is no
+    /// memory it stops, with the laboratory as after the events before that one.
+    pub(crate) fn run(&mut self, events: &[Event<'_>]) -> Result<(), AllocError>
+        ensures all { OnOk result (self.new ≡ after_all self.old (map happening_of events.now)) }
+        ensures no_memory { OnErr result (StopsWithin self.old (map happening_of events.now) self.new) }
+    {
+        for event in events {
+            self.attempt(event)?;
+        }
+        Ok(())
+    }
+
+    /// Lets an event happen, whatever it answers, unless there is no memory.
+    fn attempt(&mut self, event: &Event<'_>) -> Result<(), AllocError>
+        ensures ok { OnOk result (self.new ≡ (happen self.old (happening_of event.now)).lab) }
+        ensures err { OnErr result (self.new ≡ self.old) }
+    {
+        match self.step(event) {
+            Ok(_) => Ok(()),
+            Err(LabFault::NoMemory) => Err(AllocError),
+            Err(_) => Ok(()),
+        }
+    }
+
+    /// Lets an event happen.
+    pub(crate) fn step(&mut self, event: &Event<'_>) -> Result<Stepped, LabFault>
+        ensures { Happens self.old (happening_of event.now) self.new result }
+    {
+        match event {
+            Event::Write(side, op, bytes) => self.write(*side, *op, bytes),
+            Event::Read(side) => self.read_next(*side),
+            Event::Tick(side, moment) => self.tick(*side, *moment),
+            Event::Close(side, text) => self.close(*side, text),
+            Event::Accept(start) => self.accept(*start),
+            Event::Deliver(k) => self.deliver(*k),
+        }
+    }
+
+    /// A user writes an item.
+    fn write(&mut self, side: Side, op: Opcode, bytes: &[u8]) -> Result<Stepped, LabFault>
+        ensures { Calls self.old side (Write op bytes.now self.old.clock) self.new result }
+    {
+        grow(&mut self.ends, &mut self.copies)?;
+        let stepped = self.ends.write(side, op, bytes, self.clock, &mut self.out)?;
+        post(&mut self.copies, &mut self.out, side, &self.ends);
+        Ok(stepped)
+    }
+
+    /// A user reads.
+    fn read_next(&mut self, side: Side) -> Result<Stepped, LabFault>
+        ensures { Calls self.old side Read self.new result }
+    {
+        grow(&mut self.ends, &mut self.copies)?;
+        let stepped = self.ends.read(side, &mut self.out)?;
+        post(&mut self.copies, &mut self.out, side, &self.ends);
+        Ok(stepped)
+    }
+
+    /// An end gets its own moment.
+    fn tick(&mut self, side: Side, moment: u64) -> Result<Stepped, LabFault>
+        ensures { Calls self.old side (Tick moment) self.new result }
+    {
+        grow(&mut self.ends, &mut self.copies)?;
+        let stepped = self.ends.tick(side, moment, &mut self.out)?;
+        self.clock = self.clock.max(moment);
+        post(&mut self.copies, &mut self.out, side, &self.ends);
+        Ok(stepped)
+    }
+
+    /// A user closes its end.
+    fn close(&mut self, side: Side, text: &[u8]) -> Result<Stepped, LabFault>
+        ensures { Calls self.old side (Close text.now) self.new result }
+    {
+        grow(&mut self.ends, &mut self.copies)?;
+        let stepped = self.ends.close(side, text, &mut self.out)?;
+        post(&mut self.copies, &mut self.out, side, &self.ends);
+        Ok(stepped)
+    }
+
+    /// B's user accepts the request.
+    fn accept(&mut self, start: PktNum) -> Result<Stepped, LabFault>
+        ensures { Calls self.old B (Accept start self.old.clock) self.new result }
+    {
+        grow(&mut self.ends, &mut self.copies)?;
+        let stepped = self.ends.accept(start, self.clock, &mut self.out)?;
+        post(&mut self.copies, &mut self.out, Side::B, &self.ends);
+        Ok(stepped)
+    }
+
+    /// A copy comes to the end that it was sent to.
+    fn deliver(&mut self, k: usize) -> Result<Stepped, LabFault>
+        ensures { Happens self.old (DeliverCopy k) self.new result }
+    {
+        let Some(copy) = self.copies.get(k) else {
+            return Err(LabFault::NoSuchCopy);
+        };
+        if !is_fresh(&self.ends, copy) {
+            return Err(LabFault::Stale);
+        }
+        if is_request(self.asked, copy) {
+            return self.take_request(k);
+        }
+        self.deliver_packet(k)
+    }
+
+    /// B takes the request that a copy carries.
+    fn take_request(&mut self, k: usize) -> Result<Stepped, LabFault>
+        ensures { CallsWith (slice_get self.old.copies k) (λ copy. Calls self.old B (TakeRequest copy.packet (place_of B) self.old.clock) self.new result) }
+    {
+        grow(&mut self.ends, &mut self.copies)?;
+        let Some(copy) = self.copies.get(k) else {
+            return Err(LabFault::NoSuchCopy);
+        };
+        let stepped = self
+            .ends
+            .take_request(&copy.packet, self.clock, &mut self.out)?;
+        self.asked = true;
+        post(&mut self.copies, &mut self.out, Side::B, &self.ends);
+        Ok(stepped)
+    }
+
+    /// A copy comes as a packet of the connection.
+    fn deliver_packet(&mut self, k: usize) -> Result<Stepped, LabFault>
+        ensures { CallsWith (slice_get self.old.copies k) (λ copy. Calls self.old (other copy.side) (Deliver copy.packet self.old.clock) self.new result) }
+    {
+        grow(&mut self.ends, &mut self.copies)?;
+        let Some(copy) = self.copies.get(k) else {
+            return Err(LabFault::NoSuchCopy);
+        };
+        let side = copy.side.other();
+        let stepped = self
+            .ends
+            .deliver(side, &copy.packet, self.clock, &mut self.out)?;
+        post(&mut self.copies, &mut self.out, side, &self.ends);
+        Ok(stepped)
+    }
+}
+
+/// Makes room for all that one call may add.
+fn grow(ends: &mut BothEnds, copies: &mut Vec<Stamped>) -> Result<(), LabFault>
+    ensures ends { (end_view ends.new.a ≡ end_view ends.old.a) × (end_view ends.new.b ≡ end_view ends.old.b) }
+    ensures copies { copies.new.items ≡ copies.old.items }
+    ensures room { OnOk result (HasRoom ends.new.a × HasRoom ends.new.b × (vec_len copies.new + MAX_WINDOW ≤ vec_capacity copies.new)) }
+    ensures err { IfErr result (λ fault. fault ≡ LabFault.NoMemory) }
+{
+    if ends.grow().is_err() || copies.reserve(MAX_WINDOW as usize).is_err() {
+        return Err(LabFault::NoMemory);
+    }
+    Ok(())
+}
+
+/// Whether each end has written few enough items since a copy was sent.
+fn is_fresh(ends: &BothEnds, copy: &Stamped) -> bool
+    ensures { result ≡ is_fresh (end_view ends.now.a) (end_view ends.now.b) copy.now }
+{
+    is_near(ends.a.written.len(), copy.len_a) && is_near(ends.b.written.len(), copy.len_b)
+}
+
+/// Whether a length exceeds its stamp by less than what makes a copy stale.
+fn is_near(len: usize, stamp: usize) -> bool
+    ensures { result ≡ nat_lt (len - stamp) fresh_span }
+{
+    len.saturating_sub(stamp) < FRESH_SPAN
+}
+
+/// Whether a copy asks B, which took no request yet.
+fn is_request(asked: bool, copy: &Stamped) -> bool
+    ensures { result ≡ is_request asked copy.now }
+{
+    copy.side == Side::A && !asked && copy.packet.op.kind() == Kind::Rfc
+}
+
+/// Takes what was put out into the copies.
+fn post(copies: &mut Vec<Stamped>, out: &mut Outbox, side: Side, ends: &BothEnds)
+    requires few { length out.old.packets ≤ MAX_WINDOW }
+    requires room { vec_len copies.old + MAX_WINDOW ≤ vec_capacity copies.old }
+    ensures copies { copies.new.items ≡ copies.old.items ++ map (stamp side (length ends.now.a.written.items) (length ends.now.b.written.items)) out.old.packets }
+    ensures out { out.new ≡ record out.old { packets = [] } }
+{
+    let (len_a, len_b) = (ends.a.written.len(), ends.b.written.len());
+    for _ in 0..MAX_WINDOW {
+        let Some(packet) = out.take() else {
+            break;
+        };
+        copies.push_reserved(Stamped {
+            side,
+            packet,
+            len_a,
+            len_b,
+        });
+    }
+}

@@ -1,0 +1,17 @@
+//! A packet that was sent, with its stamp.
+
+use crate::side::Side;
+use chaos_packet::Packet;
+
+/// A packet that was sent, and its stamp: how many items each end had written after the call that sent it, the packet's own
+/// item counted.
+#[derive(Debug, PartialEq, Eq, Drop)]
+pub struct Stamped {
+    /// The end that sent it.
+    pub side: Side,
+    pub packet: Packet,
+    /// How many items A had written.
+    pub len_a: usize,
+    /// How many items B had written.
+    pub len_b: usize,
+}
