@@ -260,6 +260,6 @@ deliver_at Open x kind told rest b b' pk now e p len_e len_p apart at end m near
 deliver_at Ended x kind told rest b b' pk now e p len_e len_p apart at end m near t tm ag late s = dead_leaves Ended x rest b b' pk now p e at end (is_dead rest.ended end)
 deliver_at Closed x kind told rest b b' pk now e p len_e len_p apart at end m near t tm ag late s = dead_leaves Closed x rest b b' pk now p e at end refl
 
--- D13 for the end that gets a packet that stands for a fresh copy, and what it sends. (An RFC that comes to an end not asked yet is `request_leaves`.)
+-- What stands for the end that gets a packet of a fresh copy, and what it sends. (An RFC that comes to an end not asked yet is `request_leaves`.)
 pub deliver_leaves : (x : Side) (kind : Kind) (told : Told) (rest : Rest) (b b' : ℕ) (pk : PacketView) (now : ℕ) (e p : Plain) (len_e len_p : ℕ) → (e.phase ≡ Inactive → kind ≡ Nth 0 → ⊥) → is_ended rest.ended ≡ true → Known x b b' e p len_e len_p → KindOk kind p len_p → ToldOk told p e len_e → TellsMet kind told → Agrees (other x) kind told → ComesLate x kind e → StandsFor (other x) b' b p pk kind told → Leaves x b b' p (received e.phase kind told p e) (act_deliver (shown x rest b b' p e) pk now)
 deliver_leaves x kind told rest b b' pk now e p len_e len_p apart end m near t tm ag late s = deliver_at e.phase x kind told rest b b' pk now e p len_e len_p apart refl end m near t tm ag late s

@@ -1,3 +1,8 @@
+mod memory;
+mod play;
+mod rows;
+mod stale;
+
 use super::*;
 
 #[test]
