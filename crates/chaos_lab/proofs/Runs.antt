@@ -1,5 +1,5 @@
 -- Runs of the laboratory are runs of the plain machine.
-use Rattle.std.proofs.Common.{◌≡◌, ◌≢◌, ℕ, zero, suc, ◌<◌, ◌≤◌, List, [], ◌∷◌, length, get_or, take, Option, Some, None, Result, Ok, Err, OnOk, OnErr, IfOk, refl, sym, ap, ◌∙◌, subst, inl, inr, ◌⊎◌, ⊎_elim, arith}
+use Rattle.std.proofs.Common.{◌≡◌, ◌≢◌, ℕ, zero, suc, ◌<◌, ◌≤◌, List, [], ◌∷◌, length, get_or, take, Option, Some, None, Result, Ok, Err, OnOk, OnErr, IfOk, refl, sym, ap, true, false, ◌∙◌, subst, inl, inr, ◌⊎◌, ⊎_elim, arith}
 use Rattle.std.specs.List.{Contains}
 use Rattle.chaos_lab.specs.declared.side.Side.{Side}
 use Rattle.chaos_lab.specs.declared.event.Stepped.{Stepped as Answer}
@@ -7,12 +7,15 @@ use Rattle.chaos_lab.specs.declared.fault.LabFault.{LabFault}
 use Rattle.chaos_lab.specs.declared.fault.LabFault.TheVariants as fault
 use Rattle.chaos_lab.specs.Machine.{Machine, Event, Schedule, Step, Run}
 use Rattle.chaos_lab.specs.Machine.Event.{AcceptAt, WriteAt, ReadAt, TickAt, CloseAt, Deliver}
-use Rattle.chaos_lab.specs.Laboratory.{LabView, Happening, Happens, StopsWithin, happen, after_all}
+use Rattle.std.specs.Prelude.{slice_get}
+use Rattle.std.proofs.lemmas.Bool.{cond-true, cond-false, cases_Bool}
+use Rattle.chaos_lab.specs.declared.stamped.Stamped.{Stamped as Sent}
+use Rattle.chaos_lab.specs.Laboratory.{LabView, Happening, Done, Happens, StopsWithin, happen, after_all, check, copy_fault, delivered, is_fresh}
 use Rattle.chaos_lab.specs.Laboratory.Happening.{WriteBy, ReadBy, TickOf, CloseBy, AcceptFrom, DeliverCopy}
 use Rattle.chaos_lab.specs.Tied.{Ties, HasMachine, plain_event, plain_next, plain_run}
 use Rattle.chaos_lab.specs.Headline.{Unclosed}
 use Rattle.chaos_lab.proofs.OnSide.{Outcome, Refuses, Steps, Stepped}
-use Rattle.chaos_lab.proofs.LabTies.{event_ties, ok_or_refused}
+use Rattle.chaos_lab.proofs.LabTies.{Answered, event_ties, ok_or_refused}
 
 -- the machine after these events
 pub record Ran (m : Machine) (events : Schedule) (l : LabView) : Type 0 where
@@ -86,6 +89,40 @@ module _ {R E : Type 0} where
 pub step_on : (l m : LabView) (event : Happening) (r : Result Answer LabFault) → Happens l event m r → IfOk r (λ _. (w : Machine) → Ties w l → (v : Machine) × Step w (plain_event l event) v × Ties v m)
 step_on l m event (Ok s) h = step_of l m event (Ok s) s h refl
 step_on l m event (Err why) h = tt
+
+-- ---- refusals
+
+pub unchanged : (l m : LabView) (event : Happening) (r : Result Answer LabFault) → Happens l event m r → OnErr r (m ≡ l)
+unchanged l m event (Ok s) h = tt
+unchanged l m event (Err why) (inr h) = h.1
+unchanged l m event (Err why) (inl h) = by (ok_or_refused l event)
+  where
+    by : Answered l (happen l event) → m ≡ l
+    by (inl s) = let no : Err why ≡ Ok s.0 = h.1 ∙ s.1 in absurd (cc)
+    by (inr e) = h.0 ∙ e.2
+
+copy_checked : (l : LabView) (o : Option Sent) (why : LabFault) → copy_fault l o ≡ Some why → (delivered l o).answer ≡ Err why
+copy_checked l None why h = let same : fault.NoSuchCopy ≡ why = cc in ap Err same
+copy_checked l (Some s) why h =
+    ⊎_elim
+    (λ (near : is_fresh l.a l.b s ≡ true). let no : None ≡ Some why = sym (cond-true _ _ _ near) ∙ h in absurd (cc))
+    (λ (far : is_fresh l.a l.b s ≡ false).
+    let is : Some fault.Stale ≡ Some why = sym (cond-false _ _ _ far) ∙ h in
+    let same : fault.Stale ≡ why = cc in
+    ap (λ (d : Done). d.answer) (cond-false _ _ _ far) ∙ ap Err same)
+    (cases_Bool (is_fresh l.a l.b s))
+
+happen_checked : (l : LabView) (event : Happening) (why : LabFault) → check l event ≡ Some why → (happen l event).answer ≡ Err why
+happen_checked l (DeliverCopy n) why h = copy_checked l (slice_get l.copies n) why h
+happen_checked l (WriteBy x op bytes) why h = absurd (cc)
+happen_checked l (ReadBy x) why h = absurd (cc)
+happen_checked l (TickOf x now) why h = absurd (cc)
+happen_checked l (CloseBy x text) why h = absurd (cc)
+happen_checked l (AcceptFrom start) why h = absurd (cc)
+
+pub checked : (l m : LabView) (event : Happening) (r : Result Answer LabFault) → Happens l event m r → (why : LabFault) → check l event ≡ Some why → r ≡ Err why
+checked l m event r (inl h) why is = h.1 ∙ happen_checked l event why is
+checked l m event r (inr h) why is = let no : None ≡ Some why = sym h.0 ∙ is in absurd (cc)
 
 -- ---- an end that its user doesn't close
 

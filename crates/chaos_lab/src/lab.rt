@@ -1,12 +1,12 @@
 //! The laboratory.
-ghost use Rattle.std.specs.Prelude.{◌≡◌, ℕ, List, ◌∷◌, map, IfOk, OnOk, OnErr};
+ghost use Rattle.std.specs.Prelude.{◌≡◌, ℕ, List, ◌∷◌, map, Some, Err, IfOk, OnOk, OnErr};
 ghost use Rattle.chaos_conn.specs.Stored.{stored_packets, stored_bytes};
 ghost use Rattle.chaos_packet.specs.Begins.{Begins};
 ghost use Rattle.chaos_packet.specs.Packet.{item_of};
 ghost use Rattle.chaos_lab.specs.declared.side.Side.{Side};
 ghost use Rattle.chaos_lab.specs.declared.stamped.Stamped.{Stamped};
 ghost use Rattle.chaos_lab.specs.Machine.{Machine, Step, Run, other};
-ghost use Rattle.chaos_lab.specs.Laboratory.{Happening, Happens, lab_end, lab_start, after_all, StopsWithin};
+ghost use Rattle.chaos_lab.specs.Laboratory.{Happening, Happens, check, lab_end, lab_start, after_all, StopsWithin};
 ghost use Rattle.chaos_lab.specs.Laboratory.Happening.{DeliverCopy};
 ghost use Rattle.chaos_lab.specs.Headline.{ComesInside, Unclosed, ReadsInTurn};
 ghost use Rattle.chaos_lab.specs.Inside.{happening_of};
@@ -68,6 +68,9 @@ impl Lab {
     /// changes then.
     pub fn step(&mut self, _alloc: Global, event: &Event<'_>) -> Result<Stepped, LabFault>
         ensures happens { Happens self.old (happening_of event.now) self.new result }
+        // a copy that isn't there or isn't fresh is refused for that, whatever memory there is
+        ensures checked { (why : LabFault) → check self.old (happening_of event.now) ≡ Some why → result ≡ Err why }
+        ensures refused { OnErr result (self.new ≡ self.old) }
         // an event that is taken is a step of the plain machine, of the row that the table has for it
         ensures machine { IfOk result (λ _. (m : Machine) → Ties m self.old → (n : Machine) × Step m (plain_event self.old (happening_of event.now)) n × Ties n self.new) }
     {
