@@ -18,12 +18,6 @@ drop_at [] i x h = cc
 drop_at (y ∷ ys) zero x h = cc
 drop_at (y ∷ ys) (suc i) x h = let e = drop_at ys i x h in let f = simp unary_clauses at e in simp unary_clauses f
 
--- where nothing is at a place, the list ends before it
-pub none_past : {X : Type 0} (xs : List X) (i : ℕ) → slice_get xs i ≡ None → length xs ≤ i
-none_past [] i h = omega arith
-none_past (y ∷ ys) zero h = cc
-none_past (y ∷ ys) (suc i) h = let e = none_past ys i h in omega (arith, e)
-
 -- an item that doesn't pass is passed over
 pub any_step : {X : Type 0} (p : X → Bool) (xs : List X) (i : ℕ) (x : X) (r : Bool) → slice_get xs i ≡ Some x → p x ≡ false → list_any p (drop i xs) ≡ r → list_any p (drop (i + 1) xs) ≡ r
 any_step p xs i x r h fails e = let f = rw (drop_at xs i x h) at e in rw fails at f
@@ -44,7 +38,7 @@ pub length-packets_from : (v : ConnView) (number : ℕ) (items : List ItemView) 
 length-packets_from v number [] = refl
 length-packets_from v number (item ∷ items) = ap suc (length-packets_from v (num_after number 1) items)
 
-pub ruleset places = (drop_at, none_past, length-packets_from)
+pub ruleset places = (drop_at, length-packets_from)
 
 -- a sum goes on by one
 pub sum_step : {X : Type 0} (f : X → ℕ) (xs : List X) (i : ℕ) (x : X) (b t : ℕ) → slice_get xs i ≡ Some x → b + sum_by f (drop i xs) ≡ t → b + f x + sum_by f (drop (i + 1) xs) ≡ t

@@ -5,13 +5,14 @@ use Rattle.chaos_packet.specs.Outbox.{OutboxView, with_put}
 use Rattle.chaos_conn.specs.declared.state.End.{End}
 use Rattle.chaos_conn.specs.declared.fault.ConnFault.{ConnFault}
 use Rattle.chaos_conn.specs.declared.answers.Delivered.{Delivered}
+use Rattle.chaos_conn.specs.declared.answers.ReadDone.{ReadDone}
 use Rattle.chaos_conn.specs.declared.answers.ReadEnd.{ReadEnd}
 use Rattle.chaos_conn.specs.declared.answers.Ticked.{Ticked}
 use Rattle.chaos_conn.specs.View.{ConnView}
-use Rattle.chaos_conn.specs.Acted.{Acted}
+use Rattle.chaos_conn.specs.Acted.{Acted, map_answer}
 use Rattle.chaos_conn.specs.Opening.{Outcome, act_request, act_take_request, act_accept, act_answer, act_reject}
 use Rattle.chaos_conn.specs.Arriving.{act_deliver}
-use Rattle.chaos_conn.specs.Calls.{act_write, act_unc, act_close, act_read}
+use Rattle.chaos_conn.specs.Calls.{act_write, act_unc, act_close, act_read, act_read_done}
 use Rattle.chaos_conn.specs.Time.{act_tick}
 
 -- the calls that change a connection
@@ -25,6 +26,7 @@ pub data Call : Type 0 where
   Write : (op : ℕ) → (bytes : List ℕ) → (now : ℕ) → Call
   Unc : (bytes : List ℕ) → Call
   Read : Call
+  FinishRead : Call
   Close : (text : List ℕ) → Call
   Tick : (now : ℕ) → Call
 
@@ -34,26 +36,23 @@ pub data Reply : Type 0 where
   Came : Delivered → Reply
   Wrote : Result ℕ ConnFault → Reply
   Gave : ReadEnd → Reply
+  Finished : ReadDone → Reply
   Ticks : Ticked → Reply
-
-module _ {A : Type 0} where
-  -- with the answer named
-  abbrev pub replying : (A → Reply) → Acted A → Acted Reply
-  replying named acted = record { view = acted.view; packets = acted.packets; answer = named acted.answer }
 
 -- what each call makes of an end
 abbrev pub act : ConnView → Call → Acted Reply
-act v (Request me peer contact start now) = replying Did (act_request v me peer contact start now)
-act v (TakeRequest rfc me now) = replying Did (act_take_request v rfc me now)
-act v (Accept start now) = replying Did (act_accept v start now)
-act v (Answer bytes) = replying Did (act_answer v bytes)
-act v (Reject text) = replying Did (act_reject v text)
-act v (Deliver packet now) = replying Came (act_deliver v packet now)
-act v (Write op bytes now) = replying Wrote (act_write v op bytes now)
-act v (Unc bytes) = replying Did (act_unc v bytes)
-act v Read = replying Gave (act_read v)
-act v (Close text) = replying Did (act_close v text)
-act v (Tick now) = replying Ticks (act_tick v now)
+act v (Request me peer contact start now) = map_answer Did (act_request v me peer contact start now)
+act v (TakeRequest rfc me now) = map_answer Did (act_take_request v rfc me now)
+act v (Accept start now) = map_answer Did (act_accept v start now)
+act v (Answer bytes) = map_answer Did (act_answer v bytes)
+act v (Reject text) = map_answer Did (act_reject v text)
+act v (Deliver packet now) = map_answer Came (act_deliver v packet now)
+act v (Write op bytes now) = map_answer Wrote (act_write v op bytes now)
+act v (Unc bytes) = map_answer Did (act_unc v bytes)
+act v Read = map_answer Gave (act_read v)
+act v FinishRead = map_answer Finished (act_read_done v)
+act v (Close text) = map_answer Did (act_close v text)
+act v (Tick now) = map_answer Ticks (act_tick v now)
 
 -- how many packets a call puts out at most
 abbrev pub most_packets : ConnView → Call → ℕ

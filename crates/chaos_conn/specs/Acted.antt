@@ -10,6 +10,11 @@ pub record Acted (A : Type 0) : Type 0 where
   pub packets : List PacketView
   pub answer : A
 
+module _ {A B : Type 0} where
+  -- the same view and packets, with what comes of the answer
+  abbrev pub map_answer : (A → B) → Acted A → Acted B
+  map_answer f acted = record { view = acted.view; packets = acted.packets; answer = f acted.answer }
+
 module _ {A : Type 0} where
   -- a call that puts nothing out
   abbrev pub quietly : ConnView → A → Acted A

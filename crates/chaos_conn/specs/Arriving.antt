@@ -1,8 +1,8 @@
 -- The delivery table: what a packet that arrives makes of an end.
 use Rattle.std.specs.Prelude.{ℕ, Bool, true, false, ◌&&◌, not, ◌==◌, if◌then◌else◌, [], Option, Some, None}
 use Rattle.chaos_packet.specs.Item.{ItemView}
-use Rattle.chaos_packet.specs.Opcode.{kind_of}
-use Rattle.chaos_packet.specs.Packet.{PacketView, status_of}
+use Rattle.chaos_packet.specs.Opcode.{kind_of, is_rfc}
+use Rattle.chaos_packet.specs.Packet.{PacketView, item_of, status_of}
 use Rattle.chaos_packet.specs.declared.opcode.Kind.{Kind}
 use Rattle.chaos_packet.specs.declared.opcode.Kind.TheVariants as kind
 use Rattle.chaos_window.specs.Send.{after_acknowledgement, after_receipt, after_window}
@@ -18,12 +18,11 @@ use Rattle.chaos_conn.specs.declared.answers.Delivered.TheVariants as answer
 use Rattle.chaos_conn.specs.State.{is_live, is_requested}
 use Rattle.chaos_conn.specs.View.{ConnView, heard_at}
 use Rattle.chaos_conn.specs.Acted.{Acted, quietly}
-use Rattle.chaos_conn.specs.Sending.{is_rfc, with_sts}
-use Rattle.chaos_conn.specs.Opening.{item_of}
+use Rattle.chaos_conn.specs.Sending.{with_sts}
 
 -- nothing is made of a packet
-abbrev pub dropped : ConnView → Why → Acted Delivered
-dropped v reason = quietly v (answer.Dropped reason)
+abbrev pub drop_for : ConnView → Why → Acted Delivered
+drop_for v reason = quietly v (answer.Dropped reason)
 
 -- ---- what a packet tells
 
@@ -58,16 +57,16 @@ repeated_request v _ = quietly v answer.Duplicate
 -- RFC: one is for an end that was asked, and is to be the request that it took
 abbrev pub after_rfc : ConnView → PacketView → ℕ → Acted Delivered
 after_rfc v p now =
-    if v.asked then dropped v why.BadOp
-    else (if not (is_index v.peer_index p.src_index) then dropped v why.Stranger
-    else (if not (p.num == v.request) then dropped v why.OtherNumber
+    if v.asked then drop_for v why.BadOp
+    else (if not (is_index v.peer_index p.src_index) then drop_for v why.Stranger
+    else (if not (p.num == v.request) then drop_for v why.OtherNumber
     else repeated_request (heard_at v now) v.state))
 
 -- ---- packets to an end that asked
 
 -- the end is open: the packet's number was read as item 0, and its source index is the peer's
-abbrev pub opened : ConnView → PacketView → ConnView
-opened v p = record v {
+abbrev pub after_opening : ConnView → PacketView → ConnView
+after_opening v p = record v {
   state = st.Open;
   peer_index = Some p.src_index;
   probed = v.last;
@@ -76,8 +75,8 @@ opened v p = record v {
 
 -- OPN with this status: it opens the end
 abbrev pub after_opn_telling : ConnView → PacketView → ℕ → Option (ℕ × ℕ) → Acted Delivered
-after_opn_telling v p now None = dropped v why.BadStatus
-after_opn_telling v p now (Some told) = with_sts (opened (heard_with_status v p now told) p) answer.Opened
+after_opn_telling v p now None = drop_for v why.BadStatus
+after_opn_telling v p now (Some told) = with_sts (after_opening (heard_with_status v p now told) p) answer.Opened
 
 abbrev pub after_opn : ConnView → PacketView → ℕ → Acted Delivered
 after_opn v p now = after_opn_telling v p now (status_of p)
@@ -93,19 +92,19 @@ after_fwd v p now = quietly (record (heard_at v now) { state = st.Forwarded }) (
 -- ---- packets that end any live end
 
 -- the end is ended: items that are held stay readable, but a request that was not accepted is dropped
-abbrev pub ended : ConnView → State → ConnView
-ended v state = record v {
+abbrev pub after_end : ConnView → State → ConnView
+after_end v state = record v {
   state = state;
   recv = if is_requested v.state then clear_receive v.recv.cap else v.recv;
 }
 
 -- CLS: the peer closed, or refused
 abbrev pub after_cls : ConnView → PacketView → ℕ → Acted Delivered
-after_cls v p now = quietly (ended (heard_at v now) st.ClsReceived) (answer.Closed p)
+after_cls v p now = quietly (after_end (heard_at v now) st.ClsReceived) (answer.Closed p)
 
 -- LOS: the peer's host knows no such connection
 abbrev pub after_los : ConnView → PacketView → ℕ → Acted Delivered
-after_los v p now = quietly (ended (heard_at v now) st.LosReceived) (answer.Lost p)
+after_los v p now = quietly (after_end (heard_at v now) st.LosReceived) (answer.Lost p)
 
 -- ---- packets to an open end
 
@@ -128,7 +127,7 @@ after_eof v p now = after_item_came (heard_with_ack v p now) p.num (record { op 
 
 -- a second OPN with this status: its number isn't looked at
 abbrev pub after_second_opn_telling : ConnView → PacketView → ℕ → Option (ℕ × ℕ) → Acted Delivered
-after_second_opn_telling v p now None = dropped v why.BadStatus
+after_second_opn_telling v p now None = drop_for v why.BadStatus
 after_second_opn_telling v p now (Some told) = with_sts (heard_with_status v p now told) answer.Duplicate
 
 abbrev pub after_second_opn : ConnView → PacketView → ℕ → Acted Delivered
@@ -140,7 +139,7 @@ after_sns v p now = with_sts (heard_with_ack v p now) answer.Probed
 
 -- STS with this status
 abbrev pub after_sts_telling : ConnView → PacketView → ℕ → Option (ℕ × ℕ) → Acted Delivered
-after_sts_telling v p now None = dropped v why.BadStatus
+after_sts_telling v p now None = drop_for v why.BadStatus
 after_sts_telling v p now (Some told) = quietly (heard_with_status v p now told) answer.Status
 
 abbrev pub after_sts : ConnView → PacketView → ℕ → Acted Delivered
@@ -159,13 +158,13 @@ deliver_asking v p now kind.Ans = after_ans v p now
 deliver_asking v p now kind.Fwd = after_fwd v p now
 deliver_asking v p now kind.Cls = after_cls v p now
 deliver_asking v p now kind.Los = after_los v p now
-deliver_asking v p now _ = dropped v why.NotOpen
+deliver_asking v p now _ = drop_for v why.NotOpen
 
 -- RfcReceived
 abbrev pub deliver_requested : ConnView → PacketView → ℕ → Kind → Acted Delivered
 deliver_requested v p now kind.Cls = after_cls v p now
 deliver_requested v p now kind.Los = after_los v p now
-deliver_requested v p now _ = dropped v why.NotOpen
+deliver_requested v p now _ = drop_for v why.NotOpen
 
 -- Open
 abbrev pub deliver_open : ConnView → PacketView → ℕ → Kind → Acted Delivered
@@ -177,14 +176,14 @@ deliver_open v p now kind.Sts = after_sts v p now
 deliver_open v p now kind.Unc = after_unc v p now
 deliver_open v p now kind.Cls = after_cls v p now
 deliver_open v p now kind.Los = after_los v p now
-deliver_open v p now _ = dropped v why.BadOp
+deliver_open v p now _ = drop_for v why.BadOp
 
 -- any live end
 abbrev pub deliver_in : State → ConnView → PacketView → ℕ → Acted Delivered
 deliver_in st.RfcSent v p now = deliver_asking v p now (kind_of p.op)
 deliver_in st.RfcReceived v p now = deliver_requested v p now (kind_of p.op)
 deliver_in st.Open v p now = deliver_open v p now (kind_of p.op)
-deliver_in _ v p now = dropped v why.NotOpen
+deliver_in _ v p now = drop_for v why.NotOpen
 
 -- ---- the checks before the table
 
@@ -204,8 +203,8 @@ is_between_indices v p = p.dst_index == v.me.index && may_be_index v.peer_index 
 -- The checks in their order; the first that applies decides. An RFC's destination index is not looked at.
 abbrev pub act_deliver : ConnView → PacketView → ℕ → Acted Delivered
 act_deliver v p now =
-    if not (is_live v.state) then dropped v why.NotOpen
-    else (if not (is_between_hosts v p) then dropped v why.Stranger
+    if not (is_live v.state) then drop_for v why.NotOpen
+    else (if not (is_between_hosts v p) then drop_for v why.Stranger
     else (if is_rfc (kind_of p.op) then after_rfc v p now
-    else (if not (is_between_indices v p) then dropped v why.Stranger
+    else (if not (is_between_indices v p) then drop_for v why.Stranger
     else deliver_in v.state v p now)))

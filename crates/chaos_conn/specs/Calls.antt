@@ -1,7 +1,7 @@
 -- The user's calls on a connection: writing, reading and closing.
 use Rattle.std.specs.Prelude.{ℕ, ◌+◌, ◌*◌, Bool, ◌&&◌, ◌==◌, nat_lt, nat_le, if◌then◌else◌, List, [], ◌∷◌, length, Option, Some, None, Result, Ok, Err}
 use Rattle.chaos_packet.specs.Item.{ItemView}
-use Rattle.chaos_packet.specs.Opcode.{kind_of}
+use Rattle.chaos_packet.specs.Opcode.{op_cls, op_unc, kind_of}
 use Rattle.chaos_packet.specs.Packet.{PacketView}
 use Rattle.chaos_packet.specs.declared.limits.TheConstants.{MAX_DATA}
 use Rattle.chaos_packet.specs.declared.opcode.Kind.{Kind}
@@ -10,13 +10,15 @@ use Rattle.chaos_window.specs.Send.{SendView, outstanding_of, next_of}
 use Rattle.chaos_window.specs.Receive.{item_at, after_advance}
 use Rattle.chaos_conn.specs.declared.fault.ConnFault.{ConnFault}
 use Rattle.chaos_conn.specs.declared.fault.ConnFault.TheVariants as fault
+use Rattle.chaos_conn.specs.declared.answers.ReadDone.{ReadDone}
+use Rattle.chaos_conn.specs.declared.answers.ReadDone.TheVariants as done
 use Rattle.chaos_conn.specs.declared.answers.ReadEnd.{ReadEnd}
 use Rattle.chaos_conn.specs.declared.answers.ReadEnd.TheVariants as end
 use Rattle.chaos_conn.specs.State.{is_open, is_opening, is_inactive, tells_close}
 use Rattle.chaos_conn.specs.View.{ConnView, moment}
-use Rattle.chaos_conn.specs.Acted.{Acted, quietly}
-use Rattle.chaos_conn.specs.Sending.{op_cls, op_unc, untelling_packet, with_item, with_sts}
-use Rattle.chaos_conn.specs.Opening.{Outcome, refused, closed_conn}
+use Rattle.chaos_conn.specs.Acted.{Acted, quietly, map_answer}
+use Rattle.chaos_conn.specs.Sending.{untelling_packet, with_item, with_sts}
+use Rattle.chaos_conn.specs.Opening.{Outcome, refusal, closed_conn}
 
 -- ---- a write
 
@@ -52,9 +54,9 @@ act_write v op bytes now =
 abbrev pub act_unc : ConnView → List ℕ → Acted Outcome
 act_unc v bytes =
     if is_open v.state then
-    (if nat_lt MAX_DATA (length bytes) then refused v fault.TooLong
+    (if nat_lt MAX_DATA (length bytes) then refusal v fault.TooLong
     else record { view = v; packets = untelling_packet v op_unc bytes ∷ []; answer = Ok tt })
-    else refused v fault.NotOpen
+    else refusal v fault.NotOpen
 
 -- ---- a close
 
@@ -64,15 +66,19 @@ cls_of v text = if tells_close v.state then untelling_packet v op_cls text ∷ [
 
 abbrev pub act_close : ConnView → List ℕ → Acted Outcome
 act_close v text =
-    if nat_lt MAX_DATA (length text) then refused v fault.TooLong
+    if nat_lt MAX_DATA (length text) then refusal v fault.TooLong
     else record { view = closed_conn v; packets = cls_of v text; answer = Ok tt }
 
 -- ---- a read
 
--- an item was read at an open end: the peer is told once the untold reads come to a third of the window
+module _ {A : Type 0} where
+  -- the peer is told once the untold reads come to a third of the window
+  abbrev pub with_reads_told : ConnView → A → Acted A
+  with_reads_told v answer = if nat_le v.config.recv_cap (3 * v.untold) then with_sts v answer else quietly v answer
+
+-- an item was read at an open end, and counted
 abbrev pub read_open : ConnView → ItemView → Acted ReadEnd
-read_open v item =
-    if nat_le v.config.recv_cap (3 * v.untold) then with_sts v (end.Item item) else quietly v (end.Item item)
+read_open v item = with_reads_told v (end.Item item)
 
 -- at an open end the next item, where it is held, and else nothing yet
 abbrev pub read_at_open : ConnView → Option ItemView → Acted ReadEnd
@@ -93,6 +99,18 @@ act_read v =
     if is_opening v.state then quietly v end.Nothing
     else (if is_open v.state then read_at_open v (front_of v)
     else read_at_end v (front_of v))
+
+-- ---- a read that hands nothing out
+
+-- what it comes to, where a read would give this
+abbrev pub done_of : ReadEnd → ReadDone
+done_of (end.Item item) = done.Done
+done_of end.Nothing = done.Nothing
+done_of (end.Ended state) = done.Ended state
+
+-- what a read does, with another answer
+abbrev pub act_read_done : ConnView → Acted ReadDone
+act_read_done v = map_answer done_of (act_read v)
 
 -- ---- looks
 

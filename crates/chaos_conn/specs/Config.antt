@@ -23,7 +23,7 @@ config_view send_cap recv_cap retransmit probe down = record {
   down = down;
 }
 
--- a window has from 1 to 64 packets
+-- a window has from 1 to MAX_WINDOW packets
 abbrev pub is_window : ℕ → Bool
 is_window cap = nat_le 1 cap && nat_le cap MAX_WINDOW
 

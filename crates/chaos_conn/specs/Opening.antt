@@ -2,8 +2,8 @@
 use Rattle.std.specs.Prelude.{ℕ, true, false, ◌||◌, ◌==◌, nat_lt, if◌then◌else◌, List, [], ◌∷◌, length, Some, None, Result, Ok, Err}
 use Rattle.chaos_packet.specs.Number.{off}
 use Rattle.chaos_packet.specs.Item.{ItemView}
-use Rattle.chaos_packet.specs.Opcode.{kind_of}
-use Rattle.chaos_packet.specs.Packet.{PacketView}
+use Rattle.chaos_packet.specs.Opcode.{op_rfc, op_opn, op_cls, op_ans, kind_of, is_rfc}
+use Rattle.chaos_packet.specs.Packet.{PacketView, item_of}
 use Rattle.chaos_packet.specs.declared.limits.TheConstants.{MAX_DATA}
 use Rattle.chaos_window.specs.Send.{started_send}
 use Rattle.chaos_window.specs.Receive.{started_receive, after_arrival, after_advance}
@@ -14,20 +14,20 @@ use Rattle.chaos_conn.specs.declared.fault.ConnFault.TheVariants as fault
 use Rattle.chaos_conn.specs.State.{is_inactive, is_requested}
 use Rattle.chaos_conn.specs.View.{ConnView, new_conn, moment}
 use Rattle.chaos_conn.specs.Acted.{Acted, quietly}
-use Rattle.chaos_conn.specs.Sending.{op_rfc, op_opn, op_cls, op_ans, is_rfc, status_body, untelling_packet, with_item}
+use Rattle.chaos_conn.specs.Sending.{status_body, untelling_packet, with_item}
 
 -- done, or refused
 abbrev pub Outcome : Type 0
 Outcome = Result (Unit {0}) ConnFault
 
-abbrev pub refused : ConnView → ConnFault → Acted Outcome
-refused v why = quietly v (Err why)
+abbrev pub refusal : ConnView → ConnFault → Acted Outcome
+refusal v why = quietly v (Err why)
 
 -- ---- a request made
 
 -- an end that asks this peer from a moment on, and numbers what it writes from start on
-abbrev pub asking : ConnView → End → ℕ → ℕ → ℕ → ConnView
-asking v me peer start t = record v {
+abbrev pub after_asking : ConnView → End → ℕ → ℕ → ℕ → ConnView
+after_asking v me peer start t = record v {
   state = st.RfcSent;
   me = me;
   peer = peer;
@@ -46,24 +46,20 @@ rfc_item contact = record { op = op_rfc; body = contact }
 -- a request between two addresses, neither of which is 0
 abbrev pub request_between : ConnView → End → ℕ → List ℕ → ℕ → ℕ → Acted Outcome
 request_between v me peer contact start t =
-    if me.address == 0 || peer == 0 then refused v fault.BadAddress
-    else with_item (asking v me peer start t) (rfc_item contact) (Ok tt)
+    if me.address == 0 || peer == 0 then refusal v fault.BadAddress
+    else with_item (after_asking v me peer start t) (rfc_item contact) (Ok tt)
 
 abbrev pub act_request : ConnView → End → ℕ → List ℕ → ℕ → ℕ → Acted Outcome
 act_request v me peer contact start now =
-    if nat_lt MAX_DATA (length contact) then refused v fault.TooLong
+    if nat_lt MAX_DATA (length contact) then refusal v fault.TooLong
     else (if is_inactive v.state then request_between v me peer contact start (moment v now)
-    else refused v fault.Busy)
+    else refusal v fault.Busy)
 
 -- ---- a request taken
 
--- a packet's item, as it is held
-abbrev pub item_of : PacketView → ItemView
-item_of p = record { op = p.op; body = p.body }
-
 -- an end that was asked at a moment: it holds the request, which is the peer's item 0
-abbrev pub requested : ConnView → PacketView → End → ℕ → ConnView
-requested v rfc me t = record v {
+abbrev pub after_taking_rfc : ConnView → PacketView → End → ℕ → ConnView
+after_taking_rfc v rfc me t = record v {
   state = st.RfcReceived;
   me = me;
   peer = rfc.src;
@@ -77,19 +73,19 @@ requested v rfc me t = record v {
 
 -- only an RFC is a request
 abbrev pub take_rfc : ConnView → PacketView → End → ℕ → Acted Outcome
-take_rfc v rfc me t = if is_rfc (kind_of rfc.op) then quietly (requested v rfc me t) (Ok tt) else refused v fault.BadRequest
+take_rfc v rfc me t = if is_rfc (kind_of rfc.op) then quietly (after_taking_rfc v rfc me t) (Ok tt) else refusal v fault.BadRequest
 
 abbrev pub act_take_request : ConnView → PacketView → End → ℕ → Acted Outcome
 act_take_request v rfc me now =
     if is_inactive v.state then
-    (if me.address == 0 || rfc.src == 0 then refused v fault.BadAddress else take_rfc v rfc me (moment v now))
-    else refused v fault.Busy
+    (if me.address == 0 || rfc.src == 0 then refusal v fault.BadAddress else take_rfc v rfc me (moment v now))
+    else refusal v fault.Busy
 
 -- ---- a request accepted
 
 -- an end that read the request at a moment, and may write: it numbers what it writes from start on
-abbrev pub accepting : ConnView → ℕ → ℕ → ConnView
-accepting v start t = record v {
+abbrev pub after_accepting : ConnView → ℕ → ℕ → ConnView
+after_accepting v start t = record v {
   state = st.Open;
   last = t;
   heard = t;
@@ -104,13 +100,13 @@ abbrev pub opn_item : ConnView → ItemView
 opn_item v = record { op = op_opn; body = status_body v }
 
 -- an end opens by an OPN of its own
-abbrev pub opening : ConnView → Acted Outcome
-opening v = with_item v (opn_item v) (Ok tt)
+abbrev pub with_opn : ConnView → Acted Outcome
+with_opn v = with_item v (opn_item v) (Ok tt)
 
 abbrev pub act_accept : ConnView → ℕ → ℕ → Acted Outcome
 act_accept v start now =
-    if is_requested v.state then opening (accepting v start (moment v now))
-    else refused v fault.WrongState
+    if is_requested v.state then with_opn (after_accepting v start (moment v now))
+    else refusal v fault.WrongState
 
 -- ---- a request turned away
 
@@ -119,8 +115,8 @@ abbrev pub closed_conn : ConnView → ConnView
 closed_conn v = record (new_conn v.config) { last = v.last; heard = v.heard; resent = v.resent; probed = v.probed }
 
 -- one packet with these bytes goes out, and the end is closed
-abbrev pub turned_away : ConnView → ℕ → List ℕ → Acted Outcome
-turned_away v op bytes = record {
+abbrev pub with_last_packet : ConnView → ℕ → List ℕ → Acted Outcome
+with_last_packet v op bytes = record {
   view = closed_conn v;
   packets = untelling_packet v op bytes ∷ [];
   answer = Ok tt;
@@ -129,9 +125,9 @@ turned_away v op bytes = record {
 -- the request that an end holds is turned away by a packet with these bytes
 abbrev pub turn_away : ConnView → ℕ → List ℕ → Acted Outcome
 turn_away v op bytes =
-    if nat_lt MAX_DATA (length bytes) then refused v fault.TooLong
-    else (if is_requested v.state then turned_away v op bytes
-    else refused v fault.WrongState)
+    if nat_lt MAX_DATA (length bytes) then refusal v fault.TooLong
+    else (if is_requested v.state then with_last_packet v op bytes
+    else refusal v fault.WrongState)
 
 abbrev pub act_answer : ConnView → List ℕ → Acted Outcome
 act_answer v bytes = turn_away v op_ans bytes

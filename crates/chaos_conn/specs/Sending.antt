@@ -2,7 +2,7 @@
 use Rattle.std.specs.Prelude.{ℕ, ◌==◌, Bool, true, false, if◌then◌else◌, List, [], ◌∷◌, length, unwrap_or}
 use Rattle.chaos_packet.specs.Number.{num}
 use Rattle.chaos_packet.specs.Item.{ItemView}
-use Rattle.chaos_packet.specs.Opcode.{kind_of}
+use Rattle.chaos_packet.specs.Opcode.{op_sns, op_sts, kind_of, is_rfc}
 use Rattle.chaos_packet.specs.Packet.{PacketView}
 use Rattle.chaos_packet.specs.Words.{halves}
 use Rattle.chaos_packet.specs.declared.opcode.Kind.{Kind}
@@ -12,28 +12,6 @@ use Rattle.chaos_window.specs.Receive.{receipt_of}
 use Rattle.chaos_conn.specs.View.{ConnView}
 use Rattle.chaos_conn.specs.Acted.{Acted}
 
--- the opcodes of what an end sends beside its user's data
-abbrev pub op_rfc : ℕ
-op_rfc = 1
-
-abbrev pub op_opn : ℕ
-op_opn = 2
-
-abbrev pub op_cls : ℕ
-op_cls = 3
-
-abbrev pub op_ans : ℕ
-op_ans = 5
-
-abbrev pub op_sns : ℕ
-op_sns = 6
-
-abbrev pub op_sts : ℕ
-op_sts = 7
-
-abbrev pub op_unc : ℕ
-op_unc = 13
-
 -- Data, EOF, OPN, SNS and STS carry the acknowledgement.
 abbrev pub carries_ack : Kind → Bool
 carries_ack kind.Opn = true
@@ -42,10 +20,6 @@ carries_ack kind.Sts = true
 carries_ack kind.Eof = true
 carries_ack kind.Data = true
 carries_ack _ = false
-
-abbrev pub is_rfc : Kind → Bool
-is_rfc kind.Rfc = true
-is_rfc _ = false
 
 -- a packet from this end to its peer: it was not forwarded, and its destination index is 0 where the peer's is not known
 abbrev pub packet_to_peer : ConnView → ℕ → ℕ → ℕ → List ℕ → PacketView

@@ -3,11 +3,12 @@ use Rattle.std.specs.Prelude.{ℕ, ◌+◌, length, Option, Some, None}
 use Rattle.std.specs.List.{sum_by}
 use Rattle.chaos_packet.specs.Item.{ItemView}
 use Rattle.chaos_window.specs.Receive.{held_count}
+use Rattle.chaos_conn.specs.declared.limits.TheConstants.{HEADER_BYTES}
 use Rattle.chaos_conn.specs.View.{ConnView}
 
--- the bytes of an item with its header, which has 16
+-- the bytes of an item with its header
 abbrev pub item_bytes : ItemView → ℕ
-item_bytes item = 16 + length item.body
+item_bytes item = HEADER_BYTES + length item.body
 
 -- the bytes of what a slot holds
 abbrev pub slot_bytes : Option ItemView → ℕ

@@ -62,3 +62,6 @@ pub record IsConn (v : ConnView) : Type 0 where
   pub send_cap : v.send.cap ≡ v.config.send_cap
   pub recv_cap : v.recv.cap ≡ v.config.recv_cap
   pub told : 3 * v.untold ≤ v.config.recv_cap
+  pub heard : v.heard ≤ v.last
+  pub resent : v.resent ≤ v.last
+  pub probed : v.probed ≤ v.last

@@ -64,6 +64,17 @@ pub enum ReadEnd {
     Ended(State),
 }
 
+/// What a read came to that hands nothing out.
+#[derive(Clone, Copy, Debug, PartialEq, Eq)]
+pub enum ReadDone {
+    /// The next item was read.
+    Done,
+    /// No item yet.
+    Nothing,
+    /// No item any more: the connection is in this state.
+    Ended(State),
+}
+
 /// What a tick did.
 #[derive(Clone, Copy, Debug, PartialEq, Eq)]
 pub enum Ticked {

@@ -4,14 +4,13 @@ ghost use Rattle.chaos_packet.specs.Opcode.{kind_of};
 ghost use Rattle.chaos_packet.specs.Outbox.{room_of};
 ghost use Rattle.chaos_conn.specs.View.{heard_at};
 ghost use Rattle.chaos_conn.specs.Acted.{Acts, ActsQuietly};
-ghost use Rattle.chaos_conn.specs.Arriving.{with_ack, with_status, heard_with_ack, heard_with_status, is_between_hosts, is_between_indices, is_index, may_be_index, after_rfc, after_opn, opened, after_ans, after_fwd, ended, after_cls, after_los, after_item_came, after_data, after_eof, after_second_opn, after_sns, after_sts, after_unc, deliver_in, deliver_asking, deliver_requested, deliver_open};
+ghost use Rattle.chaos_conn.specs.Arriving.{with_ack, with_status, heard_with_ack, heard_with_status, is_between_hosts, is_between_indices, is_index, may_be_index, after_rfc, after_opn, after_opening, after_ans, after_fwd, after_end, after_cls, after_los, after_item_came, after_data, after_eof, after_second_opn, after_sns, after_sts, after_unc, deliver_in, deliver_asking, deliver_requested, deliver_open};
 ghost use Rattle.chaos_conn.specs.Act.{Deliver, Came, Does};
 
 use crate::answers::{Delivered, Why};
 use crate::conn::Conn;
-use crate::sending::is_rfc;
 use crate::state::State;
-use chaos_packet::{Item, Kind, Outbox, Packet, PktNum};
+use chaos_packet::{Kind, MAX_DATA, Opcode, Outbox, Packet, PktNum};
 use chaos_window::Arrived;
 
 impl Conn {
@@ -22,7 +21,8 @@ impl Conn {
     /// isn't the one of its end; an RFC has checks of its own; `Stranger` where an index isn't the one of its end; then
     /// the row of the state and the opcode. A packet that is dropped changes nothing.
     ///
-    /// One copy of the data: into the window, or into the answer.
+    /// The data are copied once, into the window or into the answer, and not at all where the packet is dropped or its item
+    /// isn't taken.
     pub fn deliver(&mut self, packet: &Packet, now: u64, out: &mut Outbox) -> Delivered
         requires { 0 < room_of out.old }
         ensures { Does self.old (Deliver packet.now now) self.new out.old out.new (Came result) }
@@ -33,7 +33,7 @@ impl Conn {
         if !self.is_between_hosts(packet) {
             return Delivered::Dropped(Why::Stranger);
         }
-        if is_rfc(packet.op.kind()) {
+        if packet.op.kind().is_rfc() {
             return self.take_rfc_again(packet, now, out);
         }
         if !self.is_between_indices(packet) {
@@ -164,7 +164,7 @@ impl Conn {
 
     /// Opens by an OPN: its number is read as item 0.
     fn open_by(&mut self, opn: &Packet)
-        ensures { self.new ≡ opened self.old opn.now }
+        ensures { self.new ≡ after_opening self.old opn.now }
     {
         self.state = State::Open;
         self.peer_index = Some(opn.src_index);
@@ -211,7 +211,7 @@ impl Conn {
 
     /// Ends in a state. A request that was not accepted is dropped.
     fn end_in(&mut self, state: State)
-        ensures { self.new ≡ ended self.old state }
+        ensures { self.new ≡ after_end self.old state }
     {
         if self.state.is_requested() {
             self.recv.clear();
@@ -225,7 +225,7 @@ impl Conn {
         ensures { Acts self.old (after_data self.old packet.now now) self.new out.old out.new result }
     {
         self.hear_ack(packet, now);
-        self.take_item(packet.num, Item::new(packet.op, packet.bytes()), out)
+        self.take_item(packet.num, packet.op, packet.bytes(), out)
     }
 
     /// EOF, which is held without its data bytes.
@@ -234,15 +234,16 @@ impl Conn {
         ensures { Acts self.old (after_eof self.old packet.now now) self.new out.old out.new result }
     {
         self.hear_ack(packet, now);
-        self.take_item(packet.num, Item::new(packet.op, &[]), out)
+        self.take_item(packet.num, packet.op, &[], out)
     }
 
-    /// Holds an item that came, or tells the status.
-    fn take_item(&mut self, num: PktNum, item: Item, out: &mut Outbox) -> Delivered
-        requires { 0 < room_of out.old }
-        ensures { Acts self.old (after_item_came self.old num item) self.new out.old out.new result }
+    /// Holds a copy of an item that came, or tells the status.
+    fn take_item(&mut self, num: PktNum, op: Opcode, bytes: &[u8], out: &mut Outbox) -> Delivered
+        requires room { 0 < room_of out.old }
+        requires fits { length bytes.now ≤ MAX_DATA }
+        ensures { Acts self.old (after_item_came self.old num (record { op = op; body = bytes.now })) self.new out.old out.new result }
     {
-        match self.recv.arrive(num, item) {
+        match self.recv.arrive_lent(num, op, bytes) {
             Arrived::Took => Delivered::Took,
             Arrived::Duplicate => {
                 self.put_sts(out);

@@ -1,14 +1,14 @@
 //! The user's calls: writing, reading and closing.
-ghost use Rattle.std.specs.Prelude.{◌≡◌, ◌<◌, ◌≤◌, length, IfSome};
+ghost use Rattle.std.specs.Prelude.{◌≡◌, ◌+◌, ◌<◌, ◌≤◌, length, IfSome};
 ghost use Rattle.chaos_packet.specs.Opcode.{kind_of};
 ghost use Rattle.chaos_packet.specs.Outbox.{room_of};
 ghost use Rattle.chaos_window.specs.Receive.{item_at};
 ghost use Rattle.chaos_conn.specs.View.{moment};
-ghost use Rattle.chaos_conn.specs.Acted.{Acts, ActsQuietly};
-ghost use Rattle.chaos_conn.specs.Calls.{most_bytes, write_item, read_at_open, read_at_end};
-ghost use Rattle.chaos_conn.specs.Act.{Write, Unc, Read, Close, Did, Wrote, Gave, Does};
+ghost use Rattle.chaos_conn.specs.Acted.{Acts, ActsQuietly, map_answer};
+ghost use Rattle.chaos_conn.specs.Calls.{most_bytes, write_item, read_at_open, read_at_end, with_reads_told, done_of};
+ghost use Rattle.chaos_conn.specs.Act.{Write, Unc, Read, FinishRead, Close, Did, Wrote, Gave, Finished, Does};
 
-use crate::answers::ReadEnd;
+use crate::answers::{ReadDone, ReadEnd};
 use crate::conn::Conn;
 use crate::fault::ConnFault;
 use chaos_packet::{Kind, MAX_DATA, Opcode, Outbox, PktNum};
@@ -122,12 +122,20 @@ impl Conn {
         let Some(item) = self.recv.advance() else {
             return ReadEnd::Nothing;
         };
+        self.count_read(out);
+        ReadEnd::Item(item)
+    }
+
+    /// Counts an item that was read at an open end, and tells the peer once a third of the window is read untold.
+    fn count_read(&mut self, out: &mut Outbox)
+        requires { 0 < room_of out.old }
+        ensures { Acts self.old (with_reads_told (record self.old { untold = self.old.untold + 1 }) result) self.new out.old out.new result }
+    {
         if 3 * (self.untold + 1) >= self.config.recv_cap() {
             self.put_sts(out);
         } else {
             self.untold += 1;
         }
-        ReadEnd::Item(item)
     }
 
     /// Reads at an end that isn't live.
@@ -137,6 +145,44 @@ impl Conn {
         match self.recv.advance() {
             Some(item) => ReadEnd::Item(item),
             None => ReadEnd::Ended(self.state),
+        }
+    }
+
+    /// Reads the next item, where it is held, and drops it where it lies: what [`Conn::read`] does, with nothing handed out.
+    /// [`Conn::front`] lends the item beforehand.
+    pub fn read_done(&mut self, out: &mut Outbox) -> ReadDone
+        requires { 0 < room_of out.old }
+        ensures { Does self.old FinishRead self.new out.old out.new (Finished result) }
+    {
+        if self.state.is_opening() {
+            return ReadDone::Nothing;
+        }
+        if self.state.is_open() {
+            return self.read_done_at_open(out);
+        }
+        self.read_done_at_end()
+    }
+
+    /// Reads at an open end, and hands nothing out.
+    fn read_done_at_open(&mut self, out: &mut Outbox) -> ReadDone
+        requires { 0 < room_of out.old }
+        ensures { Acts self.old (map_answer done_of (read_at_open self.old (item_at self.old.recv 1))) self.new out.old out.new result }
+    {
+        if !self.recv.discard() {
+            return ReadDone::Nothing;
+        }
+        self.count_read(out);
+        ReadDone::Done
+    }
+
+    /// Reads at an end that isn't live, and hands nothing out.
+    fn read_done_at_end(&mut self) -> ReadDone
+        ensures { ActsQuietly self.old (map_answer done_of (read_at_end self.old (item_at self.old.recv 1))) self.new result }
+    {
+        if self.recv.discard() {
+            ReadDone::Done
+        } else {
+            ReadDone::Ended(self.state)
         }
     }
 }

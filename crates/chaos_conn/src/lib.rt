@@ -21,7 +21,7 @@ mod stored;
 mod tests;
 mod time;
 
-pub use answers::{Delivered, ReadEnd, Ticked, Why};
+pub use answers::{Delivered, ReadDone, ReadEnd, Ticked, Why};
 pub use config::ConnConfig;
 pub use conn::Conn;
 pub use fault::{ConfigFault, ConnFault};

@@ -24,7 +24,7 @@ impl Conn {
         ensures sound { IsConn self.now }
         ensures kept_fit { length self.now.send.kept ≤ self.now.config.send_cap }
     {
-        let _kept = self.send.unreceipted();
+        prove!(self.send.unreceipted() <= self.config.send_cap());
         self.config
     }
 

@@ -5,14 +5,13 @@ ghost use Rattle.chaos_window.specs.Send.{outstanding_of};
 ghost use Rattle.chaos_conn.specs.State.{is_inactive};
 ghost use Rattle.chaos_conn.specs.View.{moment};
 ghost use Rattle.chaos_conn.specs.Acted.{Acts, ActsQuietly};
-ghost use Rattle.chaos_conn.specs.Opening.{request_between, asking, take_rfc, requested, accepting, opening, turn_away, closed_conn};
+ghost use Rattle.chaos_conn.specs.Opening.{request_between, after_asking, take_rfc, after_taking_rfc, after_accepting, with_opn, turn_away, closed_conn};
 ghost use Rattle.chaos_conn.specs.Act.{Request, TakeRequest, Accept, Answer, Reject, Did, Does, DoesQuietly};
 
 use crate::conn::Conn;
 use crate::fault::ConnFault;
-use crate::sending::is_rfc;
 use crate::state::{End, State};
-use chaos_packet::{Item, MAX_DATA, Opcode, Outbox, Packet, PktNum};
+use chaos_packet::{MAX_DATA, Opcode, Outbox, Packet, PktNum};
 
 impl Conn {
     /// Asks a peer for a contact, as the own end `me`: it sends an RFC, and numbers what it writes from `start` on. The
@@ -68,7 +67,7 @@ impl Conn {
     /// Makes this the end that asks.
     fn ask(&mut self, me: End, peer: u16, start: PktNum, now: u64)
         ensures room { outstanding_of self.new.send < self.new.send.window }
-        ensures view { self.new ≡ asking self.old me peer start (moment self.old now) }
+        ensures view { self.new ≡ after_asking self.old me peer start (moment self.old now) }
     {
         self.hear(now);
         self.state = State::RfcSent;
@@ -101,7 +100,7 @@ impl Conn {
     fn take_rfc(&mut self, rfc: &Packet, me: End, now: u64) -> Result<(), ConnFault>
         ensures { ActsQuietly self.old (take_rfc self.old rfc.now me (moment self.old now)) self.new result }
     {
-        if !is_rfc(rfc.op.kind()) {
+        if !rfc.op.kind().is_rfc() {
             return Err(ConnFault::BadRequest);
         }
         self.hold(rfc, me, now);
@@ -110,7 +109,7 @@ impl Conn {
 
     /// Makes this the end that was asked.
     fn hold(&mut self, rfc: &Packet, me: End, now: u64)
-        ensures { self.new ≡ requested self.old rfc.now me (moment self.old now) }
+        ensures { self.new ≡ after_taking_rfc self.old rfc.now me (moment self.old now) }
     {
         self.hear(now);
         self.state = State::RfcReceived;
@@ -121,7 +120,7 @@ impl Conn {
         self.request = rfc.num;
         self.recv.clear();
         self.recv.start(PktNum(rfc.num.0.wrapping_sub(1)));
-        let _ = self.recv.arrive(rfc.num, Item::new(rfc.op, rfc.bytes()));
+        let _ = self.recv.arrive_lent(rfc.num, rfc.op, rfc.bytes());
     }
 
     /// Accepts the request that it holds: it sends an OPN, and numbers what it writes from `start` on.
@@ -142,7 +141,7 @@ impl Conn {
     /// Reads the request, and opens.
     fn open_at(&mut self, start: PktNum, now: u64)
         ensures room { outstanding_of self.new.send < self.new.send.window }
-        ensures view { self.new ≡ accepting self.old start (moment self.old now) }
+        ensures view { self.new ≡ after_accepting self.old start (moment self.old now) }
     {
         self.hear(now);
         self.state = State::Open;
@@ -157,7 +156,7 @@ impl Conn {
     fn put_opn(&mut self, out: &mut Outbox)
         requires room { 0 < room_of out.old }
         requires window { outstanding_of self.old.send < self.old.send.window }
-        ensures { Acts self.old (opening self.old) self.new out.old out.new (Ok tt) }
+        ensures { Acts self.old (with_opn self.old) self.new out.old out.new (Ok tt) }
     {
         let body = self.status_body();
         self.send_item(Opcode::OPN, &body, out);

@@ -3,7 +3,7 @@ ghost use Rattle.std.specs.Prelude.{◌≡◌, ◌<◌, ◌≤◌, ◌==◌, len
 ghost use Rattle.chaos_packet.specs.Words.{halves};
 ghost use Rattle.chaos_packet.specs.Outbox.{with_put, room_of};
 ghost use Rattle.chaos_window.specs.Send.{outstanding_of, next_of};
-ghost use Rattle.chaos_conn.specs.Sending.{packet_to_peer, untelling_packet, status_body, sts_of, sns_of, item_packet, after_item, carries_ack, is_rfc};
+ghost use Rattle.chaos_conn.specs.Sending.{packet_to_peer, untelling_packet, status_body, sts_of, sns_of, item_packet, after_item, carries_ack};
 
 use crate::conn::Conn;
 use chaos_packet::{Kind, MAX_DATA, Opcode, Outbox, Packet, PktNum, body_of};
@@ -74,7 +74,7 @@ impl Conn {
             NO_NUMBER
         };
         let mut packet = self.packet_to_peer(op, num, ack, body);
-        if is_rfc(op.kind()) {
+        if op.kind().is_rfc() {
             packet.dst_index = 0;
         }
         packet
@@ -104,13 +104,6 @@ pub fn carries_ack(kind: Kind) -> bool
         kind,
         Kind::Opn | Kind::Sns | Kind::Sts | Kind::Eof | Kind::Data
     )
-}
-
-/// Whether a packet of this kind asks for a connection.
-pub fn is_rfc(kind: Kind) -> bool
-    ensures { result ≡ is_rfc kind }
-{
-    matches!(kind, Kind::Rfc)
 }
 
 /// The bytes of two words, of each word the low half first.

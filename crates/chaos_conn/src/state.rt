@@ -56,14 +56,14 @@ impl State {
     }
 
     /// Whether the end asked or was asked, and isn't open yet.
-    pub(crate) fn is_opening(self) -> bool
+    pub fn is_opening(self) -> bool
         ensures { result ≡ is_opening self }
     {
         matches!(self, State::RfcSent | State::RfcReceived)
     }
 
     /// Whether there is no connection.
-    pub(crate) fn is_inactive(self) -> bool
+    pub fn is_inactive(self) -> bool
         ensures { result ≡ is_inactive self }
     {
         matches!(self, State::Inactive)

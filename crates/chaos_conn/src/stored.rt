@@ -30,14 +30,11 @@ impl Conn {
 /// The bytes of the kept items.
 fn kept_bytes(send: &SendWindow) -> usize
     ensures bytes { result ≡ sum_by item_bytes send.now.kept }
-    ensures fits { result ≤ 504 * length send.now.kept }
+    ensures fits { result ≤ MAX_PACKET_BYTES * length send.now.kept }
 {
     let mut bytes = 0;
     for i in 0..send.unreceipted() as usize {
-        let Some(item) = send.kept(i) else {
-            break;
-        };
-        bytes += HEADER_BYTES + item.bytes().len();
+        bytes += HEADER_BYTES + send.kept(i).unwrap().bytes().len();
     }
     bytes
 }
@@ -45,7 +42,7 @@ fn kept_bytes(send: &SendWindow) -> usize
 /// The bytes of the held items.
 fn held_bytes(recv: &RecvWindow) -> usize
     ensures bytes { result ≡ sum_by slot_bytes recv.now.held }
-    ensures fits { result ≤ 504 * held_count recv.now }
+    ensures fits { result ≤ MAX_PACKET_BYTES * held_count recv.now }
 {
     let mut bytes = 0;
     for i in 0..recv.cap() {
@@ -57,8 +54,8 @@ fn held_bytes(recv: &RecvWindow) -> usize
 /// The bytes of what a slot holds.
 fn bytes_at(slot: Option<&Item>) -> usize
     ensures bytes { result ≡ slot_bytes (option_copied slot.entry) }
-    ensures fits { result ≤ 504 * count_by is_some (option_copied slot.entry ∷ []) }
-    ensures small { result ≤ 504 }
+    ensures fits { result ≤ MAX_PACKET_BYTES * count_by is_some (option_copied slot.entry ∷ []) }
+    ensures small { result ≤ MAX_PACKET_BYTES }
 {
     match slot {
         None => 0,

@@ -14,8 +14,8 @@ use crate::state::State;
 use chaos_packet::{Item, Outbox, Packet, PktNum};
 use chaos_window::SendWindow;
 
-/// What may be due.
-enum Due {
+/// What may be due at a moment. The definition of a tick goes by it, so it is public to the definitions of crates above.
+pub enum Due {
     /// The peer counts as down.
     HostDown,
     /// All kept items are sent again.
@@ -64,7 +64,7 @@ impl Conn {
     fn is_down(&self) -> bool
         ensures { result ≡ is_down self.now }
     {
-        self.state.awaits_peer() && self.last.saturating_sub(self.heard) >= self.config.down()
+        self.state.awaits_peer() && self.last - self.heard >= self.config.down()
     }
 
     /// Whether items are kept, and were not sent again for so long that they are now.
@@ -73,18 +73,18 @@ impl Conn {
     {
         self.state.awaits_peer()
             && self.send.unreceipted() > 0
-            && self.last.saturating_sub(self.resent) >= self.config.retransmit()
+            && self.last - self.resent >= self.config.retransmit()
     }
 
     /// Whether the peer was neither heard nor probed for so long that it is probed now.
     fn is_probe_due(&self) -> bool
         ensures { result ≡ is_probe_due self.now }
     {
-        self.state.is_open()
-            && self.last.saturating_sub(self.heard.max(self.probed)) >= self.config.probe()
+        self.state.is_open() && self.last - self.heard.max(self.probed) >= self.config.probe()
     }
 
     /// Sends all kept items again.
+    #[tactic(auto, using(crate::proofs::Kept::places))]
     fn resend(&mut self, out: &mut Outbox) -> Ticked
         requires { self.old.config.send_cap ≤ room_of out.old }
         ensures view { self.new ≡ (ticked_by Due.Resend self.old).view }
@@ -92,12 +92,13 @@ impl Conn {
         ensures answer { result ≡ (ticked_by Due.Resend self.old).answer }
         ensures few { length (all_kept self.old) ≤ self.old.config.send_cap }
     {
+        let count = self.send.unreceipted();
         self.put_kept(out);
         self.resent = self.last;
         if tells(&self.send) {
             self.untold = 0;
         }
-        Ticked::Resent(self.send.unreceipted() as usize)
+        Ticked::Resent(count as usize)
     }
 
     /// Probes the peer.
@@ -114,17 +115,13 @@ impl Conn {
     /// Puts all kept items out, in order.
     #[tactic(auto, using(crate::proofs::Kept::places))]
     fn put_kept(&self, out: &mut Outbox)
-        requires { self.now.config.send_cap ≤ room_of out.old }
-        ensures packets { out.new ≡ with_put out.old (all_kept self.now) }
-        ensures few { length (all_kept self.now) ≤ self.now.config.send_cap }
+        requires { length self.now.send.kept ≤ room_of out.old }
+        ensures { out.new ≡ with_put out.old (all_kept self.now) }
     {
-        let send = self.sent();
+        let send = &self.send;
         let mut num = send.receipted().next();
         for i in 0..send.unreceipted() as usize {
-            let Some(item) = send.kept(i) else {
-                break;
-            };
-            out.put(self.kept_packet(num, item));
+            out.put(self.kept_packet(num, send.kept(i).unwrap()));
             num = num.next();
         }
     }
@@ -135,15 +132,6 @@ impl Conn {
     {
         self.item_packet(num, item.op, item.bytes())
     }
-
-    /// Lends the window of what was sent, which keeps no more than its cap.
-    fn sent(&self) -> &SendWindow
-        ensures window { result.now ≡ self.now.send }
-        ensures few { length self.now.send.kept ≤ self.now.config.send_cap }
-    {
-        let _few = self.send.unreceipted();
-        &self.send
-    }
 }
 
 /// Whether a kept item carries the acknowledgement.
@@ -152,10 +140,7 @@ fn tells(send: &SendWindow) -> bool
     ensures { result ≡ tells send.now.kept }
 {
     for i in 0..send.unreceipted() as usize {
-        let Some(item) = send.kept(i) else {
-            break;
-        };
-        if item_tells(item) {
+        if item_tells(send.kept(i).unwrap()) {
             return true;
         }
     }

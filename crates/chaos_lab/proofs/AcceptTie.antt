@@ -27,10 +27,11 @@ use Rattle.chaos_window.specs.Receive.{ReceiveView, item_at, started_receive, af
 use Rattle.chaos_conn.specs.View.{ConnView, moment}
 use Rattle.chaos_conn.specs.Acted.{Acted, quietly}
 use Rattle.chaos_conn.proofs.Ended.{ended_is_over}
-use Rattle.chaos_conn.specs.Opening.{Outcome, opening}
-use Rattle.chaos_conn.specs.Sending.{with_item, with_sts, sns_of, all_kept, packets_from, item_packet, packet_to_peer, carries_ack, is_rfc}
+use Rattle.chaos_conn.specs.Opening.{Outcome, with_opn}
+use Rattle.chaos_conn.specs.Sending.{with_item, with_sts, sns_of, all_kept, packets_from, item_packet, packet_to_peer, carries_ack}
+use Rattle.chaos_packet.specs.Opcode.{is_rfc}
 use Rattle.chaos_conn.specs.Time.{act_tick}
-use Rattle.chaos_conn.specs.Opening.{act_accept, accepting, opn_item, closed_conn}
+use Rattle.chaos_conn.specs.Opening.{act_accept, after_accepting, opn_item, closed_conn}
 use Rattle.chaos_conn.specs.Calls.{front_of}
 use Rattle.chaos_conn.specs.State.{is_ended}
 use Rattle.chaos_lab.specs.Shown.{Rest, send_view, recv_view, send_shown, recv_shown, there_at, shown, shown_in, shown_at, met_view, IsPut, Leaves, HasItems, IsFirst}
@@ -75,7 +76,7 @@ accept_rfc rest b b' start now first e p end at d back o next =
     let reader : Sound p f = sound_read p e first back here next in
     let missing : FirstMissing f 1 = (λ i l. ap (contains e.arrived) (let z : i ≡ 0 = omega arith in z) ∙ was.1, false_from_ne_true _ (λ u. let z = was.2 1 u in omega arith)) in
     let receipt : receipt_of (recv_view b' p f) ≡ told_num b' 1 = receipt_is b' 1 p f reader missing in
-    let starts : accepting v start t ≡ w = λ j. record w { recv = recv j; send = started_send (cap j) start } in
+    let starts : after_accepting v start t ≡ w = λ j. record w { recv = recv j; send = started_send (cap j) start } in
     let item : opn_item w ≡ opn = λ j. record { op = 2; body = halves (receipt j ∷ e.recv_cap ∷ []) } in
     let sent : num (off start 1) 1 ≡ told_num start (length (e.written ++ opn ∷ [])) = omega (arith, longer, was.0.1) in
     let number : num (off start 1) 1 ≡ num start 0 = omega arith in
@@ -89,7 +90,7 @@ accept_rfc rest b b' start now first e p end at d back o next =
       users = λ n i h. let none : None ≡ Some i = sym (ap (λ ws. slice_get (ws ++ opn ∷ []) (suc n)) nil) ∙ h in absurd (cc);
     } in
     let opens : IsOpen p g = record { phase = refl; met = (omega (arith, more), omega (arith, longer)); reader = reader } in
-    let goes : act_accept v start now ≡ sends_first w opn = ap opening starts ∙ ap (sends_first w) item in (
+    let goes : act_accept v start now ≡ sends_first w opn = ap with_opn starts ∙ ap (sends_first w) item in (
       subst (Leaves B start b' p g) (sym goes)
           (record {
             rest = rest';

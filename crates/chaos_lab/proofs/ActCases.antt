@@ -6,11 +6,11 @@ use Rattle.chaos_conn.specs.declared.answers.Why.TheVariants as wh
 use Rattle.chaos_packet.specs.Packet.{PacketView}
 use Rattle.chaos_packet.specs.Opcode.{kind_of}
 use Rattle.chaos_conn.specs.View.{ConnView, heard_at}
-use Rattle.chaos_conn.specs.Arriving.{act_deliver, dropped, repeated_request, deliver_in, may_be_index, is_index}
+use Rattle.chaos_conn.specs.Arriving.{act_deliver, drop_for, repeated_request, deliver_in, may_be_index, is_index}
 use Rattle.chaos_conn.specs.State.{is_live}
-use Rattle.chaos_conn.specs.Sending.{is_rfc}
+use Rattle.chaos_packet.specs.Opcode.{is_rfc}
 
-pub act_dead : (v : ConnView) (p : PacketView) (now : ℕ) → is_live v.state ≡ false → act_deliver v p now ≡ dropped v wh.NotOpen
+pub act_dead : (v : ConnView) (p : PacketView) (now : ℕ) → is_live v.state ≡ false → act_deliver v p now ≡ drop_for v wh.NotOpen
 act_dead v p now dead = cond-true _ _ _ (ap not dead)
 
 pub act_rfc : (v : ConnView) (p : PacketView) (now : ℕ) → is_live v.state ≡ true → p.dst ≡ v.me.address → p.src ≡ v.peer → kind_of p.op ≡ k.Rfc → v.asked ≡ false → v.peer_index ≡ Some p.src_index → p.num ≡ v.request → act_deliver v p now ≡ repeated_request (heard_at v now) v.state

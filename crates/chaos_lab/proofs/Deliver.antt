@@ -31,10 +31,11 @@ use Rattle.chaos_window.specs.Send.{after_acknowledgement, after_receipt, after_
 use Rattle.chaos_window.specs.Receive.{clear_receive, ReceiveView, started_receive, after_arrival}
 use Rattle.chaos_conn.specs.View.{ConnView, heard_at}
 use Rattle.chaos_conn.specs.Acted.{Acted, quietly}
-use Rattle.chaos_conn.specs.Sending.{with_sts, is_rfc}
-use Rattle.chaos_conn.specs.Arriving.{ended, may_be_index, deliver_requested, act_deliver, deliver_asking, deliver_open, deliver_in, dropped, after_opn_telling, repeated_request, with_status}
+use Rattle.chaos_conn.specs.Sending.{with_sts}
+use Rattle.chaos_packet.specs.Opcode.{is_rfc}
+use Rattle.chaos_conn.specs.Arriving.{after_end, may_be_index, deliver_requested, act_deliver, deliver_asking, deliver_open, deliver_in, drop_for, after_opn_telling, repeated_request, with_status}
 use Rattle.chaos_conn.specs.State.{is_requested, is_live, is_ended}
-use Rattle.chaos_conn.specs.Opening.{act_take_request, requested}
+use Rattle.chaos_conn.specs.Opening.{act_take_request, after_taking_rfc}
 use Rattle.chaos_lab.specs.Shown.{Rest, place_of, send_view, recv_view, send_shown, recv_shown, slots_from, idle, shown, shown_in, shown_at, met_view, HasHeader, StandsFor, Leaves}
 use Rattle.chaos_lab.specs.Tied.{Agrees}
 use Rattle.chaos_lab.proofs.SendTie.{counts_is, read_within}
@@ -59,7 +60,7 @@ dead_leaves phase x rest b b' pk now p e at end dead =
     subst (Leaves x b b' p e) (sym (act_dead (shown_at phase x rest b b' p e) pk now dead)) (same_leaves (de.Dropped wh.NotOpen) x rest b b' p e phase at end)
 
 -- a CLS ends it
-ended_leaves : (state : State) (x : Side) (rest : Rest) (b b' now : ℕ) (pk : PacketView) (p e : Plain) → is_requested state ≡ false → is_ended rest.ended ≡ true → Leaves x b b' p (record e { phase = Ended }) (quietly (ended (heard_at (shown_in state x rest b b' p e) now) st.ClsReceived) (de.Closed pk))
+ended_leaves : (state : State) (x : Side) (rest : Rest) (b b' now : ℕ) (pk : PacketView) (p e : Plain) → is_requested state ≡ false → is_ended rest.ended ≡ true → Leaves x b b' p (record e { phase = Ended }) (quietly (after_end (heard_at (shown_in state x rest b b' p e) now) st.ClsReceived) (de.Closed pk))
 ended_leaves state x rest b b' now pk p e not_requested end =
     let rest' : Rest = record (heard_rest rest now) { ended = st.ClsReceived } in
     record { rest = rest'; ended = refl; view = λ j. record (shown_in st.ClsReceived x rest' b b' p e) { recv = cond-false _ (clear_receive (recv_shown b' p e).cap) (recv_shown b' p e) not_requested j }; packets = All-nil _ }
@@ -118,7 +119,7 @@ opened_answer rest b b' r f w pk now e p len_e len_p m at s =
     ∙ ap (after_opn_telling v pk now) s.tells.1)
 
 -- what isn't for it
-asked_other : (kind : Kind) (rest : Rest) (b b' : ℕ) (pk : PacketView) (now : ℕ) (p e : Plain) (op : OpKind) → e.phase ≡ RfcSent → length e.read ≡ 0 → is_ended rest.ended ≡ true → HasHeader B pk kind → pk.dst_index ≡ 1 → kind_of pk.op ≡ op → is_rfc op ≡ false → deliver_asking (shown_in st.RfcSent A rest b b' p e) pk now op ≡ dropped (shown_in st.RfcSent A rest b b' p e) wh.NotOpen → Leaves A b b' p e (act_deliver (shown_in st.RfcSent A rest b b' p e) pk now)
+asked_other : (kind : Kind) (rest : Rest) (b b' : ℕ) (pk : PacketView) (now : ℕ) (p e : Plain) (op : OpKind) → e.phase ≡ RfcSent → length e.read ≡ 0 → is_ended rest.ended ≡ true → HasHeader B pk kind → pk.dst_index ≡ 1 → kind_of pk.op ≡ op → is_rfc op ≡ false → deliver_asking (shown_in st.RfcSent A rest b b' p e) pk now op ≡ drop_for (shown_in st.RfcSent A rest b b' p e) wh.NotOpen → Leaves A b b' p e (act_deliver (shown_in st.RfcSent A rest b b' p e) pk now)
 asked_other kind rest b b' pk now p e op at none end h index is not_rfc drops =
     subst (Leaves A b b' p e)
     (sym (to_asked rest b b' pk now p e kind none h index (ap is_rfc is ∙ not_rfc) ∙ ap (deliver_asking (shown_in st.RfcSent A rest b b' p e) pk now) is ∙ drops))
@@ -130,7 +131,7 @@ to_pending : (rest : Rest) (b b' : ℕ) (pk : PacketView) (now : ℕ) (p e : Pla
 to_pending rest b b' pk now p e kind h index not_rfc =
     act_other (shown_in st.RfcReceived B rest b b' p e) pk now refl h.dst h.src not_rfc index (eq-eqb 1 pk.src_index (sym h.src_index))
 
-pending_other : (kind : Kind) (rest : Rest) (b b' : ℕ) (pk : PacketView) (now : ℕ) (p e : Plain) (op : OpKind) → e.phase ≡ RfcReceived → is_ended rest.ended ≡ true → HasHeader A pk kind → pk.dst_index ≡ 1 → kind_of pk.op ≡ op → is_rfc op ≡ false → deliver_requested (shown_in st.RfcReceived B rest b b' p e) pk now op ≡ dropped (shown_in st.RfcReceived B rest b b' p e) wh.NotOpen → Leaves B b b' p e (act_deliver (shown_in st.RfcReceived B rest b b' p e) pk now)
+pending_other : (kind : Kind) (rest : Rest) (b b' : ℕ) (pk : PacketView) (now : ℕ) (p e : Plain) (op : OpKind) → e.phase ≡ RfcReceived → is_ended rest.ended ≡ true → HasHeader A pk kind → pk.dst_index ≡ 1 → kind_of pk.op ≡ op → is_rfc op ≡ false → deliver_requested (shown_in st.RfcReceived B rest b b' p e) pk now op ≡ drop_for (shown_in st.RfcReceived B rest b b' p e) wh.NotOpen → Leaves B b b' p e (act_deliver (shown_in st.RfcReceived B rest b b' p e) pk now)
 pending_other kind rest b b' pk now p e op at end h index is not_rfc drops =
     subst (Leaves B b b' p e)
     (sym (to_pending rest b b' pk now p e kind h index (ap is_rfc is ∙ not_rfc) ∙ ap (deliver_requested (shown_in st.RfcReceived B rest b b' p e) pk now) is ∙ drops))
@@ -170,7 +171,7 @@ request_leaves rest b b' pk now e p len_e len_p end m at near s =
     let src : pk.src ≡ 257 = s.header.src in
     let t : ℕ = max rest.last now in
     let w : ConnView = shown_in st.RfcReceived B (record (heard_rest rest now) { untold = 0 }) b b' p f in
-    let view : requested (idle rest e) pk (place_of B) t ≡ w =
+    let view : after_taking_rfc (idle rest e) pk (place_of B) t ≡ w =
     λ j. record w {
       peer = src j;
       peer_index = Some (s.header.src_index j);
@@ -192,7 +193,7 @@ open_cls x rest b b' pk now e p len_e len_p end m at s =
     let same : met_view st.Open x rest b b' p e ≡ shown_in st.Open x rest b b' p e = sym (in_met st.Open x rest b b' p e o.met (m.reader.front 0 o.met.0)) in
     subst (Leaves x b b' p (record e { phase = Ended }))
     (sym (to_open x rest b b' pk now p e Cls s.header s.header.dst_index (ap is_rfc kind) ∙ ap (deliver_open (met_view st.Open x rest b b' p e) pk now) kind
-    ∙ ap (λ (v : ConnView). quietly (ended (heard_at v now) st.ClsReceived) (de.Closed pk)) same))
+    ∙ ap (λ (v : ConnView). quietly (after_end (heard_at v now) st.ClsReceived) (de.Closed pk)) same))
     (ended_leaves st.Open x rest b b' now pk p e refl end)
 
 open_at : (x : Side) (kind : Kind) (told : Told) (rest : Rest) (b b' : ℕ) (pk : PacketView) (now : ℕ) (e p : Plain) (len_e len_p : ℕ) → e.phase ≡ Open → is_ended rest.ended ≡ true → Known x b b' e p len_e len_p → KindOk kind p len_p → ToldOk told p e len_e → TellsMet kind told → Agrees (other x) kind told → StandsFor (other x) b' b p pk kind told → Leaves x b b' p (received Open kind told p e) (act_deliver (met_view st.Open x rest b b' p e) pk now)

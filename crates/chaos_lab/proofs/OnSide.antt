@@ -6,8 +6,8 @@ use Rattle.chaos_packet.specs.Item.{ItemView}
 use Rattle.chaos_packet.specs.Packet.{PacketView}
 use Rattle.chaos_conn.specs.declared.fault.ConnFault.{ConnFault}
 use Rattle.chaos_conn.specs.View.{ConnView}
-use Rattle.chaos_conn.specs.Acted.{Acted}
-use Rattle.chaos_conn.specs.Act.{Call, Reply, act, replying}
+use Rattle.chaos_conn.specs.Acted.{Acted, map_answer}
+use Rattle.chaos_conn.specs.Act.{Call, Reply, act}
 use Rattle.chaos_lab.specs.declared.side.Side.{Side}
 use Rattle.chaos_lab.specs.declared.side.Side.TheVariants.{A, B}
 use Rattle.chaos_lab.specs.declared.fault.LabFault.{LabFault}
@@ -49,7 +49,7 @@ asked_keeps A w l f t s = t.asked
 asked_keeps B w l f t s = record { new = λ h. s.new (t.asked.new h); old = λ h i. t.asked.old h (s.old i) }
 
 module _ {R : Type 0} where
-  pub renamed : (named : R → Reply) (x : Side) (b b' : ℕ) (p e : Plain) (acted : Acted R) → Leaves x b b' p e acted → Leaves x b b' p e (replying named acted)
+  pub renamed : (named : R → Reply) (x : Side) (b b' : ℕ) (p e : Plain) (acted : Acted R) → Leaves x b b' p e acted → Leaves x b b' p e (map_answer named acted)
   renamed named x b b' p e acted k = record { rest = k.rest; ended = k.ended; view = k.view; packets = k.packets }
 
 -- ---- a call

@@ -18,8 +18,8 @@ use Rattle.chaos_conn.specs.declared.answers.Why.TheVariants as wh
 use Rattle.chaos_conn.specs.State.{is_live}
 use Rattle.chaos_conn.specs.View.{ConnView, heard_at}
 use Rattle.chaos_conn.specs.Acted.{Acted}
-use Rattle.chaos_conn.specs.Sending.{is_rfc}
-use Rattle.chaos_conn.specs.Arriving.{act_deliver, dropped, after_rfc, is_index, repeated_request, deliver_in, deliver_asking, deliver_requested, deliver_open, is_between_hosts, is_between_indices, after_opn_telling, after_second_opn_telling, after_sts_telling, after_arrived, after_data, after_eof, heard_with_ack}
+use Rattle.chaos_packet.specs.Opcode.{is_rfc}
+use Rattle.chaos_conn.specs.Arriving.{act_deliver, drop_for, after_rfc, is_index, repeated_request, deliver_in, deliver_asking, deliver_requested, deliver_open, is_between_hosts, is_between_indices, after_opn_telling, after_second_opn_telling, after_sts_telling, after_arrived, after_data, after_eof, heard_with_ack}
 use Rattle.chaos_lab.specs.Laboratory.{with_opened}
 
 abbrev pub NotOpened : Delivered → Type 0

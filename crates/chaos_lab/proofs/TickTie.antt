@@ -33,8 +33,8 @@ use Rattle.chaos_conn.specs.State.{awaits_peer, is_open as is_open_state}
 use Rattle.chaos_conn.proofs.Ended.{ended_is_over}
 use Rattle.std.proofs.lemmas.Bool.{and_parts, false≢true}
 use Rattle.std.specs.Prelude.{if◌then◌else◌, ◌||◌, ◌==◌}
-use Rattle.chaos_conn.specs.Sending.{with_sts, sns_of, all_kept, packets_from, item_packet, packet_to_peer, carries_ack, is_rfc}
-use Rattle.chaos_conn.specs.Opening.{act_accept, accepting, opn_item, closed_conn}
+use Rattle.chaos_conn.specs.Sending.{with_sts, sns_of, all_kept, packets_from, item_packet, packet_to_peer, carries_ack}
+use Rattle.chaos_packet.specs.Opcode.{is_rfc}
 use Rattle.chaos_conn.specs.Calls.{act_read, read_open, act_close, cls_of}
 use Rattle.chaos_conn.specs.State.{is_ended}
 use Rattle.chaos_lab.specs.Shown.{Rest, address_of, send_view, shown, shown_in, shown_at, met_view, to_index, IsPut, Leaves, HasItems}

@@ -92,7 +92,7 @@ answer_of call (Ticks ticked) = stepped.Ticked ticked
 answer_of call (Came delivered) = stepped.Delivered delivered
 answer_of (Accept start now) (Did done) = stepped.Accepted start
 answer_of (TakeRequest rfc me now) (Did done) = stepped.Requested
-answer_of call (Did done) = stepped.Closed
+answer_of call _ = stepped.Closed
 
 -- ---- Both ends
 

@@ -5,14 +5,15 @@ use Rattle.std.proofs.Math.Nat.{add-zero, zero-add, add_assoc}
 use Rattle.std.proofs.lemmas.List.{length-take, length-drop, append-nil, map-append}
 use Rattle.std.proofs.lemmas.Bool.{false≢true}
 use Rattle.std.proofs.lemmas.Bool.Decides.{nat_tests}
-use Rattle.chaos_packet.specs.Packet.{PacketView}
+use Rattle.chaos_packet.specs.Opcode.{op_data}
+use Rattle.chaos_packet.specs.Packet.{PacketView, item_of}
 use Rattle.chaos_packet.specs.Outbox.{OutboxView, with_put, room_of}
 use Rattle.chaos_packet.specs.declared.limits.TheConstants.{MAX_DATA}
 use Rattle.chaos_conn.specs.State.{is_open}
 use Rattle.chaos_conn.specs.View.{ConnView}
 use Rattle.chaos_conn.specs.Calls.{can_write, has_window}
 use Rattle.chaos_conn.specs.Act.{act, Write}
-use Rattle.chaos_stream.specs.Writing.{op_data, first_cuts, data_item, data_items, can_put, Put, after_taking, put_cuts, put_of, item_in, Puts, SendsBytes}
+use Rattle.chaos_stream.specs.Writing.{first_cuts, data_item, data_items, can_put, Put, after_taking, put_cuts, put_of, Puts, SendsBytes}
 use Rattle.chaos_stream.proofs.Cuts.{cuts_of-step, data_items-front, drop-cut, items_text-data_items}
 
 -- nothing more was put
@@ -34,7 +35,7 @@ both false b e = absurd (false≢true e)
 
 -- a cut was written: it went out, and is kept last
 record WritesCut (v : ConnView) (cut : List ℕ) (new : ConnView) (packets : List PacketView) : Type 0 where
-  pub sent : map item_in packets ≡ data_item cut ∷ []
+  pub sent : map item_of packets ≡ data_item cut ∷ []
   pub kept : new.send.kept ≡ v.send.kept ++ data_item cut ∷ []
   pub config : new.config ≡ v.config
 
@@ -82,7 +83,7 @@ is_put_more v out bs new packets rest some w p =
       sent = record {
         packets = packets ++ p.sent.packets;
         put_out = p.sent.put_out ∙ with_put-append out packets p.sent.packets;
-        sent = map-append item_in packets p.sent.packets ∙ ap (λ t. t ++ map item_in p.sent.packets) w.sent ∙ ap (λ t. data_item cut ∷ t) p.sent.sent ∙ sym front;
+        sent = map-append item_of packets p.sent.packets ∙ ap (λ t. t ++ map item_of p.sent.packets) w.sent ∙ ap (λ t. data_item cut ∷ t) p.sent.sent ∙ sym front;
         kept = p.sent.kept ∙ ap (λ k. k ++ others) w.kept ∙ append_assoc v.send.kept (data_item cut ∷ []) others ∙ ap (λ t. v.send.kept ++ t) (sym front);
         text = items_text-data_items (take (length cut + rest.taken) bs);
       };

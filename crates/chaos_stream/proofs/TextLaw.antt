@@ -3,11 +3,12 @@ use Rattle.std.proofs.Common.{◌≡◌, ℕ, ◌+◌, ◌<◌, zero, suc, List,
 use Rattle.std.proofs.lemmas.List.{take-append-drop, map-append, append-nil}
 use Rattle.std.proofs.Math.Seq.{take-append_seam}
 use native.Mathlib.Numerals.{unary_clauses}
+use Rattle.chaos_packet.specs.Begins.{Begins}
 use Rattle.chaos_packet.specs.Item.{ItemView}
 use Rattle.chaos_packet.specs.Opcode.{kind_of}
 use Rattle.chaos_packet.specs.declared.opcode.Kind.{Kind}
 use Rattle.chaos_packet.specs.declared.opcode.Kind.TheVariants as kind
-use Rattle.chaos_stream.specs.Text.{bytes_text, item_text, items_text, text_of, Begins, TextBegins, TextAndPartBegin}
+use Rattle.chaos_stream.specs.Text.{bytes_text, item_text, items_text, text_of, TextBegins, TextAndPartBegin}
 use Rattle.chaos_stream.specs.Reading.{item_sight, sight_text, passed_text, LooksFollowText}
 
 -- a list is its beginning, and the rest

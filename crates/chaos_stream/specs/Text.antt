@@ -1,5 +1,6 @@
 -- The text of a stream: what its items say to a user who doesn't see packets.
-use Rattle.std.specs.Prelude.{◌≡◌, ℕ, ◌<◌, List, [], ◌∷◌, ◌++◌, length, take, map, slice_get, Some}
+use Rattle.std.specs.Prelude.{◌≡◌, ℕ, ◌<◌, List, [], ◌∷◌, ◌++◌, length, map, slice_get, Some}
+use Rattle.chaos_packet.specs.Begins.{Begins}
 use Rattle.chaos_packet.specs.Item.{ItemView}
 use Rattle.chaos_packet.specs.Opcode.{kind_of}
 use Rattle.chaos_packet.specs.declared.opcode.Kind.{Kind}
@@ -29,10 +30,6 @@ items_text (item ∷ items) = item_text (kind_of item.op) item.body ++ items_tex
 abbrev pub text_of : List ItemView → List Symbol
 text_of [] = []
 text_of (opening ∷ items) = items_text items
-
--- xs is the first members of ys
-abbrev pub Begins : {X : Type 0} → List X → List X → Type 0
-Begins xs ys = take (length xs) ys ≡ xs
 
 -- Where some items, at least one, begin all the items, their text begins the text of all.
 abbrev pub TextBegins : Type 0

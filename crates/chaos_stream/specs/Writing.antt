@@ -1,21 +1,14 @@
 -- Writing bytes to a stream.
 use Rattle.std.specs.Prelude.{◌≡◌, ℕ, zero, suc, ◌+◌, Bool, ◌&&◌, nat_lt, if◌then◌else◌, List, [], ◌∷◌, ◌++◌, length, take, drop, map}
 use Rattle.chaos_packet.specs.Item.{ItemView}
-use Rattle.chaos_packet.specs.Packet.{PacketView}
+use Rattle.chaos_packet.specs.Opcode.{op_data}
+use Rattle.chaos_packet.specs.Packet.{PacketView, item_of}
 use Rattle.chaos_packet.specs.Outbox.{OutboxView, room_of, with_put}
 use Rattle.chaos_packet.specs.declared.limits.TheConstants.{MAX_DATA}
 use Rattle.chaos_conn.specs.View.{ConnView}
 use Rattle.chaos_conn.specs.Calls.{can_write}
 use Rattle.chaos_conn.specs.Act.{act, Write}
 use Rattle.chaos_stream.specs.Text.{bytes_text, items_text}
-
--- the opcode of 8-bit data, octal 200
-abbrev pub op_data : ℕ
-op_data = 128
-
--- the opcode of an EOF, octal 14
-abbrev pub op_eof : ℕ
-op_eof = 12
 
 -- ---- cuts
 
@@ -72,14 +65,10 @@ pub record Puts (old : ConnView) (before : OutboxView) (bytes : List ℕ) (now :
   pub taken_is : taken ≡ (put_of old before bytes now).taken
   pub config : new.config ≡ old.config
 
--- the item of a packet
-abbrev pub item_in : PacketView → ItemView
-item_in p = record { op = p.op; body = p.body }
-
 -- Just these bytes went out as items of data, a cut a packet, and these are kept behind the items that were.
 pub record SendsBytes (old new : ConnView) (before after : OutboxView) (bytes : List ℕ) : Type 0 where
   pub packets : List PacketView
   pub put_out : after ≡ with_put before packets
-  pub sent : map item_in packets ≡ data_items bytes
+  pub sent : map item_of packets ≡ data_items bytes
   pub kept : new.send.kept ≡ old.send.kept ++ data_items bytes
   pub text : items_text (data_items bytes) ≡ bytes_text bytes

@@ -2,12 +2,11 @@
 ghost use Rattle.std.specs.Prelude.{◌≡◌, ◌+◌, ◌<◌, ◌≤◌, drop};
 ghost use Rattle.chaos_packet.specs.Opcode.{kind_of};
 ghost use Rattle.chaos_packet.specs.Outbox.{room_of};
-ghost use Rattle.chaos_conn.specs.State.{is_opening};
 ghost use Rattle.chaos_stream.specs.Reading.{peek_of, lent_by, item_sight, Consumes};
 ghost use Rattle.chaos_stream.specs.Shown.{sight_of};
 
 use crate::peek::Peek;
-use chaos_conn::{Conn, State};
+use chaos_conn::Conn;
 use chaos_packet::{Item, Kind, MAX_DATA, Outbox};
 use std::marker::Model;
 
@@ -48,11 +47,11 @@ impl StreamIn {
     {
         let place = self.place;
         let state = conn.state();
-        if is_opening(state) {
+        if state.is_opening() {
             return Peek::Nothing;
         }
         match conn.front() {
-            Some(item) => shown(item, place),
+            Some(item) => peek_at(item, place),
             None if state.is_open() => Peek::Nothing,
             None => Peek::Ended,
         }
@@ -69,22 +68,15 @@ impl StreamIn {
     {
         if self.peek(conn).is_used_up_by(count) {
             self.place = 0;
-            let _ = conn.read(out);
+            conn.read_done(out);
         } else {
             self.place += count;
         }
     }
 }
 
-/// Whether an end in this state waits to be opened, so that nothing can be read.
-fn is_opening(state: State) -> bool
-    ensures { result ≡ is_opening state }
-{
-    matches!(state, State::RfcSent | State::RfcReceived)
-}
-
 /// What an item shows from a place on.
-fn shown(item: &Item, place: usize) -> Peek<'_>
+fn peek_at(item: &Item, place: usize) -> Peek<'_>
     ensures value { sight_of result ≡ item_sight (kind_of item.now.op) (drop place item.now.body) }
     ensures fits { place ≤ MAX_DATA → place + lent_by (item_sight (kind_of item.now.op) (drop place item.now.body)) ≤ MAX_DATA }
 {

@@ -1,8 +1,9 @@
 //! Writing bytes to a connection.
 ghost use Rattle.std.specs.Prelude.{◌≡◌, ◌<◌, ◌≤◌, false, [], length, take};
+ghost use Rattle.chaos_packet.specs.Opcode.{op_eof};
 ghost use Rattle.chaos_packet.specs.Outbox.{room_of};
 ghost use Rattle.chaos_conn.specs.Act.{Write, Wrote, Does};
-ghost use Rattle.chaos_stream.specs.Writing.{op_data, op_eof, can_put, Puts, SendsBytes};
+ghost use Rattle.chaos_stream.specs.Writing.{can_put, Puts, SendsBytes};
 
 use chaos_conn::{Conn, ConnFault};
 use chaos_packet::{MAX_DATA, Opcode, Outbox, PktNum};

@@ -1,4 +1,0 @@
-pub mod Counts
-pub mod Edits
-pub mod Offsets
-pub mod SlotLemmas

@@ -1,4 +1,3 @@
-pub mod Held
 pub mod Receive
 pub mod Send
 pub mod Slots

@@ -1,11 +1,10 @@
 //! The two windows of a connection: what an end sent and may have to send again, and what an end holds until its
 //! user reads it (AI Memo 628, on connections).
 //!
-//! Lists and numbers alone: no sockets, no clock, and no allocation after `new`.
+//! Rings and numbers alone: no sockets, no clock, and no allocation after `new`.
 #![tactic(auto)]
 
 mod arrival;
-mod held;
 mod limits;
 mod receive;
 mod send;

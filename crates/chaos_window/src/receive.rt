@@ -1,12 +1,12 @@
 //! What an end holds.
-ghost use Rattle.std.specs.Prelude.{◌≡◌, ◌≤◌, IfOk};
+ghost use Rattle.std.specs.Prelude.{◌≡◌, ◌≤◌, length, is_some, IfOk};
 ghost use Rattle.std.specs.Option.{option_copied};
-ghost use Rattle.chaos_window.specs.Receive.{IsReceiveWindow, item_at, clear_receive, started_receive, arrival_of, after_arrival, after_advance, receipt_of, held_count};
+ghost use Rattle.chaos_window.specs.Receive.{IsReceiveWindow, item_at, clear_receive, started_receive, arrival_of, after_arrival, after_advance, receipt_of, held_count, receive_view};
 
 use crate::arrival::Arrived;
 use crate::limits::MAX_WINDOW;
 use crate::slots::Slots;
-use chaos_packet::{Item, PktNum};
+use chaos_packet::{Item, MAX_DATA, Opcode, PktNum};
 use std::alloc::{AllocError, Global};
 use std::marker::Model;
 
@@ -64,23 +64,32 @@ impl RecvWindow {
 
     /// Takes an item that came with a number, and says what became of it.
     ///
-    /// At most one move of the items held.
+    /// One slot is written.
     pub fn arrive(&mut self, num: PktNum, item: Item) -> Arrived
         ensures answer { result ≡ arrival_of self.old num }
         ensures held { self.new ≡ after_arrival self.old num item }
     {
-        let offset = num.off(self.read);
-        if 1 <= offset && offset <= self.slots.cap() {
-            if self.slots.put(offset, item) {
-                Arrived::Took
-            } else {
-                Arrived::Duplicate
-            }
-        } else if num.after(self.read) {
-            Arrived::Outside
-        } else {
-            Arrived::Duplicate
+        let arrived = arrival(self.read, &self.slots, num);
+        if arrived == Arrived::Took {
+            self.slots.put(num.off(self.read), item);
         }
+        arrived
+    }
+
+    /// Takes a copy of an item that came with a number and is lent: its opcode, and at most [`MAX_DATA`] bytes. It says
+    /// what became of it, as `arrive` does.
+    ///
+    /// The bytes are copied where the item is taken, and not before.
+    pub fn arrive_lent(&mut self, num: PktNum, op: Opcode, bytes: &[u8]) -> Arrived
+        requires { length bytes.now ≤ MAX_DATA }
+        ensures answer { result ≡ arrival_of self.old num }
+        ensures held { self.new ≡ after_arrival self.old num (record { op = op; body = bytes.now }) }
+    {
+        let arrived = arrival(self.read, &self.slots, num);
+        if arrived == Arrived::Took {
+            self.slots.put(num.off(self.read), Item::new(op, bytes));
+        }
+        arrived
     }
 
     /// Lends the next item, where it is held.
@@ -91,8 +100,6 @@ impl RecvWindow {
     }
 
     /// Reads the next item, where it is held, and hands it out.
-    ///
-    /// At most one move of the items held.
     pub fn advance(&mut self) -> Option<Item>
         ensures item { result ≡ item_at self.old 1 }
         ensures rest { self.new ≡ after_advance self.old }
@@ -100,6 +107,18 @@ impl RecvWindow {
         let item = self.slots.take_first()?;
         self.read = self.read.next();
         Some(item)
+    }
+
+    /// Reads the next item, where it is held, and drops it where it lies. It says whether it was held.
+    pub fn discard(&mut self) -> bool
+        ensures was_held { result ≡ is_some (item_at self.old 1) }
+        ensures rest { self.new ≡ after_advance self.old }
+    {
+        let was_held = self.slots.drop_first();
+        if was_held {
+            self.read = self.read.next();
+        }
+        was_held
     }
 
     /// The receipt to send: the number up to which all arrived, with no gap after the number last read.
@@ -128,6 +147,8 @@ impl RecvWindow {
     }
 
     /// How many items are held.
+    ///
+    /// A walk over the window.
     pub fn held(&self) -> usize
         ensures count { result ≡ held_count self.now }
         ensures fits { (result ≤ self.now.cap) × (result ≤ MAX_WINDOW) }
@@ -148,5 +169,19 @@ impl RecvWindow {
     {
         self.slots.clear();
         self.read = PktNum(0);
+    }
+}
+
+/// What becomes of an item that arrives with a number, where `read` is the number last read.
+fn arrival(read: PktNum, slots: &Slots, num: PktNum) -> Arrived
+    ensures { result ≡ arrival_of (receive_view read slots.now) num }
+{
+    let offset = num.off(read);
+    if 1 <= offset && offset <= slots.cap() && slots.get(offset).is_none() {
+        Arrived::Took
+    } else if slots.cap() < offset && num.after(read) {
+        Arrived::Outside
+    } else {
+        Arrived::Duplicate
     }
 }

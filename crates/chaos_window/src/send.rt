@@ -1,10 +1,11 @@
 //! What an end has sent.
-ghost use Rattle.std.specs.Prelude.{◌≡◌, ◌<◌, ◌≤◌, length, drop, slice_get, vec_len, vec_capacity, IfOk, IsErr};
+ghost use Rattle.std.specs.Prelude.{◌≡◌, ◌<◌, ◌≤◌, length, drop, slice_get, IfOk, IsErr};
 ghost use Rattle.std.specs.Option.{option_copied};
 ghost use Rattle.chaos_window.specs.Send.{IsSendWindow, outstanding_of, next_of, clear_send, started_send, after_push, after_receipt, after_acknowledgement, after_window};
 
 use crate::limits::MAX_WINDOW;
 use chaos_packet::{Item, MAX_DATA, Opcode, PktNum};
+use circular_buffer::HeapCircularBuffer;
 use std::alloc::{AllocError, Global};
 use std::marker::Model;
 use thiserror::Error;
@@ -39,12 +40,12 @@ pub struct SendWindow {
     acknowledged: PktNum,
     /// The window that the other end announced, and the cap before it did.
     window: u16,
-    /// The items past `receipted`, the oldest first.
-    kept: Vec<Item>,
+    /// The items past `receipted`, the oldest first: a ring with as many places as the cap.
+    kept: HeapCircularBuffer<Item>,
 }
 
 impl Model for SendWindow {
-    ghost use Rattle.std.specs.Prelude.{◌≤◌, vec_capacity};
+    ghost use Rattle.std.specs.Prelude.{◌≡◌};
     ghost use Rattle.chaos_window.specs.Send.{SendView, IsSendWindow, send_view};
 
     ghost Value = { SendView };
@@ -52,7 +53,7 @@ impl Model for SendWindow {
     ghost view = { λ w. send_view w.cap w.sent w.receipted w.acknowledged w.window w.kept.items };
 
     ghost invariant = { λ w. IsSendWindow (send_view w.cap w.sent w.receipted w.acknowledged w.window w.kept.items)
-        × (w.cap ≤ vec_capacity w.kept) };
+        × (w.kept.capacity ≡ w.cap) };
 }
 
 impl SendWindow {
@@ -61,7 +62,7 @@ impl SendWindow {
         requires { (1 ≤ cap) × (cap ≤ MAX_WINDOW) }
         ensures { IfOk result (λ window. window ≡ clear_send cap) }
     {
-        let kept = Vec::with_capacity(alloc, cap as usize)?;
+        let kept = HeapCircularBuffer::with_capacity(alloc, cap as usize)?;
         Ok(SendWindow {
             cap,
             sent: PktNum(0),
@@ -97,7 +98,7 @@ impl SendWindow {
         if self.outstanding() >= self.window {
             return Err(Full);
         }
-        let _ = self.kept.push(Item::new(op, body));
+        let _ = self.kept.push_back(Item::new(op, body));
         self.sent = self.sent.next();
         Ok(self.sent)
     }
@@ -135,7 +136,7 @@ impl SendWindow {
     /// Takes a receipt, which says that all up to `num` arrived. It counts where `num` lies between the present receipt
     /// and the number last sent, both included.
     ///
-    /// The items that stay are moved once, however many are dropped.
+    /// The items that it says arrived are dropped where they lie, and no other is moved.
     pub fn receipt(&mut self, num: PktNum)
         ensures { self.new ≡ after_receipt self.old num }
     {
@@ -149,7 +150,7 @@ impl SendWindow {
     /// Takes an acknowledgement, which says that the other end's user read all up to `num`, so that they arrived too. It
     /// counts where `num` lies between the present acknowledgement and the number last sent, both included.
     ///
-    /// The items that stay are moved at most once.
+    /// The items that it says arrived are dropped where they lie, and no other is moved.
     pub fn acknowledge(&mut self, num: PktNum)
         ensures { self.new ≡ after_acknowledgement self.old num }
     {
@@ -203,10 +204,10 @@ impl SendWindow {
 }
 
 /// Drops the first items.
-fn drop_front(items: &mut Vec<Item>, count: usize)
-    requires { count ≤ vec_len items.old }
+fn drop_front(items: &mut HeapCircularBuffer<Item>, count: usize)
+    requires { count ≤ length items.old.items }
     ensures items { items.new.items ≡ drop count items.old.items }
-    ensures capacity { vec_capacity items.new ≡ vec_capacity items.old }
+    ensures capacity { items.new.capacity ≡ items.old.capacity }
 {
-    items.drain(..count);
+    items.truncate_front(items.len() - count);
 }
