@@ -1,5 +1,5 @@
 -- The headline: the delivery law, of every laboratory.
-use Rattle.std.proofs.Common.{◌≡◌, ℕ, zero, suc, ◌+◌, ◌<◌, ◌≤◌, List, [], ◌∷◌, ◌++◌, length, map, Bool, true, false, ◌&&◌, not, Option, Some, None, Ok, Err, refl, sym, ap, ◌∙◌, subst, inl, inr, ◌⊎◌, ⊎_elim, arith}
+use Rattle.std.proofs.Common.{◌≡◌, ℕ, zero, suc, ◌+◌, ◌<◌, ◌≤◌, List, [], ◌∷◌, ◌++◌, length, map, Bool, true, false, not, Some, Ok, Err, refl, sym, ap, ◌∙◌, subst, ⊎_elim, arith}
 use Rattle.std.specs.Prelude.{slice_get}
 use Rattle.std.proofs.lemmas.Bool.{cond-true, cond-false, cases_Bool, false≢true, and_parts}
 use Rattle.chaos_packet.specs.Begins.{Begins}
@@ -7,9 +7,7 @@ use Rattle.chaos_packet.specs.Item.{ItemView}
 use Rattle.chaos_packet.specs.Number.{num}
 use Rattle.chaos_packet.specs.Opcode.{kind_of}
 use Rattle.chaos_packet.specs.Packet.{PacketView, item_of}
-use Rattle.chaos_packet.specs.declared.opcode.Kind.{Kind as OpKind}
 use Rattle.chaos_packet.specs.declared.opcode.Kind.TheVariants as k
-use Rattle.chaos_conn.specs.declared.state.State.{State}
 use Rattle.chaos_conn.specs.declared.state.State.TheVariants as st
 use Rattle.chaos_conn.specs.declared.answers.ReadEnd.{ReadEnd}
 use Rattle.chaos_conn.specs.declared.answers.ReadEnd.TheVariants as gave
@@ -21,29 +19,28 @@ use Rattle.chaos_conn.specs.Act.Call.{Read, Deliver as DeliverPacket}
 use Rattle.chaos_lab.specs.declared.side.Side.{Side}
 use Rattle.chaos_lab.specs.declared.side.Side.TheVariants.{A, B}
 use Rattle.chaos_lab.specs.declared.stamped.Stamped.{Stamped as Sent}
-use Rattle.chaos_lab.specs.declared.event.Stepped.{Stepped as Answer}
 use Rattle.chaos_lab.specs.declared.event.Stepped.TheVariants as stepped
-use Rattle.chaos_lab.specs.Machine.{PlainEnd as Plain, Phase, Kind, Copy, Machine, other, end_of, Step, start}
+use Rattle.chaos_lab.specs.Machine.{PlainEnd as Plain, Phase, Kind, Copy, Machine, other, end_of}
 use Rattle.chaos_lab.specs.Machine.Phase.{Inactive, RfcSent, RfcReceived, Open, Ended, Closed}
 use Rattle.chaos_lab.specs.Machine.Kind.{Nth, Sns, Sts, Cls}
-use Rattle.chaos_lab.specs.Machine.Event.{ReadAt, Deliver}
+use Rattle.chaos_lab.specs.Machine.Event.{Deliver}
 use Rattle.chaos_lab.specs.Law.{DeliversInside}
-use Rattle.chaos_lab.specs.Shown.{Rest, shown_at, HasItems, IsFirst, IsWhat, is_a}
-use Rattle.chaos_lab.specs.Laboratory.{LabView, Happening, lab_end, lab_start, lab_request, stamp, with_given, happen, delivered, delivery, is_fresh, is_request, call_at, after_call, after_all}
-use Rattle.chaos_lab.specs.Laboratory.Happening.{ReadBy, DeliverCopy}
+use Rattle.chaos_lab.specs.Shown.{Rest, shown_at, HasItems, IsWhat, is_a}
+use Rattle.chaos_lab.specs.Laboratory.{LabView, Happening, lab_end, lab_start, lab_request, stamp, with_given, happen, delivered, is_fresh, is_request, call_at, after_call, after_all}
+use Rattle.chaos_lab.specs.Laboratory.Happening.{DeliverCopy}
 use Rattle.chaos_lab.specs.Tied.{Tied, Ties, HasMachine, lab_machine, plain_run}
 use Rattle.chaos_lab.specs.Headline.{len_at, IsCopyOf, ComesInside, Unclosed, ReadsInTurn}
-use Rattle.chaos_lab.proofs.Copies.{KindOk, len_of}
+use Rattle.chaos_lab.proofs.Copies.{KindOk}
 use Rattle.chaos_lab.proofs.Calls.{last_item}
 use Rattle.chaos_lab.proofs.Lists.{length-one_more}
 use Rattle.chaos_lab.proofs.Machines.{reached_holds}
 use Rattle.chaos_lab.proofs.DeliveryLaw.{beginning, in_turn}
 use Rattle.chaos_lab.proofs.StartTie.{tied_start}
-use Rattle.chaos_lab.proofs.OnSide.{Outcome, Refuses, Steps, Stepped, conn_at, stands_at, items_at, written_at, read_at}
+use Rattle.chaos_lab.proofs.OnSide.{Outcome, Refuses, Steps, Stepped, conn_at, stands_at, written_at, read_at}
 use Rattle.chaos_lab.proofs.UserTies.{read_ties}
 use Rattle.chaos_lab.proofs.CopyTies.{CopyKnown, copy_known}
 use Rattle.chaos_lab.proofs.LabTies.{event_ties}
-use Rattle.chaos_lab.proofs.Runs.{Ran, runs, unclosed}
+use Rattle.chaos_lab.proofs.Runs.{runs, unclosed}
 
 -- ---- the start
 
