@@ -1,5 +1,5 @@
 -- An acceptance.
-use Rattle.std.proofs.Common.{◌≡◌, ℕ, suc, max, [], ◌∷◌, ◌++◌, length, map, drop, true, ltb, Some, None, Option, refl, sym, ap, ◌∙◌, subst, inl, inr, ◌⊎◌, arith, Result, Ok, Err}
+use Rattle.std.proofs.Common.{◌≡◌, ℕ, suc, max, [], ◌∷◌, ◌++◌, length, map, drop, true, ltb, Some, None, Option, refl, sym, ap, ◌∙◌, subst, inl, inr, ◌⊎◌, arith, Ok, Err}
 use Rattle.std.specs.Prelude.{slice_get}
 use Rattle.std.specs.FinSet.{contains}
 use Rattle.std.proofs.lemmas.Bool.{cond_both, cond-true, cond-false, false_from_ne_true}
@@ -8,9 +8,7 @@ use Rattle.std.proofs.lemmas.List.Elements.{All-nil, All-push}
 use Rattle.chaos_lab.specs.declared.side.Side.TheVariants.{B}
 use Rattle.chaos_lab.specs.Machine.{PlainEnd as Plain}
 use Rattle.chaos_lab.specs.Machine.Phase.{Inactive, RfcSent, RfcReceived, Open, Ended, Closed}
-use Rattle.chaos_conn.specs.declared.state.State.{State}
 use Rattle.chaos_conn.specs.declared.state.State.TheVariants as st
-use Rattle.chaos_conn.specs.declared.fault.ConnFault.{ConnFault}
 use Rattle.chaos_conn.specs.declared.fault.ConnFault.TheVariants as fa
 use Rattle.chaos_packet.specs.Number.{num, off}
 use Rattle.chaos_lab.specs.Numbers.{told_num}
@@ -24,14 +22,12 @@ use Rattle.chaos_packet.specs.Words.{halves}
 use Rattle.chaos_window.specs.Send.{SendView, after_push, started_send, clear_send}
 use Rattle.chaos_packet.specs.Packet.{item_of}
 use Rattle.chaos_window.specs.Receive.{ReceiveView, item_at, started_receive, after_advance, receipt_of}
-use Rattle.chaos_conn.specs.View.{ConnView, moment}
+use Rattle.chaos_conn.specs.View.{ConnView}
 use Rattle.chaos_conn.specs.Acted.{Acted, quietly}
 use Rattle.chaos_conn.proofs.Ended.{ended_is_over}
 use Rattle.chaos_conn.specs.Opening.{Outcome, with_opn}
-use Rattle.chaos_packet.specs.Opcode.{is_rfc}
-use Rattle.chaos_conn.specs.Sending.{with_item, with_sts, sns_of, all_kept, packets_from, item_packet, packet_to_peer, carries_ack}
-use Rattle.chaos_conn.specs.Time.{act_tick}
-use Rattle.chaos_conn.specs.Opening.{act_accept, after_accepting, opn_item, closed_conn}
+use Rattle.chaos_conn.specs.Sending.{with_item}
+use Rattle.chaos_conn.specs.Opening.{act_accept, after_accepting, opn_item}
 use Rattle.chaos_conn.specs.Calls.{front_of}
 use Rattle.chaos_conn.specs.State.{is_ended}
 use Rattle.chaos_lab.specs.Shown.{Rest, send_view, recv_view, send_shown, recv_shown, there_at, shown, shown_in, shown_at, met_view, IsPut, Leaves, HasItems, IsFirst}

@@ -31,9 +31,9 @@ use Rattle.chaos_conn.specs.View.{ConnView, moment}
 use Rattle.chaos_conn.specs.Acted.{Acted, quietly}
 use Rattle.chaos_conn.specs.State.{is_open as is_open_state}
 use Rattle.chaos_conn.proofs.Ended.{ended_is_over}
+use Rattle.chaos_conn.specs.Sending.{with_item, item_packet, packet_to_peer, carries_ack}
 use Rattle.chaos_packet.specs.Opcode.{is_rfc}
-use Rattle.chaos_conn.specs.Sending.{with_item, with_sts, item_packet, packet_to_peer, carries_ack}
-use Rattle.chaos_conn.specs.Calls.{act_write, most_bytes, write_at_most, act_read, read_open, act_close, cls_of}
+use Rattle.chaos_conn.specs.Calls.{act_write, most_bytes, write_at_most, act_close, cls_of}
 use Rattle.chaos_conn.specs.Opening.{closed_conn}
 use Rattle.chaos_conn.specs.State.{is_ended}
 use Rattle.chaos_lab.specs.Shown.{Rest, send_view, index_of, shown, shown_in, shown_at, met_view, IsPut, Leaves, IsUsers}

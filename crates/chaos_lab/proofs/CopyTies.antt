@@ -1,49 +1,43 @@
 -- The delivery of a copy keeps the tie of the laboratory.
-use Rattle.std.proofs.Common.{◌≡◌, ℕ, zero, suc, ◌+◌, ◌-◌, ◌<◌, ◌≤◌, List, [], ◌∷◌, ◌++◌, length, map, Bool, true, false, ◌&&◌, not, ltb, Option, Some, None, refl, sym, ap, ◌∙◌, subst, inl, inr, ◌⊎◌, ⊎_elim, arith, Ok, Err}
+use Rattle.std.proofs.Common.{◌≡◌, ℕ, zero, suc, ◌-◌, ◌<◌, List, [], ◌∷◌, length, true, Some, refl, sym, ap, ◌∙◌, subst, ⊎_elim, arith}
 use Rattle.std.specs.Prelude.{slice_get}
-use Rattle.std.specs.List.{All, AllZip}
+use Rattle.std.specs.List.{AllZip}
 use Rattle.std.specs.FinSet.{insert}
-use Rattle.std.proofs.lemmas.Bool.{cond_both, cond-true, cond-false, cases_Bool, false≢true, and_parts, and_from, ltb-true}
+use Rattle.std.proofs.lemmas.Bool.{false≢true, and_parts, ltb-true}
 use Rattle.std.proofs.lemmas.List.{append-nil}
 use Rattle.std.proofs.lemmas.Option.{slice_get_within, get_or_from_slice_get}
-use Rattle.chaos_packet.specs.Item.{ItemView}
-use Rattle.chaos_packet.specs.Opcode.{kind_of, is_rfc}
+use Rattle.chaos_packet.specs.Opcode.{kind_of}
 use Rattle.chaos_packet.specs.Packet.{PacketView, item_of}
-use Rattle.chaos_packet.specs.declared.opcode.Kind.{Kind as OpKind}
 use Rattle.chaos_packet.specs.declared.opcode.Kind.TheVariants as k
-use Rattle.chaos_conn.specs.declared.fault.ConnFault.{ConnFault}
 use Rattle.chaos_conn.specs.declared.state.State.{State}
 use Rattle.chaos_conn.specs.declared.state.State.TheVariants as st
-use Rattle.chaos_conn.specs.declared.answers.Delivered.TheVariants as de
 use Rattle.chaos_conn.specs.View.{ConnView}
 use Rattle.chaos_conn.specs.State.{is_ended}
-use Rattle.chaos_conn.specs.Arriving.{act_deliver, deliver_asking, after_opn_telling}
+use Rattle.chaos_conn.specs.Arriving.{act_deliver}
 use Rattle.chaos_conn.specs.Opening.{act_take_request}
-use Rattle.chaos_conn.specs.Act.{Call, act}
 use Rattle.chaos_conn.specs.Act.Call.{TakeRequest, Deliver as DeliverPacket}
 use Rattle.chaos_conn.specs.Act.Reply.{Did, Came}
 use Rattle.chaos_lab.specs.declared.side.Side.{Side}
 use Rattle.chaos_lab.specs.declared.side.Side.TheVariants.{A, B}
 use Rattle.chaos_lab.specs.declared.stamped.Stamped.{Stamped as Sent}
-use Rattle.chaos_lab.specs.Machine.{PlainEnd as Plain, Phase, Kind, Told, Copy, Machine, Event, other, end_of, read_item, hear, Fresh, fresh_span}
+use Rattle.chaos_lab.specs.Machine.{PlainEnd as Plain, Phase, Kind, Told, Copy, Machine, other, end_of, read_item, Fresh}
 use Rattle.chaos_lab.specs.Machine.Phase.{Inactive, RfcSent, RfcReceived, Open, Ended, Closed}
 use Rattle.chaos_lab.specs.Machine.Kind.{Nth, Sns, Sts, Cls}
 use Rattle.chaos_lab.specs.Machine.Told.{Nothing, Acknowledges, Status}
 use Rattle.chaos_lab.specs.Machine.Event.{Deliver}
-use Rattle.chaos_lab.specs.Shown.{Rest, place_of, is_a, shown, shown_in, shown_at, HasItems, IsUsers, IsWhat, StandsFor, Leaves}
-use Rattle.chaos_lab.specs.Laboratory.{LabView, lab_end, with_opened, is_fresh, is_request, delivery, after_call}
+use Rattle.chaos_lab.specs.Shown.{Rest, place_of, shown_at, HasItems, IsWhat, StandsFor, Leaves}
+use Rattle.chaos_lab.specs.Laboratory.{LabView, with_opened, is_fresh, after_call}
 use Rattle.chaos_lab.specs.Tied.{Ties, StandsCopy, Agrees, MetBefore, base_of}
-use Rattle.chaos_lab.proofs.Machines.{Holds, reached_holds, end_holds, copy_at}
-use Rattle.chaos_lab.proofs.Copies.{KindOk, ToldOk, TellsMet, IsCopyOk}
+use Rattle.chaos_lab.proofs.Machines.{reached_holds, copy_at}
+use Rattle.chaos_lab.proofs.Copies.{IsCopyOk}
 use Rattle.chaos_lab.proofs.Ends.{Fits, IsNew, IsNone, fits_at}
 use Rattle.chaos_lab.proofs.Functions.{next_item}
 use Rattle.chaos_lab.proofs.Total.{received, comes_received}
-use Rattle.chaos_lab.proofs.Items.{SameNew, new_by_request, reads_by_opening, same_heard_read, same_received, same_items, late_of}
-use Rattle.chaos_lab.proofs.Known.{Known, ComesLate}
+use Rattle.chaos_lab.proofs.Items.{new_by_request, reads_by_opening, same_heard_read, same_received, same_items, late_of}
+use Rattle.chaos_lab.proofs.Known.{Known}
 use Rattle.chaos_lab.proofs.Deliver.{deliver_leaves, request_leaves, opened_answer}
 use Rattle.chaos_lab.proofs.Opened.{not_opened, nothing_opened}
-use Rattle.chaos_lab.proofs.OnSide.{KeepsTie, Stepped, conn_at, first_at, stands_at, items_at, written_at, read_at, asked_keeps, renamed, ties_on}
-use Rattle.chaos_lab.proofs.UserTies.{Refuses}
+use Rattle.chaos_lab.proofs.OnSide.{Stepped, stands_at, asked_keeps, renamed, ties_on}
 
 -- the copy that a packet stands for
 module _ {X Y : Type 0} where

@@ -30,10 +30,10 @@ use Rattle.chaos_packet.specs.Opcode.{kind_of}
 use Rattle.chaos_window.specs.Send.{after_acknowledgement, after_receipt, after_window, clear_send}
 use Rattle.chaos_window.specs.Receive.{clear_receive, ReceiveView, started_receive, after_arrival}
 use Rattle.chaos_conn.specs.View.{ConnView, heard_at}
-use Rattle.chaos_conn.specs.Acted.{Acted, quietly}
-use Rattle.chaos_packet.specs.Opcode.{is_rfc}
+use Rattle.chaos_conn.specs.Acted.{quietly}
 use Rattle.chaos_conn.specs.Sending.{with_sts}
-use Rattle.chaos_conn.specs.Arriving.{after_end, may_be_index, deliver_requested, act_deliver, deliver_asking, deliver_open, deliver_in, drop_for, after_opn_telling, repeated_request, with_status}
+use Rattle.chaos_packet.specs.Opcode.{is_rfc}
+use Rattle.chaos_conn.specs.Arriving.{after_end, may_be_index, deliver_requested, act_deliver, deliver_asking, deliver_open, drop_for, after_opn_telling}
 use Rattle.chaos_conn.specs.State.{is_requested, is_live, is_ended}
 use Rattle.chaos_conn.specs.Opening.{act_take_request, after_taking_rfc}
 use Rattle.chaos_lab.specs.Shown.{Rest, place_of, send_view, recv_view, send_shown, recv_shown, slots_from, idle, shown, shown_in, shown_at, met_view, HasHeader, StandsFor, Leaves}

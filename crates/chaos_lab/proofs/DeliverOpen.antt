@@ -27,8 +27,8 @@ use Rattle.chaos_window.specs.Send.{after_acknowledgement, after_receipt, after_
 use Rattle.chaos_window.specs.Receive.{arrival_of, after_arrival, after_answer}
 use Rattle.chaos_conn.specs.View.{ConnView, heard_at}
 use Rattle.chaos_conn.specs.Acted.{Acted, quietly}
-use Rattle.chaos_packet.specs.Opcode.{is_rfc}
 use Rattle.chaos_conn.specs.Sending.{with_sts}
+use Rattle.chaos_packet.specs.Opcode.{is_rfc}
 use Rattle.chaos_conn.specs.Arriving.{act_deliver, deliver_open, after_item_came, after_arrived, with_ack, with_status, after_second_opn_telling, after_sts_telling}
 use Rattle.chaos_conn.specs.State.{is_ended}
 use Rattle.chaos_lab.specs.Shown.{Rest, address_of, send_view, recv_view, met_view, HasHeader, StandsFor, Leaves, CarriesTold}

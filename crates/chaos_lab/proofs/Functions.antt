@@ -1,15 +1,14 @@
 -- The rows of the table as functions.
-use Rattle.std.proofs.Common.{◌≡◌, ◌≢◌, ◌∙◌, ℕ, zero, suc, [], ◌∷◌, ◌++◌, length, Bool, true, false, ◌&&◌, cond, Some, None, Option, refl, sym, ap, subst, inl, inr, ◌⊎◌, ⊎_elim, arith}
+use Rattle.std.proofs.Common.{◌≡◌, ◌∙◌, ℕ, length, Bool, true, false, ◌&&◌, None, Option, refl, sym, ap, subst, inl, inr, ◌⊎◌, ⊎_elim}
 use Rattle.std.specs.Prelude.{slice_get, if◌then◌else◌}
-use Rattle.std.specs.List.{All}
 use Rattle.std.specs.FinSet.{contains}
-use Rattle.std.proofs.lemmas.Bool.{cases_Bool, false≢true}
+use Rattle.std.proofs.lemmas.Bool.{false≢true}
 use Rattle.chaos_packet.specs.Item.{ItemView}
 use Rattle.chaos_lab.specs.declared.side.Side.{Side}
-use Rattle.chaos_lab.specs.Machine.{PlainEnd, Phase, Kind, Told, Copy, Machine, Event, other, end_of, read_item, read_next, Read, Close, Tick, End, OrNothing, Comes, Step}
+use Rattle.chaos_lab.specs.Machine.{PlainEnd, Phase, Kind, Told, Copy, Machine, Event, read_item, Read, Close, Tick, OrNothing, Comes, Step}
 use Rattle.chaos_lab.specs.Machine.Phase.{Inactive, RfcSent, RfcReceived, Open, Ended, Closed}
 use Rattle.chaos_lab.proofs.Directions.{Sound}
-use Rattle.chaos_lab.proofs.Copies.{KindOk, ToldOk, TellsMet, CopyOk}
+use Rattle.chaos_lab.proofs.Copies.{KindOk, ToldOk, TellsMet}
 use Rattle.chaos_lab.proofs.Ends.{EndOk, EndHolds, EndStep}
 use Rattle.chaos_lab.proofs.Rows.{or_nothing, row_comes}
 use Rattle.chaos_lab.proofs.Total.{received, comes_received}

@@ -1,15 +1,14 @@
 -- The headline: the delivery law, of every laboratory.
-use Rattle.std.proofs.Common.{◌≡◌, ℕ, zero, suc, ◌+◌, ◌<◌, ◌≤◌, List, [], ◌∷◌, ◌++◌, length, map, Bool, true, false, ◌&&◌, not, Option, Some, None, Ok, Err, refl, sym, ap, ◌∙◌, subst, inl, inr, ◌⊎◌, ⊎_elim, arith}
+use Rattle.std.proofs.Common.{◌≡◌, ℕ, zero, suc, ◌+◌, ◌<◌, ◌≤◌, List, [], ◌∷◌, ◌++◌, length, map, Bool, true, false, not, Some, Ok, Err, refl, sym, ap, ◌∙◌, subst, ⊎_elim, arith}
 use Rattle.std.specs.Prelude.{slice_get}
+use Rattle.std.proofs.lemmas.Option.{slice_get_within}
 use Rattle.std.proofs.lemmas.Bool.{cond-true, cond-false, cases_Bool, false≢true, and_parts}
 use Rattle.chaos_packet.specs.Begins.{Begins}
 use Rattle.chaos_packet.specs.Item.{ItemView}
 use Rattle.chaos_packet.specs.Number.{num}
-use Rattle.chaos_packet.specs.Opcode.{kind_of}
+use Rattle.chaos_packet.specs.Opcode.{kind_of, is_controlled}
 use Rattle.chaos_packet.specs.Packet.{PacketView, item_of}
-use Rattle.chaos_packet.specs.declared.opcode.Kind.{Kind as OpKind}
 use Rattle.chaos_packet.specs.declared.opcode.Kind.TheVariants as k
-use Rattle.chaos_conn.specs.declared.state.State.{State}
 use Rattle.chaos_conn.specs.declared.state.State.TheVariants as st
 use Rattle.chaos_conn.specs.declared.answers.ReadEnd.{ReadEnd}
 use Rattle.chaos_conn.specs.declared.answers.ReadEnd.TheVariants as gave
@@ -21,29 +20,28 @@ use Rattle.chaos_conn.specs.Act.Call.{Read, Deliver as DeliverPacket}
 use Rattle.chaos_lab.specs.declared.side.Side.{Side}
 use Rattle.chaos_lab.specs.declared.side.Side.TheVariants.{A, B}
 use Rattle.chaos_lab.specs.declared.stamped.Stamped.{Stamped as Sent}
-use Rattle.chaos_lab.specs.declared.event.Stepped.{Stepped as Answer}
 use Rattle.chaos_lab.specs.declared.event.Stepped.TheVariants as stepped
-use Rattle.chaos_lab.specs.Machine.{PlainEnd as Plain, Phase, Kind, Copy, Machine, other, end_of, Step, start}
+use Rattle.chaos_lab.specs.Machine.{PlainEnd as Plain, Phase, Kind, Copy, Machine, other, end_of}
 use Rattle.chaos_lab.specs.Machine.Phase.{Inactive, RfcSent, RfcReceived, Open, Ended, Closed}
 use Rattle.chaos_lab.specs.Machine.Kind.{Nth, Sns, Sts, Cls}
-use Rattle.chaos_lab.specs.Machine.Event.{ReadAt, Deliver}
+use Rattle.chaos_lab.specs.Machine.Event.{Deliver}
 use Rattle.chaos_lab.specs.Law.{DeliversInside}
-use Rattle.chaos_lab.specs.Shown.{Rest, shown_at, HasItems, IsFirst, IsWhat, is_a}
-use Rattle.chaos_lab.specs.Laboratory.{LabView, Happening, lab_end, lab_start, lab_request, stamp, with_given, happen, delivered, delivery, is_fresh, is_request, call_at, after_call, after_all}
-use Rattle.chaos_lab.specs.Laboratory.Happening.{ReadBy, DeliverCopy}
-use Rattle.chaos_lab.specs.Tied.{Tied, Ties, HasMachine, lab_machine, plain_run}
+use Rattle.chaos_lab.specs.Shown.{Rest, shown_at, HasItems, IsWhat, is_a}
+use Rattle.chaos_lab.specs.Laboratory.{LabView, Happening, lab_end, lab_start, lab_request, stamp, with_given, happen, delivered, is_fresh, is_request, call_at, after_call, after_all}
+use Rattle.chaos_lab.specs.Laboratory.Happening.{DeliverCopy}
+use Rattle.chaos_lab.specs.Tied.{HasMachine, StandsCopy, Tied, Ties, base_of, lab_machine, plain_run}
 use Rattle.chaos_lab.specs.Headline.{len_at, IsCopyOf, ComesInside, Unclosed, ReadsInTurn}
 use Rattle.chaos_lab.proofs.Copies.{KindOk, len_of}
 use Rattle.chaos_lab.proofs.Calls.{last_item}
 use Rattle.chaos_lab.proofs.Lists.{length-one_more}
-use Rattle.chaos_lab.proofs.Machines.{reached_holds}
+use Rattle.chaos_lab.proofs.Machines.{Holds, copy_at, reached_holds}
 use Rattle.chaos_lab.proofs.DeliveryLaw.{beginning, in_turn}
 use Rattle.chaos_lab.proofs.StartTie.{tied_start}
-use Rattle.chaos_lab.proofs.OnSide.{Outcome, Refuses, Steps, Stepped, conn_at, stands_at, items_at, written_at, read_at}
+use Rattle.chaos_lab.proofs.OnSide.{Outcome, Refuses, Steps, Stepped, conn_at, stands_at, written_at, read_at}
 use Rattle.chaos_lab.proofs.UserTies.{read_ties}
-use Rattle.chaos_lab.proofs.CopyTies.{CopyKnown, copy_known}
+use Rattle.chaos_lab.proofs.CopyTies.{CopyKnown, copy_known, copy_of}
 use Rattle.chaos_lab.proofs.LabTies.{event_ties}
-use Rattle.chaos_lab.proofs.Runs.{Ran, runs, unclosed}
+use Rattle.chaos_lab.proofs.Runs.{runs, unclosed}
 
 -- ---- the start
 
@@ -121,7 +119,7 @@ item_kind x b' (suc i) e item its at =
     (its.users i item at)
 
 -- b: the first number. len: its sender had written so many by then
-nth_of : (kind : Kind) (x : Side) (b b' i len : ℕ) (e : Plain) (pk : PacketView) → HasItems x b' e → IsWhat b e pk kind → KindOk kind e len → e.send_cap ≤ 64 → length e.written < len + 32640 → slice_get e.written i ≡ Some (item_of pk) → pk.num ≡ num b i → i < len → len ≤ i + 64 → kind ≡ Nth i
+nth_of : (kind : Kind) (x : Side) (b b' i len : ℕ) (e : Plain) (pk : PacketView) → HasItems x b' e → IsWhat b e pk kind → KindOk kind e len → e.send_cap ≤ 64 → length e.written < len + 32640 → slice_get e.written i ≡ Some (item_of pk) → pk.num ≡ num b i → i < length e.written → len ≤ i + 64 → kind ≡ Nth i
 nth_of (Nth j) x b b' i len e pk its what ok cap fresh at number before near = ap Nth (let same : j ≡ i = omega (arith, what.1, ok.0, ok.1, cap, fresh, number, before, near) in same)
 nth_of Sns x b b' i len e pk its what ok cap fresh at number before near = absurd ((item_kind x b' i e (item_of pk) its at).0 (ap kind_of what.0))
 nth_of Sts x b b' i len e pk its what ok cap fresh at number before near = absurd ((item_kind x b' i e (item_of pk) its at).1 (ap kind_of what.0))
@@ -131,7 +129,6 @@ nth_of Cls x b b' i len e pk its what ok cap fresh at number before near = absur
 pub record IsItem (z : Side) (l : LabView) (s : Sent) (i : ℕ) : Type 0 where
   pub item : slice_get (lab_end l z).written i ≡ Some (item_of s.packet)
   pub number : s.packet.num ≡ num (lab_end l z).first i
-  pub before : i < len_at z s
   pub near : len_at z s ≤ i + 64
 
 -- the copy of the plain machine is of the item that its packet is of
@@ -142,15 +139,52 @@ kind_at x w l n s i d t from know of_item = by s.side refl
     by A side =
         let c : Copy = record d { sender = A } in
         let m : CopyKnown A w l n s c = subst (λ (x : Copy). CopyKnown x.sender w l n s x) (λ j. record d { sender = (from ∙ side) j }) know in
-        let f : IsItem A l s i = subst (λ z. IsItem z l s i) side (record { item = of_item.item; number = of_item.number; before = of_item.before; near = of_item.near }) in
+        let f : IsItem A l s i = subst (λ z. IsItem z l s i) side (record { item = of_item.item; number = of_item.number; near = of_item.near }) in
         nth_of c.kind A l.a.first l.b.first i c.len_a w.a s.packet t.tied.items_a m.stands.what m.ok.kind_ok (reached_holds w t.tied.reached).a.caps.1 m.fresh.0
-        (ap (λ ws. slice_get ws i) (sym t.written_a) ∙ f.item) f.number (omega (arith, f.before, m.len_a)) (omega (arith, f.near, m.len_a))
+        (ap (λ ws. slice_get ws i) (sym t.written_a) ∙ f.item) f.number (slice_get_within w.a.written i (item_of s.packet) (ap (λ ws. slice_get ws i) (sym t.written_a) ∙ f.item)) (omega (arith, f.near, m.len_a))
     by B side =
         let c : Copy = record d { sender = B } in
         let m : CopyKnown B w l n s c = subst (λ (x : Copy). CopyKnown x.sender w l n s x) (λ j. record d { sender = (from ∙ side) j }) know in
-        let f : IsItem B l s i = subst (λ z. IsItem z l s i) side (record { item = of_item.item; number = of_item.number; before = of_item.before; near = of_item.near }) in
+        let f : IsItem B l s i = subst (λ z. IsItem z l s i) side (record { item = of_item.item; number = of_item.number; near = of_item.near }) in
         nth_of c.kind B l.b.first l.a.first i c.len_b w.b s.packet t.tied.items_b m.stands.what m.ok.kind_ok (reached_holds w t.tied.reached).b.caps.1 m.fresh.1
-        (ap (λ ws. slice_get ws i) (sym t.written_b) ∙ f.item) f.number (omega (arith, f.before, m.len_b)) (omega (arith, f.near, m.len_b))
+        (ap (λ ws. slice_get ws i) (sym t.written_b) ∙ f.item) f.number (slice_get_within w.b.written i (item_of s.packet) (ap (λ ws. slice_get ws i) (sym t.written_b) ∙ f.item)) (omega (arith, f.near, m.len_b))
+
+-- ---- every copy of a numbered packet is of an item
+
+item_by : (kind : Kind) (b len : ℕ) (e : Plain) (pk : PacketView) → IsWhat b e pk kind → KindOk kind e len → e.send_cap ≤ 64 → is_controlled pk.op ≡ true → (i : ℕ) × (slice_get e.written i ≡ Some (item_of pk)) × (pk.num ≡ num b i) × (len ≤ i + 64)
+item_by (Nth j) b len e pk what ok cap is = (j, what.0, what.1, omega (arith, ok.1, cap))
+item_by Sns b len e pk what ok cap is = absurd (false≢true (sym (ap is_controlled what.0) ∙ is))
+item_by Sts b len e pk what ok cap is = absurd (false≢true (sym (ap is_controlled what.0) ∙ is))
+item_by Cls b len e pk what ok cap is = absurd (false≢true (sym (ap is_controlled what.0) ∙ is))
+
+cap_of : (z : Side) (w : Machine) → Holds w → (end_of w z).send_cap ≤ 64
+cap_of A w h = h.a.caps.1
+cap_of B w h = h.b.caps.1
+
+base_at : (z : Side) (l : LabView) → base_of l.a.first l.b.first z ≡ (lab_end l z).first
+base_at A l = refl
+base_at B l = refl
+
+len_same : (z : Side) (s : Sent) (c : Copy) → s.len_a ≡ c.len_a → s.len_b ≡ c.len_b → len_at z s ≡ len_of c z
+len_same A s c a b = a
+len_same B s c a b = b
+
+pub items : (l : LabView) (n : ℕ) (s : Sent) → HasMachine l → slice_get l.copies n ≡ Some s → is_controlled s.packet.op ≡ true → (i : ℕ) × IsCopyOf l s i
+items l n s h at is =
+    let w : Machine = h.plain in
+    let t = h.ties in
+    let holds = reached_holds w t.tied.reached in
+    let c = copy_of (StandsCopy l.a.first l.b.first w) l.copies w.copies n s t.tied.copies at in
+    let z : Side = c.0.sender in
+    let r = item_by c.0.kind (base_of l.a.first l.b.first z) (len_of c.0 z) (end_of w z) s.packet c.2.stands.what (copy_at w n c.0 holds c.1).kind_ok (cap_of z w holds) is in
+    let stamp : len_at z s ≡ len_of c.0 z = len_same z s c.0 c.2.len_a c.2.len_b in
+    let of_item : IsItem z l s r.0 = record {
+      item = ap (λ ws. slice_get ws r.0) (written_at z w l t) ∙ r.1;
+      number = r.2 ∙ ap (λ b. num b r.0) (base_at z l);
+      near = omega (arith, r.3, stamp);
+    } in
+    let f : IsItem s.side l s r.0 = subst (λ y. IsItem y l s r.0) (sym c.2.side) of_item in
+    (r.0, record { item = f.item; number = f.number; near = f.near })
 
 -- ---- a copy that comes to an open end
 

@@ -1,28 +1,20 @@
 -- What a step does to the items of an end.
-use Rattle.std.proofs.Common.{◌≡◌, ℕ, zero, suc, ◌+◌, ◌<◌, ◌≤◌, List, [], ◌∷◌, ◌++◌, length, map, ◌&&◌, leb, ltb, Option, Some, None, refl, sym, ap, ◌∙◌, subst, inl, inr, ⊎_elim, ◌⊎◌, arith, Err}
+use Rattle.std.proofs.Common.{◌≡◌, ℕ, zero, suc, ◌+◌, ◌<◌, ◌≤◌, List, [], ◌∷◌, ◌++◌, length, ◌&&◌, leb, ltb, Option, Some, None, refl, sym, ap, ◌∙◌, subst, ⊎_elim, ◌⊎◌, arith}
 use Rattle.std.specs.Prelude.{slice_get}
 use Rattle.std.specs.FinSet.{insert}
 use Rattle.std.proofs.lemmas.Bool.{cond_both, cases_lt}
-use Rattle.std.proofs.lemmas.List.{append-nil}
-use Rattle.std.proofs.lemmas.Option.{slice_get_within, get_or_from_slice_get}
 use Rattle.chaos_lab.specs.declared.side.Side.{Side}
-use Rattle.chaos_lab.specs.declared.side.Side.TheVariants.{A, B}
+use Rattle.chaos_lab.specs.declared.side.Side.TheVariants.{B}
 use Rattle.chaos_lab.specs.Machine.{PlainEnd as Plain}
 use Rattle.chaos_lab.specs.Machine.Phase.{Inactive, RfcSent, RfcReceived, Open, Ended, Closed}
 use Rattle.chaos_lab.specs.Machine.Told.{Nothing, Acknowledges, Status}
 use Rattle.chaos_lab.specs.Machine.Kind.{Nth, Sns, Sts, Cls}
-use Rattle.chaos_lab.specs.Machine.Event.{WriteAt, ReadAt, Deliver}
-use Rattle.chaos_lab.specs.declared.stamped.Stamped.{Stamped}
-use Rattle.chaos_lab.specs.Machine.{Phase, Kind, Told, Copy, Machine, Fresh, Step, hear, take_in, read_item}
-use Rattle.chaos_lab.proofs.Functions.{read_row, next_item, readable}
-use Rattle.chaos_lab.proofs.Total.{received, comes_received}
-use Rattle.chaos_lab.proofs.Machines.{reached_holds, copy_at}
+use Rattle.chaos_lab.specs.Machine.{Phase, Kind, Told, hear, take_in, read_item}
+use Rattle.chaos_lab.proofs.Functions.{next_item}
+use Rattle.chaos_lab.proofs.Total.{received}
 use Rattle.chaos_packet.specs.Item.{ItemView}
-use Rattle.chaos_conn.specs.View.{ConnView}
-use Rattle.chaos_conn.specs.Acted.{quietly}
-use Rattle.chaos_lab.specs.Shown.{HasItems, IsUsers, IsFirst, Leaves}
-use Rattle.chaos_lab.specs.Tied.{StandsCopy, Agrees, MetBefore, Tied}
-use Rattle.chaos_lab.proofs.Known.{Known, ComesLate}
+use Rattle.chaos_lab.specs.Shown.{HasItems, IsUsers, IsFirst}
+use Rattle.chaos_lab.proofs.Known.{ComesLate}
 use Rattle.chaos_lab.proofs.Calls.{last_item}
 use Rattle.chaos_lab.proofs.TiedOn.{front_same}
 

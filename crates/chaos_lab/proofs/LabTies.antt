@@ -1,7 +1,7 @@
 -- Every event keeps the tie of the laboratory.
-use Rattle.std.proofs.Common.{◌≡◌, ℕ, zero, suc, ◌+◌, List, [], ◌∷◌, ◌++◌, length, Bool, true, false, ◌&&◌, not, Option, Some, None, Result, Ok, Err, refl, sym, ap, ◌∙◌, subst, inl, inr, ◌⊎◌, ⊎_elim, arith}
+use Rattle.std.proofs.Common.{◌≡◌, ℕ, zero, suc, [], Bool, true, false, not, Option, Some, None, Ok, Err, refl, sym, ap, ◌∙◌, subst, inl, inr, ◌⊎◌, ⊎_elim}
 use Rattle.std.specs.Prelude.{slice_get}
-use Rattle.std.proofs.lemmas.Bool.{cond_both, cases_Bool, false≢true, and_parts, and_from}
+use Rattle.std.proofs.lemmas.Bool.{cond_both, false≢true, and_parts, and_from}
 use Rattle.chaos_packet.specs.Opcode.{kind_of, is_rfc}
 use Rattle.chaos_packet.specs.declared.opcode.Kind.TheVariants as k
 use Rattle.chaos_packet.specs.Packet.{PacketView}
@@ -14,15 +14,15 @@ use Rattle.chaos_conn.specs.declared.fault.ConnFault.{ConnFault}
 use Rattle.chaos_lab.specs.declared.event.Stepped.{Stepped as Answer}
 use Rattle.chaos_lab.specs.declared.fault.LabFault.{LabFault}
 use Rattle.chaos_lab.specs.declared.fault.LabFault.TheVariants as fault
-use Rattle.chaos_lab.specs.Machine.{PlainEnd as Plain, Phase, Kind, Copy, Machine, Event, Schedule, other, Run}
+use Rattle.chaos_lab.specs.Machine.{PlainEnd as Plain, Kind, Copy, Machine, other}
 use Rattle.chaos_lab.specs.Machine.Phase.{Inactive}
 use Rattle.chaos_lab.specs.Machine.Kind.{Nth, Sns, Sts, Cls}
-use Rattle.chaos_lab.specs.Machine.Event.{AcceptAt, WriteAt, ReadAt, TickAt, CloseAt, Deliver}
+use Rattle.chaos_lab.specs.Machine.Event.{WriteAt, ReadAt, TickAt, CloseAt, Deliver}
 use Rattle.chaos_lab.specs.Shown.{place_of, is_a, HasItems, IsWhat}
-use Rattle.chaos_lab.specs.Laboratory.{LabView, Happening, Done, lab_end, happen, delivered, delivery, is_fresh, is_request, call_at, called, refused}
+use Rattle.chaos_lab.specs.Laboratory.{LabView, Happening, Done, happen, delivered, delivery, is_fresh, is_request, call_at, called, refused}
 use Rattle.chaos_lab.specs.Laboratory.Happening.{WriteBy, ReadBy, TickOf, CloseBy, AcceptFrom, DeliverCopy}
 use Rattle.chaos_lab.specs.Tied.{Ties, plain_event}
-use Rattle.chaos_lab.proofs.OnSide.{Outcome, Refuses, Steps, settle, refusal_at}
+use Rattle.chaos_lab.proofs.OnSide.{Outcome, Refuses, settle, refusal_at}
 use Rattle.chaos_lab.proofs.UserTies.{read_ties, write_ties, tick_ties, close_ties, accept_ties}
 use Rattle.chaos_lab.proofs.CopyTies.{CopyKnown, copy_known, comes_to_a, comes_to_b, takes_by_b}
 

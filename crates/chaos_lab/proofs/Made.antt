@@ -9,9 +9,9 @@ use Rattle.chaos_lab.specs.declared.both_ends.BothEnds.{BothEnds}
 use Rattle.chaos_lab.specs.declared.event.Stepped.{Stepped}
 use Rattle.chaos_lab.specs.declared.fault.LabFault.{LabFault}
 use Rattle.chaos_lab.specs.declared.fault.LabFault.TheVariants as fault
-use Rattle.chaos_lab.specs.Laboratory.{EndView, LabView, Calls, lab_end, called, refusal_of}
+use Rattle.chaos_lab.specs.Laboratory.{EndView, LabView, Calls, called, refusal_of}
 use Rattle.chaos_lab.specs.Inside.{end_view}
-use Rattle.chaos_lab.specs.Makes.{made_by, made, Makes, MakesAt}
+use Rattle.chaos_lab.specs.Makes.{made_by, Makes, MakesAt}
 
 -- it changed nothing but the answer
 pub record IsRefused (e : EndView) (call : Call) (new : EndView) (before after : OutboxView) (reply : Result Stepped LabFault) : Type 0 where

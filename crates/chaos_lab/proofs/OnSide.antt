@@ -1,9 +1,7 @@
 -- A call at either end keeps the tie of the laboratory.
-use Rattle.std.proofs.Common.{◌≡◌, ℕ, ◌≤◌, List, [], ◌∷◌, ◌++◌, length, map, Bool, true, false, Option, Some, None, Ok, Err, refl, sym, ap, ◌∙◌, subst, inl, inr, ◌⊎◌, arith}
+use Rattle.std.proofs.Common.{◌≡◌, ℕ, List, ◌++◌, length, map, Option, Some, None, refl, sym, ap, ◌∙◌, subst, inl, inr, ◌⊎◌}
 use Rattle.std.specs.List.{All}
-use Rattle.std.proofs.lemmas.List.{append-nil}
 use Rattle.chaos_packet.specs.Item.{ItemView}
-use Rattle.chaos_packet.specs.Packet.{PacketView}
 use Rattle.chaos_conn.specs.declared.fault.ConnFault.{ConnFault}
 use Rattle.chaos_conn.specs.View.{ConnView}
 use Rattle.chaos_conn.specs.Acted.{Acted, map_answer}
@@ -12,8 +10,7 @@ use Rattle.chaos_lab.specs.declared.side.Side.{Side}
 use Rattle.chaos_lab.specs.declared.side.Side.TheVariants.{A, B}
 use Rattle.chaos_lab.specs.declared.fault.LabFault.{LabFault}
 use Rattle.chaos_lab.specs.declared.fault.LabFault.TheVariants as fault
-use Rattle.chaos_lab.specs.Machine.{PlainEnd as Plain, Phase, Copy, Machine, Event, other, end_of, with_end, IsSent, Step}
-use Rattle.chaos_lab.specs.Machine.Phase.{Inactive}
+use Rattle.chaos_lab.specs.Machine.{PlainEnd as Plain, Copy, Machine, Event, other, end_of, with_end, IsSent, Step}
 use Rattle.chaos_lab.specs.Shown.{Stands, HasItems, Leaves}
 use Rattle.chaos_lab.specs.Laboratory.{LabView, Done, lab_end, stamp, after_call, called, refused, refusal_of, with_written, with_read, first_after, asked_after}
 use Rattle.chaos_lab.specs.Tied.{Tied, Ties, AskedFits}

@@ -1,5 +1,5 @@
 -- An end is opened by an OPN alone, and only where it asked.
-use Rattle.std.proofs.Common.{◌≡◌, ℕ, true, false, Bool, not, ◌==◌, List, [], Option, Some, None, refl, sym, ◌∙◌, ap}
+use Rattle.std.proofs.Common.{◌≡◌, ℕ, not, ◌==◌, List, [], Option, Some, None, refl}
 use Rattle.std.specs.Prelude.{⊤}
 use Rattle.std.proofs.lemmas.Bool.{cond_both}
 use Rattle.chaos_packet.specs.Item.{ItemView}
@@ -14,12 +14,11 @@ use Rattle.chaos_conn.specs.declared.state.State.{State}
 use Rattle.chaos_conn.specs.declared.state.State.TheVariants as st
 use Rattle.chaos_conn.specs.declared.answers.Delivered.{Delivered}
 use Rattle.chaos_conn.specs.declared.answers.Delivered.TheVariants as de
-use Rattle.chaos_conn.specs.declared.answers.Why.TheVariants as wh
 use Rattle.chaos_conn.specs.State.{is_live}
 use Rattle.chaos_conn.specs.View.{ConnView, heard_at}
 use Rattle.chaos_conn.specs.Acted.{Acted}
 use Rattle.chaos_packet.specs.Opcode.{is_rfc}
-use Rattle.chaos_conn.specs.Arriving.{act_deliver, drop_for, after_rfc, is_index, repeated_request, deliver_in, deliver_asking, deliver_requested, deliver_open, is_between_hosts, is_between_indices, after_opn_telling, after_second_opn_telling, after_sts_telling, after_arrived, after_data, after_eof, heard_with_ack}
+use Rattle.chaos_conn.specs.Arriving.{act_deliver, after_rfc, is_index, repeated_request, deliver_in, deliver_asking, deliver_requested, deliver_open, is_between_hosts, is_between_indices, after_second_opn_telling, after_sts_telling, after_arrived, heard_with_ack}
 use Rattle.chaos_lab.specs.Laboratory.{with_opened}
 
 abbrev pub NotOpened : Delivered → Type 0

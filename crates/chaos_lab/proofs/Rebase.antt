@@ -1,35 +1,24 @@
 -- Before B has written, nothing depends on its first number: Accept may choose it.
-use Rattle.std.proofs.Common.{◌≡◌, ℕ, suc, ◌≤◌, List, [], ◌∷◌, ◌++◌, length, map, Err, true, false, ltb, Some, None, refl, sym, ap, ◌∙◌, subst, inl, inr, ⊎_elim, ◌⊎◌, arith}
-use Rattle.std.specs.Prelude.{slice_get}
+use Rattle.std.proofs.Common.{◌≡◌, ℕ, ◌≤◌, List, [], ◌∷◌, length, false, ltb, refl, sym, ◌∙◌, subst, ⊎_elim, ◌⊎◌, arith}
 use Rattle.std.specs.List.{AllZip, AllByRecursion}
 use Rattle.std.proofs.lemmas.List.Elements.{recursion_from_All}
-use Rattle.std.proofs.lemmas.List.{nil_from_length}
 use Rattle.std.specs.FinSet.{contains}
 use Rattle.std.proofs.lemmas.Bool.{cond-false, false_from_ne_true, le-ltb}
 use Rattle.chaos_lab.specs.declared.side.Side.{Side}
 use Rattle.chaos_lab.specs.declared.side.Side.TheVariants.{A, B}
-use Rattle.chaos_lab.specs.Machine.Event.{AcceptAt}
-use Rattle.chaos_conn.specs.declared.fault.ConnFault.TheVariants as fa
 use Rattle.chaos_lab.specs.Machine.{PlainEnd as Plain}
 use Rattle.chaos_lab.specs.Machine.Phase.{Inactive, RfcSent, RfcReceived, Open, Ended, Closed}
 use Rattle.chaos_lab.specs.Machine.Told.{Nothing, Acknowledges, Status}
 use Rattle.chaos_lab.specs.Machine.Kind.{Nth, Sns, Sts, Cls}
 use Rattle.chaos_lab.specs.declared.stamped.Stamped.{Stamped}
-use Rattle.chaos_lab.specs.Machine.{Phase, Kind, Told, Copy, Machine, Step, other, end_of, read_item}
-use Rattle.chaos_lab.proofs.Functions.{next_item}
-use Rattle.chaos_lab.specs.Numbers.{told_num}
-use Rattle.chaos_packet.specs.Words.{halves}
-use Rattle.chaos_packet.specs.Item.{ItemView}
-use Rattle.chaos_conn.specs.Opening.{act_accept}
-use Rattle.chaos_conn.specs.Acted.{quietly}
+use Rattle.chaos_lab.specs.Machine.{Phase, Kind, Told, Copy, Machine, other, end_of}
 use Rattle.chaos_lab.proofs.Machines.{reached_holds}
 use Rattle.chaos_lab.proofs.Copies.{IsCopyOk, KindOk, len_of}
-use Rattle.chaos_lab.proofs.Ends.{Fits, IsNew}
 use Rattle.chaos_packet.specs.Packet.{PacketView}
 use Rattle.chaos_window.specs.Send.{clear_send}
 use Rattle.chaos_window.specs.Receive.{started_receive}
 use Rattle.chaos_conn.specs.View.{ConnView}
-use Rattle.chaos_lab.specs.Shown.{Rest, shown_at, send_view, recv_view, send_shown, recv_shown, StandsFor, IsWhat, CarriesTold, HasItems, IsFirst, Leaves}
+use Rattle.chaos_lab.specs.Shown.{Rest, shown_at, send_view, recv_view, send_shown, recv_shown, StandsFor, IsWhat, CarriesTold}
 use Rattle.chaos_lab.specs.Tied.{base_of, StandsCopy, Agrees, MetBefore, Tied}
 
 -- A's view, while nothing arrived

@@ -1,5 +1,5 @@
 -- A call that is refused changes nothing.
-use Rattle.std.proofs.Common.{◌≡◌, ℕ, List, [], length, true, false, Option, Some, None, Result, Ok, Err, ltb, refl, ◌∙◌, sym, ap}
+use Rattle.std.proofs.Common.{◌≡◌, ℕ, List, [], length, Option, Some, None, Result, Ok, Err, ltb, refl, ◌∙◌, sym, ap}
 use Rattle.std.proofs.lemmas.Bool.{cond_both}
 use Rattle.chaos_packet.specs.Item.{ItemView}
 use Rattle.chaos_packet.specs.Opcode.{kind_of}

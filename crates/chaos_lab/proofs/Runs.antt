@@ -1,12 +1,12 @@
 -- Runs of the laboratory are runs of the plain machine.
-use Rattle.std.proofs.Common.{◌≡◌, ◌≢◌, ℕ, zero, suc, ◌<◌, ◌≤◌, List, [], ◌∷◌, length, get_or, take, Option, Some, None, Result, Ok, Err, OnOk, OnErr, IfOk, refl, sym, ap, true, false, ◌∙◌, subst, inl, inr, ◌⊎◌, ⊎_elim, arith}
+use Rattle.std.proofs.Common.{◌≡◌, zero, suc, List, [], ◌∷◌, take, Option, Some, None, Result, Ok, Err, OnOk, OnErr, IfOk, refl, sym, ap, true, false, ◌∙◌, subst, inl, inr, ◌⊎◌, ⊎_elim, arith}
 use Rattle.std.specs.List.{Contains}
 use Rattle.chaos_lab.specs.declared.side.Side.{Side}
 use Rattle.chaos_lab.specs.declared.event.Stepped.{Stepped as Answer}
 use Rattle.chaos_lab.specs.declared.fault.LabFault.{LabFault}
 use Rattle.chaos_lab.specs.declared.fault.LabFault.TheVariants as fault
 use Rattle.chaos_lab.specs.Machine.{Machine, Event, Schedule, Step, Run}
-use Rattle.chaos_lab.specs.Machine.Event.{AcceptAt, WriteAt, ReadAt, TickAt, CloseAt, Deliver}
+use Rattle.chaos_lab.specs.Machine.Event.{CloseAt}
 use Rattle.std.specs.Prelude.{slice_get}
 use Rattle.std.proofs.lemmas.Bool.{cond-true, cond-false, cases_Bool}
 use Rattle.chaos_lab.specs.declared.stamped.Stamped.{Stamped as Sent}
@@ -14,7 +14,7 @@ use Rattle.chaos_lab.specs.Laboratory.{LabView, Happening, Done, Happens, StopsW
 use Rattle.chaos_lab.specs.Laboratory.Happening.{WriteBy, ReadBy, TickOf, CloseBy, AcceptFrom, DeliverCopy}
 use Rattle.chaos_lab.specs.Tied.{Ties, HasMachine, plain_event, plain_next, plain_run}
 use Rattle.chaos_lab.specs.Headline.{Unclosed}
-use Rattle.chaos_lab.proofs.OnSide.{Outcome, Refuses, Steps, Stepped}
+use Rattle.chaos_lab.proofs.OnSide.{Outcome, Refuses, Steps}
 use Rattle.chaos_lab.proofs.LabTies.{Answered, event_ties, ok_or_refused}
 
 -- the machine after these events

@@ -1,5 +1,5 @@
 -- A tick and an acceptance.
-use Rattle.std.proofs.Common.{◌≡◌, ℕ, zero, suc, ◌+◌, ◌-◌, ◌<◌, ◌≤◌, max, List, [], ◌∷◌, length, drop, true, false, ◌&&◌, cond, leb, ltb, Some, None, refl, sym, ap, ◌∙◌, subst, inl, inr, ◌⊎◌, arith}
+use Rattle.std.proofs.Common.{◌≡◌, ℕ, zero, suc, ◌+◌, ◌<◌, ◌≤◌, List, [], ◌∷◌, length, drop, true, false, cond, ltb, Some, None, refl, sym, ap, ◌∙◌, subst, inl, inr, ◌⊎◌, arith}
 use Rattle.std.specs.Prelude.{slice_get, unwrap_or}
 use Rattle.std.specs.List.{All}
 use Rattle.std.proofs.lemmas.Bool.{and_left, and_left, cond_both, cond-true, cond-false, lt-ltb}
@@ -12,7 +12,6 @@ use Rattle.chaos_lab.specs.Machine.{PlainEnd as Plain}
 use Rattle.chaos_lab.specs.Machine.Phase.{Inactive, RfcSent, RfcReceived, Open, Ended, Closed}
 use Rattle.chaos_lab.specs.Machine.Kind.{Nth, Sns}
 use Rattle.chaos_lab.specs.Machine.Told.{Nothing, Acknowledges, Status}
-use Rattle.chaos_conn.specs.declared.state.State.{State}
 use Rattle.chaos_conn.specs.declared.state.State.TheVariants as st
 use Rattle.chaos_conn.specs.declared.answers.Ticked.{Ticked}
 use Rattle.chaos_conn.specs.declared.answers.Ticked.TheVariants as ti
@@ -23,7 +22,7 @@ use Rattle.chaos_lab.proofs.Functions.{ended_phase}
 use Rattle.chaos_lab.proofs.Directions.{Sound}
 use Rattle.chaos_lab.proofs.Ends.{EndOk, Fits, IsNew, IsNone}
 use Rattle.chaos_packet.specs.Item.{ItemView}
-use Rattle.chaos_packet.specs.Packet.{status_of, status_words}
+use Rattle.chaos_packet.specs.Packet.{status_words}
 use Rattle.chaos_packet.specs.Opcode.{kind_of}
 use Rattle.chaos_window.specs.Send.{SendView, clear_send}
 use Rattle.chaos_conn.specs.View.{ConnView, moment}
@@ -33,10 +32,8 @@ use Rattle.chaos_conn.specs.State.{awaits_peer, is_open as is_open_state}
 use Rattle.chaos_conn.proofs.Ended.{ended_is_over}
 use Rattle.std.proofs.lemmas.Bool.{and_parts, false≢true}
 use Rattle.std.specs.Prelude.{if◌then◌else◌, ◌||◌, ◌==◌}
+use Rattle.chaos_conn.specs.Sending.{sns_of, all_kept, packets_from, item_packet, carries_ack}
 use Rattle.chaos_packet.specs.Opcode.{is_rfc}
-use Rattle.chaos_conn.specs.Sending.{with_sts, sns_of, all_kept, packets_from, item_packet, packet_to_peer, carries_ack}
-use Rattle.chaos_conn.specs.Opening.{act_accept, after_accepting, opn_item, closed_conn}
-use Rattle.chaos_conn.specs.Calls.{act_read, read_open, act_close, cls_of}
 use Rattle.chaos_conn.specs.State.{is_ended}
 use Rattle.chaos_lab.specs.Shown.{Rest, address_of, send_view, shown, shown_in, shown_at, met_view, to_index, IsPut, Leaves, HasItems}
 use Rattle.chaos_lab.proofs.Calls.{users_kind}

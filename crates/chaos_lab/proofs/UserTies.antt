@@ -1,5 +1,5 @@
 -- The users' events and ticks keep the tie of the laboratory.
-use Rattle.std.proofs.Common.{◌≡◌, ℕ, suc, ◌≤◌, List, [], ◌∷◌, ◌++◌, length, map, Bool, true, false, Option, Some, None, Ok, Err, refl, sym, ap, ◌∙◌, subst, inl, inr, ◌⊎◌, ⊎_elim, arith}
+use Rattle.std.proofs.Common.{◌≡◌, ℕ, suc, List, [], ◌∷◌, ◌++◌, length, map, true, Option, Some, None, Err, refl, sym, ap, ◌∙◌, subst, inl, inr, ◌⊎◌, ⊎_elim}
 use Rattle.std.specs.Option.{option_to_list}
 use Rattle.std.proofs.lemmas.List.{append-nil, nil_from_length}
 use Rattle.std.specs.Prelude.{slice_get}
@@ -9,22 +9,21 @@ use Rattle.chaos_packet.specs.Words.{halves}
 use Rattle.chaos_packet.specs.Packet.{PacketView, item_of}
 use Rattle.chaos_conn.specs.declared.fault.ConnFault.{ConnFault}
 use Rattle.chaos_conn.specs.declared.fault.ConnFault.TheVariants as fa
-use Rattle.chaos_conn.specs.View.{ConnView}
-use Rattle.chaos_conn.specs.Acted.{Acted, quietly}
-use Rattle.chaos_conn.specs.Calls.{act_read, act_write, act_close, front_of}
+use Rattle.chaos_conn.specs.Acted.{quietly}
+use Rattle.chaos_conn.specs.Calls.{act_read, act_write, act_close}
 use Rattle.chaos_conn.specs.Opening.{act_accept}
 use Rattle.chaos_conn.specs.Time.{act_tick}
-use Rattle.chaos_conn.specs.Act.{Call, Reply, act}
+use Rattle.chaos_conn.specs.Act.{Call}
 use Rattle.chaos_conn.specs.Act.Call.{Accept, Write, Read, Close, Tick}
 use Rattle.chaos_conn.specs.Act.Reply.{Did, Wrote, Gave, Ticks}
 use Rattle.chaos_lab.specs.declared.side.Side.{Side}
-use Rattle.chaos_lab.specs.declared.side.Side.TheVariants.{A, B}
+use Rattle.chaos_lab.specs.declared.side.Side.TheVariants.{B}
 use Rattle.chaos_lab.specs.Machine.{PlainEnd as Plain, Phase, Machine, Event, other, end_of, read_item}
 use Rattle.chaos_lab.specs.Machine.Phase.{Inactive, RfcSent, RfcReceived, Open, Ended, Closed}
 use Rattle.chaos_lab.specs.Machine.Event.{AcceptAt, WriteAt, ReadAt, TickAt, CloseAt}
 use Rattle.chaos_lab.specs.Numbers.{told_num}
 use Rattle.chaos_lab.specs.Shown.{HasItems, IsFirst, Leaves}
-use Rattle.chaos_lab.specs.Laboratory.{LabView, lab_end, with_given, refusal_of, after_call}
+use Rattle.chaos_lab.specs.Laboratory.{LabView, with_given, refusal_of, after_call}
 use Rattle.chaos_lab.specs.Tied.{Ties, sent_item}
 use Rattle.chaos_lab.proofs.Machines.{reached_holds, end_holds}
 use Rattle.chaos_lab.proofs.Ends.{Fits, IsNew}
@@ -32,7 +31,7 @@ use Rattle.chaos_lab.proofs.Functions.{read_row, close_row, tick_row, ended_phas
 use Rattle.chaos_lab.proofs.Items.{SameNew, same_phase, not_new, same_read, same_items, more_items}
 use Rattle.chaos_lab.proofs.OpenEnd.{is_open}
 use Rattle.chaos_lab.proofs.ReadTie.{ReadLeaves, read_leaves}
-use Rattle.chaos_lab.proofs.Calls.{Writes, write_leaves, close_leaves}
+use Rattle.chaos_lab.proofs.Calls.{write_leaves, close_leaves}
 use Rattle.chaos_lab.proofs.TickTie.{Ticks as TickLeaves, tick_leaves}
 use Rattle.chaos_lab.proofs.AcceptTie.{Accepted, accept_leaves, opn_of}
 use Rattle.chaos_lab.proofs.Rebase.{rebase}

@@ -18,11 +18,10 @@ abbrev pub len_at : Side → Stamped → ℕ
 len_at A s = s.len_a
 len_at B s = s.len_b
 
--- A copy is of item i of its sender: it carries the item and its number, and i is one of the last 64 that were written by then.
+-- A copy is of item i of its sender: it carries the item and its number, and its stamp is at most a window past it.
 pub record IsCopyOf (l : LabView) (s : Stamped) (i : ℕ) : Type 0 where
   pub item : slice_get (lab_end l s.side).written i ≡ Some (item_of s.packet)
   pub number : s.packet.num ≡ num (lab_end l s.side).first i
-  pub before : i < len_at s.side s
   pub near : len_at s.side s ≤ i + greatest_window
 
 -- A fresh copy of item i may come to the other end, which is open, inside its window.

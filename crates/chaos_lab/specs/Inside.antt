@@ -1,21 +1,13 @@
 -- The parts of the laboratory as what contracts see.
-use Rattle.std.specs.Prelude.{◌≡◌, ℕ, ◌<◌, ◌≤◌, List, [], map, length, vec_len, vec_capacity, Result}
-use Rattle.chaos_packet.specs.Outbox.{OutboxView, with_put}
-use Rattle.chaos_packet.specs.Packet.{PacketView}
+use Rattle.std.specs.Prelude.{◌≡◌, ◌<◌, ◌≤◌, [], vec_len, vec_capacity}
+use Rattle.chaos_packet.specs.Outbox.{OutboxView}
 use Rattle.chaos_window.specs.declared.limits.TheConstants.{MAX_WINDOW}
-use Rattle.chaos_conn.specs.View.{ConnView}
-use Rattle.chaos_conn.specs.Act.{Call, act}
-use Rattle.chaos_conn.specs.Act.Call.{TakeRequest, Accept, Deliver, Write, Read, Close, Tick}
-use Rattle.chaos_lab.specs.declared.side.Side.TheVariants.{B}
 use Rattle.chaos_lab.specs.declared.lab_end.LabEnd.{LabEnd}
 use Rattle.chaos_lab.specs.declared.both_ends.BothEnds.{BothEnds}
 use Rattle.chaos_lab.specs.declared.event.Event.{Event}
 use Rattle.chaos_lab.specs.declared.event.Event.TheVariants as event
-use Rattle.chaos_lab.specs.declared.event.Stepped.{Stepped}
-use Rattle.chaos_lab.specs.declared.fault.LabFault.{LabFault}
-use Rattle.chaos_lab.specs.Shown.{place_of}
 use Rattle.chaos_lab.specs.Laboratory.Happening.{WriteBy, ReadBy, TickOf, CloseBy, AcceptFrom, DeliverCopy}
-use Rattle.chaos_lab.specs.Laboratory.{EndView, Happening, end_after, answer_of, refusal_of}
+use Rattle.chaos_lab.specs.Laboratory.{EndView, Happening}
 
 abbrev pub end_view : LabEnd → EndView
 end_view e = record { conn = e.conn; first = e.first; written = e.written.items; read = e.read.items }

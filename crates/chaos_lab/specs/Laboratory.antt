@@ -1,5 +1,5 @@
 -- What contracts see of the laboratory, and what each event makes of it.
-use Rattle.std.specs.Prelude.{◌≡◌, ℕ, ◌+◌, ◌-◌, ◌<◌, ◌≤◌, max, Bool, true, false, ◌&&◌, not, nat_lt, if◌then◌else◌, List, [], ◌∷◌, ◌++◌, length, map, take, codes, Option, Some, None, slice_get, Result, Ok, Err, ◌⊎◌, ⊤}
+use Rattle.std.specs.Prelude.{◌≡◌, ℕ, ◌-◌, ◌<◌, max, Bool, true, false, ◌&&◌, not, nat_lt, if◌then◌else◌, List, [], ◌∷◌, ◌++◌, length, map, take, codes, Option, Some, None, slice_get, Result, Ok, Err, ◌⊎◌, ⊤}
 use Rattle.std.specs.Option.{option_to_list}
 use Rattle.chaos_packet.specs.Item.{ItemView}
 use Rattle.chaos_packet.specs.Opcode.{kind_of, is_rfc}
@@ -16,7 +16,7 @@ use Rattle.chaos_conn.specs.Opening.{Outcome, act_request, rfc_item}
 use Rattle.chaos_conn.specs.Calls.{front_of}
 use Rattle.chaos_conn.specs.Act.{Call, Reply, act}
 use Rattle.chaos_conn.specs.Act.Call.{TakeRequest, Accept, Deliver, Write, Read, Close, Tick}
-use Rattle.chaos_conn.specs.Act.Reply.{Did, Came, Wrote, Gave, Ticks, Finished}
+use Rattle.chaos_conn.specs.Act.Reply.{Did, Came, Wrote, Gave, Ticks}
 use Rattle.chaos_lab.specs.declared.side.Side.{Side}
 use Rattle.chaos_lab.specs.declared.side.Side.TheVariants.{A, B}
 use Rattle.chaos_lab.specs.declared.stamped.Stamped.{Stamped}
@@ -88,12 +88,11 @@ abbrev pub answer_of : Call → Reply → Stepped
 answer_of call (Wrote (Ok number)) = stepped.Wrote number
 answer_of call (Wrote (Err why)) = stepped.Closed
 answer_of call (Gave given) = stepped.Read given
-answer_of call (Finished done) = stepped.Closed
 answer_of call (Ticks ticked) = stepped.Ticked ticked
 answer_of call (Came delivered) = stepped.Delivered delivered
 answer_of (Accept start now) (Did done) = stepped.Accepted start
 answer_of (TakeRequest rfc me now) (Did done) = stepped.Requested
-answer_of call (Did done) = stepped.Closed
+answer_of call _ = stepped.Closed
 
 -- ---- Both ends
 

@@ -1,5 +1,5 @@
 -- What a connection shows of an end of the plain machine, and what packet stands for a copy.
-use Rattle.std.specs.Prelude.{◌≡◌, ℕ, zero, suc, ◌≤◌, List, [], ◌∷◌, ◌++◌, length, drop, Bool, true, false, if◌then◌else◌, nat_lt, Option, Some, None, slice_get, ◌⊎◌}
+use Rattle.std.specs.Prelude.{◌≡◌, ℕ, zero, suc, ◌≤◌, List, [], ◌∷◌, length, drop, Bool, true, false, if◌then◌else◌, nat_lt, Option, Some, None, slice_get, ◌⊎◌}
 use Rattle.std.specs.List.{All}
 use Rattle.std.specs.FinSet.{contains}
 use Rattle.chaos_lab.specs.declared.side.Side.{Side}

@@ -1,14 +1,15 @@
 //! The laboratory.
-ghost use Rattle.std.specs.Prelude.{◌≡◌, ℕ, List, ◌∷◌, map, Some, Err, IfOk, OnOk, OnErr};
+ghost use Rattle.std.specs.Prelude.{◌≡◌, true, slice_get, ℕ, List, ◌∷◌, map, Some, Err, IfOk, OnOk, OnErr};
 ghost use Rattle.chaos_conn.specs.Stored.{stored_packets, stored_bytes};
 ghost use Rattle.chaos_packet.specs.Begins.{Begins};
+ghost use Rattle.chaos_packet.specs.Opcode.{is_controlled};
 ghost use Rattle.chaos_packet.specs.Packet.{item_of};
 ghost use Rattle.chaos_lab.specs.declared.side.Side.{Side};
 ghost use Rattle.chaos_lab.specs.declared.stamped.Stamped.{Stamped};
 ghost use Rattle.chaos_lab.specs.Machine.{Machine, Step, Run, other};
 ghost use Rattle.chaos_lab.specs.Laboratory.{Happening, Happens, check, lab_end, lab_start, after_all, StopsWithin};
 ghost use Rattle.chaos_lab.specs.Laboratory.Happening.{DeliverCopy};
-ghost use Rattle.chaos_lab.specs.Headline.{ComesInside, Unclosed, ReadsInTurn};
+ghost use Rattle.chaos_lab.specs.Headline.{IsCopyOf, ComesInside, Unclosed, ReadsInTurn};
 ghost use Rattle.chaos_lab.specs.Inside.{happening_of};
 ghost use Rattle.chaos_lab.specs.Tied.{Ties, HasMachine, lab_machine, plain_event, plain_run};
 
@@ -66,6 +67,8 @@ impl Lab {
     /// Refused, in this order: `NoSuchCopy` where the copy isn't there; `Stale` where an end has written 32,640 items or more
     /// since it was sent; `NoMemory` where one of the lists can't grow; `Refused` where the connection refuses its call. Nothing
     /// changes then.
+    ///
+    /// What it costs doesn't grow with what was sent before: no list is searched, and each grows by doubling.
     pub fn step(&mut self, _alloc: Global, event: &Event<'_>) -> Result<Stepped, LabFault>
         ensures happens { Happens self.old (happening_of event.now) self.new result }
         // a copy that isn't there or isn't fresh is refused for that, whatever memory there is
@@ -123,6 +126,8 @@ impl Lab {
         ensures machine { HasMachine self.now }
         // in each direction, what was read is a beginning of what was written
         ensures beginning { (x : Side) → Begins (lab_end self.now (other x)).read (lab_end self.now x).written }
+        // each copy of an RFC, an OPN, an EOF or data is a copy of an item that its sender wrote
+        ensures items { (copy : ℕ) (s : Stamped) → slice_get self.now.copies copy ≡ Some s → is_controlled s.packet.op ≡ true → (i : ℕ) × IsCopyOf self.now s i }
         // an item that comes to an open end inside its window is what a read answers in its turn, until the end's own user closes
         ensures in_turn { (copy : ℕ) (s : Stamped) (i : ℕ) (events : List Happening) → ComesInside self.now copy s i → Unclosed (other s.side) events →
             ReadsInTurn (after_all self.now (DeliverCopy copy ∷ events)) (other s.side) i (item_of s.packet) }

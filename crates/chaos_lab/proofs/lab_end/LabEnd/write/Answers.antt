@@ -1,4 +1,4 @@
-use Rattle.std.proofs.Common.{rules, ◌≡◌, Err, sym, ◌∙◌, ap}
+use Rattle.std.proofs.Common.{rules, ◌≡◌, Err}
 use Rattle.chaos_conn.specs.Calls.{act_write}
 use Rattle.chaos_lab.proofs.Refusals.{write_refused}
 use Rattle.chaos_lab.proofs.lab_end.LabEnd.write.Goals as goal

@@ -1,4 +1,4 @@
-use Rattle.std.proofs.Common.{rules, ◌≡◌, Err}
+use Rattle.std.proofs.Common.{rules}
 use Rattle.chaos_lab.proofs.rig.Rig.write.Goals as goal
 use Rattle.chaos_lab.proofs.Made.{makes_at_err}
 
