@@ -1,25 +1,12 @@
--- Pairs of bytes turned round, and words put as bytes, by copies of two bytes at a time.
+-- Bytes turned round by blocks, and words put as bytes.
 use Rattle.std.proofs.Common.{◌≡◌, ℕ, zero, suc, ◌+◌, ◌*◌, ◌/◌, ◌%◌, ◌<◌, ◌≤◌, List, [], ◌∷◌, ◌++◌, length, get_or, take, drop, set, refl, arith, ap, ap₂, ◌∙◌, sym, append_assoc, take-add}
 use Rattle.std.proofs.lemmas.List.{length-take-le, take-append-le, take-append-drop, take_at, drop_at, take_all}
 use Rattle.std.proofs.lemmas.Slice.{take-put_mid}
 use borrow.Rule.Slice.PartMut.{put_mid}
 use Rattle.chaos_packet.specs.Words.{halves, packed}
-use Rattle.chaos_packet.proofs.Pairs.{pairs, take_pair, take_stored, halves-pairs}
+use Rattle.chaos_packet.proofs.Pairs.{pairs, take_stored, halves-pairs}
 use Rattle.chaos_link.specs.Datagram.{wire, words_of}
 use Rattle.chaos_link.proofs.Words.{length-words_of, take-words_of, drop-words_of}
-
--- two numbers of one more word, copied behind what stands in front
-pub pair_copied : (f g : ℕ → ℕ) (front bs ws ys : List ℕ) (m k n i : ℕ) → n ≡ m + 2 → i < length ws → m ≤ length bs
-    → ys ≡ f (get_or ws i 0) ∷ g (get_or ws i 0) ∷ [] → take m bs ≡ front ++ take (2 * i) (pairs f g ws)
-    → take n (put_mid m k bs ys) ≡ front ++ take (2 * (i + 1)) (pairs f g ws)
-pair_copied f g front bs ws ys m k n i e there fits word so_far =
-    let before = take (2 * i) (pairs f g ws) in
-    let first = f (get_or ws i 0) in
-    let second = g (get_or ws i 0) in
-    let two : length ys ≡ 2 = rw word refl in
-    let more : before ++ first ∷ second ∷ [] ≡ take (2 * (i + 1)) (pairs f g ws) = sym (append_assoc before (first ∷ []) (second ∷ [])) ∙ sym (take_pair f g ws i there) in
-    take-put_mid m k bs ys n (omega arith) fits ∙ ap (λ l. l ++ ys) so_far ∙ append_assoc front before ys
-    ∙ ap (λ l. front ++ l) (ap (λ l. before ++ l) word ∙ more)
 
 -- what stands behind a front that was put before
 pub put_behind : (bs to post front rest : List ℕ) (m n : ℕ) → m ≤ length bs → n ≤ length to → take m bs ≡ front → take n to ≡ rest → take (m + n) (take m bs ++ (to ++ post)) ≡ front ++ rest

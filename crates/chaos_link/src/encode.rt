@@ -33,6 +33,7 @@ pub fn to_datagram(packet: &Packet) -> ArrayVec<u8, MAX_DATAGRAM>
 
 /// Writes the datagram of [`to_datagram`] to the front of a buffer of the caller's, and says where it ends. It makes no
 /// copy but that of the data bytes, so it is what to call for each packet of many.
+#[inline(always)]
 pub fn write_datagram(packet: &Packet, buffer: &mut [u8]) -> usize
     requires { MAX_DATAGRAM ≤ length buffer.old }
 

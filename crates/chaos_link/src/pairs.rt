@@ -46,9 +46,8 @@ pub(crate) fn put_words(words: &[u16], front: usize, bytes: &mut [u8]) -> usize
     ensures bytes { take result bytes.new ≡ take front bytes.old ++ wire words.now }
 {
     for i in 0..words.len() {
-        let place = front + 2 * i;
-        let pair = [(words[i] / 256) as u8, (words[i] % 256) as u8];
-        bytes[place..place + 2].copy_from_slice(&pair);
+        bytes[front + 2 * i] = (words[i] / 256) as u8;
+        bytes[front + 2 * i + 1] = (words[i] % 256) as u8;
     }
     front + 2 * words.len()
 }
