@@ -31,8 +31,8 @@ pub fn to_datagram(packet: &Packet) -> ArrayVec<u8, MAX_DATAGRAM>
     datagram
 }
 
-/// Writes the datagram of [`to_datagram`] to the front of a buffer of the caller's, and says where it ends. It makes no
-/// copy but that of the data bytes, so it is what to call for each packet of many.
+/// Writes the datagram of [`to_datagram`] to the front of a buffer of the caller's, and says where it ends. Of the bytes
+/// behind the end nothing is promised. The data bytes are copied once, and no datagram is moved: the call for many packets.
 #[inline(always)]
 pub fn write_datagram(packet: &Packet, buffer: &mut [u8]) -> usize
     requires { MAX_DATAGRAM ≤ length buffer.old }
