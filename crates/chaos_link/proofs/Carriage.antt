@@ -1,5 +1,5 @@
 -- What is read of bytes is what they carry.
-use Rattle.std.proofs.Common.{◌≡◌, ℕ, ◌+◌, ◌*◌, ◌<◌, ◌≤◌, Bool, true, false, List, [], ◌∷◌, length, get_or, take, drop, refl, arith, ap, ◌∙◌, sym, cond, not, ◌&&◌, eqb, nat_lt, Option, Some, None, Ok, Result, IfOk, All, length-drop, inl, inr}
+use Rattle.std.proofs.Common.{◌≡◌, ℕ, ◌+◌, ◌*◌, ◌<◌, ◌≤◌, Bool, true, false, List, [], ◌∷◌, length, get_or, take, drop, refl, arith, ap, ◌∙◌, sym, cond, not, ◌&&◌, eqb, nat_lt, Option, Some, None, Ok, Err, Result, IfOk, All, length-drop, inl, inr}
 use Rattle.std.proofs.lemmas.List.{take_all, get_or-drop, get_or_past}
 use Rattle.std.proofs.lemmas.List.Elements.{All-get_or}
 use Rattle.std.proofs.lemmas.Bool.{cases_lt}
@@ -105,3 +105,10 @@ read_carried p bs carried =
     let (spelled, len) = spelled_after_mark p bs carried in
     let (packet, used) = whole_packet p (words_of (drop 4 bs)) spelled in
     rw (no_fault bs (wire carried.0) carried.2 (no_words_fault p _ spelled) (omega arith)) (ap Ok (sym packet))
+
+-- so bytes with a fault carry no packet
+apart : (r : Result PacketView LinkFault) (p : PacketView) (f : LinkFault) → ◌≡◌ {A = Result PacketView LinkFault} (Err f) (Ok p) → r ≡ Ok p
+apart r p f h = cc
+
+pub none_carried : (r : Result PacketView LinkFault) (p : PacketView) (bs : List ℕ) (f : LinkFault) → fault_of bs ≡ Some f → Carries p bs → r ≡ Ok p
+none_carried r p bs f e carried = apart r p f (ap (read_by bs) (sym e) ∙ read_carried p bs carried)

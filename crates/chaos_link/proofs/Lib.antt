@@ -1,5 +1,5 @@
 pub mod Canon
 pub mod Carriage
-pub mod Front
+pub mod Made
 pub mod Turned
 pub mod Words

@@ -1,6 +1,6 @@
 -- The words of bytes, and bytes of words.
-use Rattle.std.proofs.Common.{◌≡◌, ℕ, zero, suc, ◌+◌, ◌*◌, ◌/◌, ◌%◌, ◌<◌, ◌≤◌, List, [], ◌∷◌, ◌++◌, length, get_or, take, set, min, refl, arith, ap, ◌∙◌, sym}
-use Rattle.std.proofs.lemmas.List.{take_more, take_min, take_more_set}
+use Rattle.std.proofs.Common.{◌≡◌, ℕ, zero, suc, ◌+◌, ◌*◌, ◌/◌, ◌%◌, ◌<◌, List, [], ◌∷◌, ◌++◌, length, get_or, take, drop, set, refl, arith, ap, ◌∙◌, sym}
+use Rattle.std.proofs.lemmas.List.{take_more, take_more_set}
 use Rattle.chaos_packet.proofs.Pairs.{pairs}
 use Rattle.chaos_link.specs.Datagram.{wire, words_of}
 
@@ -20,7 +20,7 @@ word_at (a ∷ b ∷ bs) (suc i) h =
     rw (odd, even) (word_at bs i (omega arith))
 
 -- one word more
-pub take_word : (bs : List ℕ) (i : ℕ) → 2 * i + 1 < length bs → take (i + 1) (words_of bs) ≡ take i (words_of bs) ++ (256 * get_or bs (2 * i) 0 + get_or bs (2 * i + 1) 0) ∷ []
+take_word : (bs : List ℕ) (i : ℕ) → 2 * i + 1 < length bs → take (i + 1) (words_of bs) ≡ take i (words_of bs) ++ (256 * get_or bs (2 * i) 0 + get_or bs (2 * i + 1) 0) ∷ []
 take_word bs i h =
     let fits : i < length (words_of bs) = omega (arith, length-words_of bs) in
     take_more (words_of bs) i 0 fits ∙ ap (λ w. take i (words_of bs) ++ w ∷ []) (word_at bs i h)
@@ -31,12 +31,18 @@ pub word_stored : (ws bs : List ℕ) (i w : ℕ) → i < length ws → 2 * i + 1
 word_stored ws bs i w room there word so_far =
     take_more_set ws i w room ∙ ap (λ front. front ++ w ∷ []) so_far ∙ ap (λ w. take i (words_of bs) ++ w ∷ []) word ∙ sym (take_word bs i there)
 
--- all the words that were read are the first 252
-pub words_in_front : (ws bs : List ℕ) (i m : ℕ) → m ≡ min (length bs / 2) 252 → i ≤ m → m ≤ i → take i ws ≡ take i (words_of bs) → take m ws ≡ take 252 (words_of bs)
-words_in_front ws bs i m e le ge so_far =
-    let done : m ≡ i = omega arith in
-    let all : i ≡ min 252 (length (words_of bs)) = omega (arith, length-words_of bs) in
-    ap (λ k. take k ws) done ∙ so_far ∙ ap (λ k. take k (words_of bs)) all ∙ take_min 252 (words_of bs)
+-- the first words are those of the first bytes, and the words behind them are those of the bytes behind
+pub take-words_of : (n : ℕ) (bs : List ℕ) → take n (words_of bs) ≡ words_of (take (2 * n) bs)
+take-words_of zero bs = refl
+take-words_of (suc n) [] = let even : 2 * suc n ≡ suc (suc (2 * n)) = omega arith in rw even refl
+take-words_of (suc n) (a ∷ []) = let even : 2 * suc n ≡ suc (suc (2 * n)) = omega arith in rw even refl
+take-words_of (suc n) (a ∷ b ∷ bs) = let even : 2 * suc n ≡ suc (suc (2 * n)) = omega arith in rw even (ap (λ ws. (256 * a + b) ∷ ws) (take-words_of n bs))
+
+pub drop-words_of : (n : ℕ) (bs : List ℕ) → drop n (words_of bs) ≡ words_of (drop (2 * n) bs)
+drop-words_of zero bs = refl
+drop-words_of (suc n) [] = let even : 2 * suc n ≡ suc (suc (2 * n)) = omega arith in rw even refl
+drop-words_of (suc n) (a ∷ []) = let even : 2 * suc n ≡ suc (suc (2 * n)) = omega arith in rw even refl
+drop-words_of (suc n) (a ∷ b ∷ bs) = let even : 2 * suc n ≡ suc (suc (2 * n)) = omega arith in rw even (drop-words_of n bs)
 
 -- words are what their bytes say
 pub words_of-wire : (ws : List ℕ) → words_of (wire ws) ≡ ws

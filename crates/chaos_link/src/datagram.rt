@@ -1,11 +1,14 @@
 //! A packet from its bytes on a link.
-ghost use Rattle.std.specs.Prelude.{◌≡◌, ◌+◌, ◌≤◌, ℕ, IfOk, MatchResult, Ok, Some, None, take, length};
+ghost use Rattle.std.specs.Prelude.{◌≡◌, ◌+◌, ◌*◌, ◌<◌, ◌≤◌, ℕ, IfOk, MatchResult, Ok, Some, None, drop, length, slice_index};
 ghost use Rattle.chaos_packet.specs.Packet.{PacketView};
-ghost use Rattle.chaos_packet.specs.Words.{Spells, words_for, count_of, words_fault, packet_at};
-ghost use Rattle.chaos_link.specs.Datagram.{Carries, IsDecidedByCarries, fault_of, datagram_read, words_of};
+ghost use Rattle.chaos_packet.specs.Words.{words_for, count_of, words_fault};
+ghost use Rattle.chaos_link.specs.Datagram.{Carries, IsDecidedByCarries, datagram_len, datagram_read, fault_of, words_of};
 
 use crate::fault::LinkFault;
-use chaos_packet::{MAX_WORDS, Packet, PacketFault, from_words};
+use crate::limits::MARK_BYTES;
+use crate::pairs::turn_pairs;
+use arrayvec::ArrayVec;
+use chaos_packet::{HEADER_WORDS, MAX_DATA, Opcode, Packet, PacketFault, PktNum};
 
 /// The mark and the version that a datagram begins with.
 pub(crate) const MARK: [u8; 4] = [0x43, 0x48, 0x01, 0x00];
@@ -20,8 +23,8 @@ pub(crate) const MARK: [u8; 4] = [0x43, 0x48, 0x01, 0x00];
 ///    +----+----+----+----+--------+--------+--
 /// ```
 ///
-/// After the mark and the version come the packet's words, each high byte first, and nothing more. The cost is that of
-/// the packet's words; nothing is allocated.
+/// After the mark and the version come the packet's words, each high byte first, and nothing more. The data bytes are
+/// copied once, by whole words; nothing is allocated.
 ///
 /// # Errors
 /// The first fault, in the order of [`LinkFault`]: read off the number of bytes, the first four bytes and word 1 alone.
@@ -38,14 +41,35 @@ pub fn from_datagram(bytes: &[u8]) -> Result<Packet, LinkFault>
     // For callers that compute: the answer is a function of the bytes.
     ensures exact { result ≡ datagram_read bytes.now }
 {
-    decode(bytes)
+    let count = checked_count(bytes)?;
+    let (_, words) = bytes.split_at(MARK_BYTES);
+    let (_, data) = words.split_at(2 * HEADER_WORDS);
+    let mut packet = Packet {
+        op: Opcode((word_at(words, 0) / 256) as u8),
+        fwd: (word_at(words, 1) / 4096) as u8,
+        dst: word_at(words, 2),
+        dst_index: word_at(words, 3),
+        src: word_at(words, 4),
+        src_index: word_at(words, 5),
+        num: PktNum(word_at(words, 6)),
+        ack: PktNum(word_at(words, 7)),
+        body: ArrayVec::from([0; MAX_DATA]),
+    };
+    // In place, since each copy of a packet costs as much as the data does.
+    turn_pairs(data, packet.body.as_mut_slice());
+    packet.body.truncate(count);
+    Ok(packet)
 }
 
-/// What the checks make of the bytes, in their order.
-fn decode(bytes: &[u8]) -> Result<Packet, LinkFault>
-    ensures { result ≡ datagram_read bytes.now }
+/// How many data bytes the datagram's packet has, where it is one: what the checks make of the bytes, in their order.
+#[inline(always)]
+fn checked_count(bytes: &[u8]) -> Result<usize, LinkFault>
+    ensures fault { MatchResult result (λ _. fault_of bytes.now ≡ None) (λ f. fault_of bytes.now ≡ Some f) }
+    ensures count { IfOk result (λ n. n ≡ count_of (words_of (drop MARK_BYTES bytes.now))) }
+    ensures small { IfOk result (λ n. n ≤ MAX_DATA) }
+    ensures long { IfOk result (λ n. length bytes.now ≡ datagram_len n) }
 {
-    if bytes.len() < MARK.len() {
+    if bytes.len() < MARK_BYTES {
         return Err(LinkFault::Short);
     }
     if bytes[0] != MARK[0] || bytes[1] != MARK[1] {
@@ -54,35 +78,43 @@ fn decode(bytes: &[u8]) -> Result<Packet, LinkFault>
     if bytes[2] != MARK[2] || bytes[3] != MARK[3] {
         return Err(LinkFault::BadVersion);
     }
-    let (_, after) = bytes.split_at(MARK.len());
-    match words_at(after) {
-        Ok((_, used)) if after.len() > 2 * used => Err(LinkFault::Trailing),
-        Ok((packet, _)) => Ok(packet),
+    let (_, words) = bytes.split_at(MARK_BYTES);
+    match data_count(words) {
+        Ok(count) if words.len() > 2 * (HEADER_WORDS + (count + 1) / 2) => Err(LinkFault::Trailing),
+        Ok(count) => Ok(count),
         Err(fault) => Err(LinkFault::Packet(fault)),
     }
 }
 
-/// The packet at the front of the whole words of the bytes, and how many of them it takes.
-fn words_at(bytes: &[u8]) -> Result<(Packet, usize), PacketFault>
+/// How many data bytes the packet at the front of the whole words of the bytes has, where one is there.
+#[inline(always)]
+fn data_count(bytes: &[u8]) -> Result<usize, PacketFault>
     ensures fault { MatchResult result (λ _. words_fault (words_of bytes.now) ≡ None) (λ f. words_fault (words_of bytes.now) ≡ Some f) }
-    ensures packet { IfOk result (λ r. r.0 ≡ packet_at (words_of bytes.now)) }
-    ensures used { IfOk result (λ r. r.1 ≡ 8 + words_for (count_of (words_of bytes.now))) }
+    ensures count { IfOk result (λ n. n ≡ count_of (words_of bytes.now)) }
+    ensures small { IfOk result (λ n. n ≤ MAX_DATA) }
+    ensures long { IfOk result (λ n. 2 * (HEADER_WORDS + words_for n) ≤ length bytes.now) }
 {
-    let mut words = [0; MAX_WORDS];
-    let count = read_words(bytes, &mut words);
-    from_words(&words[..count])
+    let words = bytes.len() / 2;
+    if words < HEADER_WORDS {
+        return Err(PacketFault::Short);
+    }
+    let count = usize::from(word_at(bytes, 1) % 4096);
+    if count > MAX_DATA {
+        return Err(PacketFault::BadCount);
+    }
+    if words < HEADER_WORDS + (count + 1) / 2 {
+        return Err(PacketFault::Truncated);
+    }
+    Ok(count)
 }
 
-/// Reads the whole words of the bytes, as many as the greatest packet has, and says how many those are.
-fn read_words(bytes: &[u8], words: &mut [u16; MAX_WORDS]) -> usize
-    ensures count { result ≤ 252 }
-    ensures words { take result words.new ≡ take 252 (words_of bytes.now) }
+/// One of the words of the bytes.
+#[inline(always)]
+fn word_at(bytes: &[u8], i: usize) -> u16
+    requires { 2 * i + 1 < length bytes.now }
+    ensures { result ≡ slice_index (words_of bytes.now) i }
 {
-    let count = (bytes.len() / 2).min(MAX_WORDS);
-    for i in 0..count {
-        words[i] = u16::from_be_bytes([bytes[2 * i], bytes[2 * i + 1]]);
-    }
-    count
+    u16::from_be_bytes([bytes[2 * i], bytes[2 * i + 1]])
 }
 
 /// The law that what is read of bytes is decided by [`from_datagram`]'s relation alone: a packet exactly where the bytes

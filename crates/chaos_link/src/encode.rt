@@ -1,6 +1,6 @@
 //! The bytes of a packet on a link.
 ghost use Rattle.std.specs.Prelude.{◌≡◌, ◌*◌, ◌<◌, ◌≤◌, ℕ, List, Ok, length, take, slice_index};
-ghost use Rattle.chaos_packet.specs.Words.{HasZeroHalves, Spells, packed, spelling_of, words_for};
+ghost use Rattle.chaos_packet.specs.Words.{packed, words_for};
 ghost use Rattle.chaos_link.specs.Datagram.{Canonical, Carries, datagram_of, datagram_read, wire};
 
 use crate::datagram::MARK;
@@ -10,7 +10,7 @@ use arrayvec::ArrayVec;
 use chaos_packet::Packet;
 
 /// The one canonical datagram that carries the packet: its free halves are zero (own profile). The data bytes
-/// are copied once, by whole words, and nothing is allocated.
+/// are copied once, by whole words, and nothing is allocated; [`write_datagram`] spares the move of the datagram, too.
 pub fn to_datagram(packet: &Packet) -> ArrayVec<u8, MAX_DATAGRAM>
     // The datagram carries the packet, and its free halves are zero.
     ensures carried { Carries packet.now result.items }
@@ -31,18 +31,29 @@ pub fn to_datagram(packet: &Packet) -> ArrayVec<u8, MAX_DATAGRAM>
     datagram
 }
 
-/// Writes the datagram of [`to_datagram`] to the front of the bytes, and says where it ends.
+/// Writes the datagram of [`to_datagram`] to the front of a buffer of the caller's, and says where it ends. Of the bytes
+/// behind the end nothing is promised. The data bytes are copied once, and no datagram is moved: the call for many packets.
 #[inline(always)]
-fn write_datagram(packet: &Packet, bytes: &mut [u8]) -> usize
-    requires { length bytes.old ≡ MAX_DATAGRAM }
-    ensures long { length bytes.new ≡ MAX_DATAGRAM }
-    ensures exact { take result bytes.new ≡ datagram_of packet.now }
-    ensures spelled { Spells packet.now (spelling_of packet.now) }
-    ensures zero { HasZeroHalves (spelling_of packet.now) }
+pub fn write_datagram(packet: &Packet, buffer: &mut [u8]) -> usize
+    requires { MAX_DATAGRAM ≤ length buffer.old }
+
+    // What is written fits, and carries the packet; its free halves are zero.
+    ensures fits { result ≤ MAX_DATAGRAM }
+    ensures carried { Carries packet.now (take result buffer.new) }
+    ensures canonical { Canonical (take result buffer.new) }
+
+    // No other bytes do both.
+    ensures only { (bs : List ℕ) → Carries packet.now bs → Canonical bs → bs ≡ take result buffer.new }
+
+    // What is read of it is the packet.
+    ensures read { datagram_read (take result buffer.new) ≡ Ok packet.now }
+
+    // For callers that compute: the datagram is a function of the packet.
+    ensures exact { take result buffer.new ≡ datagram_of packet.now }
 {
-    bytes[..MARK_BYTES].copy_from_slice(&MARK);
-    let front = put_words(&packet.header(), MARK_BYTES, bytes);
-    front + put_data(packet.bytes(), &mut bytes[front..])
+    buffer[..MARK_BYTES].copy_from_slice(&MARK);
+    let front = put_words(&packet.header(), MARK_BYTES, buffer);
+    front + put_data(packet.bytes(), &mut buffer[front..])
 }
 
 /// Puts data bytes as the words that hold them, each high byte first, and says where they end.

@@ -18,7 +18,7 @@ mod tests;
 mod udp;
 
 pub use datagram::{from_datagram, law_carries};
-pub use encode::to_datagram;
+pub use encode::{to_datagram, write_datagram};
 pub use fault::{LinkFault, PeerFault};
 pub use limits::{LINK_ROOM, MARK_BYTES, MAX_DATAGRAM, MAX_PEERS, MAX_WAIT};
 pub use link::{Link, Received, Sent};

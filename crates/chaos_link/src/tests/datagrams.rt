@@ -118,5 +118,8 @@ fn canonical_datagram_comes_of_either_reading(rt: HostRuntime) -> Result<(), Fai
     }
     let packet = from_datagram(&STATUS)?;
     assert_eq!(rt; to_datagram(&packet).as_slice(), STATUS.as_slice());
+    let mut buffer = [0xFF; MAX_DATAGRAM];
+    let end = write_datagram(&packet, &mut buffer);
+    assert_eq!(rt; &buffer[..end], STATUS.as_slice());
     Ok(())
 }

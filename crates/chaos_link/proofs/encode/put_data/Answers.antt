@@ -1,4 +1,4 @@
-use Rattle.std.proofs.Common.{◌≡◌, ◌∙◌, ◌*◌, ◌/◌, length, arith, ap, sym, take, refl}
+use Rattle.std.proofs.Common.{◌∙◌, ◌/◌, length, arith, sym, refl}
 use Rattle.chaos_link.proofs.Turned.{wire-packed, odd_put}
 use Rattle.chaos_link.proofs.encode.put_data.Goals as goal
 

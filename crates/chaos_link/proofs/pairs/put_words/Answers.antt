@@ -1,14 +1,13 @@
 use Rattle.std.proofs.Common.{◌≡◌, ◌+◌, ◌*◌, ◌/◌, ◌%◌, ◌++◌, ◌∙◌, length, arith, ap, sym, take}
 use Rattle.std.proofs.lemmas.List.{take_all}
-use Rattle.chaos_packet.proofs.Pairs.{pairs, length-pairs}
+use Rattle.chaos_packet.proofs.Pairs.{pairs, length-pairs, pair_stored}
 use Rattle.chaos_link.proofs.Words.{wire-pairs}
-use Rattle.chaos_link.proofs.Turned.{pair_copied}
 use Rattle.chaos_link.proofs.pairs.put_words.Goals as goal
 
 pub loop-i-preserved : goal.loop-i-preserved
 loop-i-preserved c =
-    pair_copied (λ w. w / 256) (λ w. w % 256) (take c.args.front c.args.bytes.now) c.loop-i.bytes c.args.words.now _ _ _ _ c.loop-i.i (omega arith) c.loop-i-test.true (omega arith)
-    c.copy_from_slice.ensures.after c.loop-i.invariant
+    pair_stored (λ w. w / 256) (λ w. w % 256) (take c.args.front c.args.bytes.now) c.loop-i.bytes c.args.words.now _ _ c.loop-i.i (omega arith) c.loop-i-test.true (omega arith)
+    c.loop-i.invariant
 
 pub returns-clause-bytes : goal.returns-clause-bytes
 returns-clause-bytes c =
