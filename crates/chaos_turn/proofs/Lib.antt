@@ -1,1 +1,5 @@
-pub mod Sending
+pub mod Phase
+pub mod Queue
+pub mod Receipt
+pub mod Relation
+pub mod Whole

@@ -1,11 +1,11 @@
 -- Packets sent one after the other.
-use Rattle.std.proofs.Common.{◌≡◌, ℕ, ◌++◌, ◌<◌, List, [], ◌∷◌, length, drop, slice_get, Option, Some, None, IfSome, refl, arith, ap, ◌∙◌, subst}
+use Rattle.std.proofs.Common.{◌≡◌, ℕ, true, if◌then◌else◌, ◌++◌, ◌<◌, List, [], ◌∷◌, length, drop, slice_get, Option, Some, None, IfSome, refl, arith, ap, ◌∙◌, subst}
 use Rattle.chaos_packet.specs.Packet.{PacketView}
 use Rattle.chaos_link.specs.Datagram.{datagram_of}
 use Rattle.chaos_link.specs.Link.{QueueView, with_datagram, SendsInto}
 use Rattle.chaos_link.specs.declared.link.Sent.{Sent}
 use Rattle.chaos_packet.specs.Outbox.{OutboxView, without_oldest}
-use Rattle.chaos_turn.specs.Turn.{sent_into, Sends}
+use Rattle.chaos_turn.specs.Link.{sent_into, Sends, has_packets}
 
 pub sends_one_by_one : (queue : QueueView) (xs ys : List PacketView) → sent_into (sent_into queue xs) ys ≡ sent_into queue (xs ++ ys)
 sends_one_by_one queue [] ys = refl
@@ -40,3 +40,17 @@ sends_both None mid after xs ys first others = tt
 sends_both (Some queue) mid after xs ys first others =
     let rest : Sends (Some (sent_into queue xs)) ys after = subst (λ (o : Option QueueView). Sends o ys after) first others in
     rest ∙ ap (λ (q : QueueView). Some q) (sends_one_by_one queue xs ys)
+
+pub has_first : (ps : List PacketView) (p : PacketView) → slice_get ps 0 ≡ Some p → has_packets ps ≡ true
+has_first [] p e = absurd (cc)
+has_first (x ∷ ps) p e = refl
+
+pub has_both : (xs ys : List PacketView) → has_packets (xs ++ ys) ≡ (if has_packets ys then true else has_packets xs)
+has_both [] [] = refl
+has_both [] (y ∷ ys) = refl
+has_both (x ∷ xs) [] = refl
+has_both (x ∷ xs) (y ∷ ys) = refl
+
+pub sends_nothing : (queue : Option QueueView) → Sends queue [] queue
+sends_nothing None = tt
+sends_nothing (Some queue) = refl
