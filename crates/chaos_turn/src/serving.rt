@@ -1,10 +1,10 @@
 //! Each slot in use is served once.
 ghost use Rattle.std.specs.Prelude.{◌≡◌, ◌<◌, ◌≤◌, [], length};
 ghost use Rattle.chaos_packet.specs.Outbox.{room_of};
-ghost use Rattle.chaos_turn.specs.Sessions.{serving_of};
 ghost use Rattle.chaos_file.specs.Store.{change};
 ghost use Rattle.chaos_host.specs.View.{id_at};
 ghost use Rattle.chaos_turn.specs.Serve.{DoesKept, DoesServing, ServesAt, ServesBy, ServesSlots, server_of};
+ghost use Rattle.chaos_turn.specs.Sessions.{serving_of};
 
 use crate::limits::TURN_ROOM;
 use crate::sending::send_all;
