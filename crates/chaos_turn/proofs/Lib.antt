@@ -1,0 +1,5 @@
+pub mod Phase
+pub mod Queue
+pub mod Receipt
+pub mod Relation
+pub mod Whole

@@ -1,0 +1,14 @@
+use Rattle.std.proofs.Common.{ap, ◌∙◌}
+use Rattle.chaos_file.specs.Store.{change}
+use Rattle.chaos_turn.specs.Serve.{serving_after}
+use Rattle.chaos_turn.specs.Sessions.{Serving, serving_of}
+use Rattle.chaos_turn.proofs.Relation.{kept_so}
+use Rattle.chaos_turn.proofs.serving.serve_kept.Goals as goal
+
+pub returns : goal.returns
+returns g c =
+    let done = c.serve_one-served in
+    let turned = c.kept.view_is ∙ c.turn_to.ensures in
+    kept_so (change g.S.Store.contents g.S.Store.may_give g.S.Store.count c.args.store.now done.new.store) (serving_of c.args.id c.args.kept.now) c.note.new.self done.new.session
+    c.args.host.now c.args.id c.args.now done.new.host c.args.out.now done.new.out done.result
+    (c.note.ensures ∙ ap (λ (s : Serving). serving_after s done.new.session done.result) turned) (rw (← ap (λ (s : Serving). s.session) turned) done.ensures)

@@ -1,0 +1,31 @@
+-- The sessions of a host's slots.
+use Rattle.std.specs.Prelude.{ℕ, ◌==◌, Bool, true, false, if◌then◌else◌, List, Option, Some, None, slice_index_or}
+use Rattle.chaos_file.specs.Session.{SessionView, new_session}
+use Rattle.chaos_serve.specs.declared.served.Served.{Served}
+use Rattle.chaos_serve.specs.declared.served.Served.TheVariants as told
+
+-- a slot's session: the connection that it serves, and whether that one's EOF was served
+pub record Serving : Type 0 where
+  pub id : Option ℕ
+  pub session : SessionView
+  pub eof : Bool
+
+abbrev pub new_serving : Serving
+new_serving = record { id = None; session = new_session; eof = false }
+
+-- the session for a connection: the one kept for it, else a new one
+abbrev pub serving_by : ℕ → Serving → Option ℕ → Serving
+serving_by id serving None = record new_serving { id = Some id }
+serving_by id serving (Some kept) = if kept == id then serving else record new_serving { id = Some id }
+
+abbrev pub serving_of : ℕ → Serving → Serving
+serving_of id serving = serving_by id serving serving.id
+
+-- an EOF was served, now or before
+abbrev pub eof_after : Bool → Served → Bool
+eof_after eof told.Eof = true
+eof_after eof _ = eof
+
+-- the session of a slot
+abbrev pub serving_at : List Serving → ℕ → Serving
+serving_at sessions place = slice_index_or sessions place new_serving

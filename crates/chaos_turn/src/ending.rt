@@ -1,0 +1,109 @@
+//! The ends of connections: those that were served to their EOF are closed, and those that ended are released.
+ghost use Rattle.std.specs.Prelude.{◌≡◌, ◌<◌, ◌≤◌, [], length};
+ghost use Rattle.chaos_turn.specs.Phase.{DoesPhase, over_slots};
+ghost use Rattle.chaos_turn.specs.Slots.{close_at, end_phases, release_at};
+
+use crate::end::any_of;
+use crate::limits::TURN_ROOM;
+use crate::sending::send_all;
+use crate::sessions::Sessions;
+use crate::ticking::tick_slots;
+use chaos_host::Host;
+use chaos_link::Link;
+use chaos_packet::Outbox;
+
+/// Closes the connection in a slot with an empty text, where its EOF was served and its peer read all. Says whether packets
+/// went out, as all here do.
+#[tactic(auto, using(crate::proofs::Phase::put_into_empty))]
+fn close_slot<L: Link>(
+    host: &mut Host,
+    sessions: &Sessions,
+    place: usize,
+    link: &mut L,
+    out: &mut Outbox,
+) -> bool
+    requires within { place < length sessions.now }
+    requires room { TURN_ROOM ≤ out.old.cap }
+    requires empty { out.old.packets ≡ [] }
+    ensures { DoesPhase host.old (close_at sessions.now place host.old) host.new (L.queue link.old) (L.queue link.new) out.old out.new result }
+{
+    let Some(id) = host.id_of(place) else {
+        return false;
+    };
+    if !sessions.kept[place].eof || host.drained(id) != Ok(true) {
+        return false;
+    }
+    let _ = host.close(id, b"", out);
+    send_all(link, out)
+}
+
+/// Closes each connection that was served to its EOF and is drained, in the slots' rising order.
+#[tactic(auto, using(crate::proofs::Queue::sends_both, crate::proofs::Queue::has_both))]
+pub fn close_slots<L: Link>(
+    host: &mut Host,
+    sessions: &Sessions,
+    link: &mut L,
+    out: &mut Outbox,
+) -> bool
+    requires alike { length sessions.now ≡ length host.old.slots }
+    requires room { TURN_ROOM ≤ out.old.cap }
+    requires empty { out.old.packets ≡ [] }
+    ensures { DoesPhase host.old (over_slots (close_at sessions.now) (length host.old.slots) host.old) host.new
+        (L.queue link.old) (L.queue link.new) out.old out.new result }
+{
+    let mut sent = false;
+    for place in 0..host.conns() {
+        sent = close_slot(host, sessions, place, link, out) || sent;
+    }
+    sent
+}
+
+/// Releases the connection in a slot, where it has ended.
+#[tactic(auto, using(crate::proofs::Phase::put_into_empty))]
+fn release_slot<L: Link>(host: &mut Host, place: usize, link: &mut L, out: &mut Outbox) -> bool
+    requires room { TURN_ROOM ≤ out.old.cap }
+    requires empty { out.old.packets ≡ [] }
+    ensures { DoesPhase host.old (release_at place host.old) host.new (L.queue link.old) (L.queue link.new) out.old out.new result }
+{
+    let Some(id) = host.id_of(place) else {
+        return false;
+    };
+    let _ = host.release(id, out);
+    send_all(link, out)
+}
+
+/// Releases each connection that has ended, in the slots' rising order.
+#[tactic(auto, using(crate::proofs::Queue::sends_both, crate::proofs::Queue::has_both))]
+pub fn release_slots<L: Link>(host: &mut Host, link: &mut L, out: &mut Outbox) -> bool
+    requires room { TURN_ROOM ≤ out.old.cap }
+    requires empty { out.old.packets ≡ [] }
+    ensures { DoesPhase host.old (over_slots release_at (length host.old.slots) host.old) host.new
+        (L.queue link.old) (L.queue link.new) out.old out.new result }
+{
+    let mut sent = false;
+    for place in 0..host.conns() {
+        sent = release_slot(host, place, link, out) || sent;
+    }
+    sent
+}
+
+/// The last phases of a turn: connections served to their EOF are closed, those that ended are released, and what is due in
+/// each slot is done.
+pub fn end_slots<L: Link>(
+    host: &mut Host,
+    sessions: &Sessions,
+    link: &mut L,
+    now: u64,
+    out: &mut Outbox,
+) -> bool
+    requires alike { length sessions.now ≡ length host.old.slots }
+    requires room { TURN_ROOM ≤ out.old.cap }
+    requires empty { out.old.packets ≡ [] }
+    ensures { DoesPhase host.old (end_phases sessions.now now host.old) host.new
+        (L.queue link.old) (L.queue link.new) out.old out.new result }
+{
+    let closed = close_slots(host, sessions, link, out);
+    let released = release_slots(host, link, out);
+    let ticked = tick_slots(host, link, now, out);
+    any_of(ticked, released, closed)
+}

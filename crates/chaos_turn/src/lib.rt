@@ -1,0 +1,27 @@
+//! One turn of a FILE server and of a client: what came is delivered, what is due is done, and what a host puts out goes
+//! into a link.
+//!
+//! A turn reads no clock (the moment is handed in) and waits only as its link does. [`Sessions::new`] takes memory for the
+//! sessions; a turn takes none but what [`chaos_file::Session::apply`] takes.
+#![tactic(auto)]
+
+mod arriving;
+mod client;
+mod end;
+mod ending;
+mod limits;
+mod receiving;
+mod sending;
+mod serving;
+mod sessions;
+#[cfg(test)]
+mod tests;
+mod ticking;
+mod turn;
+
+pub use client::client_turn;
+pub use end::TurnEnd;
+pub use limits::TURN_ROOM;
+pub use sending::law_sends;
+pub use sessions::Sessions;
+pub use turn::run_turn;

@@ -1,0 +1,86 @@
+//! Each slot in use is served once.
+ghost use Rattle.std.specs.Prelude.{◌≡◌, ◌<◌, ◌≤◌, [], length};
+ghost use Rattle.chaos_packet.specs.Outbox.{room_of};
+ghost use Rattle.chaos_file.specs.Store.{change};
+ghost use Rattle.chaos_host.specs.View.{id_at};
+ghost use Rattle.chaos_turn.specs.Serve.{DoesKept, DoesServing, ServesAt, ServesBy, ServesSlots, server_of};
+ghost use Rattle.chaos_turn.specs.Sessions.{serving_of};
+
+use crate::limits::TURN_ROOM;
+use crate::sending::send_all;
+use crate::sessions::{Kept, Sessions};
+use chaos_file::Store;
+use chaos_host::{ConnId, Host};
+use chaos_link::Link;
+use chaos_packet::Outbox;
+use chaos_serve::serve_one;
+use std::alloc::Global;
+
+/// Serves a connection once by a slot's session, which is a new one where it served another connection before.
+fn serve_kept<S: Store>(
+    alloc: Global,
+    host: &mut Host,
+    id: ConnId,
+    kept: &mut Kept,
+    store: &mut S,
+    now: u64,
+    out: &mut Outbox,
+)
+    requires { 2 ≤ room_of out.old }
+    ensures { ServesBy (change S.contents S.may_give S.count store.old store.new) now id (serving_of id kept.old)
+        (λ serving acted. DoesKept serving kept.new host.old acted host.new out.old out.new) host.old }
+{
+    kept.turn_to(id);
+    let served = serve_one(alloc, host, id, &mut kept.session, store, now, out);
+    kept.note(served);
+}
+
+/// Serves the connection in a slot once, where the slot is in use: with its own session, which is a new one where another
+/// connection was there before. Says whether packets went out.
+fn serve_slot<S: Store, L: Link>(
+    alloc: Global,
+    host: &mut Host,
+    sessions: &mut Sessions,
+    store: &mut S,
+    place: usize,
+    link: &mut L,
+    now: u64,
+    out: &mut Outbox,
+) -> bool
+    requires within { place < length sessions.old }
+    requires room { TURN_ROOM ≤ out.old.cap }
+    requires empty { out.old.packets ≡ [] }
+    ensures { ServesAt (change S.contents S.may_give S.count store.old store.new) now place (server_of host.old sessions.old)
+        (λ server packets. DoesServing host.old sessions.old server packets host.new sessions.new (L.queue link.old) (L.queue link.new) out.old out.new result)
+        (id_at host.old place) }
+{
+    let Some(id) = host.id_of(place) else {
+        return false;
+    };
+    let kept = &mut sessions.kept[place];
+    serve_kept(alloc, host, id, kept, store, now, out);
+    send_all(link, out)
+}
+
+/// Serves each slot once, in rising order. Says whether packets went out.
+pub fn serve_slots<S: Store, L: Link>(
+    alloc: Global,
+    host: &mut Host,
+    sessions: &mut Sessions,
+    store: &mut S,
+    link: &mut L,
+    now: u64,
+    out: &mut Outbox,
+) -> bool
+    requires alike { length sessions.old ≡ length host.old.slots }
+    requires room { TURN_ROOM ≤ out.old.cap }
+    requires empty { out.old.packets ≡ [] }
+    ensures { ServesSlots (change S.contents S.may_give S.count) now (length host.old.slots) (server_of host.old sessions.old) store.old store.new
+        host.new sessions.new (L.queue link.old) (L.queue link.new) out.old out.new result }
+{
+    let mut sent = false;
+    for place in 0..host.conns() {
+        sent = serve_slot(alloc, host, sessions, store, place, link, now, out) || sent;
+    }
+    sent
+}

@@ -1,0 +1,98 @@
+//! A session for each slot of a host.
+ghost use Rattle.std.specs.Prelude.{◌≡◌, IfOk, length, replicate};
+ghost use Rattle.chaos_turn.specs.Sessions.{Serving, new_serving, serving_of, eof_after};
+
+use chaos_file::Session;
+use chaos_host::ConnId;
+use chaos_serve::Served;
+use std::alloc::{AllocError, Global};
+use std::marker::Model;
+
+/// A slot's session, the connection that it serves, and whether that connection's EOF was served.
+#[derive(Drop)]
+pub(crate) struct Kept {
+    pub(crate) id: Option<ConnId>,
+    pub(crate) session: Session,
+    pub(crate) eof: bool,
+}
+
+impl Model for Kept {
+    ghost use Rattle.chaos_turn.specs.Sessions.{Serving};
+
+    ghost Value = { Serving };
+
+    ghost view = { λ k. record { id = k.id; session = k.session; eof = k.eof } };
+}
+
+/// A session for each slot of a host, with the connection that it serves. A contract sees the sessions in the order of the
+/// slots.
+///
+/// A turn gives a slot a new session where another connection is there; the old one is dropped then.
+#[derive(Drop)]
+pub struct Sessions {
+    pub(crate) kept: Vec<Kept>,
+}
+
+impl Model for Sessions {
+    ghost use Rattle.std.specs.Prelude.{List};
+    ghost use Rattle.chaos_turn.specs.Sessions.{Serving};
+
+    ghost Value = { List Serving };
+
+    ghost view = { λ s. s.kept.items };
+}
+
+impl Sessions {
+    /// A new session for each of so many slots, which serves no connection yet. A host's turn wants as many as
+    /// [`chaos_host::Host::conns`].
+    ///
+    /// # Errors
+    /// No memory for them.
+    pub fn new(alloc: Global, conns: usize) -> Result<Self, AllocError>
+        ensures { IfOk result (λ sessions. sessions ≡ replicate conns new_serving) }
+    {
+        let mut kept = Vec::with_capacity(alloc, conns)?;
+        for i in 0..conns {
+            kept.push(Kept::new(None))?;
+        }
+        Ok(Sessions { kept })
+    }
+
+    /// The number of slots for which it has a session.
+    pub fn conns(&self) -> usize
+        ensures { result ≡ length self.now }
+    {
+        self.kept.len()
+    }
+}
+
+impl Kept {
+    /// A new session for this connection, where there is one.
+    pub(crate) fn new(id: Option<ConnId>) -> Self
+        ensures { result ≡ record new_serving { id = id } }
+    {
+        Kept {
+            id,
+            session: Session::new(),
+            eof: false,
+        }
+    }
+
+    /// Turns to this connection: with a new session, unless it is the one that was served so far.
+    pub(crate) fn turn_to(&mut self, id: ConnId)
+        ensures { self.new ≡ serving_of id self.old }
+    {
+        if self.id != Some(id) {
+            *self = Kept::new(Some(id));
+        }
+    }
+
+    /// Keeps that an EOF was served.
+    pub(crate) fn note(&mut self, served: Served)
+        ensures { self.new ≡ record self.old { eof = eof_after self.old.eof served } }
+    {
+        if let Served::Eof = served {
+            self.eof = true;
+        }
+    }
+}

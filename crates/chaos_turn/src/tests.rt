@@ -1,0 +1,4 @@
+//! Turns of a server and of a client over links in memory.
+mod links;
+mod login;
+mod turns;

@@ -1,0 +1,51 @@
+//! A command from a client's host to a server's, and its reply.
+use super::links::Crossing;
+use super::turns::{Station, asks, made, serves};
+use crate::TurnEnd;
+use chaos_conn::State;
+use chaos_host::ConnId;
+use chaos_packet::{Opcode, PktNum};
+use std::alloc::AllocGlobal;
+use std::process::Abort;
+use std::test::Fail;
+
+/// Turns of both hosts, until nothing more comes.
+fn carry(
+    rt: &(impl Abort + AllocGlobal),
+    client: &mut Station,
+    server: &mut Station,
+    link: &mut Crossing,
+) {
+    for _ in 0..8 {
+        let _ = asks(rt, client, link);
+        link.turn_round();
+        let _ = serves(rt, server, link);
+        link.turn_round();
+    }
+    assert_eq!(rt; asks(rt, client, link), TurnEnd::Idle);
+}
+
+/// The client writes an item.
+fn writes(rt: &impl Abort, client: &mut Station, id: ConnId, op: Opcode, bytes: &[u8]) {
+    assert!(rt; client.out.room() > 0);
+    assert!(rt; client.host.write(id, op, bytes, 0, &mut client.out).is_ok());
+}
+
+#[test]
+fn login_is_answered(rt: HostRuntime) -> Result<(), Fail> {
+    let mut client = made(rt.alloc(), 0o402)?;
+    let mut server = made(rt.alloc(), 0o401)?;
+    let mut link = Crossing::new(rt.alloc())?;
+    server.host.listen(b"FILE")?;
+    assert!(rt; client.out.room() > 0);
+    let id = client
+        .host
+        .connect(0o401, b"FILE", PktNum(5), 0, &mut client.out)?;
+    carry(&rt, &mut client, &mut server, &mut link);
+    assert_eq!(rt; client.host.state(id), Ok(State::Open));
+    writes(&rt, &mut client, id, Opcode::DATA, b"T1  LOGIN LISPM");
+    carry(&rt, &mut client, &mut server, &mut link);
+    let reply = client.host.front(id)?.ok_or("a reply")?;
+    assert_eq!(rt; reply.bytes(), b"T1  LOGIN LISPM".as_slice());
+    Ok(())
+}

@@ -1,0 +1,126 @@
+//! Single turns.
+use super::links::Broken;
+use crate::{Sessions, TURN_ROOM, TurnEnd, client_turn, run_turn};
+use chaos_conn::ConnConfig;
+use chaos_file::MemStore;
+use chaos_host::Host;
+use chaos_link::{LINK_ROOM, Link, MemLink, Received, from_datagram, to_datagram};
+use chaos_packet::{Item, Opcode, Outbox, Packet, PktNum};
+use std::alloc::{AllocGlobal, Global};
+use std::process::Abort;
+use std::test::Fail;
+
+/// A host with what its turns ask for.
+#[derive(Drop)]
+pub struct Station {
+    pub host: Host,
+    pub sessions: Sessions,
+    pub store: MemStore,
+    pub out: Outbox,
+}
+
+/// A host with this address and two slots.
+pub fn made(alloc: Global, address: u16) -> Result<Station, Fail> {
+    Ok(Station {
+        host: Host::new(alloc, address, 2, ConnConfig::usual())?,
+        sessions: Sessions::new(alloc, 2)?,
+        store: MemStore::new(alloc),
+        out: Outbox::new(alloc, TURN_ROOM + 4)?,
+    })
+}
+
+/// A turn of a server at moment 0.
+pub fn serves<L: Link>(
+    rt: &(impl Abort + AllocGlobal),
+    station: &mut Station,
+    link: &mut L,
+) -> TurnEnd {
+    assert_eq!(rt; station.sessions.conns(), station.host.conns());
+    assert!(rt; station.out.room() >= TURN_ROOM);
+    run_turn(
+        rt.alloc(),
+        &mut station.host,
+        &mut station.sessions,
+        &mut station.store,
+        link,
+        PktNum(9),
+        0,
+        &mut station.out,
+    )
+}
+
+/// A turn of a client at moment 0.
+pub fn asks<L: Link>(rt: &impl Abort, station: &mut Station, link: &mut L) -> TurnEnd {
+    assert!(rt; station.out.room() >= TURN_ROOM);
+    client_turn(&mut station.host, link, 0, &mut station.out)
+}
+
+/// A request for a contact, with number 5.
+fn request() -> Packet {
+    Packet {
+        op: Opcode::RFC,
+        fwd: 0,
+        dst: 0o401,
+        dst_index: 0,
+        src: 0o402,
+        src_index: 1,
+        num: PktNum(5),
+        ack: PktNum(0),
+        body: Item::new(Opcode::RFC, b"FILE").body,
+    }
+}
+
+/// The packet of the oldest datagram.
+fn received(link: &mut MemLink) -> Option<Packet> {
+    let mut buffer = [0; LINK_ROOM];
+    match link.receive(&mut buffer) {
+        Received::Got(count) => from_datagram(&buffer[..count]).ok(),
+        _ => None,
+    }
+}
+
+#[test]
+fn request_is_opened_in_a_turn(rt: HostRuntime) -> Result<(), Fail> {
+    let mut server = made(rt.alloc(), 0o401)?;
+    server.host.listen(b"FILE")?;
+    let mut link = MemLink::new(rt.alloc(), 8)?;
+    let _ = link.send(0o401, to_datagram(&request()).as_slice());
+    assert_eq!(rt; serves(&rt, &mut server, &mut link), TurnEnd::Worked);
+    let opn = received(&mut link).ok_or("an OPN")?;
+    assert_eq!(rt;
+        (opn.op, opn.num, opn.ack),
+        (Opcode::OPN, PktNum(9), PktNum(5))
+    );
+    assert_eq!(rt; opn.status(), Some((PktNum(5), 13)));
+    assert_eq!(rt; serves(&rt, &mut server, &mut link), TurnEnd::Idle);
+    Ok(())
+}
+
+#[test]
+fn client_accepts_nothing(rt: HostRuntime) -> Result<(), Fail> {
+    let mut client = made(rt.alloc(), 0o401)?;
+    client.host.listen(b"FILE")?;
+    let mut link = MemLink::new(rt.alloc(), 8)?;
+    let _ = link.send(0o401, to_datagram(&request()).as_slice());
+    assert_eq!(rt; asks(&rt, &mut client, &mut link), TurnEnd::Worked);
+    assert!(rt; received(&mut link).is_none());
+    Ok(())
+}
+
+#[test]
+fn refused_datagram_is_dropped(rt: HostRuntime) -> Result<(), Fail> {
+    let mut server = made(rt.alloc(), 0o401)?;
+    let mut link = MemLink::new(rt.alloc(), 8)?;
+    let _ = link.send(0o401, b"CH");
+    assert_eq!(rt; serves(&rt, &mut server, &mut link), TurnEnd::Worked);
+    assert_eq!(rt; serves(&rt, &mut server, &mut link), TurnEnd::Idle);
+    Ok(())
+}
+
+#[test]
+fn failure_of_the_link_is_told(rt: HostRuntime) -> Result<(), Fail> {
+    let mut server = made(rt.alloc(), 0o401)?;
+    let mut link = Broken { failures: 0 };
+    assert_eq!(rt; serves(&rt, &mut server, &mut link), TurnEnd::LinkFault);
+    Ok(())
+}

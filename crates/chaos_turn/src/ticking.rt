@@ -1,0 +1,45 @@
+//! What is due in each slot.
+ghost use Rattle.std.specs.Prelude.{◌≡◌, ◌≤◌, [], length};
+ghost use Rattle.chaos_turn.specs.Phase.{DoesPhase, over_slots};
+ghost use Rattle.chaos_turn.specs.Slots.{tick_at};
+
+use crate::limits::TURN_ROOM;
+use crate::sending::send_all;
+use chaos_host::Host;
+use chaos_link::Link;
+use chaos_packet::Outbox;
+
+/// Ticks the connection in a slot, and says whether packets went out.
+#[tactic(auto, using(crate::proofs::Phase::put_into_empty))]
+fn tick_slot<L: Link>(
+    host: &mut Host,
+    place: usize,
+    link: &mut L,
+    now: u64,
+    out: &mut Outbox,
+) -> bool
+    requires window { host.old.config.send_cap ≤ TURN_ROOM }
+    requires room { TURN_ROOM ≤ out.old.cap }
+    requires empty { out.old.packets ≡ [] }
+    ensures { DoesPhase host.old (tick_at now place host.old) host.new (L.queue link.old) (L.queue link.new) out.old out.new result }
+{
+    let _ = host.tick(place, now, out);
+    send_all(link, out)
+}
+
+/// Ticks the connection in each slot, in rising order, and says whether packets went out.
+#[tactic(auto, using(crate::proofs::Queue::sends_both, crate::proofs::Queue::has_both))]
+pub fn tick_slots<L: Link>(host: &mut Host, link: &mut L, now: u64, out: &mut Outbox) -> bool
+    requires room { TURN_ROOM ≤ out.old.cap }
+    requires empty { out.old.packets ≡ [] }
+    ensures { DoesPhase host.old (over_slots (tick_at now) (length host.old.slots) host.old) host.new
+        (L.queue link.old) (L.queue link.new) out.old out.new result }
+{
+    // A configuration has a send window of at most 64 packets, so that the outbox has room for a tick.
+    let _window = host.config().send_cap();
+    let mut sent = false;
+    for place in 0..host.conns() {
+        sent = tick_slot(host, place, link, now, out) || sent;
+    }
+    sent
+}

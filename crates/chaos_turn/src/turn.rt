@@ -1,0 +1,93 @@
+//! One turn of a server.
+ghost use Rattle.std.specs.Prelude.{◌≡◌, ◌≤◌, ◌↔◌, [], length};
+ghost use Rattle.chaos_packet.specs.Count.{Rose};
+ghost use Rattle.chaos_file.specs.Store.{change};
+ghost use Rattle.chaos_turn.specs.Serve.{server_of};
+ghost use Rattle.chaos_turn.specs.Turn.{RunsTurn, TakesTurn};
+
+use crate::arriving::arrive_at_server;
+use crate::end::{TurnEnd, any_of, end_of};
+use crate::ending::end_slots;
+use crate::limits::TURN_ROOM;
+use crate::receiving::receive;
+use crate::sending::send_all;
+use crate::serving::serve_slots;
+use crate::sessions::Sessions;
+use chaos_file::Store;
+use chaos_host::Host;
+use chaos_link::{Link, LinkFault};
+use chaos_packet::{Outbox, Packet, PktNum};
+use std::alloc::Global;
+
+/// Makes a turn of what came. Says whether packets went out.
+fn take_turn<S: Store, L: Link>(
+    alloc: Global,
+    host: &mut Host,
+    sessions: &mut Sessions,
+    store: &mut S,
+    came: &Option<Result<Packet, LinkFault>>,
+    link: &mut L,
+    start: PktNum,
+    now: u64,
+    out: &mut Outbox,
+) -> bool
+    requires alike { length sessions.old ≡ length host.old.slots }
+    requires room { TURN_ROOM ≤ out.old.cap }
+    requires empty { out.old.packets ≡ [] }
+    ensures { TakesTurn (change S.contents S.may_give S.count) came.now start now (server_of host.old sessions.old) store.old store.new
+        host.new sessions.new (L.queue link.old) (L.queue link.new) out.old out.new result }
+{
+    let arrived = arrive_at_server(host, came, link, start, now, out);
+    let served = serve_slots(alloc, host, sessions, store, link, now, out);
+    let ended = end_slots(host, sessions, link, now, out);
+    any_of(arrived, served, ended)
+}
+
+/// One turn of a server of FILE: it sends what waits, receives at most one datagram, and does what is due at the moment
+/// `now`. What the host puts out is sent after each of its calls. In this order:
+///
+/// 1. The packet of the datagram is delivered. A datagram that carries none is dropped.
+/// 2. Where it was a new request for contact FILE, the request is accepted; what its connection writes is numbered from
+///    `start` on.
+/// 3. Each slot in use is served once, in rising order, by its own session. It is a new session where another connection
+///    was in the slot before.
+/// 4. Each connection whose EOF was served and whose peer read all is closed with an empty text.
+/// 5. Each ended connection is released.
+/// 6. Each slot is ticked.
+///
+/// `LinkFault` exactly where the link's count of failures rose in the turn, or stands at its greatest; a packet whose send
+/// failed is lost, and the turn goes on to its end. Else `Worked` where a datagram came or a packet was sent, else `Idle`.
+///
+/// The sessions are as many as the host's slots, and the outbox has room for [`TURN_ROOM`] packets at least. A turn walks
+/// over the slots four times, and an RFC once more. No memory is taken but by [`chaos_file::Session::apply`].
+pub fn run_turn<S: Store, L: Link>(
+    alloc: Global,
+    host: &mut Host,
+    sessions: &mut Sessions,
+    store: &mut S,
+    link: &mut L,
+    start: PktNum,
+    now: u64,
+    out: &mut Outbox,
+) -> TurnEnd
+    requires alike { length sessions.old ≡ length host.old.slots }
+    requires room { TURN_ROOM ≤ out.old.cap }
+    ensures fault { (result ≡ TurnEnd.LinkFault) ↔ Rose (L.count link.old) (L.count link.new) }
+    // The turn is the definition; over a queue its packets went out in order.
+    ensures turn { RunsTurn (change S.contents S.may_give S.count) start now (server_of host.old sessions.old) store.old store.new
+        host.new sessions.new (L.queue link.old) (L.queue link.new) out.old result }
+    // All was sent.
+    ensures outbox { out.new ≡ record { packets = []; cap = out.old.cap } }
+    // A next turn finds as many sessions as slots.
+    ensures alike { length sessions.new ≡ length host.new.slots }
+{
+    let before = link.failures();
+    let waited = send_all(link, out);
+    let came = receive(link);
+    let sent = take_turn(alloc, host, sessions, store, &came, link, start, now, out);
+    end_of(
+        before,
+        link.failures(),
+        any_of(waited, came.is_some(), sent),
+    )
+}
