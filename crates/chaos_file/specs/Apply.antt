@@ -49,7 +49,7 @@ Applies store m s t command reply =
 
 -- ---- over any store
 
--- the reply and the session where the store has done as asked: a handle that reads holds just the bytes that its `get` gave
+-- the reply and the session where the store has done as asked: a handle that reads holds bytes such as its `get` may give
 abbrev pub IsServed : StoreChange → Request → ParsedView → List ℕ → SessionView → SessionView → Type 0
 IsServed store (GetFile name path) p reply s t =
     (bytes : List ℕ) × store.may_give path bytes × (reply ≡ reply_to p (Ok (Opened (length bytes))))

@@ -59,7 +59,7 @@ MayFail store (RenameFile old new) e.FileExists = Unit {0}
 MayFail store (RemoveFile path) e.NoSuchFile = Unit {0}
 MayFail store request error = ⊥
 
--- the store has done as asked: a handle that reads holds just the bytes that its `get` gave
+-- the store has done as asked: a handle that reads holds bytes such as its `get` may give
 abbrev pub Serves : StoreChange → Request → Work → Type 0
 Serves store (GetFile name path) work =
     (bytes : List ℕ) × store.may_give path bytes × (work.reply ≡ work.front ++ answer_text (Opened (length bytes)))

@@ -58,7 +58,7 @@ impl Session {
     /// a store fault, where the store failed in this call; or it is want of memory, at a command that may take some.
     /// After an ERROR reply session and files are as they were. LOGIN, READ, CLOSE of a handle that reads, OPEN WRITE
     /// and every error that is found before the store is asked touch no store and take no memory, over any store; and a
-    /// handle that reads holds just the bytes that the store's `get` gave.
+    /// handle that reads holds bytes such as the store's `get` may give.
     ///
     /// A command looks at its own bytes, at the handles' names and at what it copies: a READ copies its bytes once, into
     /// the reply, and a WRITE once, behind the handle's bytes. OPEN READ and CLOSE cost what the store's call costs.
