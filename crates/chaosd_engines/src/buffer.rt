@@ -52,9 +52,12 @@ impl WriteBuffer {
         self.bytes.remaining_capacity()
     }
 
-    /// Takes all bytes where they fit, and else none.
+    /// Takes all bytes where they fit.
+    ///
+    /// # Errors
+    /// `NotWritten` where they don't; nothing is taken then.
     #[inline]
-    pub(crate) fn put(&mut self, bytes: &[u8]) -> Result<(), NotWritten>
+    pub fn put(&mut self, bytes: &[u8]) -> Result<(), NotWritten>
         ensures taken { OnOk result (self.new ≡ self.old ++ bytes.now) }
         ensures fits { IsOk result ↔ (length self.old + length bytes.now ≤ BUFFER_LEN) }
         ensures refused { OnErr result (self.new ≡ self.old) }

@@ -14,4 +14,16 @@ pub enum RunFault {
     /// 3: more than 1,048,576 bytes came.
     #[error("the input has more than 1048576 bytes")]
     InputTooLong,
+    /// 4: there was no memory.
+    #[error("no memory")]
+    NoMemory,
+    /// 5: this line of a script, counted from 1, is of no form that its language has.
+    #[error("line {0}: bad")]
+    BadScript(u64),
+    /// 6: a link failed.
+    #[error("sending or receiving failed")]
+    LinkFault,
+    /// 7: the clock could not be read.
+    #[error("the clock could not be read")]
+    ClockFault,
 }

@@ -8,13 +8,18 @@ mod buffer;
 mod fault;
 mod input;
 mod limits;
+mod lines;
 mod show;
 mod status;
+mod texts;
 #[cfg(test)]
 mod tests;
 
-pub use buffer::WriteBuffer;
+pub use buffer::{NotWritten, WriteBuffer};
 pub use fault::RunFault;
-pub use limits::{BUFFER_LEN, INPUT_LIMIT, LINE_LIMIT};
+pub use input::read_chunk;
+pub use limits::{BUFFER_LEN, CHUNK_LEN, INPUT_LIMIT, KEPT_LEN, LINE_LIMIT};
+pub use lines::{cut_line, keep, without_return};
 pub use show::{Tally, law_report, run_show};
-pub use status::{DONE, FAULT, REFUSED, show_status};
+pub use status::{BAD_SCRIPT, DONE, FAULT, NO_MEMORY, REFUSED, fault_status, show_status};
+pub use texts::{put_decimal, put_line, put_octal_three};

@@ -1,15 +1,15 @@
 //! The report of a line.
 ghost use Rattle.std.specs.Prelude.{◌≡◌, ◌≤◌, ◌++◌, length, OnOk, IfOk};
-ghost use Rattle.std.specs.Io.BufRead.{strip_last};
 ghost use Rattle.chaos_link.specs.Datagram.{datagram_read};
-ghost use Rattle.chaosd_engines.specs.Report.{line};
 ghost use Rattle.chaosd_engines.specs.Entry.{fault_text, entry_of, entry_of_datagram, entry_of_text, entry_text, is_refusal};
 ghost use Rattle.chaosd_engines.specs.Show.{gap, line_report};
 
 use crate::buffer::{NotWritten, WriteBuffer};
 use crate::limits::LINE_LIMIT;
+use crate::lines::without_return;
 use crate::show::hex::{MOST_BYTES, read_hex};
 use crate::show::report::put_packet;
+use crate::texts::put_line;
 use chaos_link::{LinkFault, from_datagram};
 use chaos_packet::PacketFault;
 
@@ -85,26 +85,6 @@ fn put_datagram(out: &mut WriteBuffer, bytes: &[u8]) -> Result<bool, NotWritten>
             put_line(out, fault_text(fault))?;
             Ok(true)
         }
-    }
-}
-
-/// Writes a text, and the end of its line.
-fn put_line(out: &mut WriteBuffer, text: &str) -> Result<(), NotWritten>
-    ensures { OnOk result (out.new ≡ out.old ++ line text.now) }
-{
-    out.put(text.as_bytes())?;
-    out.put(b"\n")
-}
-
-/// A line without a carriage return at its end.
-fn without_return(raw: &[u8]) -> &[u8]
-    ensures { result.now ≡ strip_last 13 raw.now }
-{
-    let len = raw.len();
-    if len > 0 && raw[len - 1] == b'\r' {
-        &raw[..len - 1]
-    } else {
-        raw
     }
 }
 

@@ -1,10 +1,10 @@
 //! The report of a packet.
 ghost use Rattle.std.specs.Prelude.{◌≡◌, ◌<◌, ◌++◌, OnOk};
-ghost use Rattle.std.specs.Fmt.{decimal};
 ghost use Rattle.chaos_packet.specs.Packet.{status_of};
-ghost use Rattle.chaosd_engines.specs.Report.{octal_three, octal_six, hex_digit, op_line, count_line, end_line, pair_line, data_line, body_text, packet_text};
+ghost use Rattle.chaosd_engines.specs.Report.{octal_six, hex_digit, op_line, count_line, end_line, pair_line, data_line, body_text, packet_text};
 
 use crate::buffer::{NotWritten, WriteBuffer};
+use crate::texts::{put_decimal, put_octal_three};
 use chaos_packet::{Opcode, Packet};
 
 /// Writes the lines of a packet. The cost is that of its data bytes; nothing is allocated.
@@ -104,18 +104,6 @@ fn put_data(out: &mut WriteBuffer, body: &[u8]) -> Result<(), NotWritten>
     out.put(b"\n")
 }
 
-/// A number: the digits before the last, and the last.
-#[tactic(auto, using(std::proofs::lemmas::Fmt::decimal_step, std::proofs::lemmas::Fmt::decimal_digit))]
-fn put_decimal(out: &mut WriteBuffer, n: usize) -> Result<(), NotWritten>
-    ensures { OnOk result (out.new ≡ out.old ++ decimal n) }
-{
-    if n < 10 {
-        return out.put(&[b'0' + n as u8]);
-    }
-    put_decimal(out, n / 10)?;
-    out.put(&[b'0' + (n % 10) as u8])
-}
-
 /// Six octal digits.
 fn put_octal_six(out: &mut WriteBuffer, n: u16) -> Result<(), NotWritten>
     ensures { OnOk result (out.new ≡ out.old ++ octal_six n) }
@@ -126,19 +114,6 @@ fn put_octal_six(out: &mut WriteBuffer, n: u16) -> Result<(), NotWritten>
         b'0' + (n / 512 % 8) as u8,
     ])?;
     put_octal_three(out, n % 512)
-}
-
-/// Three octal digits.
-fn put_octal_three(out: &mut WriteBuffer, n: u16) -> Result<(), NotWritten>
-    requires { n < 512 }
-    ensures { OnOk result (out.new ≡ out.old ++ octal_three n) }
-{
-    let digits = [n / 64, n / 8 % 8, n % 8];
-    out.put(&[
-        b'0' + digits[0] as u8,
-        b'0' + digits[1] as u8,
-        b'0' + digits[2] as u8,
-    ])
 }
 
 /// The upper-case hexadecimal digits.

@@ -1,12 +1,13 @@
 //! The lines of an input that comes in chunks.
-ghost use Rattle.std.specs.Prelude.{◌≡◌, ◌+◌, ◌≤◌, ◌++◌, ◌∷◌, [], ℕ, List, Option, All, MatchOption, length, take, false, OnOk, IfOk};
+ghost use Rattle.std.specs.Prelude.{◌≡◌, ◌+◌, ◌≤◌, ◌++◌, ◌∷◌, [], ℕ, List, Option, All, length, false, OnOk, IfOk};
 ghost use Rattle.std.specs.Io.KnownBytes.{Appends};
-ghost use Rattle.chaosd_engines.specs.Lines.{is_newline, IsCut};
+ghost use Rattle.chaosd_engines.specs.Lines.{is_newline};
 ghost use Rattle.chaosd_engines.specs.Buffer.{written_of};
 ghost use Rattle.chaosd_engines.specs.Shower.{Shows, ShowsAll};
 
 use crate::buffer::NotWritten;
 use crate::limits::{INPUT_LIMIT, KEPT_LEN};
+use crate::lines::{cut_line, keep};
 use crate::show::reporter::Reporter;
 use arrayvec::ArrayVec;
 use std::io::Write;
@@ -99,22 +100,4 @@ impl Shower {
         self.end_input(writer)?;
         self.reporter.hand_on(writer)
     }
-}
-
-/// The line that ends first, and what comes after its end; None where none ends.
-fn cut_line(bytes: &[u8]) -> Option<(&[u8], &[u8])>
-    ensures { MatchOption result (All (λ b. is_newline b ≡ false) bytes.now) (λ cut. IsCut bytes.now cut.0.now cut.1.now) }
-{
-    let at = bytes.iter().position(|byte| *byte == b'\n')?;
-    let (line, end) = bytes.split_at(at);
-    let (_, after) = end.split_at(1);
-    Some((line, after))
-}
-
-/// Keeps one more piece of a line, as much of it as there is room for.
-fn keep(line: &mut ArrayVec<u8, KEPT_LEN>, piece: &[u8])
-    ensures { line.new.items ≡ take KEPT_LEN (line.old.items ++ piece.now) }
-{
-    let count = piece.len().min(line.remaining_capacity());
-    let _fits = line.try_extend_from_slice(&piece[..count]);
 }

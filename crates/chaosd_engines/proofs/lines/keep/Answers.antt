@@ -1,5 +1,5 @@
 use Rattle.chaosd_engines.proofs.Steps.{keeps_front}
-use Rattle.chaosd_engines.proofs.show.shower.keep.Goals as goal
+use Rattle.chaosd_engines.proofs.lines.keep.Goals as goal
 
 pub returns : goal.returns
 returns c =

@@ -1,4 +1,4 @@
-use Rattle.chaosd_engines.proofs.show.report.+put_decimal.Given as goal
+use Rattle.chaosd_engines.proofs.texts.+put_decimal.Given as goal
 
 -- there are fewer digits before the last
 abbrev pub decreases-put_decimal : goal.decreases-put_decimal
