@@ -21,7 +21,8 @@ use std::time::Duration;
 /// on the link since the receive before it. Else it polls, so whoever sends in each turn never waits.
 ///
 /// The socket is to be bound and not connected. A datagram is lost, and no failure, where the system has no room to send
-/// it or tells that a socket is gone.
+/// it, can't reach its address or doesn't allow it, or tells that a socket is gone: a network may lose any, and one peer
+/// that can't be reached stops nobody's service of the others. What fails is the socket itself.
 #[derive(Drop)]
 pub struct UdpLink {
     socket: UdpSocket,
@@ -61,7 +62,8 @@ impl Link for UdpLink {
 
     ghost queue = { λ _. None };
 
-    /// Sends a datagram to the socket of the peer with this address.
+    /// Sends a datagram to the socket of the peer with this address. What the system can't or mustn't send there is lost,
+    /// and answered as sent.
     fn send(&mut self, to_address: u16, bytes: &[u8]) -> Sent
         requires { length bytes.now ≤ LINK_ROOM }
         ensures failed { result ≡ Sent.Failed → Rose self.old.failures self.new.failures }
@@ -132,20 +134,36 @@ fn send_to(socket: &UdpSocket, bytes: &[u8], peer: SocketAddrV4) -> io::Result<(
     }
 }
 
+/// Whether the system says of a send no more than that its datagram is lost: it had no room, it can't reach the address or
+/// doesn't allow it, or what [`is_nothing`] says. An address that a socket can't send to from where it is bound, as another
+/// network's from a socket of this machine alone, is an argument that isn't valid.
+fn is_loss(kind: ErrorKind) -> bool {
+    match kind {
+        ErrorKind::HostUnreachable
+        | ErrorKind::NetworkUnreachable
+        | ErrorKind::NetworkDown
+        | ErrorKind::AddrNotAvailable
+        | ErrorKind::PermissionDenied
+        | ErrorKind::InvalidInput
+        | ErrorKind::OutOfMemory => true,
+        _ => is_nothing(kind),
+    }
+}
+
 /// Receives a datagram, or nothing where none came in time.
 fn receive_from(socket: &UdpSocket, buffer: &mut [u8; LINK_ROOM]) -> Received
     ensures { IsWithin LINK_ROOM result }
 {
     match socket.recv_from(buffer) {
         Ok((count, _from)) => Received::Got(count),
-        Err(e) if is_loss(e.kind()) => Received::Nothing,
+        Err(e) if is_nothing(e.kind()) => Received::Nothing,
         Err(_) => Received::Failed,
     }
 }
 
-/// Whether the system says no more than that a datagram was lost, or that none came: it had no room or nothing yet, a
-/// signal came, or a socket that was sent to before is gone.
-fn is_loss(kind: ErrorKind) -> bool {
+/// Whether the system says no more than that nothing came or went: it had nothing or no room yet, a signal came, or a
+/// socket that was sent to before is gone.
+fn is_nothing(kind: ErrorKind) -> bool {
     match kind {
         ErrorKind::WouldBlock
         | ErrorKind::TimedOut

@@ -1,6 +1,7 @@
 //! Packets as datagrams.
 use crate::*;
 use chaos_packet::PacketFault;
+use std::process::Abort;
 use std::test::Fail;
 
 /// A status packet as a datagram.
@@ -38,20 +39,29 @@ fn free_half_that_is_not_zero_gives_the_same_packet(rt: HostRuntime) -> Result<(
     Ok(())
 }
 
-#[test]
-fn cut_datagram_is_refused_at_every_length(rt: HostRuntime) {
-    for len in 0..24 {
+/// Cuts a datagram at every length, which is refused, and leaves it whole, which is read.
+fn refused_where_cut(rt: &impl Abort, datagram: &[u8]) {
+    for len in 0..datagram.len() {
         let wanted = match len {
             0..4 => LinkFault::Short,
             4..20 => LinkFault::Packet(PacketFault::Short),
             _ => LinkFault::Packet(PacketFault::Truncated),
         };
         assert_eq!(rt;
-            from_datagram(&STATUS[..len]).err(),
+            from_datagram(&datagram[..len]).err(),
             Some(wanted),
             "{len} bytes"
         );
     }
+    assert!(rt; from_datagram(datagram).is_ok());
+}
+
+#[test]
+fn cut_datagram_is_refused_at_every_length(rt: HostRuntime) {
+    refused_where_cut(&rt, &STATUS);
+    let mut greatest = [0x5A; MAX_DATAGRAM];
+    greatest[..8].copy_from_slice(&[0x43, 0x48, 0x01, 0x00, 0x80, 0x00, 0x01, 0xE8]);
+    refused_where_cut(&rt, &greatest);
 }
 
 #[test]

@@ -94,7 +94,7 @@ fn datagram_over_the_room_is_no_packet(rt: HostRuntime) -> Result<(), Fail> {
     Ok(())
 }
 
-/// Sends to a peer that is gone, and receives nothing.
+/// Sends what nobody receives, and receives nothing.
 fn loses(rt: &impl Abort, link: &mut UdpLink) {
     for _ in 0..3 {
         assert_eq!(rt; link.send(PEER, &STATUS), Sent::Sent);
@@ -117,18 +117,29 @@ fn peer_that_is_gone_is_no_failure(rt: HostRuntime) -> Result<(), Fail> {
     Ok(())
 }
 
+/// An address that the system doesn't allow, all hosts at once; two of networks that a socket of this machine doesn't reach,
+/// with a route and without; and port 0, where no datagram goes.
+#[test]
+fn datagram_that_cannot_leave_is_lost(rt: HostRuntime) -> Result<(), Fail> {
+    let everybody = SocketAddrV4::new(Ipv4Addr::BROADCAST, 9);
+    let reserved = SocketAddrV4::new(Ipv4Addr::new(240, 0, 0, 1), 9);
+    let elsewhere = SocketAddrV4::new(Ipv4Addr::new(203, 0, 113, 1), 9);
+    for at in [everybody, reserved, elsewhere, any()] {
+        let (socket, _) = bound(&rt)?;
+        loses(&rt, &mut link_to(socket, at)?);
+    }
+    Ok(())
+}
+
+/// A listener of TCP has no datagram to send or to receive.
 #[test]
 fn failures_are_counted(rt: HostRuntime) -> Result<(), Fail> {
-    // No datagram goes to port 0.
-    let (socket, _) = bound(&rt)?;
-    let mut link = link_to(socket, any())?;
-    assert_eq!(rt; link.send(PEER, &STATUS), Sent::Failed);
-    assert_eq!(rt; link.failures(), 1);
-    // A listener of TCP has none to receive.
     let listener = TcpListener::bind(&rt, SocketAddr::V4(any()))?;
     let mut link = link_to(UdpSocket::from(OwnedFd::from(listener)), any())?;
-    assert_eq!(rt; link.receive(&mut [0; LINK_ROOM]), Received::Failed);
+    assert_eq!(rt; link.send(PEER, &STATUS), Sent::Failed);
     assert_eq!(rt; link.failures(), 1);
+    assert_eq!(rt; link.receive(&mut [0; LINK_ROOM]), Received::Failed);
+    assert_eq!(rt; link.failures(), 2);
     Ok(())
 }
 
