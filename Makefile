@@ -1,19 +1,22 @@
 # Proves and builds Poltxegun. Everything is done by the kit's `rt`; this file only names the usual wishes.
 #
 #   make                    proves the program and all that it stands on, and builds bin/chaosd
-#   make demo               shows the report of a status datagram
+#   make demo               runs a FILE session between two hosts in one process
 #   make check              the gate: claims, every proof from nothing, wrong bodies, tests, and the program as a user meets it
 #   make wrong-bodies       the wrong bodies that the gate leaves out, for before a release (about an hour)
 #   make bench              times everything beside the same in plain Rust (rustc and python3)
-#   make bench-show         `chaosd show` alone; likewise bench-codec, bench-links, bench-window, bench-host, bench-file
-#   make install PREFIX=DIR puts the program into DIR/bin
+#   make bench-show         `chaosd show` alone; likewise bench-lab and bench-loop of the program, and bench-codec, bench-links,
+#                           bench-window, bench-host and bench-file of the libraries
+#   make dialogues          a million packets between two hosts, by a seed: make dialogues SEED=7 PACKETS=1000000
+#   make install PREFIX=DIR puts the program into DIR/bin, and its manual page into DIR/share/man/man1
 
 PREFIX ?= /usr/local
 RT ?= rt
 SOURCES := crates.txt HANDLES $(shell find crates \( -name out -o -name must-fail -o -name wrong-bodies \) -prune -o -type f -print)
 BENCHES := codec links window host file
+PROGRAM_BENCHES := show lab loop
 
-.PHONY: all demo check wrong-bodies bench bench-show $(BENCHES:%=bench-%) install clean
+.PHONY: all demo check wrong-bodies dialogues bench $(PROGRAM_BENCHES:%=bench-%) $(BENCHES:%=bench-%) install clean
 
 all: bin/chaosd
 
@@ -24,7 +27,7 @@ bin/chaosd: $(SOURCES)
 	cp crates/chaosd/out/chaosd $@
 
 demo: bin/chaosd
-	@bin/chaosd show < examples/status.hex
+	@bin/chaosd loop < examples/hello.file
 
 check:
 	@RT=$(RT) tools/gate
@@ -32,10 +35,10 @@ check:
 wrong-bodies:
 	@RT=$(RT) tools/wrong-bodies
 
-bench: bench-show $(BENCHES:%=bench-%)
+bench: $(PROGRAM_BENCHES:%=bench-%) $(BENCHES:%=bench-%)
 
-bench-show: bin/chaosd
-	@python3 bench/show.py
+$(PROGRAM_BENCHES:%=bench-%): bench-%: bin/chaosd
+	@python3 bench/$*.py
 
 $(BENCHES:%=bench-%): bench-%:
 	@RT=$(RT) python3 bench/beside.py $*
@@ -43,6 +46,8 @@ $(BENCHES:%=bench-%): bench-%:
 install: bin/chaosd
 	install -d $(DESTDIR)$(PREFIX)/bin
 	install -m 755 bin/chaosd $(DESTDIR)$(PREFIX)/bin/chaosd
+	install -d $(DESTDIR)$(PREFIX)/share/man/man1
+	install -m 644 docs/chaosd.1 $(DESTDIR)$(PREFIX)/share/man/man1/chaosd.1
 
 clean:
 	rm -rf bin crates/*/out

@@ -1,11 +1,12 @@
 #!/usr/bin/env python3
-"""Refuses memory to proved test programs, each allocation in turn, until a run meets no refusal.
+"""Refuses memory to proved test programs and to the program itself, each allocation in turn, until a run meets no refusal.
 
-    rt ci && tests/memory.py
+    rt ci && tests/memory.py [PROGRAM]
 
-It needs what the gate leaves of the crates' tests, and cc. A test below goes on after a refusal and looks at what it left; where
-its own preparations are refused, it ends with that fault. At the end of each run all memory is given back. The last line is
-'N passed, M failed'.
+It needs what the gate leaves of the crates' tests, PROGRAM (crates/chaosd/out/chaosd by default), and cc. A test below goes on
+after a refusal and looks at what it left; where its own preparations are refused, it ends with that fault. The program ends with
+status 4 and says so, and what it wrote is a beginning of what it writes with ample memory; a FILE command that finds no memory
+is answered so, and its session goes on. At the end of each run all memory is given back. The last line is 'N passed, M failed'.
 """
 
 import os
@@ -23,6 +24,26 @@ TESTS = [
     ("chaos_file", "tests::memory::want_of_memory_changes_nothing", 8),
     ("chaos_file", "tests::memory::want_of_memory_changes_no_folder", 8),
 ]
+# a name, the words of the program, and what it is given
+DATA_BEFORE_THE_OPN = b"ends 2 2 2 2 65534\ndeliver 0\naccept 100\nwrite b 200 X\ndeliver 2\ndeliver 1\ndeliver 2\nread a\n"
+LOST_ITEM = (
+    b"ends 2 2 2 2 65534\ndeliver 0\naccept 100\ndeliver 1\nwrite a 200 A\nwrite a 200 B\ndeliver 4\nread b\ntick a 500\n"
+    b"deliver 5\ndeliver 6\nread b\nread b\n"
+)
+SESSION = (
+    b"T1  LOGIN LISPM\nT2 H1 OPEN WRITE^A.LISP\nT3 H1 WRITE^(A)\nT4 H1 CLOSE\nT5 H2 OPEN READ^A.LISP\nT6 H2 READ\n"
+    b"T7 H2 READ\nT8  RENAME^A.LISP^B.LISP\nT9  DELETE^B.LISP\n"
+)
+SERVE = ["serve", "--turns", "0", "401", "127.0.0.1:1", "no/such/folder", "402=127.0.0.1:2"]
+RUNS = [
+    ("lab, data before the OPN", ["lab"], DATA_BEFORE_THE_OPN),
+    ("lab, an item that is lost", ["lab"], LOST_ITEM),
+    ("loop", ["loop"], SESSION),
+    ("a line of serve, and a folder that isn't there", SERVE, b""),
+    ("a bad line", ["serve", "0", "127.0.0.1:1", "."], b""),
+    ("help", ["ask", "--help"], b""),
+]
+NO_MEMORY = 4
 PATIENCE = 60
 MOST = 1_000
 
@@ -63,16 +84,66 @@ def try_each(crate, test, least, library):
     return f"{test}: still refused at allocation {MOST}", False
 
 
+def run_program(program, words, given, library, place):
+    """Runs the program with one allocation refused (none at place 0), and gives the status and both outputs."""
+    env = {**os.environ, "LD_PRELOAD": str(library), "FAIL_AT": str(place)}
+    ended = subprocess.run([program, *words], input=given, env=env, capture_output=True, timeout=PATIENCE)
+    return ended.returncode, ended.stdout, ended.stderr
+
+
+def is_cut(out, whole):
+    """Whether an output ends early: with what comes of the event, the command or the text that found no memory."""
+    return whole.startswith(out.removesuffix(b"refused 4 NoMemory\n"))
+
+
+def is_answered(out, whole):
+    """Whether the first reply that differs says that there was no memory, and every command has one."""
+    pairs = list(zip(out.splitlines(), whole.splitlines()))
+    changed = [reply for reply, wanted in pairs if reply != wanted]
+    return len(out.splitlines()) == len(whole.splitlines()) and (
+        not changed or changed[0].endswith(b" ERROR MEM No memory.")
+    )
+
+
+def problem_of_run(ended, whole):
+    """What is wrong with a run in which memory was refused, or nothing. `whole` is what a run with ample memory gives."""
+    status, out, err = ended
+    if b"held 0\n" not in err:
+        return f"memory isn't given back: {err.strip()[-100:]!r}"
+    if status == NO_MEMORY and b"memory" in err and is_cut(out, whole[1]):
+        return None
+    if status == whole[0] and is_answered(out, whole[1]):
+        return None
+    return f"status {status}, output {out[-200:]!r}, error output {err[-200:]!r}"
+
+
+def try_program(program, name, words, given, library):
+    """Refuses each allocation of a run of the program in turn. Gives a line for a person, and whether all went well."""
+    whole = run_program(program, words, given, library, 0)
+    for place in range(1, MOST):
+        ended = run_program(program, words, given, library, place)
+        if b"refused\n" not in ended[2]:
+            return f"{name}: {place - 1} allocations refused in turn", place > 1
+        problem = problem_of_run(ended, whole)
+        if problem:
+            return f"{name}, allocation {place}: {problem}", False
+    return f"{name}: still refused at allocation {MOST}", False
+
+
 def main():
-    failed = 0
+    program = pathlib.Path(sys.argv[1] if len(sys.argv) > 1 else CRATES / "chaosd/out/chaosd").resolve()
+    lines = []
     with tempfile.TemporaryDirectory() as folder:
         library = pathlib.Path(folder) / "failmalloc.so"
         subprocess.run(["cc", "-shared", "-fPIC", "-O1", "-o", library, HERE / "failmalloc.c", "-ldl"], check=True)
         for test in TESTS:
-            line, well = try_each(*test, library)
-            print(f"{'ok' if well else 'not ok'}: {line}", flush=True)
-            failed += not well
-    print(f"{len(TESTS) - failed} passed, {failed} failed")
+            lines.append(try_each(*test, library))
+        for wanted in RUNS:
+            lines.append(try_program(program, *wanted, library))
+    for line, well in lines:
+        print(f"{'ok' if well else 'not ok'}: {line}", flush=True)
+    failed = sum(not well for _, well in lines)
+    print(f"{len(lines) - failed} passed, {failed} failed")
     sys.exit(1 if failed else 0)
 
 

@@ -1,33 +1,38 @@
-//! `chaosd`: a thin main over the command line (`chaosd_line`) and the engines
-//! (`chaosd_engines`). It hands the words to the one and standard input and output to the other,
-//! and ends with their status.
+//! `chaosd`: a thin main over the command line (`chaosd_line`) and the engines (`chaosd_engines`, `chaosd_lab`, `chaosd_file`).
+//! It hands the words to the one, opens the folder and the sockets that they name, hands these with standard input and output to
+//! the others, and ends with their status.
 #![tactic(auto)]
 
+mod network;
+mod runs;
 mod status;
+mod told;
 mod words;
 
+use crate::network::{run_ask_line, run_loop_line, run_serve_line};
+use crate::runs::{run_lab_line, run_show_line};
 use crate::status::refused_status;
 use crate::words::words_of;
-use chaosd_engines::{RunFault, run_show, show_status};
+use chaosd_engines::RunFault;
 use chaosd_line::{Line, LineFault, parse_line};
 use clap::Error;
-use std::io;
+use std::fs::Files;
+use std::net::Net;
 use std::process::ExitCode;
 use std::rt::Env;
+use std::time::Clock;
 
-/// Runs `show` from standard input to standard output, and tells a fault on standard error.
-fn show<R: Input + Print + Eprint>(rt: &R) -> u8 {
-    let end = run_show(&mut rt.reader(), &mut io::writer(rt));
-    if let Err(fault) = &end {
-        let _ = eprintln!(rt; "chaosd: {fault}");
-    }
-    show_status(&end)
-}
-
-/// Does what the line asks for.
-fn run_line<R: Input + Print + Eprint>(rt: &R, line: Line) -> u8 {
+/// Does what the line asks for. The answer is the exit status.
+fn run_line<R>(rt: &R, line: Line<'_>) -> u8
+where
+    R: AllocGlobal + Clock + Eprint + Files + Input + Net + Print,
+{
     match line {
-        Line::Show => show(rt),
+        Line::Show => run_show_line(rt),
+        Line::Lab => run_lab_line(rt),
+        Line::Loop => run_loop_line(rt),
+        Line::Ask(ask) => run_ask_line(rt, ask),
+        Line::Serve(serve) => run_serve_line(rt, serve),
     }
 }
 
@@ -42,7 +47,10 @@ fn refuse<R: Print + Eprint>(rt: &R, error: &Error) -> u8 {
 }
 
 /// Reads the command line and does what it asks for. The answer is the exit status.
-fn run<R: Env + AllocGlobal + Input + Print + Eprint>(rt: &R) -> u8 {
+fn run<R>(rt: &R) -> u8
+where
+    R: AllocGlobal + Clock + Env + Eprint + Files + Input + Net + Print,
+{
     let words = match words_of(rt) {
         Ok(words) => words,
         Err(fault) => {

@@ -1,0 +1,94 @@
+//! The runs over sockets: `loop`, `ask` and `serve`.
+use crate::told::{tell_end, tell_unopened};
+use chaos_file::DirStore;
+use chaos_link::{Peer, Peers, UdpLink};
+use chaosd_file::{LOOP_CLIENT, LOOP_SERVER, run_ask, run_loop, run_serve, script_status, serve_status};
+use chaosd_line::{Ask, Serve};
+use std::fs::Files;
+use std::io;
+use std::net::{Ipv4Addr, Net, SocketAddr, SocketAddrV4, UdpSocket};
+use std::time::Clock;
+
+/// A link over a socket at this UDP address, to these peers.
+fn link_at<R: Net>(rt: &R, socket: SocketAddrV4, peers: Peers) -> io::Result<UdpLink> {
+    let socket = UdpSocket::bind(rt, SocketAddr::V4(socket))?;
+    Ok(UdpLink::new(socket, peers))
+}
+
+/// A socket of this machine alone, at a port that the system chooses, and its UDP address.
+fn own_socket<R: Net>(rt: &R) -> io::Result<(UdpSocket, SocketAddrV4)> {
+    let any_port = SocketAddrV4::new(Ipv4Addr::LOCALHOST, 0);
+    let socket = UdpSocket::bind(rt, SocketAddr::V4(any_port))?;
+    match socket.local_addr()? {
+        SocketAddr::V4(at) => Ok((socket, at)),
+        SocketAddr::V6(_) => Err(io::Error::from(io::ErrorKind::AddrNotAvailable)),
+    }
+}
+
+/// A link over this socket, to one peer.
+fn link_to(socket: UdpSocket, peer: Peer) -> UdpLink {
+    let mut peers = Peers::new();
+    let _ = peers.add(peer);
+    UdpLink::new(socket, peers)
+}
+
+/// The links of the client and of the server in `loop`, each with the other as its one peer.
+fn own_links<R: Net>(rt: &R) -> io::Result<(UdpLink, UdpLink)> {
+    let (near, near_at) = own_socket(rt)?;
+    let (far, far_at) = own_socket(rt)?;
+    let to_server = Peer {
+        address: LOOP_SERVER,
+        socket: far_at,
+    };
+    let to_client = Peer {
+        address: LOOP_CLIENT,
+        socket: near_at,
+    };
+    Ok((link_to(near, to_server), link_to(far, to_client)))
+}
+
+/// The store of a folder.
+fn store_at<'a, R: AllocGlobal + Files>(rt: &'a R, folder: &str) -> io::Result<DirStore<&'a R>> {
+    let name = String::from_str(rt.alloc(), folder)?;
+    DirStore::open(rt, name)
+}
+
+/// Runs `loop` from standard input to standard output.
+pub(crate) fn run_loop_line<R: AllocGlobal + Eprint + Input + Net + Print>(rt: &R) -> u8 {
+    let (mut near, mut far) = match own_links(rt) {
+        Ok(links) => links,
+        Err(error) => return tell_unopened(rt, &"a socket of this machine", &error),
+    };
+    let end = run_loop(rt.alloc(), &mut rt.reader(), &mut io::writer(rt), &mut near, &mut far);
+    tell_end(rt, &end);
+    script_status(&end)
+}
+
+/// Runs `ask` from standard input to standard output.
+pub(crate) fn run_ask_line<R: AllocGlobal + Clock + Eprint + Input + Net + Print>(rt: &R, line: Ask) -> u8 {
+    let Ask { address, socket, to, peers } = line;
+    let mut link = match link_at(rt, socket, peers) {
+        Ok(link) => link,
+        Err(error) => return tell_unopened(rt, &socket, &error),
+    };
+    let end = run_ask(rt, rt.alloc(), &mut rt.reader(), &mut io::writer(rt), &mut link, address, to);
+    tell_end(rt, &end);
+    script_status(&end)
+}
+
+/// Runs `serve` on a folder, which is opened first, and then the socket.
+pub(crate) fn run_serve_line<R: AllocGlobal + Clock + Eprint + Files + Net>(rt: &R, line: Serve<'_>) -> u8 {
+    let Serve { turns, address, socket, folder, peers } = line;
+    let mut store = match store_at(rt, folder) {
+        Ok(store) => store,
+        Err(error) => return tell_unopened(rt, &folder, &error),
+    };
+    let mut link = match link_at(rt, socket, peers) {
+        Ok(link) => link,
+        Err(error) => return tell_unopened(rt, &socket, &error),
+    };
+    let _ = eprintln!(rt; "chaosd: host {address:06o} serves {folder} at {socket}");
+    let end = run_serve(rt, rt.alloc(), &mut link, &mut store, address, u64::from(turns));
+    tell_end(rt, &end);
+    serve_status(&end)
+}
