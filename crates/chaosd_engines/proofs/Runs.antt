@@ -26,7 +26,7 @@ went_well {Y = Y} (Err e) answer y fault ok p = absurd (no_fault Y y (sym ok ∙
 -- ---- what was handed on
 
 -- where nothing waits, all that was written is what the writer holds
-handed : (before held : Option (List ℕ)) (waiting text : List ℕ) → waiting ≡ [] → Appends before (written_of held waiting) text → Appends before held text
+pub handed : (before held : Option (List ℕ)) (waiting text : List ℕ) → waiting ≡ [] → Appends before (written_of held waiting) text → Appends before held text
 handed None held waiting text none p = tt
 handed (Some x) None waiting text none p = absurd p
 handed (Some x) (Some y) waiting text none p = sym (append-nil y) ∙ ap (λ l. y ++ l) (sym none) ∙ p

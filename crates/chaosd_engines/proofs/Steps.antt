@@ -24,12 +24,12 @@ use Rattle.chaosd_engines.specs.Shower.{Shows, ShowsAll}
 
 -- ---- a long line
 
-take_front : (n : ℕ) (xs ys : List ℕ) → take n (take n xs ++ ys) ≡ take n (xs ++ ys)
+pub take_front : (n : ℕ) (xs ys : List ℕ) → take n (take n xs ++ ys) ≡ take n (xs ++ ys)
 take_front zero xs ys = refl
 take_front (suc n) [] ys = refl
 take_front (suc n) (x ∷ xs) ys = ap (λ l. x ∷ l) (take_front n xs ys)
 
-length-strip_last : (b : ℕ) (xs : List ℕ) → length xs ≤ length (strip_last b xs) + 1
+pub length-strip_last : (b : ℕ) (xs : List ℕ) → length xs ≤ length (strip_last b xs) + 1
 length-strip_last b xs = grind (arith, common_steps)
 
 -- a line of as many bytes as are kept is too long, whatever its last byte
@@ -61,17 +61,17 @@ empty_text (b ∷ bs) none = absurd (grind (arith, nat_tests, none))
 
 -- ---- one line more
 
-all_but_last-push : (lines : List (List ℕ)) (piece : List ℕ) → all_but_last (lines ++ piece ∷ []) ≡ lines
+pub all_but_last-push : (lines : List (List ℕ)) (piece : List ℕ) → all_but_last (lines ++ piece ∷ []) ≡ lines
 all_but_last-push [] piece = refl
 all_but_last-push (first ∷ []) piece = refl
 all_but_last-push (first ∷ next ∷ others) piece = ap (λ l. first ∷ l) (all_but_last-push (next ∷ others) piece)
 
-drops_empty_last : (lines : List (List ℕ)) (piece : List ℕ) → eqb (length piece) 0 ≡ true → without_empty_last (lines ++ piece ∷ []) ≡ lines
+pub drops_empty_last : (lines : List (List ℕ)) (piece : List ℕ) → eqb (length piece) 0 ≡ true → without_empty_last (lines ++ piece ∷ []) ≡ lines
 drops_empty_last [] piece h = rw h refl
 drops_empty_last (first ∷ []) piece h = rw h refl
 drops_empty_last (first ∷ next ∷ others) piece h = ap (λ l. first ∷ l) (drops_empty_last (next ∷ others) piece h)
 
-keeps_last : (lines : List (List ℕ)) (piece : List ℕ) → eqb (length piece) 0 ≡ false → without_empty_last (lines ++ piece ∷ []) ≡ lines ++ piece ∷ []
+pub keeps_last : (lines : List (List ℕ)) (piece : List ℕ) → eqb (length piece) 0 ≡ false → without_empty_last (lines ++ piece ∷ []) ≡ lines ++ piece ∷ []
 keeps_last [] piece h = rw h refl
 keeps_last (first ∷ []) piece h = rw h refl
 keeps_last (first ∷ next ∷ others) piece h = ap (λ l. first ∷ l) (keeps_last (next ∷ others) piece h)
@@ -114,7 +114,7 @@ line_more before written written' tally tally' lines line raw same text count mo
 
 -- ---- the bytes that come
 
-nothing_waits : (before : Option (List ℕ)) (waiting : List ℕ) → waiting ≡ [] → Appends before (written_of before waiting) []
+pub nothing_waits : (before : Option (List ℕ)) (waiting : List ℕ) → waiting ≡ [] → Appends before (written_of before waiting) []
 nothing_waits None waiting none = tt
 nothing_waits (Some x) waiting none = ap (λ l. x ++ l) none
 

@@ -11,9 +11,9 @@ mod limits;
 mod lines;
 mod show;
 mod status;
-mod texts;
 #[cfg(test)]
 mod tests;
+mod texts;
 
 pub use buffer::{NotWritten, WriteBuffer};
 pub use fault::RunFault;

@@ -1,0 +1,7 @@
+pub mod Bytes
+pub mod Digits
+pub mod Copies
+pub mod Events
+pub mod Plays
+pub mod Inputs
+pub mod Ends

@@ -1,0 +1,11 @@
+pub mod Fields
+pub mod Numbers
+pub mod Texts
+pub mod Command
+pub mod Event
+pub mod Start
+pub mod Names
+pub mod Answers
+pub mod Status
+pub mod Play
+pub mod Player

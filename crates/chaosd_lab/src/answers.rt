@@ -1,0 +1,165 @@
+//! What came of an event, as text.
+ghost use Rattle.std.specs.Prelude.{◌≡◌, ◌++◌, drop, OnOk};
+ghost use Rattle.chaosd_lab.specs.Answers.{named_line, numbered_line, item_line, read_text, ticked_text, stepped_text, refusal_text, answer_text, op_name, numbers_text, copy_line, copies_text, stored_line};
+
+use crate::names::{conn_fault_name, delivered_name, side_name, state_name};
+use crate::texts::put_text;
+use chaos_conn::{ReadEnd, Ticked};
+use chaos_lab::{LabFault, Stamped, Stepped};
+use chaos_packet::{Item, Opcode};
+use chaosd_engines::{NotWritten, WriteBuffer, put_decimal, put_line, put_octal_three};
+
+/// A word or more, and a name.
+#[tactic(auto, unfolding(crate::specs::Answers::named_line))]
+fn put_named(out: &mut WriteBuffer, words: &str, name: &str) -> Result<(), NotWritten>
+    ensures { OnOk result (out.new ≡ out.old ++ named_line words.now name.now) }
+{
+    out.put(words.as_bytes())?;
+    out.put(b" ")?;
+    put_line(out, name)
+}
+
+/// A word or more, and a number.
+#[tactic(auto, unfolding(crate::specs::Answers::numbered_line))]
+fn put_numbered(out: &mut WriteBuffer, words: &str, n: usize) -> Result<(), NotWritten>
+    ensures { OnOk result (out.new ≡ out.old ++ numbered_line words.now n) }
+{
+    out.put(words.as_bytes())?;
+    out.put(b" ")?;
+    put_decimal(out, n)?;
+    out.put(b"\n")
+}
+
+/// An item that was read.
+#[tactic(auto, unfolding(crate::specs::Answers::item_line))]
+fn put_item(out: &mut WriteBuffer, item: &Item) -> Result<(), NotWritten>
+    ensures { OnOk result (out.new ≡ out.old ++ item_line item.now) }
+{
+    out.put(b"read ")?;
+    put_octal_three(out, u16::from(item.op.0))?;
+    if !item.bytes().is_empty() {
+        out.put(b" ")?;
+        put_text(out, item.bytes())?;
+    }
+    out.put(b"\n")
+}
+
+fn put_read(out: &mut WriteBuffer, read: &ReadEnd) -> Result<(), NotWritten>
+    ensures { OnOk result (out.new ≡ out.old ++ read_text read.now) }
+{
+    match read {
+        ReadEnd::Item(item) => put_item(out, item),
+        ReadEnd::Nothing => put_line(out, "read nothing"),
+        ReadEnd::Ended(state) => put_named(out, "read ended", state_name(*state)),
+    }
+}
+
+fn put_ticked(out: &mut WriteBuffer, ticked: Ticked) -> Result<(), NotWritten>
+    ensures { OnOk result (out.new ≡ out.old ++ ticked_text ticked) }
+{
+    match ticked {
+        Ticked::Quiet => put_line(out, "ticked quiet"),
+        Ticked::Down => put_line(out, "ticked down"),
+        Ticked::Resent(count) => put_numbered(out, "ticked resent", count),
+        Ticked::Probed => put_line(out, "ticked probed"),
+    }
+}
+
+/// What an event did that was taken.
+fn put_stepped(out: &mut WriteBuffer, stepped: &Stepped) -> Result<(), NotWritten>
+    ensures { OnOk result (out.new ≡ out.old ++ stepped_text stepped.now) }
+{
+    match stepped {
+        Stepped::Wrote(num) => put_numbered(out, "wrote", usize::from(num.0)),
+        Stepped::Read(read) => put_read(out, read),
+        Stepped::Ticked(ticked) => put_ticked(out, *ticked),
+        Stepped::Closed => put_line(out, "closed"),
+        Stepped::Accepted(num) => put_numbered(out, "accepted", usize::from(num.0)),
+        Stepped::Requested => put_line(out, "delivered Requested"),
+        Stepped::Delivered(delivered) => put_named(out, "delivered", delivered_name(delivered)),
+    }
+}
+
+/// Why an event was refused.
+fn put_refusal(out: &mut WriteBuffer, fault: LabFault) -> Result<(), NotWritten>
+    ensures { OnOk result (out.new ≡ out.old ++ refusal_text fault) }
+{
+    match fault {
+        LabFault::NoSuchCopy => put_line(out, "refused 1 NoSuchCopy"),
+        LabFault::Stale => put_line(out, "refused 2 Stale"),
+        LabFault::Refused(fault) => put_named(out, "refused 3", conn_fault_name(fault)),
+        LabFault::NoMemory => put_line(out, "refused 4 NoMemory"),
+    }
+}
+
+/// What came of an event.
+pub fn put_answer(
+    out: &mut WriteBuffer,
+    answer: &Result<Stepped, LabFault>,
+) -> Result<(), NotWritten>
+    ensures { OnOk result (out.new ≡ out.old ++ answer_text answer.now) }
+{
+    match answer {
+        Ok(stepped) => put_stepped(out, stepped),
+        Err(fault) => put_refusal(out, *fault),
+    }
+}
+
+/// The name of an opcode: none only for one that no copy has.
+fn op_name(op: Opcode) -> &'static str
+    ensures { result.now ≡ op_name op }
+{
+    match op.name() {
+        Some(name) => name,
+        None => "",
+    }
+}
+
+/// A copy, behind its number.
+#[tactic(auto, unfolding(crate::specs::Answers::copy_line))]
+fn put_copy(out: &mut WriteBuffer, place: usize, copy: &Stamped) -> Result<(), NotWritten>
+    ensures { OnOk result (out.new ≡ out.old ++ copy_line place copy.now) }
+{
+    out.put(b"copy ")?;
+    put_decimal(out, place)?;
+    out.put(b" ")?;
+    out.put(side_name(copy.side).as_bytes())?;
+    out.put(b" ")?;
+    out.put(op_name(copy.packet.op).as_bytes())?;
+    put_pair(out, copy.packet.num.0, copy.packet.ack.0)
+}
+
+/// The number and the acknowledgement of a copy, and the end of its line.
+fn put_pair(out: &mut WriteBuffer, num: u16, ack: u16) -> Result<(), NotWritten>
+    ensures { OnOk result (out.new ≡ out.old ++ numbers_text num ack) }
+{
+    out.put(b" num ")?;
+    put_decimal(out, usize::from(num))?;
+    out.put(b" ack ")?;
+    put_decimal(out, usize::from(ack))?;
+    out.put(b"\n")
+}
+
+/// The copies from this place on.
+pub fn put_copies(out: &mut WriteBuffer, copies: &[Stamped], from: usize) -> Result<(), NotWritten>
+    ensures { OnOk result (out.new ≡ out.old ++ copies_text from (drop from copies.now)) }
+{
+    let mut place = from;
+    while place < copies.len() {
+        put_copy(out, place, &copies[place])?;
+        place += 1;
+    }
+    Ok(())
+}
+
+/// How many packets both ends store.
+#[tactic(auto, unfolding(crate::specs::Answers::stored_line))]
+pub fn put_stored(out: &mut WriteBuffer, a: usize, b: usize) -> Result<(), NotWritten>
+    ensures { OnOk result (out.new ≡ out.old ++ stored_line a b) }
+{
+    out.put(b"stored a ")?;
+    put_decimal(out, a)?;
+    out.put(b" b ")?;
+    put_decimal(out, b)?;
+    out.put(b"\n")
+}

@@ -1,0 +1,89 @@
+//! The event that a line asks for.
+ghost use Rattle.std.specs.Prelude.{◌≡◌, option_map};
+ghost use Rattle.chaosd_lab.specs.Command.{happening_said};
+ghost use Rattle.chaosd_lab.specs.Event.{write_of, write_at, read_of, tick_of, close_of, accept_of, deliver_of, event_of};
+
+use crate::command::Command;
+use crate::fields::{cut, field_and_text};
+use crate::numbers::{number_of, opcode_of, side_of};
+use crate::texts::data_of;
+use chaos_lab::Side;
+use chaos_packet::PktNum;
+
+/// `S OOO TEXT`, or without the text and the space before it.
+fn write_of(rest: &[u8]) -> Option<Command>
+    ensures { option_map happening_said result ≡ write_of rest.now }
+{
+    let (side, rest) = cut(rest)?;
+    write_at(side_of(side)?, rest)
+}
+
+/// `OOO TEXT` of a write at a side.
+fn write_at(side: Side, rest: &[u8]) -> Option<Command>
+    ensures { option_map happening_said result ≡ write_at side rest.now }
+{
+    let (op, text) = field_and_text(rest);
+    Some(Command::Write(side, opcode_of(op)?, data_of(text)?))
+}
+
+/// `S`.
+fn read_of(rest: &[u8]) -> Option<Command>
+    ensures { option_map happening_said result ≡ read_of rest.now }
+{
+    Some(Command::Read(side_of(rest)?))
+}
+
+/// `S N`.
+fn tick_of(rest: &[u8]) -> Option<Command>
+    ensures { option_map happening_said result ≡ tick_of rest.now }
+{
+    let (side, now) = cut(rest)?;
+    Some(Command::Tick(side_of(side)?, number_of(u64::MAX, now)?))
+}
+
+/// `S TEXT`, or without the text and the space before it.
+fn close_of(rest: &[u8]) -> Option<Command>
+    ensures { option_map happening_said result ≡ close_of rest.now }
+{
+    let (side, text) = field_and_text(rest);
+    Some(Command::Close(side_of(side)?, data_of(text)?))
+}
+
+/// `N`, the number of B's first item.
+fn accept_of(rest: &[u8]) -> Option<Command>
+    ensures { option_map happening_said result ≡ accept_of rest.now }
+{
+    let start = number_of(u64::from(u16::MAX), rest)?;
+    Some(Command::Accept(PktNum(start as u16)))
+}
+
+/// `K`, the number of a copy.
+fn deliver_of(rest: &[u8]) -> Option<Command>
+    ensures { option_map happening_said result ≡ deliver_of rest.now }
+{
+    let copy = number_of(u64::MAX, rest)?;
+    Some(Command::Deliver(copy as usize))
+}
+
+/// The event that a line asks for, where it is of the form of one.
+#[tactic(auto, unfolding(crate::specs::Event::event_of))]
+pub fn event_of(line: &[u8]) -> Option<Command>
+    ensures { option_map happening_said result ≡ event_of line.now }
+{
+    let (word, rest) = cut(line)?;
+    if word == b"write".as_slice() {
+        write_of(rest)
+    } else if word == b"read".as_slice() {
+        read_of(rest)
+    } else if word == b"tick".as_slice() {
+        tick_of(rest)
+    } else if word == b"close".as_slice() {
+        close_of(rest)
+    } else if word == b"accept".as_slice() {
+        accept_of(rest)
+    } else if word == b"deliver".as_slice() {
+        deliver_of(rest)
+    } else {
+        None
+    }
+}
