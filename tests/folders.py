@@ -1,10 +1,10 @@
 #!/usr/bin/env python3
 """Shows what a folder's store makes of what std can't make, by a proved test of chaos_file that plays the rows it is given: entries
-that are no file, what may not be read or written, and a disk that takes no more.
+that are no file, what may not be read or written, a disk that takes no more, and one that fails.
 
     rt ci && tests/folders.py
 
-It needs what the gate leaves of that crate's tests. A test that waits is a failure. The last line is 'N passed, M failed'.
+It needs what the gate leaves of that crate's tests, and cc. A test that waits is a failure. The last line is 'N passed, M failed'.
 """
 
 import errno
@@ -76,7 +76,19 @@ T6  RENAME^A^B => T6  ERROR STF Store fault.
 
 UNREADABLE = LOGIN + "T2 R OPEN READ^A => T2 R ERROR STF Store fault.\n"
 
-# the disk takes 1,000 bytes of a file and no more: the old file stays, and so does what the handle holds
+# a file is replaced
+PUT = LOGIN + """\
+T2 W OPEN WRITE^A => T2 W OPEN 0
+T2 W WRITE^new => T2 W WRITE 3
+T2 W CLOSE => T2 W CLOSE 3
+"""
+FLUSHED_FILE = "flush file\nrename folder/.new folder/A\n"
+FLUSHED = FLUSHED_FILE + "flush folder\n"
+FAILED = PUT.replace("T2 W CLOSE 3", "T2 W ERROR STF Store fault.")
+AGAIN = "T3 W CLOSE => T3 W CLOSE 3\n"
+
+# the disk takes so many bytes of a file and no more: the old file stays, and so does what the handle holds
+FULL_AT = 1_000
 FULL = LOGIN + """\
 T2 W OPEN WRITE^A => T2 W OPEN 0
 T2 W WRITE^% => T2 W WRITE 448
@@ -121,37 +133,26 @@ def make_file(at):
     at.write_bytes(b"outside")
 
 
-def played(program, folder, rows, user=None, most=None):
-    """Plays the rows over the folder, as this user and with so many bytes a file at most. Says what went wrong, or nothing."""
+def run(program, folder, rows, **options):
+    """Plays the rows over the folder. Gives what it wrote to standard error, and what went wrong, or nothing."""
     (folder.parent / "rows").write_text(rows)
-    options = {"user": user, "group": user, "extra_groups": []} if user is not None else {}
-    if most is not None:
-        # a write past the limit is refused and no signal: python ignores that one, and so does what it starts
-        options["restore_signals"] = False
-        options["preexec_fn"] = lambda: resource.setrlimit(resource.RLIMIT_FSIZE, (most, most))
     try:
         ended = subprocess.run([program, TEST], cwd=folder.parent, capture_output=True, text=True, timeout=PATIENCE, **options)
     except subprocess.TimeoutExpired:
-        return f"no end within {PATIENCE} seconds"
+        return "", f"no end within {PATIENCE} seconds"
     if ended.returncode or "met" not in ended.stdout:
-        return (ended.stdout + ended.stderr).strip()[-300:] or f"status {ended.returncode}"
-    return None
+        return ended.stderr, (ended.stdout + ended.stderr).strip()[-300:] or f"status {ended.returncode}"
+    return ended.stderr, None
 
 
-def shown(at):
-    """What a name of a folder is, and not what a link leads to."""
-    info = at.lstat()
-    return stat.S_IFMT(info.st_mode), info.st_ino
-
-
-def entry_is_refused(program, folder, make, at_new):
+def entry_problem(program, folder, make, at_new):
     """An entry that is no file is refused and stays, and one at `.new` is taken away and leads nowhere."""
     entry = folder / "X"
     make(entry)
     before = shown(entry)
     if at_new:
         make(folder / ".new")
-    problem = played(program, folder, REFUSED + GOES_ON)
+    _, problem = run(program, folder, REFUSED + GOES_ON)
     if problem:
         return problem
     if shown(entry) != before:
@@ -159,7 +160,49 @@ def entry_is_refused(program, folder, make, at_new):
     for outside in folder.parent.glob("outside*"):
         if outside.is_file() and outside.read_bytes() != b"outside":
             return f"{outside.name} was written to"
-    return None if (folder / "B").read_bytes() == b"(B)" and (folder / "A").read_bytes() == b"(A)" else "other bytes are there"
+    kept = (folder / "A").read_bytes() == b"(A)" and (folder / "B").read_bytes() == b"(B)"
+    return None if kept else "other bytes are there"
+
+
+def leave_problem(program, folder, rows, of_folder, of_file):
+    """The rows over a folder and a file of these modes, as a user whom they bind. Nothing changes."""
+    options = {}
+    if os.geteuid() == 0:
+        options = {"user": NOBODY, "group": NOBODY, "extra_groups": []}
+        for path in (folder, folder / "A"):
+            os.chown(path, NOBODY, NOBODY)
+    (folder / "A").chmod(of_file)
+    folder.chmod(of_folder)
+    _, problem = run(program, folder, rows, **options)
+    folder.chmod(0o700)
+    (folder / "A").chmod(0o600)
+    kept = (folder / "A").read_bytes() == b"(A)" and not (folder / ".new").exists()
+    return problem or (None if kept else "the folder was changed")
+
+
+def full_problem(program, folder):
+    """The rows where a file may have so many bytes. No signal ends who writes more: python ignores it, and so does what it starts."""
+
+    def limit():
+        resource.setrlimit(resource.RLIMIT_FSIZE, (FULL_AT, FULL_AT))
+
+    return run(program, folder, FULL, restore_signals=False, preexec_fn=limit)[1]
+
+
+def flush_problem(program, folder, rows, fail_at, noted, left):
+    """The rows where one flush fails, none at 0: what was flushed and renamed, and what the file has then."""
+    library = folder.parent / "failflush.so"
+    subprocess.run(["cc", "-shared", "-fPIC", "-O1", "-o", library, HERE / "failflush.c", "-ldl"], check=True)
+    said, problem = run(program, folder, rows, env={**os.environ, "LD_PRELOAD": str(library), "FAIL_AT": str(fail_at)})
+    if problem:
+        return problem
+    return None if said == noted and (folder / "A").read_bytes() == left else f"it did: {said}"
+
+
+def shown(at):
+    """What a name of a folder is, and not what a link leads to."""
+    info = at.lstat()
+    return stat.S_IFMT(info.st_mode), info.st_ino
 
 
 def entries():
@@ -174,47 +217,27 @@ def entries():
     yield "a folder", pathlib.Path.mkdir, False
 
 
-def with_modes(rows, of_folder, of_file):
-    """The rows over a folder and a file of these modes, as a user whom they bind."""
-
-    def check(program, folder):
-        user = NOBODY if os.geteuid() == 0 else None
-        if user is not None:
-            for path in (folder, folder / "A"):
-                os.chown(path, user, user)
-        (folder / "A").chmod(of_file)
-        folder.chmod(of_folder)
-        problem = played(program, folder, rows, user=user)
-        folder.chmod(0o700)
-        left = (folder / "A").read_bytes() if of_file else b"(A)"
-        return problem or (None if left == b"(A)" and not (folder / ".new").exists() else "the folder was changed")
-
-    return check
-
-
 def checks():
     """What is shown: a sentence, and its check."""
     for name, make, at_new in entries():
         beside = ", and one at `.new` is taken away" if at_new else ""
-        yield (
-            f"{name} at a path is a store fault to each command, and stays{beside}",
-            lambda program, folder, make=make, at_new=at_new: entry_is_refused(program, folder, make, at_new),
-        )
-    yield "a folder without leave to write is a store fault, and its files can be read", with_modes(READ_ONLY, 0o500, 0o600)
-    yield "a folder that can't be flushed is a store fault before a path changes", with_modes(NO_PUT, 0o300, 0o600)
-    yield "a folder without any leave is a store fault", with_modes(CLOSED, 0o000, 0o600)
-    yield "a file without leave to read is a store fault", with_modes(UNREADABLE, 0o700, 0o000)
-    yield (
-        "a disk that takes no more is a store fault, and leaves the file and the handle",
-        lambda program, folder: played(program, folder, FULL, most=1_000),
-    )
+        yield f"{name} at a path is a store fault to each command, and stays{beside}", entry_problem, make, at_new
+    yield "a folder without leave to write is a store fault, and its files can be read", leave_problem, READ_ONLY, 0o500, 0o600
+    yield "a folder that may not be flushed is a store fault before a path changes", leave_problem, NO_PUT, 0o300, 0o600
+    yield "a folder without any leave is a store fault", leave_problem, CLOSED, 0o000, 0o600
+    yield "a file without leave to read is a store fault", leave_problem, UNREADABLE, 0o700, 0o000
+    yield "a disk that takes no more is a store fault, and leaves the file and the handle", full_problem
+    yield "a file is flushed before it has its path, and then the folder is", flush_problem, PUT, 0, FLUSHED, b"new"
+    yield "a file that can't be flushed is a store fault, and can be put again", flush_problem, FAILED + AGAIN, 1, FLUSHED, b"new"
+    yield "and until then its path is as it was", flush_problem, FAILED, 1, "", b"(A)"
+    yield "a folder that can't be flushed is a store fault of a file that was put", flush_problem, FAILED, 2, FLUSHED_FILE, b"new"
 
 
 def main():
     if not PROGRAM.is_file():
         sys.exit(f"{PROGRAM} isn't there: run the gate first")
     failed = passed = 0
-    for sentence, check in checks():
+    for sentence, problem_of, *given in checks():
         with tempfile.TemporaryDirectory() as room:
             # another user has to reach it
             os.chmod(room, 0o755)
@@ -223,7 +246,7 @@ def main():
             folder.mkdir()
             (folder / "A").write_bytes(b"(A)")
             try:
-                problem = check(program, folder)
+                problem = problem_of(program, folder, *given)
             except OSError as refused:
                 if refused.errno not in (errno.EPERM, errno.EACCES, errno.EINVAL):
                     raise
