@@ -1,6 +1,7 @@
 -- A link with a fuse, by which one call fails.
-use Rattle.std.specs.Prelude.{ℕ, ◌+◌, ◌-◌, min}
+use Rattle.std.specs.Prelude.{ℕ, ◌+◌, ◌-◌, ◌==◌, min, if◌then◌else◌, Option, None}
 use Rattle.chaos_packet.specs.Count.{max_count, with_failure}
+use Rattle.chaos_link.specs.Link.{QueueView}
 
 -- the link behind the fuse, how many calls are left up to and with the one that fails (0 where none fails any more), and how
 -- many failed by the fuse
@@ -17,6 +18,10 @@ module _ {L : Type 0} where
   -- the failures of the link and of the fuse
   abbrev pub count_with : (L → ℕ) → FuseView L → ℕ
   count_with count fuse = min (count fuse.inner + fuse.own_failures) max_count
+
+  -- the queue that the link is, where no call fails by the fuse any more
+  abbrev pub queue_with : (L → Option QueueView) → FuseView L → Option QueueView
+  queue_with queue fuse = if fuse.calls_left == 0 then queue fuse.inner else None
 
   -- after the call that fails: the link isn't reached
   abbrev pub after_blow : FuseView L → FuseView L

@@ -1,8 +1,8 @@
 //! A link that fails once.
-ghost use Rattle.std.specs.Prelude.{◌≡◌, ◌≢◌, ◌==◌, ◌≤◌, None, IfSome, length, if◌then◌else◌};
+ghost use Rattle.std.specs.Prelude.{◌≡◌, ◌≢◌, ◌==◌, ◌≤◌, IfSome, length, if◌then◌else◌};
 ghost use Rattle.chaos_packet.specs.Count.{Rose};
 ghost use Rattle.chaos_link.specs.Link.{SendsInto, ReceivesFrom, IsWithin};
-ghost use Rattle.chaos_link.specs.Fuse.{new_fuse, count_with, after_blow, after_pass};
+ghost use Rattle.chaos_link.specs.Fuse.{new_fuse, count_with, queue_with, after_blow, after_pass};
 
 use crate::limits::LINK_ROOM;
 use crate::link::{Link, Received, Sent};
@@ -12,7 +12,8 @@ use std::marker::Model;
 /// and every other call is the link's. It shows what a caller does where its link fails at one place.
 ///
 /// Sends and receives are counted, from 1 on and up to the one that fails. A contract sees the link, how many calls are left
-/// up to that one, and how many failed by the fuse. A fuse is no queue, whatever its link is. The fuse takes no memory.
+/// up to that one, and how many failed by the fuse. Once none fails any more, a fuse over a queue is that queue. The fuse
+/// takes no memory.
 #[derive(Drop)]
 pub struct FuseLink<L> {
     inner: L,
@@ -59,12 +60,12 @@ impl<L> FuseLink<L> {
 impl<L: Link> Link for FuseLink<L> {
     ghost count = { count_with L.count };
 
-    ghost queue = { λ _. None };
+    ghost queue = { queue_with L.queue };
 
     fn send(&mut self, to_address: u16, bytes: &[u8]) -> Sent
         requires { length bytes.now ≤ LINK_ROOM }
         ensures failed { result ≡ Sent.Failed → Rose (count_with L.count self.old) (count_with L.count self.new) }
-        ensures queued { Unit {0} }
+        ensures queued { IfSome (queue_with L.queue self.old) (SendsInto bytes.now result (queue_with L.queue self.new)) }
         // The call that fails doesn't reach the link, and is counted.
         ensures blown { self.old.calls_left ≡ 1 → (result ≡ Sent.Failed) × (self.new ≡ after_blow self.old) }
         // Every other call is the link's: it fails only where the link's count rose, and over a queue is the queue's.
@@ -81,7 +82,7 @@ impl<L: Link> Link for FuseLink<L> {
     fn receive(&mut self, buffer: &mut [u8; LINK_ROOM]) -> Received
         ensures failed { result ≡ Received.Failed → Rose (count_with L.count self.old) (count_with L.count self.new) }
         ensures within { IsWithin LINK_ROOM result }
-        ensures queued { Unit {0} }
+        ensures queued { IfSome (queue_with L.queue self.old) (ReceivesFrom buffer.old buffer.new result (queue_with L.queue self.new)) }
         // As of a send; the buffer stays as it was.
         ensures blown { self.old.calls_left ≡ 1 → (result ≡ Received.Failed) × (self.new ≡ after_blow self.old) × (buffer.new ≡ buffer.old) }
         ensures passed { self.old.calls_left ≢ 1 → self.new ≡ after_pass self.new.inner self.old }
