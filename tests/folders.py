@@ -1,42 +1,264 @@
 #!/usr/bin/env python3
-"""Shows what a folder's store makes of a fifo, by a proved test of chaos_file: std can't make one.
+"""Shows what a folder's store makes of what std can't make, by a proved test of chaos_file that plays the rows it is given: entries
+that are no file, what may not be read or written, a disk that takes no more, and one that fails.
 
     rt ci && tests/folders.py
 
-It needs what the gate leaves of that crate's tests. A test that waits is a failure. The last line is 'N passed, M failed'.
+It needs what the gate leaves of that crate's tests, and cc. A test that waits is a failure. The last line is 'N passed, M failed'.
 """
 
+import errno
 import os
 import pathlib
+import resource
+import shutil
+import socket
+import stat
 import subprocess
 import sys
 import tempfile
 
 HERE = pathlib.Path(__file__).resolve().parent
 PROGRAM = HERE.parent / "crates/chaos_file/out/chaos_file_tests"
-TEST = "tests::folders::a_fifo_is_never_opened"
+TEST = "tests::folders::dialogue_over_a_folder_made_outside"
 PATIENCE = 10
+NOBODY = 65534
+NULL = os.makedev(1, 3)
+
+# Rows are as in the crate's tests: `^` is the byte that ends a line, `%` 448 bytes.
+LOGIN = "T1  LOGIN X => T1  LOGIN X\n"
+
+# X is no file: no command opens, replaces, moves or takes it away
+REFUSED = LOGIN + """\
+T2 R OPEN READ^X => T2 R ERROR STF Store fault.
+T3 W OPEN WRITE^X => T3 W OPEN 0
+T3 W WRITE^(X) => T3 W WRITE 3
+T3 W CLOSE => T3 W ERROR STF Store fault.
+T4  DELETE^X => T4  ERROR STF Store fault.
+T5  RENAME^X^Y => T5  ERROR STF Store fault.
+T6  RENAME^A^X => T6  ERROR STF Store fault.
+T7 R OPEN READ^A => T7 R OPEN 3
+T7 R READ => T7 R READ^(A)
+"""
+
+# and the service goes on
+GOES_ON = """\
+T8 V OPEN WRITE^B => T8 V OPEN 0
+T8 V WRITE^(B) => T8 V WRITE 3
+T8 V CLOSE => T8 V CLOSE 3
+T9 S OPEN READ^B => T9 S OPEN 3
+T9 S READ => T9 S READ^(B)
+"""
+
+# a folder that takes no file, of which A can be read; and one in which nothing may be changed
+NO_PUT = LOGIN + """\
+T2 W OPEN WRITE^A => T2 W OPEN 0
+T2 W WRITE^new => T2 W WRITE 3
+T2 W CLOSE => T2 W ERROR STF Store fault.
+T3 R OPEN READ^A => T3 R OPEN 3
+T3 R READ => T3 R READ^(A)
+"""
+READ_ONLY = NO_PUT + """\
+T4  DELETE^A => T4  ERROR STF Store fault.
+T5  RENAME^A^B => T5  ERROR STF Store fault.
+T6 S OPEN READ^NONE => T6 S ERROR FNF No such file.
+"""
+
+# a folder of which nothing is known
+CLOSED = LOGIN + """\
+T2 R OPEN READ^A => T2 R ERROR STF Store fault.
+T3 R OPEN READ^NONE => T3 R ERROR STF Store fault.
+T4 W OPEN WRITE^B => T4 W OPEN 0
+T4 W CLOSE => T4 W ERROR STF Store fault.
+T5  DELETE^A => T5  ERROR STF Store fault.
+T6  RENAME^A^B => T6  ERROR STF Store fault.
+"""
+
+UNREADABLE = LOGIN + "T2 R OPEN READ^A => T2 R ERROR STF Store fault.\n"
+
+# a file is replaced
+PUT = LOGIN + """\
+T2 W OPEN WRITE^A => T2 W OPEN 0
+T2 W WRITE^new => T2 W WRITE 3
+T2 W CLOSE => T2 W CLOSE 3
+"""
+FLUSHED_FILE = "flush file\nrename folder/.new folder/A\n"
+FLUSHED = FLUSHED_FILE + "flush folder\n"
+FAILED = PUT.replace("T2 W CLOSE 3", "T2 W ERROR STF Store fault.")
+AGAIN = "T3 W CLOSE => T3 W CLOSE 3\n"
+
+# the disk takes so many bytes of a file and no more: the old file stays, and so does what the handle holds
+FULL_AT = 1_000
+FULL = LOGIN + """\
+T2 W OPEN WRITE^A => T2 W OPEN 0
+T2 W WRITE^% => T2 W WRITE 448
+T2 W WRITE^% => T2 W WRITE 896
+T2 W WRITE^% => T2 W WRITE 1344
+T2 W CLOSE => T2 W ERROR STF Store fault.
+T3 R OPEN READ^A => T3 R OPEN 3
+T3 R READ => T3 R READ^(A)
+T4 W WRITE^ => T4 W WRITE 1344
+""" + GOES_ON
+
+
+def make_fifo(at):
+    os.mkfifo(at)
+
+
+def make_socket(at):
+    listener = socket.socket(socket.AF_UNIX)
+    here = os.getcwd()
+    os.chdir(at.parent)  # a socket's path is short
+    listener.bind(at.name)
+    os.chdir(here)
+    listener.close()
+
+
+def make_device(at):
+    os.mknod(at, stat.S_IFCHR | 0o666, NULL)
+
+
+def link_to(make):
+    """A link to what is made outside of the folder."""
+
+    def make_link(at):
+        outside = at.parent.parent / f"outside{at.name}"
+        make(outside)
+        at.symlink_to(outside)
+
+    return make_link
+
+
+def make_file(at):
+    at.write_bytes(b"outside")
+
+
+def run(program, folder, rows, **options):
+    """Plays the rows over the folder. Gives what it wrote to standard error, and what went wrong, or nothing."""
+    (folder.parent / "rows").write_text(rows)
+    try:
+        ended = subprocess.run([program, TEST], cwd=folder.parent, capture_output=True, text=True, timeout=PATIENCE, **options)
+    except subprocess.TimeoutExpired:
+        return "", f"no end within {PATIENCE} seconds"
+    if ended.returncode or "met" not in ended.stdout:
+        return ended.stderr, (ended.stdout + ended.stderr).strip()[-300:] or f"status {ended.returncode}"
+    return ended.stderr, None
+
+
+def entry_problem(program, folder, make, at_new):
+    """An entry that is no file is refused and stays, and one at `.new` is taken away and leads nowhere."""
+    entry = folder / "X"
+    make(entry)
+    before = shown(entry)
+    if at_new:
+        make(folder / ".new")
+    _, problem = run(program, folder, REFUSED + GOES_ON)
+    if problem:
+        return problem
+    if shown(entry) != before:
+        return "the entry isn't what it was"
+    for outside in folder.parent.glob("outside*"):
+        if outside.is_file() and outside.read_bytes() != b"outside":
+            return f"{outside.name} was written to"
+    kept = (folder / "A").read_bytes() == b"(A)" and (folder / "B").read_bytes() == b"(B)"
+    return None if kept else "other bytes are there"
+
+
+def leave_problem(program, folder, rows, of_folder, of_file):
+    """The rows over a folder and a file of these modes, as a user whom they bind. Nothing changes."""
+    options = {}
+    if os.geteuid() == 0:
+        options = {"user": NOBODY, "group": NOBODY, "extra_groups": []}
+        for path in (folder, folder / "A"):
+            os.chown(path, NOBODY, NOBODY)
+    (folder / "A").chmod(of_file)
+    folder.chmod(of_folder)
+    _, problem = run(program, folder, rows, **options)
+    folder.chmod(0o700)
+    (folder / "A").chmod(0o600)
+    kept = (folder / "A").read_bytes() == b"(A)" and not (folder / ".new").exists()
+    return problem or (None if kept else "the folder was changed")
+
+
+def full_problem(program, folder):
+    """The rows where a file may have so many bytes. No signal ends who writes more: python ignores it, and so does what it starts."""
+
+    def limit():
+        resource.setrlimit(resource.RLIMIT_FSIZE, (FULL_AT, FULL_AT))
+
+    return run(program, folder, FULL, restore_signals=False, preexec_fn=limit)[1]
+
+
+def flush_problem(program, folder, rows, fail_at, noted, left):
+    """The rows where one flush fails, none at 0: what was flushed and renamed, and what the file has then."""
+    library = folder.parent / "failflush.so"
+    subprocess.run(["cc", "-shared", "-fPIC", "-O1", "-o", library, HERE / "failflush.c", "-ldl"], check=True)
+    said, problem = run(program, folder, rows, env={**os.environ, "LD_PRELOAD": str(library), "FAIL_AT": str(fail_at)})
+    if problem:
+        return problem
+    return None if said == noted and (folder / "A").read_bytes() == left else f"it did: {said}"
+
+
+def shown(at):
+    """What a name of a folder is, and not what a link leads to."""
+    info = at.lstat()
+    return stat.S_IFMT(info.st_mode), info.st_ino
+
+
+def entries():
+    """What may stand at a path and is no file: a name, how it is made, and whether it may stand at `.new` too."""
+    makes = [("a fifo", make_fifo), ("a socket", make_socket), ("a device", make_device)]
+    for name, make in makes:
+        yield name, make, True
+        yield f"a link to {name}", link_to(make), True
+    yield "a link to a file", link_to(make_file), True
+    yield "a link to a folder", link_to(pathlib.Path.mkdir), True
+    yield "a link to nothing", lambda at: at.symlink_to("nothing"), True
+    yield "a folder", pathlib.Path.mkdir, False
+
+
+def checks():
+    """What is shown: a sentence, and its check."""
+    for name, make, at_new in entries():
+        beside = ", and one at `.new` is taken away" if at_new else ""
+        yield f"{name} at a path is a store fault to each command, and stays{beside}", entry_problem, make, at_new
+    yield "a folder without leave to write is a store fault, and its files can be read", leave_problem, READ_ONLY, 0o500, 0o600
+    yield "a folder that may not be flushed is a store fault before a path changes", leave_problem, NO_PUT, 0o300, 0o600
+    yield "a folder without any leave is a store fault", leave_problem, CLOSED, 0o000, 0o600
+    yield "a file without leave to read is a store fault", leave_problem, UNREADABLE, 0o700, 0o000
+    yield "a disk that takes no more is a store fault, and leaves the file and the handle", full_problem
+    yield "a file is flushed before it has its path, and then the folder is", flush_problem, PUT, 0, FLUSHED, b"new"
+    yield "a file that can't be flushed is a store fault, and can be put again", flush_problem, FAILED + AGAIN, 1, FLUSHED, b"new"
+    yield "and until then its path is as it was", flush_problem, FAILED, 1, "", b"(A)"
+    yield "a folder that can't be flushed is a store fault of a file that was put", flush_problem, FAILED, 2, FLUSHED_FILE, b"new"
 
 
 def main():
     if not PROGRAM.is_file():
         sys.exit(f"{PROGRAM} isn't there: run the gate first")
-    with tempfile.TemporaryDirectory() as folder:
-        fifos = pathlib.Path(folder) / "fifos"
-        fifos.mkdir()
-        for name in ("FIFO", ".new"):
-            os.mkfifo(fifos / name)
-        try:
-            ended = subprocess.run([PROGRAM, TEST], cwd=folder, capture_output=True, text=True, timeout=PATIENCE)
-            said = ended.stdout + ended.stderr
-            well = ended.returncode == 0 and "met" in ended.stdout and (fifos / "A").read_bytes() == b"(A)"
-        except subprocess.TimeoutExpired:
-            said, well = f"no end within {PATIENCE} seconds", False
-    print(f"{'ok' if well else 'not ok'}: a fifo at a path is a store fault, and one at `.new` is taken away")
-    if not well:
-        print(f"    {said.strip()[-300:]}")
-    print(f"{int(well)} passed, {int(not well)} failed")
-    sys.exit(0 if well else 1)
+    failed = passed = 0
+    for sentence, problem_of, *given in checks():
+        with tempfile.TemporaryDirectory() as room:
+            # another user has to reach it
+            os.chmod(room, 0o755)
+            program = shutil.copy(PROGRAM, room)
+            folder = pathlib.Path(room) / "folder"
+            folder.mkdir()
+            (folder / "A").write_bytes(b"(A)")
+            try:
+                problem = problem_of(program, folder, *given)
+            except OSError as refused:
+                if refused.errno not in (errno.EPERM, errno.EACCES, errno.EINVAL):
+                    raise
+                print(f"not tried, since this user may not make it: {sentence}")
+                continue
+        print(f"{'not ok' if problem else 'ok'}: {sentence}")
+        if problem:
+            print(f"    {problem}")
+        failed += bool(problem)
+        passed += not problem
+    print(f"{passed} passed, {failed} failed")
+    sys.exit(1 if failed else 0)
 
 
 if __name__ == "__main__":

@@ -20,13 +20,17 @@ use std::rt::Files;
 ///
 /// What the system keeps in the folder no clause can say, so this store claims no contents. It answers `Failed` for what
 /// the system refuses, but for a file that isn't there and for memory; for a path that isn't legal; and where a path's
-/// name in the folder is no file, as a folder, a link, a fifo or a device: a link isn't followed, and no open waits. So
-/// no path leads out of the folder.
+/// name in the folder is no file, as a folder, a link, a fifo, a socket or a device: none is opened, followed, moved,
+/// replaced or taken away. So no path leads out of the folder, and no call waits for anybody but the disk.
 ///
-/// A `put` writes the file `.new` of the folder, flushes it to the disk and then renames it over the path, so that a path
-/// has its old content or its new one whole, and one that was answered `Done` survives a loss of power. What was left at
-/// `.new` is taken away first, and never followed. `remove` and `rename` move names alone, of links and fifos too, and
-/// flush nothing. Each call takes memory for the joined paths, and `get` for the file's bytes.
+/// A `put` writes the file `.new` of the folder, flushes it to the disk, renames it over the path and flushes the folder,
+/// so that a path has its old content or its new one whole, and one that was answered `Done` survives a loss of power. What
+/// was left at `.new` is taken away first, and never followed. A `put` that failed left its path as it was, unless it was the
+/// folder's flush that failed.
+///
+/// A `put` waits for two flushes, which is what it costs: some milliseconds each, as the disk is. The other calls flush
+/// nothing, so that a loss of power may undo a `remove` or a `rename`. Each call takes memory for the joined paths, and `get`
+/// for the file's bytes.
 #[derive(Drop)]
 pub struct DirStore<R> {
     folder: Folder<R>,

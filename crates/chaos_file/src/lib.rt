@@ -11,6 +11,7 @@ mod dir_store;
 mod error;
 mod file_bytes;
 mod form;
+mod fuse_store;
 mod handle;
 mod handles;
 mod laws;
@@ -28,6 +29,7 @@ pub use command::{Command, Parsed, Word};
 pub use dir_store::DirStore;
 pub use error::FileError;
 pub use file_bytes::FileBytes;
+pub use fuse_store::FuseStore;
 pub use laws::{law_honest, law_replies, law_spelling};
 pub use limits::{
     MAX_CHUNK, MAX_FILE, MAX_HANDLE, MAX_HANDLES, MAX_NAME, MAX_PATH, MAX_REPLY, MAX_TID, NL,

@@ -4,6 +4,7 @@ use super::*;
 
 mod commands;
 mod folders;
+mod fuses;
 mod memory;
 mod rows;
 mod sessions;

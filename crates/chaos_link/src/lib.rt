@@ -8,6 +8,7 @@
 mod datagram;
 mod encode;
 mod fault;
+mod fuse;
 mod limits;
 mod link;
 mod mem;
@@ -20,6 +21,7 @@ mod udp;
 pub use datagram::{from_datagram, law_carries};
 pub use encode::{to_datagram, write_datagram};
 pub use fault::{LinkFault, PeerFault};
+pub use fuse::FuseLink;
 pub use limits::{LINK_ROOM, MARK_BYTES, MAX_DATAGRAM, MAX_PEERS, MAX_WAIT};
 pub use link::{Link, Received, Sent};
 pub use mem::MemLink;

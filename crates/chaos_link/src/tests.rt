@@ -1,5 +1,6 @@
 //! Rows of the specification, and what only the outside can tell.
 mod datagrams;
+mod fuse;
 mod memory;
 mod peers;
 mod sockets;

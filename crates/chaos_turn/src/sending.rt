@@ -3,7 +3,7 @@ ghost use Rattle.std.specs.Prelude.{◌≡◌, []};
 ghost use Rattle.chaos_packet.specs.Outbox.{OutboxView};
 ghost use Rattle.chaos_turn.specs.Link.{Sends, SendsOneByOne, has_packets};
 
-use chaos_link::{Link, to_datagram};
+use chaos_link::{Link, MAX_DATAGRAM, write_datagram};
 use chaos_packet::Outbox;
 
 /// Sends all that waits, the oldest first, and says whether anything did. A packet whose send fails is lost.
@@ -16,7 +16,9 @@ pub fn send_all<L: Link>(link: &mut L, out: &mut Outbox) -> bool
     let Some(packet) = out.take() else {
         return false;
     };
-    let _ = link.send(packet.dst, to_datagram(&packet).as_slice());
+    let mut datagram = [0; MAX_DATAGRAM];
+    let end = write_datagram(&packet, &mut datagram);
+    let _ = link.send(packet.dst, &datagram[..end]);
     send_all(link, out);
     true
 }

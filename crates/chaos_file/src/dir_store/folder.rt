@@ -31,7 +31,7 @@ fn read_within<F: Read + Drop>(alloc: Global, file: F, limit: usize) -> io::Resu
     Ok(Some(bytes))
 }
 
-/// What is opened is to be a file: a folder, a link, a fifo, a socket and a device are refused.
+/// What is named is to be a file: a folder, a link, a fifo, a socket and a device are refused.
 fn require_file(info: fs::Metadata) -> io::Result<()> {
     if info.is_file() {
         Ok(())
@@ -93,20 +93,38 @@ impl<R: Files> Folder<R> {
         Ok(file)
     }
 
+    /// Whether there is a file at this place.
+    fn has_file(&self, place: &str) -> io::Result<bool> {
+        match self.rt.symlink_metadata(place) {
+            Ok(info) => {
+                require_file(info)?;
+                Ok(true)
+            }
+            Err(e) if e.kind() == ErrorKind::NotFound => Ok(false),
+            Err(e) => Err(e),
+        }
+    }
+
     /// Writes a file whole, and then gives it its path. The bytes are on the disk before the path leads to them, and the
-    /// path is on the disk at the end.
+    /// path is on the disk at the end. What may be refused is tried before the path changes, but for the last flush.
     pub(crate) fn put(&self, alloc: Global, path: &[u8], bytes: &[u8]) -> io::Result<()>
         requires { is_path path.now ≡ true }
     {
         let fresh = self.join(alloc, NEW)?;
         let place = self.place(alloc, path)?;
+        let folder = fs::open(&self.rt, self.path.as_str())?;
+        let _replaces = self.has_file(place.as_str())?;
         self.clear(fresh.as_str())?;
-        let mut file = File::create_new(&self.rt, fresh.as_str())?;
-        file.write_all(bytes)?;
-        file.sync_all()?;
-        drop(file);
+        self.write_new(fresh.as_str(), bytes)?;
         fs::rename(&self.rt, fresh.as_str(), place.as_str())?;
-        fs::open(&self.rt, self.path.as_str())?.sync_all()
+        folder.sync_all()
+    }
+
+    /// Writes a new file, and flushes it to the disk.
+    fn write_new(&self, place: &str, bytes: &[u8]) -> io::Result<()> {
+        let mut file = File::create_new(&self.rt, place)?;
+        file.write_all(bytes)?;
+        file.sync_all()
     }
 
     /// Takes away what was left behind, where there is such: a link itself, and never what it leads to.
@@ -122,6 +140,7 @@ impl<R: Files> Folder<R> {
         requires { is_path path.now ≡ true }
     {
         let place = self.place(alloc, path)?;
+        require_file(self.rt.symlink_metadata(place.as_str())?)?;
         fs::remove_file(&self.rt, place.as_str())
     }
 
@@ -132,11 +151,9 @@ impl<R: Files> Folder<R> {
     {
         let from = self.place(alloc, old)?;
         let to = self.place(alloc, new)?;
-        let _info = self.rt.symlink_metadata(from.as_str())?;
-        match self.rt.symlink_metadata(to.as_str()) {
-            Ok(_) => return Ok(false),
-            Err(e) if e.kind() == ErrorKind::NotFound => {}
-            Err(e) => return Err(e),
+        require_file(self.rt.symlink_metadata(from.as_str())?)?;
+        if self.has_file(to.as_str())? {
+            return Ok(false);
         }
         fs::rename(&self.rt, from.as_str(), to.as_str())?;
         Ok(true)

@@ -113,25 +113,14 @@ T5 S OPEN READ^A => T5 S ERROR FNF No such file.
     Ok(())
 }
 
-/// A fifo at a path and one at `.new`, where tests/folders.py made them, since std can't: neither is opened.
+/// The dialogue of the file `rows` over the folder `folder`, where tests/folders.py made both: std makes no fifo, no socket
+/// and no device, and takes no leave away.
 #[test]
-fn a_fifo_is_never_opened(rt: HostRuntime) -> Result<(), Fail> {
-    if rt.metadata("fifos").is_err() {
-        return Ok(());
+fn dialogue_over_a_folder_made_outside(rt: HostRuntime) -> Result<(), Fail> {
+    if let Ok(rows) = fs::read_to_string(&rt, "rows") {
+        let mut store = DirStore::open(&rt, String::from_str(rt.alloc(), "folder")?)?;
+        talk(&rt, &mut Session::new(), &mut store, rows.as_str());
+        println!(rt; "met")?;
     }
-    let mut store = DirStore::open(&rt, String::from_str(rt.alloc(), "fifos")?)?;
-    talk(
-        &rt,
-        &mut Session::new(),
-        &mut store,
-        "T1  LOGIN LISPM => T1  LOGIN LISPM\n\
-         T2 H OPEN READ^FIFO => T2 H ERROR STF Store fault.\n\
-         T3 H OPEN WRITE^A => T3 H OPEN 0\n\
-         T4 H WRITE^(A) => T4 H WRITE 3\n\
-         T5 H CLOSE => T5 H CLOSE 3\n\
-         T6 H OPEN READ^A => T6 H OPEN 3\n\
-         T7 H READ => T7 H READ^(A)",
-    );
-    println!(rt; "met")?;
     Ok(())
 }

@@ -11,6 +11,29 @@ T6 H2 READ => T6 H2 READ^(A)
 T7 H2 READ => T7 H2 EOF
 ";
 
+/// The same where the store fails to put the file: it isn't there, and the handle keeps its bytes until the store has them.
+pub(super) const FAULT_AT_CLOSE: &str = "
+T1  LOGIN LISPM => T1  LOGIN LISPM
+T2 H1 OPEN WRITE^A.LISP => T2 H1 OPEN 0
+T3 H1 WRITE^(A) => T3 H1 WRITE 3
+T4 H1 CLOSE => T4 H1 ERROR STF Store fault.
+T5 H2 OPEN READ^A.LISP => T5 H2 ERROR FNF No such file.
+T6 H2 READ => T6 H2 ERROR NOH No such handle.
+T7 H2 READ => T7 H2 ERROR NOH No such handle.
+T8 H1 CLOSE => T8 H1 CLOSE 3
+";
+
+/// The same where the store fails to get the file.
+pub(super) const FAULT_AT_OPEN: &str = "
+T1  LOGIN LISPM => T1  LOGIN LISPM
+T2 H1 OPEN WRITE^A.LISP => T2 H1 OPEN 0
+T3 H1 WRITE^(A) => T3 H1 WRITE 3
+T4 H1 CLOSE => T4 H1 CLOSE 3
+T5 H2 OPEN READ^A.LISP => T5 H2 ERROR STF Store fault.
+T6 H2 READ => T6 H2 ERROR NOH No such handle.
+T7 H2 READ => T7 H2 ERROR NOH No such handle.
+";
+
 /// Each OPEN is answered by its length where there is memory.
 pub(super) const OPENED: &str = "
 T1  LOGIN X => T1  LOGIN X

@@ -4,7 +4,7 @@ use crate::{Sessions, TURN_ROOM, TurnEnd, client_turn, run_turn};
 use chaos_conn::ConnConfig;
 use chaos_file::MemStore;
 use chaos_host::Host;
-use chaos_link::{LINK_ROOM, Link, MemLink, Received, from_datagram, to_datagram};
+use chaos_link::{FuseLink, LINK_ROOM, Link, MemLink, Received, from_datagram, to_datagram};
 use chaos_packet::{Item, Opcode, Outbox, Packet, PktNum};
 use std::alloc::{AllocGlobal, Global};
 use std::process::Abort;
@@ -35,6 +35,16 @@ pub fn serves<L: Link>(
     station: &mut Station,
     link: &mut L,
 ) -> TurnEnd {
+    serves_at(rt, station, link, 0)
+}
+
+/// A turn of a server at this moment.
+fn serves_at<L: Link>(
+    rt: &(impl Abort + AllocGlobal),
+    station: &mut Station,
+    link: &mut L,
+    now: u64,
+) -> TurnEnd {
     assert_eq!(rt; station.sessions.conns(), station.host.conns());
     assert!(rt; station.out.room() >= TURN_ROOM);
     run_turn(
@@ -44,7 +54,7 @@ pub fn serves<L: Link>(
         &mut station.store,
         link,
         PktNum(9),
-        0,
+        now,
         &mut station.out,
     )
 }
@@ -71,7 +81,7 @@ fn request() -> Packet {
 }
 
 /// The packet of the oldest datagram.
-fn received(link: &mut MemLink) -> Option<Packet> {
+fn received(link: &mut impl Link) -> Option<Packet> {
     let mut buffer = [0; LINK_ROOM];
     match link.receive(&mut buffer) {
         Received::Got(count) => from_datagram(&buffer[..count]).ok(),
@@ -79,21 +89,48 @@ fn received(link: &mut MemLink) -> Option<Packet> {
     }
 }
 
-#[test]
-fn request_is_opened_in_a_turn(rt: HostRuntime) -> Result<(), Fail> {
-    let mut server = made(rt.alloc(), 0o401)?;
+/// A server that listens to FILE, and a link that holds the request.
+fn asked(alloc: Global) -> Result<(Station, MemLink), Fail> {
+    let mut server = made(alloc, 0o401)?;
     server.host.listen(b"FILE")?;
-    let mut link = MemLink::new(rt.alloc(), 8)?;
+    let mut link = MemLink::new(alloc, 8)?;
     let _ = link.send(0o401, to_datagram(&request()).as_slice());
-    assert_eq!(rt; serves(&rt, &mut server, &mut link), TurnEnd::Worked);
-    let opn = received(&mut link).ok_or("an OPN")?;
+    Ok((server, link))
+}
+
+/// Receives the OPN to the request, and nothing more.
+fn receives_opn(rt: &impl Abort, link: &mut impl Link) -> Result<(), Fail> {
+    let opn = received(link).ok_or("an OPN")?;
     assert_eq!(rt;
         (opn.op, opn.num, opn.ack),
         (Opcode::OPN, PktNum(9), PktNum(5))
     );
     assert_eq!(rt; opn.status(), Some((PktNum(5), 13)));
+    assert!(rt; received(link).is_none());
+    Ok(())
+}
+
+#[test]
+fn request_is_opened_in_a_turn(rt: HostRuntime) -> Result<(), Fail> {
+    let (mut server, mut link) = asked(rt.alloc())?;
+    assert_eq!(rt; serves(&rt, &mut server, &mut link), TurnEnd::Worked);
+    receives_opn(&rt, &mut link)?;
     assert_eq!(rt; serves(&rt, &mut server, &mut link), TurnEnd::Idle);
     Ok(())
+}
+
+/// The link's second call, the send of the OPN, fails. The OPN is sent again when it is due.
+#[test]
+fn opn_whose_send_failed_goes_out_later(rt: HostRuntime) -> Result<(), Fail> {
+    let (mut server, queue) = asked(rt.alloc())?;
+    let mut link = FuseLink::new(queue, 2);
+    assert_eq!(rt; serves(&rt, &mut server, &mut link), TurnEnd::LinkFault);
+    assert!(rt; received(&mut link).is_none());
+    assert_eq!(rt;
+        serves_at(&rt, &mut server, &mut link, 500),
+        TurnEnd::Worked
+    );
+    receives_opn(&rt, &mut link)
 }
 
 #[test]

@@ -1,0 +1,32 @@
+-- A link with a fuse, by which one call fails.
+use Rattle.std.specs.Prelude.{ℕ, ◌+◌, ◌-◌, ◌==◌, min, if◌then◌else◌, Option, None}
+use Rattle.chaos_packet.specs.Count.{max_count, with_failure}
+use Rattle.chaos_link.specs.Link.{QueueView}
+
+-- the link behind the fuse, how many calls are left up to and with the one that fails (0 where none fails any more), and how
+-- many failed by the fuse
+pub record FuseView (L : Type 0) : Type 0 where
+  pub inner : L
+  pub calls_left : ℕ
+  pub own_failures : ℕ
+
+module _ {L : Type 0} where
+  -- a new fuse, which fails at this call
+  abbrev pub new_fuse : L → ℕ → FuseView L
+  new_fuse inner k = record { inner = inner; calls_left = k; own_failures = 0 }
+
+  -- the failures of the link and of the fuse
+  abbrev pub count_with : (L → ℕ) → FuseView L → ℕ
+  count_with count fuse = min (count fuse.inner + fuse.own_failures) max_count
+
+  -- the queue that the link is, where no call fails by the fuse any more
+  abbrev pub queue_with : (L → Option QueueView) → FuseView L → Option QueueView
+  queue_with queue fuse = if fuse.calls_left == 0 then queue fuse.inner else None
+
+  -- after the call that fails: the link isn't reached
+  abbrev pub after_blow : FuseView L → FuseView L
+  after_blow fuse = record fuse { calls_left = 0; own_failures = with_failure fuse.own_failures }
+
+  -- after another call, which the link has answered and is this now
+  abbrev pub after_pass : L → FuseView L → FuseView L
+  after_pass inner fuse = record fuse { inner = inner; calls_left = fuse.calls_left - 1 }

@@ -1,0 +1,101 @@
+//! A link that fails once.
+ghost use Rattle.std.specs.Prelude.{◌≡◌, ◌≢◌, ◌==◌, ◌≤◌, IfSome, length, if◌then◌else◌};
+ghost use Rattle.chaos_packet.specs.Count.{Rose};
+ghost use Rattle.chaos_link.specs.Link.{SendsInto, ReceivesFrom, IsWithin};
+ghost use Rattle.chaos_link.specs.Fuse.{new_fuse, count_with, queue_with, after_blow, after_pass};
+
+use crate::limits::LINK_ROOM;
+use crate::link::{Link, Received, Sent};
+use std::marker::Model;
+
+/// A link behind a fuse: the call with a given number answers Failed, is counted as a failure and doesn't reach the link,
+/// and every other call is the link's. It shows what a caller does where its link fails at one place.
+///
+/// Sends and receives are counted, from 1 on and up to the one that fails. A contract sees the link, how many calls are left
+/// up to that one, and how many failed by the fuse. Once none fails any more, a fuse over a queue is that queue. The fuse
+/// takes no memory.
+#[derive(Drop)]
+pub struct FuseLink<L> {
+    inner: L,
+    /// The calls up to and with the one that fails; 0 where none does any more.
+    calls_left: u64,
+    /// The calls that failed by the fuse.
+    own_failures: u64,
+}
+
+impl<L> Model for FuseLink<L> {
+    ghost use Rattle.chaos_link.specs.Fuse.{FuseView};
+
+    ghost Value = { FuseView L };
+
+    ghost view = { λ fuse. record { inner = fuse.inner; calls_left = fuse.calls_left; own_failures = fuse.own_failures } };
+}
+
+impl<L> FuseLink<L> {
+    /// A fuse over this link, whose call number `k` fails; none where that is 0.
+    pub fn new(inner: L, k: u64) -> Self
+        ensures { result ≡ new_fuse inner k }
+    {
+        FuseLink {
+            inner,
+            calls_left: k,
+            own_failures: 0,
+        }
+    }
+
+    /// Counts a call, and says whether it is the one that fails.
+    fn blows(&mut self) -> bool
+        ensures told { result ≡ (self.old.calls_left == 1) }
+        ensures fuse { self.new ≡ (if result then after_blow self.old else after_pass self.old.inner self.old) }
+    {
+        let blows = self.calls_left == 1;
+        self.calls_left = self.calls_left.saturating_sub(1);
+        if blows {
+            self.own_failures = self.own_failures.saturating_add(1);
+        }
+        blows
+    }
+}
+
+impl<L: Link> Link for FuseLink<L> {
+    ghost count = { count_with L.count };
+
+    ghost queue = { queue_with L.queue };
+
+    fn send(&mut self, to_address: u16, bytes: &[u8]) -> Sent
+        requires { length bytes.now ≤ LINK_ROOM }
+        ensures failed { result ≡ Sent.Failed → Rose (count_with L.count self.old) (count_with L.count self.new) }
+        ensures queued { IfSome (queue_with L.queue self.old) (SendsInto bytes.now result (queue_with L.queue self.new)) }
+        // The call that fails doesn't reach the link, and is counted.
+        ensures blown { self.old.calls_left ≡ 1 → (result ≡ Sent.Failed) × (self.new ≡ after_blow self.old) }
+        // Every other call is the link's: it fails only where the link's count rose, and over a queue is the queue's.
+        ensures passed { self.old.calls_left ≢ 1 → self.new ≡ after_pass self.new.inner self.old }
+        ensures passed_failed { self.old.calls_left ≢ 1 → result ≡ Sent.Failed → Rose (L.count self.old.inner) (L.count self.new.inner) }
+        ensures passed_queued { self.old.calls_left ≢ 1 → IfSome (L.queue self.old.inner) (SendsInto bytes.now result (L.queue self.new.inner)) }
+    {
+        if self.blows() {
+            return Sent::Failed;
+        }
+        self.inner.send(to_address, bytes)
+    }
+
+    fn receive(&mut self, buffer: &mut [u8; LINK_ROOM]) -> Received
+        ensures failed { result ≡ Received.Failed → Rose (count_with L.count self.old) (count_with L.count self.new) }
+        ensures within { IsWithin LINK_ROOM result }
+        ensures queued { IfSome (queue_with L.queue self.old) (ReceivesFrom buffer.old buffer.new result (queue_with L.queue self.new)) }
+        // As of a send; the buffer stays as it was.
+        ensures blown { self.old.calls_left ≡ 1 → (result ≡ Received.Failed) × (self.new ≡ after_blow self.old) × (buffer.new ≡ buffer.old) }
+        ensures passed { self.old.calls_left ≢ 1 → self.new ≡ after_pass self.new.inner self.old }
+        ensures passed_failed { self.old.calls_left ≢ 1 → result ≡ Received.Failed → Rose (L.count self.old.inner) (L.count self.new.inner) }
+        ensures passed_queued { self.old.calls_left ≢ 1 → IfSome (L.queue self.old.inner) (ReceivesFrom buffer.old buffer.new result (L.queue self.new.inner)) }
+    {
+        if self.blows() {
+            return Received::Failed;
+        }
+        self.inner.receive(buffer)
+    }
+
+    fn failures(&self) -> u64 {
+        self.inner.failures().saturating_add(self.own_failures)
+    }
+}
