@@ -235,7 +235,7 @@ fn ask(address: u16, socket: SocketAddrV4, to: u16, peers: HashMap<u16, SocketAd
     let bound = UdpSocket::bind(socket).map_err(|fault| Fault::Other(format!("{socket}: {fault}")))?;
     let mut client = Client::new(address, Link::new(bound, peers, None));
     let chance = clock();
-    talk(&mut client, to, ((chance / 16) as u8, chance as u16), &mut Alone(Instant::now()))
+    talk(&mut client, to, (chance as u8, chance as u16), &mut Alone(Instant::now()))
 }
 
 fn address_of(word: &str) -> Option<u16> {
