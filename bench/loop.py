@@ -23,7 +23,7 @@ import time
 HERE = pathlib.Path(__file__).resolve().parent
 PROGRAM = HERE.parent / "bin/chaosd"
 
-RUNS = 15
+RUNS = 25
 FILE_DATA = 448
 FILE_LIMIT = 1_048_576
 WISHED_RATIO = 1.2
@@ -141,6 +141,9 @@ def bench_tftp(shared, folder):
     running = subprocess.Popen([server, "--foreground", "--address", f"127.0.0.1:{port}", "--user", "root", "--secure", shared])
     try:
         time.sleep(0.5)
+        if running.poll() is not None:
+            print("    tftp-hpa can't serve here")
+            return
         got, best = pathlib.Path(folder) / "got", None
         for _ in range(RUNS):
             start = time.perf_counter()

@@ -184,18 +184,18 @@ class Asking:
 
     def reply(self, line):
         """The reply to one line, which is awaited with the input kept open."""
-        self.process.stdin.write(line + b"\n")
-        self.process.stdin.flush()
+        with contextlib.suppress(BrokenPipeError):
+            self.process.stdin.write(line + b"\n")
+            self.process.stdin.flush()
         return line_of(self.process.stdout)
 
     def problems(self, *exchanges):
-        """What differs from these lines and their replies."""
-        found = []
+        """The first that differs from these lines and their replies."""
         for line, wanted in exchanges:
             seen = self.reply(line)
             if seen != wanted + b"\n":
-                found.append(f"{seen!r} came for {line!r} and not {wanted!r}")
-        return found
+                return [f"{seen!r} came for {line!r} and not {wanted!r}"]
+        return []
 
     def vanish(self):
         self.process.kill()
@@ -437,39 +437,32 @@ def typed_commands(checks):
             asking = Asking(words)
             problems = asking.problems(*exchanges) or asking.end()
             checks.check(f"{words[0]}: each command that is typed is answered before the next", problems)
-        asking = Asking(server.words())
-        problems = asking.problems(exchanges[0])
-        asking.process.stdin.write(b"\x00\nT2  LOGIN X\n")
-        asking.process.stdin.close()
-        asking.process.stdin = None
-        out, err = asking.process.communicate(timeout=program.PATIENCE)
-        problems += program.Ended(asking.process.returncode, out, err).problems(BAD_LINE, b"", b"line 2: bad\n")
-        checks.check("ask: a bad line stops when it is its turn, status 2", problems)
+            asking = Asking(words)
+            problems = asking.problems(exchanges[0])
+            out, err = asking.process.communicate(b"\x00\nT2  LOGIN X\n", timeout=program.PATIENCE)
+            problems += program.Ended(asking.process.returncode, out, err).problems(BAD_LINE, b"", b"line 2: bad\n")
+            checks.check(f"{words[0]}: a bad line stops when it is its turn, status 2", problems)
 
 
 def four_clients(checks):
     """Four clients at once have a session each."""
     with serving(peers=4) as server:
         clients = [Asking(server.words(peer)) for peer in range(4)]
+        rounds = [(n, b"T  LOGIN U%d" % n, b"T  LOGIN U%d" % n) for n in range(3)]
+        rounds += [(3, b"T H OPEN WRITE^F3", b"T H ERROR NLI Not logged in."), (3, b"T  LOGIN X", b"T  LOGIN X")]
+        rounds += [(n, b"T H OPEN WRITE^F%d" % n, b"T H OPEN 0") for n in range(4)]
+        for size in range(FILE_DATA, 31 * FILE_DATA, FILE_DATA):
+            rounds += [(n, b"T H WRITE^" + b"%d" % n * FILE_DATA, b"T H WRITE %d" % size) for n in range(4)]
+        rounds += [(n, b"T H CLOSE", b"T H CLOSE %d" % size) for n in range(4)]
         problems = []
-        for n, client in enumerate(clients[:3]):
-            problems += client.problems((b"T  LOGIN U%d" % n, b"T  LOGIN U%d" % n))
-        problems += clients[3].problems((b"T H OPEN WRITE^F", b"T H ERROR NLI Not logged in."), (b"T  LOGIN X", b"T  LOGIN X"))
+        for n, line, wanted in rounds:
+            problems = problems or clients[n].problems((line, wanted))
         for n, client in enumerate(clients):
-            problems += client.problems((b"T H OPEN WRITE^F%d" % n, b"T H OPEN 0"))
-        for count in range(1, 31):
-            for n, client in enumerate(clients):
-                piece = b"%d" % n * FILE_DATA
-                problems += client.problems((b"T H WRITE^" + piece, b"T H WRITE %d" % (FILE_DATA * count)))
-        for client in clients:
-            problems += client.problems((b"T H CLOSE", b"T H CLOSE %d" % (30 * FILE_DATA)))
-        for client in clients:
-            problems += client.end()
-        for n in range(4):
-            problems += stored_problems(server.folder / f"F{n}", b"%d" % n * (30 * FILE_DATA))
+            problems += client.end() or stored_problems(server.folder / f"F{n}", b"%d" % n * size)
         checks.check("four clients at once have a session each", problems)
         scripts = [put_script(b"G%d" % n, mixed_content(100_000 + n)) for n in range(4)]
-        running = [started(server.words(n), stdin=subprocess.PIPE, stdout=subprocess.PIPE, stderr=subprocess.PIPE) for n in range(4)]
+        pipes = {"stdin": subprocess.PIPE, "stdout": subprocess.PIPE, "stderr": subprocess.PIPE}
+        running = [started(server.words(n), **pipes) for n in range(4)]
         for process, (script, _) in zip(running, scripts):
             process.stdin.write(script[:50])
             process.stdin.flush()
@@ -702,9 +695,11 @@ def main():
         sys.exit(f"{program.PROGRAM} isn't there: run make first")
     checks = Checks()
     waiting = Waiting()
-    for group in GROUPS:
-        group(checks)
-    waiting.check(checks)
+    for group in [*GROUPS, waiting.check]:
+        try:
+            group(checks)
+        except (OSError, subprocess.SubprocessError, struct.error, IndexError) as error:
+            checks.check(f"{group.__name__} comes to its end", [repr(error)])
     print(f"{checks.count - checks.failed} passed, {checks.failed} failed")
     sys.exit(1 if checks.failed else 0)
 
