@@ -1,4 +1,5 @@
 pub mod Digits
+pub mod TextBytes
 pub mod Pairs
 pub mod Steps
 pub mod Runs

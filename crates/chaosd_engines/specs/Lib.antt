@@ -1,4 +1,5 @@
 pub mod Buffer
+pub mod Escapes
 pub mod Input
 pub mod Status
 pub mod Hex

@@ -1,5 +1,7 @@
 //! Why a run ended early.
+ghost use Rattle.std.specs.Prelude.{◌≡◌, Err, IsOk, MatchResult};
 
+use crate::buffer::NotWritten;
 use thiserror::Error;
 
 /// The first fault of a run. Each has a number, by which the documentation names it.
@@ -26,4 +28,14 @@ pub enum RunFault {
     /// 7: the clock could not be read.
     #[error("the clock could not be read")]
     ClockFault,
+}
+
+/// What wasn't written as the fault of a run.
+pub fn written(end: Result<(), NotWritten>) -> Result<(), RunFault>
+    ensures { MatchResult end (λ _. IsOk result) (λ _. result ≡ Err RunFault.WriteFault) }
+{
+    match end {
+        Ok(()) => Ok(()),
+        Err(_) => Err(RunFault::WriteFault),
+    }
 }

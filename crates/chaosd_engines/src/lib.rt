@@ -5,6 +5,7 @@
 #![tactic(auto)]
 
 mod buffer;
+mod escapes;
 mod fault;
 mod input;
 mod limits;
@@ -16,7 +17,8 @@ mod tests;
 mod texts;
 
 pub use buffer::{NotWritten, WriteBuffer};
-pub use fault::RunFault;
+pub use escapes::{Data, data_of, put_text};
+pub use fault::{RunFault, written};
 pub use input::read_chunk;
 pub use limits::{BUFFER_LEN, CHUNK_LEN, INPUT_LIMIT, KEPT_LEN, LINE_LIMIT};
 pub use lines::{cut_line, keep, without_return};

@@ -1,11 +1,10 @@
 //! The run over an input.
-ghost use Rattle.std.specs.Prelude.{◌≡◌, ◌<◌, ◌≤◌, ℕ, Err, length, take, OnOk, IfOk, IsOk, IfSome, MatchResult};
+ghost use Rattle.std.specs.Prelude.{◌≡◌, ◌<◌, ◌≤◌, ℕ, Err, length, take, OnOk, IfOk, IfSome};
 ghost use Rattle.std.specs.Io.KnownBytes.{Appends, IsAtEnd};
 ghost use Rattle.chaosd_engines.specs.Lines.{lines_of, ended_lines};
 ghost use Rattle.chaosd_engines.specs.Show.{report_of, reports_of, ReportsRead, tally_of};
 
-use crate::buffer::NotWritten;
-use crate::fault::RunFault;
+use crate::fault::{RunFault, written};
 use crate::input::read_chunk;
 use crate::limits::{CHUNK_LEN, INPUT_LIMIT};
 use crate::show::shower::Shower;
@@ -56,14 +55,4 @@ pub fn run_show<R: Read, W: Write>(reader: &mut R, writer: &mut W) -> Result<Tal
     }
     written(shower.finish(writer))?;
     Ok(shower.reporter.tally)
-}
-
-/// What wasn't written as the fault of a run.
-fn written(end: Result<(), NotWritten>) -> Result<(), RunFault>
-    ensures { MatchResult end (λ _. IsOk result) (λ _. result ≡ Err RunFault.WriteFault) }
-{
-    match end {
-        Ok(()) => Ok(()),
-        Err(_) => Err(RunFault::WriteFault),
-    }
 }

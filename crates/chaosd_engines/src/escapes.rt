@@ -1,0 +1,117 @@
+//! Bytes, written as text in the lines of scripts: `^` is byte 8D, `\` and two lower-case hexadecimal digits is that byte, and
+//! every other byte from 20 to 7E is itself.
+ghost use Rattle.std.specs.Prelude.{◌≡◌, ◌≤◌, ◌<◌, ◌++◌, length, option_map, IfSome, OnOk};
+ghost use Rattle.std.specs.List.{flat_map};
+ghost use Rattle.chaosd_engines.specs.Escapes.{plain_byte, low_hex, escaped_byte, first_byte, data_of, low_hex_digit, shown_byte};
+
+use crate::buffer::{NotWritten, WriteBuffer};
+use arrayvec::ArrayVec;
+use chaos_packet::MAX_DATA;
+
+/// The bytes that a text stands for, at most as many as a packet has.
+pub type Data = ArrayVec<u8, MAX_DATA>;
+
+/// What stands for byte 8D, the end of a line in the Lisp machine's characters.
+const RETURN: u8 = 0x8D;
+
+/// The byte that one of a text stands for.
+fn plain_byte(b: u8) -> Option<u8>
+    ensures { result ≡ plain_byte b }
+{
+    match b {
+        b'^' => Some(RETURN),
+        b'\\' => None,
+        0x20..=0x7E => Some(b),
+        _ => None,
+    }
+}
+
+/// The value of a lower-case hexadecimal digit.
+fn low_hex(b: u8) -> Option<u8>
+    ensures value { result ≡ low_hex b }
+    ensures within { IfSome result (λ digit. digit ≤ 15) }
+{
+    match b {
+        b'0'..=b'9' => Some(b - b'0'),
+        b'a'..=b'f' => Some(b - b'a' + 10),
+        _ => None,
+    }
+}
+
+/// The byte of two hexadecimal digits.
+fn escaped_byte(high: u8, low: u8) -> Option<u8>
+    ensures { result ≡ escaped_byte high low }
+{
+    Some(16 * low_hex(high)? + low_hex(low)?)
+}
+
+/// The first byte that a text stands for, and how many of its own bytes stand for it.
+fn first_byte(text: &[u8]) -> Option<(u8, usize)>
+    requires { 0 < length text.now }
+    ensures value { result ≡ first_byte text.now }
+    ensures within { IfSome result (λ p. (0 < p.1) × (p.1 ≤ length text.now)) }
+{
+    if text[0] != b'\\' {
+        return Some((plain_byte(text[0])?, 1));
+    }
+    if text.len() < 3 {
+        return None;
+    }
+    Some((escaped_byte(text[1], text[2])?, 3))
+}
+
+/// The bytes that a text stands for, where they are no more than the 488 that a packet has. None for any other text: one with a
+/// byte that isn't from 20 to 7E, or with a `\` without its two lower-case hexadecimal digits.
+///
+/// The cost is a look at each byte; no memory is taken.
+pub fn data_of(text: &[u8]) -> Option<Data>
+    ensures { option_map (λ v. v.items) result ≡ data_of text.now }
+{
+    let mut data = ArrayVec::new();
+    let mut i = 0;
+    while i < text.len() {
+        let (byte, count) = first_byte(&text[i..])?;
+        if data.is_full() {
+            return None;
+        }
+        data.push(byte);
+        i += count;
+    }
+    Some(data)
+}
+
+/// A lower-case hexadecimal digit.
+fn low_hex_digit(digit: u8) -> u8
+    requires { digit < 16 }
+    ensures { result ≡ low_hex_digit digit }
+{
+    if digit < 10 {
+        b'0' + digit
+    } else {
+        b'a' + (digit - 10)
+    }
+}
+
+/// Writes a byte as text.
+fn put_byte(out: &mut WriteBuffer, b: u8) -> Result<(), NotWritten>
+    ensures { OnOk result (out.new ≡ out.old ++ shown_byte b) }
+{
+    if b == RETURN {
+        return out.put(b"^");
+    }
+    if b == b'^' || b == b'\\' || b < 0x20 || b > 0x7E {
+        return out.put(&[b'\\', low_hex_digit(b / 16), low_hex_digit(b % 16)]);
+    }
+    out.put(&[b])
+}
+
+/// Writes bytes as text: `^` for 8D, the byte itself from 20 to 7E but for `^` and `\`, and a `\` with two lower-case hexadecimal
+/// digits for every other.
+pub fn put_text(out: &mut WriteBuffer, bytes: &[u8]) -> Result<(), NotWritten>
+    ensures { OnOk result (out.new ≡ out.old ++ flat_map shown_byte bytes.now) }
+{
+    for b in bytes {
+        put_byte(out, *b)?;
+    }
+    Ok(())
+}
