@@ -15,7 +15,7 @@ use Rattle.chaos_lab.specs.declared.fault.LabFault.{LabFault}
 use Rattle.chaos_lab.specs.declared.fault.LabFault.TheVariants as fault
 use Rattle.chaosd_engines.specs.Report.{line, octal_three}
 use Rattle.chaosd_lab.specs.Names.{side_name, state_name, delivered_name, conn_fault_name}
-use Rattle.chaosd_lab.specs.Texts.{shown_byte}
+use Rattle.chaosd_engines.specs.Escapes.{shown_byte}
 
 -- words, and a name
 unfoldable pub named_line : List ℕ → List ℕ → List ℕ

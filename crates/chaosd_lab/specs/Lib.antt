@@ -1,6 +1,5 @@
 pub mod Fields
 pub mod Numbers
-pub mod Texts
 pub mod Command
 pub mod Event
 pub mod Start

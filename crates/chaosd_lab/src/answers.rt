@@ -3,11 +3,10 @@ ghost use Rattle.std.specs.Prelude.{◌≡◌, ◌++◌, drop, OnOk};
 ghost use Rattle.chaosd_lab.specs.Answers.{named_line, numbered_line, item_line, read_text, ticked_text, stepped_text, refusal_text, answer_text, op_name, numbers_text, copy_line, copies_text, stored_line};
 
 use crate::names::{conn_fault_name, delivered_name, side_name, state_name};
-use crate::texts::put_text;
 use chaos_conn::{ReadEnd, Ticked};
 use chaos_lab::{LabFault, Stamped, Stepped};
 use chaos_packet::{Item, Opcode};
-use chaosd_engines::{NotWritten, WriteBuffer, put_decimal, put_line, put_octal_three};
+use chaosd_engines::{NotWritten, WriteBuffer, put_decimal, put_line, put_octal_three, put_text};
 
 /// A word or more, and a name.
 #[tactic(auto, unfolding(crate::specs::Answers::named_line))]

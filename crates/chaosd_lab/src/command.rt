@@ -3,9 +3,9 @@ ghost use Rattle.std.specs.Prelude.{◌≡◌};
 ghost use Rattle.chaos_lab.specs.Inside.{happening_of};
 ghost use Rattle.chaosd_lab.specs.Command.{happening_said};
 
-use crate::texts::Data;
 use chaos_lab::{Event, Side};
 use chaos_packet::{Opcode, PktNum};
+use chaosd_engines::Data;
 
 /// An event with bytes of its own.
 #[derive(Drop)]

@@ -1,5 +1,5 @@
 //! One line of a script.
-ghost use Rattle.std.specs.Prelude.{◌≡◌, ◌++◌, ◌≢◌, ℕ, Err, None, Some, IfErr, IfOk, IsOk, OnOk, MatchResult};
+ghost use Rattle.std.specs.Prelude.{◌≡◌, ◌++◌, ◌≢◌, ℕ, Err, None, Some, IfErr, IfOk};
 ghost use Rattle.chaosd_lab.specs.Answers.{copies_text, refusal_text};
 ghost use Rattle.chaos_lab.specs.declared.fault.LabFault.TheVariants.{NoMemory};
 ghost use Rattle.chaosd_lab.specs.Event.{event_of};
@@ -11,7 +11,7 @@ use crate::answers::{put_answer, put_copies};
 use crate::parse::event_of;
 use crate::start::first_of;
 use chaos_lab::{Lab, LabFault, Stepped};
-use chaosd_engines::{NotWritten, RunFault, WriteBuffer};
+use chaosd_engines::{RunFault, WriteBuffer, written};
 use std::alloc::Global;
 
 /// The laboratory of a first line, and the line of its first copy.
@@ -74,15 +74,5 @@ fn is_refused(answer: &Result<Stepped, LabFault>) -> Result<bool, RunFault>
         Ok(_) => Ok(false),
         Err(LabFault::NoMemory) => Err(RunFault::NoMemory),
         Err(_) => Ok(true),
-    }
-}
-
-/// What wasn't written as the fault of a run.
-pub fn written(end: Result<(), NotWritten>) -> Result<(), RunFault>
-    ensures { MatchResult end (λ _. IsOk result) (λ _. result ≡ Err RunFault.WriteFault) }
-{
-    match end {
-        Ok(()) => Ok(()),
-        Err(_) => Err(RunFault::WriteFault),
     }
 }

@@ -6,9 +6,9 @@ ghost use Rattle.chaosd_lab.specs.Event.{write_of, write_at, read_of, tick_of, c
 use crate::command::Command;
 use crate::fields::{cut, field_and_text};
 use crate::numbers::{number_of, opcode_of, side_of};
-use crate::texts::data_of;
 use chaos_lab::Side;
 use chaos_packet::PktNum;
+use chaosd_engines::data_of;
 
 /// `S OOO TEXT`, or without the text and the space before it.
 fn write_of(rest: &[u8]) -> Option<Command>

@@ -7,11 +7,12 @@ ghost use Rattle.chaosd_engines.specs.declared.fault.RunFault.TheVariants.{Write
 ghost use Rattle.chaosd_lab.specs.Player.{PlaysLines, StopsLine, PlaysInput, PlaysAll, StopsInput};
 
 use crate::answers::put_stored;
-use crate::line::{begin, play, written};
+use crate::line::{begin, play};
 use arrayvec::ArrayVec;
 use chaos_lab::{Lab, Side};
 use chaosd_engines::{
     INPUT_LIMIT, KEPT_LEN, LINE_LIMIT, RunFault, WriteBuffer, cut_line, keep, without_return,
+    written,
 };
 use std::alloc::Global;
 use std::io::Write;
