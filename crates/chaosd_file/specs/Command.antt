@@ -1,0 +1,13 @@
+-- The command that a line of a script stands for.
+use Rattle.std.specs.Prelude.{ℕ, List, length, Option, None, nat_lt, if◌then◌else◌}
+use Rattle.std.specs.Io.BufRead.{strip_last}
+use Rattle.chaosd_engines.specs.Escapes.{data_of}
+use Rattle.chaosd_engines.specs.declared.limits.TheConstants.{LINE_LIMIT}
+
+-- the bytes of a text that isn't too long
+abbrev pub command_of_text : List ℕ → Option (List ℕ)
+command_of_text text = if nat_lt LINE_LIMIT (length text) then None else data_of text
+
+-- the bytes of the command that a line stands for, as it stands in the input: a byte 13 at its end is ignored
+unfoldable pub command_of : List ℕ → Option (List ℕ)
+command_of raw = command_of_text (strip_last 13 raw)

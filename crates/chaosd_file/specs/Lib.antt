@@ -1,0 +1,7 @@
+pub mod Status
+pub mod Command
+pub mod Fault
+pub mod Printed
+pub mod Script
+pub mod Reader
+pub mod Asking

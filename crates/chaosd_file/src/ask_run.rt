@@ -1,0 +1,93 @@
+//! The engine `ask`.
+ghost use Rattle.std.specs.Prelude.{◌≡◌, ◌<◌, ◌≤◌, ◌+◌, ◌-◌, ℕ, Err, length, take, IfOk, IfSome};
+ghost use Rattle.std.specs.Io.KnownBytes.{IsAtEnd};
+ghost use Rattle.chaosd_engines.specs.declared.limits.TheConstants.{INPUT_LIMIT};
+ghost use Rattle.chaosd_engines.specs.Lines.{lines_of, ended_lines};
+ghost use Rattle.chaosd_file.specs.Printed.{PrintsReplies, PrintsScript};
+ghost use Rattle.chaosd_file.specs.Script.{AreCommands, BeginWithCommands, IsFirstBad, PrintsRepliesTo, RepliesRead};
+
+use crate::client::Client;
+use crate::clock::Beginning;
+use crate::end::ScriptEnd;
+use crate::script::run_script;
+use crate::turns::Turns;
+use chaos_host::Host;
+use chaos_link::Link;
+use chaos_packet::Outbox;
+use chaos_turn::{TurnEnd, client_turn};
+use chaosd_engines::RunFault;
+use std::alloc::Global;
+use std::io::{Read, Write};
+use std::time::Clock;
+
+/// A client's turns over a link to another process, by a clock.
+#[derive(Drop)]
+struct Timed<'a, C: Clock, L: Link> {
+    clock: &'a C,
+    link: &'a mut L,
+    beginning: Beginning,
+}
+
+impl<C: Clock, L: Link> Turns for Timed<'_, C, L> {
+    fn now(&self) -> Result<u64, RunFault> {
+        self.beginning.moment(self.clock)
+    }
+
+    fn turn(&mut self, host: &mut Host, now: u64, out: &mut Outbox) -> Result<(), RunFault> {
+        match client_turn(host, self.link, now, out) {
+            TurnEnd::LinkFault => Err(RunFault::LinkFault),
+            _ => Ok(()),
+        }
+    }
+}
+
+/// Runs a FILE script against the server of the host `to`, as the host `me`. Neither address is 0.
+///
+/// It does what [`crate::run_loop`] does, but a turn is one of the client alone, and the clock tells the moments: milliseconds since
+/// the run began. The connection begins with the number that the low 16 bits of the clock's milliseconds since 1970 tell. Its
+/// index is one that a run before it from the same address is unlikely to have had: as many indices as the low 8 bits tell are
+/// passed over.
+///
+/// # Errors
+/// [`RunFault`] as for [`crate::run_loop`], and 7 where the clock can't be read.
+pub fn run_ask<C: Clock, R: Read, W: Write, L: Link>(
+    clock: &C,
+    alloc: Global,
+    reader: &mut R,
+    writer: &mut W,
+    link: &mut L,
+    me: u16,
+    to: u16,
+) -> Result<ScriptEnd, RunFault>
+    requires { 0 < me }
+    // As many commands were tried as were replied to, or one more, the last.
+    ensures counts { IfOk result (λ end. (end.replied ≤ end.commands) × (end.commands ≤ end.replied + 1)) }
+    // What was printed are that many replies, each on its line, and then `no reply` where the last command got none.
+    ensures text { IfOk result (λ end. PrintsScript end (W.contents writer.old) (W.contents writer.new)) }
+    // The commands are the first lines; where each got a reply they are all lines, and the input was read to its end.
+    ensures tried { IfOk result (λ end. IfSome (R.remaining reader.old) (λ input. BeginWithCommands end.commands (lines_of input))) }
+    ensures whole { IfOk result (λ end. end.replied ≡ end.commands
+        → IfSome (R.remaining reader.old) (λ input. (length input ≤ INPUT_LIMIT) × AreCommands end.commands (lines_of input))) }
+    ensures ended { IfOk result (λ end. end.replied ≡ end.commands → IsAtEnd (R.remaining reader.new)) }
+
+    // The line that is told is the first that stands for no command, and replies to those before it were printed.
+    ensures bad { (number : ℕ) → result ≡ Err (RunFault.BadScript number)
+        → IfSome (R.remaining reader.old) (λ input. IsFirstBad number (lines_of input)) × PrintsReplies (number - 1) (W.contents writer.old) (W.contents writer.new) }
+
+    // A script is refused as too long only where it is, and replies to the lines that ended within the limit were printed.
+    ensures too_long { result ≡ Err RunFault.InputTooLong → IfSome (R.remaining reader.old) (λ input.
+        (INPUT_LIMIT < length input) × PrintsRepliesTo (ended_lines (take INPUT_LIMIT input)) (W.contents writer.old) (W.contents writer.new)) }
+
+    // Where the reader failed, replies to the lines that ended in what it had given were printed, and no more.
+    ensures unread { result ≡ Err RunFault.ReadFault
+        → RepliesRead (R.remaining reader.old) (R.remaining reader.new) (W.contents writer.old) (W.contents writer.new) }
+{
+    let beginning = Beginning::new(clock)?;
+    let mut client = Client::new(alloc, me, to, beginning.number(0), beginning.low_bits())?;
+    let mut turns = Timed {
+        clock,
+        link,
+        beginning,
+    };
+    run_script(&mut client, &mut turns, reader, writer)
+}

@@ -1,0 +1,116 @@
+//! The engine `loop`.
+ghost use Rattle.std.specs.Prelude.{◌≡◌, ◌<◌, ◌≤◌, ◌+◌, ◌-◌, ℕ, Err, length, take, IfOk, IfSome};
+ghost use Rattle.std.specs.Io.KnownBytes.{IsAtEnd};
+ghost use Rattle.chaosd_engines.specs.declared.limits.TheConstants.{INPUT_LIMIT};
+ghost use Rattle.chaosd_engines.specs.Lines.{lines_of, ended_lines};
+ghost use Rattle.chaosd_file.specs.Printed.{PrintsReplies, PrintsScript};
+ghost use Rattle.chaosd_file.specs.Script.{AreCommands, BeginWithCommands, IsFirstBad, PrintsRepliesTo, RepliesRead};
+
+use crate::client::Client;
+use crate::end::ScriptEnd;
+use crate::limits::{LOOP_CLIENT, LOOP_CLIENT_START, LOOP_SERVER, LOOP_SERVER_START, LOOP_TURN};
+use crate::script::run_script;
+use crate::server::Server;
+use crate::turns::Turns;
+use chaos_file::MemStore;
+use chaos_host::Host;
+use chaos_link::Link;
+use chaos_packet::Outbox;
+use chaos_turn::{TurnEnd, client_turn};
+use chaosd_engines::RunFault;
+use std::alloc::Global;
+use std::io::{Read, Write};
+
+/// A client's turns with a server in the same process, which keeps its files in memory. The moments are the turns times 10.
+#[derive(Drop)]
+struct Both<'a, A: Link, B: Link> {
+    alloc: Global,
+    near: &'a mut A,
+    far: &'a mut B,
+    server: Server,
+    store: MemStore,
+    turns: u64,
+}
+
+impl<A: Link, B: Link> Turns for Both<'_, A, B> {
+    fn now(&self) -> Result<u64, RunFault> {
+        Ok(self.turns.saturating_mul(LOOP_TURN))
+    }
+
+    /// A turn of the client, and then one of the server.
+    fn turn(&mut self, host: &mut Host, now: u64, out: &mut Outbox) -> Result<(), RunFault> {
+        self.turns = self.turns.saturating_add(1);
+        let asked = client_turn(host, self.near, now, out);
+        let served = self.server.turn(
+            self.alloc,
+            &mut self.store,
+            self.far,
+            LOOP_SERVER_START,
+            now,
+        );
+        if asked == TurnEnd::LinkFault || served == TurnEnd::LinkFault {
+            Err(RunFault::LinkFault)
+        } else {
+            Ok(())
+        }
+    }
+}
+
+/// Runs a FILE script between two hosts of this process: a client at 000401 over `link_a`, and a server at 000402 over `link_b`,
+/// which keeps its files in memory. What is sent over one link is to be received from the other.
+///
+/// Each line of the script is a command. It is sent where the one before it got its reply, and its reply is printed and handed on to
+/// the writer before another line is read, so that somebody who types commands sees each reply at once. A command waits for its
+/// reply, and before that for the connection to open and to have room, 1,000 turns at most; a turn is one of the client and then
+/// one of the server, and moments are turns times 10 milliseconds. Where a command gets no reply, also since the connection ended,
+/// `no reply` is printed and the run ends. Behind the last command an EOF is sent, which waits 100 turns at most to be
+/// acknowledged. The connection is then closed, also after a fault of the script, the reader or the writer. A script without
+/// lines asks for no connection.
+///
+/// The first fault is the answer. The cost is a look at each byte and the turns, of which a command mostly takes two; the hosts take
+/// their memory first, and later only the server's files take some.
+///
+/// # Errors
+/// [`RunFault`]: 1 where the reader fails or is interrupted 2,000,000 times, 2 where the writer fails, 3 where more than 1,048,576
+/// bytes come, 4 where there is no memory for the hosts, 5 at a line that stands for no command, 6 where a link failed, after the
+/// turn in which it did.
+pub fn run_loop<R: Read, W: Write, A: Link, B: Link>(
+    alloc: Global,
+    reader: &mut R,
+    writer: &mut W,
+    link_a: &mut A,
+    link_b: &mut B,
+) -> Result<ScriptEnd, RunFault>
+    // As many commands were tried as were replied to, or one more, the last.
+    ensures counts { IfOk result (λ end. (end.replied ≤ end.commands) × (end.commands ≤ end.replied + 1)) }
+    // What was printed are that many replies, each on its line, and then `no reply` where the last command got none.
+    ensures text { IfOk result (λ end. PrintsScript end (W.contents writer.old) (W.contents writer.new)) }
+    // The commands are the first lines; where each got a reply they are all lines, and the input was read to its end.
+    ensures tried { IfOk result (λ end. IfSome (R.remaining reader.old) (λ input. BeginWithCommands end.commands (lines_of input))) }
+    ensures whole { IfOk result (λ end. end.replied ≡ end.commands
+        → IfSome (R.remaining reader.old) (λ input. (length input ≤ INPUT_LIMIT) × AreCommands end.commands (lines_of input))) }
+    ensures ended { IfOk result (λ end. end.replied ≡ end.commands → IsAtEnd (R.remaining reader.new)) }
+
+    // The line that is told is the first that stands for no command, and replies to those before it were printed.
+    ensures bad { (number : ℕ) → result ≡ Err (RunFault.BadScript number)
+        → IfSome (R.remaining reader.old) (λ input. IsFirstBad number (lines_of input)) × PrintsReplies (number - 1) (W.contents writer.old) (W.contents writer.new) }
+
+    // A script is refused as too long only where it is, and replies to the lines that ended within the limit were printed.
+    ensures too_long { result ≡ Err RunFault.InputTooLong → IfSome (R.remaining reader.old) (λ input.
+        (INPUT_LIMIT < length input) × PrintsRepliesTo (ended_lines (take INPUT_LIMIT input)) (W.contents writer.old) (W.contents writer.new)) }
+
+    // Where the reader failed, replies to the lines that ended in what it had given were printed, and no more.
+    ensures unread { result ≡ Err RunFault.ReadFault
+        → RepliesRead (R.remaining reader.old) (R.remaining reader.new) (W.contents writer.old) (W.contents writer.new) }
+{
+    let mut client = Client::new(alloc, LOOP_CLIENT, LOOP_SERVER, LOOP_CLIENT_START, 0)?;
+    let mut turns = Both {
+        alloc,
+        near: link_a,
+        far: link_b,
+        server: Server::new(alloc, LOOP_SERVER)?,
+        store: MemStore::new(alloc),
+        turns: 0,
+    };
+    run_script(&mut client, &mut turns, reader, writer)
+}

@@ -1,0 +1,54 @@
+//! What a script prints.
+ghost use Rattle.std.specs.Prelude.{◌≡◌, ◌++◌, [], OnOk, IfErr};
+ghost use Rattle.std.specs.Io.KnownBytes.{Appends, Keeps};
+ghost use Rattle.chaosd_engines.specs.Buffer.{written_of};
+ghost use Rattle.chaosd_file.specs.Printed.{reply_line, no_reply_line};
+
+use chaosd_engines::{NotWritten, RunFault, WriteBuffer, put_line, put_text, written};
+use std::io::Write;
+
+/// Writes a reply as a line.
+#[tactic(auto, unfolding(crate::specs::Printed::reply_line))]
+fn put_reply(out: &mut WriteBuffer, reply: &[u8]) -> Result<(), NotWritten>
+    ensures { OnOk result (out.new ≡ out.old ++ reply_line reply.now) }
+{
+    put_text(out, reply)?;
+    out.put(b"\n")
+}
+
+/// Prints what waits.
+fn hand_on<W: Write>(out: &mut WriteBuffer, writer: &mut W) -> Result<(), RunFault>
+    ensures kept { Keeps (written_of (W.contents writer.old) out.old) (written_of (W.contents writer.new) out.new) }
+    ensures empty { OnOk result (out.new ≡ []) }
+    ensures faults { IfErr result (λ fault. fault ≡ RunFault.WriteFault) }
+{
+    match out.hand_on(writer) {
+        Ok(()) => Ok(()),
+        Err(_) => Err(RunFault::WriteFault),
+    }
+}
+
+/// Prints a reply as a line.
+pub fn print_reply<W: Write>(
+    out: &mut WriteBuffer,
+    writer: &mut W,
+    reply: &[u8],
+) -> Result<(), RunFault>
+    requires { out.old ≡ [] }
+    ensures text { OnOk result (Appends (W.contents writer.old) (W.contents writer.new) (reply_line reply.now)) }
+    ensures empty { OnOk result (out.new ≡ []) }
+    ensures faults { IfErr result (λ fault. fault ≡ RunFault.WriteFault) }
+{
+    written(put_reply(out, reply))?;
+    hand_on(out, writer)
+}
+
+/// Prints that a command got no reply.
+pub fn print_none<W: Write>(out: &mut WriteBuffer, writer: &mut W) -> Result<(), RunFault>
+    requires { out.old ≡ [] }
+    ensures text { OnOk result (Appends (W.contents writer.old) (W.contents writer.new) no_reply_line) }
+    ensures faults { IfErr result (λ fault. fault ≡ RunFault.WriteFault) }
+{
+    written(put_line(out, "no reply"))?;
+    hand_on(out, writer)
+}

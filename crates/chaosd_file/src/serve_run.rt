@@ -1,0 +1,45 @@
+//! The engine `serve`.
+ghost use Rattle.std.specs.Prelude.{◌<◌, IfErr};
+ghost use Rattle.chaosd_file.specs.Fault.{IsServiceFault};
+
+use crate::clock::Beginning;
+use crate::server::Server;
+use chaos_file::Store;
+use chaos_link::Link;
+use chaos_turn::TurnEnd;
+use chaosd_engines::RunFault;
+use std::alloc::Global;
+use std::time::Clock;
+
+/// Serves FILE on a store, as the host `me`, for so many turns: its host has 16 connections and listens to `FILE`. The address isn't
+/// 0.
+///
+/// Moments are milliseconds since the run began, by the clock; a connection begins with the number that the low 16 bits of the
+/// clock's milliseconds since 1970 tell then. A command in which the store fails is answered so, and the service goes on. A turn
+/// waits only as the link does. The host takes its memory first, and later only files take some.
+///
+/// # Errors
+/// [`RunFault`]: 4 where there is no memory for the host, 6 where the link failed, after the turn in which it did, 7 where the clock
+/// can't be read.
+pub fn run_serve<C: Clock, L: Link, S: Store>(
+    clock: &C,
+    alloc: Global,
+    link: &mut L,
+    store: &mut S,
+    me: u16,
+    turns: u64,
+) -> Result<(), RunFault>
+    requires { 0 < me }
+    ensures { IfErr result IsServiceFault }
+{
+    let beginning = Beginning::new(clock)?;
+    let mut server = Server::new(alloc, me)?;
+    for _ in 0..turns {
+        let now = beginning.moment(clock)?;
+        let end = server.turn(alloc, store, link, beginning.number(now), now);
+        if end == TurnEnd::LinkFault {
+            return Err(RunFault::LinkFault);
+        }
+    }
+    Ok(())
+}
