@@ -21,6 +21,9 @@ Exit status:
 /// What the help says of `show`.
 const SHOW_ABOUT: &str = "Hexadecimal lines from standard input, one datagram a line, to reports";
 
+/// What the help says of `lab`.
+const LAB_ABOUT: &str = "A script of two connections from standard input, to what each line did";
+
 /// The program's own command, with its help text and no subcommand.
 fn bare<'a>(alloc: Global) -> Result<Command<'a>, AllocError>
     ensures { IfOk result (λ c. app_of c ≡ bare_chaosd) }
@@ -50,5 +53,6 @@ fn with_plain<'a>(
 pub(crate) fn command<'a>(alloc: Global) -> Result<Command<'a>, AllocError>
     ensures { IfOk result (λ c. app_of c ≡ chaosd) }
 {
-    with_plain(alloc, bare(alloc)?, "show", SHOW_ABOUT)
+    let showing = with_plain(alloc, bare(alloc)?, "show", SHOW_ABOUT)?;
+    with_plain(alloc, showing, "lab", LAB_ABOUT)
 }

@@ -31,6 +31,7 @@ fn line_in(matches: &ArgMatches<'_>) -> Option<Line>
 {
     match matches.subcommand_name() {
         Some("show") => Some(Line::Show),
+        Some("lab") => Some(Line::Lab),
         _ => None,
     }
 }

@@ -11,6 +11,13 @@ fn show_is_the_show_line(rt: HostRuntime) {
 }
 
 #[test]
+fn lab_is_the_lab_line(rt: HostRuntime) {
+    let alloc = rt.alloc();
+    assert!(rt; matches!(parse_line(alloc, &["lab"]), Ok(Line::Lab)));
+    assert!(rt; matches!(read_line(alloc, &["lab"]), Ok(Line::Lab)));
+}
+
+#[test]
 fn help_in_each_of_its_forms(rt: HostRuntime) {
     let alloc = rt.alloc();
     let lines: [&[&str]; 6] = [
@@ -29,12 +36,13 @@ fn help_in_each_of_its_forms(rt: HostRuntime) {
 #[test]
 fn bad_lines(rt: HostRuntime) {
     let alloc = rt.alloc();
-    let lines: [(&str, &[&str]); 8] = [
+    let lines: [(&str, &[&str]); 9] = [
         ("no word", &[]),
         ("an empty word", &[""]),
-        ("an unknown subcommand", &["lab"]),
+        ("an unknown subcommand", &["nonsense"]),
         ("capitals", &["SHOW"]),
         ("an extra word", &["show", "x"]),
+        ("an extra word of lab", &["lab", "x"]),
         ("the program's name in front", &["chaosd", "show"]),
         ("an unknown flag", &["--loud"]),
         ("an unknown flag of show", &["show", "--loud"]),
@@ -55,7 +63,7 @@ fn statuses_and_numbers(rt: HostRuntime) {
 }
 
 #[test]
-fn help_says_what_show_does(rt: HostRuntime) -> Result<(), Fail> {
+fn help_says_what_each_subcommand_does(rt: HostRuntime) -> Result<(), Fail> {
     let alloc = rt.alloc();
     let error = parse_line(alloc, &["--help"])
         .err()
@@ -69,6 +77,8 @@ fn help_says_what_show_does(rt: HostRuntime) -> Result<(), Fail> {
         "{text}"
     );
     assert!(rt; text.as_str().contains(show), "{text}");
+    let lab = "  lab   A script of two connections from standard input, to what each line did\n";
+    assert!(rt; text.as_str().contains(lab), "{text}");
     assert!(rt;
         text.as_str().contains("  3  something was refused\n"),
         "{text}"
@@ -90,12 +100,14 @@ fn help_of_show_has_its_usage(rt: HostRuntime) -> Result<(), Fail> {
 #[test]
 fn a_mistake_is_told_to_the_user(rt: HostRuntime) -> Result<(), Fail> {
     let alloc = rt.alloc();
-    let error = parse_line(alloc, &["lab"]).err().ok_or("lab is no line")?;
+    let error = parse_line(alloc, &["nonsense"])
+        .err()
+        .ok_or("it is no line")?;
     assert_eq!(rt; LineFault::from(error.kind()), LineFault::BadLine);
     assert!(rt; error.use_stderr());
     let text = error.to_string(alloc)?;
     assert!(rt;
-        text.as_str().contains("unrecognized subcommand 'lab'"),
+        text.as_str().contains("unrecognized subcommand 'nonsense'"),
         "{text}"
     );
     Ok(())
