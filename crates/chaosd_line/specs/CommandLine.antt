@@ -1,11 +1,44 @@
--- The command that `chaosd` takes, and what its subcommands ask for.
-use Rattle.std.specs.Prelude.{true, List, Option, Some, None, [], ◌∷◌, codes, if◌then◌else◌}
-use Rattle.std.specs.Str.{bytes_eq}
-use Rattle.clap.specs.Kinds.{or_else}
-use Rattle.clap.specs.Words.{App, Kinds, Row, Text, fault_of, new_app, subcommand_of, with_subcommand}
-use Rattle.clap.specs.declared.error.kind.ErrorKind.TheVariants.{InvalidSubcommand}
-use Rattle.chaosd_line.specs.declared.line.Line.{Line}
-use Rattle.chaosd_line.specs.declared.line.Line.TheVariants.{Show}
+-- The command that `chaosd` takes.
+use Rattle.std.specs.Prelude.{true, Some, [], ◌∷◌, codes}
+use Rattle.clap.specs.Lexer.{usize_max}
+use Rattle.clap.specs.Words.{App, Rule, Text, new_app, new_rule, with_rule, with_subcommand}
+
+-- a word that has to be given
+abbrev pub needed : Text → Rule
+needed id = record (new_rule id) { required = true }
+
+-- `--turns N`
+abbrev pub turns_option : Rule
+turns_option = record (new_rule (codes "turns")) {
+  long = Some (codes "turns");
+  value_names = 1;
+  defaults = codes "1000000000" ∷ [];
+}
+
+-- the peers, of which any number may be given
+abbrev pub peer_words : Rule
+peer_words = record (new_rule (codes "PEER")) {
+  range = Some (record { start_inclusive = 0; end_inclusive = usize_max });
+}
+
+-- serve [--turns N] ADDRESS UDP FOLDER PEER...
+abbrev pub serve_command : App
+serve_command = with_rule
+    (with_rule
+    (with_rule
+    (with_rule (with_rule (new_app (codes "serve")) turns_option) (needed (codes "ADDRESS")))
+    (needed (codes "UDP")))
+    (needed (codes "FOLDER")))
+    peer_words
+
+-- ask ADDRESS UDP TO PEER...
+abbrev pub ask_command : App
+ask_command = with_rule
+    (with_rule
+    (with_rule (with_rule (new_app (codes "ask")) (needed (codes "ADDRESS")))
+    (needed (codes "UDP")))
+    (needed (codes "TO")))
+    peer_words
 
 -- a subcommand has to be given, and no program's name stands in front of the words
 abbrev pub bare_chaosd : App
@@ -14,18 +47,11 @@ bare_chaosd = let app = new_app (codes "chaosd") in
 
 -- the command with its subcommands
 abbrev pub chaosd : App
-chaosd = with_subcommand bare_chaosd (new_app (codes "show")).top
-
--- the line that a subcommand and its values ask for
-abbrev pub line_of : Option (Text × List Row) → Option Line
-line_of None = None
-line_of (Some found) = if bytes_eq found.0 (codes "show") then Some Show else None
-
--- a subcommand that clap takes, and that asks for no line, is an invalid one
-abbrev pub kinds_of : Option Line → Kinds
-kinds_of (Some line) = []
-kinds_of None = InvalidSubcommand ∷ []
-
--- the kinds of error that the words may give: those of clap, and where it takes the words, ours
-abbrev pub line_kinds : List Text → Kinds
-line_kinds words = or_else (fault_of chaosd words) (kinds_of (line_of (subcommand_of chaosd words)))
+chaosd = with_subcommand
+    (with_subcommand
+    (with_subcommand
+    (with_subcommand (with_subcommand bare_chaosd (new_app (codes "show")).top)
+    (new_app (codes "lab")).top)
+    (new_app (codes "loop")).top)
+    serve_command.top)
+    ask_command.top

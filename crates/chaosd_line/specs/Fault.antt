@@ -1,10 +1,15 @@
--- The faults of a command line, and the statuses that they end a program with.
-use Rattle.std.specs.Prelude.{◌≡◌, ◌∷◌, ℕ, [], MatchResult, Result}
-use Rattle.clap.specs.Words.{IsAmong, Kinds}
+-- What is wrong with a command line, and the statuses that it ends a program with.
+use Rattle.std.specs.Prelude.{◌≡◌, ◌⊎◌, ◌∷◌, ℕ, List, [], MatchResult, Result}
+use Rattle.clap.specs.Values.{kind_of}
+use Rattle.clap.specs.Words.{IsAmong, Text, fault_of}
+use Rattle.clap.specs.declared.error.Error.{Error}
 use Rattle.clap.specs.declared.error.kind.ErrorKind.{ErrorKind}
-use Rattle.clap.specs.declared.error.kind.ErrorKind.TheVariants.{DisplayHelp, OutOfMemory}
+use Rattle.clap.specs.declared.error.kind.ErrorKind.TheVariants.{DisplayHelp, OutOfMemory, ValueValidation}
+use Rattle.chaosd_line.specs.CommandLine.{chaosd}
+use Rattle.chaosd_line.specs.Lines.{IsLineOf}
 use Rattle.chaosd_line.specs.declared.fault.LineFault.{LineFault}
 use Rattle.chaosd_line.specs.declared.fault.LineFault.TheVariants.{BadLine, Help, NoMemory}
+use Rattle.chaosd_line.specs.declared.line.Line.{Line}
 
 -- the exit status of a fault
 abbrev pub line_status : LineFault → ℕ
@@ -18,11 +23,20 @@ fault_of_kind DisplayHelp = Help
 fault_of_kind OutOfMemory = NoMemory
 fault_of_kind _ = BadLine
 
--- the fault stands for want of memory, or for one of the kinds
-abbrev pub IsFaultOf : Kinds → LineFault → Type 0
-IsFaultOf kinds fault = (kind : ErrorKind) × IsAmong kind (OutOfMemory ∷ kinds)
-    × (fault ≡ fault_of_kind kind)
+-- clap takes the words, but a value is not of its form, so they ask for no line
+abbrev pub HasBadValue : List Text → Type 0
+HasBadValue words = (fault_of chaosd words ≡ []) × ((line : Line) → ¬ (IsLineOf words line))
 
--- an `Ok` comes only where no kind does, and a refusal is the fault of one of them
-abbrev pub RefusesBy : {T : Type 0} → Kinds → Result T LineFault → Type 0
-RefusesBy kinds r = MatchResult r (λ _. kinds ≡ []) (IsFaultOf kinds)
+-- the kind is want of memory, one of those that clap has for the words, or that of a bad value
+abbrev pub IsKindFor : List Text → ErrorKind → Type 0
+IsKindFor words kind = IsAmong kind (OutOfMemory ∷ fault_of chaosd words)
+    ⊎ ((kind ≡ ValueValidation) × HasBadValue words)
+
+-- an `Ok` comes only where clap has nothing against the words, and an `Err` has a kind for them
+abbrev pub FailsFor : {T : Type 0} → List Text → Result T Error → Type 0
+FailsFor words r = MatchResult r (λ _. fault_of chaosd words ≡ []) (λ e. IsKindFor words (kind_of e))
+
+-- the same of a refusal, which is the fault that such a kind stands for
+abbrev pub RefusesFor : {T : Type 0} → List Text → Result T LineFault → Type 0
+RefusesFor words r = MatchResult r (λ _. fault_of chaosd words ≡ [])
+    (λ fault. (kind : ErrorKind) × IsKindFor words kind × (fault ≡ fault_of_kind kind))

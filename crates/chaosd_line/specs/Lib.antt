@@ -1,2 +1,4 @@
 pub mod CommandLine
 pub mod Fault
+pub mod Lines
+pub mod Values

@@ -1,19 +1,25 @@
 //! The command line of `chaosd`: which line the words ask for, or what the user is told instead.
 //!
 //! It reads the words that the caller passes, by `clap`, and nothing else: no environment, no
-//! input, no output, no clock. It allocates, and a want of memory is a fault of its own.
+//! input, no output, no clock, no folder and no socket. It allocates, and a want of memory is a
+//! fault of its own.
 //!
 //! `parse_line` keeps clap's error, whose text is for the user, and `read_line` keeps the fault
 //! alone. Both read by the same command, and their contracts name clap's reading of the words.
 #![tactic(auto)]
 
+mod bad_word;
 mod command;
 mod fault;
+mod given;
+mod help;
 mod line;
 mod parse;
+mod peers;
+mod values;
 
 pub use fault::LineFault;
-pub use line::Line;
+pub use line::{Ask, Line, Serve};
 pub use parse::{parse_line, read_line};
 
 #[cfg(test)]

@@ -1,15 +1,20 @@
 //! The reading of a command line.
 ghost use Rattle.std.specs.Prelude.{◌≡◌, map, IfOk};
+ghost use Rattle.clap.specs.Values.{kind_of};
 ghost use Rattle.clap.specs.Words.{FailsBy, app_of, fault_of, subcommand_of, subcommand_rows_of};
-ghost use Rattle.chaosd_line.specs.CommandLine.{chaosd, line_kinds, line_of};
-ghost use Rattle.chaosd_line.specs.Fault.{RefusesBy};
+ghost use Rattle.clap.specs.declared.error.kind.ErrorKind.TheVariants.{ValueValidation};
+ghost use Rattle.chaosd_line.specs.CommandLine.{chaosd};
+ghost use Rattle.chaosd_line.specs.Fault.{FailsFor, RefusesFor};
+ghost use Rattle.chaosd_line.specs.Lines.{IsLineOf};
 
-use crate::command::command;
+use crate::bad_word::BadWord;
+use crate::command::{command, command_of};
 use crate::fault::LineFault;
+use crate::given::line_of;
 use crate::line::Line;
 use clap::error::ErrorKind;
 use clap::{ArgMatches, Command, Error};
-use std::alloc::Global;
+use std::alloc::{AllocError, Global};
 use std::convert::AsStr;
 
 /// What clap makes of the words.
@@ -25,48 +30,46 @@ fn matches_of<'a, S: AsStr>(
     command.try_get_matches_from_mut(words)
 }
 
-/// What the subcommand of the matches asks for.
-fn line_in(matches: &ArgMatches<'_>) -> Option<Line>
-    ensures { result ≡ line_of (subcommand_rows_of matches.now) }
+/// The error that tells the user of a bad word, with the usage of the subcommand that it stands in.
+fn error_of(alloc: Global, bad: &BadWord<'_>, subcommand: Option<&str>) -> Result<Error, AllocError>
+    ensures { IfOk result (λ error. kind_of error ≡ ValueValidation) }
 {
-    match matches.subcommand_name() {
-        Some("show") => Some(Line::Show),
-        _ => None,
-    }
+    let text = format!(in alloc; "{bad}")?;
+    command_of(alloc, subcommand)?.error(ErrorKind::ValueValidation, text.as_str())
 }
 
 /// What these words, without the program's name in front, ask for.
 ///
 /// An `Err` is clap's error, with the text for the user, which its `print` writes: help to
-/// standard output, a mistake to standard error. `LineFault::from` its kind is the fault.
+/// standard output, a mistake to standard error. `LineFault::from` its kind is the fault. A word
+/// that is not of its form is named, with what is wanted in its place.
 ///
 /// Memory and time are clap's, for the words and its own few arguments.
-pub fn parse_line<'a, S: AsStr>(alloc: Global, words: &'a [S]) -> Result<Line, Error>
-    // The line is that of the subcommand that clap gives for the words.
-    ensures line { IfOk result (λ line.
-        line_of (subcommand_of chaosd (map S.text words.now)) ≡ Some line) }
+pub fn parse_line<'a, S: AsStr>(alloc: Global, words: &'a [S]) -> Result<Line<'a>, Error>
+    // The line is what the subcommand and the values that clap gives for the words stand for.
+    ensures line { IfOk result (IsLineOf (map S.text words.now)) }
 
-    // It is `Ok` only where nothing is wrong with the words. An `Err` is want of memory or one of
-    // the mistakes, or the wish for help, that the words have.
-    ensures kinds { FailsBy (line_kinds (map S.text words.now)) result }
+    // It is `Ok` only where nothing is wrong with the words. An `Err` is want of memory, one of
+    // the mistakes, or the wish for help, that clap finds in the words, or where it finds none, a
+    // value that is not of its form.
+    ensures kinds { FailsFor (map S.text words.now) result }
 {
     let mut command = command(alloc)?;
     let matches = matches_of(&mut command, words)?;
-    match line_in(&matches) {
-        Some(line) => Ok(line),
-        None => Err(command.error(ErrorKind::InvalidSubcommand, "no such subcommand")?),
+    match line_of(&matches) {
+        Ok(asked) => Ok(asked),
+        Err(bad) => Err(error_of(alloc, &bad, matches.subcommand_name())?),
     }
 }
 
 /// As `parse_line`, with the fault alone.
-pub fn read_line<'a, S: AsStr>(alloc: Global, words: &'a [S]) -> Result<Line, LineFault>
-    // The line is that of the subcommand that clap gives for the words.
-    ensures line { IfOk result (λ line.
-        line_of (subcommand_of chaosd (map S.text words.now)) ≡ Some line) }
+pub fn read_line<'a, S: AsStr>(alloc: Global, words: &'a [S]) -> Result<Line<'a>, LineFault>
+    // The line is what the subcommand and the values that clap gives for the words stand for.
+    ensures line { IfOk result (IsLineOf (map S.text words.now)) }
 
     // It is `Ok` only where nothing is wrong with the words. The fault is want of memory, or
     // stands for a kind of error that the words have.
-    ensures faults { RefusesBy (line_kinds (map S.text words.now)) result }
+    ensures faults { RefusesFor (map S.text words.now) result }
 {
     match parse_line(alloc, words) {
         Ok(line) => Ok(line),

@@ -1,0 +1,3 @@
+pub mod NoReading
+pub mod PeerLists
+mod Simple

@@ -1,0 +1,64 @@
+-- The forms of the words of a line, each beside the value that it stands for.
+use Rattle.std.specs.Prelude.{◌≡◌, ◌≢◌, ◌⊎◌, ◌≤◌, ◌<◌, ◌==◌, ◌++◌, ◌∷◌, ℕ, List, [], length, slice_index, Option, MatchOption, Result, MatchResult}
+use Rattle.std.specs.List.{AllPairs, AllZip, after_first, before_first, position_or_len}
+use Rattle.std.specs.Net.Grammar.{IsSocketV4Text}
+use Rattle.std.specs.Str.Parse.{IsNumeral, digits_value}
+use Rattle.std.specs.declared.net.socket_addr.SocketAddrV4.{SocketAddrV4}
+use Rattle.clap.specs.Words.{Text}
+use Rattle.chaos_link.specs.declared.limits.TheConstants.{MAX_PEERS}
+use Rattle.chaos_link.specs.Peers.{IsKnown}
+use Rattle.chaos_link.specs.declared.peers.Peer.{Peer}
+
+-- the answer is the value of which P holds, and there is none only where P holds of nothing
+abbrev pub Finds : {T : Type 0} → (T → Type 0) → Option T → Type 0
+Finds {T} P r = MatchOption r ((x : T) → ¬ (P x)) P
+
+abbrev pub Reads : {T E : Type 0} → (T → Type 0) → Result T E → Type 0
+Reads {T} P r = MatchResult r P (λ _. (x : T) → ¬ (P x))
+
+-- one to six octal digits that write a number from 1 to 65535, which is 177777 octal
+abbrev pub IsAddress : Text → ℕ → Type 0
+IsAddress text n =
+    (length text ≤ 6) × IsNumeral 8 text × (n ≡ digits_value 8 text) × (0 < n) × (n < 65536)
+
+abbrev pub BeginsWithZero : Text → Type 0
+BeginsWithZero text = slice_index text 0 ≡ 48
+
+-- decimal digits without leading zeros that write a number to 1000000000
+abbrev pub IsTurns : Text → ℕ → Type 0
+IsTurns text n = IsNumeral 10 text × ((1 < length text) → ¬ (BeginsWithZero text))
+    × (n ≡ digits_value 10 text) × (n ≤ 1000000000)
+
+-- a.b.c.d:port, in decimal without leading zeros, so that the port is not 0
+abbrev pub IsSocket : Text → SocketAddrV4 → Type 0
+IsSocket text socket =
+    IsSocketV4Text text socket × ¬ (BeginsWithZero (after_first (λ b. b == 58) text))
+
+-- what stands before the first `=`, and what stands after it
+abbrev pub AreSides : Text → Text → Text → Type 0
+AreSides text left right = (position_or_len (λ b. b == 61) text < length text)
+    × (left ≡ before_first (λ b. b == 61) text) × (right ≡ after_first (λ b. b == 61) text)
+
+-- an address, `=`, and a socket
+abbrev pub IsPeer : Text → Peer → Type 0
+IsPeer text peer = (position_or_len (λ b. b == 61) text < length text)
+    × IsAddress (before_first (λ b. b == 61) text) peer.address
+    × IsSocket (after_first (λ b. b == 61) text) peer.socket
+
+-- each text is the peer at its place, there are at most 32, and no two have one address
+abbrev pub ArePeers : List Text → List Peer → Type 0
+ArePeers texts peers = AllZip IsPeer texts peers × (length peers ≤ MAX_PEERS)
+    × AllPairs (λ p q. p.address ≢ q.address) peers
+
+-- the text is a peer that comes last, for which there was room, and whose address was not known
+pub record Adds (text : Text) (old new : List Peer) : Type 0 where
+  pub peer : Peer
+  pub written : IsPeer text peer
+  pub room : length old < MAX_PEERS
+  pub fresh : ¬ (IsKnown peer.address old)
+  pub added : new ≡ old ++ peer ∷ []
+
+-- whatever peer the text is, there is no room for it, or its address is known
+abbrev pub CannotAdd : Text → List Peer → Type 0
+CannotAdd text old = (peer : Peer) → IsPeer text peer
+    → (length old ≡ MAX_PEERS) ⊎ IsKnown peer.address old

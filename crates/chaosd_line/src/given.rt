@@ -1,0 +1,136 @@
+//! The values that clap gives for a subcommand, and the line that they ask for.
+ghost use Rattle.std.specs.Prelude.{◌≡◌, [], MatchResult, None, Some, codes, unwrap_or};
+ghost use Rattle.std.specs.Option.{IsSomeAnd};
+ghost use Rattle.clap.specs.Words.{all_of, first_of, found_of, rows_of, subcommand_rows_of};
+ghost use Rattle.chaosd_line.specs.Lines.{AsksFor, IsAsk, IsServe};
+ghost use Rattle.chaosd_line.specs.Values.{ArePeers, IsAddress, IsSocket, IsTurns, Reads};
+
+use crate::bad_word::{ADDRESS_FORM, BadWord, SOCKET_FORM, TURNS_FORM};
+use crate::line::{Ask, Line, Serve};
+use crate::peers::peers_of;
+use crate::values::{address_of, socket_of, turns_of};
+use chaos_link::Peers;
+use clap::ArgMatches;
+use std::net::SocketAddrV4;
+
+/// The word at a place. That there is one is clap's care: it takes no line without.
+fn given<'a>(matches: &ArgMatches<'a>, place: &'a str) -> Result<&'a str, BadWord<'a>>
+    ensures { MatchResult result (λ text. first_of place.entry.now (rows_of (found_of matches.now)) ≡ Some text.now)
+        (λ _. first_of place.entry.now (rows_of (found_of matches.now)) ≡ None) }
+{
+    match matches.get_str(place) {
+        Some(text) => Ok(text),
+        None => Err(BadWord {
+            text: "",
+            place,
+            form: "a word",
+        }),
+    }
+}
+
+/// The Chaosnet address at a place.
+fn given_address<'a>(matches: &ArgMatches<'a>, place: &'a str) -> Result<u16, BadWord<'a>>
+    ensures { Reads (λ n. IsSomeAnd (first_of place.entry.now (rows_of (found_of matches.now))) (λ t. IsAddress t n)) result }
+{
+    let text = given(matches, place)?;
+    match address_of(text) {
+        Some(address) => Ok(address),
+        None => Err(BadWord {
+            text,
+            place,
+            form: ADDRESS_FORM,
+        }),
+    }
+}
+
+/// The turns to serve.
+fn given_turns<'a>(matches: &ArgMatches<'a>) -> Result<u32, BadWord<'a>>
+    ensures { Reads (λ n. IsSomeAnd (first_of (codes "turns") (rows_of (found_of matches.now))) (λ t. IsTurns t n)) result }
+{
+    let text = given(matches, "turns")?;
+    match turns_of(text) {
+        Some(turns) => Ok(turns),
+        None => Err(BadWord {
+            text,
+            place: "--turns",
+            form: TURNS_FORM,
+        }),
+    }
+}
+
+/// The UDP address of the host's own socket.
+fn given_socket<'a>(matches: &ArgMatches<'a>) -> Result<SocketAddrV4, BadWord<'a>>
+    ensures { Reads (λ s. IsSomeAnd (first_of (codes "UDP") (rows_of (found_of matches.now))) (λ t. IsSocket t s)) result }
+{
+    let text = given(matches, "UDP")?;
+    match socket_of(text) {
+        Some(socket) => Ok(socket),
+        None => Err(BadWord {
+            text,
+            place: "UDP",
+            form: SOCKET_FORM,
+        }),
+    }
+}
+
+/// The peers, of which there may be none.
+fn given_peers<'a>(matches: &ArgMatches<'a>) -> Result<Peers, BadWord<'a>>
+    ensures { Reads (ArePeers (unwrap_or (all_of (codes "PEER") (rows_of (found_of matches.now))) [])) result }
+{
+    match matches.get_strs("PEER") {
+        Some(texts) => peers_of(texts),
+        None => peers_of(&[]),
+    }
+}
+
+/// What the values of `serve` ask for.
+fn serve_of<'a>(matches: &ArgMatches<'a>) -> Result<Serve<'a>, BadWord<'a>>
+    ensures { Reads (IsServe (rows_of (found_of matches.now))) result }
+{
+    let turns = given_turns(matches)?;
+    let address = given_address(matches, "ADDRESS")?;
+    let socket = given_socket(matches)?;
+    let folder = given(matches, "FOLDER")?;
+    let peers = given_peers(matches)?;
+    Ok(Serve {
+        turns,
+        address,
+        socket,
+        folder,
+        peers,
+    })
+}
+
+/// What the values of `ask` ask for.
+fn ask_of<'a>(matches: &ArgMatches<'a>) -> Result<Ask, BadWord<'a>>
+    ensures { Reads (IsAsk (rows_of (found_of matches.now))) result }
+{
+    let address = given_address(matches, "ADDRESS")?;
+    let socket = given_socket(matches)?;
+    let to = given_address(matches, "TO")?;
+    let peers = given_peers(matches)?;
+    Ok(Ask {
+        address,
+        socket,
+        to,
+        peers,
+    })
+}
+
+/// What a subcommand and its values ask for. That it is one of these is clap's care.
+pub(crate) fn line_of<'a>(matches: &ArgMatches<'a>) -> Result<Line<'a>, BadWord<'a>>
+    ensures { Reads (AsksFor (subcommand_rows_of matches.now)) result }
+{
+    match matches.subcommand() {
+        Some(("show", _)) => Ok(Line::Show),
+        Some(("lab", _)) => Ok(Line::Lab),
+        Some(("loop", _)) => Ok(Line::Loop),
+        Some(("serve", values)) => Ok(Line::Serve(serve_of(values)?)),
+        Some(("ask", values)) => Ok(Line::Ask(ask_of(values)?)),
+        _ => Err(BadWord {
+            text: "",
+            place: "COMMAND",
+            form: "a subcommand",
+        }),
+    }
+}
