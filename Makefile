@@ -4,6 +4,7 @@
 #   make demo               shows the report of a status datagram
 #   make check              the gate: claims, every proof from nothing, wrong bodies, tests, and the program as a user meets it
 #   make wrong-bodies       the wrong bodies that the gate leaves out, for before a release (about an hour)
+#   make dialogues          random dialogues between two hosts, a million packets from a seed of the clock's; SEED=.. PACKETS=..
 #   make bench              times everything beside the same in plain Rust (rustc and python3)
 #   make bench-show         `chaosd show` alone; likewise bench-codec, bench-links, bench-window, bench-host, bench-file
 #   make install PREFIX=DIR puts the program into DIR/bin
@@ -12,8 +13,11 @@ PREFIX ?= /usr/local
 RT ?= rt
 SOURCES := crates.txt HANDLES $(shell find crates \( -name out -o -name must-fail -o -name wrong-bodies \) -prune -o -type f -print)
 BENCHES := codec links window host file
+DIALOGUES := crates/random_dialogues/out/random_dialogues
+SEED ?= $(shell date +%s)
+PACKETS ?= 1000000
 
-.PHONY: all demo check wrong-bodies bench bench-show $(BENCHES:%=bench-%) install clean
+.PHONY: all demo check wrong-bodies dialogues bench bench-show $(BENCHES:%=bench-%) install clean
 
 all: bin/chaosd
 
@@ -31,6 +35,14 @@ check:
 
 wrong-bodies:
 	@RT=$(RT) tools/wrong-bodies
+
+dialogues: $(DIALOGUES)
+	@$(DIALOGUES) $(SEED) $(PACKETS)
+
+$(DIALOGUES): $(SOURCES)
+	cd crates/random_dialogues && $(RT) run -- 1 1 > out.log 2>&1 || { cat out.log; rm -f out.log; exit 1; }
+	@rm -f crates/random_dialogues/out.log
+	@touch $@
 
 bench: bench-show $(BENCHES:%=bench-%)
 
