@@ -4,10 +4,10 @@
 #   make demo               runs a FILE session between two hosts in one process
 #   make check              the gate: claims, every proof from nothing, wrong bodies, tests, and the program as a user meets it
 #   make wrong-bodies       the wrong bodies that the gate leaves out, for before a release (about an hour)
+#   make dialogues          random dialogues between two hosts, a million packets from a seed of the clock's; SEED=.. PACKETS=..
 #   make bench              times everything beside the same in plain Rust (rustc and python3)
 #   make bench-show         `chaosd show` alone; likewise bench-lab and bench-loop of the program, and bench-codec, bench-links,
 #                           bench-window, bench-host and bench-file of the libraries
-#   make dialogues          a million packets between two hosts, by a seed: make dialogues SEED=7 PACKETS=1000000
 #   make install PREFIX=DIR puts the program into DIR/bin, and its manual page into DIR/share/man/man1
 
 PREFIX ?= /usr/local
@@ -15,6 +15,9 @@ RT ?= rt
 SOURCES := crates.txt HANDLES $(shell find crates \( -name out -o -name must-fail -o -name wrong-bodies \) -prune -o -type f -print)
 BENCHES := codec links window host file
 PROGRAM_BENCHES := show lab loop
+DIALOGUES := crates/random_dialogues/out/random_dialogues
+SEED ?= $(shell date +%s)
+PACKETS ?= 1000000
 
 .PHONY: all demo check wrong-bodies dialogues bench $(PROGRAM_BENCHES:%=bench-%) $(BENCHES:%=bench-%) install clean
 
@@ -34,6 +37,14 @@ check:
 
 wrong-bodies:
 	@RT=$(RT) tools/wrong-bodies
+
+dialogues: $(DIALOGUES)
+	@$(DIALOGUES) $(SEED) $(PACKETS)
+
+$(DIALOGUES): $(SOURCES)
+	cd crates/random_dialogues && $(RT) run -- 1 1 > out.log 2>&1 || { cat out.log; rm -f out.log; exit 1; }
+	@rm -f crates/random_dialogues/out.log
+	@touch $@
 
 bench: $(PROGRAM_BENCHES:%=bench-%) $(BENCHES:%=bench-%)
 

@@ -24,6 +24,7 @@ mod turns;
 
 pub use ask_run::run_ask;
 pub use end::ScriptEnd;
+pub use limits::{LOOP_CLIENT, LOOP_SERVER};
 pub use loop_run::run_loop;
 pub use serve_run::run_serve;
 pub use status::{script_status, serve_status};

@@ -3,85 +3,81 @@
 //! They have any opcode and any fields, but none names a connection that the two hosts hold with one another: it comes from
 //! the strangers' address, or from an index that no slot of the other host has; or it is for an index that isn't in use here
 //! (and then it is no request, since a request is found by where it comes from). Where one of them names a connection
-//! rightly, as an answer to a request that waits for any index of its peer's address, that connection has a stranger as its
-//! peer from then on: what it reads is compared with nothing, and all else is.
+//! rightly, as a stranger's packet to one that he asked for, or a reply to a request that waits for any index of its peer's
+//! address, that connection has a stranger as its peer from then on: what is read there is compared with nothing, and all
+//! else is.
 
+use crate::chance::Chance;
 use crate::life::Life;
 use crate::scene::Scene;
 use crate::station::{CONTACT, Station};
 use chaos_host::ConnId;
-use chaos_packet::{MAX_DATA, Opcode, Packet, PktNum, body_of};
+use chaos_packet::{Item, MAX_DATA, Opcode, Packet, PktNum};
 
 /// The address of the strangers. There is no host.
 pub const STRANGERS: u16 = 0o403;
 
-/// The index from which on no slot of a host has one, whatever its generation: hosts have a few slots.
+/// An index from which on, in the low half, no slot of a host has one: hosts have a few slots.
 const NO_SLOT: u16 = 240;
 
 impl Station {
-    /// A packet that no host sent.
+    /// A packet that no host sent, at times nearly right for the connection in a slot.
     pub fn hostile(&self, scene: &mut Scene) -> Packet {
         let slot = scene.chance.place(self.seats.len().max(1));
         let life = match self.life_at(slot, scene) {
             Some((_, life)) => life,
             None => Life::new(self.other, None, None, PktNum(0)),
         };
-        let id = match self.host.id_of(slot) {
+        let mut packet = any_packet(&life, &mut scene.chance);
+        packet.dst = self.address;
+        packet.dst_index = match self.host.id_of(slot) {
             Some(id) => id.0,
             None => scene.chance.half(),
         };
-        let mut packet = any_packet(scene);
-        packet.dst = self.address;
-        packet.dst_index = id;
-        near_window(&mut packet, &life, scene);
-        self.disguise(&mut packet, &life, scene);
+        self.disguise(&mut packet, &life, &mut scene.chance);
         packet
     }
 
     /// Gives a packet a source that isn't the peer of the connection that it names, or a destination that isn't there.
-    fn disguise(&self, packet: &mut Packet, life: &Life, scene: &mut Scene) {
-        let few = (scene.chance.below(4)) as u16;
+    fn disguise(&self, packet: &mut Packet, life: &Life, chance: &mut Chance) {
+        let few = u16::from(chance.byte() % 4);
+        let index = life.index.unwrap_or(few);
         packet.src = self.other;
         packet.src_index = NO_SLOT + few;
-        match scene.chance.below(8) {
+        match chance.below(8) {
             0..=3 => {
                 packet.src = STRANGERS;
-                packet.src_index = life.index.unwrap_or(few);
+                packet.src_index = index;
             }
             4 | 5 => (),
-            6 if self.is_unknown(packet) => packet.src_index = life.index.unwrap_or(few),
-            6 => (),
+            6 => self.misdirect(packet, index),
             _ if few % 2 == 0 => packet.dst = STRANGERS,
             _ => packet.src = 0,
         }
     }
 
-    /// Gives a packet an index that isn't in use here, if it is no request. It says whether it did.
-    fn is_unknown(&self, packet: &mut Packet) -> bool {
-        packet.dst_index = packet.dst_index.wrapping_sub(256);
-        !packet.op.kind().is_rfc() && self.host.state(ConnId(packet.dst_index)).is_err()
+    /// Gives a packet that is no request this source index, and as its destination the index before in the same slot, if
+    /// that isn't in use here.
+    fn misdirect(&self, packet: &mut Packet, index: u16) {
+        let before = packet.dst_index.wrapping_sub(256);
+        if !packet.op.kind().is_rfc() && self.host.state(ConnId(before)).is_err() {
+            packet.dst_index = before;
+            packet.src_index = index;
+        }
     }
 }
 
-/// A packet of any opcode, forwards, data and numbers.
-fn any_packet(scene: &mut Scene) -> Packet {
-    let chance = &mut scene.chance;
+/// A packet of any opcode, forwards, data and numbers, from nowhere. At times the numbers are near those that the connection
+/// and its peer are at.
+fn any_packet(life: &Life, chance: &mut Chance) -> Packet {
     let op = if chance.once_in(2) {
         Opcode(chance.byte())
     } else {
         Opcode(chance.byte() % 14)
     };
-    let body = [chance.byte(); MAX_DATA];
-    let len = match chance.below(8) {
-        0 => MAX_DATA,
-        1..=3 => 4,
-        few => few as usize,
-    };
-    let bytes = if op.kind().is_rfc() && chance.once_in(2) {
-        CONTACT
-    } else {
-        &body[..len]
-    };
+    let acked = PktNum(life.last().0.wrapping_sub(chance.half() % 4));
+    let item = any_item(op, acked, chance);
+    let is_near = chance.once_in(2);
     Packet {
         op,
         fwd: chance.byte() % 16,
@@ -89,18 +85,31 @@ fn any_packet(scene: &mut Scene) -> Packet {
         dst_index: 0,
         src: 0,
         src_index: 0,
-        num: PktNum(chance.half()),
-        ack: PktNum(chance.half()),
-        body: body_of(bytes),
+        num: PktNum(chance.half() % if is_near { 80 } else { 65_535 }),
+        ack: if is_near {
+            acked
+        } else {
+            PktNum(chance.half())
+        },
+        body: item.body,
     }
 }
 
-/// Gives a packet, at times, an acknowledgement of what a connection wrote last.
-fn near_window(packet: &mut Packet, life: &Life, scene: &mut Scene) {
-    if scene.chance.once_in(2) {
-        packet.ack = PktNum(life.last().0.wrapping_sub(scene.chance.half() % 4));
+/// Any data: a contact for a request, or a receipt and a window, and more after them.
+fn any_item(op: Opcode, receipt: PktNum, chance: &mut Chance) -> Item {
+    if op.kind().is_rfc() && chance.once_in(2) {
+        return Item::new(op, CONTACT);
     }
-    if scene.chance.once_in(2) {
-        packet.num = PktNum(scene.chance.half() % 80);
-    }
+    let mut bytes = [chance.byte(); MAX_DATA];
+    let [low, high] = receipt.0.to_le_bytes();
+    bytes[0] = low;
+    bytes[1] = high;
+    bytes[2] %= 80;
+    bytes[3] %= 2;
+    let len = match chance.below(8) {
+        0 => MAX_DATA,
+        1..=4 => 4,
+        few => few as usize,
+    };
+    Item::new(op, &bytes[..len])
 }
