@@ -19,6 +19,7 @@ import struct
 import subprocess
 import sys
 import tempfile
+import threading
 import time
 
 sys.dont_write_bytecode = True
@@ -154,7 +155,14 @@ class Serving:
         self.port, *self.peers = free_ports(1 + peers)
         words = [f"{CLIENT + n:o}={at(port)}" for n, port in enumerate(self.peers)]
         self.process = started(["serve", "401", at(self.port), folder, *words], stderr=subprocess.PIPE, stdout=subprocess.PIPE)
-        self.said = line_of(self.process.stderr)
+        self.told = [b"401", at(self.port).encode(), str(folder).encode()]
+        self.said = b""
+        while self.untold() and (line := line_of(self.process.stderr)):
+            self.said += line
+
+    def untold(self):
+        """What it has to say when it listens, and did not."""
+        return [piece for piece in self.told if piece not in self.said]
 
     def words(self, peer=0):
         """The words of `ask` for that peer."""
@@ -389,8 +397,8 @@ def openings(checks):
 def files_both_ways(checks):
     """Files of many sizes are put and got, byte for byte."""
     with serving() as server:
-        said = [piece for piece in [b"401", at(server.port).encode(), str(server.folder).encode()] if piece not in server.said]
-        checks.check("serve says where it listens, for whom and on what", [f"no {piece!r} in {server.said!r}" for piece in said])
+        problems = [f"no {piece!r} in {server.said!r}" for piece in server.untold()]
+        checks.check("serve says where it listens, for whom and on what", problems)
         checks.check("ask: a file is written and read", run(server.words(), FILE_SCRIPT).problems(DONE, FILE_REPLIES, b""))
         for size in [0, 1, FILE_DATA, FILE_DATA + 1, 1_000_000]:
             content = plain_content(size) if size > 100_000 else mixed_content(size)
@@ -684,6 +692,72 @@ class Waiting:
             checks.check(f"ask {name}: `no reply` once, status 3", problems)
 
 
+class Lossy(threading.Thread):
+    """A network between a server and a client that loses, repeats and reorders."""
+
+    def __init__(self, port, ends):
+        super().__init__(daemon=True)
+        self.socket = socket.socket(socket.AF_INET, socket.SOCK_DGRAM)
+        self.socket.bind(("127.0.0.1", port))
+        self.other = {ends[0]: ends[1], ends[1]: ends[0]}
+        self.count, self.lost, self.random = 0, 0, random.Random(1981)
+
+    def run(self):
+        late = None
+        with contextlib.suppress(OSError, KeyError):
+            while True:
+                datagram, (_, port) = self.socket.recvfrom(2_048)
+                target = ("127.0.0.1", self.other[port])
+                chance = self.random.randrange(10)
+                self.count += 1
+                if chance == 0:
+                    self.lost += 1
+                elif chance == 1 and late is None:
+                    late = (datagram, target)
+                else:
+                    for _ in range(2 if chance == 2 else 1):
+                        self.socket.sendto(datagram, target)
+                    if late:
+                        self.socket.sendto(*late)
+                        late = None
+
+
+class Losing:
+    """A file that is put and got over a network that loses, beside the other checks."""
+
+    def __init__(self):
+        self.folder = tempfile.TemporaryDirectory()
+        self.content = mixed_content(20 * FILE_DATA + 9)
+        self.server = Serving(self.folder.name)
+        (client,) = free_ports(1)
+        self.network = Lossy(self.server.peers[0], (self.server.port, client))
+        self.network.start()
+        words = ["ask", "402", at(client), "401", f"401={at(self.server.peers[0])}"]
+        pipes = {"stdin": subprocess.PIPE, "stdout": subprocess.PIPE, "stderr": subprocess.PIPE}
+        self.process = started(words, **pipes)
+        put, self.put_replies = put_script(b"FILE", self.content)
+        self.process.stdin.write(put + get_script(b"FILE", len(self.content)))
+        self.process.stdin.close()
+        self.process.stdin = None
+
+    def check(self, checks):
+        try:
+            out, err = self.process.communicate(timeout=LONG)
+            problems = program.Ended(self.process.returncode, out, err).problems(DONE, None, b"")
+            problems += [] if out.startswith(self.put_replies) else [f"the replies to the WRITEs are {out[:300]!r}.."]
+            told, _ = content_read(out)
+            problems += [] if told == self.content else [f"{len(told)} bytes came and not the {len(self.content)} of the file"]
+            problems += stored_problems(pathlib.Path(self.folder.name) / "FILE", self.content)
+        except subprocess.TimeoutExpired:
+            self.process.kill()
+            problems = ["it goes on"]
+        self.network.socket.close()
+        self.server.end()
+        self.folder.cleanup()
+        problems += [] if self.network.lost > 5 else [f"of {self.network.count} datagrams {self.network.lost} were lost"]
+        checks.check("a file comes whole over a network that loses, repeats and reorders", problems)
+
+
 GROUPS = [loop_rows, loop_lines, loop_bad_lines, loop_limits, streams, command_lines, good_lines, openings, files_both_ways]
 GROUPS += [typed_commands, four_clients, vanished_clients, store_faults, another_program, signals]
 
@@ -694,8 +768,8 @@ def main():
     if not program.PROGRAM.is_file():
         sys.exit(f"{program.PROGRAM} isn't there: run make first")
     checks = Checks()
-    waiting = Waiting()
-    for group in [*GROUPS, waiting.check]:
+    waiting, losing = Waiting(), Losing()
+    for group in [*GROUPS, losing.check, waiting.check]:
         try:
             group(checks)
         except (OSError, subprocess.SubprocessError, struct.error, IndexError) as error:
