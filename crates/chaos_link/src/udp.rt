@@ -134,9 +134,9 @@ fn send_to(socket: &UdpSocket, bytes: &[u8], peer: SocketAddrV4) -> io::Result<(
     }
 }
 
-/// Whether the system says of a send no more than that its datagram is lost: it had no room, it can't reach the address or
-/// doesn't allow it, or what [`is_nothing`] says. An address that a socket can't send to from where it is bound, as another
-/// network's from a socket of this machine alone, is an argument that isn't valid.
+/// Whether the system says of a send no more than that its datagram is lost: it can't reach the address or doesn't allow it,
+/// it had no room, or what [`is_nothing`] says. An address that can't be reached from where the socket is bound, as another
+/// network from a socket of this machine alone, is told as an argument that isn't valid, and so is port 0.
 fn is_loss(kind: ErrorKind) -> bool {
     match kind {
         ErrorKind::HostUnreachable
