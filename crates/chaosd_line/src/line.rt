@@ -1,4 +1,5 @@
 //! What a command line asks for.
+ghost use Rattle.std.specs.Prelude.{◌<◌};
 
 use chaos_link::Peers;
 use std::net::SocketAddrV4;
@@ -31,6 +32,7 @@ pub struct Serve<'a> {
     pub folder: &'a str,
     /// Where it sends to.
     pub peers: Peers,
+    ghost named: { 0 < address },
 }
 
 /// Whom to ask, and as whom.
@@ -44,4 +46,5 @@ pub struct Ask {
     pub to: u16,
     /// Where it sends to.
     pub peers: Peers,
+    ghost named: { 0 < address },
 }
