@@ -2,10 +2,14 @@
 use crate::told::{tell_end, tell_unopened};
 use chaos_file::DirStore;
 use chaos_link::{Peer, Peers, UdpLink};
-use chaosd_file::{LOOP_CLIENT, LOOP_SERVER, run_ask, run_loop, run_serve, script_status, serve_status};
+use chaosd_engines::RunFault;
+use chaosd_file::{
+    LOOP_CLIENT, LOOP_SERVER, ScriptEnd, run_ask, run_loop, run_serve, script_status, serve_status,
+};
 use chaosd_line::{Ask, Serve};
 use std::fs::Files;
 use std::io;
+use std::io::Read;
 use std::net::{Ipv4Addr, Net, SocketAddr, SocketAddrV4, UdpSocket};
 use std::time::Clock;
 
@@ -53,32 +57,78 @@ fn store_at<'a, R: AllocGlobal + Files>(rt: &'a R, folder: &str) -> io::Result<D
     DirStore::open(rt, name)
 }
 
+/// Whether standard input can be read. It is asked before a socket is opened, which would take the place of one that is closed.
+fn has_input<R: Input>(rt: &R) -> bool {
+    rt.reader().read(&mut []).is_ok()
+}
+
+/// Tells how a script ended, and gives the exit status.
+fn end_script<R: Eprint>(rt: &R, end: &Result<ScriptEnd, RunFault>) -> u8 {
+    tell_end(rt, end);
+    script_status(end)
+}
+
 /// Runs `loop` from standard input to standard output.
 pub(crate) fn run_loop_line<R: AllocGlobal + Eprint + Input + Net + Print>(rt: &R) -> u8 {
+    if !has_input(rt) {
+        return end_script(rt, &Err(RunFault::ReadFault));
+    }
     let (mut near, mut far) = match own_links(rt) {
         Ok(links) => links,
         Err(error) => return tell_unopened(rt, &"a socket of this machine", &error),
     };
-    let end = run_loop(rt.alloc(), &mut rt.reader(), &mut io::writer(rt), &mut near, &mut far);
-    tell_end(rt, &end);
-    script_status(&end)
+    let end = run_loop(
+        rt.alloc(),
+        &mut rt.reader(),
+        &mut io::writer(rt),
+        &mut near,
+        &mut far,
+    );
+    end_script(rt, &end)
 }
 
 /// Runs `ask` from standard input to standard output.
-pub(crate) fn run_ask_line<R: AllocGlobal + Clock + Eprint + Input + Net + Print>(rt: &R, line: Ask) -> u8 {
-    let Ask { address, socket, to, peers } = line;
+pub(crate) fn run_ask_line<R: AllocGlobal + Clock + Eprint + Input + Net + Print>(
+    rt: &R,
+    line: Ask,
+) -> u8 {
+    let Ask {
+        address,
+        socket,
+        to,
+        peers,
+    } = line;
+    if !has_input(rt) {
+        return end_script(rt, &Err(RunFault::ReadFault));
+    }
     let mut link = match link_at(rt, socket, peers) {
         Ok(link) => link,
         Err(error) => return tell_unopened(rt, &socket, &error),
     };
-    let end = run_ask(rt, rt.alloc(), &mut rt.reader(), &mut io::writer(rt), &mut link, address, to);
-    tell_end(rt, &end);
-    script_status(&end)
+    let end = run_ask(
+        rt,
+        rt.alloc(),
+        &mut rt.reader(),
+        &mut io::writer(rt),
+        &mut link,
+        address,
+        to,
+    );
+    end_script(rt, &end)
 }
 
 /// Runs `serve` on a folder, which is opened first, and then the socket.
-pub(crate) fn run_serve_line<R: AllocGlobal + Clock + Eprint + Files + Net>(rt: &R, line: Serve<'_>) -> u8 {
-    let Serve { turns, address, socket, folder, peers } = line;
+pub(crate) fn run_serve_line<R: AllocGlobal + Clock + Eprint + Files + Net>(
+    rt: &R,
+    line: Serve<'_>,
+) -> u8 {
+    let Serve {
+        turns,
+        address,
+        socket,
+        folder,
+        peers,
+    } = line;
     let mut store = match store_at(rt, folder) {
         Ok(store) => store,
         Err(error) => return tell_unopened(rt, &folder, &error),
@@ -88,7 +138,14 @@ pub(crate) fn run_serve_line<R: AllocGlobal + Clock + Eprint + Files + Net>(rt: 
         Err(error) => return tell_unopened(rt, &socket, &error),
     };
     let _ = eprintln!(rt; "chaosd: host {address:06o} serves {folder} at {socket}");
-    let end = run_serve(rt, rt.alloc(), &mut link, &mut store, address, u64::from(turns));
+    let end = run_serve(
+        rt,
+        rt.alloc(),
+        &mut link,
+        &mut store,
+        address,
+        u64::from(turns),
+    );
     tell_end(rt, &end);
     serve_status(&end)
 }
