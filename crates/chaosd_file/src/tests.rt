@@ -1,3 +1,9 @@
-//! What no clause says: the texts of scripts, success, and what comes of readers, writers, links and clocks that fail.
+//! What no clause says: replies from outside, success, how long a run takes, and what comes of readers, writers, links and clocks
+//! that fail.
+mod ends;
 mod fakes;
+mod faults;
+mod links;
+mod memory;
 mod scripts;
+mod serving;

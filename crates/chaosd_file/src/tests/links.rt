@@ -1,0 +1,134 @@
+//! Links of tests.
+ghost use Rattle.std.specs.Prelude.{None};
+
+use chaos_link::{LINK_ROOM, Link, MemLink, Peer, Peers, Received, Sent, UdpLink, from_datagram};
+use chaos_packet::Packet;
+use std::net::{Ipv4Addr, Net, SocketAddr, SocketAddrV4, UdpSocket};
+use std::test::Fail;
+
+/// Any port of this machine.
+fn any() -> SocketAddr {
+    SocketAddr::V4(SocketAddrV4::new(Ipv4Addr::LOCALHOST, 0))
+}
+
+/// A socket of this machine, and where it is.
+fn bound(rt: &impl Net) -> Result<(UdpSocket, SocketAddrV4), Fail> {
+    let socket = UdpSocket::bind(rt, any())?;
+    match socket.local_addr()? {
+        SocketAddr::V4(at) => Ok((socket, at)),
+        SocketAddr::V6(_) => Err("an address of version 4".into()),
+    }
+}
+
+/// A link to one peer.
+fn link_to(socket: UdpSocket, address: u16, at: SocketAddrV4) -> Result<UdpLink, Fail> {
+    let mut peers = Peers::new();
+    peers.add(Peer {
+        address,
+        socket: at,
+    })?;
+    Ok(UdpLink::new(socket, peers))
+}
+
+/// Two links to each other, of 000401 and of 000402.
+pub fn linked(rt: &impl Net) -> Result<(UdpLink, UdpLink), Fail> {
+    let (near, near_at) = bound(rt)?;
+    let (far, far_at) = bound(rt)?;
+    Ok((link_to(near, 0o402, far_at)?, link_to(far, 0o401, near_at)?))
+}
+
+/// A link that keeps what is sent, and on which nothing comes.
+#[derive(Drop)]
+pub struct Away {
+    pub sent: MemLink,
+}
+
+impl Link for Away {
+    ghost count = { λ _. 0 };
+
+    ghost queue = { λ _. None };
+
+    fn send(&mut self, to_address: u16, bytes: &[u8]) -> Sent {
+        self.sent.send(to_address, bytes)
+    }
+
+    fn receive(&mut self, _buffer: &mut [u8; LINK_ROOM]) -> Received {
+        Received::Nothing
+    }
+
+    fn failures(&self) -> u64 {
+        0
+    }
+}
+
+/// The packet of the oldest datagram.
+pub fn received(link: &mut MemLink) -> Option<Packet> {
+    let mut buffer = [0; LINK_ROOM];
+    match link.receive(&mut buffer) {
+        Received::Got(count) => from_datagram(&buffer[..count]).ok(),
+        _ => None,
+    }
+}
+
+/// A link that fails once, at the call behind so many, and keeps the opcode of what it sent last.
+#[derive(Drop)]
+pub struct Watched {
+    inner: UdpLink,
+    left: u64,
+    failures: u64,
+    pub last: u8,
+}
+
+impl Watched {
+    pub fn new(inner: UdpLink, left: u64) -> Self {
+        Watched {
+            inner,
+            left,
+            failures: 0,
+            last: 0,
+        }
+    }
+
+    /// Counts a call, and says whether it is to fail.
+    fn is_spent(&mut self) -> bool {
+        let is_spent = self.left == 0 && self.failures == 0;
+        if is_spent {
+            self.failures = u64::MAX;
+        }
+        self.left = self.left.saturating_sub(1);
+        is_spent
+    }
+}
+
+impl Link for Watched {
+    ghost count = { λ link. link.failures };
+
+    ghost queue = { λ _. None };
+
+    fn send(&mut self, to_address: u16, bytes: &[u8]) -> Sent {
+        if bytes.len() > 4 {
+            self.last = bytes[4];
+        }
+        if self.is_spent() {
+            return Sent::Unknown;
+        }
+        match self.inner.send(to_address, bytes) {
+            Sent::Failed => Sent::Unknown,
+            sent => sent,
+        }
+    }
+
+    fn receive(&mut self, buffer: &mut [u8; LINK_ROOM]) -> Received {
+        if self.is_spent() {
+            return Received::Nothing;
+        }
+        match self.inner.receive(buffer) {
+            Received::Failed => Received::Nothing,
+            received => received,
+        }
+    }
+
+    fn failures(&self) -> u64 {
+        self.failures
+    }
+}

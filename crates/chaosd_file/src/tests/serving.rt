@@ -1,0 +1,54 @@
+//! The service by itself.
+use super::fakes::Stopped;
+use super::links::received;
+use crate::{run_serve, serve_status};
+use chaos_file::MemStore;
+use chaos_link::{Link, MemLink, to_datagram};
+use chaos_packet::{Item, Opcode, Packet, PktNum};
+use chaosd_engines::{DONE, RunFault};
+use std::alloc::AllocGlobal;
+use std::process::Abort;
+use std::test::Fail;
+
+/// A request for FILE at 000401, with number 5.
+fn request() -> Packet {
+    Packet {
+        op: Opcode::RFC,
+        fwd: 0,
+        dst: 0o401,
+        dst_index: 0,
+        src: 0o402,
+        src_index: 1,
+        num: PktNum(5),
+        ack: PktNum(0),
+        body: Item::new(Opcode::RFC, b"FILE").body,
+    }
+}
+
+#[test]
+fn ten_turns_without_peers(rt: HostRuntime) -> Result<(), Fail> {
+    let mut link = MemLink::new(rt.alloc(), 8)?;
+    let mut store = MemStore::new(rt.alloc());
+    let end = run_serve(&rt, rt.alloc(), &mut link, &mut store, 0o401, 10);
+    assert_eq!(rt; end, Ok(()));
+    assert_eq!(rt; serve_status(&end), DONE);
+    Ok(())
+}
+
+/// A connection begins with the number that the clock tells.
+#[test]
+fn request_is_accepted(rt: HostRuntime) -> Result<(), Fail> {
+    let mut link = MemLink::new(rt.alloc(), 8)?;
+    let mut store = MemStore::new(rt.alloc());
+    let _ = link.send(0o401, to_datagram(&request()).as_slice());
+    let clock = Stopped::new(3 * 65_536 + 77, u64::MAX);
+    let end = run_serve(&clock, rt.alloc(), &mut link, &mut store, 0o401, 1);
+    assert_eq!(rt; end, Ok(()));
+    let opn = received(&mut link).ok_or("an OPN")?;
+    assert_eq!(rt;
+        (opn.op, opn.num, opn.ack),
+        (Opcode::OPN, PktNum(77), PktNum(5))
+    );
+    assert_eq!(rt; opn.status(), Some((PktNum(5), 13)));
+    Ok(())
+}
