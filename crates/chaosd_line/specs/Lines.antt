@@ -38,3 +38,20 @@ AsksFor found asked = IsSomeAnd found (λ f. IsLine f.0 f.1 asked)
 -- the line that the words ask for, by what clap gives for them
 abbrev pub IsLineOf : List Text → Line → Type 0
 IsLineOf words asked = AsksFor (subcommand_of chaosd words) asked
+
+-- the same values of `serve`, wherever the text of the folder lies
+pub record AreSame (s t : Serve) : Type 0 where
+  pub turns : s.turns ≡ t.turns
+  pub address : s.address ≡ t.address
+  pub socket : s.socket ≡ t.socket
+  pub folder : s.folder.now ≡ t.folder.now
+  pub peers : s.peers ≡ t.peers
+
+abbrev pub IsSame : Line → Line → Type 0
+IsSame (line.Serve s) other = (t : Serve) × (other ≡ line.Serve t) × AreSame s t
+IsSame one other = other ≡ one
+
+-- no words ask for two lines
+abbrev pub AsksForOne : Type 0
+AsksForOne = (words : List Text) (one other : Line) → IsLineOf words one → IsLineOf words other
+    → IsSame one other

@@ -2,6 +2,7 @@
 use Rattle.std.specs.Prelude.{◌≡◌, ◌≢◌, ◌⊎◌, ◌≤◌, ◌<◌, ◌==◌, ◌++◌, ◌∷◌, ℕ, List, [], length, slice_index, Option, MatchOption, Result, MatchResult}
 use Rattle.std.specs.List.{AllPairs, AllZip, after_first, before_first, position_or_len}
 use Rattle.std.specs.Net.Grammar.{IsSocketV4Text}
+use Rattle.std.specs.Net.Socket.{v4_port}
 use Rattle.std.specs.Str.Parse.{IsNumeral, digits_value}
 use Rattle.std.specs.declared.net.socket_addr.SocketAddrV4.{SocketAddrV4}
 use Rattle.clap.specs.Words.{Text}
@@ -13,6 +14,7 @@ use Rattle.chaos_link.specs.declared.peers.Peer.{Peer}
 abbrev pub Finds : {T : Type 0} → (T → Type 0) → Option T → Type 0
 Finds {T} P r = MatchOption r ((x : T) → ¬ (P x)) P
 
+-- the same where the want of a value is an error
 abbrev pub Reads : {T E : Type 0} → (T → Type 0) → Result T E → Type 0
 Reads {T} P r = MatchResult r P (λ _. (x : T) → ¬ (P x))
 
@@ -21,29 +23,37 @@ abbrev pub IsAddress : Text → ℕ → Type 0
 IsAddress text n =
     (length text ≤ 6) × IsNumeral 8 text × (n ≡ digits_value 8 text) × (0 < n) × (n < 65536)
 
-abbrev pub BeginsWithZero : Text → Type 0
-BeginsWithZero text = slice_index text 0 ≡ 48
+-- a number is written with a zero too many in front
+abbrev pub IsPadded : Text → Type 0
+IsPadded text = (1 < length text) × (slice_index text 0 ≡ 48)
 
 -- decimal digits without leading zeros that write a number to 1000000000
 abbrev pub IsTurns : Text → ℕ → Type 0
-IsTurns text n = IsNumeral 10 text × ((1 < length text) → ¬ (BeginsWithZero text))
-    × (n ≡ digits_value 10 text) × (n ≤ 1000000000)
+IsTurns text n =
+    IsNumeral 10 text × ¬ (IsPadded text) × (n ≡ digits_value 10 text) × (n ≤ 1000000000)
 
--- a.b.c.d:port, in decimal without leading zeros, so that the port is not 0
+-- what stands behind the first colon
+abbrev pub port_of : Text → Text
+port_of text = after_first (λ b. b == 58) text
+
+-- a.b.c.d:port, in decimal without leading zeros, the port from 1 on
 abbrev pub IsSocket : Text → SocketAddrV4 → Type 0
-IsSocket text socket =
-    IsSocketV4Text text socket × ¬ (BeginsWithZero (after_first (λ b. b == 58) text))
+IsSocket text socket = IsSocketV4Text text socket × ¬ (IsPadded (port_of text)) × (0 < v4_port socket)
 
--- what stands before the first `=`, and what stands after it
-abbrev pub AreSides : Text → Text → Text → Type 0
-AreSides text left right = (position_or_len (λ b. b == 61) text < length text)
-    × (left ≡ before_first (λ b. b == 61) text) × (right ≡ after_first (λ b. b == 61) text)
+-- the text has a `=`; what stands before the first, and what stands after it
+abbrev pub HasSides : Text → Type 0
+HasSides text = position_or_len (λ b. b == 61) text < length text
+
+abbrev pub left_of : Text → Text
+left_of text = before_first (λ b. b == 61) text
+
+abbrev pub right_of : Text → Text
+right_of text = after_first (λ b. b == 61) text
 
 -- an address, `=`, and a socket
 abbrev pub IsPeer : Text → Peer → Type 0
-IsPeer text peer = (position_or_len (λ b. b == 61) text < length text)
-    × IsAddress (before_first (λ b. b == 61) text) peer.address
-    × IsSocket (after_first (λ b. b == 61) text) peer.socket
+IsPeer text peer = HasSides text × IsAddress (left_of text) peer.address
+    × IsSocket (right_of text) peer.socket
 
 -- each text is the peer at its place, there are at most 32, and no two have one address
 abbrev pub ArePeers : List Text → List Peer → Type 0

@@ -13,12 +13,14 @@ mod command;
 mod fault;
 mod given;
 mod help;
+mod law;
 mod line;
 mod parse;
 mod peers;
 mod values;
 
 pub use fault::LineFault;
+pub use law::law_one_line;
 pub use line::{Ask, Line, Serve};
 pub use parse::{parse_line, read_line};
 

@@ -1,7 +1,6 @@
 //! The forms of words, and the values that they stand for.
-ghost use Rattle.std.specs.Prelude.{◌≤◌, ◌==◌, ◌↔◌, IsTrue, MatchOption, length};
-ghost use Rattle.std.specs.List.{after_first, position_or_len};
-ghost use Rattle.chaosd_line.specs.Values.{AreSides, BeginsWithZero, Finds, IsAddress, IsPeer, IsSocket, IsTurns};
+ghost use Rattle.std.specs.Prelude.{◌≡◌, ◌↔◌, IsTrue, MatchOption};
+ghost use Rattle.chaosd_line.specs.Values.{Finds, HasSides, IsAddress, IsPadded, IsPeer, IsSocket, IsTurns, left_of, port_of, right_of};
 
 use chaos_link::Peer;
 use std::net::SocketAddrV4;
@@ -11,6 +10,14 @@ const ADDRESS_DIGITS: usize = 6;
 
 /// The most turns that may be asked for.
 const MAX_TURNS: u32 = 1_000_000_000;
+
+/// Whether a number is written with a zero too many in front.
+fn is_padded(text: &str) -> bool
+    ensures { IsTrue result ↔ IsPadded text.now }
+{
+    let bytes = text.as_bytes();
+    bytes.len() > 1 && bytes[0] == b'0'
+}
 
 /// The Chaosnet address that one to six octal digits write.
 pub(crate) fn address_of(text: &str) -> Option<u16>
@@ -31,7 +38,7 @@ pub(crate) fn turns_of(text: &str) -> Option<u32>
     ensures { Finds (IsTurns text.now) result }
 {
     let bytes = text.as_bytes();
-    if bytes.is_empty() || bytes[0] == b'+' || (bytes[0] == b'0' && bytes.len() > 1) {
+    if bytes.is_empty() || bytes[0] == b'+' || is_padded(text) {
         return None;
     }
     match text.parse::<u32>() {
@@ -40,12 +47,12 @@ pub(crate) fn turns_of(text: &str) -> Option<u32>
     }
 }
 
-/// Whether what stands behind the first colon begins with the digit 0.
-fn has_zero_port(text: &str) -> bool
-    ensures { IsTrue result ↔ BeginsWithZero (after_first (λ b. b == 58) text.now) }
+/// Whether the port behind the first colon is written with a zero too many in front.
+fn has_padded_port(text: &str) -> bool
+    ensures { IsTrue result ↔ IsPadded (port_of text.now) }
 {
     match text.split_once(':') {
-        Some((_, port)) => port.starts_with('0'),
+        Some((_, port)) => is_padded(port),
         None => false,
     }
 }
@@ -54,19 +61,19 @@ fn has_zero_port(text: &str) -> bool
 pub(crate) fn socket_of(text: &str) -> Option<SocketAddrV4>
     ensures { Finds (IsSocket text.now) result }
 {
-    if has_zero_port(text) {
+    if has_padded_port(text) {
         return None;
     }
     match text.parse::<SocketAddrV4>() {
-        Ok(socket) => Some(socket),
-        Err(_) => None,
+        Ok(socket) if socket.port() > 0 => Some(socket),
+        _ => None,
     }
 }
 
 /// What stands before the first `=`, and what stands after it.
 fn sides_of(text: &str) -> Option<(&str, &str)>
-    ensures { MatchOption result (length text.now ≤ position_or_len (λ b. b == 61) text.now)
-        (λ sides. AreSides text.now sides.0.now sides.1.now) }
+    ensures { MatchOption result (¬ (HasSides text.now)) (λ sides. HasSides text.now
+        × (sides.0.now ≡ left_of text.now) × (sides.1.now ≡ right_of text.now)) }
 {
     text.split_once('=')
 }
