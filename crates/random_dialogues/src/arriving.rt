@@ -17,7 +17,7 @@ impl Station {
         if self.out.room() == 0 {
             return Err(self.differs(None, What::NoRoom));
         }
-        let named = self.named(&sent.packet, scene);
+        let named = self.slot_named_by(&sent.packet, scene);
         let was_open = self.is_open(named);
         let answer = self.host.deliver(&sent.packet, scene.now, &mut self.out);
         match named {

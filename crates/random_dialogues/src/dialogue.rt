@@ -43,7 +43,7 @@ impl Dialogue {
         scene.now = scene.now.saturating_add(scene.chance.below(3));
         take_side(&mut self.left, scene)?;
         take_side(&mut self.right, scene)?;
-        match arriving(scene) {
+        match next_arrival(scene) {
             Some(sent) if sent.packet.dst == LEFT => self.left.arrive(&sent, scene),
             Some(sent) if sent.packet.dst == RIGHT => self.right.arrive(&sent, scene),
             _ if scene.chance.once_in(2) => meet_stranger(&mut self.left, scene),
@@ -53,7 +53,7 @@ impl Dialogue {
 }
 
 /// What arrives in this round, if it isn't a hostile packet.
-fn arriving(scene: &mut Scene) -> Option<Sent> {
+fn next_arrival(scene: &mut Scene) -> Option<Sent> {
     if scene.chance.once_in(scene.habits.hostile) {
         None
     } else {

@@ -86,11 +86,6 @@ impl Lives {
         Ok(number)
     }
 
-    /// How many there were.
-    pub fn count(&self) -> usize {
-        self.all.len()
-    }
-
     /// The connection with a number.
     pub fn get(&self, number: usize) -> Option<Life> {
         self.all.get(number).copied()

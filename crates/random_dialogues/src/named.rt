@@ -28,7 +28,7 @@ impl Named {
 
 impl Station {
     /// What a packet names here.
-    pub fn named(&self, packet: &Packet, scene: &Scene) -> Named {
+    pub fn slot_named_by(&self, packet: &Packet, scene: &Scene) -> Named {
         if packet.dst != self.address || packet.src == 0 {
             return Named::Nobody;
         }

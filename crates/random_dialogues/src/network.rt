@@ -16,7 +16,7 @@ const MAX_ROUNDS: u64 = 4_000;
 /// comes back before the copy is gone.
 const MAX_ENDS: u64 = 200;
 
-/// A copy under way.
+/// A copy of a packet that was sent, under way.
 #[derive(Drop)]
 pub struct Sent {
     pub packet: Packet,
@@ -35,11 +35,11 @@ pub struct Sent {
 pub struct Network {
     copies: Vec<Sent>,
     /// The most copies under way. Where one more comes, another is lost.
-    pub room: usize,
+    room: usize,
     /// It loses one copy of so many, and none for 0.
-    pub losing: u64,
+    losing: u64,
     /// It repeats one copy of so many, and none for 0.
-    pub repeating: u64,
+    repeating: u64,
 }
 
 impl Sent {

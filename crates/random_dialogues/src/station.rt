@@ -46,7 +46,7 @@ impl Station {
         conns: usize,
         config: ConnConfig,
     ) -> Result<Self, Fault> {
-        let mut host = made(Host::new(alloc, address, conns, config))?;
+        let mut host = host_or_fault(Host::new(alloc, address, conns, config))?;
         let _listens = host.listen(CONTACT);
         Ok(Station {
             host,
@@ -238,7 +238,7 @@ pub fn is_item(packet: &Packet) -> bool {
 }
 
 /// The host, or the want of memory for it.
-fn made(host: Result<Host, MakeFault>) -> Result<Host, Fault> {
+fn host_or_fault(host: Result<Host, MakeFault>) -> Result<Host, Fault> {
     match host {
         Ok(host) => Ok(host),
         Err(_) => Err(Fault::NoMemory),

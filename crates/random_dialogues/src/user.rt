@@ -106,7 +106,7 @@ impl Station {
             life.start = start;
             scene.lives.set(number, life);
         }
-        self.done(id, done)
+        self.check_taken(id, done)
     }
 
     /// Writes, reads, or gives up.
@@ -116,7 +116,7 @@ impl Station {
             14..=30 => self.read(slot, id, scene),
             _ if self.out.room() > 0 && scene.chance.once_in(2) => {
                 let done = self.host.unc(id, b"Now.", &mut self.out);
-                self.done(id, done)
+                self.check_taken(id, done)
             }
             _ => self.close_at_times(slot, id, scene),
         }
@@ -270,11 +270,11 @@ impl Station {
     ) -> Result<(), Fault> {
         self.seat(slot, None);
         scene.count_end();
-        self.done(id, done)
+        self.check_taken(id, done)
     }
 
     /// A call was taken.
-    fn done(&self, id: ConnId, done: Result<(), CallFault>) -> Result<(), Fault> {
+    fn check_taken(&self, id: ConnId, done: Result<(), CallFault>) -> Result<(), Fault> {
         match done {
             Ok(()) => Ok(()),
             Err(_) => Err(self.differs(Some(id), What::Refused)),
