@@ -71,30 +71,54 @@ impl Lines {
     }
 }
 
+/// Whether a byte stands for itself in a script.
+fn is_plain(byte: u8) -> bool {
+    matches!(byte, 0x20..=0x7E) && byte != b'^' && byte != b'\\'
+}
+
+/// The front of bytes that stand for themselves, and the rest.
+fn plain_front(text: &[u8]) -> (&[u8], &[u8]) {
+    text.split_at(text.iter().position(|&byte| !is_plain(byte)).unwrap_or(text.len()))
+}
+
+fn digit(byte: u8) -> Option<u8> {
+    match byte {
+        b'0'..=b'9' => Some(byte - b'0'),
+        b'a'..=b'f' => Some(byte - b'a' + 10),
+        _ => None,
+    }
+}
+
 fn command_of(line: &[u8]) -> Option<Vec<u8>> {
     let line = line.strip_suffix(b"\r").unwrap_or(line);
-    let mut bytes = Vec::with_capacity(MOST_DATA);
-    let mut rest = line.iter();
-    let digit = |b: u8| if b.is_ascii_uppercase() { None } else { char::from(b).to_digit(16) };
-    while let Some(&byte) = rest.next() {
-        bytes.push(match byte {
-            b'^' => NL,
-            b'\\' => (digit(*rest.next()?)? * 16 + digit(*rest.next()?)?) as u8,
-            0x20..=0x7E => byte,
+    let mut bytes = Vec::with_capacity(line.len());
+    let (front, mut rest) = plain_front(line);
+    bytes.extend_from_slice(front);
+    while !rest.is_empty() {
+        let (byte, after) = match rest {
+            [b'^', after @ ..] => (NL, after),
+            [b'\\', high, low, after @ ..] => (digit(*high)? * 16 + digit(*low)?, after),
             _ => return None,
-        });
+        };
+        bytes.push(byte);
+        let (front, others) = plain_front(after);
+        bytes.extend_from_slice(front);
+        rest = others;
     }
     (line.len() <= LINE_LIMIT && bytes.len() <= MOST_DATA).then_some(bytes)
 }
 
 fn print(output: &mut impl Write, bytes: &[u8]) -> io::Result<()> {
-    for &byte in bytes {
-        match byte {
+    let (front, mut rest) = plain_front(bytes);
+    output.write_all(front)?;
+    while let [byte, after @ ..] = rest {
+        match *byte {
             NL => output.write_all(b"^")?,
-            b'^' | b'\\' => write!(output, "\\{byte:02x}")?,
-            0x20..=0x7E => output.write_all(&[byte])?,
-            _ => write!(output, "\\{byte:02x}")?,
+            byte => write!(output, "\\{byte:02x}")?,
         }
+        let (front, others) = plain_front(after);
+        output.write_all(front)?;
+        rest = others;
     }
     output.write_all(b"\n")
 }
@@ -128,7 +152,10 @@ fn finish(client: &mut Client, turns: &mut impl Turns) -> io::Result<()> {
         turns.turn(client)?;
     }
     client.close();
-    turns.turn(client)
+    if client.owes() {
+        turns.turn(client)?;
+    }
+    Ok(())
 }
 
 /// Runs a script, and answers whether each command had its reply.

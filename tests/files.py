@@ -541,6 +541,7 @@ def store_faults(checks):
             (b"T H WRITE^x", b"T H WRITE 1"),
             (b"T H CLOSE", b"T H ERROR STF Store fault."),
             (b"T  RENAME^A^SUB", b"T  ERROR STF Store fault."),
+            (b"T  DELETE^FIFO", b"T  ERROR STF Store fault."),
             (b"T  RENAME^A^A", b"T  ERROR FAE File exists."),
             (b"T  RENAME^NONE^A", b"T  ERROR FNF No such file."),
             (b"T  RENAME^A^../A", b"T  ERROR ILP Illegal path."),

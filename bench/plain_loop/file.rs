@@ -64,6 +64,23 @@ fn absent_or_failed(fault: io::Error) -> StoreFault {
 }
 
 impl DirStore {
+    /// Whether there is a file at this path. Whatever else is there is a failure.
+    fn has_file(&self, path: &str) -> Result<bool, StoreFault> {
+        match fs::symlink_metadata(self.0.join(path)) {
+            Ok(info) if info.is_file() => Ok(true),
+            Err(fault) if fault.kind() == ErrorKind::NotFound => Ok(false),
+            _ => Err(StoreFault::Failed),
+        }
+    }
+
+    fn require_file(&self, path: &str) -> Result<(), StoreFault> {
+        if self.has_file(path)? {
+            Ok(())
+        } else {
+            Err(StoreFault::Absent)
+        }
+    }
+
     fn write(&self, path: &str, bytes: &[u8]) -> io::Result<()> {
         let fresh = self.0.join(".new");
         match fs::remove_file(&fresh) {
@@ -73,18 +90,16 @@ impl DirStore {
         let mut file = fs::File::create_new(&fresh)?;
         file.write_all(bytes)?;
         file.sync_all()?;
-        fs::rename(fresh, self.0.join(path))
+        fs::rename(fresh, self.0.join(path))?;
+        fs::File::open(&self.0)?.sync_all()
     }
 }
 
 impl Store for DirStore {
     fn get(&mut self, path: &str) -> Result<Vec<u8>, StoreFault> {
-        let path = self.0.join(path);
-        if !fs::symlink_metadata(&path).map_err(absent_or_failed)?.is_file() {
-            return Err(StoreFault::Failed);
-        }
+        self.require_file(path)?;
         let mut bytes = Vec::new();
-        let file = fs::File::open(path).map_err(absent_or_failed)?;
+        let file = fs::File::open(self.0.join(path)).map_err(absent_or_failed)?;
         file.take(FILE_LIMIT as u64 + 1).read_to_end(&mut bytes).map_err(|_| StoreFault::Failed)?;
         if bytes.len() > FILE_LIMIT {
             Err(StoreFault::TooBig)
@@ -94,21 +109,25 @@ impl Store for DirStore {
     }
 
     fn put(&mut self, path: String, bytes: Vec<u8>) -> Result<(), (StoreFault, String, Vec<u8>)> {
-        self.write(&path, &bytes).map_err(|_| (StoreFault::Failed, path, bytes))
+        let written = self.has_file(&path).is_ok() && self.write(&path, &bytes).is_ok();
+        if written {
+            Ok(())
+        } else {
+            Err((StoreFault::Failed, path, bytes))
+        }
     }
 
     fn remove(&mut self, path: &str) -> Result<(), StoreFault> {
+        self.require_file(path)?;
         fs::remove_file(self.0.join(path)).map_err(absent_or_failed)
     }
 
     fn rename(&mut self, old: &str, new: &str) -> Result<(), StoreFault> {
-        let (old, new) = (self.0.join(old), self.0.join(new));
-        fs::symlink_metadata(&old).map_err(absent_or_failed)?;
-        match fs::symlink_metadata(&new) {
-            Ok(_) => Err(StoreFault::Exists),
-            Err(fault) if fault.kind() == ErrorKind::NotFound => fs::rename(old, new).map_err(|_| StoreFault::Failed),
-            Err(_) => Err(StoreFault::Failed),
+        self.require_file(old)?;
+        if self.has_file(new)? {
+            return Err(StoreFault::Exists);
         }
+        fs::rename(self.0.join(old), self.0.join(new)).map_err(|_| StoreFault::Failed)
     }
 }
 

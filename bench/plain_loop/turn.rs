@@ -110,6 +110,11 @@ impl Client {
     pub fn close(&mut self) {
         self.host.close(0, &mut self.out);
     }
+
+    /// Whether a packet waits to be sent.
+    pub fn owes(&self) -> bool {
+        !self.out.is_empty()
+    }
 }
 
 #[derive(Default)]
