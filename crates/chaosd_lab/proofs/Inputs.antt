@@ -33,12 +33,12 @@ lines_kept before written written' lab lab' lines lines' refused refused' ended 
 }
 
 pub input_kept : (before written written' : Option (List ℕ)) (lab lab' : Option LabView) (lines lines' refused refused' : ℕ) (kept kept' input : List ℕ) → Keeps written written'
-    → lab' ≡ lab → lines' ≡ lines → refused' ≡ refused → kept' ≡ kept → PlaysInput before written lab lines refused kept input → PlaysInput before written' lab' lines' refused' kept' input
-input_kept before written written' lab lab' lines lines' refused refused' kept kept' input keeps same_lab same_lines same_refused same s = record {
+    → (lab' ≡ lab) × (lines' ≡ lines) × (refused' ≡ refused) × (kept' ≡ kept) → PlaysInput before written lab lines refused kept input → PlaysInput before written' lab' lines' refused' kept' input
+input_kept before written written' lab lab' lines lines' refused refused' kept kept' input keeps same s = record {
   ended = s.ended;
   begun = s.begun;
-  plays = lines_kept before written written' lab lab' lines lines' refused refused' s.ended keeps same_lab same_lines same_refused s.plays;
-  front = same ∙ s.front;
+  plays = lines_kept before written written' lab lab' lines lines' refused refused' s.ended keeps same.0 same.1 same.2 s.plays;
+  front = same.3 ∙ s.front;
   unended = s.unended;
   goes_on = s.goes_on;
 }

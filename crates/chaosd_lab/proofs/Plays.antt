@@ -176,10 +176,6 @@ too_long_stops before written lab lines refused ended raw long s =
     let none_event : said_by event_of raw ≡ None = ap (λ b. cond b None (event_of (strip_last 13 raw))) long in
     (ap (λ n. n + 1) s.count, unplayed lab refused ended raw s.state none_first none_event, s.text)
 
-some_not_none : {X : Type 0} (o : Option X) (x : X) → o ≡ Some x → o ≢ None
-some_not_none None x h none = absurd (cc)
-some_not_none (Some y) x h none = cc
-
 some_with : (p : Played) (o : Option Happening) → o ≢ None → with_said p o ≢ None
 some_with p None some none = some refl
 some_with p (Some event) some none = cc
