@@ -143,6 +143,7 @@ fn want_of_memory_is_told(rt: HostRuntime) -> Result<(), Fail> {
         assert_eq!(rt; text, LOST_TEXT);
         return Ok(());
     }
+    println!(rt; "met")?;
     assert_eq!(rt; lab_status(&end), NO_MEMORY);
     let before = text.strip_suffix(b"refused 4 NoMemory\n".as_slice());
     assert!(rt; text.is_empty() || before.is_some_and(|lines| LOST_TEXT.starts_with(lines)));

@@ -5,7 +5,7 @@ use Rattle.chaosd_engines.specs.Buffer.{written_of}
 use Rattle.chaosd_engines.specs.Lines.{ended_lines}
 use Rattle.chaosd_engines.proofs.Runs.{of_all, past_limit, chunk_more}
 use Rattle.chaosd_engines.proofs.Steps.{on_ok}
-use Rattle.chaosd_lab.specs.Play.{text_of, played}
+use Rattle.chaosd_lab.specs.Play.{text_of, play_of}
 use Rattle.chaosd_lab.specs.Player.{PlaysAll, StopsInput}
 use Rattle.chaosd_lab.proofs.Plays.{on_fault}
 use Rattle.chaosd_lab.proofs.Inputs.{input_kept, ended_played}
@@ -47,7 +47,7 @@ returns-then-within-count-clause-stops g c before s =
     let (le, more, end) = c.in_ok-count.ensures.read in
     let within = c.min-within.result in
     let chunk = c.read_chunk.new.chunk in
-    past_limit (λ l. Appends before (written_of (g.W.Write.contents c.feed.new.writer) c.feed.new.self.out) (text_of (played (ended_lines l)))) _ _ _
+    past_limit (λ l. Appends before (written_of (g.W.Write.contents c.feed.new.writer) c.feed.new.self.out) (text_of (play_of (ended_lines l)))) _ _ _
     input chunk c.reads.room c.in_ok-count.count within read more fits le c.min-within.ensures c.if-within-count.true
     (ended_played before _ _ _ _ _ (input ++ take within chunk)
     (c.in_ok-feed.ensures.plays before input (input_kept before _ _ _ _ _ _ _ _ _ _ input c.hand_on.ensures.kept c.hand_on.ensures.same (plays before s))))
