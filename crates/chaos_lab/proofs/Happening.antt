@@ -12,7 +12,7 @@ use Rattle.chaos_lab.specs.declared.event.Stepped.{Stepped}
 use Rattle.chaos_lab.specs.declared.fault.LabFault.{LabFault}
 use Rattle.chaos_lab.specs.declared.fault.LabFault.TheVariants as fault
 use Rattle.chaos_lab.specs.Machine.{other}
-use Rattle.chaos_lab.specs.Laboratory.{LabView, Happening, Done, Happens, happen, after_all, called, call_at, delivered, delivery, is_fresh, refused, refusal_of, lab_end}
+use Rattle.chaos_lab.specs.Laboratory.{LabView, Happening, Done, Happens, happen, after_all, call_effect, call_at, delivery_effect, delivery, is_fresh, refusal, refusal_of, lab_end}
 use Rattle.chaos_lab.specs.Laboratory.Happening.{WriteBy, ReadBy, TickOf, CloseBy, AcceptFrom, DeliverCopy}
 
 -- one event more
@@ -28,17 +28,17 @@ pub after_next : (l : LabView) (events : List Happening) (i : ℕ) (event : Happ
 after_next l events i event at = ap (λ n. after_all l (take n events)) (let next : i + 1 ≡ suc i = omega arith in next) ∙ after_more l events i event at
 
 -- want of memory is no answer of an event itself
-no_memory_by : (l : LabView) (x : Side) (call : Call) (o : Option ConnFault) → (called l x call o).answer ≡ Err fault.NoMemory → ⊥
+no_memory_by : (l : LabView) (x : Side) (call : Call) (o : Option ConnFault) → (call_effect l x call o).answer ≡ Err fault.NoMemory → ⊥
 no_memory_by l x call None h = absurd (cc)
 no_memory_by l x call (Some why) h = absurd (cc)
 
 no_memory_at : (l : LabView) (x : Side) (call : Call) → (call_at l x call).answer ≡ Err fault.NoMemory → ⊥
 no_memory_at l x call = no_memory_by l x call (refusal_of (act (lab_end l x).conn call).answer)
 
-no_memory_copy : (l : LabView) (o : Option Stamped) → (delivered l o).answer ≡ Err fault.NoMemory → ⊥
+no_memory_copy : (l : LabView) (o : Option Stamped) → (delivery_effect l o).answer ≡ Err fault.NoMemory → ⊥
 no_memory_copy l None h = absurd (cc)
 no_memory_copy l (Some s) h =
-    cond_both (is_fresh l.a l.b s) (call_at l (other s.side) (delivery l.asked l.clock s)) (refused l fault.Stale) (λ (d : Done). d.answer ≡ Err fault.NoMemory → ⊥)
+    cond_both (is_fresh l.a l.b s) (call_at l (other s.side) (delivery l.asked l.clock s)) (refusal l fault.Stale) (λ (d : Done). d.answer ≡ Err fault.NoMemory → ⊥)
     (λ _. no_memory_at l (other s.side) (delivery l.asked l.clock s))
     (λ _ (t : Err fault.Stale ≡ Err fault.NoMemory). absurd (cc))
     h

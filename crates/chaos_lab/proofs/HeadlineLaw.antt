@@ -27,7 +27,7 @@ use Rattle.chaos_lab.specs.Machine.Kind.{Nth, Sns, Sts, Cls}
 use Rattle.chaos_lab.specs.Machine.Event.{Deliver}
 use Rattle.chaos_lab.specs.Law.{DeliversInside}
 use Rattle.chaos_lab.specs.Shown.{Rest, shown_at, HasItems, IsWhat, is_a}
-use Rattle.chaos_lab.specs.Laboratory.{LabView, Happening, lab_end, lab_start, lab_request, stamp, with_given, happen, delivered, is_fresh, is_request, call_at, after_call, after_all}
+use Rattle.chaos_lab.specs.Laboratory.{LabView, Happening, lab_end, lab_start, lab_request, stamp, with_given, happen, delivery_effect, is_fresh, is_request, call_at, after_call, after_all}
 use Rattle.chaos_lab.specs.Laboratory.Happening.{DeliverCopy}
 use Rattle.chaos_lab.specs.Tied.{HasMachine, StandsCopy, Tied, Ties, base_of, lab_machine, plain_run}
 use Rattle.chaos_lab.specs.Headline.{len_at, IsCopyOf, ComesInside, Unclosed, ReadsInTurn}
@@ -212,7 +212,7 @@ no_request w l s t is =
 -- it is taken
 taken : (w : Machine) (l : LabView) (n : ℕ) (s : Sent) → Ties w l → slice_get l.copies n ≡ Some s → is_fresh l.a l.b s ≡ true → (end_of w (other s.side)).phase ≡ Open → happen l (DeliverCopy n) ≡ call_at l (other s.side) (DeliverPacket s.packet l.clock)
 taken w l n s t at near is =
-    ap (delivered l) at
+    ap (delivery_effect l) at
     ∙ cond-true _ _ _ near
     ∙ ap (call_at l (other s.side)) (cond-false _ _ _ (no_request w l s t is))
 

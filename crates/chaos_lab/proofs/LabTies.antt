@@ -19,7 +19,7 @@ use Rattle.chaos_lab.specs.Machine.Phase.{Inactive}
 use Rattle.chaos_lab.specs.Machine.Kind.{Nth, Sns, Sts, Cls}
 use Rattle.chaos_lab.specs.Machine.Event.{WriteAt, ReadAt, TickAt, CloseAt, Deliver}
 use Rattle.chaos_lab.specs.Shown.{place_of, is_a, HasItems, IsWhat}
-use Rattle.chaos_lab.specs.Laboratory.{LabView, Happening, Done, happen, delivered, delivery, is_fresh, is_request, call_at, called, refused}
+use Rattle.chaos_lab.specs.Laboratory.{LabView, Happening, Done, happen, delivery_effect, delivery, is_fresh, is_request, call_at, call_effect, refusal}
 use Rattle.chaos_lab.specs.Laboratory.Happening.{WriteBy, ReadBy, TickOf, CloseBy, AcceptFrom, DeliverCopy}
 use Rattle.chaos_lab.specs.Tied.{Ties, plain_event}
 use Rattle.chaos_lab.proofs.OnSide.{Outcome, Refuses, settle, refusal_at}
@@ -81,10 +81,10 @@ for_side : (y : Side) (w : Machine) (l : LabView) (n : ℕ) (s : Sent) (c : Copy
 for_side A w l n s c side from t know = for_b w l n s c side from t know
 for_side B w l n s c side from t know = for_a w l n s c side from t know
 
-copy_ties : (w : Machine) (l : LabView) (n : ℕ) (o : Option Sent) → slice_get l.copies n ≡ o → Ties w l → Outcome w (Deliver n) l (delivered l o)
+copy_ties : (w : Machine) (l : LabView) (n : ℕ) (o : Option Sent) → slice_get l.copies n ≡ o → Ties w l → Outcome w (Deliver n) l (delivery_effect l o)
 copy_ties w l n None at t = Refuses fault.NoSuchCopy refl
 copy_ties w l n (Some s) at t =
-    cond_both (is_fresh l.a l.b s) (call_at l (other s.side) (delivery l.asked l.clock s)) (refused l fault.Stale) (Outcome w (Deliver n) l)
+    cond_both (is_fresh l.a l.b s) (call_at l (other s.side) (delivery l.asked l.clock s)) (refusal l fault.Stale) (Outcome w (Deliver n) l)
     (λ (near : is_fresh l.a l.b s ≡ true).
     let c = copy_known w l n s t at near in
     for_side s.side w l n s c.0 refl (sym c.1) t c.2)
@@ -105,14 +105,14 @@ event_ties w l (DeliverCopy n) t = copy_ties w l n (slice_get l.copies n) refl t
 abbrev pub Answered : LabView → Done → Type 0
 Answered l done = ((s : Answer) × (done.answer ≡ Ok s)) ⊎ ((why : LabFault) × (done.answer ≡ Err why) × (done.lab ≡ l))
 
-called_answers : (l : LabView) (x : Side) (call : Call) (o : Option ConnFault) → Answered l (called l x call o)
+called_answers : (l : LabView) (x : Side) (call : Call) (o : Option ConnFault) → Answered l (call_effect l x call o)
 called_answers l x call None = inl (_, refl)
 called_answers l x call (Some why) = inr (_, refl, refl)
 
-copy_answers : (l : LabView) (o : Option Sent) → Answered l (delivered l o)
+copy_answers : (l : LabView) (o : Option Sent) → Answered l (delivery_effect l o)
 copy_answers l None = inr (_, refl, refl)
 copy_answers l (Some s) =
-    cond_both (is_fresh l.a l.b s) (call_at l (other s.side) (delivery l.asked l.clock s)) (refused l fault.Stale) (Answered l)
+    cond_both (is_fresh l.a l.b s) (call_at l (other s.side) (delivery l.asked l.clock s)) (refusal l fault.Stale) (Answered l)
     (λ _. called_answers l (other s.side) (delivery l.asked l.clock s) (refusal_at l (other s.side) (delivery l.asked l.clock s)))
     (λ _. inr (_, refl, refl))
 

@@ -9,7 +9,7 @@ use Rattle.chaos_lab.specs.declared.both_ends.BothEnds.{BothEnds}
 use Rattle.chaos_lab.specs.declared.event.Stepped.{Stepped}
 use Rattle.chaos_lab.specs.declared.fault.LabFault.{LabFault}
 use Rattle.chaos_lab.specs.declared.fault.LabFault.TheVariants as fault
-use Rattle.chaos_lab.specs.Laboratory.{EndView, LabView, Calls, called, refusal_of}
+use Rattle.chaos_lab.specs.Laboratory.{EndView, LabView, Calls, call_effect, refusal_of}
 use Rattle.chaos_lab.specs.Inside.{end_view}
 use Rattle.chaos_lab.specs.Makes.{made_by, Makes, MakesAt}
 
@@ -51,7 +51,7 @@ makes_at_err A call old new before after reply f is m =
       b = ap end_view m.1;
       packets = r.packets;
       answer = λ l a b. let o : refusal_of (act l.a.conn call).answer ≡ Some r.why = ap (λ e. refusal_of (act e.conn call).answer) a ∙ r.refusal in
-          inl (ap (λ o. (called l A call o).lab) (sym o), r.answer ∙ ap (λ o. (called l A call o).answer) (sym o));
+          inl (ap (λ o. (call_effect l A call o).lab) (sym o), r.answer ∙ ap (λ o. (call_effect l A call o).answer) (sym o));
     }
 makes_at_err B call old new before after reply f is m =
     let r = makes_err _ call _ before after reply f is m.0 in
@@ -60,7 +60,7 @@ makes_at_err B call old new before after reply f is m =
       b = r.end;
       packets = r.packets;
       answer = λ l a b. let o : refusal_of (act l.b.conn call).answer ≡ Some r.why = ap (λ e. refusal_of (act e.conn call).answer) b ∙ r.refusal in
-          inl (ap (λ o. (called l B call o).lab) (sym o), r.answer ∙ ap (λ o. (called l B call o).answer) (sym o));
+          inl (ap (λ o. (call_effect l B call o).lab) (sym o), r.answer ∙ ap (λ o. (call_effect l B call o).answer) (sym o));
     }
 
 ok_by : (o : Option ConnFault) (e : EndView) (call : Call) (s : Stepped) → (made_by e call o).answer ≡ Ok s → o ≡ None

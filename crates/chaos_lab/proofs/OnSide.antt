@@ -12,7 +12,7 @@ use Rattle.chaos_lab.specs.declared.fault.LabFault.{LabFault}
 use Rattle.chaos_lab.specs.declared.fault.LabFault.TheVariants as fault
 use Rattle.chaos_lab.specs.Machine.{PlainEnd as Plain, Copy, Machine, Event, other, end_of, with_end, IsSent, Step}
 use Rattle.chaos_lab.specs.Shown.{Stands, HasItems, Leaves}
-use Rattle.chaos_lab.specs.Laboratory.{LabView, Done, lab_end, stamp, after_call, called, refused, refusal_of, with_written, with_read, first_after, asked_after}
+use Rattle.chaos_lab.specs.Laboratory.{LabView, Done, lab_end, stamp, after_call, call_effect, refusal, refusal_of, with_written, with_read, first_after, asked_after}
 use Rattle.chaos_lab.specs.Tied.{Tied, Ties, AskedFits}
 use Rattle.chaos_lab.proofs.Items.{SameNew}
 use Rattle.chaos_lab.proofs.TiedOn.{on_a, on_b}
@@ -107,17 +107,17 @@ ties_on B w l call event e t k =
 
 -- it was refused and changed nothing, or the plain machine made its step
 pub data Outcome (w : Machine) (event : Event) (l : LabView) (done : Done) : Type 0 where
-  Refuses : (why : LabFault) → done ≡ refused l why → Outcome w event l done
+  Refuses : (why : LabFault) → done ≡ refusal l why → Outcome w event l done
   Steps : Stepped w event done.lab → Outcome w event l done
 
 -- why the call was refused, where it was
 abbrev pub refusal_at : LabView → Side → Call → Option ConnFault
 refusal_at l x call = refusal_of (act (conn_at l x) call).answer
 
-settle_by : (o : Option ConnFault) (x : Side) (w : Machine) (l : LabView) (call : Call) (event : Event) → refusal_at l x call ≡ o → ((why : ConnFault) × (refusal_at l x call ≡ Some why)) ⊎ Stepped w event (after_call l x call) → Outcome w event l (called l x call o)
+settle_by : (o : Option ConnFault) (x : Side) (w : Machine) (l : LabView) (call : Call) (event : Event) → refusal_at l x call ≡ o → ((why : ConnFault) × (refusal_at l x call ≡ Some why)) ⊎ Stepped w event (after_call l x call) → Outcome w event l (call_effect l x call o)
 settle_by (Some why) x w l call event is h = Refuses (fault.Refused why) refl
 settle_by None x w l call event is (inl r) = let no : None ≡ Some r.0 = sym is ∙ r.1 in absurd (cc)
 settle_by None x w l call event is (inr s) = Steps s
 
-pub settle : (x : Side) (w : Machine) (l : LabView) (call : Call) (event : Event) → ((why : ConnFault) × (refusal_at l x call ≡ Some why)) ⊎ Stepped w event (after_call l x call) → Outcome w event l (called l x call (refusal_at l x call))
+pub settle : (x : Side) (w : Machine) (l : LabView) (call : Call) (event : Event) → ((why : ConnFault) × (refusal_at l x call ≡ Some why)) ⊎ Stepped w event (after_call l x call) → Outcome w event l (call_effect l x call (refusal_at l x call))
 settle x w l call event h = settle_by (refusal_at l x call) x w l call event refl h

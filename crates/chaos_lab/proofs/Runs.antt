@@ -10,7 +10,7 @@ use Rattle.chaos_lab.specs.Machine.Event.{CloseAt}
 use Rattle.std.specs.Prelude.{slice_get}
 use Rattle.std.proofs.lemmas.Bool.{cond-true, cond-false, cases_Bool}
 use Rattle.chaos_lab.specs.declared.stamped.Stamped.{Stamped as Sent}
-use Rattle.chaos_lab.specs.Laboratory.{LabView, Happening, Done, Happens, StopsWithin, happen, after_all, check, copy_fault, delivered, is_fresh}
+use Rattle.chaos_lab.specs.Laboratory.{LabView, Happening, Done, Happens, StopsWithin, happen, after_all, check, copy_fault, delivery_effect, is_fresh}
 use Rattle.chaos_lab.specs.Laboratory.Happening.{WriteBy, ReadBy, TickOf, CloseBy, AcceptFrom, DeliverCopy}
 use Rattle.chaos_lab.specs.Tied.{Ties, HasMachine, plain_event, plain_next, plain_run}
 use Rattle.chaos_lab.specs.Headline.{Unclosed}
@@ -101,7 +101,7 @@ unchanged l m event (Err why) (inl h) = by (ok_or_refused l event)
     by (inl s) = let no : Err why ≡ Ok s.0 = h.1 ∙ s.1 in absurd (cc)
     by (inr e) = h.0 ∙ e.2
 
-copy_checked : (l : LabView) (o : Option Sent) (why : LabFault) → copy_fault l o ≡ Some why → (delivered l o).answer ≡ Err why
+copy_checked : (l : LabView) (o : Option Sent) (why : LabFault) → copy_fault l o ≡ Some why → (delivery_effect l o).answer ≡ Err why
 copy_checked l None why h = let same : fault.NoSuchCopy ≡ why = cc in ap Err same
 copy_checked l (Some s) why h =
     ⊎_elim

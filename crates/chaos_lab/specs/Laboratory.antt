@@ -144,16 +144,16 @@ pub record Done : Type 0 where
   pub answer : Result Stepped LabFault
 
 -- an event that is refused changes nothing
-abbrev pub refused : LabView → LabFault → Done
-refused l why = record { lab = l; answer = Err why }
+abbrev pub refusal : LabView → LabFault → Done
+refusal l why = record { lab = l; answer = Err why }
 
-abbrev pub called : LabView → Side → Call → Option ConnFault → Done
-called l x call (Some why) = refused l (fault.Refused why)
-called l x call None = record { lab = after_call l x call; answer = Ok (answer_of call (act (lab_end l x).conn call).answer) }
+abbrev pub call_effect : LabView → Side → Call → Option ConnFault → Done
+call_effect l x call (Some why) = refusal l (fault.Refused why)
+call_effect l x call None = record { lab = after_call l x call; answer = Ok (answer_of call (act (lab_end l x).conn call).answer) }
 
 -- a call at x, which is refused exactly where its connection refuses it
 abbrev pub call_at : LabView → Side → Call → Done
-call_at l x call = called l x call (refusal_of (act (lab_end l x).conn call).answer)
+call_at l x call = call_effect l x call (refusal_of (act (lab_end l x).conn call).answer)
 
 -- ---- The start
 
@@ -198,9 +198,9 @@ is_request asked s = is_a s.side && (not asked && is_rfc (kind_of s.packet.op))
 abbrev pub delivery : Bool → ℕ → Stamped → Call
 delivery asked now s = if is_request asked s then TakeRequest s.packet (place_of B) now else Deliver s.packet now
 
-abbrev pub delivered : LabView → Option Stamped → Done
-delivered l None = refused l fault.NoSuchCopy
-delivered l (Some s) = if is_fresh l.a l.b s then call_at l (other s.side) (delivery l.asked l.clock s) else refused l fault.Stale
+abbrev pub delivery_effect : LabView → Option Stamped → Done
+delivery_effect l None = refusal l fault.NoSuchCopy
+delivery_effect l (Some s) = if is_fresh l.a l.b s then call_at l (other s.side) (delivery l.asked l.clock s) else refusal l fault.Stale
 
 -- What an event does. A call without a moment of its own gets the greatest one ticked.
 abbrev pub happen : LabView → Happening → Done
@@ -209,7 +209,7 @@ happen l (ReadBy x) = call_at l x Read
 happen l (TickOf x now) = call_at l x (Tick now)
 happen l (CloseBy x text) = call_at l x (Close text)
 happen l (AcceptFrom start) = call_at l B (Accept start l.clock)
-happen l (DeliverCopy k) = delivered l (slice_get l.copies k)
+happen l (DeliverCopy k) = delivery_effect l (slice_get l.copies k)
 
 -- why a copy can't be delivered, where it can't
 abbrev pub copy_fault : LabView → Option Stamped → Option LabFault

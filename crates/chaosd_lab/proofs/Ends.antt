@@ -9,7 +9,7 @@ use Rattle.chaosd_engines.specs.declared.fault.RunFault.TheVariants as run
 use Rattle.chaosd_engines.specs.Buffer.{written_of}
 use Rattle.chaosd_engines.specs.Lines.{ended_lines}
 use Rattle.chaosd_engines.proofs.Runs.{handed}
-use Rattle.chaosd_lab.specs.Play.{text_of, played}
+use Rattle.chaosd_lab.specs.Play.{text_of, play_of}
 use Rattle.chaosd_lab.specs.Player.{PlaysAll, StopsAt, Wants, StopsInput, PlaysFront, StopsRun}
 use Rattle.chaosd_lab.proofs.Inputs.{stops_of}
 
@@ -74,7 +74,7 @@ chunk_stops (Some x) (Some y) (Some z) before written read chunk count within fa
 
 -- the reader failed
 pub read_stops : (old mid new before written : Option (List ℕ)) (read : List ℕ) (fault : RunFault) → fault ≡ run.ReadFault → Consumes old mid read → Keeps mid new
-    → Appends before written (text_of (played (ended_lines read))) → StopsRun old new before written fault
+    → Appends before written (text_of (play_of (ended_lines read))) → StopsRun old new before written fault
 read_stops old mid new before written read fault is c keeps text =
     subst (StopsRun old new before written) (sym is) (read, Consumes-kept old mid new read c keeps, text)
 

@@ -1,32 +1,18 @@
 -- What one line does.
-use Rattle.std.proofs.Common.{◌≡◌, ◌≢◌, ℕ, ◌≤◌, Bool, true, false, cond, List, [], ◌++◌, length, drop, append_assoc, append-nil, refl, ap, subst, ◌∙◌, sym, inl, inr, arith}
-use Rattle.std.specs.Prelude.{Option, Some, None, Result, Ok, Err, is_err, IfOk, IsOk, OnOk, MatchResult, slice_get}
+use Rattle.std.proofs.Common.{◌≡◌, ◌≢◌, ℕ, ◌≤◌, Bool, List, [], ◌++◌, length, drop, append_assoc, append-nil, refl, ap, subst, ◌∙◌, sym, inl, inr, arith}
+use Rattle.std.specs.Prelude.{Option, Some, None, Result, Ok, Err, is_err, IfOk}
 use Rattle.std.proofs.lemmas.List.{drop_all}
-use Rattle.chaos_conn.specs.declared.fault.ConnFault.{ConnFault}
-use Rattle.chaos_conn.specs.Act.{Call, act}
-use Rattle.chaos_conn.specs.Act.Call.{Accept, Write, Read, Close, Tick}
-use Rattle.chaos_lab.specs.declared.side.Side.{Side}
-use Rattle.chaos_lab.specs.declared.side.Side.TheVariants.{B}
 use Rattle.chaos_lab.specs.declared.stamped.Stamped.{Stamped}
 use Rattle.chaos_lab.specs.declared.event.Stepped.{Stepped}
 use Rattle.chaos_lab.specs.declared.fault.LabFault.{LabFault}
 use Rattle.chaos_lab.specs.declared.fault.LabFault.TheVariants.{NoSuchCopy, Stale, Refused, NoMemory}
-use Rattle.chaos_lab.specs.Machine.{other}
-use Rattle.chaos_lab.specs.Laboratory.{LabView, Happening, Happens, happen, called, call_at, lab_end, refusal_of, refused, delivered, delivery, is_fresh}
-use Rattle.chaos_lab.specs.Laboratory.Happening.{WriteBy, ReadBy, TickOf, CloseBy, AcceptFrom, DeliverCopy}
+use Rattle.chaos_lab.specs.Laboratory.{LabView, Happening, Happens, happen}
+use Rattle.chaos_lab.proofs.Happening.{no_memory}
 use Rattle.chaosd_engines.specs.declared.fault.RunFault.{RunFault}
 use Rattle.chaosd_engines.specs.declared.fault.RunFault.TheVariants as run
 use Rattle.chaosd_lab.specs.Answers.{answer_text, refusal_text, copies_text}
 use Rattle.chaosd_lab.specs.Event.{event_of}
 use Rattle.chaosd_lab.specs.Play.{event_text, PlaysLine, refused_or_ended}
-
-no_fault : (Y : Type 0) (y : Y) → ◌≡◌ {A = Result Y RunFault} (Ok y) (Err run.WriteFault) → ⊥
-no_fault Y y h = cc
-
--- a call that wasn't answered by a fault went well
-pub went_well : {X Y E P : Type 0} (end : Result X E) (answer : Result Y RunFault) (y : Y) → MatchResult end (λ _. IsOk answer) (λ _. answer ≡ Err run.WriteFault) → answer ≡ Ok y → OnOk end P → P
-went_well (Ok x) answer y fault ok p = p
-went_well {Y = Y} (Err e) answer y fault ok p = absurd (no_fault Y y (sym ok ∙ fault))
 
 by_answer : (answer : Result Stepped LabFault) (P : Bool → Type 0) → P (is_err answer) → IfOk (refused_or_ended answer) P
 by_answer (Ok stepped) P p = p
@@ -67,30 +53,6 @@ is_want (Err Stale) h = absurd (cc)
 is_want (Err (Refused why)) h = absurd (cc)
 is_want (Err NoMemory) h = refl
 
-called_has_memory : (l : LabView) (x : Side) (call : Call) (why : Option ConnFault) → (called l x call why).answer ≡ Err NoMemory → ⊥
-called_has_memory l x call None h = cc
-called_has_memory l x call (Some why) h = cc
-
-call_has_memory : (l : LabView) (x : Side) (call : Call) → (call_at l x call).answer ≡ Err NoMemory → ⊥
-call_has_memory l x call h = called_has_memory l x call (refusal_of (act (lab_end l x).conn call).answer) h
-
-fresh_has_memory : (l : LabView) (x : Side) (call : Call) (fresh : Bool) → (cond fresh (call_at l x call) (refused l Stale)).answer ≡ Err NoMemory → ⊥
-fresh_has_memory l x call true h = call_has_memory l x call h
-fresh_has_memory l x call false h = cc
-
-delivered_has_memory : (l : LabView) (copy : Option Stamped) → (delivered l copy).answer ≡ Err NoMemory → ⊥
-delivered_has_memory l None h = cc
-delivered_has_memory l (Some s) h = fresh_has_memory l (other s.side) (delivery l.asked l.clock s) (is_fresh l.a l.b s) h
-
--- what an event does isn't want of memory
-has_memory : (l : LabView) (event : Happening) → (happen l event).answer ≡ Err NoMemory → ⊥
-has_memory l (WriteBy x op bytes) h = call_has_memory l x (Write op bytes l.clock) h
-has_memory l (ReadBy x) h = call_has_memory l x Read h
-has_memory l (TickOf x now) h = call_has_memory l x (Tick now) h
-has_memory l (CloseBy x text) h = call_has_memory l x (Close text) h
-has_memory l (AcceptFrom start) h = call_has_memory l B (Accept start l.clock) h
-has_memory l (DeliverCopy k) h = delivered_has_memory l (slice_get l.copies k) h
-
 no_copies : (copies : List Stamped) (n : ℕ) → length copies ≤ n → copies_text n (drop n copies) ≡ []
 unfolding copies_text
 no_copies copies n le = ap (copies_text n) (drop_all n copies le)
@@ -107,7 +69,7 @@ line_wants line before after old mid new event answer result said happens first 
     let n = length before.copies in
     let none : answer ≡ Err NoMemory = is_want answer (sym same ∙ wants) in
     elim happens [
-      | inl h ↦ absurd (has_memory before event (sym h.1 ∙ none))
+      | inl h ↦ absurd (no_memory before event (sym h.1 ∙ none))
       | inr h ↦ let (checked, same_lab, ans) = h in (
         some_said _ event said,
         same_lab,

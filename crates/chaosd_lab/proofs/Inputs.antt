@@ -17,9 +17,9 @@ use Rattle.chaosd_engines.specs.Buffer.{written_of}
 use Rattle.chaosd_engines.specs.Lines.{is_newline, pieces_of, without_empty_last, all_but_last, ended_lines, lines_of}
 use Rattle.chaosd_engines.proofs.Steps.{take_front, all_but_last-push, drops_empty_last, keeps_last, nothing_waits}
 use Rattle.chaosd_lab.specs.Answers.{stored_line}
-use Rattle.chaosd_lab.specs.Play.{played, text_of, end_text, IsFirstBad}
+use Rattle.chaosd_lab.specs.Play.{play_of, text_of, end_text, IsFirstBad}
 use Rattle.chaosd_lab.specs.Player.{IsAt, PlaysLines, StopsLine, PlaysInput, StopsAt, StopsInput, PlaysAll, want_text}
-use Rattle.chaosd_lab.proofs.Plays.{played-alike, first_bad, lines_before, text_more}
+use Rattle.chaosd_lab.proofs.Plays.{play_of-alike, first_bad, lines_before, text_more}
 
 -- ---- what is kept
 
@@ -33,12 +33,12 @@ lines_kept before written written' lab lab' lines lines' refused refused' ended 
 }
 
 pub input_kept : (before written written' : Option (List ℕ)) (lab lab' : Option LabView) (lines lines' refused refused' : ℕ) (kept kept' input : List ℕ) → Keeps written written'
-    → lab' ≡ lab → lines' ≡ lines → refused' ≡ refused → kept' ≡ kept → PlaysInput before written lab lines refused kept input → PlaysInput before written' lab' lines' refused' kept' input
-input_kept before written written' lab lab' lines lines' refused refused' kept kept' input keeps same_lab same_lines same_refused same s = record {
+    → (lab' ≡ lab) × (lines' ≡ lines) × (refused' ≡ refused) × (kept' ≡ kept) → PlaysInput before written lab lines refused kept input → PlaysInput before written' lab' lines' refused' kept' input
+input_kept before written written' lab lab' lines lines' refused refused' kept kept' input keeps same s = record {
   ended = s.ended;
   begun = s.begun;
-  plays = lines_kept before written written' lab lab' lines lines' refused refused' s.ended keeps same_lab same_lines same_refused s.plays;
-  front = same ∙ s.front;
+  plays = lines_kept before written written' lab lab' lines lines' refused refused' s.ended keeps same.0 same.1 same.2 s.plays;
+  front = same.3 ∙ s.front;
   unended = s.unended;
   goes_on = s.goes_on;
 }
@@ -50,8 +50,8 @@ lines_alike before written None lines refused ended f g e s = absurd (omega (ari
 lines_alike before written (Some lab) lines refused ended f g e s =
     let (p, is, same, count) = s.state in
     record {
-      state = (p, sym (played-alike ended f g e) ∙ is, same, count);
-      text = subst (Appends before written) (ap text_of (played-alike ended f g e)) s.text;
+      state = (p, sym (play_of-alike ended f g e) ∙ is, same, count);
+      text = subst (Appends before written) (ap text_of (play_of-alike ended f g e)) s.text;
       count = s.count ∙ length-append ended (f ∷ []) ∙ sym (length-append ended (g ∷ []));
     }
 
@@ -131,7 +131,7 @@ stops_within before written lab refused ended more line input (run.BadScript num
     let less : number - 1 ≡ length ended = omega arith in
     let front : take (number - 1) (lines_of input) ≡ ended = ap (λ n. take n (lines_of input)) less ∙ ap (take (length ended)) all ∙ lines_before ended (line ∷ more) in (
       subst (λ n. IsFirstBad n (lines_of input)) (sym is) (subst (IsFirstBad (length ended + 1)) (sym all) (first_bad lab refused ended more line at bad)),
-      subst (λ l. Appends before written (text_of (played l))) (sym front) text,
+      subst (λ l. Appends before written (text_of (play_of l))) (sym front) text,
     )
 stops_within before written lab refused ended more line input run.NoMemory at all stops =
     let (good, text) = stops in
@@ -139,8 +139,8 @@ stops_within before written lab refused ended more line input run.NoMemory at al
     let with_line : take (length ended + 1) (lines_of input) ≡ ended ++ line ∷ [] = ap (take (length ended + 1)) all ∙ take-append-add ended (line ∷ more) 1 in (
       length ended,
       omega (arith, ap length all, length-append ended (line ∷ more)),
-      λ none. good (ap played (sym with_line) ∙ none),
-      subst (λ l. Appends before written (text_of (played l) ++ want_text (length ended))) (sym front) text,
+      λ none. good (ap play_of (sym with_line) ∙ none),
+      subst (λ l. Appends before written (text_of (play_of l) ++ want_text (length ended))) (sym front) text,
     )
 stops_within before written lab refused ended more line input run.WriteFault at all stops = tt
 stops_within before written lab refused ended more line input run.ReadFault at all stops = absurd stops
@@ -150,8 +150,8 @@ stops_within before written lab refused ended more line input run.ClockFault at 
 
 -- of two lines that begin alike
 stops_alike : (before written : Option (List ℕ)) (ended : List (List ℕ)) (f g : List ℕ) (fault : RunFault) → take KEPT_LEN f ≡ take KEPT_LEN g → StopsLine before written ended f fault → StopsLine before written ended g fault
-stops_alike before written ended f g (run.BadScript number) e stops = (stops.0, sym (played-alike ended f g e) ∙ stops.1, stops.2)
-stops_alike before written ended f g run.NoMemory e stops = (λ none. stops.0 (played-alike ended f g e ∙ none), stops.1)
+stops_alike before written ended f g (run.BadScript number) e stops = (stops.0, sym (play_of-alike ended f g e) ∙ stops.1, stops.2)
+stops_alike before written ended f g run.NoMemory e stops = (λ none. stops.0 (play_of-alike ended f g e ∙ none), stops.1)
 stops_alike before written ended f g run.WriteFault e stops = tt
 stops_alike before written ended f g run.ReadFault e stops = absurd stops
 stops_alike before written ended f g run.InputTooLong e stops = absurd stops
@@ -178,9 +178,9 @@ pieces_now before written lab lines refused kept input s =
 
 -- the text of the lines that ended was written
 pub ended_played : (before written : Option (List ℕ)) (lab : Option LabView) (lines refused : ℕ) (kept input : List ℕ) → PlaysInput before written lab lines refused kept input
-    → Appends before written (text_of (played (ended_lines input)))
+    → Appends before written (text_of (play_of (ended_lines input)))
 ended_played before written lab lines refused kept input s =
-    subst (λ l. Appends before written (text_of (played l))) (sym (ap all_but_last (pieces_now before written lab lines refused kept input s) ∙ all_but_last-push s.ended s.begun)) s.plays.text
+    subst (λ l. Appends before written (text_of (play_of l))) (sym (ap all_but_last (pieces_now before written lab lines refused kept input s) ∙ all_but_last-push s.ended s.begun)) s.plays.text
 
 -- the input ends with the end of a line
 pub all_played : (before written : Option (List ℕ)) (lab : Option LabView) (lines refused : ℕ) (kept input : List ℕ) → eqb (length kept) 0 ≡ true → PlaysInput before written lab lines refused kept input
@@ -220,9 +220,9 @@ last_stops before written written' lab lines refused kept input fault some stops
 pub no_first_line : (before written : Option (List ℕ)) (lab : Option LabView) (lines refused : ℕ) (input : List ℕ) → lab ≡ None → PlaysLines before written lab lines refused (lines_of input) → StopsAt before written 1 input
 no_first_line before written lab lines refused input none s =
     let (nil, none_refused) = subst (λ l. IsAt l refused (lines_of input)) none s.state in
-    let at : IsFirstBad 1 [] = record { bad = refl; good = λ n some few. absurd (omega arith) } in (
+    let at : IsFirstBad 1 [] = record { counts = omega arith; bad = refl; good = λ n some few. absurd (omega arith) } in (
       subst (IsFirstBad 1) (sym nil) at,
-      subst (Appends before written) (ap (λ l. text_of (played l)) nil) s.text,
+      subst (Appends before written) (ap (λ l. text_of (play_of l)) nil) s.text,
     )
 
 -- all lines were played, and what both ends store was said

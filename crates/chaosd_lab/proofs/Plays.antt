@@ -18,81 +18,82 @@ use Rattle.chaosd_engines.proofs.Steps.{length-strip_last}
 use Rattle.chaosd_lab.specs.Answers.{copies_text, refusal_text}
 use Rattle.chaosd_lab.specs.Event.{event_of}
 use Rattle.chaosd_lab.specs.Start.{first_of}
-use Rattle.chaosd_lab.specs.Play.{Played, begun, said_by, with_said, with_line, played_on, played, text_of, event_text, IsFirstBad, PlaysLine}
+use Rattle.chaosd_lab.specs.Play.{Played, start_play, says_by, with_reading, with_line, play_on, play_of, text_of, event_text, IsFirstBad, PlaysLine}
 use Rattle.chaosd_lab.specs.Player.{IsAt, PlaysLines, IsLineFault, StopsLine, want_text}
 
 -- ---- a long line
 
 -- a line of as many bytes as are kept is too long, whatever its last byte
-says_nothing : {X : Type 0} (reading : List ℕ → Option X) (raw : List ℕ) → KEPT_LEN ≤ length raw → said_by reading raw ≡ None
+says_nothing : {X : Type 0} (reading : List ℕ → Option X) (raw : List ℕ) → KEPT_LEN ≤ length raw → says_by reading raw ≡ None
 says_nothing reading raw long =
     let test : ltb LINE_LIMIT (length (strip_last 13 raw)) ≡ true = lt-ltb LINE_LIMIT _ (omega (arith, length-strip_last 13 raw)) in
     ap (λ b. cond b None (reading (strip_last 13 raw))) test
 
-front_decides : {X : Type 0} (reading : List ℕ → Option X) (f g : List ℕ) (is_short : Bool) → ltb (length f) KEPT_LEN ≡ is_short → take KEPT_LEN f ≡ take KEPT_LEN g → said_by reading f ≡ said_by reading g
+front_decides : {X : Type 0} (reading : List ℕ → Option X) (f g : List ℕ) (is_short : Bool) → ltb (length f) KEPT_LEN ≡ is_short → take KEPT_LEN f ≡ take KEPT_LEN g → says_by reading f ≡ says_by reading g
 front_decides reading f g true short e =
     let len : length (take KEPT_LEN f) ≡ length (take KEPT_LEN g) = ap length e in
     let few : length f < KEPT_LEN = grind (arith, nat_tests) in
-    ap (said_by reading) (sym (take_all KEPT_LEN f (omega arith)) ∙ e ∙ take_all KEPT_LEN g (omega (arith, length-take KEPT_LEN f, length-take KEPT_LEN g)))
+    ap (says_by reading) (sym (take_all KEPT_LEN f (omega arith)) ∙ e ∙ take_all KEPT_LEN g (omega (arith, length-take KEPT_LEN f, length-take KEPT_LEN g)))
 front_decides reading f g false long e =
     let len : length (take KEPT_LEN f) ≡ length (take KEPT_LEN g) = ap length e in
     let many : KEPT_LEN ≤ length f = grind (arith, nat_tests) in
     says_nothing reading f many ∙ sym (says_nothing reading g (omega (arith, length-take KEPT_LEN f, length-take KEPT_LEN g)))
 
 -- so what is kept of a line decides what it says
-said_alike : {X : Type 0} (reading : List ℕ → Option X) (f g : List ℕ) → take KEPT_LEN f ≡ take KEPT_LEN g → said_by reading f ≡ said_by reading g
+said_alike : {X : Type 0} (reading : List ℕ → Option X) (f g : List ℕ) → take KEPT_LEN f ≡ take KEPT_LEN g → says_by reading f ≡ says_by reading g
 said_alike reading f g e = front_decides reading f g (ltb (length f) KEPT_LEN) refl e
 
 -- ---- one line more
 
-played_on-push : (p : Option Played) (lines : List (List ℕ)) (raw : List ℕ) → played_on p (lines ++ raw ∷ []) ≡ with_line (played_on p lines) raw
-played_on-push p [] raw = refl
-played_on-push p (first ∷ lines) raw = played_on-push (with_line p first) lines raw
+play_on-push : (p : Option Played) (lines : List (List ℕ)) (raw : List ℕ) → play_on p (lines ++ raw ∷ []) ≡ with_line (play_on p lines) raw
+play_on-push p [] raw = refl
+play_on-push p (first ∷ lines) raw = play_on-push (with_line p first) lines raw
 
 with_line-alike : (p : Option Played) (f g : List ℕ) → take KEPT_LEN f ≡ take KEPT_LEN g → with_line p f ≡ with_line p g
 with_line-alike None f g e = refl
-with_line-alike (Some p) f g e = ap (with_said p) (said_alike event_of f g e)
+with_line-alike (Some p) f g e = ap (with_reading p) (said_alike event_of f g e)
 
 -- a line plays what another one does that begins alike
-pub played-alike : (lines : List (List ℕ)) (f g : List ℕ) → take KEPT_LEN f ≡ take KEPT_LEN g → played (lines ++ f ∷ []) ≡ played (lines ++ g ∷ [])
-played-alike [] f g e = ap (option_map begun) (said_alike first_of f g e)
-played-alike (first ∷ lines) f g e =
-    let p = option_map begun (said_by first_of first) in
-    played_on-push p lines f ∙ with_line-alike (played_on p lines) f g e ∙ sym (played_on-push p lines g)
+pub play_of-alike : (lines : List (List ℕ)) (f g : List ℕ) → take KEPT_LEN f ≡ take KEPT_LEN g → play_of (lines ++ f ∷ []) ≡ play_of (lines ++ g ∷ [])
+play_of-alike [] f g e = ap (option_map start_play) (said_alike first_of f g e)
+play_of-alike (first ∷ lines) f g e =
+    let p = option_map start_play (says_by first_of first) in
+    play_on-push p lines f ∙ with_line-alike (play_on p lines) f g e ∙ sym (play_on-push p lines g)
 
 -- the line behind some that were played
-played-push : (lines : List (List ℕ)) (p : Played) (raw : List ℕ) → played lines ≡ Some p → played (lines ++ raw ∷ []) ≡ with_said p (said_by event_of raw)
-played-push [] p raw h = absurd (cc)
-played-push (first ∷ lines) p raw h = played_on-push (option_map begun (said_by first_of first)) lines raw ∙ ap (λ q. with_line q raw) h
+play_of-push : (lines : List (List ℕ)) (p : Played) (raw : List ℕ) → play_of lines ≡ Some p → play_of (lines ++ raw ∷ []) ≡ with_reading p (says_by event_of raw)
+play_of-push [] p raw h = absurd (cc)
+play_of-push (first ∷ lines) p raw h = play_on-push (option_map start_play (says_by first_of first)) lines raw ∙ ap (λ q. with_line q raw) h
 
 -- ---- the first line that is of no form
 
-on_none : (lines : List (List ℕ)) → played_on None lines ≡ None
+on_none : (lines : List (List ℕ)) → play_on None lines ≡ None
 on_none [] = refl
 on_none (raw ∷ lines) = on_none lines
 
-on_front : (p : Option Played) (lines : List (List ℕ)) (n : ℕ) → played_on p (take n lines) ≡ None → played_on p lines ≡ None
-on_front p lines zero none = ap (λ q. played_on q lines) none ∙ on_none lines
+on_front : (p : Option Played) (lines : List (List ℕ)) (n : ℕ) → play_on p (take n lines) ≡ None → play_on p lines ≡ None
+on_front p lines zero none = ap (λ q. play_on q lines) none ∙ on_none lines
 on_front p [] (suc n) none = none
 on_front p (raw ∷ lines) (suc n) none = on_front (with_line p raw) lines n none
 
-none_front : (lines : List (List ℕ)) (n : ℕ) → 0 < n → played (take n lines) ≡ None → played lines ≡ None
+none_front : (lines : List (List ℕ)) (n : ℕ) → 0 < n → play_of (take n lines) ≡ None → play_of lines ≡ None
 none_front [] n some none = refl
 none_front (first ∷ lines) zero some none = absurd (omega arith)
-none_front (first ∷ lines) (suc n) some none = on_front (option_map begun (said_by first_of first)) lines n none
+none_front (first ∷ lines) (suc n) some none = on_front (option_map start_play (says_by first_of first)) lines n none
 
-all_good : (lab : Option LabView) (refused : ℕ) (ended : List (List ℕ)) (n : ℕ) → IsAt lab refused ended → 0 < n → n ≤ length ended → played (take n ended) ≢ None
+all_good : (lab : Option LabView) (refused : ℕ) (ended : List (List ℕ)) (n : ℕ) → IsAt lab refused ended → 0 < n → n ≤ length ended → play_of (take n ended) ≢ None
 all_good None refused ended n at some few none = absurd (omega (arith, ap length at.0))
 all_good (Some lab) refused ended n at some few none =
     let (p, is, same, count) = at in
-    let bad : played ended ≡ None = none_front ended n some none in
+    let bad : play_of ended ≡ None = none_front ended n some none in
     cc
 
-pub first_bad : (lab : Option LabView) (refused : ℕ) (ended more : List (List ℕ)) (line : List ℕ) → IsAt lab refused ended → played (ended ++ line ∷ []) ≡ None
+pub first_bad : (lab : Option LabView) (refused : ℕ) (ended more : List (List ℕ)) (line : List ℕ) → IsAt lab refused ended → play_of (ended ++ line ∷ []) ≡ None
     → IsFirstBad (length ended + 1) (ended ++ line ∷ more)
 first_bad lab refused ended more line at none = record {
-  bad = ap played (take-append-add ended (line ∷ more) 1) ∙ none;
-  good = λ n some few bad. all_good lab refused ended n at some (omega arith) (ap played (sym (take-append-le n ended (line ∷ more) (omega arith))) ∙ bad);
+  counts = omega arith;
+  bad = ap play_of (take-append-add ended (line ∷ more) 1) ∙ none;
+  good = λ n some few bad. all_good lab refused ended n at some (omega arith) (ap play_of (sym (take-append-le n ended (line ∷ more) (omega arith))) ∙ bad);
 }
 
 -- the lines before that one
@@ -109,7 +110,7 @@ waits_more (Some x) old new more e = ap (λ l. x ++ l) e ∙ sym (append_assoc x
 pub text_more : (before held : Option (List ℕ)) (old new text more : List ℕ) → Appends before (written_of held old) text → new ≡ old ++ more → Appends before (written_of held new) (text ++ more)
 text_more before held old new text more so_far e = Appends-trans before (written_of held old) (written_of held new) text more so_far (waits_more held old new more e)
 
-says : {X : Type 0} (reading : List ℕ → Option X) (raw : List ℕ) (said : Option X) → ltb LINE_LIMIT (length (strip_last 13 raw)) ≡ false → reading (strip_last 13 raw) ≡ said → said_by reading raw ≡ said
+says : {X : Type 0} (reading : List ℕ → Option X) (raw : List ℕ) (said : Option X) → ltb LINE_LIMIT (length (strip_last 13 raw)) ≡ false → reading (strip_last 13 raw) ≡ said → says_by reading raw ≡ said
 says reading raw said short is = ap (λ b. cond b None (reading (strip_last 13 raw))) short ∙ is
 
 -- the first line was played
@@ -118,11 +119,11 @@ pub begins : (before held : Option (List ℕ)) (lab : Option LabView) (lines ref
     → PlaysLines before (written_of held old) lab lines refused ended → PlaysLines before (written_of held new) (Some made) (lines + 1) refused (ended ++ raw ∷ [])
 begins before held lab lines refused ended raw old new made none short said more s =
     let (nil, none_yet) = subst (λ l. IsAt l refused ended) none s.state in
-    let played_first : played (ended ++ raw ∷ []) ≡ Some (begun made) = ap (λ l. played (l ++ raw ∷ [])) nil ∙ ap (option_map begun) (says first_of raw (Some made) short said) in
+    let played_first : play_of (ended ++ raw ∷ []) ≡ Some (start_play made) = ap (λ l. play_of (l ++ raw ∷ [])) nil ∙ ap (option_map start_play) (says first_of raw (Some made) short said) in
     record {
-      state = (begun made, played_first, refl, sym none_yet);
+      state = (start_play made, played_first, refl, sym none_yet);
       text = subst (Appends before (written_of held new)) (sym (ap text_of played_first))
-          (text_more before held old new [] _ (subst (Appends before (written_of held old)) (ap (λ l. text_of (played l)) nil) s.text) more);
+          (text_more before held old new [] _ (subst (Appends before (written_of held old)) (ap (λ l. text_of (play_of l)) nil) s.text) more);
       count = omega (arith, s.count, ap length nil, ap (λ l. length (l ++ raw ∷ [])) nil);
     }
 
@@ -138,7 +139,7 @@ plays_event before held lab lines refused refused' ended raw old new l l' was_re
       text = p.text ++ event_text p.lab event;
       refused = p.refused + cond (is_err (happen p.lab event).answer) 1 0;
     } in
-    let played_more : played (ended ++ raw ∷ []) ≡ Some after = played-push ended p raw is ∙ ap (with_said p) (says event_of raw (Some event) short did.said) in
+    let played_more : play_of (ended ++ raw ∷ []) ≡ Some after = play_of-push ended p raw is ∙ ap (with_reading p) (says event_of raw (Some event) short did.said) in
     let text : List ℕ = p.text ++ event_text p.lab event in
     record {
       state = (
@@ -154,17 +155,17 @@ plays_event before held lab lines refused refused' ended raw old new l l' was_re
 
 -- ---- a line that isn't played
 
-unplayed_first : (lab : Option LabView) (refused : ℕ) (ended : List (List ℕ)) (raw : List ℕ) → lab ≡ None → IsAt lab refused ended → said_by first_of raw ≡ None → played (ended ++ raw ∷ []) ≡ None
+unplayed_first : (lab : Option LabView) (refused : ℕ) (ended : List (List ℕ)) (raw : List ℕ) → lab ≡ None → IsAt lab refused ended → says_by first_of raw ≡ None → play_of (ended ++ raw ∷ []) ≡ None
 unplayed_first lab refused ended raw none at said =
     let (nil, none_yet) = subst (λ l. IsAt l refused ended) none at in
-    ap (λ l. played (l ++ raw ∷ [])) nil ∙ ap (option_map begun) said
+    ap (λ l. play_of (l ++ raw ∷ [])) nil ∙ ap (option_map start_play) said
 
-unplayed_event : (lab : Option LabView) (refused : ℕ) (ended : List (List ℕ)) (raw : List ℕ) (l : LabView) → lab ≡ Some l → IsAt lab refused ended → said_by event_of raw ≡ None → played (ended ++ raw ∷ []) ≡ None
+unplayed_event : (lab : Option LabView) (refused : ℕ) (ended : List (List ℕ)) (raw : List ℕ) (l : LabView) → lab ≡ Some l → IsAt lab refused ended → says_by event_of raw ≡ None → play_of (ended ++ raw ∷ []) ≡ None
 unplayed_event lab refused ended raw l some at said =
     let (p, is, same, so_far) = subst (λ x. IsAt x refused ended) some at in
-    played-push ended p raw is ∙ ap (with_said p) said
+    play_of-push ended p raw is ∙ ap (with_reading p) said
 
-unplayed : (lab : Option LabView) (refused : ℕ) (ended : List (List ℕ)) (raw : List ℕ) → IsAt lab refused ended → said_by first_of raw ≡ None → said_by event_of raw ≡ None → played (ended ++ raw ∷ []) ≡ None
+unplayed : (lab : Option LabView) (refused : ℕ) (ended : List (List ℕ)) (raw : List ℕ) → IsAt lab refused ended → says_by first_of raw ≡ None → says_by event_of raw ≡ None → play_of (ended ++ raw ∷ []) ≡ None
 unplayed None refused ended raw at first event = unplayed_first None refused ended raw refl at first
 unplayed (Some l) refused ended raw at first event = unplayed_event (Some l) refused ended raw l refl at event
 
@@ -172,19 +173,15 @@ unplayed (Some l) refused ended raw at first event = unplayed_event (Some l) ref
 pub too_long_stops : (before written : Option (List ℕ)) (lab : Option LabView) (lines refused : ℕ) (ended : List (List ℕ)) (raw : List ℕ) → ltb LINE_LIMIT (length (strip_last 13 raw)) ≡ true
     → PlaysLines before written lab lines refused ended → StopsLine before written ended raw (run.BadScript (lines + 1))
 too_long_stops before written lab lines refused ended raw long s =
-    let none_first : said_by first_of raw ≡ None = ap (λ b. cond b None (first_of (strip_last 13 raw))) long in
-    let none_event : said_by event_of raw ≡ None = ap (λ b. cond b None (event_of (strip_last 13 raw))) long in
+    let none_first : says_by first_of raw ≡ None = ap (λ b. cond b None (first_of (strip_last 13 raw))) long in
+    let none_event : says_by event_of raw ≡ None = ap (λ b. cond b None (event_of (strip_last 13 raw))) long in
     (ap (λ n. n + 1) s.count, unplayed lab refused ended raw s.state none_first none_event, s.text)
 
-some_not_none : {X : Type 0} (o : Option X) (x : X) → o ≡ Some x → o ≢ None
-some_not_none None x h none = absurd (cc)
-some_not_none (Some y) x h none = cc
-
-some_with : (p : Played) (o : Option Happening) → o ≢ None → with_said p o ≢ None
+some_with : (p : Played) (o : Option Happening) → o ≢ None → with_reading p o ≢ None
 some_with p None some none = some refl
 some_with p (Some event) some none = cc
 
-want_behind : (ended : List (List ℕ)) (p : Played) → played ended ≡ Some p → want_text (length ended) ≡ refusal_text why.NoMemory
+want_behind : (ended : List (List ℕ)) (p : Played) → play_of ended ≡ Some p → want_text (length ended) ≡ refusal_text why.NoMemory
 want_behind [] p is = absurd (cc)
 want_behind (first ∷ lines) p is =
     let some : eqb (length (first ∷ lines)) 0 ≡ false = grind (arith, nat_tests) in
@@ -200,14 +197,14 @@ event_stops (run.BadScript n) before held lab lines refused ended raw old new l 
     let (number, said, same_lab, same) = bad n refl in (
       number ∙ ap (λ k. k + 1) s.count,
       unplayed_event lab refused ended raw l some s.state (says event_of raw None short said),
-      subst (λ x. Appends before (written_of held x) (text_of (played ended))) (sym same) s.text,
+      subst (λ x. Appends before (written_of held x) (text_of (play_of ended))) (sym same) s.text,
     )
 event_stops run.NoMemory before held lab lines refused ended raw old new l l' some short is bad want s =
     let (said, same_lab, more) = want refl in
     let (p, at, same, so_far) = subst (λ x. IsAt x refused ended) some s.state in
-    let good : said_by event_of raw ≢ None = λ nothing. said (sym (says event_of raw _ short refl) ∙ nothing) in (
-      λ nothing. some_with p (said_by event_of raw) good (sym (played-push ended p raw at) ∙ nothing),
-      text_more before held old new (text_of (played ended)) (want_text (length ended)) s.text (more ∙ ap (λ x. old ++ x) (sym (want_behind ended p at))),
+    let good : says_by event_of raw ≢ None = λ nothing. said (sym (says event_of raw _ short refl) ∙ nothing) in (
+      λ nothing. some_with p (says_by event_of raw) good (sym (play_of-push ended p raw at) ∙ nothing),
+      text_more before held old new (text_of (play_of ended)) (want_text (length ended)) s.text (more ∙ ap (λ x. old ++ x) (sym (want_behind ended p at))),
     )
 event_stops run.WriteFault before held lab lines refused ended raw old new l l' some short is bad want s = tt
 event_stops run.ReadFault before held lab lines refused ended raw old new l l' some short is bad want s = absurd is

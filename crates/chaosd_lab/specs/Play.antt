@@ -28,8 +28,8 @@ pub record Played : Type 0 where
   pub refused : ℕ
 
 -- a laboratory that was just made, whose first copy is printed
-abbrev pub begun : LabView → Played
-begun l = record { lab = l; text = copies_text 0 l.copies; refused = 0 }
+abbrev pub start_play : LabView → Played
+start_play l = record { lab = l; text = copies_text 0 l.copies; refused = 0 }
 
 -- one event more
 abbrev pub with_event : Played → Happening → Played
@@ -40,37 +40,38 @@ with_event p event = record {
 }
 
 -- what a line says by this reading, where it isn't too long. A byte 13 at its end is ignored
-abbrev pub said_by : {X : Type 0} → (List ℕ → Option X) → List ℕ → Option X
-said_by reading raw = if nat_lt LINE_LIMIT (length (strip_last 13 raw)) then None else reading (strip_last 13 raw)
+abbrev pub says_by : {X : Type 0} → (List ℕ → Option X) → List ℕ → Option X
+says_by reading raw = if nat_lt LINE_LIMIT (length (strip_last 13 raw)) then None else reading (strip_last 13 raw)
 
-abbrev pub with_said : Played → Option Happening → Option Played
-with_said p None = None
-with_said p (Some event) = Some (with_event p event)
+abbrev pub with_reading : Played → Option Happening → Option Played
+with_reading p None = None
+with_reading p (Some event) = Some (with_event p event)
 
 -- one line more: None where it is of no form
 abbrev pub with_line : Option Played → List ℕ → Option Played
 with_line None raw = None
-with_line (Some p) raw = with_said p (said_by event_of raw)
+with_line (Some p) raw = with_reading p (says_by event_of raw)
 
 -- the lines behind the first
-abbrev pub played_on : Option Played → List (List ℕ) → Option Played
-played_on p [] = p
-played_on p (raw ∷ lines) = played_on (with_line p raw) lines
+abbrev pub play_on : Option Played → List (List ℕ) → Option Played
+play_on p [] = p
+play_on p (raw ∷ lines) = play_on (with_line p raw) lines
 
 -- what lines play: None where there is none, or where one is of no form
-abbrev pub played : List (List ℕ) → Option Played
-played [] = None
-played (first ∷ lines) = played_on (option_map begun (said_by first_of first)) lines
+abbrev pub play_of : List (List ℕ) → Option Played
+play_of [] = None
+play_of (first ∷ lines) = play_on (option_map start_play (says_by first_of first)) lines
 
 -- what is printed of these lines
 abbrev pub text_of : Option Played → List ℕ
 text_of None = []
 text_of (Some p) = p.text
 
--- the number of the first line that is missing or of no form
+-- the number of the first line that is missing or of no form, counted from 1
 pub record IsFirstBad (number : ℕ) (lines : List (List ℕ)) : Type 0 where
-  pub bad : played (take number lines) ≡ None
-  pub good : (n : ℕ) → 0 < n → n < number → played (take n lines) ≢ None
+  pub counts : 0 < number
+  pub bad : play_of (take number lines) ≡ None
+  pub good : (n : ℕ) → 0 < n → n < number → play_of (take n lines) ≢ None
 
 -- A line let an event happen, and what came of it was printed.
 pub record PlaysLine (line : List ℕ) (before after : LabView) (old new : List ℕ) (refused : Bool) : Type 0 where

@@ -52,7 +52,7 @@ impl Player {
     pub fn hand_on<W: Write>(&mut self, writer: &mut W) -> Result<(), RunFault>
         ensures kept { Keeps (written_of (W.contents writer.old) self.old.out) (written_of (W.contents writer.new) self.new.out) }
         ensures empty { OnOk result (self.new.out ≡ []) }
-        ensures same { (self.new.lab ≡ self.old.lab) × (self.new.lines ≡ self.old.lines) × (self.new.refused ≡ self.old.refused) × (self.new.line ≡ self.old.line) }
+        ensures same { (self.new.lab ≡ self.old.lab) × (self.new.lines ≡ self.old.lines) × (self.new.refused ≡ self.old.refused) × (self.new.line.items ≡ self.old.line.items) }
         ensures fault { IfErr result (λ fault. fault ≡ WriteFault) }
     {
         match self.out.hand_on(writer) {
@@ -64,7 +64,7 @@ impl Player {
     /// Hands on the text that waits where that of another event might not fit behind it.
     fn make_room<W: Write>(&mut self, writer: &mut W) -> Result<(), RunFault>
         ensures kept { Keeps (written_of (W.contents writer.old) self.old.out) (written_of (W.contents writer.new) self.new.out) }
-        ensures same { (self.new.lab ≡ self.old.lab) × (self.new.lines ≡ self.old.lines) × (self.new.refused ≡ self.old.refused) × (self.new.line ≡ self.old.line) }
+        ensures same { (self.new.lab ≡ self.old.lab) × (self.new.lines ≡ self.old.lines) × (self.new.refused ≡ self.old.refused) × (self.new.line.items ≡ self.old.line.items) }
         ensures fault { IfErr result (λ fault. fault ≡ WriteFault) }
     {
         if self.out.room() < EVENT_ROOM {

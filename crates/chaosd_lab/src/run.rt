@@ -2,7 +2,7 @@
 ghost use Rattle.std.specs.Prelude.{◌≡◌, ◌≢◌, ◌<◌, ◌≤◌, ◌+◌, ◌-◌, ◌++◌, [], ℕ, List, Option, Err, Some, None, length, take, OnOk, IfOk, IfErr, IfSome};
 ghost use Rattle.std.specs.Io.KnownBytes.{Appends, IsAtEnd};
 ghost use Rattle.chaosd_engines.specs.Lines.{lines_of, ended_lines};
-ghost use Rattle.chaosd_lab.specs.Play.{Played, played, text_of, end_text, IsFirstBad};
+ghost use Rattle.chaosd_lab.specs.Play.{Played, play_of, text_of, end_text, IsFirstBad};
 ghost use Rattle.chaosd_engines.specs.Buffer.{written_of};
 ghost use Rattle.chaosd_lab.specs.Player.{PlaysRead, PlaysInput, PlaysAll, StopsRun, want_text};
 
@@ -27,25 +27,25 @@ pub fn run_lab<R: Read, W: Write>(
     writer: &mut W,
 ) -> Result<u64, RunFault>
     // What was written is the text of all lines that were read, and the answer counts the events that were refused.
-    ensures text { IfOk result (λ refused. IfSome (R.remaining reader.old) (λ input. (p : Played) × (played (lines_of input) ≡ Some p) × (refused ≡ p.refused)
+    ensures text { IfOk result (λ refused. IfSome (R.remaining reader.old) (λ input. (p : Played) × (play_of (lines_of input) ≡ Some p) × (refused ≡ p.refused)
         × Appends (W.contents writer.old) (W.contents writer.new) (p.text ++ end_text p.lab))) }
     ensures ended { OnOk result (IsAtEnd (R.remaining reader.new)) }
     ensures within { OnOk result (IfSome (R.remaining reader.old) (λ input. length input ≤ INPUT_LIMIT)) }
 
     // The line that is told is the first that is missing or of no form, and the text of the lines before it was written.
     ensures bad { (number : ℕ) → result ≡ Err (RunFault.BadScript number) → IfSome (R.remaining reader.old) (λ input.
-        IsFirstBad number (lines_of input) × Appends (W.contents writer.old) (W.contents writer.new) (text_of (played (take (number - 1) (lines_of input))))) }
+        IsFirstBad number (lines_of input) × Appends (W.contents writer.old) (W.contents writer.new) (text_of (play_of (take (number - 1) (lines_of input))))) }
 
     // A script is refused as too long only where it is, and the lines that ended within the limit were played.
     ensures too_long { result ≡ Err RunFault.InputTooLong → IfSome (R.remaining reader.old) (λ input.
-        (INPUT_LIMIT < length input) × Appends (W.contents writer.old) (W.contents writer.new) (text_of (played (ended_lines (take INPUT_LIMIT input))))) }
+        (INPUT_LIMIT < length input) × Appends (W.contents writer.old) (W.contents writer.new) (text_of (play_of (ended_lines (take INPUT_LIMIT input))))) }
 
     // Where the reader failed, the lines that ended in what it had given were played, and no more.
     ensures unread { result ≡ Err RunFault.ReadFault → PlaysRead (R.remaining reader.old) (R.remaining reader.new) (W.contents writer.old) (W.contents writer.new) }
 
     // At want of memory the lines before were played, and an event that met it is told; the line is of the form of its place.
-    ensures no_memory { result ≡ Err RunFault.NoMemory → IfSome (R.remaining reader.old) (λ input. (n : ℕ) × (n < length (lines_of input)) × (played (take (n + 1) (lines_of input)) ≢ None)
-        × Appends (W.contents writer.old) (W.contents writer.new) (text_of (played (take n (lines_of input))) ++ want_text n)) }
+    ensures no_memory { result ≡ Err RunFault.NoMemory → IfSome (R.remaining reader.old) (λ input. (n : ℕ) × (n < length (lines_of input)) × (play_of (take (n + 1) (lines_of input)) ≢ None)
+        × Appends (W.contents writer.old) (W.contents writer.new) (text_of (play_of (take n (lines_of input))) ++ want_text n)) }
 {
     let mut player = Player::new(alloc);
     let end = play_all(&mut player, reader, writer);

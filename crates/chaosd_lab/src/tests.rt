@@ -1,10 +1,15 @@
 //! Scripts with the text that they print, and what comes of bad lines.
+mod fakes;
+mod faults;
+
 use crate::{lab_status, run_lab};
 use chaosd_engines::{BAD_SCRIPT, DONE, REFUSED, RunFault};
+use fakes::FuseReader;
+use std::io::ErrorKind;
 use std::process::Abort;
 use std::test::Fail;
 
-/// The script prints this text and ends so.
+/// The script prints this text and ends so, whether it comes at once or byte by byte.
 fn plays(
     rt: &(impl Abort + AllocGlobal),
     script: &[u8],
@@ -15,28 +20,37 @@ fn plays(
     let end = run_lab(rt.alloc(), &mut &*script, &mut out);
     assert_eq!(rt; out.as_slice(), text);
     assert_eq!(rt; end, wanted);
+    let mut drip = FuseReader {
+        rest: script,
+        most: 1,
+        left: u64::MAX,
+        kind: ErrorKind::Other,
+        failures: 0,
+    };
+    out.clear();
+    assert_eq!(rt; run_lab(rt.alloc(), &mut drip, &mut out), end);
+    assert_eq!(rt; out.as_slice(), text);
 }
 
+/// Data comes before the OPN.
+const EARLY: &[u8] =
+    b"ends 2 2 2 2 65534\ndeliver 0\naccept 100\nwrite b 200 X\ndeliver 2\ndeliver 1\ndeliver 2\nread a\n";
+
+const EARLY_TEXT: &[u8] =
+    b"copy 0 a RFC num 65534 ack 0\ndelivered Requested\naccepted 100\ncopy 1 b OPN num 100 ack 65534\nwrote 101\ncopy 2 b DAT num 101 ack 65534\ndelivered Dropped NotOpen\ndelivered Opened\ncopy 3 a STS num 0 ack 100\ndelivered Took\nread 200 X\ncopy 4 a STS num 0 ack 101\nstored a 0 b 2\n";
+
+/// The first of two items is lost, and both are sent again.
+const LOST: &[u8] =
+    b"ends 2 2 2 2 65534\r\ndeliver 0\naccept 100\ndeliver 1\nwrite a 200 A\nwrite a 200 B\ndeliver 4\nread b\ntick a 500\ndeliver 5\ndeliver 6\nread b\nread b";
+
+const LOST_TEXT: &[u8] =
+    b"copy 0 a RFC num 65534 ack 0\ndelivered Requested\naccepted 100\ncopy 1 b OPN num 100 ack 65534\ndelivered Opened\ncopy 2 a STS num 0 ack 100\nwrote 65535\ncopy 3 a DAT num 65535 ack 100\nwrote 0\ncopy 4 a DAT num 0 ack 100\ndelivered Took\nread nothing\nticked resent 2\ncopy 5 a DAT num 65535 ack 100\ncopy 6 a DAT num 0 ack 100\ndelivered Took\ndelivered Duplicate\ncopy 7 b STS num 0 ack 65534\nread 200 A\ncopy 8 b STS num 0 ack 65535\nread 200 B\ncopy 9 b STS num 0 ack 0\nstored a 2 b 0\n";
+
 #[test]
-fn data_before_the_opn(rt: HostRuntime) -> Result<(), Fail> {
-    plays(
-        &rt,
-        b"ends 2 2 2 2 65534\ndeliver 0\naccept 100\nwrite b 200 X\ndeliver 2\ndeliver 1\ndeliver 2\nread a\n",
-        b"copy 0 a RFC num 65534 ack 0\ndelivered Requested\naccepted 100\ncopy 1 b OPN num 100 ack 65534\nwrote 101\ncopy 2 b DAT num 101 ack 65534\ndelivered Dropped NotOpen\ndelivered Opened\ncopy 3 a STS num 0 ack 100\ndelivered Took\nread 200 X\ncopy 4 a STS num 0 ack 101\nstored a 0 b 2\n",
-        Ok(0),
-    );
+fn lab_succeeds_with_memory(rt: HostRuntime) -> Result<(), Fail> {
+    plays(&rt, EARLY, EARLY_TEXT, Ok(0));
+    plays(&rt, LOST, LOST_TEXT, Ok(0));
     assert_eq!(rt; lab_status(&Ok(0)), DONE);
-    Ok(())
-}
-
-#[test]
-fn lost_item_is_sent_again(rt: HostRuntime) -> Result<(), Fail> {
-    plays(
-        &rt,
-        b"ends 2 2 2 2 65534\r\ndeliver 0\naccept 100\ndeliver 1\nwrite a 200 A\nwrite a 200 B\ndeliver 4\nread b\ntick a 500\ndeliver 5\ndeliver 6\nread b\nread b",
-        b"copy 0 a RFC num 65534 ack 0\ndelivered Requested\naccepted 100\ncopy 1 b OPN num 100 ack 65534\ndelivered Opened\ncopy 2 a STS num 0 ack 100\nwrote 65535\ncopy 3 a DAT num 65535 ack 100\nwrote 0\ncopy 4 a DAT num 0 ack 100\ndelivered Took\nread nothing\nticked resent 2\ncopy 5 a DAT num 65535 ack 100\ncopy 6 a DAT num 0 ack 100\ndelivered Took\ndelivered Duplicate\ncopy 7 b STS num 0 ack 65534\nread 200 A\ncopy 8 b STS num 0 ack 65535\nread 200 B\ncopy 9 b STS num 0 ack 0\nstored a 2 b 0\n",
-        Ok(0),
-    );
     Ok(())
 }
 

@@ -3,7 +3,8 @@ use Rattle.std.specs.Prelude.{option_map}
 use Rattle.chaos_lab.specs.Inside.{happening_of}
 use Rattle.chaosd_lab.specs.Command.{happening_said}
 use Rattle.chaosd_lab.specs.Answers.{copies_text}
-use Rattle.chaosd_lab.proofs.Events.{went_well, line_plays, line_wants}
+use Rattle.chaosd_engines.proofs.Runs.{went_well}
+use Rattle.chaosd_lab.proofs.Events.{line_plays, line_wants}
 use Rattle.chaosd_lab.proofs.line.play.Goals as goal
 
 pub returns-clause-played : goal.returns-clause-played

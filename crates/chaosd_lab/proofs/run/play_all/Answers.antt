@@ -5,7 +5,7 @@ use Rattle.chaosd_engines.specs.Buffer.{written_of}
 use Rattle.chaosd_engines.specs.Lines.{ended_lines}
 use Rattle.chaosd_engines.proofs.Runs.{of_all, past_limit, chunk_more}
 use Rattle.chaosd_engines.proofs.Steps.{on_ok}
-use Rattle.chaosd_lab.specs.Play.{text_of, played}
+use Rattle.chaosd_lab.specs.Play.{text_of, play_of}
 use Rattle.chaosd_lab.specs.Player.{PlaysAll, StopsInput}
 use Rattle.chaosd_lab.proofs.Plays.{on_fault}
 use Rattle.chaosd_lab.proofs.Inputs.{input_kept, ended_played}
@@ -15,66 +15,60 @@ use Rattle.chaosd_lab.proofs.run.play_all.Goals as goal
 pub reads-preserved : goal.reads-preserved
 reads-preserved g c =
     let (input, read, fits, few, plays) = c.reads.invariant in
-    let same = c.hand_on.ensures.same in
     let (le, more, end) = c.in_ok-count.ensures.read in
     let within = c.min-within.result in
     let piece = take within c.read_chunk.new.chunk in (
       input ++ piece,
       chunk_more _ _ _ input c.read_chunk.new.chunk c.in_ok-count.count within le (omega arith) c.if-within-count.false read more,
       omega (arith, length-append input piece, length-take within c.read_chunk.new.chunk),
-      omega (arith, c.in_ok-feed.ensures.count, same.1, length-append input piece),
-      λ before s. c.in_ok-feed.ensures.plays before input (input_kept before _ _ _ _ _ _ _ _ _ _ input c.hand_on.ensures.kept same.0 same.1 same.2 (ap (λ v. v.items) same.3) (plays before s)),
+      omega (arith, c.in_ok-feed.ensures.count, c.hand_on.ensures.same.1, length-append input piece),
+      λ before s. c.in_ok-feed.ensures.plays before input (input_kept before _ _ _ _ _ _ _ _ _ _ input c.hand_on.ensures.kept c.hand_on.ensures.same (plays before s)),
     )
 
 pub returns-in_err-count-clause-stops : goal.returns-in_err-count-clause-stops
 returns-in_err-count-clause-stops g c =
     let (input, read, fits, few, plays) = c.reads.invariant in
-    let same = c.hand_on.ensures.same in
     on_fault c.from_residual-in_err-count.result c.in_err-count.field-0.0 _ c.from_residual-in_err-count.ensures.1
     (λ before s. read_stops _ _ _ before _ input _ c.in_err-count.ensures.read.1 read c.in_err-count.ensures.read.0
-    (ended_played before _ _ _ _ _ input (input_kept before _ _ _ _ _ _ _ _ _ _ input c.hand_on.ensures.kept same.0 same.1 same.2 (ap (λ v. v.items) same.3) (plays before s))))
+    (ended_played before _ _ _ _ _ input (input_kept before _ _ _ _ _ _ _ _ _ _ input c.hand_on.ensures.kept c.hand_on.ensures.same (plays before s))))
 
 pub returns-in_err-feed-clause-stops : goal.returns-in_err-feed-clause-stops
 returns-in_err-feed-clause-stops g c =
     let (input, read, fits, few, plays) = c.reads.invariant in
-    let same = c.hand_on.ensures.same in
     let (le, more, end) = c.in_ok-count.ensures.read in
     on_fault c.from_residual-in_err-feed.result c.in_err-feed.field-0.0 _ c.from_residual-in_err-feed.ensures.1
     (λ before s. chunk_stops _ _ _ before _ input c.read_chunk.new.chunk c.in_ok-count.count c.min-within.result c.in_err-feed.field-0.0 (omega arith) read more
     (λ rest. c.in_err-feed.ensures.stops before input rest
-    (input_kept before _ _ _ _ _ _ _ _ _ _ input c.hand_on.ensures.kept same.0 same.1 same.2 (ap (λ v. v.items) same.3) (plays before s))))
+    (input_kept before _ _ _ _ _ _ _ _ _ _ input c.hand_on.ensures.kept c.hand_on.ensures.same (plays before s))))
 
 pub returns-then-within-count-clause-stops : goal.returns-then-within-count-clause-stops
 returns-then-within-count-clause-stops g c before s =
     let (input, read, fits, few, plays) = c.reads.invariant in
-    let same = c.hand_on.ensures.same in
     let (le, more, end) = c.in_ok-count.ensures.read in
     let within = c.min-within.result in
     let chunk = c.read_chunk.new.chunk in
-    past_limit (λ l. Appends before (written_of (g.W.Write.contents c.feed.new.writer) c.feed.new.self.out) (text_of (played (ended_lines l)))) _ _ _
+    past_limit (λ l. Appends before (written_of (g.W.Write.contents c.feed.new.writer) c.feed.new.self.out) (text_of (play_of (ended_lines l)))) _ _ _
     input chunk c.reads.room c.in_ok-count.count within read more fits le c.min-within.ensures c.if-within-count.true
     (ended_played before _ _ _ _ _ (input ++ take within chunk)
-    (c.in_ok-feed.ensures.plays before input (input_kept before _ _ _ _ _ _ _ _ _ _ input c.hand_on.ensures.kept same.0 same.1 same.2 (ap (λ v. v.items) same.3) (plays before s))))
+    (c.in_ok-feed.ensures.plays before input (input_kept before _ _ _ _ _ _ _ _ _ _ input c.hand_on.ensures.kept c.hand_on.ensures.same (plays before s))))
 
 pub returns-clause-plays : goal.returns-clause-plays
 returns-clause-plays g c =
     let (input, read, fits, few, plays) = c.reads.invariant in
-    let same = c.hand_on.ensures.same in
     let (le, more, end) = c.in_ok-count.ensures.read in
     on_ok c.finish.result
     (λ all _ before s. of_all (PlaysAll before (written_of (g.W.Write.contents c.finish.new.writer) c.finish.new.self.out) c.finish.new.self.refused) _ _ _ input _ read more
     (ap (λ n. take n c.read_chunk.new.chunk) c.if-count-eq0.true) (end c.if-count-eq0.true)
-    (all before input (input_kept before _ _ _ _ _ _ _ _ _ _ input c.hand_on.ensures.kept same.0 same.1 same.2 (ap (λ v. v.items) same.3) (plays before s))))
+    (all before input (input_kept before _ _ _ _ _ _ _ _ _ _ input c.hand_on.ensures.kept c.hand_on.ensures.same (plays before s))))
     c.finish.ensures.plays c.finish.ensures.plays
 
 pub returns-clause-stops : goal.returns-clause-stops
 returns-clause-stops g c =
     let (input, read, fits, few, plays) = c.reads.invariant in
-    let same = c.hand_on.ensures.same in
     let (le, more, end) = c.in_ok-count.ensures.read in
     IfErr-weaker c.finish.result _ _
     (λ fault stops before s.
-    let here = stops before input (input_kept before _ _ _ _ _ _ _ _ _ _ input c.hand_on.ensures.kept same.0 same.1 same.2 (ap (λ v. v.items) same.3) (plays before s)) in
+    let here = stops before input (input_kept before _ _ _ _ _ _ _ _ _ _ input c.hand_on.ensures.kept c.hand_on.ensures.same (plays before s)) in
     run_stops _ _ before _ input fault here
     (of_all (λ l. StopsInput before (written_of (g.W.Write.contents c.finish.new.writer) c.finish.new.self.out) l fault) _ _ _ input _ read more
     (ap (λ n. take n c.read_chunk.new.chunk) c.if-count-eq0.true) (end c.if-count-eq0.true) here))

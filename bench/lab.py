@@ -1,0 +1,93 @@
+#!/usr/bin/env python3
+"""Times `chaosd lab` beside a plain Rust program that prints the same, on scripts of 8,000 and 16,000 items, and measures the
+memory that the longest of them takes.
+
+    bench/lab.py [PROGRAM]
+
+PROGRAM is bin/chaosd by default. The plain program is built for the same processors (x86-64-v2). Each figure is the least of
+ten runs, taken in turn, and the outputs have to be the same. Memory is the most that a process ever held, as the system counts it, and
+never less than that of the Python that starts it, some 20 MB.
+"""
+
+import os
+import pathlib
+import subprocess
+import sys
+import tempfile
+import time
+
+HERE = pathlib.Path(__file__).resolve().parent
+RUNS = 10
+
+OPENING = b"ends %d %d %d %d 1\ndeliver 0\naccept 100\ndeliver 1\ndeliver 2\n"
+
+
+def in_turn(items):
+    """A script of so many items: each is written, comes and is read, and the STS that tells so comes. Four lines an item."""
+    lines = [OPENING % (2, 2, 2, 2)]
+    for item in range(items):
+        lines.append(b"write a 200 some bytes..\ndeliver %d\nread b\ndeliver %d\n" % (3 + 2 * item, 4 + 2 * item))
+    return b"".join(lines)
+
+
+def sent_again(ticks):
+    """A script that fills a window of 64 and has all of it sent again so often."""
+    lines = [OPENING % (64, 64, 64, 64), b"write a 200 some bytes..\n" * 64]
+    for tick in range(1, ticks + 1):
+        lines.append(b"tick a %d\ndeliver 1\n" % (500 * tick))
+    return b"".join(lines)
+
+
+SCRIPTS = {
+    "8,000 items in turn": in_turn(8_000),
+    "16,000 items in turn": in_turn(16_000),
+    "64 items, sent again 125 times": sent_again(125),
+    "64 items, sent again 250 times": sent_again(250),
+}
+
+
+def run(command, text, out):
+    """Runs the command on the text, and gives the seconds that it took, the most memory that it held, in MB, and what it wrote."""
+    with open(text, "rb") as reader, open(out, "wb") as writer:
+        start = time.perf_counter()
+        process = subprocess.Popen(command, stdin=reader, stdout=writer)
+        _, status, used = os.wait4(process.pid, 0)
+        spent = time.perf_counter() - start
+    assert status == 0, f"{command} ended with {status}"
+    return spent, used.ru_maxrss / 1024, pathlib.Path(out).read_bytes()
+
+
+def bench(programs, folder):
+    """The least time and the most memory of each program on each script."""
+    best, most = {}, {}
+    for name, script in SCRIPTS.items():
+        text = f"{folder}/script"
+        pathlib.Path(text).write_bytes(script)
+        seen = {}
+        for _ in range(RUNS):
+            for program, command in programs.items():
+                spent, held, seen[program] = run(command, text, f"{folder}/output")
+                best[name, program] = min(best.get((name, program), spent), spent)
+                most[name, program] = max(most.get((name, program), held), held)
+        assert seen["chaosd"] == seen["plain"], f"{name}: the outputs differ"
+    return best, most
+
+
+def main():
+    chaosd = pathlib.Path(sys.argv[1]).resolve() if len(sys.argv) > 1 else HERE.parent / "bin/chaosd"
+    with tempfile.TemporaryDirectory() as folder:
+        plain = f"{folder}/plain_lab"
+        build = ["rustc", "--edition=2021", "-O", "-C", "target-cpu=x86-64-v2", "-o", plain, HERE / "plain_lab.rs"]
+        subprocess.run(build, check=True)
+        best, most = bench({"chaosd": [chaosd, "lab"], "plain": [plain]}, folder)
+    for name in SCRIPTS:
+        ours, theirs = best[name, "chaosd"], best[name, "plain"]
+        held, held_plain = most[name, "chaosd"], most[name, "plain"]
+        print(f"{name}: chaosd {ours * 1000:.1f} ms, plain Rust {theirs * 1000:.1f} ms, ratio {ours / theirs:.2f};", end=" ")
+        print(f"memory {held:.1f} MB, plain Rust {held_plain:.1f} MB")
+    for less, more in [list(SCRIPTS)[:2], list(SCRIPTS)[2:]]:
+        print(f"{more} over {less}: {best[more, 'chaosd'] / best[less, 'chaosd']:.2f}")
+
+
+if __name__ == "__main__":
+    main()

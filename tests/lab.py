@@ -1,0 +1,222 @@
+#!/usr/bin/env python3
+"""Tests `chaosd lab` as a user meets it: the examples, bad lines, statuses, and what a fault of reading or writing does.
+
+    make && tests/lab.py [PROGRAM]
+
+PROGRAM is bin/chaosd by default. One line is printed for each check, and the count at the end. The status is 0 where all
+checks held, and else 1.
+"""
+
+import os
+import pathlib
+import resource
+import select
+import subprocess
+import sys
+import tempfile
+
+sys.dont_write_bytecode = True
+
+import program
+from program import BAD_LINE, DONE, FAULT, INPUT_LIMIT, PATIENCE, REFUSED, Checks, run, within
+
+EXAMPLES = program.HERE.parent / "examples/lab"
+NO_MEMORY = 4
+
+START = b"ends 2 2 2 2 1\n"
+START_TEXT = b"copy 0 a RFC num 1 ack 0\n"
+STORED = b"stored a 1 b 0\n"
+
+# an end that is open at both sides, and what it prints
+OPEN = b"ends 64 64 64 64 1\ndeliver 0\naccept 100\ndeliver 1\ndeliver 2\n"
+OPEN_TEXT = (
+    b"copy 0 a RFC num 1 ack 0\ndelivered Requested\naccepted 100\ncopy 1 b OPN num 100 ack 1\ndelivered Opened\n"
+    b"copy 2 a STS num 0 ack 100\ndelivered Status\n"
+)
+
+
+def examples(checks):
+    """Each script of examples/lab prints its text."""
+    scripts = sorted(EXAMPLES.glob("*.lab"))
+    checks.check("there are six examples", [] if len(scripts) == 6 else [f"there are {len(scripts)}"])
+    for script in scripts:
+        text = script.with_suffix(".txt").read_bytes()
+        status = REFUSED if b"\nrefused " in text else DONE
+        checks.check(f"{script.name}, status {status}", run(["lab"], script.read_bytes()).problems(status, text, b""))
+
+
+def scripts(checks):
+    """Scripts that are played to their end."""
+    for name, script, status, text in [
+        ("a first line alone", START, DONE, START_TEXT + STORED),
+        ("a first line without its end", START[:-1], DONE, START_TEXT + STORED),
+        ("a byte 13 at the end of a line is ignored", START[:-1] + b"\r\nread a\r\n", DONE, START_TEXT + b"read nothing\n" + STORED),
+        ("a copy that wasn't sent is refused, status 3", START + b"deliver 1\n", REFUSED, START_TEXT + b"refused 1 NoSuchCopy\n" + STORED),
+        (
+            "what follows a refusal is played",
+            START + b"write a 200 early\nread a\n",
+            REFUSED,
+            START_TEXT + b"refused 3 1 NotOpen\nread nothing\n" + STORED,
+        ),
+        (
+            "the greatest number of a copy",
+            START + b"deliver 18446744073709551615\n",
+            REFUSED,
+            START_TEXT + b"refused 1 NoSuchCopy\n" + STORED,
+        ),
+        ("the greatest moment", START + b"tick a 18446744073709551615\n", DONE, START_TEXT + b"ticked down\n" + STORED),
+        ("an end that was never asked", START + b"read b\nclose b\n", DONE, START_TEXT + b"read ended Inactive\nclosed\n" + STORED),
+    ]:
+        checks.check(name, run(["lab"], script).problems(status, text, b""))
+
+
+def shown(byte):
+    """A byte as text, as it is printed."""
+    if byte == 0x8D:
+        return b"^"
+    return bytes([byte]) if 0x20 <= byte <= 0x7E and byte not in b"^\\" else b"\\%02x" % byte
+
+
+def texts(checks):
+    """Every byte can be written, and is read as it was; and so are 488 of them."""
+    every = b"".join(shown(byte) for byte in range(256))
+    for name, text, printed in [
+        ("every byte", every, every),
+        ("a byte 8D by its number", b"\\8d", b"^"),
+        ("488 bytes, each by its number", b"\\00" * 488, b"\\00" * 488),
+        ("488 bytes, each as it is", b"x" * 488, b"x" * 488),
+        ("spaces at both ends", b" x ", b" x "),
+    ]:
+        wanted = OPEN_TEXT + b"wrote 2\ncopy 3 a DAT num 2 ack 100\ndelivered Took\nread 200 " + printed + b"\n" + STORED
+        ended = run(["lab"], OPEN + b"write a 200 " + text + b"\ndeliver 3\nread b\n")
+        checks.check(f"{name}: written and read", ended.problems(DONE, wanted, b""))
+    for line in [b"write a 200", b"write a 200 "]:
+        wanted = OPEN_TEXT + b"wrote 2\ncopy 3 a DAT num 2 ack 100\ndelivered Took\nread 200\n" + STORED
+        checks.check(f"{line}: no bytes", run(["lab"], OPEN + line + b"\ndeliver 3\nread b\n").problems(DONE, wanted, b""))
+
+
+def bad_lines(checks):
+    """A bad line is told by its number alone, the text of the lines before it stands, and the status is 2."""
+    firsts = [b"", b"\n", b"ends 2 2 2 2\n", b"ends 2 2 2 2 1 \n", b" ends 2 2 2 2 1\n", b"ends 0 2 2 2 1\n", b"ends 2 2 2 65 1\n"]
+    for first in [*firsts, b"ends 2 2 2 2 65536\n", b"ends 2 2 02 2 1\n", b"read a\n", b"\r"]:
+        checks.check(f"{first} is no first line", run(["lab"], first).problems(BAD_LINE, b"", b"line 1: bad\n"))
+    lines = [b"", b"read", b"read c", b"read a ", b"read  a", b"read A", b"Read a", b"tick a", b"tick a -1", b"tick a +1"]
+    lines += [b"tick a 01", b"tick a 18446744073709551616", b"accept", b"accept 65536", b"deliver 18446744073709551616", b"deliver 0x1"]
+    lines += [b"write a", b"write a 20 X", b"write a 400 X", b"write a 0200 X", b"write a 288 X", b"write a 200 \\8D", b"write a 200 \\8"]
+    lines += [b"write a 200 \x8d", b"write a 200 \t", b"close a \x7f", b"close", b"write a 200 " + b"x" * 489, b"write a 200 \\", b"serve"]
+    lines += [b"ends 2 2 2 2 1", b"read a\r\r", b"read a" + b" " * 5_000, b"deliver " + b"9" * 40_000]
+    for line in lines:
+        ended = run(["lab"], START + line + b"\nread a\n")
+        checks.check(f"{line[:40]} is a bad line", ended.problems(BAD_LINE, START_TEXT, b"line 2: bad\n"))
+    ended = run(["lab"], START + b"read a\n" * 9_999 + b"read b")
+    checks.check("10,001 good lines", ended.problems(DONE, START_TEXT + b"read nothing\n" * 9_999 + b"read ended Inactive\n" + STORED, b""))
+    ended = run(["lab"], START + b"read a\n" * 9_999 + b"read")
+    checks.check("a bad last line without its end", ended.problems(BAD_LINE, START_TEXT + b"read nothing\n" * 9_999, b"line 10001: bad\n"))
+
+
+def limits(checks):
+    """The longest script, and one byte more; and too little memory."""
+    first = b"ends 2 2 2 2 1234\n"
+    count = (INPUT_LIMIT - len(first)) // 7
+    script = first + b"read a\n" * count
+    text = b"copy 0 a RFC num 1234 ack 0\n" + b"read nothing\n" * count
+    assert len(script) == INPUT_LIMIT
+    checks.check("a script of 1,048,576 bytes is played", run(["lab"], script).problems(DONE, text + STORED, b""))
+    ended = run(["lab"], script + b"r")
+    checks.check("one byte more is a fault, status 1, behind the text", ended.problems(FAULT, text, [b"chaosd: ", b"1048576"]))
+    ended = run(["lab"], script[:-7] + b"read c\n" + b"read a\n")
+    checks.check("a bad line within the limit is met first", ended.problems(BAD_LINE, text[:-13], [b"line %d: bad\n" % (count + 1)]))
+
+
+def memory(checks):
+    """With little memory a long script ends at an event that finds none."""
+    script = OPEN + b"".join(b"write a 200 x\ndeliver %d\nread b\n" % (3 + n) for n in range(3))
+    script += b"".join(b"tick a %d\n" % (500 * n) for n in range(1, 150)) + b"deliver 3\n" * 60_000
+    process = subprocess.Popen(
+        [program.PROGRAM, "lab"],
+        stdin=subprocess.PIPE,
+        stdout=subprocess.PIPE,
+        stderr=subprocess.PIPE,
+        preexec_fn=lambda: resource.setrlimit(resource.RLIMIT_AS, (24 << 20, 24 << 20)),
+    )
+    out, err = process.communicate(script, timeout=PATIENCE)
+    ended = program.Ended(process.returncode, out[-19:], err)
+    checks.check("too little memory: told behind the text, status 4", ended.problems(NO_MEMORY, b"refused 4 NoMemory\n", [b"chaosd: "]))
+
+
+def lines(checks):
+    """Help, and words that are no line of the program."""
+    for words in [["lab", "--help"], ["help", "lab"]]:
+        name = f"`chaosd {' '.join(words)}` shows help on standard output, status 0"
+        checks.check(name, run(words).problems(DONE, [b"Usage: chaosd lab"], b""))
+    for words in [["lab", "more"], ["lab", "--loud"], ["Lab"]]:
+        name = f"`chaosd {' '.join(words)}` is a mistake, told on standard error, status 2"
+        checks.check(name, run(words, START).problems(BAD_LINE, b"", [b"\n"]))
+
+
+def writers(checks):
+    """Standard output that takes nothing: a fault is told on standard error, and no bad line is."""
+    for name, script in [("a good script", START), ("a bad second line", START + b"\n")]:
+        with open("/dev/full", "wb") as full:
+            ended = run(["lab"], script, stdout=full)
+        checks.check(f"{name}, standard output full: told, status 1", ended.problems(FAULT, None, [b"chaosd: the output"]))
+        ended = run(["lab"], script, closed=[1])
+        checks.check(f"{name}, standard output closed: told, status 1", ended.problems(FAULT, None, [b"chaosd: the output"]))
+    with open("/dev/full", "wb") as full:
+        ended = run(["lab"], b"", stdout=full)
+    checks.check("an empty script writes nothing: a bad line, status 2", ended.problems(BAD_LINE, None, b"line 1: bad\n"))
+    ended = run(["lab"], START + b"\n", closed=[2])
+    checks.check("a bad line with standard error closed: status 2", ended.problems(BAD_LINE, START_TEXT))
+
+
+def readers(checks):
+    """Standard input that gives nothing."""
+    with tempfile.TemporaryDirectory() as folder:
+        number = os.open(folder, os.O_RDONLY)
+        ended = run(["lab"], stdin=number)
+        os.close(number)
+    checks.check("a folder as standard input: told, status 1", ended.problems(FAULT, b"", [b"chaosd: the input"]))
+    ended = run(["lab"], stdin=subprocess.DEVNULL, closed=[0])
+    checks.check("standard input closed: told, status 1", ended.problems(FAULT, b"", [b"chaosd: the input"]))
+
+
+def typed_lines(checks):
+    """Somebody who types lines sees what came of each before the next is typed."""
+    process = subprocess.Popen([program.PROGRAM, "lab"], stdin=subprocess.PIPE, stdout=subprocess.PIPE)
+    problems = []
+    for line, wanted in [(START, START_TEXT), (b"deliver 0\n", b"delivered Requested\n"), (b"deliver 7\n", b"refused 1 NoSuchCopy\n")]:
+        process.stdin.write(line)
+        process.stdin.flush()
+        seen = within(process.stdout, len(wanted))
+        if seen != wanted:
+            problems.append(f"{seen!r} came and not {wanted!r}")
+            break
+    process.stdin.write(b"read")
+    process.stdin.flush()
+    if select.select([process.stdout], [], [], 0.2)[0]:
+        problems.append("something came for half a line")
+    process.stdin.write(b" b")
+    process.stdin.close()
+    wanted = b"read nothing\nstored a 1 b 1\n"
+    seen = within(process.stdout, len(wanted) + 1)
+    if seen != wanted:
+        problems.append(f"{seen!r} came at the end and not {wanted!r}")
+    if process.wait(PATIENCE) != REFUSED:
+        problems.append(f"status {process.returncode}")
+    checks.check("what came of each line that is typed is printed before the next", problems)
+
+
+def main():
+    if len(sys.argv) > 1:
+        program.PROGRAM = pathlib.Path(sys.argv[1]).resolve()
+    if not program.PROGRAM.is_file():
+        sys.exit(f"{program.PROGRAM} isn't there: run make first")
+    checks = Checks()
+    for group in [examples, scripts, texts, bad_lines, limits, memory, lines, writers, readers, typed_lines]:
+        group(checks)
+    print(f"{checks.count - checks.failed} passed, {checks.failed} failed")
+    sys.exit(1 if checks.failed else 0)
+
+
+if __name__ == "__main__":
+    main()
