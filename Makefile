@@ -7,13 +7,13 @@
 #   make dialogues          random dialogues between two hosts, a million packets from a seed of the clock's; SEED=.. PACKETS=..
 #   make bench              times everything beside the same in plain Rust (rustc and python3)
 #   make bench-show         `chaosd show` alone; likewise bench-lab and bench-loop of the program, and bench-codec, bench-links,
-#                           bench-window, bench-host and bench-file of the libraries
+#                           bench-window, bench-host, bench-file and bench-turn of the libraries
 #   make install PREFIX=DIR puts the program into DIR/bin, and its manual page into DIR/share/man/man1
 
 PREFIX ?= /usr/local
 RT ?= rt
 SOURCES := crates.txt HANDLES $(shell find crates \( -name out -o -name must-fail -o -name wrong-bodies \) -prune -o -type f -print)
-BENCHES := codec links window host file
+BENCHES := codec links window host file turn
 PROGRAM_BENCHES := show lab loop
 DIALOGUES := crates/random_dialogues/out/random_dialogues
 SEED ?= $(shell date +%s)
