@@ -41,8 +41,8 @@ def sent_again(ticks):
 SCRIPTS = {
     "8,000 items in turn": in_turn(8_000),
     "16,000 items in turn": in_turn(16_000),
-    "64 items, sent again 125 times": sent_again(125),
-    "64 items, sent again 250 times": sent_again(250),
+    "64 items, sent again 120 times": sent_again(120),
+    "64 items, sent again 240 times": sent_again(240),
 }
 
 
