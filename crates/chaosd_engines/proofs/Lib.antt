@@ -1,5 +1,6 @@
 pub mod Digits
 pub mod TextBytes
+pub mod ReadBack
 pub mod Pairs
 pub mod Steps
 pub mod Runs

@@ -1,5 +1,6 @@
 -- Bytes, written as text.
-use Rattle.std.specs.Prelude.{ℕ, ◌+◌, ◌*◌, ◌-◌, ◌/◌, ◌%◌, Bool, ◌&&◌, ◌||◌, ◌==◌, nat_le, nat_lt, if◌then◌else◌, List, [], ◌∷◌, length, Option, Some, None}
+use Rattle.std.specs.Prelude.{◌≡◌, ◌<◌, All, ℕ, ◌+◌, ◌*◌, ◌-◌, ◌/◌, ◌%◌, Bool, ◌&&◌, ◌||◌, ◌==◌, nat_le, nat_lt, if◌then◌else◌, List, [], ◌∷◌, length, Option, Some, None}
+use Rattle.std.specs.List.{flat_map}
 use Rattle.chaos_packet.specs.declared.limits.TheConstants.{MAX_DATA}
 
 -- the byte that one of a text stands for: a `^` for 8D, and each other from 20 to 7E but `\` for itself
@@ -65,3 +66,7 @@ is_escaped b = b == 94 || (b == 92 || (nat_lt b 32 || nat_lt 126 b))
 abbrev pub shown_byte : ℕ → List ℕ
 shown_byte b = if b == 141 then 94 ∷ []
     else (if is_escaped b then 92 ∷ low_hex_digit (b / 16) ∷ low_hex_digit (b % 16) ∷ [] else b ∷ [])
+
+-- What is printed of bytes stands for them again.
+abbrev pub IsReadBack : Type 0
+IsReadBack = (bytes : List ℕ) → All (λ b. b < 256) bytes → bytes_of (flat_map shown_byte bytes) ≡ Some bytes

@@ -2,7 +2,7 @@
 //! every other byte from 20 to 7E is itself.
 ghost use Rattle.std.specs.Prelude.{◌≡◌, ◌≤◌, ◌<◌, ◌++◌, length, option_map, IfSome, OnOk};
 ghost use Rattle.std.specs.List.{flat_map};
-ghost use Rattle.chaosd_engines.specs.Escapes.{plain_byte, low_hex, escaped_byte, first_byte, data_of, low_hex_digit, shown_byte};
+ghost use Rattle.chaosd_engines.specs.Escapes.{plain_byte, low_hex, escaped_byte, first_byte, data_of, low_hex_digit, shown_byte, IsReadBack};
 
 use crate::buffer::{NotWritten, WriteBuffer};
 use arrayvec::ArrayVec;
@@ -115,3 +115,8 @@ pub fn put_text(out: &mut WriteBuffer, bytes: &[u8]) -> Result<(), NotWritten>
     }
     Ok(())
 }
+
+/// The law that what is printed of bytes stands for them again: what a script printed can be typed.
+pub fn law_read_back()
+    ensures { IsReadBack }
+{}

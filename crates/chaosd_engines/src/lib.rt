@@ -17,7 +17,7 @@ mod tests;
 mod texts;
 
 pub use buffer::{NotWritten, WriteBuffer};
-pub use escapes::{Data, data_of, put_text};
+pub use escapes::{Data, data_of, law_read_back, put_text};
 pub use fault::{RunFault, written};
 pub use input::read_chunk;
 pub use limits::{BUFFER_LEN, CHUNK_LEN, INPUT_LIMIT, KEPT_LEN, LINE_LIMIT};

@@ -1,7 +1,8 @@
 //! The end that asks.
-ghost use Rattle.std.specs.Prelude.{◌≡◌, ◌≤◌, ◌<◌, ◌+◌, true, false, [], length, OnOk, IfErr};
+ghost use Rattle.std.specs.Prelude.{◌≡◌, ◌≤◌, ◌<◌, ◌+◌, true, false, [], length, option_map, OnOk, IfErr};
 ghost use Rattle.chaos_packet.specs.Outbox.{room_of};
 ghost use Rattle.chaos_turn.specs.declared.limits.TheConstants.{TURN_ROOM};
+ghost use Rattle.chaosd_file.specs.Client.{after_write, is_taken, next_data};
 ghost use Rattle.chaosd_file.specs.Fault.{IsTurnFault};
 
 use crate::limits::{COMMAND_TURNS, CONTACT, END_TURNS};
@@ -142,7 +143,8 @@ impl Client {
     fn reply(&mut self) -> Option<Data>
         requires called { self.old.is_called ≡ true }
         requires sent { self.old.out.packets ≡ [] }
-        ensures { self.new.is_called ≡ true }
+        ensures item { option_map (λ v. v.items) result ≡ next_data self.old.host self.old.id }
+        ensures called { self.new.is_called ≡ true }
     {
         let id = self.id?;
         match self.host.read(id, &mut self.out) {
@@ -181,7 +183,9 @@ fn write(
     out: &mut Outbox,
 ) -> bool
     requires { 0 < room_of out.old }
-    ensures { out.new.cap ≡ out.old.cap }
+    ensures host { host.new ≡ after_write host.old op bytes.now now id }
+    ensures told { result ≡ is_taken host.old op bytes.now now id }
+    ensures room { out.new.cap ≡ out.old.cap }
 {
     match id {
         Some(id) => host.write(id, op, bytes, now, out).is_ok(),
