@@ -90,8 +90,8 @@ fn take_side(station: &mut Station, scene: &mut Scene) -> Result<(), Fault> {
 /// How many connections a host has, and their configuration.
 fn any_host(chance: &mut Chance) -> (usize, ConnConfig) {
     let conns = chance.below(4) as usize + 1;
-    let send = window(chance);
     let recv = window(chance);
+    let send = greatest_window(chance);
     let retransmit = chance.one_of(&[10, 50, 250]);
     let probe = chance.one_of(&[50, 400, 3_000]);
     let down = chance.one_of(&[2_000, 20_000, 1_000_000]);
@@ -101,7 +101,17 @@ fn any_host(chance: &mut Chance) -> (usize, ConnConfig) {
     }
 }
 
-/// A window: mostly a short one.
+/// A send window: mostly a long one, so that more is written than the peer has room for until it tells its window.
+fn greatest_window(chance: &mut Chance) -> u16 {
+    match chance.below(4) {
+        0 => 2,
+        1 => 5,
+        2 => 13,
+        _ => 64,
+    }
+}
+
+/// A receive window: mostly a short one.
 fn window(chance: &mut Chance) -> u16 {
     match chance.below(8) {
         0 | 1 => 1,

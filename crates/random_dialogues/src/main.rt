@@ -30,8 +30,8 @@
 //! differs where, and ends with status 1; the same seed and that many packets stop there again. Status 2 is a mistake in the
 //! words, 4 want of memory. What it prints changes with what hosts send, and with it the file `stdout`.
 //!
-//! Each of these faults, put into the crates below without their proofs, stopped the runs from seeds 1 and 8 within 10,000
-//! packets: a number one past the window is taken; an item that is held, or was read, is taken again; packets are told from
+//! Each of these faults, put into the crates below without their proofs, stopped the run from seed 8 within some thousand
+//! packets, and most of them within a hundred: a number one past the window is taken; an item that is held, or was read, is taken again; packets are told from
 //! one another by their index alone; numbers are compared without going round; what arrived is told as read; a freed slot
 //! keeps its index; a read leaves the number 65535; a tick sends the first item alone again, or the kept ones in another
 //! order.
