@@ -6,7 +6,7 @@ use Rattle.std.specs.declared.net.socket_addr.SocketAddrV4.{SocketAddrV4}
 use Rattle.std.proofs.NetLemmas.Theorems.{IsSocketV4Text_unique}
 use Rattle.clap.specs.Words.{Row, Text}
 use Rattle.chaos_link.specs.declared.peers.Peer.{Peer}
-use Rattle.chaosd_line.specs.Lines.{AreSame, AsksFor, IsAsk, IsLine, IsSame, IsServe}
+use Rattle.chaosd_line.specs.Lines.{AsksFor, IsAsk, IsLine, IsSame, IsSameAsk, IsSameServe, IsServe}
 use Rattle.chaosd_line.specs.Values.{IsAddress, IsPeer, IsSocket, IsTurns}
 use Rattle.chaosd_line.specs.declared.line.Ask.{Ask}
 use Rattle.chaosd_line.specs.declared.line.Line.{Line}
@@ -44,7 +44,7 @@ one_list (t ∷ ts) (p ∷ ps) (q ∷ qs) h k = λ i. one_peer t p q h.0 k.0 i �
 same_some : (s t : Text) → Some s ≡ Some t → s ≡ t
 same_some s t e = cc
 
-same_serve : (rows : List Row) (s t : Serve) → IsServe rows s → IsServe rows t → AreSame s t
+same_serve : (rows : List Row) (s t : Serve) → IsServe rows s → IsServe rows t → IsSameServe s t
 same_serve rows s t h k = record {
   turns = one_value IsTurns one_turns _ _ _ h.turns k.turns;
   address = one_value IsAddress one_address _ _ _ h.address k.address;
@@ -53,13 +53,13 @@ same_serve rows s t h k = record {
   peers = one_list _ _ _ h.peers.0 k.peers.0;
 }
 
-same_ask : (rows : List Row) (s t : Ask) → IsAsk rows s → IsAsk rows t → t ≡ s
-same_ask rows s t h k =
-    let address = one_value IsAddress one_address _ _ _ k.address h.address in
-    let socket = one_value IsSocket one_socket _ _ _ k.socket h.socket in
-    let to = one_value IsAddress one_address _ _ _ k.to h.to in
-    let peers = one_list _ _ _ k.peers.0 h.peers.0 in
-    λ i. record { address = address i; socket = socket i; to = to i; peers = peers i }
+same_ask : (rows : List Row) (s t : Ask) → IsAsk rows s → IsAsk rows t → IsSameAsk s t
+same_ask rows s t h k = record {
+  address = one_value IsAddress one_address _ _ _ h.address k.address;
+  socket = one_value IsSocket one_socket _ _ _ h.socket k.socket;
+  to = one_value IsAddress one_address _ _ _ h.to k.to;
+  peers = one_list _ _ _ h.peers.0 k.peers.0;
+}
 
 -- the second letter tells the subcommands apart
 abbrev letter : Line → ℕ
@@ -124,7 +124,7 @@ same_line name rows (line.Ask s) line.Loop h k =
     let e : ◌≡◌ {A = ℕ} 115 111 = same_letter name rows (line.Ask s) line.Loop h k in absurd (omega arith)
 same_line name rows (line.Ask s) (line.Serve t) h k =
     let e : ◌≡◌ {A = ℕ} 115 101 = same_letter name rows (line.Ask s) (line.Serve t) h k in absurd (omega arith)
-same_line name rows (line.Ask s) (line.Ask t) h k = ap line.Ask (same_ask rows s t h.1 k.1)
+same_line name rows (line.Ask s) (line.Ask t) h k = (t, refl, same_ask rows s t h.1 k.1)
 
 pub one_line : (found : Option (Text × List Row)) (x y : Line) → AsksFor found x → AsksFor found y → IsSame x y
 one_line None x y h k = absurd h

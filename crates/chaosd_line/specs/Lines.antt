@@ -40,15 +40,23 @@ abbrev pub IsLineOf : List Text → Line → Type 0
 IsLineOf words asked = AsksFor (subcommand_of chaosd words) asked
 
 -- the same values of `serve`, wherever the text of the folder lies
-pub record AreSame (s t : Serve) : Type 0 where
+pub record IsSameServe (s t : Serve) : Type 0 where
   pub turns : s.turns ≡ t.turns
   pub address : s.address ≡ t.address
   pub socket : s.socket ≡ t.socket
   pub folder : s.folder.now ≡ t.folder.now
   pub peers : s.peers ≡ t.peers
 
+-- the same values of `ask`
+pub record IsSameAsk (s t : Ask) : Type 0 where
+  pub address : s.address ≡ t.address
+  pub socket : s.socket ≡ t.socket
+  pub to : s.to ≡ t.to
+  pub peers : s.peers ≡ t.peers
+
 abbrev pub IsSame : Line → Line → Type 0
-IsSame (line.Serve s) other = (t : Serve) × (other ≡ line.Serve t) × AreSame s t
+IsSame (line.Serve s) other = (t : Serve) × (other ≡ line.Serve t) × IsSameServe s t
+IsSame (line.Ask s) other = (t : Ask) × (other ≡ line.Ask t) × IsSameAsk s t
 IsSame one other = other ≡ one
 
 -- no words ask for two lines
