@@ -129,7 +129,13 @@ class Service:
         """Starts an honest client that writes a file of its own and reads it."""
         self.asked += 1
         words = [f"{CLIENT:o}", f"127.0.0.1:{self.client_port}", f"{SERVER:o}", f"{SERVER:o}=127.0.0.1:{self.port}"]
-        process = subprocess.Popen([PROGRAM, "ask", *words], stdin=subprocess.PIPE, stdout=subprocess.PIPE, stderr=subprocess.PIPE, text=True)
+        process = subprocess.Popen(
+            [PROGRAM, "ask", *words],
+            stdin=subprocess.PIPE,
+            stdout=subprocess.PIPE,
+            stderr=subprocess.PIPE,
+            text=True,
+        )
         process.stdin.write(SCRIPT.format(f"F{self.asked}.LISP"))
         process.stdin.close()
         process.stdin = None
@@ -144,7 +150,9 @@ class Service:
             process.kill()
             process.communicate()
             return [f"ask didn't end within {PATIENCE} seconds"]
-        return [] if (process.returncode, out) == (0, REPLIES) else [f"ask: status {process.returncode}", repr(out), repr(err)]
+        if (process.returncode, out) == (0, REPLIES):
+            return []
+        return [f"ask: status {process.returncode}", repr(out), repr(err)]
 
     def flood(self, datagrams):
         """Sends all of these. Behind each burst goes a question, and its answer is waited for, so that the server has taken
@@ -189,8 +197,8 @@ def random_bytes(seed):
         length = 2_100 if at % 4_096 == 0 else chance.randrange(64)
         begin = b"\x43\x48\x01\x00" if at % 2 else b""
         made.append(begin + chance.randbytes(length))
-    # a packet from the address of the client's would be the client's own
-    return [each for each in made if each[12:14] != struct.pack(">H", CLIENT)]
+    # none is for the server by chance, or it would be answered
+    return [each for each in made if each[8:10] != struct.pack(">H", SERVER)]
 
 
 def requests(contact, address):
@@ -199,7 +207,7 @@ def requests(contact, address):
 
 
 def flooded(checks, name, datagrams, wanted):
-    """Floods a server, while a client asks and once more when it is over. `wanted` says of what came back what is wrong."""
+    """Floods a server; a client asks before, meanwhile and after. So many packets of each opcode have to come back."""
     with Service() as service:
         # a second client finds all touched that a service touches once
         checks.check(f"{name}: a client is answered before", service.answered() + service.answered())
@@ -209,9 +217,9 @@ def flooded(checks, name, datagrams, wanted):
         process = service.ask()
         more, second = service.flood(datagrams[half:])
         checks.check(f"{name}: a client is answered meanwhile", service.answered(process))
-        for op, count in second.items():
-            came[op] = came.get(op, 0) + count
-        checks.check(f"{name}: the server takes all", problems + more + wanted(came))
+        came = {op: came.get(op, 0) + second.get(op, 0) for op in {*came, *second}}
+        more += [] if came == wanted else [f"came back: {came}"]
+        checks.check(f"{name}: the server takes all", problems + more)
         checks.check(f"{name}: a client is answered behind it", service.answered())
         grown = service.memory() - before
         checks.check(f"{name}: the memory stays flat", [f"grown by {grown} KiB from {before}"] if grown > FLAT else [])
@@ -219,15 +227,12 @@ def flooded(checks, name, datagrams, wanted):
 
 
 def floods(checks):
-    """Floods that take no slot."""
-    each_lost = lambda came: [] if came == {LOS: FLOOD} else [f"came back: {came}"]
-    nothing = lambda came: [] if sum(came.values()) <= FLOOD // 1_000 else [f"came back: {came}"]
-    refused = lambda came: [] if came == {CLS: FLOOD} else [f"came back: {came}"]
-    flooded(checks, "65,536 strange indices", strange_indices(), each_lost)
+    """Floods that take no slot. What comes back is one LOS for each, nothing, or one CLS for each."""
     seed = time.time_ns() % 1_000_000
-    flooded(checks, f"65,536 datagrams of random bytes, seed {seed}", random_bytes(seed), nothing)
-    flooded(checks, "65,536 requests of strangers", requests(b"NONE", STRANGER), lambda came: [f"came back: {came}"] if came else [])
-    flooded(checks, "65,536 requests of a peer", requests(b"NONE", FLOODER), refused)
+    flooded(checks, "65,536 strange indices", strange_indices(), {LOS: FLOOD})
+    flooded(checks, f"65,536 datagrams of random bytes, seed {seed}", random_bytes(seed), {})
+    flooded(checks, "65,536 requests of strangers", requests(b"NONE", STRANGER), {})
+    flooded(checks, "65,536 requests of a peer", requests(b"NONE", FLOODER), {CLS: FLOOD})
 
 
 def open_connection(service):
@@ -310,7 +315,10 @@ def main():
         sys.exit(f"{PROGRAM} isn't there: run make first")
     checks = Checks()
     for group in [floods, full_table, lost_sends, signals]:
-        group(checks)
+        try:
+            group(checks)
+        except OSError as fault:
+            checks.check(group.__doc__, [repr(fault)])
     print(f"{checks.count - checks.failed} passed, {checks.failed} failed")
     sys.exit(1 if checks.failed else 0)
 

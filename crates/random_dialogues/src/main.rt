@@ -30,11 +30,11 @@
 //! differs where, and ends with status 1; the same seed and that many packets stop there again. Status 2 is a mistake in the
 //! words, 4 want of memory. What it prints changes with what hosts send, and with it the file `stdout`.
 //!
-//! Each of these faults, put into the crates below without their proofs, stopped the run from seed 8 within some thousand
-//! packets, and most of them within a hundred: a number one past the window is taken; an item that is held, or was read, is taken again; packets are told from
-//! one another by their index alone; numbers are compared without going round; what arrived is told as read; a freed slot
-//! keeps its index; a read leaves the number 65535; a tick sends the first item alone again, or the kept ones in another
-//! order.
+//! Each of these faults, put into the crates below without their proofs, stopped the run from seed 8, most of them within a
+//! hundred packets and all within some thousand: a number one past the window is taken; an item that is held, or was read,
+//! is taken again; packets are told from one another by their index alone; a LOS ends the next slot's connection too;
+//! numbers are compared without going round; what arrived is told as read; a freed slot keeps its index; a read leaves the
+//! number 65535; a tick sends the first item alone again, or the kept ones in another order.
 #![tactic(auto)]
 
 mod arriving;

@@ -58,7 +58,7 @@ impl Station {
         }
     }
 
-    /// A connection begins whose host put out a packet for it, or none.
+    /// A connection begins: what its host put out is sent, and all is compared.
     fn begin(&mut self, id: ConnId, life: Life, scene: &mut Scene) -> Result<(), Fault> {
         let slot = slot_of(id);
         let number = scene.lives.add(life)?;
@@ -156,7 +156,7 @@ impl Station {
         }
     }
 
-    /// Reads, by either way. It says whether nothing is left to be read.
+    /// Reads, by either way: the item is handed out, or was lent and is passed over.
     fn read(&mut self, slot: usize, id: ConnId, scene: &mut Scene) -> Result<(), Fault> {
         if self.out.room() == 0 {
             return Err(self.differs(Some(id), What::NoRoom));
