@@ -1,5 +1,5 @@
 //! Moments and numbers from a clock.
-ghost use Rattle.std.specs.Prelude.{◌≡◌, IfErr};
+ghost use Rattle.std.specs.Prelude.{◌≡◌, ◌+◌, ◌%◌, IfErr};
 
 use chaos_packet::PktNum;
 use chaosd_engines::RunFault;
@@ -32,12 +32,17 @@ impl Beginning {
     }
 
     /// The number that a connection of this moment begins with: the low 16 bits of the clock's milliseconds.
-    pub fn number(&self, moment: u64) -> PktNum {
-        PktNum((self.millis.wrapping_add(moment) % 65_536) as u16)
+    pub fn number(&self, moment: u64) -> PktNum
+        ensures { result ≡ (self.now.millis + moment) % 65536 }
+    {
+        let low = self.millis % 65_536 + moment % 65_536;
+        PktNum((low % 65_536) as u16)
     }
 
     /// The low 8 bits of the clock's milliseconds.
-    pub fn low_bits(&self) -> u8 {
+    pub fn low_bits(&self) -> u8
+        ensures { result ≡ self.now.millis % 256 }
+    {
         (self.millis % 256) as u8
     }
 }

@@ -1,5 +1,5 @@
 //! The engine `serve`.
-ghost use Rattle.std.specs.Prelude.{◌<◌, IfErr};
+ghost use Rattle.std.specs.Prelude.{◌≡◌, ◌<◌, ◌≤◌, Err, IfErr, OnOk};
 ghost use Rattle.chaosd_file.specs.Fault.{IsServiceFault};
 
 use crate::clock::Beginning;
@@ -30,7 +30,10 @@ pub fn run_serve<C: Clock, L: Link, S: Store>(
     turns: u64,
 ) -> Result<(), RunFault>
     requires { 0 < me }
-    ensures { IfErr result IsServiceFault }
+    ensures faults { IfErr result IsServiceFault }
+    // It ends well only where the link's count of failures didn't rise, and by LinkFault only where failures were counted.
+    ensures well { OnOk result (L.count link.new ≤ L.count link.old) }
+    ensures failed { result ≡ Err RunFault.LinkFault → 0 < L.count link.new }
 {
     let beginning = Beginning::new(clock)?;
     let mut server = Server::new(alloc, me)?;

@@ -1,7 +1,7 @@
 //! How runs end, and what a user sees meanwhile.
 use super::fakes::{Screen, Stopped, Typist};
-use super::links::{Away, Watched, linked, received};
-use super::scripts::{FILE_SCRIPT, all, logins};
+use super::links::{Answering, Away, Watched, linked, received};
+use super::scripts::{FILE_REPLIES, FILE_SCRIPT, all, logins};
 use crate::{ScriptEnd, run_ask, run_loop, script_status};
 use chaos_link::MemLink;
 use chaos_packet::{Opcode, PktNum};
@@ -131,5 +131,37 @@ fn each_reply_is_seen_before_the_next_line(rt: HostRuntime) -> Result<(), Fail> 
     let end = run_loop(rt.alloc(), &mut typist, &mut screen, &mut near, &mut far);
     assert_eq!(rt; end, all(5));
     assert_eq!(rt; (typist.reads, typist.missing), (6, 0));
+    Ok(())
+}
+
+/// A script against a server behind the link.
+fn asks(
+    rt: &(impl AllocGlobal + Clock),
+    link: &mut Answering,
+    script: &[u8],
+    out: &mut Vec<u8>,
+) -> Result<ScriptEnd, RunFault> {
+    run_ask(rt, rt.alloc(), &mut &*script, out, link, 0o401, 0o402)
+}
+
+#[test]
+fn ask_prints_replies(rt: HostRuntime) -> Result<(), Fail> {
+    let mut link = Answering::new(rt.alloc())?;
+    let mut out = Vec::new(rt.alloc());
+    assert_eq!(rt; asks(&rt, &mut link, FILE_SCRIPT, &mut out), all(7));
+    assert_eq!(rt; out.as_slice(), FILE_REPLIES);
+    Ok(())
+}
+
+/// Each run gives its connection back, whose server has sixteen.
+#[test]
+fn connection_is_given_back(rt: HostRuntime) -> Result<(), Fail> {
+    let mut link = Answering::new(rt.alloc())?;
+    for run in 0..40u64 {
+        let mut out = Vec::new(rt.alloc());
+        let end = asks(&rt, &mut link, b"T1  LOGIN M\n\\8D\n", &mut out);
+        assert_eq!(rt; end, Err(RunFault::BadScript(2)), "{run}");
+        assert_eq!(rt; out.as_slice(), b"T1  LOGIN M\n".as_slice());
+    }
     Ok(())
 }

@@ -1,8 +1,11 @@
 //! Links of tests.
 ghost use Rattle.std.specs.Prelude.{None};
 
+use crate::server::Server;
+use chaos_file::MemStore;
 use chaos_link::{LINK_ROOM, Link, MemLink, Peer, Peers, Received, Sent, UdpLink, from_datagram};
-use chaos_packet::Packet;
+use chaos_packet::{Packet, PktNum};
+use std::alloc::Global;
 use std::net::{Ipv4Addr, Net, SocketAddr, SocketAddrV4, UdpSocket};
 use std::test::Fail;
 
@@ -130,5 +133,75 @@ impl Link for Watched {
 
     fn failures(&self) -> u64 {
         self.failures
+    }
+}
+
+/// What a server sends stands in one queue, and what it is sent in the other.
+#[derive(Drop)]
+struct Crossing {
+    sends: MemLink,
+    receives: MemLink,
+}
+
+impl Link for Crossing {
+    ghost count = { λ _. 0 };
+
+    ghost queue = { λ _. None };
+
+    fn send(&mut self, to_address: u16, bytes: &[u8]) -> Sent {
+        self.sends.send(to_address, bytes)
+    }
+
+    fn receive(&mut self, buffer: &mut [u8; LINK_ROOM]) -> Received {
+        self.receives.receive(buffer)
+    }
+
+    fn failures(&self) -> u64 {
+        0
+    }
+}
+
+/// A link behind which a server takes a turn before each receive.
+#[derive(Drop)]
+pub struct Answering {
+    alloc: Global,
+    server: Server,
+    store: MemStore,
+    crossing: Crossing,
+}
+
+impl Answering {
+    pub fn new(alloc: Global) -> Result<Self, Fail> {
+        Ok(Answering {
+            alloc,
+            server: Server::new(alloc, 0o402)?,
+            store: MemStore::new(alloc),
+            crossing: Crossing {
+                sends: MemLink::new(alloc, 8)?,
+                receives: MemLink::new(alloc, 8)?,
+            },
+        })
+    }
+}
+
+impl Link for Answering {
+    ghost count = { λ _. 0 };
+
+    ghost queue = { λ _. None };
+
+    fn send(&mut self, to_address: u16, bytes: &[u8]) -> Sent {
+        self.crossing.receives.send(to_address, bytes)
+    }
+
+    fn receive(&mut self, buffer: &mut [u8; LINK_ROOM]) -> Received {
+        let start = PktNum(65_530);
+        let _turn = self
+            .server
+            .turn(self.alloc, &mut self.store, &mut self.crossing, start, 0);
+        self.crossing.sends.receive(buffer)
+    }
+
+    fn failures(&self) -> u64 {
+        0
     }
 }
