@@ -6,6 +6,7 @@ use Rattle.std.specs.List.{All}
 use Rattle.std.specs.Ordering.{nat_cmp}
 use Rattle.std.specs.FinSet.{FinSet, empty, contains, insert}
 use Rattle.chaos_packet.specs.Item.{ItemView}
+use Rattle.chaos_window.specs.declared.limits.TheConstants.{MAX_WINDOW}
 use Rattle.chaos_lab.specs.declared.side.Side.{Side}
 use Rattle.chaos_lab.specs.declared.side.Side.TheVariants.{A, B}
 
@@ -238,7 +239,7 @@ Run m (event ∷ events) n = (mid : Machine) × Step m event mid × Run mid even
 
 -- the most that a window may be
 abbrev pub greatest_window : ℕ
-greatest_window = 64
+greatest_window = MAX_WINDOW
 
 -- the caps on both windows of an end
 pub record Caps : Type 0 where
