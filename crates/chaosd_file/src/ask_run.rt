@@ -1,5 +1,5 @@
 //! The engine `ask`.
-ghost use Rattle.std.specs.Prelude.{◌≡◌, ◌<◌, ◌≤◌, ◌+◌, ◌-◌, ℕ, Err, length, take, IfOk, IfSome};
+ghost use Rattle.std.specs.Prelude.{◌≡◌, ◌<◌, ◌≤◌, ◌+◌, ◌-◌, ℕ, Err, length, take, IfOk, IfSome, OnOk};
 ghost use Rattle.std.specs.Io.KnownBytes.{IsAtEnd};
 ghost use Rattle.chaosd_engines.specs.declared.limits.TheConstants.{INPUT_LIMIT};
 ghost use Rattle.chaosd_engines.specs.Lines.{lines_of, ended_lines};
@@ -29,6 +29,12 @@ struct Timed<'a, C: Clock, L: Link> {
 }
 
 impl<C: Clock, L: Link> Turns for Timed<'_, C, L> {
+    ghost use Rattle.std.specs.Prelude.{◌∷◌, []};
+
+    ghost failures = { λ turns. L.count turns.link.now };
+
+    ghost links = { λ turns. turns.link.ghost_name ∷ [] };
+
     fn now(&self) -> Result<u64, RunFault> {
         self.beginning.moment(self.clock)
     }
@@ -60,6 +66,8 @@ pub fn run_ask<C: Clock, R: Read, W: Write, L: Link>(
     to: u16,
 ) -> Result<ScriptEnd, RunFault>
     requires { 0 < me }
+    // It ends well only where the link's count of failures didn't rise.
+    ensures well { OnOk result (L.count link.new ≤ L.count link.old) }
     // As many commands were tried as were replied to, or one more, the last.
     ensures counts { IfOk result (λ end. (end.replied ≤ end.commands) × (end.commands ≤ end.replied + 1)) }
     // What was printed are that many replies, each on its line, and then `no reply` where the last command got none.

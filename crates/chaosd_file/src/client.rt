@@ -70,7 +70,9 @@ impl Client {
     /// Sends a command as soon as there is room, and takes turns until its reply comes, within 1,000 turns. None where none came,
     /// and where the connection ended.
     pub fn ask<T: Turns>(&mut self, turns: &mut T, command: &[u8]) -> Result<Option<Data>, RunFault>
-        ensures { IfErr result IsTurnFault }
+        ensures faults { IfErr result IsTurnFault }
+        ensures same_links { T.links turns.new ≡ T.links turns.old }
+        ensures well { OnOk result (T.failures turns.new ≤ T.failures turns.old) }
     {
         self.call(turns.now()?);
         let mut is_written = false;
@@ -90,7 +92,9 @@ impl Client {
 
     /// Sends an EOF as soon as there is room, and takes turns until it is acknowledged or the connection has ended, 100 at most.
     pub fn end<T: Turns>(&mut self, turns: &mut T) -> Result<(), RunFault>
-        ensures { IfErr result IsTurnFault }
+        ensures faults { IfErr result IsTurnFault }
+        ensures same_links { T.links turns.new ≡ T.links turns.old }
+        ensures well { OnOk result (T.failures turns.new ≤ T.failures turns.old) }
     {
         if !self.is_called {
             return Ok(());
@@ -107,7 +111,9 @@ impl Client {
 
     /// Closes the connection with an empty text, and sends what waits in one more turn.
     pub fn hang_up<T: Turns>(&mut self, turns: &mut T) -> Result<(), RunFault>
-        ensures { IfErr result IsTurnFault }
+        ensures faults { IfErr result IsTurnFault }
+        ensures same_links { T.links turns.new ≡ T.links turns.old }
+        ensures well { OnOk result (T.failures turns.new ≤ T.failures turns.old) }
     {
         let Some(id) = self.id else {
             return Ok(());
@@ -129,6 +135,8 @@ impl Client {
         is_written: bool,
     ) -> Result<bool, RunFault>
         ensures faults { IfErr result IsTurnFault }
+        ensures same_links { T.links turns.new ≡ T.links turns.old }
+        ensures well { OnOk result (T.failures turns.new ≤ T.failures turns.old) }
         ensures sent { OnOk result (self.new.out.packets ≡ []) }
         ensures called { self.new.is_called ≡ self.old.is_called }
     {

@@ -1,10 +1,10 @@
 //! The engine `loop`.
-ghost use Rattle.std.specs.Prelude.{◌≡◌, ◌<◌, ◌≤◌, ◌+◌, ◌-◌, ℕ, Err, length, take, IfOk, IfSome};
+ghost use Rattle.std.specs.Prelude.{◌≡◌, ◌<◌, ◌≤◌, ◌+◌, ◌-◌, ℕ, Err, length, take, IfOk, IfSome, OnOk};
 ghost use Rattle.std.specs.Io.KnownBytes.{IsAtEnd};
 ghost use Rattle.chaosd_engines.specs.declared.limits.TheConstants.{INPUT_LIMIT};
 ghost use Rattle.chaosd_engines.specs.Lines.{lines_of, ended_lines};
 ghost use Rattle.chaosd_file.specs.Printed.{PrintsReplies, PrintsScript};
-ghost use Rattle.chaosd_file.specs.Script.{AreCommands, BeginWithCommands, IsFirstBad, PrintsRepliesTo, RepliesRead};
+ghost use Rattle.chaosd_file.specs.Script.{AreCommands, BeginWithCommands, IsFirstBad, PrintsRepliesTo, RepliesRead, Runs};
 
 use crate::client::Client;
 use crate::end::ScriptEnd;
@@ -27,12 +27,18 @@ struct Both<'a, A: Link, B: Link> {
     alloc: Global,
     near: &'a mut A,
     far: &'a mut B,
-    server: Server,
-    store: MemStore,
+    server: &'a mut Server,
+    store: &'a mut MemStore,
     turns: u64,
 }
 
 impl<A: Link, B: Link> Turns for Both<'_, A, B> {
+    ghost use Rattle.std.specs.Prelude.{◌∷◌, []};
+
+    ghost failures = { λ turns. A.count turns.near.now + B.count turns.far.now };
+
+    ghost links = { λ turns. turns.near.ghost_name ∷ turns.far.ghost_name ∷ [] };
+
     fn now(&self) -> Result<u64, RunFault> {
         Ok(self.turns.saturating_mul(LOOP_TURN))
     }
@@ -41,13 +47,9 @@ impl<A: Link, B: Link> Turns for Both<'_, A, B> {
     fn turn(&mut self, host: &mut Host, now: u64, out: &mut Outbox) -> Result<(), RunFault> {
         self.turns = self.turns.saturating_add(1);
         let asked = client_turn(host, self.near, now, out);
-        let served = self.server.turn(
-            self.alloc,
-            &mut self.store,
-            self.far,
-            LOOP_SERVER_START,
-            now,
-        );
+        let served = self
+            .server
+            .turn(self.alloc, self.store, self.far, LOOP_SERVER_START, now);
         if asked == TurnEnd::LinkFault || served == TurnEnd::LinkFault {
             Err(RunFault::LinkFault)
         } else {
@@ -81,6 +83,8 @@ pub fn run_loop<R: Read, W: Write, A: Link, B: Link>(
     link_a: &mut A,
     link_b: &mut B,
 ) -> Result<ScriptEnd, RunFault>
+    // It ends well only where the links' counts of failures, together, didn't rise.
+    ensures well { OnOk result (A.count link_a.new + B.count link_b.new ≤ A.count link_a.old + B.count link_b.old) }
     // As many commands were tried as were replied to, or one more, the last.
     ensures counts { IfOk result (λ end. (end.replied ≤ end.commands) × (end.commands ≤ end.replied + 1)) }
     // What was printed are that many replies, each on its line, and then `no reply` where the last command got none.
@@ -103,13 +107,39 @@ pub fn run_loop<R: Read, W: Write, A: Link, B: Link>(
     ensures unread { result ≡ Err RunFault.ReadFault
         → RepliesRead (R.remaining reader.old) (R.remaining reader.new) (W.contents writer.old) (W.contents writer.new) }
 {
+    let mut server = Server::new(alloc, LOOP_SERVER)?;
+    let mut store = MemStore::new(alloc);
+    run_between(
+        alloc,
+        reader,
+        writer,
+        link_a,
+        link_b,
+        &mut server,
+        &mut store,
+    )
+}
+
+/// Runs a script between a new client and this server.
+fn run_between<R: Read, W: Write, A: Link, B: Link>(
+    alloc: Global,
+    reader: &mut R,
+    writer: &mut W,
+    near: &mut A,
+    far: &mut B,
+    server: &mut Server,
+    store: &mut MemStore,
+) -> Result<ScriptEnd, RunFault>
+    ensures runs { Runs (R.remaining reader.old) (R.remaining reader.new) (W.contents writer.old) (W.contents writer.new) result }
+    ensures well { OnOk result (A.count near.new + B.count far.new ≤ A.count near.old + B.count far.old) }
+{
     let mut client = Client::new(alloc, LOOP_CLIENT, LOOP_SERVER, LOOP_CLIENT_START, 0)?;
     let mut turns = Both {
         alloc,
-        near: link_a,
-        far: link_b,
-        server: Server::new(alloc, LOOP_SERVER)?,
-        store: MemStore::new(alloc),
+        near,
+        far,
+        server,
+        store,
         turns: 0,
     };
     run_script(&mut client, &mut turns, reader, writer)

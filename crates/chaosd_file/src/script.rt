@@ -1,4 +1,5 @@
 //! The run over a script.
+ghost use Rattle.std.specs.Prelude.{◌≡◌, ◌≤◌, OnOk};
 ghost use Rattle.chaosd_file.specs.Script.{Runs};
 
 use crate::client::Client;
@@ -18,7 +19,9 @@ pub fn run_script<T: Turns, R: Read, W: Write>(
     reader: &mut R,
     writer: &mut W,
 ) -> Result<ScriptEnd, RunFault>
-    ensures { Runs (R.remaining reader.old) (R.remaining reader.new) (W.contents writer.old) (W.contents writer.new) result }
+    ensures runs { Runs (R.remaining reader.old) (R.remaining reader.new) (W.contents writer.old) (W.contents writer.new) result }
+    ensures same_links { T.links turns.new ≡ T.links turns.old }
+    ensures well { OnOk result (T.failures turns.new ≤ T.failures turns.old) }
 {
     let end = ask_all(client, turns, reader, writer);
     match end {
@@ -38,7 +41,9 @@ fn ask_all<T: Turns, R: Read, W: Write>(
     reader: &mut R,
     writer: &mut W,
 ) -> Result<ScriptEnd, RunFault>
-    ensures { Runs (R.remaining reader.old) (R.remaining reader.new) (W.contents writer.old) (W.contents writer.new) result }
+    ensures runs { Runs (R.remaining reader.old) (R.remaining reader.new) (W.contents writer.old) (W.contents writer.new) result }
+    ensures same_links { T.links turns.new ≡ T.links turns.old }
+    ensures well { OnOk result (T.failures turns.new ≤ T.failures turns.old) }
 {
     let mut lines = LineReader::new();
     let mut line = KeptLine::new();

@@ -8,6 +8,8 @@ abbrev pub invariant-lines : goal.invariant-lines
 invariant-lines g l = record {
   few : l.replied + left_of l.lines ≤ INPUT_LIMIT + 1;
   empty : l.out ≡ [];
+  same_links : g.T.Turns.links l.turns ≡ g.T.Turns.links l.fn.turns;
+  well : g.T.Turns.failures l.turns ≤ g.T.Turns.failures l.fn.turns;
   asked : Asked (g.R.Read.remaining l.fn.reader) (g.R.Read.remaining l.reader) (g.W.Write.contents l.fn.writer) (g.W.Write.contents l.writer) l.replied l.lines;
 }
 
