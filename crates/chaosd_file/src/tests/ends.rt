@@ -84,7 +84,7 @@ fn ask_passes_indices_over(rt: HostRuntime) -> Result<(), Fail> {
 #[test]
 fn connection_is_closed_after_a_bad_line(rt: HostRuntime) -> Result<(), Fail> {
     let (near, mut far) = linked(&rt)?;
-    let mut near = Watched::new(near, u64::MAX);
+    let mut near = Watched::new(near);
     let mut out = Vec::new(rt.alloc());
     let script = b"T1  LOGIN M\n\\8D\n".as_slice();
     let end = run_loop(rt.alloc(), &mut &*script, &mut out, &mut near, &mut far);

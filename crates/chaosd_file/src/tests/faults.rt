@@ -1,10 +1,10 @@
 //! Readers, writers, links and clocks that fail.
 use super::fakes::{FuseReader, FuseWriter, Stopped};
-use super::links::{Watched, linked};
+use super::links::linked;
 use super::scripts::{FILE_REPLIES, FILE_SCRIPT, all};
 use crate::{run_ask, run_loop, run_serve, script_status, serve_status};
 use chaos_file::MemStore;
-use chaos_link::MemLink;
+use chaos_link::{FuseLink, MemLink};
 use chaosd_engines::{FAULT, RunFault};
 use std::alloc::AllocGlobal;
 use std::process::Abort;
@@ -62,9 +62,9 @@ fn writer_fails(rt: HostRuntime) -> Result<(), Fail> {
 /// The client's link fails at each of its calls in turn, until a run meets no failure.
 #[test]
 fn link_fails(rt: HostRuntime) -> Result<(), Fail> {
-    for left in 0..100u64 {
+    for call in 1..100u64 {
         let (near, mut far) = linked(&rt)?;
-        let mut near = Watched::new(near, left);
+        let mut near = FuseLink::new(near, call);
         let mut out = Vec::new(rt.alloc());
         let end = run_loop(
             rt.alloc(),
@@ -73,12 +73,12 @@ fn link_fails(rt: HostRuntime) -> Result<(), Fail> {
             &mut near,
             &mut far,
         );
-        assert!(rt; FILE_REPLIES.starts_with(out.as_slice()), "{left}");
+        assert!(rt; FILE_REPLIES.starts_with(out.as_slice()), "{call}");
         if end == all(7) {
-            println!(rt; "{left} calls")?;
+            println!(rt; "{call} calls")?;
             return Ok(());
         }
-        assert_eq!(rt; end, Err(RunFault::LinkFault), "{left}");
+        assert_eq!(rt; end, Err(RunFault::LinkFault), "{call}");
         assert_eq!(rt; script_status(&end), FAULT);
     }
     Err("a run without a failure".into())

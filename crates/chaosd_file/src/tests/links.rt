@@ -73,38 +73,21 @@ pub fn received(link: &mut MemLink) -> Option<Packet> {
     }
 }
 
-/// A link that fails once, at the call behind so many, and keeps the opcode of what it sent last.
+/// A link that keeps the opcode of what it sent last.
 #[derive(Drop)]
 pub struct Watched {
     inner: UdpLink,
-    left: u64,
-    failures: u64,
     pub last: u8,
 }
 
 impl Watched {
-    pub fn new(inner: UdpLink, left: u64) -> Self {
-        Watched {
-            inner,
-            left,
-            failures: 0,
-            last: 0,
-        }
-    }
-
-    /// Counts a call, and says whether it is to fail.
-    fn is_spent(&mut self) -> bool {
-        let is_spent = self.left == 0 && self.failures == 0;
-        if is_spent {
-            self.failures = u64::MAX;
-        }
-        self.left = self.left.saturating_sub(1);
-        is_spent
+    pub fn new(inner: UdpLink) -> Self {
+        Watched { inner, last: 0 }
     }
 }
 
 impl Link for Watched {
-    ghost count = { λ link. link.failures };
+    ghost count = { λ link. link.inner.failures };
 
     ghost queue = { λ _. None };
 
@@ -112,27 +95,15 @@ impl Link for Watched {
         if bytes.len() > 4 {
             self.last = bytes[4];
         }
-        if self.is_spent() {
-            return Sent::Unknown;
-        }
-        match self.inner.send(to_address, bytes) {
-            Sent::Failed => Sent::Unknown,
-            sent => sent,
-        }
+        self.inner.send(to_address, bytes)
     }
 
     fn receive(&mut self, buffer: &mut [u8; LINK_ROOM]) -> Received {
-        if self.is_spent() {
-            return Received::Nothing;
-        }
-        match self.inner.receive(buffer) {
-            Received::Failed => Received::Nothing,
-            received => received,
-        }
+        self.inner.receive(buffer)
     }
 
     fn failures(&self) -> u64 {
-        self.failures
+        self.inner.failures()
     }
 }
 
