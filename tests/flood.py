@@ -9,7 +9,6 @@ check; the last line is 'N passed, M failed'.
 
 import pathlib
 import random
-import signal
 import socket
 import struct
 import subprocess
@@ -293,20 +292,6 @@ def lost_sends(checks):
             checks.check(f"a peer at {name} doesn't end the service", problems + service.answered() + service.ended())
 
 
-def signals(checks):
-    """Both signals that ask a program to end are heard."""
-    for number in [signal.SIGINT, signal.SIGTERM]:
-        with Service() as service:
-            problems = service.answered()
-            service.process.send_signal(number)
-            try:
-                status = service.process.wait(PATIENCE)
-                problems += [] if status == -number else [f"status {status}"]
-            except subprocess.TimeoutExpired:
-                problems.append("serve goes on")
-            checks.check(f"{number.name} ends the service", problems)
-
-
 def main():
     global PROGRAM
     if len(sys.argv) > 1:
@@ -314,7 +299,7 @@ def main():
     if not PROGRAM.is_file():
         sys.exit(f"{PROGRAM} isn't there: run make first")
     checks = Checks()
-    for group in [floods, full_table, lost_sends, signals]:
+    for group in [floods, full_table, lost_sends]:
         try:
             group(checks)
         except OSError as fault:
