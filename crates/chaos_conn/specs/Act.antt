@@ -12,7 +12,7 @@ use Rattle.chaos_conn.specs.View.{ConnView}
 use Rattle.chaos_conn.specs.Acted.{Acted, map_answer}
 use Rattle.chaos_conn.specs.Opening.{Outcome, act_request, act_take_request, act_accept, act_answer, act_reject}
 use Rattle.chaos_conn.specs.Arriving.{act_deliver}
-use Rattle.chaos_conn.specs.Calls.{act_write, act_unc, act_close, act_read, act_read_done}
+use Rattle.chaos_conn.specs.Calls.{act_write, act_unc, act_close, act_read, act_read_done, act_announce}
 use Rattle.chaos_conn.specs.Time.{act_tick}
 
 -- the calls that change a connection
@@ -27,6 +27,7 @@ pub data Call : Type 0 where
   Unc : (bytes : List ℕ) → Call
   Read : Call
   FinishRead : Call
+  Announce : (window : ℕ) → Call
   Close : (text : List ℕ) → Call
   Tick : (now : ℕ) → Call
 
@@ -51,6 +52,7 @@ act v (Write op bytes now) = map_answer Wrote (act_write v op bytes now)
 act v (Unc bytes) = map_answer Did (act_unc v bytes)
 act v Read = map_answer Gave (act_read v)
 act v FinishRead = map_answer Finished (act_read_done v)
+act v (Announce window) = map_answer Did (act_announce v window)
 act v (Close text) = map_answer Did (act_close v text)
 act v (Tick now) = map_answer Ticks (act_tick v now)
 

@@ -7,7 +7,7 @@ use Rattle.chaos_packet.specs.declared.limits.TheConstants.{MAX_DATA}
 use Rattle.chaos_packet.specs.declared.opcode.Kind.{Kind}
 use Rattle.chaos_packet.specs.declared.opcode.Kind.TheVariants as kind
 use Rattle.chaos_window.specs.Send.{SendView, outstanding_of, next_of}
-use Rattle.chaos_window.specs.Receive.{item_at, after_advance}
+use Rattle.chaos_window.specs.Receive.{item_at, after_advance, after_announcement}
 use Rattle.chaos_conn.specs.declared.fault.ConnFault.{ConnFault}
 use Rattle.chaos_conn.specs.declared.fault.ConnFault.TheVariants as fault
 use Rattle.chaos_conn.specs.declared.answers.ReadDone.{ReadDone}
@@ -72,9 +72,9 @@ act_close v text =
 -- ---- a read
 
 module _ {A : Type 0} where
-  -- the peer is told once the untold reads come to a third of the window
+  -- the peer is told once the untold reads come to a third of the window that the end announces
   abbrev pub with_reads_told : ConnView → A → Acted A
-  with_reads_told v answer = if nat_le v.config.recv_cap (3 * v.untold) then with_sts v answer else quietly v answer
+  with_reads_told v answer = if nat_le v.recv.window (3 * v.untold) then with_sts v answer else quietly v answer
 
 -- an item was read at an open end, and counted
 abbrev pub read_open : ConnView → ItemView → Acted ReadEnd
@@ -111,6 +111,16 @@ done_of (end.Ended state) = done.Ended state
 -- what a read does, with another answer
 abbrev pub act_read_done : ConnView → Acted ReadDone
 act_read_done v = map_answer done_of (act_read v)
+
+-- ---- another window
+
+-- an open end announces a window, which is at most its receive window's cap, and tells its status
+abbrev pub act_announce : ConnView → ℕ → Acted Outcome
+act_announce v window =
+    if is_open v.state then
+    (if nat_lt v.config.recv_cap window then refusal v fault.BadWindow
+    else with_sts (record v { recv = after_announcement v.recv window }) (Ok tt))
+    else refusal v fault.NotOpen
 
 -- ---- looks
 

@@ -39,9 +39,9 @@ packet_to_peer v op number ack body = record {
 abbrev pub untelling_packet : ConnView → ℕ → List ℕ → PacketView
 untelling_packet v op body = packet_to_peer v op 0 0 body
 
--- the two words of a status: what arrived without a gap, and the window
+-- the two words of a status: what arrived without a gap, and the window that the end announces
 abbrev pub status_body : ConnView → List ℕ
-status_body v = halves (receipt_of v.recv ∷ v.config.recv_cap ∷ [])
+status_body v = halves (receipt_of v.recv ∷ v.recv.window ∷ [])
 
 -- the STS of this end: its status, and the acknowledgement, which tells what its user read
 abbrev pub sts_of : ConnView → PacketView

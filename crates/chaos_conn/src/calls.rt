@@ -1,4 +1,4 @@
-//! The user's calls: writing, reading and closing.
+//! The user's calls: writing, reading, announcing a window and closing.
 ghost use Rattle.std.specs.Prelude.{◌≡◌, ◌+◌, ◌<◌, ◌≤◌, length, IfSome};
 ghost use Rattle.chaos_packet.specs.Opcode.{kind_of};
 ghost use Rattle.chaos_packet.specs.Outbox.{room_of};
@@ -6,7 +6,7 @@ ghost use Rattle.chaos_window.specs.Receive.{item_at};
 ghost use Rattle.chaos_conn.specs.View.{moment};
 ghost use Rattle.chaos_conn.specs.Acted.{Acts, ActsQuietly, map_answer};
 ghost use Rattle.chaos_conn.specs.Calls.{most_bytes, write_item, read_at_open, read_at_end, with_reads_told, done_of};
-ghost use Rattle.chaos_conn.specs.Act.{Write, Unc, Read, FinishRead, Close, Did, Wrote, Gave, Finished, Does};
+ghost use Rattle.chaos_conn.specs.Act.{Write, Unc, Read, FinishRead, Announce, Close, Did, Wrote, Gave, Finished, Does};
 
 use crate::answers::{ReadDone, ReadEnd};
 use crate::conn::Conn;
@@ -78,6 +78,29 @@ impl Conn {
         Ok(())
     }
 
+    /// Announces another window: so many items past those that were read are taken from now on. An STS tells the peer. It is
+    /// at most the configuration's receive window, which an end announces when it opens. Items that are held past a smaller
+    /// window stay, and can be read.
+    ///
+    /// The STS may be lost, and an older one may come late: the peer uses the window that came last. Where it sends too far, its
+    /// items are told `Outside` here, and it sends them again.
+    ///
+    /// Refused, in this order: `NotOpen`; `BadWindow` for more than the configuration's receive window. Nothing changes then.
+    pub fn announce(&mut self, window: u16, out: &mut Outbox) -> Result<(), ConnFault>
+        requires { 0 < room_of out.old }
+        ensures { Does self.old (Announce window) self.new out.old out.new (Did result) }
+    {
+        if !self.state.is_open() {
+            return Err(ConnFault::NotOpen);
+        }
+        if window > self.config.recv_cap() {
+            return Err(ConnFault::BadWindow);
+        }
+        self.recv.set_window(window);
+        self.put_sts(out);
+        Ok(())
+    }
+
     /// Gives the connection up, in any state, and is inactive then. An open end, and one that holds a request, sends a CLS
     /// with the text.
     ///
@@ -97,7 +120,7 @@ impl Conn {
     }
 
     /// Reads the next item, where it is held, and hands it out. Once the reads that the peer wasn't told of come to a third
-    /// of the window, an open end tells it by an STS.
+    /// of the window that it announces, an open end tells it by an STS: at each read where the window is 0.
     ///
     /// In RfcSent and RfcReceived there is nothing to read, whatever is held. An end that isn't live answers its state once
     /// no next item is held.
@@ -131,7 +154,7 @@ impl Conn {
         requires { 0 < room_of out.old }
         ensures { Acts self.old (with_reads_told (record self.old { untold = self.old.untold + 1 }) result) self.new out.old out.new result }
     {
-        if 3 * (self.untold + 1) >= self.config.recv_cap() {
+        if 3 * (self.untold + 1) >= self.recv.window() {
             self.put_sts(out);
         } else {
             self.untold += 1;

@@ -43,4 +43,7 @@ pub enum ConnFault {
     /// 8: the packet isn't an RFC.
     #[error("not a request for connection")]
     BadRequest,
+    /// 9: a window of more than the configuration's.
+    #[error("the window is too large")]
+    BadWindow,
 }

@@ -38,11 +38,11 @@ impl Conn {
         self.packet_to_peer(op, NO_NUMBER, NO_NUMBER, body)
     }
 
-    /// The two words of a status: what arrived without a gap, and the window.
+    /// The two words of a status: what arrived without a gap, and the window that this end announces.
     pub(crate) fn status_body(&self) -> [u8; 4]
         ensures { result ≡ status_body self.now }
     {
-        word_bytes(self.recv.receipt(), self.config.recv_cap())
+        word_bytes(self.recv.receipt(), self.recv.window())
     }
 
     /// Puts the status out, which tells all that was read.

@@ -16,7 +16,7 @@ use Rattle.chaos_conn.specs.Time.{act_tick, at_moment, is_down, is_resend_due, i
 use Rattle.chaos_conn.specs.Arriving.{act_deliver, is_between_hosts, is_between_indices, is_index, deliver_in, deliver_open, deliver_asking, deliver_requested, after_opn_telling, after_second_opn_telling, after_sts_telling, after_item_came, heard_with_ack, after_rfc, repeated_request}
 use Rattle.chaos_conn.specs.declared.state.End.{End}
 use Rattle.chaos_conn.specs.Opening.{act_request, act_take_request}
-use Rattle.chaos_conn.specs.Act.{Call, act, Request, TakeRequest, Accept, Answer, Reject, Deliver, Write, Unc, Read, FinishRead, Close, Tick}
+use Rattle.chaos_conn.specs.Act.{Call, act, Request, TakeRequest, Accept, Answer, Reject, Deliver, Write, Unc, Read, FinishRead, Announce, Close, Tick}
 use Rattle.chaos_host.specs.Law.{StaysInUse, may_end}
 
 -- a test of states that fails at each one that a connection in use comes to
@@ -177,6 +177,7 @@ module _ (misses : State → Bool) (none : Misses misses) where
   goes_on v (Unc bytes) e used h = either (is_open v.state) _ _ (either (nat_lt MAX_DATA (length bytes)) _ _ h h) h
   goes_on v Read e used h = used_read v h
   goes_on v FinishRead e used h = used_read v h
+  goes_on v (Announce window) e used h = either (is_open v.state) _ _ (either (nat_lt v.config.recv_cap window) _ _ h h) h
   goes_on v (Close text) e used h = absurd (cc)
   goes_on v (Tick now) e used h = used_tick v now h
 

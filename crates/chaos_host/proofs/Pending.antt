@@ -18,7 +18,7 @@ use Rattle.chaos_conn.specs.View.{ConnView, moment}
 use Rattle.chaos_conn.specs.Acted.{Acted, quietly}
 use Rattle.chaos_conn.specs.Opening.{refusal, after_taking_rfc, closed_conn}
 use Rattle.chaos_conn.specs.Arriving.{act_deliver, is_between_hosts, is_between_indices, is_index, after_rfc, deliver_requested, deliver_in}
-use Rattle.chaos_conn.specs.Act.{Did, Request, TakeRequest, Accept, Answer, Reject, Deliver, Write, Unc, Read, FinishRead, Close, Tick}
+use Rattle.chaos_conn.specs.Act.{Did, Request, TakeRequest, Accept, Answer, Reject, Deliver, Write, Unc, Read, FinishRead, Announce, Close, Tick}
 use Rattle.chaos_conn.specs.Calls.{front_of}
 use Rattle.chaos_host.specs.Slot.{HoldsRequest}
 use Rattle.chaos_host.specs.Law.{TakesOne, PendingStays}
@@ -132,5 +132,6 @@ pending_stays v (Write op bytes now) e h = rw e (refl, refl)
 pending_stays v (Unc bytes) e h = rw e (refl, refl)
 pending_stays v Read e h = rw e (refl, refl)
 pending_stays v FinishRead e h = rw e (refl, refl)
+pending_stays v (Announce window) e h = rw e (refl, refl)
 pending_stays v (Close text) e h = either v (nat_lt MAX_DATA (length text)) _ _ (λ k. (refl, refl)) (λ k. absurd (cc)) h
 pending_stays v (Tick now) e h = rw e (refl, refl)

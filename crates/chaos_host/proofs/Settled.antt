@@ -10,7 +10,7 @@ use Rattle.chaos_conn.specs.View.{ConnView, moment}
 use Rattle.chaos_conn.specs.Acted.{Acted}
 use Rattle.chaos_conn.specs.Opening.{closed_conn}
 use Rattle.chaos_conn.specs.Calls.{front_of, read_at_end}
-use Rattle.chaos_conn.specs.Act.{Call, act, Request, TakeRequest, Accept, Answer, Reject, Deliver, Write, Unc, Read, FinishRead, Close, Tick}
+use Rattle.chaos_conn.specs.Act.{Call, act, Request, TakeRequest, Accept, Answer, Reject, Deliver, Write, Unc, Read, FinishRead, Announce, Close, Tick}
 use Rattle.chaos_host.specs.Law.{may_end}
 use Rattle.chaos_host.specs.Slot.{IsBlank, HoldsRequest, HoldsRequestAlone}
 use Rattle.chaos_host.proofs.InUse.{goes_on, stays_in_use}
@@ -67,6 +67,7 @@ from_closed v Read some =
 from_closed v FinishRead some =
     let cap = some_suc v.config.recv_cap some in
     read_nothing (closed_conn v) (front_of (closed_conn v)) (holds_nothing v cap.0 cap.1) (closed v)
+from_closed v (Announce window) some = closed v
 from_closed v (Close text) some = either (nat_lt MAX_DATA (length text)) _ _ (closed v) (closed v)
 from_closed v (Tick now) some = record { blank = λ h. refl; pending = λ h. absurd (cc) }
 
@@ -130,6 +131,7 @@ from_use v (Write op bytes now) used h = in_use v (Write op bytes now) refl used
 from_use v (Unc bytes) used h = in_use v (Unc bytes) refl used h
 from_use v Read used h = in_use v Read refl used h
 from_use v FinishRead used h = in_use v FinishRead refl used h
+from_use v (Announce window) used h = in_use v (Announce window) refl used h
 from_use v (Tick now) used h = in_use v (Tick now) refl used h
 
 -- ---- any connection

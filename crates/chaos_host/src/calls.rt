@@ -1,7 +1,7 @@
 //! The user's calls on one connection, which its own index names.
 ghost use Rattle.std.specs.Prelude.{◌<◌};
 ghost use Rattle.chaos_packet.specs.Outbox.{room_of};
-ghost use Rattle.chaos_conn.specs.Act.{Accept, Answer, Reject, Write, Unc, Read, FinishRead, Close, Did, Wrote, Gave, Finished};
+ghost use Rattle.chaos_conn.specs.Act.{Accept, Answer, Reject, Write, Unc, Read, FinishRead, Announce, Close, Did, Wrote, Gave, Finished};
 ghost use Rattle.chaos_host.specs.Acted.{HostDoes};
 ghost use Rattle.chaos_host.specs.Calls.{host_call, host_end, reply_of, plain_reply_of};
 
@@ -56,6 +56,15 @@ impl Host {
     {
         let slot = named_mut(&mut self.slots, id)?;
         slot.conn.unc(bytes, out).map_err(CallFault::Refused)
+    }
+
+    /// Announces another window, which an STS tells: [`chaos_conn::Conn::announce`].
+    pub fn announce(&mut self, id: ConnId, window: u16, out: &mut Outbox) -> Result<(), CallFault>
+        requires { 0 < room_of out.old }
+        ensures { HostDoes self.old 1 (host_call self.old id (Announce window)) self.new out.old out.new (reply_of Did result) }
+    {
+        let slot = named_mut(&mut self.slots, id)?;
+        slot.conn.announce(window, out).map_err(CallFault::Refused)
     }
 
     /// Reads the next item, where it is held, and hands it out.

@@ -21,7 +21,8 @@ use std::marker::Model;
 ///   connection that has ended.
 /// - The user's calls on one connection, which a [`ConnId`] names. [`Host::accept`], [`Host::answer`] or [`Host::reject`]
 ///   replies to a request that it holds. [`Host::write`] and [`Host::unc`] send; [`Host::read`] hands the next item out, or
-///   [`Host::front`] lends it and [`Host::read_done`] passes over it. [`Host::close`] gives it up. `answer`, `reject` and
+///   [`Host::front`] lends it and [`Host::read_done`] passes over it. [`Host::announce`] changes the window that the peer
+///   may fill. [`Host::close`] gives it up. `answer`, `reject` and
 ///   `close` free its slot.
 /// - Packets from the network: [`Host::deliver`], which finds the connection, or takes a new request.
 /// - The tick: [`Host::tick`], called now and then for each slot, sends what is due there.

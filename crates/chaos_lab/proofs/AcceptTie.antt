@@ -16,7 +16,7 @@ use Rattle.chaos_lab.specs.Machine.{Phase, FirstMissing, read_item}
 use Rattle.chaos_lab.proofs.Functions.{next_item}
 use Rattle.chaos_lab.proofs.Directions.{Sound, sound_read}
 use Rattle.chaos_lab.proofs.Lists.{length-one_more, member_at}
-use Rattle.chaos_lab.proofs.Ends.{EndOk, Fits, IsNew}
+use Rattle.chaos_lab.proofs.Ends.{EndOk, Fits, IsNew, announces_at}
 use Rattle.chaos_packet.specs.Item.{ItemView}
 use Rattle.chaos_packet.specs.Words.{halves}
 use Rattle.chaos_window.specs.Send.{SendView, after_push, started_send, clear_send}
@@ -73,7 +73,7 @@ accept_rfc rest b b' start now first e p end at d back o next =
     let missing : FirstMissing f 1 = (λ i l. ap (contains e.arrived) (let z : i ≡ 0 = omega arith in z) ∙ was.1, false_from_ne_true _ (λ u. let z = was.2 1 u in omega arith)) in
     let receipt : receipt_of (recv_view b' p f) ≡ told_num b' 1 = receipt_is b' 1 p f reader missing in
     let starts : after_accepting v start t ≡ w = λ j. record w { recv = recv j; send = started_send (cap j) start } in
-    let item : opn_item w ≡ opn = λ j. record { op = 2; body = halves (receipt j ∷ e.recv_cap ∷ []) } in
+    let item : opn_item w ≡ opn = λ j. record { op = 2; body = halves (receipt j ∷ announces_at B e RfcReceived o at j ∷ []) } in
     let sent : num (off start 1) 1 ≡ told_num start (length (e.written ++ opn ∷ [])) = omega (arith, longer, was.0.1) in
     let number : num (off start 1) 1 ≡ num start 0 = omega arith in
     let rcpt : off start 1 ≡ told_num start e.receipted = omega (arith, receipted) in

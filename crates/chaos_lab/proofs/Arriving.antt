@@ -8,23 +8,23 @@ use Rattle.chaos_lab.specs.Machine.Told.{Nothing, Acknowledges, Status}
 use Rattle.chaos_lab.specs.Law.{IsThere}
 use Rattle.chaos_lab.proofs.Lists.{contains-insert_same}
 
-take_in_there : (i : ℕ) (e : PlainEnd) → i < length e.read + e.recv_cap → IsThere (take_in i e) i
+take_in_there : (i : ℕ) (e : PlainEnd) → i < length e.read + e.announced → IsThere (take_in i e) i
 take_in_there i e inside =
-    cond_both (leb (length e.read) i && ltb i (length e.read + e.recv_cap)) _ e (λ (f : PlainEnd). IsThere f i)
+    cond_both (leb (length e.read) i && ltb i (length e.read + e.announced)) _ e (λ (f : PlainEnd). IsThere f i)
     (λ _. inr (contains-insert_same i e.arrived))
     (λ t. ⊎_elim
     (λ (u : leb (length e.read) i ≡ false). inl (leb-false (length e.read) i u))
-    (λ (u : ltb i (length e.read + e.recv_cap) ≡ false). absurd (omega (arith, ltb-false i (length e.read + e.recv_cap) u)))
+    (λ (u : ltb i (length e.read + e.announced) ≡ false). absurd (omega (arith, ltb-false i (length e.read + e.announced) u)))
     (and_cases _ _ t))
 
-heard_there : (told : Told) (i : ℕ) (e : PlainEnd) → i < length e.read + e.recv_cap → IsThere (take_in i (hear told e)) i
+heard_there : (told : Told) (i : ℕ) (e : PlainEnd) → i < length e.read + e.announced → IsThere (take_in i (hear told e)) i
 heard_there Nothing i e inside = take_in_there i e inside
 heard_there (Acknowledges a) i e inside = take_in_there i (hear (Acknowledges a) e) inside
 heard_there (Status a r w) i e inside = take_in_there i (hear (Status a r w) e) inside
 
 -- only the row for an item at an open end fits
 pub comes_there :
-    (c : Copy) (i : ℕ) (p e f : PlainEnd) → c.kind ≡ Nth i → e.phase ≡ Open → i < length e.read + e.recv_cap →
+    (c : Copy) (i : ℕ) (p e f : PlainEnd) → c.kind ≡ Nth i → e.phase ≡ Open → i < length e.read + e.announced →
     OrNothing (Comes c) p e f → IsThere f i
 comes_there c i p e f kind at inside (inl (inl r)) = let not : e.phase ≡ Inactive = r.1 in absurd (cc)
 comes_there c i p e f kind at inside (inl (inr (inl r))) = let not : e.phase ≡ RfcSent = r.1 in absurd (cc)

@@ -27,18 +27,20 @@ use Rattle.chaos_lab.proofs.Ends.{EndOk, Fits, HasMet}
 use Rattle.chaos_packet.specs.Item.{ItemView}
 use Rattle.chaos_packet.specs.Opcode.{kind_of}
 use Rattle.chaos_window.specs.Send.{next_of, outstanding_of}
+use Rattle.chaos_window.specs.Receive.{after_announcement}
 use Rattle.chaos_conn.specs.View.{ConnView, moment}
 use Rattle.chaos_conn.specs.Acted.{Acted, quietly}
 use Rattle.chaos_conn.specs.State.{is_open as is_open_state}
 use Rattle.chaos_conn.proofs.Ended.{ended_is_over}
-use Rattle.chaos_conn.specs.Sending.{with_item, item_packet, packet_to_peer, carries_ack}
+use Rattle.chaos_conn.specs.Sending.{with_item, with_sts, item_packet, packet_to_peer, carries_ack}
 use Rattle.chaos_packet.specs.Opcode.{is_rfc}
-use Rattle.chaos_conn.specs.Calls.{act_write, most_bytes, write_at_most, act_close, cls_of}
+use Rattle.chaos_conn.specs.Calls.{act_write, most_bytes, write_at_most, act_announce, act_close, cls_of}
 use Rattle.chaos_conn.specs.Opening.{closed_conn}
 use Rattle.chaos_conn.specs.State.{is_ended}
-use Rattle.chaos_lab.specs.Shown.{Rest, send_view, index_of, shown, shown_in, shown_at, met_view, IsPut, Leaves, IsUsers}
+use Rattle.chaos_lab.specs.Shown.{Rest, send_view, recv_view, index_of, shown, shown_in, shown_at, met_view, IsPut, Leaves, IsUsers}
 use Rattle.chaos_lab.proofs.SendTie.{pushed_is, read_within, arrived_within}
-use Rattle.chaos_lab.proofs.OpenEnd.{IsOpen, is_open, open_is, index_met, in_met}
+use Rattle.chaos_lab.proofs.OpenEnd.{IsOpen, is_open, open_is, index_met, in_met, leaves_sts}
+use Rattle.chaos_lab.proofs.RecvTie.{same_slots}
 
 -- ---- an item that goes out
 
@@ -166,6 +168,65 @@ write_at Open x rest b b' item now e p at end d back o =
 
 pub write_leaves : (x : Side) (rest : Rest) (b b' : ℕ) (item : ItemView) (now : ℕ) (e p : Plain) → is_ended rest.ended ≡ true → Sound e p → Sound p e → EndOk x e → Writes x rest b b' item now p e
 write_leaves x rest b b' item now e p end d back o = write_at e.phase x rest b b' item now e p refl end d back o
+
+-- ---- another window
+
+-- it is refused, and changes nothing, or it is allowed in the plain machine and done
+abbrev pub Resizes : Side → ℕ → ℕ → ℕ → Plain → Plain → ConnView → Type 0
+Resizes x b b' window p e v =
+    ((f : ConnFault) × (act_announce v window ≡ quietly v (Err f)))
+    ⊎ ((e.phase ≡ Open) × (window ≤ e.recv_cap) × Leaves x b b' p (record e { announced = window }) (act_announce v window))
+
+-- the receive window alone changes
+resized_view : (x : Side) (rest : Rest) (b b' window : ℕ) (p e : Plain) → record (met_view st.Open x rest b b' p e) { recv = after_announcement (recv_view b' p e) window } ≡ met_view st.Open x rest b b' p (record e { announced = window })
+resized_view x rest b b' window p e =
+    let f : Plain = record e { announced = window } in
+    λ j. record (met_view st.Open x rest b b' p f) { recv = record (recv_view b' p f) { held = same_slots p e p f (length e.read) e.recv_cap (λ k l. refl) j } }
+
+resize_open : (x : Side) (rest : Rest) (b b' window : ℕ) (e p : Plain) → is_ended rest.ended ≡ true → e.phase ≡ Open → Sound p e → EndOk x e → Resizes x b b' window p e (met_view st.Open x rest b b' p e)
+resize_open x rest b b' window e p end at back o =
+    let f : Plain = record e { announced = window } in
+    let v : ConnView = met_view st.Open x rest b b' p e in
+    let opens : IsOpen p f = record {
+      phase = at;
+      met = (is_open x p e at o back).met;
+      reader = record {
+        begins = back.begins;
+        within = back.within;
+        inside = back.inside;
+        front = back.front;
+        acked_read = back.acked_read;
+        in_order = back.in_order;
+        receipted_arrived = back.receipted_arrived;
+        room = back.room;
+        window_cap = back.window_cap;
+      };
+    } in
+    ⊎_elim
+    (λ (t : e.recv_cap < window). inl (fa.BadWindow, cond-true _ _ _ (lt-ltb e.recv_cap window t)))
+    (λ (t : window ≤ e.recv_cap).
+    inr (
+      at,
+      t,
+      subst (Leaves x b b' p f)
+          (sym (cond-false _ _ _ (le-ltb e.recv_cap window t) ∙ ap (λ u. with_sts u (Ok tt)) (resized_view x rest b b' window p e)))
+          (leaves_sts (Ok tt) x rest b b' p f end opens),
+    ))
+    (cases_lt e.recv_cap window)
+
+resize_at : (phase : Phase) (x : Side) (rest : Rest) (b b' window : ℕ) (e p : Plain) → e.phase ≡ phase → is_ended rest.ended ≡ true → Sound p e → EndOk x e → Resizes x b b' window p e (shown_at phase x rest b b' p e)
+resize_at Inactive x rest b b' window e p at end back o = inl (fa.NotOpen, refl)
+resize_at RfcSent x rest b b' window e p at end back o = inl (fa.NotOpen, refl)
+resize_at RfcReceived x rest b b' window e p at end back o = inl (fa.NotOpen, refl)
+resize_at Ended x rest b b' window e p at end back o = inl (fa.NotOpen, cond-false _ _ _ (not_open rest.ended end))
+resize_at Closed x rest b b' window e p at end back o = inl (fa.NotOpen, refl)
+resize_at Open x rest b b' window e p at end back o =
+    let met = is_open x p e at o back in
+    subst (Resizes x b b' window p e) (sym (in_met st.Open x rest b b' p e met.met (back.front 0 met.met.0)))
+    (resize_open x rest b b' window e p end at back o)
+
+pub resize_leaves : (x : Side) (rest : Rest) (b b' window : ℕ) (e p : Plain) → is_ended rest.ended ≡ true → Sound p e → EndOk x e → Resizes x b b' window p e (shown x rest b b' p e)
+resize_leaves x rest b b' window e p end back o = resize_at e.phase x rest b b' window e p refl end back o
 
 -- ---- a close
 

@@ -22,7 +22,7 @@ use Rattle.chaos_lab.specs.Machine.{Phase, Kind, Told, other, hear, read_item}
 use Rattle.chaos_lab.proofs.Total.{received}
 use Rattle.chaos_lab.proofs.Functions.{next_item, step_received}
 use Rattle.chaos_lab.proofs.Lists.{length-one_more, contains-insert_cases, contains-insert_same}
-use Rattle.chaos_lab.proofs.Ends.{EndOk, EndStep, Fits, IsNew, IsNone}
+use Rattle.chaos_lab.proofs.Ends.{EndOk, EndStep, Fits, IsNew, IsNone, announces_at, announced_fits}
 use Rattle.chaos_lab.proofs.Copies.{KindOk, ToldOk, TellsMet}
 use Rattle.chaos_packet.specs.Item.{ItemView}
 use Rattle.chaos_packet.specs.Packet.{PacketView}
@@ -98,7 +98,7 @@ opened_leaves rest b b' r f w pk now e p len_e len_p end m at near t s =
     let slots : replicate e.recv_cap None ≡ slots_from p g (length g.read) e.recv_cap =
     sym (no_slots p g (length g.read) e.recv_cap (λ i l. cond-false _ _ _ (nothing_there e (length g.read + i) new.1 (λ u. omega (arith, one))))) in
     let recv : started_receive (recv_shown b' p e).cap pk.num ≡ recv_view b' p g =
-    (λ j. started_receive (cap_shown b' p e j) pk.num) ∙ (λ j. record { cap = e.recv_cap; read = number j; held = slots j }) in
+    (λ j. started_receive (cap_shown b' p e j) pk.num) ∙ (λ j. record { cap = e.recv_cap; window = sym (announces_at A e RfcSent m.ok at) j; read = number j; held = slots j }) in
     subst (λ (n : Option ItemView). Leaves A b b' p (hear (Status r f w) (read_item n (record e { phase = Open; arrived = insert e.arrived 0 }))) (act_deliver v pk now)) (sym next)
     (subst (Leaves A b b' p g)
     (sym (to_asked rest b b' pk now p e (Nth 0) new.0.0 s.header s.header.dst_index (ap is_rfc kind)
@@ -158,16 +158,18 @@ request_leaves rest b b' pk now e p len_e len_p end m at near s =
     let f : Plain = record e { phase = RfcReceived; arrived = insert e.arrived 0 } in
     let within = read_within e p m.reader in
     let number : off (num b' 0) 1 ≡ told_num b' (length e.read) = omega (arith, new.0.0) in
+    let whole : e.announced ≡ e.recv_cap = announces_at B e Inactive m.ok at in
     let clear : started_receive e.recv_cap (off pk.num 1) ≡ recv_view b' p e =
     λ j. record {
       cap = e.recv_cap;
+      window = sym whole j;
       read = (ap (λ n. off n 1) s.what.1 ∙ number) j;
       held = sym (no_slots p e (length e.read) e.recv_cap (λ i l. cond-false _ _ _ (false_from_ne_true _ (new.1 (length e.read + i))))) j;
     } in
     let recv : after_arrival (started_receive e.recv_cap (off pk.num 1)) pk.num item ≡ recv_view b' p f =
     (λ j. after_arrival (clear j) (s.what.1 j) item)
-    ∙ arrived_is b' 0 item p e s.what.0 near.0 (omega (arith, m.reader.room, m.reader.acked_read, m.peer_most)) within (omega (arith, near.1, m.fresh_p, m.peer_most)) m.ok.caps.3
-    ∙ ap (recv_view b' p) (took_in_true 0 e (omega (arith, new.0.0)) (omega (arith, m.ok.caps.2))) in
+    ∙ arrived_is b' 0 item p e s.what.0 near.0 (omega (arith, m.reader.room, m.reader.acked_read, m.peer_most)) within (omega (arith, near.1, m.fresh_p, m.peer_most)) m.ok.caps.3 (announced_fits B e m.ok)
+    ∙ ap (recv_view b' p) (took_in_true 0 e (omega (arith, new.0.0)) (omega (arith, m.ok.caps.2, whole))) in
     let src : pk.src ≡ 257 = s.header.src in
     let t : ℕ = max rest.last now in
     let w : ConnView = shown_in st.RfcReceived B (record (heard_rest rest now) { untold = 0 }) b b' p f in

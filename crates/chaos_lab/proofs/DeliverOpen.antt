@@ -34,6 +34,7 @@ use Rattle.chaos_conn.specs.State.{is_ended}
 use Rattle.chaos_lab.specs.Shown.{Rest, address_of, send_view, recv_view, met_view, HasHeader, StandsFor, Leaves, CarriesTold}
 use Rattle.chaos_lab.proofs.SendTie.{reads_is, counts_is}
 use Rattle.chaos_lab.proofs.ActCases.{act_other, act_rfc}
+use Rattle.chaos_lab.proofs.Ends.{announced_fits}
 use Rattle.chaos_lab.proofs.OpenEnd.{IsOpen, is_open, leaves_quiet, leaves_sts}
 use Rattle.chaos_lab.proofs.Known.{Known, other_other, took_phase, took_first, item_arrives}
 
@@ -43,7 +44,7 @@ heard_rest rest now = record rest { last = max rest.last now; heard = max rest.l
 
 -- the arrival changes the receive window alone
 took_view : (x : Side) (rest : Rest) (b b' i : ℕ) (p e : Plain) → record (met_view st.Open x rest b b' p e) { recv = recv_view b' p (take_in i e) } ≡ met_view st.Open x rest b b' p (take_in i e)
-took_view x rest b b' i p e = cond_both (leb (length e.read) i && ltb i (length e.read + e.recv_cap)) (record e { arrived = insert e.arrived i }) e (λ (f : Plain). record (met_view st.Open x rest b b' p e) { recv = recv_view b' p f } ≡ met_view st.Open x rest b b' p f) (λ _. refl) (λ _. refl)
+took_view x rest b b' i p e = cond_both (leb (length e.read) i && ltb i (length e.read + e.announced)) (record e { arrived = insert e.arrived i }) e (λ (f : Plain). record (met_view st.Open x rest b b' p e) { recv = recv_view b' p f } ≡ met_view st.Open x rest b b' p f) (λ _. refl) (λ _. refl)
 
 -- item i came, and this is what became of it
 came_leaves : (a : Arrived) (x : Side) (rest : Rest) (b b' i n : ℕ) (item : ItemView) (p e : Plain) → is_ended rest.ended ≡ true → IsOpen p (take_in i e) → a ≡ arrival_of (recv_view b' p e) n → after_arrival (recv_view b' p e) n item ≡ recv_view b' p (take_in i e) → Leaves x b b' p (take_in i e) (after_arrived (met_view st.Open x rest b b' p e) a n item)
@@ -80,7 +81,7 @@ item_leaves x rest b b' i r pk now item e p len_e len_p end m at k t tm is numbe
     subst (λ (u : ConnView × ℕ). Leaves x b b' p g (after_item_came u.0 u.1 item))
     (sym (λ j. (acked_view x rest b b' r pk now e p len_e len_p m t carries j, number j)))
     (came_leaves (arrival_of (recv_view b' p f) (num b' (suc i))) x (heard_rest rest now) b b' (suc i) (num b' (suc i)) item p f end o refl
-    (item_arrives b' (suc i) r item e p len_p m.reader m.peer_most m.ok.caps.3 k m.fresh_p is))
+    (item_arrives b' (suc i) r item e p len_p m.reader m.peer_most m.ok.caps.3 (announced_fits x e m.ok) k m.fresh_p is))
 
 pub open_item : (x : Side) (rest : Rest) (b b' i r : ℕ) (pk : PacketView) (now : ℕ) (e p : Plain) (len_e len_p : ℕ) → is_ended rest.ended ≡ true → Known x b b' e p len_e len_p → e.phase ≡ Open → KindOk (Nth (suc i)) p len_p → ToldOk (Acknowledges r) p e len_e → TellsMet (Nth (suc i)) (Acknowledges r) → StandsFor (other x) b' b p pk (Nth (suc i)) (Acknowledges r) → Leaves x b b' p (take_in (suc i) (hear (Acknowledges r) e)) (act_deliver (met_view st.Open x rest b b' p e) pk now)
 open_item x rest b b' i r pk now e p len_e len_p end m at near t tm s =

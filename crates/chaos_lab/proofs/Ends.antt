@@ -42,12 +42,28 @@ Fits Ended A w r g = (IsNew A w r × IsNone g) ⊎ HasMet w r
 Fits Ended B w r g = HasMet w r
 Fits Closed x w r g = IsNew x w r ⊎ HasMet w r
 
+-- the window that it announces is the greatest one, until it is open
+abbrev pub Announces : Phase → ℕ → ℕ → Type 0
+Announces Inactive window cap = window ≡ cap
+Announces RfcSent window cap = window ≡ cap
+Announces RfcReceived window cap = window ≡ cap
+Announces _ window cap = window ≤ cap
+
+pub announces_most : (phase : Phase) (window cap : ℕ) → Announces phase window cap → window ≤ cap
+announces_most Inactive window cap h = omega arith
+announces_most RfcSent window cap h = omega arith
+announces_most RfcReceived window cap h = omega arith
+announces_most Open window cap h = h
+announces_most Ended window cap h = h
+announces_most Closed window cap h = h
+
 pub record EndOk (x : Side) (e : PlainEnd) : Type 0 where
   pub fits : Fits e.phase x e.written e.read e.arrived
   -- what comes after item 0 tells that the peer has met this end
   pub answered : (i : ℕ) → contains e.arrived (suc i) ≡ true → 1 ≤ e.receipted
   -- before it writes, its window is as at the start
   pub calm : length e.written ≡ 0 → e.window ≡ e.send_cap
+  pub announces : Announces e.phase e.announced e.recv_cap
   pub caps : AreCaps (record { send = e.send_cap; recv = e.recv_cap })
 
 -- the end e at the side x, with its peer p
@@ -71,17 +87,24 @@ step_through x e p f g s t = record { after = t.after; grows = grows_through e f
 pub fits_at : (x : Side) (e : PlainEnd) (phase : Phase) → EndOk x e → e.phase ≡ phase → Fits phase x e.written e.read e.arrived
 fits_at x e phase o at = subst (λ ph. Fits ph x e.written e.read e.arrived) at o.fits
 
+-- the window that an end in this phase announces
+pub announces_at : (x : Side) (e : PlainEnd) (phase : Phase) → EndOk x e → e.phase ≡ phase → Announces phase e.announced e.recv_cap
+announces_at x e phase o at = subst (λ ph. Announces ph e.announced e.recv_cap) at o.announces
+
+pub announced_fits : (x : Side) (e : PlainEnd) → EndOk x e → e.announced ≤ e.recv_cap
+announced_fits x e o = announces_most e.phase e.announced e.recv_cap o.announces
+
 -- ---- the phase alone changes
 
 pub step_phase :
     (x : Side) (e p : PlainEnd) (phase : Phase) → EndHolds x e p → Fits phase x e.written e.read e.arrived →
-    EndStep x e p (record e { phase = phase })
-step_phase x e p phase h fits =
+    Announces phase e.announced e.recv_cap → EndStep x e p (record e { phase = phase })
+step_phase x e p phase h fits announces =
     record {
       after = record {
         writer = h.writer;
         reader = h.reader;
-        ok = record { fits = fits; answered = h.ok.answered; calm = h.ok.calm; caps = h.ok.caps };
+        ok = record { fits = fits; answered = h.ok.answered; calm = h.ok.calm; announces = announces; caps = h.ok.caps };
       };
       grows = let g = grows_same e in grows_by e (record e { phase = phase }) g.written g.read (λ i t. t) refl refl;
     }
@@ -101,6 +124,7 @@ step_heard (Acknowledges a) x e p len h t wrote =
           fits = h.ok.fits;
           answered = λ i u. let r = h.ok.answered i u in omega arith;
           calm = λ u. absurd (omega arith);
+          announces = h.ok.announces;
           caps = h.ok.caps;
         };
       };
@@ -115,6 +139,7 @@ step_heard (Status a r w) x e p len h t wrote =
           fits = h.ok.fits;
           answered = λ i u. let r = h.ok.answered i u in omega arith;
           calm = λ u. absurd (omega arith);
+          announces = h.ok.announces;
           caps = h.ok.caps;
         };
       };
@@ -126,21 +151,46 @@ hear_phase Nothing e = refl
 hear_phase (Acknowledges a) e = refl
 hear_phase (Status a r w) e = refl
 
+-- ---- an open end announces another window
+
+pub step_announced :
+    (x : Side) (e p : PlainEnd) (window : ℕ) → EndHolds x e p → e.phase ≡ Open → window ≤ e.recv_cap →
+    EndStep x e p (record e { announced = window })
+step_announced x e p window h is_open most =
+    record {
+      after = record {
+        writer = h.writer;
+        reader = h.reader;
+        ok = record {
+          fits = h.ok.fits;
+          answered = h.ok.answered;
+          calm = h.ok.calm;
+          announces = subst (λ ph. Announces ph window e.recv_cap) (sym is_open) most;
+          caps = h.ok.caps;
+        };
+      };
+      grows = let g = grows_same e in grows_by e (record e { announced = window }) g.written g.read (λ i t. t) refl refl;
+    }
+
 -- ---- an item comes to an open end
 
 pub step_took_in :
     (x : Side) (e p : PlainEnd) (i : ℕ) → EndHolds x e p → e.phase ≡ Open → i < length p.written → (1 ≤ i → 1 ≤ e.receipted) →
     EndStep x e p (take_in i e)
 step_took_in x e p i h is_open within told =
-    cond_both (leb (length e.read) i && ltb i (length e.read + e.recv_cap)) (record e { arrived = insert e.arrived i }) e (EndStep x e p)
-    (λ t. record {
+    cond_both (leb (length e.read) i && ltb i (length e.read + e.announced)) (record e { arrived = insert e.arrived i }) e (EndStep x e p)
+    (λ t.
+    let most = announced_fits x e h.ok in
+    let inside : i < length e.read + e.announced = ltb-true i (length e.read + e.announced) (and_parts (leb (length e.read) i) (ltb i (length e.read + e.announced)) t).1 in
+    record {
       after = record {
         writer = h.writer;
-        reader = sound_arrived p e i h.reader within (ltb-true i (length e.read + e.recv_cap) (and_parts _ _ t).1);
+        reader = sound_arrived p e i h.reader within (omega arith);
         ok = record {
           fits = subst (λ ph. Fits ph x e.written e.read (insert e.arrived i)) (sym is_open) (fits_at x e Open h.ok is_open);
           answered = λ j t. ⊎_elim (λ (u : suc j ≡ i). told (omega arith)) (h.ok.answered j) (contains-insert_cases i e.arrived (suc j) t);
           calm = h.ok.calm;
+          announces = h.ok.announces;
           caps = h.ok.caps;
         };
       };
@@ -169,7 +219,7 @@ step_read x e p item h fits here is =
           window_cap = d.window_cap;
         };
         reader = sound_read p e item h.reader here is;
-        ok = record { fits = fits; answered = h.ok.answered; calm = h.ok.calm; caps = h.ok.caps };
+        ok = record { fits = fits; answered = h.ok.answered; calm = h.ok.calm; announces = h.ok.announces; caps = h.ok.caps };
       };
       grows = grows_read e item;
     }
@@ -183,7 +233,7 @@ step_written x e p item h fits room =
       after = record {
         writer = sound_written e p item h.writer room;
         reader = h.reader;
-        ok = record { fits = fits; answered = h.ok.answered; calm = λ t. absurd (omega arith); caps = h.ok.caps };
+        ok = record { fits = fits; answered = h.ok.answered; calm = λ t. absurd (omega arith); announces = h.ok.announces; caps = h.ok.caps };
       };
       grows = grows_written e item;
     }

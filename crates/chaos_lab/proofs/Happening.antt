@@ -4,7 +4,7 @@ use Rattle.std.specs.Prelude.{slice_get}
 use Rattle.std.proofs.lemmas.Bool.{cond_both}
 use Rattle.chaos_conn.specs.declared.fault.ConnFault.{ConnFault}
 use Rattle.chaos_conn.specs.Act.{Call, act}
-use Rattle.chaos_conn.specs.Act.Call.{Accept, Write, Read, Close, Tick}
+use Rattle.chaos_conn.specs.Act.Call.{Accept, Write, Read, Announce, Close, Tick}
 use Rattle.chaos_lab.specs.declared.side.Side.{Side}
 use Rattle.chaos_lab.specs.declared.side.Side.TheVariants.{B}
 use Rattle.chaos_lab.specs.declared.stamped.Stamped.{Stamped}
@@ -13,7 +13,7 @@ use Rattle.chaos_lab.specs.declared.fault.LabFault.{LabFault}
 use Rattle.chaos_lab.specs.declared.fault.LabFault.TheVariants as fault
 use Rattle.chaos_lab.specs.Machine.{other}
 use Rattle.chaos_lab.specs.Laboratory.{LabView, Happening, Done, Happens, happen, after_all, call_effect, call_at, delivery_effect, delivery, is_fresh, refusal, refusal_of, lab_end}
-use Rattle.chaos_lab.specs.Laboratory.Happening.{WriteBy, ReadBy, TickOf, CloseBy, AcceptFrom, DeliverCopy}
+use Rattle.chaos_lab.specs.Laboratory.Happening.{WriteBy, ReadBy, AnnounceBy, TickOf, CloseBy, AcceptFrom, DeliverCopy}
 
 -- one event more
 pub after_more : (l : LabView) (events : List Happening) (i : ℕ) (event : Happening) → slice_get events i ≡ Some event → after_all l (take (suc i) events) ≡ (happen (after_all l (take i events)) event).lab
@@ -46,6 +46,7 @@ no_memory_copy l (Some s) h =
 pub no_memory : (l : LabView) (event : Happening) → (happen l event).answer ≡ Err fault.NoMemory → ⊥
 no_memory l (WriteBy x op bytes) = no_memory_at l x (Write op bytes l.clock)
 no_memory l (ReadBy x) = no_memory_at l x Read
+no_memory l (AnnounceBy x window) = no_memory_at l x (Announce window)
 no_memory l (TickOf x now) = no_memory_at l x (Tick now)
 no_memory l (CloseBy x text) = no_memory_at l x (Close text)
 no_memory l (AcceptFrom start) = no_memory_at l B (Accept start l.clock)

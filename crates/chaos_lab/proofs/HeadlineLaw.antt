@@ -34,7 +34,8 @@ use Rattle.chaos_lab.specs.Headline.{len_at, IsCopyOf, ComesInside, Unclosed, Re
 use Rattle.chaos_lab.proofs.Copies.{KindOk, len_of}
 use Rattle.chaos_lab.proofs.Calls.{last_item}
 use Rattle.chaos_lab.proofs.Lists.{length-one_more}
-use Rattle.chaos_lab.proofs.Machines.{Holds, copy_at, reached_holds}
+use Rattle.chaos_lab.proofs.Machines.{Holds, copy_at, reached_holds, end_holds}
+use Rattle.chaos_lab.proofs.OpenEnd.{is_open, open_is}
 use Rattle.chaos_lab.proofs.DeliveryLaw.{beginning, in_turn}
 use Rattle.chaos_lab.proofs.StartTie.{tied_start}
 use Rattle.chaos_lab.proofs.OnSide.{Outcome, Refuses, Steps, Stepped, conn_at, stands_at, written_at, read_at}
@@ -88,19 +89,15 @@ open_by Open x rest b b' p e end h = refl
 open_by Ended x rest b b' p e end h = absurd (false≢true (sym (ap is_ended h) ∙ end))
 open_by Closed x rest b b' p e end h = let no : st.Inactive ≡ st.Open = h in absurd (cc)
 
-cap_by : (phase : Phase) (x : Side) (rest : Rest) (b b' : ℕ) (p e : Plain) → (shown_at phase x rest b b' p e).config.recv_cap ≡ e.recv_cap
-cap_by Inactive x rest b b' p e = refl
-cap_by RfcSent x rest b b' p e = refl
-cap_by RfcReceived x rest b b' p e = refl
-cap_by Open x rest b b' p e = refl
-cap_by Ended x rest b b' p e = refl
-cap_by Closed x rest b b' p e = refl
-
 open_at : (x : Side) (w : Machine) (l : LabView) → Ties w l → (conn_at l x).state ≡ st.Open → (end_of w x).phase ≡ Open
 open_at x w l t h = let s = stands_at x w l t in open_by (end_of w x).phase x s.0 _ _ (end_of w (other x)) (end_of w x) s.1 (sym (ap (λ v. v.state) s.2) ∙ h)
 
-cap_at : (x : Side) (w : Machine) (l : LabView) → Ties w l → (conn_at l x).config.recv_cap ≡ (end_of w x).recv_cap
-cap_at x w l t = let s = stands_at x w l t in ap (λ v. v.config.recv_cap) s.2 ∙ cap_by (end_of w x).phase x s.0 _ _ (end_of w (other x)) (end_of w x)
+-- and it announces what its connection does
+window_at : (x : Side) (w : Machine) (l : LabView) → Ties w l → (end_of w x).phase ≡ Open → (conn_at l x).recv.window ≡ (end_of w x).announced
+window_at x w l t is =
+    let s = stands_at x w l t in
+    let h = end_holds w x (reached_holds w t.tied.reached) in
+    ap (λ v. v.recv.window) (s.2 ∙ open_is x s.0 _ _ (end_of w (other x)) (end_of w x) (is_open x (end_of w (other x)) (end_of w x) is h.ok h.reader))
 
 -- ---- the copy's index
 
@@ -229,7 +226,7 @@ inside_of w l n s i t c is k =
     let d = copy_known w l n s t c.sent c.fresh in
     let y : Side = other s.side in
     let read : length (lab_end l y).read ≡ length (end_of w y).read = ap length (read_at y w l t) in
-    let cap : (conn_at l y).config.recv_cap ≡ (end_of w y).recv_cap = cap_at y w l t in
+    let window : (conn_at l y).recv.window ≡ (end_of w y).announced = window_at y w l t is in
     record {
       number = n;
       copy = d.0;
@@ -237,7 +234,7 @@ inside_of w l n s i t c is k =
       sender = sym d.1;
       kind = kind_at s.side w l n s i d.0 t (sym d.1) d.2 c.of_item;
       open_end = is;
-      inside = omega (arith, c.inside, read, cap);
+      inside = omega (arith, c.inside, read, window);
       step = k.step;
     }
 

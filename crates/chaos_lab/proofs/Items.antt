@@ -38,7 +38,7 @@ same_read None e = (refl, refl)
 same_read (Some item) e = (refl, refl)
 
 same_took : (i : ℕ) (e f : Plain) → Same e f → Same e (take_in i f)
-same_took i e f s = cond_both (leb (length f.read) i && ltb i (length f.read + f.recv_cap)) (record f { arrived = insert f.arrived i }) f (Same e) (λ _. s) (λ _. s)
+same_took i e f s = cond_both (leb (length f.read) i && ltb i (length f.read + f.announced)) (record f { arrived = insert f.arrived i }) f (Same e) (λ _. s) (λ _. s)
 
 same_heard : (told : Told) (e f : Plain) → Same e f → Same e (hear told f)
 same_heard told e f s = (heard_written told f ∙ s.0, heard_cap told f ∙ s.1)
@@ -109,10 +109,10 @@ heard_phase (Acknowledges r) e = refl
 heard_phase (Status r f w) e = refl
 
 took_read : (i : ℕ) (e : Plain) → (take_in i e).read ≡ e.read
-took_read i e = cond_both (leb (length e.read) i && ltb i (length e.read + e.recv_cap)) (record e { arrived = insert e.arrived i }) e (λ (f : Plain). f.read ≡ e.read) (λ _. refl) (λ _. refl)
+took_read i e = cond_both (leb (length e.read) i && ltb i (length e.read + e.announced)) (record e { arrived = insert e.arrived i }) e (λ (f : Plain). f.read ≡ e.read) (λ _. refl) (λ _. refl)
 
 took_phase : (i : ℕ) (e : Plain) → (take_in i e).phase ≡ e.phase
-took_phase i e = cond_both (leb (length e.read) i && ltb i (length e.read + e.recv_cap)) (record e { arrived = insert e.arrived i }) e (λ (f : Plain). f.phase ≡ e.phase) (λ _. refl) (λ _. refl)
+took_phase i e = cond_both (leb (length e.read) i && ltb i (length e.read + e.announced)) (record e { arrived = insert e.arrived i }) e (λ (f : Plain). f.phase ≡ e.phase) (λ _. refl) (λ _. refl)
 
 -- only an OPN that opens the end is read
 pub reads_by_opening : (phase : Phase) (kind : Kind) (told : Told) (p e : Plain) → (phase ≡ RfcSent → kind ≡ Nth 0 → ⊥) → (received phase kind told p e).read ≡ e.read

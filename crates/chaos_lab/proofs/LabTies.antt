@@ -6,7 +6,7 @@ use Rattle.chaos_packet.specs.Opcode.{kind_of, is_rfc}
 use Rattle.chaos_packet.specs.declared.opcode.Kind.TheVariants as k
 use Rattle.chaos_packet.specs.Packet.{PacketView}
 use Rattle.chaos_conn.specs.Act.{Call}
-use Rattle.chaos_conn.specs.Act.Call.{TakeRequest, Accept, Write, Read, Close, Tick, Deliver as DeliverPacket}
+use Rattle.chaos_conn.specs.Act.Call.{TakeRequest, Accept, Write, Read, Announce, Close, Tick, Deliver as DeliverPacket}
 use Rattle.chaos_lab.specs.declared.side.Side.{Side}
 use Rattle.chaos_lab.specs.declared.side.Side.TheVariants.{A, B}
 use Rattle.chaos_lab.specs.declared.stamped.Stamped.{Stamped as Sent}
@@ -17,13 +17,13 @@ use Rattle.chaos_lab.specs.declared.fault.LabFault.TheVariants as fault
 use Rattle.chaos_lab.specs.Machine.{PlainEnd as Plain, Kind, Copy, Machine, other}
 use Rattle.chaos_lab.specs.Machine.Phase.{Inactive}
 use Rattle.chaos_lab.specs.Machine.Kind.{Nth, Sns, Sts, Cls}
-use Rattle.chaos_lab.specs.Machine.Event.{WriteAt, ReadAt, TickAt, CloseAt, Deliver}
+use Rattle.chaos_lab.specs.Machine.Event.{WriteAt, ReadAt, ResizeAt, TickAt, CloseAt, Deliver}
 use Rattle.chaos_lab.specs.Shown.{place_of, is_a, HasItems, IsWhat}
 use Rattle.chaos_lab.specs.Laboratory.{LabView, Happening, Done, happen, delivery_effect, delivery, is_fresh, is_request, call_at, call_effect, refusal}
-use Rattle.chaos_lab.specs.Laboratory.Happening.{WriteBy, ReadBy, TickOf, CloseBy, AcceptFrom, DeliverCopy}
+use Rattle.chaos_lab.specs.Laboratory.Happening.{WriteBy, ReadBy, AnnounceBy, TickOf, CloseBy, AcceptFrom, DeliverCopy}
 use Rattle.chaos_lab.specs.Tied.{Ties, plain_event}
 use Rattle.chaos_lab.proofs.OnSide.{Outcome, Refuses, settle, refusal_at}
-use Rattle.chaos_lab.proofs.UserTies.{read_ties, write_ties, tick_ties, close_ties, accept_ties}
+use Rattle.chaos_lab.proofs.UserTies.{read_ties, write_ties, resize_ties, tick_ties, close_ties, accept_ties}
 use Rattle.chaos_lab.proofs.CopyTies.{CopyKnown, copy_known, comes_to_a, comes_to_b, takes_by_b}
 
 -- ---- a copy for B: the RFC asks it, where it took no request yet
@@ -95,6 +95,7 @@ copy_ties w l n (Some s) at t =
 pub event_ties : (w : Machine) (l : LabView) (event : Happening) → Ties w l → Outcome w (plain_event l event) l (happen l event)
 event_ties w l (WriteBy x op bytes) t = settle x w l (Write op bytes l.clock) (WriteAt x (record { op = op; body = bytes })) (write_ties x w l op bytes l.clock t)
 event_ties w l (ReadBy x) t = settle x w l Read (ReadAt x) (inr (read_ties x w l t))
+event_ties w l (AnnounceBy x window) t = settle x w l (Announce window) (ResizeAt x window) (resize_ties x w l window t)
 event_ties w l (TickOf x now) t = settle x w l (Tick now) (TickAt x) (inr (tick_ties x w l now t))
 event_ties w l (CloseBy x text) t = settle x w l (Close text) (CloseAt x) (close_ties x w l text t)
 event_ties w l (AcceptFrom start) t = settle B w l (Accept start l.clock) _ (accept_ties w l start l.clock t)
@@ -119,6 +120,7 @@ copy_answers l (Some s) =
 pub ok_or_refused : (l : LabView) (event : Happening) → Answered l (happen l event)
 ok_or_refused l (WriteBy x op bytes) = called_answers l x (Write op bytes l.clock) (refusal_at l x (Write op bytes l.clock))
 ok_or_refused l (ReadBy x) = called_answers l x Read (refusal_at l x Read)
+ok_or_refused l (AnnounceBy x window) = called_answers l x (Announce window) (refusal_at l x (Announce window))
 ok_or_refused l (TickOf x now) = called_answers l x (Tick now) (refusal_at l x (Tick now))
 ok_or_refused l (CloseBy x text) = called_answers l x (Close text) (refusal_at l x (Close text))
 ok_or_refused l (AcceptFrom start) = called_answers l B (Accept start l.clock) (refusal_at l B (Accept start l.clock))

@@ -10,16 +10,16 @@ use Rattle.std.specs.FinSet.{empty, contains, contains-empty}
 use Rattle.chaos_lab.specs.declared.side.Side.{Side}
 use Rattle.chaos_lab.specs.declared.side.Side.TheVariants.{A, B}
 use Rattle.chaos_packet.specs.Item.{ItemView}
-use Rattle.chaos_lab.specs.Machine.{PlainEnd, Phase, Copy, Machine, Event, Schedule, Caps, AreCaps, other, end_of, with_end, IsSent, Row, Accept, Write, Read, Close, Tick, Comes, Becomes, Moves, Step, Run, new_end, start, Reached}
+use Rattle.chaos_lab.specs.Machine.{PlainEnd, Phase, Copy, Machine, Event, Schedule, Caps, AreCaps, other, end_of, with_end, IsSent, Row, Accept, Write, Read, Resize, Close, Tick, Comes, Becomes, Moves, Step, Run, new_end, start, Reached}
 use Rattle.chaos_lab.specs.Machine.Told.{Nothing}
 use Rattle.chaos_lab.specs.Machine.Kind.{Nth}
 use Rattle.chaos_lab.specs.Machine.Phase.{Inactive, RfcSent}
-use Rattle.chaos_lab.specs.Machine.Event.{AcceptAt, WriteAt, ReadAt, TickAt, CloseAt, Deliver}
+use Rattle.chaos_lab.specs.Machine.Event.{AcceptAt, WriteAt, ReadAt, ResizeAt, TickAt, CloseAt, Deliver}
 use Rattle.chaos_lab.proofs.Directions.{Sound}
 use Rattle.chaos_lab.proofs.Grows.{Grows, grows_same, grows_through}
 use Rattle.chaos_lab.proofs.Copies.{CopyOk, IsCopyOk, len_of, copy_later}
 use Rattle.chaos_lab.proofs.Ends.{EndOk, EndHolds, EndStep}
-use Rattle.chaos_lab.proofs.Rows.{or_nothing, row_accept, row_write, row_read, row_tick, row_close, row_comes}
+use Rattle.chaos_lab.proofs.Rows.{or_nothing, row_accept, row_write, row_read, row_resize, row_tick, row_close, row_comes}
 use Rattle.chaos_lab.proofs.Sent.{copy_sent}
 
 pub record Holds (m : Machine) : Type 0 where
@@ -151,6 +151,8 @@ step_goes m (AcceptAt x opn) n h s =
 step_goes m (WriteAt x item) n h s =
     moves_goes (Write item) m x n h (λ f r. row_write item x (end_of m x) (end_of m (other x)) f (end_holds m x h) r) s
 step_goes m (ReadAt x) n h s = moves_goes Read m x n h (λ f r. row_read x (end_of m x) (end_of m (other x)) f (end_holds m x h) r) s
+step_goes m (ResizeAt x window) n h s =
+    moves_goes (Resize window) m x n h (λ f r. row_resize window x (end_of m x) (end_of m (other x)) f (end_holds m x h) r) s
 step_goes m (TickAt x) n h s = moves_goes Tick m x n h (λ f r. row_tick x (end_of m x) (end_of m (other x)) f (end_holds m x h) r) s
 step_goes m (CloseAt x) n h s =
     moves_goes Close m x n h (λ f r. row_close x (end_of m x) (end_of m (other x)) f (end_holds m x h) r) s
@@ -190,8 +192,8 @@ start_holds a b rfc ha hb =
     record {
       ab = start_sound RfcSent Inactive (rfc ∷ []) [] a b (omega (arith, ha.0));
       ba = start_sound Inactive RfcSent [] (rfc ∷ []) b a (omega arith);
-      a = record { fits = ((refl, refl), none_arrived); answered = λ i h. absurd (none_arrived (suc i) h); calm = λ t. refl; caps = ha };
-      b = record { fits = ((refl, refl), none_arrived); answered = λ i h. absurd (none_arrived (suc i) h); calm = λ t. refl; caps = hb };
+      a = record { fits = ((refl, refl), none_arrived); answered = λ i h. absurd (none_arrived (suc i) h); calm = λ t. refl; announces = refl; caps = ha };
+      b = record { fits = ((refl, refl), none_arrived); answered = λ i h. absurd (none_arrived (suc i) h); calm = λ t. refl; announces = refl; caps = hb };
       copies =
           All-push (IsCopyOk (start a b rfc)) [] (record { sender = A; kind = Nth 0; told = Nothing; len_a = 1; len_b = 0 })
           (All-nil (IsCopyOk (start a b rfc)))

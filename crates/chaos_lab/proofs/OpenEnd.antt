@@ -60,14 +60,14 @@ sts_put state x rest b b' p e d read =
     let first = first_missing p e d in
     record {
       kind = Sts;
-      told = Status (length e.read) first.0 e.recv_cap;
+      told = Status (length e.read) first.0 e.announced;
       may = tt;
       met = λ _. inr read;
       tells = (first.0, first.1, refl);
       stands = record {
         header = record { dst = refl; dst_index = refl; src = refl; src_index = refl };
         what = (refl, refl);
-        tells = (refl, status_of_words (receipt_of (recv_view b' p e)) e.recv_cap ∙ (λ i. Some (receipt_is b' first.0 p e d first.1 i, e.recv_cap)));
+        tells = (refl, status_of_words (receipt_of (recv_view b' p e)) e.announced ∙ (λ i. Some (receipt_is b' first.0 p e d first.1 i, e.announced)));
       };
     }
 

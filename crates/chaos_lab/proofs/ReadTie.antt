@@ -70,7 +70,7 @@ open_read x rest b b' e p end at back ok (Some item) is =
     let read : record (met_view st.Open x rest' b b' p e) { recv = after_advance (recv_view b' p e) } ≡ met_view st.Open x rest' b b' p f =
     λ j. record (met_view st.Open x rest' b b' p e) { recv = advanced_is b' item p e ok.caps.2 back.inside is j } in
     subst (λ v. ReadLeaves x b b' p e f (read_open v item)) (sym read)
-    (cond_both (leb e.recv_cap (3 * rest'.untold)) (with_sts (met_view st.Open x rest' b b' p f) (re.Item item)) (quietly (met_view st.Open x rest' b b' p f) (re.Item item)) (ReadLeaves x b b' p e f)
+    (cond_both (leb e.announced (3 * rest'.untold)) (with_sts (met_view st.Open x rest' b b' p f) (re.Item item)) (quietly (met_view st.Open x rest' b b' p f) (re.Item item)) (ReadLeaves x b b' p e f)
     (λ _. (leaves_sts (re.Item item) x rest' b b' p f end o, refl))
     (λ _. (leaves_quiet (re.Item item) x rest' b b' p f end o, refl)))
 

@@ -8,9 +8,9 @@ use Rattle.std.proofs.lemmas.Bool.{cond_both, false≢true}
 use Rattle.chaos_lab.specs.declared.side.Side.{Side}
 use Rattle.chaos_lab.specs.declared.side.Side.TheVariants.{A, B}
 use Rattle.chaos_packet.specs.Item.{ItemView}
-use Rattle.chaos_lab.specs.Machine.{PlainEnd, Phase, Copy, Machine, Event, Schedule, other, end_of, hear, take_in, read_item, read_next, Row, Accept, Write, Read, Close, Tick, End, Comes, OrNothing, Becomes, Moves, Step, Run}
+use Rattle.chaos_lab.specs.Machine.{PlainEnd, Phase, Copy, Machine, Event, Schedule, other, end_of, hear, take_in, read_item, read_next, Row, Accept, Write, Read, Resize, Close, Tick, End, Comes, OrNothing, Becomes, Moves, Step, Run}
 use Rattle.chaos_lab.specs.Machine.Phase.{Inactive, Open, Ended}
-use Rattle.chaos_lab.specs.Machine.Event.{AcceptAt, WriteAt, ReadAt, TickAt, CloseAt, Deliver}
+use Rattle.chaos_lab.specs.Machine.Event.{AcceptAt, WriteAt, ReadAt, ResizeAt, TickAt, CloseAt, Deliver}
 use Rattle.chaos_lab.specs.Law.{ReadsNext}
 use Rattle.chaos_lab.proofs.Lists.{member_at}
 use Rattle.chaos_lab.proofs.Directions.{Sound}
@@ -40,6 +40,9 @@ write_stays item p e f r may = subst (λ (g : PlainEnd). CanRead g.phase) (sym r
 read_stays : (p e f : PlainEnd) → Read p e f → CanRead e.phase → CanRead f.phase
 read_stays p e f r may =
     subst (λ (g : PlainEnd). CanRead g.phase) (sym r.2) (subst CanRead (sym (read_item_phase (slice_get p.written (length e.read)) e)) may)
+
+resize_stays : (window : ℕ) (p e f : PlainEnd) → Resize window p e f → CanRead f.phase
+resize_stays window p e f r = subst (λ (g : PlainEnd). CanRead g.phase) (sym r.2) (inl r.0)
 
 accept_stays : (opn : ItemView) (p e f : PlainEnd) → Accept opn p e f → CanRead f.phase
 accept_stays opn p e f r = subst (λ (g : PlainEnd). CanRead g.phase) (sym r.1) (inl refl)
@@ -94,6 +97,8 @@ step_stays m (WriteAt y item) n x s unclosed may =
     moves_stays (Write item) m x y n s (λ _ f r t. write_stays item (end_of m (other y)) (end_of m y) f r t) may
 step_stays m (ReadAt y) n x s unclosed may =
     moves_stays Read m x y n s (λ _ f r t. read_stays (end_of m (other y)) (end_of m y) f r t) may
+step_stays m (ResizeAt y window) n x s unclosed may =
+    moves_stays (Resize window) m x y n s (λ _ f r _. resize_stays window (end_of m (other y)) (end_of m y) f r) may
 step_stays m (TickAt y) n x s unclosed may =
     moves_stays Tick m x y n s (λ _ f r t. tick_stays (end_of m (other y)) (end_of m y) f r t) may
 step_stays m (CloseAt y) n x s unclosed may =

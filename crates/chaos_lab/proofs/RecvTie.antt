@@ -1,12 +1,13 @@
 -- What arrives and is read, against the receive window.
-use Rattle.std.proofs.Common.{◌≡◌, ℕ, zero, suc, ◌+◌, ◌-◌, ◌<◌, ◌≤◌, length, drop, set, replicate, refl, sym, ap, ◌∙◌, subst, ⊎_elim, true, false, ◌&&◌, cond, leb, ltb, Option, Some, None, [], ◌∷◌, ◌++◌, arith, rules}
+use Rattle.std.proofs.Common.{◌≡◌, ℕ, zero, suc, ◌+◌, ◌-◌, ◌<◌, ◌≤◌, length, drop, set, replicate, refl, sym, ap, ◌∙◌, subst, ⊎_elim, true, false, ◌&&◌, cond, leb, Option, Some, None, [], ◌∷◌, ◌++◌, arith, rules}
 use Rattle.std.proofs.lemmas.Bool.{cond_both, cases_Bool, false_from_ne_true, false≢true, cond-true, cond-false, le-leb, lt-leb, lt-ltb, le-ltb, and_from, and_left, and_right, cases_lt, ne_eqb}
-use Rattle.std.specs.Prelude.{slice_get, is_some, is_none, unwrap_or}
+use Rattle.std.specs.Prelude.{slice_get, is_some, unwrap_or}
 use Rattle.std.specs.List.{prefix_len}
 use Rattle.std.specs.Ordering.{nat_cmp}
 use Rattle.std.specs.Cmp.{nat_cmp_total}
 use Rattle.std.specs.FinSet.{FinSet, contains, insert, same_set, nat_cmp-IsAntisymmetric, members}
 use Rattle.chaos_lab.specs.Machine.{PlainEnd as Plain}
+use Rattle.chaos_window.specs.declared.arrival.Arrived.{Arrived}
 use Rattle.chaos_window.specs.declared.arrival.Arrived.TheVariants.{Took, Duplicate, Outside}
 use Rattle.chaos_packet.specs.Number.{num, off}
 use Rattle.chaos_lab.specs.Numbers.{told_num}
@@ -15,7 +16,7 @@ use Rattle.chaos_lab.proofs.Directions.{Sound}
 use Rattle.chaos_lab.proofs.Lists.{contains-insert_cases, contains-insert_keeps, contains-insert_same, length-one_more, member_at}
 use Rattle.chaos_packet.specs.Item.{ItemView}
 use Rattle.chaos_window.specs.Slots.{with_item_at}
-use Rattle.chaos_window.specs.Receive.{ReceiveView, item_at, after_answer, after_arrival, after_advance, after_reading, receipt_of}
+use Rattle.chaos_window.specs.Receive.{ReceiveView, item_at, is_held, is_within, is_past, after_answer, after_arrival, after_advance, after_reading, receipt_of}
 use Rattle.chaos_lab.specs.Shown.{recv_view, there_at, slots_from}
 
 -- ---- the indices that arrived
@@ -33,14 +34,14 @@ joined_there i g h =
 pub not_joined : (i : ℕ) (g : FinSet nat_cmp) (q : ℕ) → (q ≡ i → ⊥) → contains g q ≡ contains (insert g i) q
 not_joined i g q apart = grind (members, rules)
 
-pub took_in_true : (i : ℕ) (e : Plain) → length e.read ≤ i → i < length e.read + e.recv_cap → take_in i e ≡ record e { arrived = insert e.arrived i }
-took_in_true i e h l = cond-true _ _ _ (and_from _ _ (le-leb (length e.read) i h) (lt-ltb i (length e.read + e.recv_cap) l))
+pub took_in_true : (i : ℕ) (e : Plain) → length e.read ≤ i → i < length e.read + e.announced → take_in i e ≡ record e { arrived = insert e.arrived i }
+took_in_true i e h l = cond-true _ _ _ (and_from _ _ (le-leb (length e.read) i h) (lt-ltb i (length e.read + e.announced) l))
 
 pub took_in_before : (i : ℕ) (e : Plain) → i < length e.read → take_in i e ≡ e
 took_in_before i e h = cond-false _ _ _ (and_left _ _ (lt-leb (length e.read) i h))
 
-pub took_in_past : (i : ℕ) (e : Plain) → length e.read + e.recv_cap ≤ i → take_in i e ≡ e
-took_in_past i e h = cond-false _ _ _ (and_right _ _ (le-ltb i (length e.read + e.recv_cap) h))
+pub took_in_past : (i : ℕ) (e : Plain) → length e.read + e.announced ≤ i → take_in i e ≡ e
+took_in_past i e h = cond-false _ _ _ (and_right _ _ (le-ltb i (length e.read + e.announced) h))
 
 -- ---- the slots
 
@@ -121,19 +122,26 @@ item_is b p e k h =
     ∙ ap (λ j. unwrap_or (slice_get (slots_from p e (length e.read) e.recv_cap) j) None) less
     ∙ ap (λ o. unwrap_or o None) (slots_at p e (length e.read) e.recv_cap k h)
 
-arrived_out : (v : ReceiveView) (n : ℕ) (item : ItemView) → (leb 1 (off n v.read) && leb (off n v.read) v.cap) ≡ false → after_arrival v n item ≡ v
+-- what becomes of an item that isn't held
+abbrev unheld : ReceiveView → ℕ → Arrived
+unheld v d = cond (is_within v d) Took (cond (is_past v d) Outside Duplicate)
+
+arrived_out : (v : ReceiveView) (n : ℕ) (item : ItemView) → is_within v (off n v.read) ≡ false → after_arrival v n item ≡ v
 arrived_out v n item out =
-    ap (λ a. after_answer a v (off n v.read) item) (cond-false ((leb 1 (off n v.read) && leb (off n v.read) v.cap) && is_none (item_at v (off n v.read))) Took (cond (ltb v.cap (off n v.read) && ltb (off n v.read) 32768) Outside Duplicate) (and_left _ _ out))
-    ∙ cond_both (ltb v.cap (off n v.read) && ltb (off n v.read) 32768) Outside Duplicate (λ a. after_answer a v (off n v.read) item ≡ v) (λ _. refl) (λ _. refl)
+    let same : Arrived → Type 0 = λ a. after_answer a v (off n v.read) item ≡ v in
+    cond_both (is_held v (off n v.read)) Duplicate (unheld v (off n v.read)) same
+    (λ _. refl)
+    (λ _. subst same (sym (cond-false (is_within v (off n v.read)) Took (cond (is_past v (off n v.read)) Outside Duplicate) out))
+    (cond_both (is_past v (off n v.read)) Outside Duplicate same (λ _. refl) (λ _. refl)))
 
-arrived_held : (v : ReceiveView) (n : ℕ) (item : ItemView) → (leb 1 (off n v.read) && leb (off n v.read) v.cap) ≡ true → is_none (item_at v (off n v.read)) ≡ false → after_arrival v n item ≡ v
-arrived_held v n item inside full =
-    ap (λ a. after_answer a v (off n v.read) item) (cond-false ((leb 1 (off n v.read) && leb (off n v.read) v.cap) && is_none (item_at v (off n v.read))) Took (cond (ltb v.cap (off n v.read) && ltb (off n v.read) 32768) Outside Duplicate) (and_right _ _ full))
-    ∙ cond_both (ltb v.cap (off n v.read) && ltb (off n v.read) 32768) Outside Duplicate (λ a. after_answer a v (off n v.read) item ≡ v) (λ _. refl) (λ _. refl)
+arrived_held : (v : ReceiveView) (n : ℕ) (item : ItemView) → is_held v (off n v.read) ≡ true → after_arrival v n item ≡ v
+arrived_held v n item full = ap (λ a. after_answer a v (off n v.read) item) (cond-true (is_held v (off n v.read)) Duplicate (unheld v (off n v.read)) full)
 
-arrived_took : (v : ReceiveView) (n : ℕ) (item : ItemView) → (leb 1 (off n v.read) && leb (off n v.read) v.cap) ≡ true → is_none (item_at v (off n v.read)) ≡ true → after_arrival v n item ≡ record v { held = with_item_at v.held (off n v.read) item }
+arrived_took : (v : ReceiveView) (n : ℕ) (item : ItemView) → is_within v (off n v.read) ≡ true → is_held v (off n v.read) ≡ false → after_arrival v n item ≡ record v { held = with_item_at v.held (off n v.read) item }
 arrived_took v n item inside free =
-    ap (λ a. after_answer a v (off n v.read) item) (cond-true ((leb 1 (off n v.read) && leb (off n v.read) v.cap) && is_none (item_at v (off n v.read))) Took (cond (ltb v.cap (off n v.read) && ltb (off n v.read) 32768) Outside Duplicate) (and_from _ _ inside free))
+    ap (λ a. after_answer a v (off n v.read) item)
+    (cond-false (is_held v (off n v.read)) Duplicate (unheld v (off n v.read)) free
+    ∙ cond-true (is_within v (off n v.read)) Took (cond (is_past v (off n v.read)) Outside Duplicate) inside)
 
 there_true : (p e : Plain) (i : ℕ) → contains e.arrived i ≡ true → there_at p e i ≡ slice_get p.written i
 there_true p e i h = cond-true _ _ _ h
@@ -141,8 +149,8 @@ there_true p e i h = cond-true _ _ _ h
 there_false : (p e : Plain) (i : ℕ) → contains e.arrived i ≡ false → there_at p e i ≡ None
 there_false p e i h = cond-false _ _ _ h
 
-pub arrived_is : (b i : ℕ) (item : ItemView) (p e : Plain) → slice_get p.written i ≡ Some item → i < length p.written → length p.written ≤ length e.read + 64 → length e.read ≤ length p.written → length p.written < i + 32704 → e.recv_cap ≤ 64 → after_arrival (recv_view b p e) (num b i) item ≡ recv_view b p (take_in i e)
-arrived_is b i item p e at within room order near most =
+pub arrived_is : (b i : ℕ) (item : ItemView) (p e : Plain) → slice_get p.written i ≡ Some item → i < length p.written → length p.written ≤ length e.read + 64 → length e.read ≤ length p.written → length p.written < i + 32704 → e.recv_cap ≤ 64 → e.announced ≤ e.recv_cap → after_arrival (recv_view b p e) (num b i) item ≡ recv_view b p (take_in i e)
+arrived_is b i item p e at within room order near most fits =
     ⊎_elim before from (cases_lt i (length e.read))
   where
     before : i < length e.read → after_arrival (recv_view b p e) (num b i) item ≡ recv_view b p (take_in i e)
@@ -150,7 +158,7 @@ arrived_is b i item p e at within room order near most =
         arrived_out (recv_view b p e) (num b i) item
         (⊎_elim
         (λ (t : i + 1 ≡ length e.read). and_left _ _ (lt-leb 1 (off (num b i) (told_num b (length e.read))) (omega arith)))
-        (λ (t : i + 1 < length e.read). and_right _ _ (lt-leb (off (num b i) (told_num b (length e.read))) e.recv_cap (omega arith)))
+        (λ (t : i + 1 < length e.read). and_right _ _ (lt-leb (off (num b i) (told_num b (length e.read))) e.announced (omega arith)))
         (grind arith))
         ∙ sym (ap (recv_view b p) (took_in_before i e h))
 
@@ -158,27 +166,27 @@ arrived_is b i item p e at within room order near most =
     from h =
         let far : off (num b i) (told_num b (length e.read)) ≡ suc (i - length e.read) = omega arith in
         ⊎_elim
-        (λ (t : i < length e.read + e.recv_cap). inside t far)
-        (λ (t : length e.read + e.recv_cap ≤ i).
-        arrived_out (recv_view b p e) (num b i) item (and_right _ _ (lt-leb (off (num b i) (told_num b (length e.read))) e.recv_cap (omega arith)))
+        (λ (t : i < length e.read + e.announced). inside t far)
+        (λ (t : length e.read + e.announced ≤ i).
+        arrived_out (recv_view b p e) (num b i) item (and_right _ _ (lt-leb (off (num b i) (told_num b (length e.read))) e.announced (omega arith)))
         ∙ sym (ap (recv_view b p) (took_in_past i e t)))
-        (cases_lt i (length e.read + e.recv_cap))
+        (cases_lt i (length e.read + e.announced))
       where
-        inside : i < length e.read + e.recv_cap → off (num b i) (told_num b (length e.read)) ≡ suc (i - length e.read) → after_arrival (recv_view b p e) (num b i) item ≡ recv_view b p (take_in i e)
+        inside : i < length e.read + e.announced → off (num b i) (told_num b (length e.read)) ≡ suc (i - length e.read) → after_arrival (recv_view b p e) (num b i) item ≡ recv_view b p (take_in i e)
         inside t far =
-            let test : (leb 1 (off (num b i) (told_num b (length e.read))) && leb (off (num b i) (told_num b (length e.read))) e.recv_cap) ≡ true =
-            and_from _ _ (le-leb 1 (off (num b i) (told_num b (length e.read))) (omega arith)) (le-leb (off (num b i) (told_num b (length e.read))) e.recv_cap (omega arith)) in
+            let test : (leb 1 (off (num b i) (told_num b (length e.read))) && leb (off (num b i) (told_num b (length e.read))) e.announced) ≡ true =
+            and_from _ _ (le-leb 1 (off (num b i) (told_num b (length e.read))) (omega arith)) (le-leb (off (num b i) (told_num b (length e.read))) e.announced (omega arith)) in
             let same : length e.read + (i - length e.read) ≡ i = omega arith in
             let less : off (num b i) (told_num b (length e.read)) - 1 ≡ i - length e.read = omega arith in
             let is : item_at (recv_view b p e) (off (num b i) (told_num b (length e.read))) ≡ there_at p e i =
             ap (item_at (recv_view b p e)) far ∙ item_is b p e (i - length e.read) (omega arith) ∙ ap (there_at p e) same in
             ⊎_elim
             (λ (u : contains e.arrived i ≡ true).
-            arrived_held (recv_view b p e) (num b i) item test (ap is_none (is ∙ there_true p e i u ∙ at))
+            arrived_held (recv_view b p e) (num b i) item (ap is_some (is ∙ there_true p e i u ∙ at))
             ∙ sym (ap (recv_view b p) (took_in_true i e h t ∙ (λ k. record e { arrived = joined_there i e.arrived u k }))))
             (λ (u : contains e.arrived i ≡ false).
             let f : Plain = record e { arrived = insert e.arrived i } in
-            arrived_took (recv_view b p e) (num b i) item test (ap is_none (is ∙ there_false p e i u))
+            arrived_took (recv_view b p e) (num b i) item test (ap is_some (is ∙ there_false p e i u))
             ∙ (λ k. record (recv_view b p e) { held = set (slots_from p e (length e.read) e.recv_cap) (less k) (Some item) })
             ∙ (λ k. record (recv_view b p e) {
               held = set_slots p e f (length e.read) e.recv_cap (i - length e.read) (Some item) (omega arith)
@@ -197,6 +205,7 @@ advanced_is b item p e one inside at =
     ap (λ o. after_reading o (recv_view b p e)) (item_is b p e 0 one ∙ ap (there_at p e) here ∙ at)
     ∙ (λ k. record {
       cap = e.recv_cap;
+      window = e.announced;
       read = number k;
       held = (drop_slots p e (length e.read) e.recv_cap one (there_false p e (length e.read + e.recv_cap) last)
           ∙ ap (λ n. slots_from p e n e.recv_cap) (sym longer)

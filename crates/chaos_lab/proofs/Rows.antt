@@ -5,7 +5,7 @@ use Rattle.std.specs.FinSet.{FinSet, contains, insert}
 use Rattle.chaos_lab.specs.declared.side.Side.{Side}
 use Rattle.chaos_lab.specs.declared.side.Side.TheVariants.{A, B}
 use Rattle.chaos_packet.specs.Item.{ItemView}
-use Rattle.chaos_lab.specs.Machine.{PlainEnd, Phase, Told, Copy, hear, take_in, read_next, read_item, Row, Request, Accept, Opened, Write, Arrive, Control, Read, End, Close, Comes, Tick, OrNothing}
+use Rattle.chaos_lab.specs.Machine.{PlainEnd, Phase, Told, Copy, hear, take_in, read_next, read_item, Row, Request, Accept, Opened, Write, Arrive, Control, Read, Resize, End, Close, Comes, Tick, OrNothing}
 use Rattle.chaos_lab.specs.Machine.Phase.{Inactive, RfcSent, RfcReceived, Open, Ended, Closed}
 use Rattle.chaos_lab.specs.Machine.Kind.{Nth}
 use Rattle.chaos_lab.specs.Machine.Told.{Nothing, Acknowledges, Status}
@@ -13,7 +13,7 @@ use Rattle.chaos_lab.proofs.Lists.{contains-insert_cases, contains-insert_same, 
 use Rattle.chaos_lab.proofs.Directions.{sound_written, sound_arrived, sound_read}
 use Rattle.chaos_lab.proofs.Grows.{grows_by, grows_same, grows_arrived, grows_read, grows_written}
 use Rattle.chaos_lab.proofs.Copies.{KindOk, TellsMet, CopyOk, told_later}
-use Rattle.chaos_lab.proofs.Ends.{IsNew, HasMet, IsNone, Fits, EndOk, EndHolds, EndStep, step_same, step_through, fits_at, step_phase, step_heard, hear_phase, step_took_in, step_read, step_written}
+use Rattle.chaos_lab.proofs.Ends.{IsNew, HasMet, IsNone, Fits, EndOk, EndHolds, EndStep, step_same, step_through, fits_at, announces_at, announced_fits, step_phase, step_announced, step_heard, hear_phase, step_took_in, step_read, step_written}
 
 -- a row that keeps it does so too where it isn't allowed
 pub or_nothing :
@@ -78,11 +78,15 @@ row_accept opn B e p f h r =
           fits = (omega arith, omega arith);
           answered = h.ok.answered;
           calm = λ t. absurd (omega (arith, more_written));
+          announces = announced_fits B e h.ok;
           caps = h.ok.caps;
         };
       };
       grows = let w = grows_written e opn in let s = grows_read e rfc.0 in grows_by e g w.written s.read (λ i t. t) refl refl;
     }))
+
+pub row_resize : (window : ℕ) (x : Side) (e p f : PlainEnd) → EndHolds x e p → Resize window p e f → EndStep x e p f
+row_resize window x e p f h r = subst (EndStep x e p) (sym r.2) (step_announced x e p window h r.0 r.1)
 
 fits_closed :
     (phase : Phase) (x : Side) (w r : List ItemView) (g : FinSet nat_cmp) → phase ≢ Inactive → Fits phase x w r g →
@@ -99,7 +103,7 @@ fits_closed Closed x w r g asked h = h
 
 pub row_close : (x : Side) (e p f : PlainEnd) → EndHolds x e p → Close p e f → EndStep x e p f
 row_close x e p f h r =
-    subst (EndStep x e p) (sym r.1) (step_phase x e p Closed h (fits_closed e.phase x e.written e.read e.arrived r.0 h.ok.fits))
+    subst (EndStep x e p) (sym r.1) (step_phase x e p Closed h (fits_closed e.phase x e.written e.read e.arrived r.0 h.ok.fits) (announced_fits x e h.ok))
 
 -- ---- time
 
@@ -113,7 +117,8 @@ row_end x e p f h r =
     subst (EndStep x e p) (sym r.1)
     (step_phase x e p Ended h
     (fits_ended x e.written e.read e.arrived
-    (⊎_elim (λ (t : e.phase ≡ RfcSent). inl (fits_at x e RfcSent h.ok t)) (λ (t : e.phase ≡ Open). inr (fits_at x e Open h.ok t)) r.0)))
+    (⊎_elim (λ (t : e.phase ≡ RfcSent). inl (fits_at x e RfcSent h.ok t)) (λ (t : e.phase ≡ Open). inr (fits_at x e Open h.ok t)) r.0))
+    (announced_fits x e h.ok))
 
 pub row_tick : (x : Side) (e p f : PlainEnd) → EndHolds x e p → Tick p e f → EndStep x e p f
 row_tick x e p f h r = ⊎_elim (row_end x e p f h) (λ (t : f ≡ e). subst (EndStep x e p) (sym t) (step_same x e p h)) r
@@ -141,6 +146,7 @@ row_request c B e p f len h k r =
           );
           answered = λ j t. ⊎_elim (λ (u : suc j ≡ 0). absurd (omega arith)) (h.ok.answered j) (contains-insert_cases 0 e.arrived (suc j) t);
           calm = h.ok.calm;
+          announces = announces_at B e Inactive h.ok r.1;
           caps = h.ok.caps;
         };
       };
@@ -166,6 +172,7 @@ step_opened e p len h at k =
           fits = (omega arith, omega arith);
           answered = λ j t. ⊎_elim (λ (u : suc j ≡ 0). absurd (omega arith)) (h.ok.answered j) (contains-insert_cases 0 e.arrived (suc j) t);
           calm = h.ok.calm;
+          announces = announced_fits A e h.ok;
           caps = h.ok.caps;
         };
       };

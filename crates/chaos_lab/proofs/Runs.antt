@@ -11,7 +11,7 @@ use Rattle.std.specs.Prelude.{slice_get}
 use Rattle.std.proofs.lemmas.Bool.{cond-true, cond-false, cases_Bool}
 use Rattle.chaos_lab.specs.declared.stamped.Stamped.{Stamped as Sent}
 use Rattle.chaos_lab.specs.Laboratory.{LabView, Happening, Done, Happens, StopsWithin, happen, after_all, check, copy_fault, delivery_effect, is_fresh}
-use Rattle.chaos_lab.specs.Laboratory.Happening.{WriteBy, ReadBy, TickOf, CloseBy, AcceptFrom, DeliverCopy}
+use Rattle.chaos_lab.specs.Laboratory.Happening.{WriteBy, ReadBy, AnnounceBy, TickOf, CloseBy, AcceptFrom, DeliverCopy}
 use Rattle.chaos_lab.specs.Tied.{Ties, HasMachine, plain_event, plain_next, plain_run}
 use Rattle.chaos_lab.specs.Headline.{Unclosed}
 use Rattle.chaos_lab.proofs.OnSide.{Outcome, Refuses, Steps}
@@ -116,6 +116,7 @@ happen_checked : (l : LabView) (event : Happening) (why : LabFault) → check l 
 happen_checked l (DeliverCopy n) why h = copy_checked l (slice_get l.copies n) why h
 happen_checked l (WriteBy x op bytes) why h = absurd (cc)
 happen_checked l (ReadBy x) why h = absurd (cc)
+happen_checked l (AnnounceBy x window) why h = absurd (cc)
 happen_checked l (TickOf x now) why h = absurd (cc)
 happen_checked l (CloseBy x text) why h = absurd (cc)
 happen_checked l (AcceptFrom start) why h = absurd (cc)
@@ -137,6 +138,7 @@ closes_one : (x : Side) (l : LabView) (event : Happening) (events : List Happeni
 closes_one x l (CloseBy y text) events h is = h.0 (let same : y ≡ x = cc in same)
 closes_one x l (WriteBy y op bytes) events h is = absurd (cc)
 closes_one x l (ReadBy y) events h is = absurd (cc)
+closes_one x l (AnnounceBy y window) events h is = absurd (cc)
 closes_one x l (TickOf y now) events h is = absurd (cc)
 closes_one x l (AcceptFrom start) events h is = absurd (cc)
 closes_one x l (DeliverCopy n) events h is = absurd (cc)
@@ -145,6 +147,7 @@ unclosed_rest : (x : Side) (event : Happening) (events : List Happening) → Unc
 unclosed_rest x (CloseBy y text) events h = h.1
 unclosed_rest x (WriteBy y op bytes) events h = h
 unclosed_rest x (ReadBy y) events h = h
+unclosed_rest x (AnnounceBy y window) events h = h
 unclosed_rest x (TickOf y now) events h = h
 unclosed_rest x (AcceptFrom start) events h = h
 unclosed_rest x (DeliverCopy n) events h = h

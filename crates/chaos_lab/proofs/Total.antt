@@ -1,16 +1,16 @@
 -- The table of steps as functions, so every event has a step, but for the delivery of a copy that isn't there or isn't fresh.
-use Rattle.std.proofs.Common.{◌≡◌, ◌≢◌, zero, ◌-◌, ◌<◌, ◌≤◌, [], ◌∷◌, ◌++◌, length, true, false, refl, sym, ◌∙◌, subst, inl, inr, ◌⊎◌, ⊎_elim, arith}
+use Rattle.std.proofs.Common.{◌≡◌, ◌≢◌, zero, ℕ, ◌-◌, ◌<◌, ◌≤◌, [], ◌∷◌, ◌++◌, length, true, false, refl, sym, ◌∙◌, subst, inl, inr, ◌⊎◌, ⊎_elim, arith}
 use Rattle.std.specs.Prelude.{⊤}
 use Rattle.std.specs.FinSet.{contains, insert}
 use Rattle.std.proofs.lemmas.Bool.{cases_Bool, false≢true}
 use Rattle.std.proofs.lemmas.List.Elements.{All-nil}
 use Rattle.chaos_packet.specs.Item.{ItemView}
 use Rattle.chaos_lab.specs.declared.side.Side.{Side}
-use Rattle.chaos_lab.specs.Machine.{PlainEnd, Phase, Kind, Told, Copy, Machine, Event, other, end_of, with_end, IsSent, hear, take_in, read_next, Row, Accept, Write, Read, Close, Comes, Tick, OrNothing, Moves, Step}
+use Rattle.chaos_lab.specs.Machine.{PlainEnd, Phase, Kind, Told, Copy, Machine, Event, other, end_of, with_end, IsSent, hear, take_in, read_next, Row, Accept, Write, Read, Resize, Close, Comes, Tick, OrNothing, Moves, Step}
 use Rattle.chaos_lab.specs.Law.{CanHappen}
 use Rattle.chaos_lab.specs.Machine.Phase.{Inactive, RfcSent, RfcReceived, Open, Ended, Closed}
 use Rattle.chaos_lab.specs.Machine.Kind.{Nth, Sns, Sts, Cls}
-use Rattle.chaos_lab.specs.Machine.Event.{AcceptAt, WriteAt, ReadAt, TickAt, CloseAt, Deliver}
+use Rattle.chaos_lab.specs.Machine.Event.{AcceptAt, WriteAt, ReadAt, ResizeAt, TickAt, CloseAt, Deliver}
 
 -- ---- a copy that comes
 
@@ -135,6 +135,18 @@ read_goes_on p e =
     (λ (not : (e.phase ≡ Open) ⊎ (e.phase ≡ Ended) → ⊥). inr (λ f r. not r.0))
     (can_read e.phase))
 
+resize_goes_on : (window : ℕ) (p e : PlainEnd) → GoesOn (Resize window) p e
+resize_goes_on window p e =
+    goes_on (Resize window) p e
+    (⊎_elim
+    (λ (at : e.phase ≡ Open).
+    ⊎_elim
+    (λ (most : window ≤ e.recv_cap). inl (record e { announced = window }, (at, most, refl)))
+    (λ (more : e.recv_cap < window). inr (λ f r. let most = r.1 in omega arith))
+    (grind arith))
+    (λ (not : e.phase ≢ Open). inr (λ f r. not r.0))
+    (is_open e.phase))
+
 close_goes_on : (p e : PlainEnd) → GoesOn Close p e
 close_goes_on p e =
     goes_on Close p e
@@ -156,6 +168,7 @@ pub step_exists : (m : Machine) (event : Event) → CanHappen m event → (n : M
 step_exists m (AcceptAt x opn) h = moves (Accept opn) m x (accept_goes_on opn (end_of m (other x)) (end_of m x))
 step_exists m (WriteAt x item) h = moves (Write item) m x (write_goes_on item (end_of m (other x)) (end_of m x))
 step_exists m (ReadAt x) h = moves Read m x (read_goes_on (end_of m (other x)) (end_of m x))
+step_exists m (ResizeAt x window) h = moves (Resize window) m x (resize_goes_on window (end_of m (other x)) (end_of m x))
 step_exists m (TickAt x) h = moves Tick m x (end_of m x, inl (inr refl))
 step_exists m (CloseAt x) h = moves Close m x (close_goes_on (end_of m (other x)) (end_of m x))
 step_exists m (Deliver k) h =

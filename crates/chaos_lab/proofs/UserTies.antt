@@ -10,17 +10,17 @@ use Rattle.chaos_packet.specs.Packet.{PacketView, item_of}
 use Rattle.chaos_conn.specs.declared.fault.ConnFault.{ConnFault}
 use Rattle.chaos_conn.specs.declared.fault.ConnFault.TheVariants as fa
 use Rattle.chaos_conn.specs.Acted.{quietly}
-use Rattle.chaos_conn.specs.Calls.{act_read, act_write, act_close}
+use Rattle.chaos_conn.specs.Calls.{act_read, act_write, act_announce, act_close}
 use Rattle.chaos_conn.specs.Opening.{act_accept}
 use Rattle.chaos_conn.specs.Time.{act_tick}
 use Rattle.chaos_conn.specs.Act.{Call}
-use Rattle.chaos_conn.specs.Act.Call.{Accept, Write, Read, Close, Tick}
+use Rattle.chaos_conn.specs.Act.Call.{Accept, Write, Read, Announce, Close, Tick}
 use Rattle.chaos_conn.specs.Act.Reply.{Did, Wrote, Gave, Ticks}
 use Rattle.chaos_lab.specs.declared.side.Side.{Side}
 use Rattle.chaos_lab.specs.declared.side.Side.TheVariants.{B}
 use Rattle.chaos_lab.specs.Machine.{PlainEnd as Plain, Phase, Machine, Event, other, end_of, read_item}
 use Rattle.chaos_lab.specs.Machine.Phase.{Inactive, RfcSent, RfcReceived, Open, Ended, Closed}
-use Rattle.chaos_lab.specs.Machine.Event.{AcceptAt, WriteAt, ReadAt, TickAt, CloseAt}
+use Rattle.chaos_lab.specs.Machine.Event.{AcceptAt, WriteAt, ReadAt, ResizeAt, TickAt, CloseAt}
 use Rattle.chaos_lab.specs.Numbers.{told_num}
 use Rattle.chaos_lab.specs.Shown.{HasItems, IsFirst, Leaves}
 use Rattle.chaos_lab.specs.Laboratory.{LabView, with_given, refusal_of, after_call}
@@ -31,7 +31,7 @@ use Rattle.chaos_lab.proofs.Functions.{read_row, close_row, tick_row, ended_phas
 use Rattle.chaos_lab.proofs.Items.{SameNew, same_phase, not_new, same_read, same_items, more_items}
 use Rattle.chaos_lab.proofs.OpenEnd.{is_open}
 use Rattle.chaos_lab.proofs.ReadTie.{ReadLeaves, read_leaves}
-use Rattle.chaos_lab.proofs.Calls.{write_leaves, close_leaves}
+use Rattle.chaos_lab.proofs.Calls.{Resizes, write_leaves, resize_leaves, close_leaves}
 use Rattle.chaos_lab.proofs.TickTie.{Ticks as TickLeaves, tick_leaves}
 use Rattle.chaos_lab.proofs.AcceptTie.{Accepted, accept_leaves, opn_of}
 use Rattle.chaos_lab.proofs.Rebase.{rebase}
@@ -180,6 +180,34 @@ write_ties x w l op bytes now t =
       asked = asked_keeps x w l f t (same_phase e f refl);
     })))
     (write_leaves x s.0 (first_at l x) (first_at l (other x)) item now e p s.1 h.writer h.reader h.ok)
+
+-- ---- another window
+
+pub resize_ties : (x : Side) (w : Machine) (l : LabView) (window : ℕ) → Ties w l → Refuses x w l (Announce window) (ResizeAt x window)
+resize_ties x w l window t =
+    let e : Plain = end_of w x in
+    let p : Plain = end_of w (other x) in
+    let h = end_holds w x (reached_holds w t.tied.reached) in
+    let s = stands_at x w l t in
+    let f : Plain = record e { announced = window } in
+    let resizes : Resizes x (first_at l x) (first_at l (other x)) window p e (conn_at l x) =
+    subst (Resizes x (first_at l x) (first_at l (other x)) window p e) (sym s.2) (resize_leaves x s.0 (first_at l x) (first_at l (other x)) window e p s.1 h.reader h.ok) in
+    ⊎_elim
+    (λ r. inl (r.0, ap (λ a. refusal_of (Did a.answer)) r.1))
+    (λ d.
+    inr (ties_on x w l (Announce window) (ResizeAt x window) f t
+    (record {
+      leaves = renamed Did x _ _ p f (act_announce (conn_at l x) window) d.2;
+      step = λ sent all. (f, inl (d.0, d.1, refl), (sent, all, refl));
+      more = [];
+      longer = sym (append-nil e.written);
+      items = same_items x _ e f (refl, refl) (items_at x w l t);
+      wrote = written_at x w l t;
+      got = read_at x w l t;
+      first = refl;
+      asked = asked_keeps x w l f t (same_phase e f refl);
+    })))
+    resizes
 
 -- ---- an acceptance
 

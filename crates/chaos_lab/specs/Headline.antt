@@ -11,7 +11,7 @@ use Rattle.chaos_lab.specs.declared.stamped.Stamped.{Stamped}
 use Rattle.chaos_lab.specs.declared.event.Stepped.TheVariants.{Read}
 use Rattle.chaos_lab.specs.Machine.{other, greatest_window}
 use Rattle.chaos_lab.specs.Laboratory.{LabView, Happening, lab_end, is_fresh, happen}
-use Rattle.chaos_lab.specs.Laboratory.Happening.{WriteBy, ReadBy, TickOf, CloseBy, AcceptFrom, DeliverCopy}
+use Rattle.chaos_lab.specs.Laboratory.Happening.{WriteBy, ReadBy, AnnounceBy, TickOf, CloseBy, AcceptFrom, DeliverCopy}
 
 -- how many items its sender had written, after the call that sent it
 abbrev pub len_at : Side → Stamped → ℕ
@@ -24,13 +24,13 @@ pub record IsCopyOf (l : LabView) (s : Stamped) (i : ℕ) : Type 0 where
   pub number : s.packet.num ≡ num (lab_end l s.side).first i
   pub near : len_at s.side s ≤ i + greatest_window
 
--- A fresh copy of item i may come to the other end, which is open, inside its window.
+-- A fresh copy of item i may come to the other end, which is open, inside the window that it announces.
 pub record ComesInside (l : LabView) (copy : ℕ) (s : Stamped) (i : ℕ) : Type 0 where
   pub sent : slice_get l.copies copy ≡ Some s
   pub of_item : IsCopyOf l s i
   pub fresh : is_fresh l.a l.b s ≡ true
   pub open_end : (lab_end l (other s.side)).conn.state ≡ Open
-  pub inside : i < length (lab_end l (other s.side)).read + (lab_end l (other s.side)).conn.config.recv_cap
+  pub inside : i < length (lab_end l (other s.side)).read + (lab_end l (other s.side)).conn.recv.window
 
 -- the user at x doesn't close its end in these events
 abbrev pub Unclosed : Side → List Happening → Type 0
@@ -38,6 +38,7 @@ Unclosed x [] = ⊤
 Unclosed x (CloseBy y text ∷ events) = (y ≢ x) × Unclosed x events
 Unclosed x (WriteBy y op bytes ∷ events) = Unclosed x events
 Unclosed x (ReadBy y ∷ events) = Unclosed x events
+Unclosed x (AnnounceBy y window ∷ events) = Unclosed x events
 Unclosed x (TickOf y now ∷ events) = Unclosed x events
 Unclosed x (AcceptFrom start ∷ events) = Unclosed x events
 Unclosed x (DeliverCopy copy ∷ events) = Unclosed x events

@@ -6,7 +6,7 @@ use Rattle.chaos_lab.specs.declared.lab_end.LabEnd.{LabEnd}
 use Rattle.chaos_lab.specs.declared.both_ends.BothEnds.{BothEnds}
 use Rattle.chaos_lab.specs.declared.event.Event.{Event}
 use Rattle.chaos_lab.specs.declared.event.Event.TheVariants as event
-use Rattle.chaos_lab.specs.Laboratory.Happening.{WriteBy, ReadBy, TickOf, CloseBy, AcceptFrom, DeliverCopy}
+use Rattle.chaos_lab.specs.Laboratory.Happening.{WriteBy, ReadBy, AnnounceBy, TickOf, CloseBy, AcceptFrom, DeliverCopy}
 use Rattle.chaos_lab.specs.Laboratory.{EndView, Happening}
 
 abbrev pub end_view : LabEnd → EndView
@@ -29,6 +29,7 @@ pub record AreReady (e : BothEnds) (out : OutboxView) : Type 0 where
 abbrev pub happening_of : Event → Happening
 happening_of (event.Write side op bytes) = WriteBy side op bytes.now
 happening_of (event.Read side) = ReadBy side
+happening_of (event.Announce side window) = AnnounceBy side window
 happening_of (event.Tick side now) = TickOf side now
 happening_of (event.Close side text) = CloseBy side text.now
 happening_of (event.Accept start) = AcceptFrom start

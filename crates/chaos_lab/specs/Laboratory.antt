@@ -15,7 +15,7 @@ use Rattle.chaos_conn.specs.Acted.{Acted}
 use Rattle.chaos_conn.specs.Opening.{Outcome, act_request, rfc_item}
 use Rattle.chaos_conn.specs.Calls.{front_of}
 use Rattle.chaos_conn.specs.Act.{Call, Reply, act}
-use Rattle.chaos_conn.specs.Act.Call.{TakeRequest, Accept, Deliver, Write, Read, Close, Tick}
+use Rattle.chaos_conn.specs.Act.Call.{TakeRequest, Accept, Deliver, Write, Read, Announce, Close, Tick}
 use Rattle.chaos_conn.specs.Act.Reply.{Did, Came, Wrote, Gave, Ticks}
 use Rattle.chaos_lab.specs.declared.side.Side.{Side}
 use Rattle.chaos_lab.specs.declared.side.Side.TheVariants.{A, B}
@@ -91,6 +91,7 @@ answer_of call (Gave given) = stepped.Read given
 answer_of call (Ticks ticked) = stepped.Ticked ticked
 answer_of call (Came delivered) = stepped.Delivered delivered
 answer_of (Accept start now) (Did done) = stepped.Accepted start
+answer_of (Announce window) (Did done) = stepped.Announced window
 answer_of (TakeRequest rfc me now) (Did done) = stepped.Requested
 answer_of call _ = stepped.Closed
 
@@ -177,10 +178,11 @@ lab_start config_a config_b start = record {
 
 -- ---- Events
 
--- what may happen: a user writes, reads or closes, a clock ticks, B's user accepts, or a copy comes
+-- what may happen: a user writes, reads, announces a window or closes, a clock ticks, B's user accepts, or a copy comes
 pub data Happening : Type 0 where
   WriteBy : (side : Side) → (op : ℕ) → (bytes : List ℕ) → Happening
   ReadBy : (side : Side) → Happening
+  AnnounceBy : (side : Side) → (window : ℕ) → Happening
   TickOf : (side : Side) → (now : ℕ) → Happening
   CloseBy : (side : Side) → (text : List ℕ) → Happening
   AcceptFrom : (start : ℕ) → Happening
@@ -206,6 +208,7 @@ delivery_effect l (Some s) = if is_fresh l.a l.b s then call_at l (other s.side)
 abbrev pub happen : LabView → Happening → Done
 happen l (WriteBy x op bytes) = call_at l x (Write op bytes l.clock)
 happen l (ReadBy x) = call_at l x Read
+happen l (AnnounceBy x window) = call_at l x (Announce window)
 happen l (TickOf x now) = call_at l x (Tick now)
 happen l (CloseBy x text) = call_at l x (Close text)
 happen l (AcceptFrom start) = call_at l B (Accept start l.clock)

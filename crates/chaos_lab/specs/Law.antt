@@ -22,7 +22,8 @@ reader m x = end_of m (other x)
 abbrev pub IsThere : PlainEnd → ℕ → Type 0
 IsThere e i = (i < length e.read) ⊎ (contains e.arrived i ≡ true)
 
--- the step from m to n delivers a copy of item i of this direction to its open reader, inside the reader's window
+-- the step from m to n delivers a copy of item i of this direction to its open reader, inside the window that the reader
+-- announces
 pub record DeliversInside (m : Machine) (x : Side) (i : ℕ) (n : Machine) : Type 0 where
   pub number : ℕ
   pub copy : Copy
@@ -30,7 +31,7 @@ pub record DeliversInside (m : Machine) (x : Side) (i : ℕ) (n : Machine) : Typ
   pub sender : copy.sender ≡ x
   pub kind : copy.kind ≡ Nth i
   pub open_end : (reader m x).phase ≡ Open
-  pub inside : i < length (reader m x).read + (reader m x).recv_cap
+  pub inside : i < length (reader m x).read + (reader m x).announced
   pub step : Step m (Deliver number) n
 
 -- a run in which the user at x doesn't close its end

@@ -28,6 +28,8 @@ pub record PlainEnd : Type 0 where
   -- all that its user read, and the indices of the peer's items that arrived
   pub read : List ItemView
   pub arrived : FinSet nat_cmp
+  -- the window that it announces to the peer
+  pub announced : ℕ
   -- the greatest windows, for what it writes and for what it reads
   pub send_cap : ℕ
   pub recv_cap : ℕ
@@ -44,7 +46,8 @@ pub data Kind : Type 0 where
   Nth : (index : ℕ) → Kind
   Sns Sts Cls : Kind
 
--- what it tells of its sender as a reader: how many items its user read, and with a status how many arrived, and its window
+-- what it tells of its sender as a reader: how many items its user read, and with a status how many arrived, and the window
+-- that it announces
 pub data Told : Type 0 where
   Nothing : Told
   Acknowledges : (acknowledgement : ℕ) → Told
@@ -95,13 +98,14 @@ abbrev pub MaySend : Kind → PlainEnd → Type 0
 MaySend (Nth i) e = (e.receipted ≤ i) × (i < length e.written)
 MaySend _ e = ⊤
 
--- an RFC and a CLS tell nothing, and an OPN tells the status at its Accept, when the RFC alone had arrived
+-- an RFC and a CLS tell nothing; an OPN tells the status at its Accept, when the RFC alone had arrived and the window was the
+-- greatest; and an STS tells the present status
 abbrev pub Tells : Kind → Side → PlainEnd → Told → Type 0
 Tells (Nth zero) A e told = told ≡ Nothing
 Tells (Nth zero) B e told = told ≡ Status (length e.read) 1 e.recv_cap
 Tells (Nth (suc i)) x e told = told ≡ Acknowledges (length e.read)
 Tells Sns x e told = told ≡ Acknowledges (length e.read)
-Tells Sts x e told = (f : ℕ) × FirstMissing e f × (told ≡ Status (length e.read) f e.recv_cap)
+Tells Sts x e told = (f : ℕ) × FirstMissing e f × (told ≡ Status (length e.read) f e.announced)
 Tells Cls x e told = told ≡ Nothing
 
 -- the end at x may send this copy now
@@ -129,10 +133,10 @@ announce _ e = e
 abbrev pub hear : Told → PlainEnd → PlainEnd
 hear told e = announce told (tell told e)
 
--- item i arrives, where it isn't read yet and lies inside the window
+-- item i arrives, where it isn't read yet and lies inside the window that the end announces
 abbrev pub take_in : ℕ → PlainEnd → PlainEnd
 take_in i e =
-    if nat_le (length e.read) i && nat_lt i (length e.read + e.recv_cap) then record e { arrived = insert e.arrived i } else e
+    if nat_le (length e.read) i && nat_lt i (length e.read + e.announced) then record e { arrived = insert e.arrived i } else e
 
 -- its user reads this item, where there is one
 abbrev pub read_item : Option ItemView → PlainEnd → PlainEnd
@@ -179,6 +183,10 @@ Control c peer e f = (e.phase ≡ Open) × ((c.kind ≡ Sns) ⊎ (c.kind ≡ Sts
 abbrev pub Read : Row
 Read peer e f = ((e.phase ≡ Open) ⊎ (e.phase ≡ Ended)) × (contains e.arrived (length e.read) ≡ true) × (f ≡ read_next peer e)
 
+-- an open end announces another window, which is at most the greatest
+abbrev pub Resize : ℕ → Row
+Resize window peer e f = (e.phase ≡ Open) × (window ≤ e.recv_cap) × (f ≡ record e { announced = window })
+
 -- an end that asked or is open gets a CLS, or its time runs out
 abbrev pub End : Row
 End peer e f = ((e.phase ≡ RfcSent) ⊎ (e.phase ≡ Open)) × (f ≡ record e { phase = Ended })
@@ -215,6 +223,7 @@ pub data Event : Type 0 where
   AcceptAt : (side : Side) → (opn : ItemView) → Event
   WriteAt : (side : Side) → (item : ItemView) → Event
   ReadAt TickAt CloseAt : (side : Side) → Event
+  ResizeAt : (side : Side) → (window : ℕ) → Event
   Deliver : (copy : ℕ) → Event
 
 -- what an event may make of the machine; a copy is delivered while it is fresh
@@ -222,6 +231,7 @@ abbrev pub Step : Machine → Event → Machine → Type 0
 Step m (AcceptAt x opn) n = Moves (Accept opn) m x n
 Step m (WriteAt x item) n = Moves (Write item) m x n
 Step m (ReadAt x) n = Moves Read m x n
+Step m (ResizeAt x window) n = Moves (Resize window) m x n
 Step m (TickAt x) n = Moves Tick m x n
 Step m (CloseAt x) n = Moves Close m x n
 Step m (Deliver k) n = (c : Copy) × (slice_get m.copies k ≡ Some c) × Fresh m c × Moves (Comes c) m (other c.sender) n
@@ -250,10 +260,10 @@ pub record Caps : Type 0 where
 abbrev pub AreCaps : Caps → Type 0
 AreCaps c = (1 ≤ c.send) × (c.send ≤ greatest_window) × (1 ≤ c.recv) × (c.recv ≤ greatest_window)
 
--- an end with these caps that has read nothing and heard nothing
+-- an end with these caps that has read nothing and heard nothing; it announces the greatest window
 abbrev pub new_end : Phase → List ItemView → Caps → PlainEnd
 new_end phase written c =
-    record { phase = phase; written = written; acknowledged = 0; receipted = 0; window = c.send; read = []; arrived = empty; send_cap = c.send; recv_cap = c.recv }
+    record { phase = phase; written = written; acknowledged = 0; receipted = 0; window = c.send; read = []; arrived = empty; announced = c.recv; send_cap = c.send; recv_cap = c.recv }
 
 -- A has sent its RFC, which is copy 0
 abbrev pub start : Caps → Caps → ItemView → Machine

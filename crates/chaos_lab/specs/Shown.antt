@@ -77,7 +77,7 @@ slots_from peer e i zero = []
 slots_from peer e i (suc count) = there_at peer e i ∷ slots_from peer e (suc i) count
 
 abbrev pub recv_view : ℕ → Plain → Plain → ReceiveView
-recv_view b' peer e = record { cap = e.recv_cap; read = told_num b' (length e.read); held = slots_from peer e (length e.read) e.recv_cap }
+recv_view b' peer e = record { cap = e.recv_cap; window = e.announced; read = told_num b' (length e.read); held = slots_from peer e (length e.read) e.recv_cap }
 
 -- a window that hasn't started is clear
 abbrev pub send_shown : ℕ → Plain → SendView

@@ -8,7 +8,7 @@ use Rattle.chaos_lab.specs.Machine.Told.{Nothing, Acknowledges, Status}
 use Rattle.chaos_lab.specs.declared.stamped.Stamped.{Stamped}
 use Rattle.chaos_lab.specs.Machine.{Phase, Kind, Told, Copy, Machine, Event, Schedule, Reached, start, other, end_of}
 use Rattle.chaos_lab.specs.Machine.Phase.{Inactive}
-use Rattle.chaos_lab.specs.Machine.Event.{AcceptAt, WriteAt, ReadAt, TickAt, CloseAt, Deliver}
+use Rattle.chaos_lab.specs.Machine.Event.{AcceptAt, WriteAt, ReadAt, ResizeAt, TickAt, CloseAt, Deliver}
 use Rattle.chaos_packet.specs.Item.{ItemView}
 use Rattle.chaos_packet.specs.Opcode.{op_opn}
 use Rattle.chaos_packet.specs.Packet.{PacketView, item_of}
@@ -17,7 +17,7 @@ use Rattle.chaos_conn.specs.Config.{ConfigView}
 use Rattle.chaos_lab.specs.Laboratory.{LabView, Happening, happen, lab_contact}
 use Rattle.chaos_lab.specs.declared.event.Stepped.{Stepped}
 use Rattle.chaos_lab.specs.declared.fault.LabFault.{LabFault}
-use Rattle.chaos_lab.specs.Laboratory.Happening.{WriteBy, ReadBy, TickOf, CloseBy, AcceptFrom, DeliverCopy}
+use Rattle.chaos_lab.specs.Laboratory.Happening.{WriteBy, ReadBy, AnnounceBy, TickOf, CloseBy, AcceptFrom, DeliverCopy}
 use Rattle.chaos_conn.specs.View.{ConnView}
 use Rattle.chaos_lab.specs.Shown.{Stands, StandsFor, HasItems}
 
@@ -78,6 +78,7 @@ sent_item (packet ∷ packets) = item_of packet
 abbrev pub plain_event : LabView → Happening → Event
 plain_event l (WriteBy x op bytes) = WriteAt x (record { op = op; body = bytes })
 plain_event l (ReadBy x) = ReadAt x
+plain_event l (AnnounceBy x window) = ResizeAt x window
 plain_event l (TickOf x now) = TickAt x
 plain_event l (CloseBy x text) = CloseAt x
 plain_event l (AcceptFrom start) = AcceptAt B (sent_item (act_accept l.b.conn start l.clock).packets)

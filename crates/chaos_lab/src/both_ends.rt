@@ -1,6 +1,6 @@
 //! Both ends of the laboratory.
 ghost use Rattle.std.specs.Prelude.{◌≡◌, ◌≤◌, ◌<◌, OnOk, []};
-ghost use Rattle.chaos_conn.specs.Act.Call.{Accept, Close, Deliver, Read, TakeRequest, Tick, Write};
+ghost use Rattle.chaos_conn.specs.Act.Call.{Accept, Announce, Close, Deliver, Read, TakeRequest, Tick, Write};
 ghost use Rattle.chaos_lab.specs.declared.side.Side.TheVariants.{B};
 ghost use Rattle.chaos_lab.specs.Shown.{place_of};
 ghost use Rattle.chaos_lab.specs.Inside.{end_view, HasRoom, AreReady};
@@ -54,6 +54,21 @@ impl BothEnds {
         match side {
             Side::A => self.a.read(out),
             Side::B => self.b.read(out),
+        }
+    }
+
+    pub(crate) fn announce(
+        &mut self,
+        side: Side,
+        window: u16,
+        out: &mut Outbox,
+    ) -> Result<Stepped, LabFault>
+        requires ready { AreReady self.old out.old }
+        ensures { MakesAt side (Announce window) self.old self.new out.old out.new result }
+    {
+        match side {
+            Side::A => self.a.announce(window, out),
+            Side::B => self.b.announce(window, out),
         }
     }
 

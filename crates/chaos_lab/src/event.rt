@@ -11,6 +11,8 @@ pub enum Event<'a> {
     Write(Side, Opcode, &'a [u8]),
     /// The user at a side reads.
     Read(Side),
+    /// The user at a side announces this window.
+    Announce(Side, u16),
     /// A side's clock shows this moment, in milliseconds.
     Tick(Side, u64),
     /// The user at a side closes its end, with a text.
@@ -27,6 +29,8 @@ pub enum Stepped {
     /// The item was written with this number.
     Wrote(PktNum),
     Read(ReadEnd),
+    /// This window was announced.
+    Announced(u16),
     Ticked(Ticked),
     Closed,
     /// The request was accepted, by an OPN with this number.

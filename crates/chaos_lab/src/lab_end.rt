@@ -2,7 +2,7 @@
 ghost use Rattle.std.specs.Prelude.{◌≡◌, ℕ, ◌<◌, ◌≤◌, [], ◌∷◌, ◌++◌, length, OnOk, OnErr, IfOk, Ok, Some, None, map, slice_get};
 ghost use Rattle.chaos_packet.specs.Outbox.{with_put};
 ghost use Rattle.chaos_packet.specs.Packet.{item_of};
-ghost use Rattle.chaos_conn.specs.Act.Call.{Accept, Close, Deliver, Read, TakeRequest, Tick, Write};
+ghost use Rattle.chaos_conn.specs.Act.Call.{Accept, Announce, Close, Deliver, Read, TakeRequest, Tick, Write};
 ghost use Rattle.chaos_lab.specs.declared.side.Side.TheVariants.{B};
 ghost use Rattle.chaos_lab.specs.Shown.{place_of};
 ghost use Rattle.chaos_conn.specs.Calls.{front_of};
@@ -153,6 +153,18 @@ impl LabEnd {
         ensures { Makes (end_view self.old) (Tick moment) (end_view self.new) out.old out.new result }
     {
         Ok(Stepped::Ticked(self.conn.tick(moment, out)))
+    }
+
+    /// Announces a window.
+    pub(crate) fn announce(&mut self, window: u16, out: &mut Outbox) -> Result<Stepped, LabFault>
+        requires empty { out.old.packets ≡ [] }
+        requires fits { 0 < out.old.cap }
+        ensures { Makes (end_view self.old) (Announce window) (end_view self.new) out.old out.new result }
+    {
+        match self.conn.announce(window, out) {
+            Ok(()) => Ok(Stepped::Announced(window)),
+            Err(why) => Err(LabFault::Refused(why)),
+        }
     }
 
     /// Closes.

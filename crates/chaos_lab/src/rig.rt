@@ -1,7 +1,7 @@
 //! Two connections and the packets between them.
 ghost use Rattle.std.specs.Prelude.{◌≡◌, ℕ, ◌<◌, ◌+◌, ◌-◌, ◌≤◌, [], ◌∷◌, ◌++◌, length, map, Option, Some, None, Ok, Err, IfOk, IfErr, OnErr, OnOk, slice_get, nat_lt, vec_len, vec_capacity, ◌⊎◌};
 ghost use Rattle.chaos_lab.specs.Machine.{other, fresh_span};
-ghost use Rattle.chaos_conn.specs.Act.Call.{Accept, Close, Deliver, Read, TakeRequest, Tick, Write};
+ghost use Rattle.chaos_conn.specs.Act.Call.{Accept, Announce, Close, Deliver, Read, TakeRequest, Tick, Write};
 ghost use Rattle.chaos_lab.specs.declared.side.Side.TheVariants.{B};
 ghost use Rattle.chaos_conn.specs.Config.{IsConfig};
 ghost use Rattle.chaos_conn.specs.Stored.{stored_packets, stored_bytes};
@@ -151,6 +151,7 @@ impl Rig {
         match event {
             Event::Write(side, op, bytes) => self.write(*side, *op, bytes),
             Event::Read(side) => self.read_next(*side),
+            Event::Announce(side, window) => self.announce(*side, *window),
             Event::Tick(side, moment) => self.tick(*side, *moment),
             Event::Close(side, text) => self.close(*side, text),
             Event::Accept(start) => self.accept(*start),
@@ -174,6 +175,16 @@ impl Rig {
     {
         grow(&mut self.ends, &mut self.copies)?;
         let stepped = self.ends.read(side, &mut self.out)?;
+        post(&mut self.copies, &mut self.out, side, &self.ends);
+        Ok(stepped)
+    }
+
+    /// A user announces a window.
+    fn announce(&mut self, side: Side, window: u16) -> Result<Stepped, LabFault>
+        ensures { Calls self.old side (Announce window) self.new result }
+    {
+        grow(&mut self.ends, &mut self.copies)?;
+        let stepped = self.ends.announce(side, window, &mut self.out)?;
         post(&mut self.copies, &mut self.out, side, &self.ends);
         Ok(stepped)
     }

@@ -1,5 +1,5 @@
 -- A reply is taken after the read of its command.
-use Rattle.std.proofs.Common.{◌≡◌, ℕ, ◌≤◌, ◌*◌, ◌+◌, Bool, true, false, ◌&&◌, if◌then◌else◌, List, length, nat_lt, nat_le, Option, Some, None, Ok, refl, ap, ◌∙◌, arith}
+use Rattle.std.proofs.Common.{◌≡◌, ℕ, ◌≤◌, ◌+◌, Bool, true, false, ◌&&◌, if◌then◌else◌, List, length, nat_lt, Option, Some, None, Ok, refl, ap, ◌∙◌, arith}
 use Rattle.std.proofs.lemmas.Bool.Decides.{nat_tests}
 use Rattle.chaos_packet.specs.Item.{ItemView}
 use Rattle.chaos_packet.specs.Opcode.{op_data}
@@ -51,7 +51,7 @@ told_or_not false v item = record { state = refl; send = refl }
 
 leaves_at : (v : ConnView) (front : Option ItemView) → Leaves v (read_at_open v front).view
 leaves_at v None = record { state = refl; send = refl }
-leaves_at v (Some item) = let l = told_or_not (nat_le v.config.recv_cap (3 * (v.untold + 1))) (record v { recv = Rattle.chaos_window.specs.Receive.after_advance v.recv; untold = v.untold + 1 }) item in record { state = l.state; send = l.send }
+leaves_at v (Some item) = let l = told_or_not _ (record v { recv = Rattle.chaos_window.specs.Receive.after_advance v.recv; untold = v.untold + 1 }) item in record { state = l.state; send = l.send }
 
 pub read_leaves : (v : ConnView) → v.state ≡ st.Open → Leaves v (act_read v).view
 read_leaves v e =

@@ -1,7 +1,7 @@
 //! What an end holds.
 ghost use Rattle.std.specs.Prelude.{◌≡◌, ◌≤◌, length, is_some, IfOk};
 ghost use Rattle.std.specs.Option.{option_copied};
-ghost use Rattle.chaos_window.specs.Receive.{IsReceiveWindow, item_at, clear_receive, started_receive, arrival_of, after_arrival, after_advance, receipt_of, held_count, receive_view};
+ghost use Rattle.chaos_window.specs.Receive.{IsReceiveWindow, item_at, clear_receive, started_receive, arrival_of, after_arrival, after_advance, after_announcement, receipt_of, held_count, receive_view};
 
 use crate::arrival::Arrived;
 use crate::limits::MAX_WINDOW;
@@ -16,10 +16,13 @@ use std::marker::Model;
 /// ```text
 ///    number last read
 ///          |
-///  .. read | 1 | 2 | 3 | .. | cap | outside ..
+///  .. read | 1 | 2 | 3 | .. | window | outside ..
 ///            |
 ///       next number
 /// ```
+///
+/// The window is the cap, until its end announces another, which is at most that. What is held past a window that was made
+/// smaller stays held.
 ///
 /// A contract sees the number and a slot for each offset. `new` takes the memory for an item in each slot, and no later
 /// call takes any.
@@ -27,6 +30,8 @@ use std::marker::Model;
 pub struct RecvWindow {
     /// The number last read.
     read: PktNum,
+    /// The window that its end announces.
+    window: u16,
     /// The next numbers, as many as the cap.
     slots: Slots,
 }
@@ -36,9 +41,9 @@ impl Model for RecvWindow {
 
     ghost Value = { ReceiveView };
 
-    ghost view = { λ w. receive_view w.read w.slots };
+    ghost view = { λ w. receive_view w.read w.window w.slots };
 
-    ghost invariant = { λ w. IsReceiveWindow (receive_view w.read w.slots) };
+    ghost invariant = { λ w. IsReceiveWindow (receive_view w.read w.window w.slots) };
 }
 
 impl RecvWindow {
@@ -50,6 +55,7 @@ impl RecvWindow {
         let slots = Slots::new(alloc, cap)?;
         Ok(RecvWindow {
             read: PktNum(0),
+            window: cap,
             slots,
         })
     }
@@ -69,7 +75,7 @@ impl RecvWindow {
         ensures answer { result ≡ arrival_of self.old num }
         ensures held { self.new ≡ after_arrival self.old num item }
     {
-        let arrived = arrival(self.read, &self.slots, num);
+        let arrived = arrival(self.read, self.window, &self.slots, num);
         if arrived == Arrived::Took {
             self.slots.put(num.off(self.read), item);
         }
@@ -85,11 +91,27 @@ impl RecvWindow {
         ensures answer { result ≡ arrival_of self.old num }
         ensures held { self.new ≡ after_arrival self.old num (record { op = op; body = bytes.now }) }
     {
-        let arrived = arrival(self.read, &self.slots, num);
+        let arrived = arrival(self.read, self.window, &self.slots, num);
         if arrived == Arrived::Took {
             self.slots.put_lent(num.off(self.read), op, bytes);
         }
         arrived
+    }
+
+    /// Makes this the window that its end announces. What is held past it stays.
+    pub fn set_window(&mut self, window: u16)
+        requires { window ≤ self.old.cap }
+        ensures { self.new ≡ after_announcement self.old window }
+    {
+        self.window = window;
+    }
+
+    /// The window that its end announces: how far past the number last read an item is taken.
+    pub fn window(&self) -> u16
+        ensures value { result ≡ self.now.window }
+        ensures fits { result ≤ self.now.cap }
+    {
+        self.window
     }
 
     /// Lends the next item, where it is held.
@@ -137,7 +159,7 @@ impl RecvWindow {
         self.read
     }
 
-    /// The window: how far past the number last read an item is taken.
+    /// The most that the window may be: how many items it has room for.
     pub fn cap(&self) -> u16
         ensures value { result ≡ self.now.cap }
         // What a caller may know of any receive window.
@@ -168,18 +190,21 @@ impl RecvWindow {
         ensures { self.new ≡ clear_receive self.old.cap }
     {
         self.slots.clear();
+        self.window = self.slots.cap();
         self.read = PktNum(0);
     }
 }
 
 /// What becomes of an item that arrives with a number, where `read` is the number last read.
-fn arrival(read: PktNum, slots: &Slots, num: PktNum) -> Arrived
-    ensures { result ≡ arrival_of (receive_view read slots.now) num }
+fn arrival(read: PktNum, window: u16, slots: &Slots, num: PktNum) -> Arrived
+    ensures { result ≡ arrival_of (receive_view read window slots.now) num }
 {
     let offset = num.off(read);
-    if 1 <= offset && offset <= slots.cap() && slots.get(offset).is_none() {
+    if slots.get(offset).is_some() {
+        Arrived::Duplicate
+    } else if 1 <= offset && offset <= window {
         Arrived::Took
-    } else if slots.cap() < offset && num.after(read) {
+    } else if num.after(read) {
         Arrived::Outside
     } else {
         Arrived::Duplicate

@@ -48,6 +48,7 @@ ticked_text Probed = line (codes "ticked probed")
 abbrev pub stepped_text : Stepped → List ℕ
 stepped_text (did.Wrote num) = numbered_line (codes "wrote") num
 stepped_text (did.Read read) = read_text read
+stepped_text (did.Announced window) = numbered_line (codes "announced") window
 stepped_text (did.Ticked ticked) = ticked_text ticked
 stepped_text did.Closed = line (codes "closed")
 stepped_text (did.Accepted num) = numbered_line (codes "accepted") num

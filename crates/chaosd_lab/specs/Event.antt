@@ -3,7 +3,7 @@ use Rattle.std.specs.Prelude.{ℕ, List, codes, Option, Some, None, option_map, 
 use Rattle.std.specs.Str.{bytes_eq}
 use Rattle.chaos_lab.specs.declared.side.Side.{Side}
 use Rattle.chaos_lab.specs.Laboratory.{Happening}
-use Rattle.chaos_lab.specs.Laboratory.Happening.{WriteBy, ReadBy, TickOf, CloseBy, AcceptFrom, DeliverCopy}
+use Rattle.chaos_lab.specs.Laboratory.Happening.{WriteBy, ReadBy, AnnounceBy, TickOf, CloseBy, AcceptFrom, DeliverCopy}
 use Rattle.chaosd_lab.specs.Fields.{cut, field_and_text}
 use Rattle.chaosd_lab.specs.Numbers.{side_of, number_of, opcode_of}
 use Rattle.chaosd_engines.specs.Escapes.{data_of}
@@ -39,6 +39,14 @@ write_of rest = write_parts (cut rest)
 abbrev pub read_of : List ℕ → Option Happening
 read_of rest = option_map ReadBy (side_of rest)
 
+abbrev pub window_parts : Option (List ℕ × List ℕ) → Option Happening
+window_parts None = None
+window_parts (Some p) = from_both AnnounceBy (side_of p.0) (number_of greatest_number p.1)
+
+-- `S N`, the window
+abbrev pub window_of : List ℕ → Option Happening
+window_of rest = window_parts (cut rest)
+
 abbrev pub tick_parts : Option (List ℕ × List ℕ) → Option Happening
 tick_parts None = None
 tick_parts (Some p) = from_both TickOf (side_of p.0) (number_of greatest_moment p.1)
@@ -63,10 +71,11 @@ abbrev pub event_by : List ℕ → List ℕ → Option Happening
 event_by word rest =
     if bytes_eq word (codes "write") then write_of rest
     else (if bytes_eq word (codes "read") then read_of rest
+    else (if bytes_eq word (codes "window") then window_of rest
     else (if bytes_eq word (codes "tick") then tick_of rest
     else (if bytes_eq word (codes "close") then close_of rest
     else (if bytes_eq word (codes "accept") then accept_of rest
-    else (if bytes_eq word (codes "deliver") then deliver_of rest else None)))))
+    else (if bytes_eq word (codes "deliver") then deliver_of rest else None))))))
 
 abbrev pub event_parts : Option (List ℕ × List ℕ) → Option Happening
 event_parts None = None

@@ -71,6 +71,7 @@ fn put_stepped(out: &mut WriteBuffer, stepped: &Stepped) -> Result<(), NotWritte
     match stepped {
         Stepped::Wrote(num) => put_numbered(out, "wrote", usize::from(num.0)),
         Stepped::Read(read) => put_read(out, read),
+        Stepped::Announced(window) => put_numbered(out, "announced", usize::from(*window)),
         Stepped::Ticked(ticked) => put_ticked(out, *ticked),
         Stepped::Closed => put_line(out, "closed"),
         Stepped::Accepted(num) => put_numbered(out, "accepted", usize::from(num.0)),

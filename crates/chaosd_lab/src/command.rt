@@ -12,6 +12,7 @@ use chaosd_engines::Data;
 pub enum Command {
     Write(Side, Opcode, Data),
     Read(Side),
+    Window(Side, u16),
     Tick(Side, u64),
     Close(Side, Data),
     Accept(PktNum),
@@ -26,6 +27,7 @@ impl Command {
         match self {
             Command::Write(side, op, data) => Event::Write(*side, *op, data.as_slice()),
             Command::Read(side) => Event::Read(*side),
+            Command::Window(side, window) => Event::Announce(*side, *window),
             Command::Tick(side, now) => Event::Tick(*side, *now),
             Command::Close(side, data) => Event::Close(*side, data.as_slice()),
             Command::Accept(start) => Event::Accept(*start),

@@ -78,5 +78,6 @@ pub fn conn_fault_name(fault: ConnFault) -> &'static str
         ConnFault::WrongState => "6 WrongState",
         ConnFault::BadAddress => "7 BadAddress",
         ConnFault::BadRequest => "8 BadRequest",
+        ConnFault::BadWindow => "9 BadWindow",
     }
 }

@@ -1,7 +1,7 @@
 //! The event that a line asks for.
 ghost use Rattle.std.specs.Prelude.{◌≡◌, option_map};
 ghost use Rattle.chaosd_lab.specs.Command.{happening_said};
-ghost use Rattle.chaosd_lab.specs.Event.{write_of, write_at, read_of, tick_of, close_of, accept_of, deliver_of, event_of};
+ghost use Rattle.chaosd_lab.specs.Event.{write_of, write_at, read_of, window_of, tick_of, close_of, accept_of, deliver_of, event_of};
 
 use crate::command::Command;
 use crate::fields::{cut, field_and_text};
@@ -31,6 +31,15 @@ fn read_of(rest: &[u8]) -> Option<Command>
     ensures { option_map happening_said result ≡ read_of rest.now }
 {
     Some(Command::Read(side_of(rest)?))
+}
+
+/// `S N`, the window that a side announces.
+fn window_of(rest: &[u8]) -> Option<Command>
+    ensures { option_map happening_said result ≡ window_of rest.now }
+{
+    let (side, window) = cut(rest)?;
+    let window = number_of(u64::from(u16::MAX), window);
+    Some(Command::Window(side_of(side)?, window? as u16))
 }
 
 /// `S N`.
@@ -75,6 +84,8 @@ pub fn event_of(line: &[u8]) -> Option<Command>
         write_of(rest)
     } else if word == b"read".as_slice() {
         read_of(rest)
+    } else if word == b"window".as_slice() {
+        window_of(rest)
     } else if word == b"tick".as_slice() {
         tick_of(rest)
     } else if word == b"close".as_slice() {

@@ -77,6 +77,25 @@ fn refusals_and_texts(rt: HostRuntime) -> Result<(), Fail> {
     Ok(())
 }
 
+/// An end announces a smaller window; an older status that comes late announces the greater one again.
+const WINDOW: &[u8] =
+    b"ends 2 2 2 2 10\ndeliver 0\naccept 100\ndeliver 1\nwindow a 1\ndeliver 2\ndeliver 3\nwrite b 200 X\nwrite b 200 Y\ndeliver 4\nread a\n";
+
+const WINDOW_TEXT: &[u8] =
+    b"copy 0 a RFC num 10 ack 0\ndelivered Requested\naccepted 100\ncopy 1 b OPN num 100 ack 10\ndelivered Opened\ncopy 2 a STS num 0 ack 100\nannounced 1\ncopy 3 a STS num 0 ack 100\ndelivered Status\ndelivered Status\nwrote 101\ncopy 4 b DAT num 101 ack 10\nrefused 3 4 Full\ndelivered Took\nread 200 X\ncopy 5 a STS num 0 ack 101\nstored a 0 b 1\n";
+
+#[test]
+fn a_smaller_window_is_announced(rt: HostRuntime) -> Result<(), Fail> {
+    plays(&rt, WINDOW, WINDOW_TEXT, Ok(1));
+    plays(
+        &rt,
+        b"ends 2 2 2 2 10\nwindow b 1\ndeliver 0\nwindow b 1\naccept 100\nwindow b 3\nwindow b 0\n",
+        b"copy 0 a RFC num 10 ack 0\nrefused 3 1 NotOpen\ndelivered Requested\nrefused 3 1 NotOpen\naccepted 100\ncopy 1 b OPN num 100 ack 10\nrefused 3 9 BadWindow\nannounced 0\ncopy 2 b STS num 0 ack 10\nstored a 1 b 1\n",
+        Ok(3),
+    );
+    Ok(())
+}
+
 /// A line that is of no form ends the run; the text of the lines before it stands.
 #[test]
 fn bad_lines(rt: HostRuntime) -> Result<(), Fail> {

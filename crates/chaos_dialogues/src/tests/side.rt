@@ -13,6 +13,8 @@ use std::test::Fail;
 pub struct Side {
     pub conn: Conn,
     pub out: Outbox,
+    /// The window that the end announces.
+    window: u16,
     now: u64,
 }
 
@@ -25,6 +27,7 @@ pub enum Call<'a> {
     Answer(&'a [u8]),
     Reject(&'a [u8]),
     Unc(&'a [u8]),
+    Announce(u16),
     Close(&'a [u8]),
 }
 
@@ -38,6 +41,7 @@ pub fn inactive(alloc: Global, config: ConnConfig) -> Result<Side, Fail> {
     Ok(Side {
         conn: Conn::new(alloc, config)?,
         out: outbox::empty(alloc)?,
+        window: config.recv_cap(),
         now: 0,
     })
 }
@@ -156,9 +160,18 @@ impl Side {
             Call::Answer(bytes) => conn.answer(bytes, out),
             Call::Reject(text) => conn.reject(text, out),
             Call::Unc(bytes) => conn.unc(bytes, out),
+            Call::Announce(window) => conn.announce(window, out),
             Call::Close(text) => conn.close(text, out),
         };
         assert_eq!(rt; got, want);
+    }
+
+    /// The user announces a window, and an STS with this receipt and acknowledgement tells it.
+    pub fn announces(&mut self, rt: &impl Abort, window: u16, receipt: u16, ack: u16) {
+        self.does(rt, Call::Announce(window), Ok(()));
+        self.window = window;
+        self.sends_status(rt, receipt, ack);
+        self.is_quiet(rt);
     }
 
     pub fn writes(
@@ -208,9 +221,8 @@ impl Side {
     /// The oldest packet that went out is an STS with this receipt and acknowledgement.
     pub fn sends_status(&mut self, rt: &impl Abort, receipt: u16, ack: u16) {
         let sts = outbox::oldest(rt, &mut self.out);
-        let window = self.conn.config().recv_cap();
         assert_eq!(rt; (sts.op.0, sts.num.0, sts.ack.0), (0o7, 0, ack));
-        assert_eq!(rt; sts.status(), Some((PktNum(receipt), window)));
+        assert_eq!(rt; sts.status(), Some((PktNum(receipt), self.window)));
     }
 
     /// The oldest packet that went out goes to the peer, with this opcode, number, acknowledgement and data.

@@ -21,6 +21,7 @@ pub enum Call<'a> {
     Answer(&'a [u8]),
     Reject(&'a [u8]),
     Unc(&'a [u8]),
+    Announce(u16),
     Close(&'a [u8]),
     Release,
 }
@@ -79,6 +80,7 @@ impl Station {
             Call::Answer(bytes) => host.answer(id, bytes, out),
             Call::Reject(text) => host.reject(id, text, out),
             Call::Unc(bytes) => host.unc(id, bytes, out),
+            Call::Announce(window) => host.announce(id, window, out),
             Call::Close(text) => host.close(id, text, out),
             Call::Release => host.release(id, out),
         };

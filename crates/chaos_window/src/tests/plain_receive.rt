@@ -12,6 +12,7 @@ use std::marker::Model;
 #[derive(Drop)]
 pub struct PlainReceive {
     read: PktNum,
+    window: u16,
     slots: Vec<Option<Item>>,
 }
 
@@ -22,9 +23,9 @@ impl Model for PlainReceive {
 
     ghost Value = { ReceiveView };
 
-    ghost view = { λ w. receive_view w.read w.slots.items };
+    ghost view = { λ w. receive_view w.read w.window w.slots.items };
 
-    ghost invariant = { λ w. (1 ≤ length w.slots.items) × (length w.slots.items ≤ MAX_WINDOW) × (length w.slots.items ≤ vec_capacity w.slots) };
+    ghost invariant = { λ w. (1 ≤ length w.slots.items) × (length w.slots.items ≤ MAX_WINDOW) × (length w.slots.items ≤ vec_capacity w.slots) × (w.window ≤ length w.slots.items) };
 }
 
 impl Receives for PlainReceive {
@@ -33,16 +34,19 @@ impl Receives for PlainReceive {
     fn started(alloc: Global, cap: u16, num: PktNum) -> Result<Self, AllocError> {
         let mut slots = Vec::with_capacity(alloc, cap as usize)?;
         add_empty(&mut slots, cap as usize);
-        Ok(PlainReceive { read: num, slots })
+        Ok(PlainReceive {
+            read: num,
+            window: cap,
+            slots,
+        })
     }
 
     fn arrive(&mut self, num: PktNum, item: Item) -> Arrived {
-        let offset = num.off(self.read) as usize;
-        if 1 <= offset && offset <= self.slots.len() {
-            if self.slots[offset - 1].is_some() {
-                return Arrived::Duplicate;
-            }
-            self.slots[offset - 1] = Some(item);
+        let offset = num.off(self.read);
+        if self.held_at(offset).is_some() {
+            Arrived::Duplicate
+        } else if 1 <= offset && offset <= self.window {
+            self.slots[offset as usize - 1] = Some(item);
             Arrived::Took
         } else if num.after(self.read) {
             Arrived::Outside
@@ -67,6 +71,14 @@ impl Receives for PlainReceive {
 
     fn discard(&mut self) -> bool {
         self.advance().is_some()
+    }
+
+    fn set_window(&mut self, window: u16) {
+        self.window = window;
+    }
+
+    fn window(&self) -> u16 {
+        self.window
     }
 
     fn receipt(&self) -> PktNum {
@@ -100,6 +112,7 @@ impl Receives for PlainReceive {
         let cap = self.slots.len();
         self.slots.clear();
         add_empty(&mut self.slots, cap);
+        self.window = cap as u16;
         self.read = PktNum(0);
     }
 }

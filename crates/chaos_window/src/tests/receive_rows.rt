@@ -19,6 +19,8 @@ enum Step {
     Read(u16),
     /// The item with this number is lent, and then dropped.
     Discard(u16),
+    /// This window is announced.
+    Announce(u16),
     /// Nothing can be read.
     Nothing,
     Clear,
@@ -52,6 +54,12 @@ fn take<W: Receives>(rt: &impl Abort, window: &mut W, step: &Step) {
             assert!(rt; front == Some(bytes_of(*num).as_slice()), "the item {num}");
             assert!(rt; window.discard(), "the item {num}");
         }
+        Step::Announce(announced) => {
+            if *announced <= window.cap() {
+                window.set_window(*announced);
+            }
+            assert_eq!(rt; window.window(), *announced);
+        }
         Step::Nothing => {
             assert!(rt; window.held_at(1).is_none());
             assert!(rt; window.advance().is_none());
@@ -65,14 +73,11 @@ fn take<W: Receives>(rt: &impl Abort, window: &mut W, step: &Step) {
     }
 }
 
-/// Takes the steps in a window of cap 3 that last read 65535.
-fn walk<W: Receives + Drop>(rt: &impl Abort, alloc: Global, steps: &[Step]) -> Result<(), Fail> {
-    let mut window = W::started(alloc, 3, PktNum(65535))?;
-    assert_eq!(rt; window.cap(), 3);
+/// Takes the steps in a window.
+fn walk<W: Receives + Drop>(rt: &impl Abort, mut window: W, steps: &[Step]) {
     for step in steps {
         take(rt, &mut window, step);
     }
-    Ok(())
 }
 
 #[test]
@@ -91,8 +96,11 @@ fn items_are_read_in_the_order_of_their_numbers(rt: HostRuntime) -> Result<(), F
         Step::Arrive(32770, Arrived::Duplicate),
         Step::Stands(2, 2, 0),
     ];
-    walk::<RecvWindow>(&rt, rt.alloc(), &steps)?;
-    walk::<PlainReceive>(&rt, rt.alloc(), &steps)
+    let window = RecvWindow::started(rt.alloc(), 3, PktNum(65535))?;
+    walk(&rt, window, &steps);
+    let window = PlainReceive::started(rt.alloc(), 3, PktNum(65535))?;
+    walk(&rt, window, &steps);
+    Ok(())
 }
 
 #[test]
@@ -115,8 +123,11 @@ fn lent_items_are_copied_and_discarded_in_the_order_of_their_numbers(
         Step::Clear,
         Step::Stands(0, 0, 0),
     ];
-    walk::<RecvWindow>(&rt, rt.alloc(), &steps)?;
-    walk::<PlainReceive>(&rt, rt.alloc(), &steps)
+    let window = RecvWindow::started(rt.alloc(), 3, PktNum(65535))?;
+    walk(&rt, window, &steps);
+    let window = PlainReceive::started(rt.alloc(), 3, PktNum(65535))?;
+    walk(&rt, window, &steps);
+    Ok(())
 }
 
 #[test]
@@ -130,6 +141,36 @@ fn a_gap_hides_the_front_until_it_is_filled(rt: HostRuntime) -> Result<(), Fail>
         Step::Read(0),
         Step::Discard(1),
     ];
-    walk::<RecvWindow>(&rt, rt.alloc(), &steps)?;
-    walk::<PlainReceive>(&rt, rt.alloc(), &steps)
+    let window = RecvWindow::started(rt.alloc(), 3, PktNum(65535))?;
+    walk(&rt, window, &steps);
+    let window = PlainReceive::started(rt.alloc(), 3, PktNum(65535))?;
+    walk(&rt, window, &steps);
+    Ok(())
+}
+
+#[test]
+fn items_held_past_a_smaller_window_stay(rt: HostRuntime) -> Result<(), Fail> {
+    let steps = [
+        Step::Arrive(13, Arrived::Took),
+        Step::Announce(1),
+        Step::Arrive(13, Arrived::Duplicate),
+        Step::Arrive(12, Arrived::Outside),
+        Step::Arrive(11, Arrived::Took),
+        Step::Read(11),
+        Step::Arrive(12, Arrived::Took),
+        Step::Read(12),
+        Step::Read(13),
+        Step::Stands(13, 13, 0),
+        Step::Announce(0),
+        Step::Arrive(14, Arrived::Outside),
+        Step::Arrive(32781, Arrived::Duplicate),
+        Step::Announce(4),
+        Step::Lent(14, Arrived::Took),
+        Step::Clear,
+    ];
+    let window = RecvWindow::started(rt.alloc(), 4, PktNum(10))?;
+    walk(&rt, window, &steps);
+    let window = PlainReceive::started(rt.alloc(), 4, PktNum(10))?;
+    walk(&rt, window, &steps);
+    Ok(())
 }

@@ -1,7 +1,7 @@
 //! Receive windows, whatever they keep their items in.
 ghost use Rattle.std.specs.Prelude.{◌≡◌, ◌≤◌, length, is_some, IfOk};
 ghost use Rattle.std.specs.Option.{option_copied};
-ghost use Rattle.chaos_window.specs.Receive.{ReceiveView, item_at, clear_receive, started_receive, arrival_of, after_arrival, after_advance, receipt_of, held_count};
+ghost use Rattle.chaos_window.specs.Receive.{ReceiveView, item_at, clear_receive, started_receive, arrival_of, after_arrival, after_advance, after_announcement, receipt_of, held_count};
 
 use crate::{Arrived, MAX_WINDOW, RecvWindow};
 use chaos_packet::{Item, MAX_DATA, Opcode, PktNum};
@@ -32,6 +32,13 @@ pub trait Receives {
     fn discard(&mut self) -> bool
         ensures was_held { result ≡ is_some (item_at (seen self.old) 1) }
         ensures rest { seen self.new ≡ after_advance (seen self.old) };
+
+    fn set_window(&mut self, window: u16)
+        requires { window ≤ (seen self.old).cap }
+        ensures { seen self.new ≡ after_announcement (seen self.old) window };
+
+    fn window(&self) -> u16
+        ensures { result ≡ (seen self.now).window };
 
     fn receipt(&self) -> PktNum
         ensures { result ≡ receipt_of (seen self.now) };
@@ -78,6 +85,14 @@ impl Receives for RecvWindow {
 
     fn discard(&mut self) -> bool {
         self.discard()
+    }
+
+    fn set_window(&mut self, window: u16) {
+        self.set_window(window);
+    }
+
+    fn window(&self) -> u16 {
+        self.window()
     }
 
     fn receipt(&self) -> PktNum {
