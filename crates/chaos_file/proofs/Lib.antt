@@ -5,3 +5,4 @@ pub mod Files
 pub mod Replies
 pub mod Spelling
 pub mod Reading
+pub mod NoMemory

@@ -228,7 +228,7 @@ tail_spells : (t h tail : List ℕ) (end : ℕ) → SpellsTail t h tail (parse_o
 tail_spells t h tail end = tail_or t h tail (parse_of_word t h (drop end tail) (word_of (take end tail))) (word_spells t h end tail (word_of (take end tail)) refl) (end == 0)
 
 -- the head of a command: its two legal names, and what follows
-IsHead : List ℕ → Head → Type 0
+unfoldable pub IsHead : List ℕ → Head → Type 0
 IsHead bytes h = (bytes ≡ h.tid ++ space ∷ (h.handle ++ space ∷ h.tail)) × (is_name 1 MAX_TID h.tid ≡ true) × (is_name 0 MAX_HANDLE h.handle ≡ true)
 
 head_if : (bytes : List ℕ) (g h : Head) (a b : Bool) → bytes ≡ g.tid ++ space ∷ (g.handle ++ space ∷ g.tail) → is_name 1 MAX_TID g.tid ≡ a → is_name 0 MAX_HANDLE g.handle ≡ b → (if a && b then Some g else None) ≡ Some h → IsHead bytes h
@@ -246,7 +246,7 @@ named_parts bytes tid after h e None f k = (cc, cc, cc)
 named_parts bytes tid after h e (Some q) f k =
     head_if bytes (record { tid = tid; handle = q.0; tail = q.1 }) h (is_name 1 MAX_TID tid) (is_name 0 MAX_HANDLE q.0) (e ∙ ap (λ x. tid ++ space ∷ x) (cut_parts space after q f)) refl refl k
 
-head_parts : (bytes : List ℕ) (h : Head) → (o : Option (List ℕ × List ℕ)) → cut space bytes ≡ o → head_after o ≡ Some h → IsHead bytes h
+pub head_parts : (bytes : List ℕ) (h : Head) → (o : Option (List ℕ × List ℕ)) → cut space bytes ≡ o → head_after o ≡ Some h → IsHead bytes h
 unfolding IsHead
 head_parts bytes h None e k = (cc, cc, cc)
 head_parts bytes h (Some q) e k = named_parts bytes q.0 q.1 h (cut_parts space bytes q e) (cut space q.1) refl k

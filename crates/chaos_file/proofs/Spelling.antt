@@ -39,7 +39,7 @@ position_front p xs ys b h e =
 self : (b : ℕ) → (b == b) ≡ true
 self b = search rules
 
-cut_front : (stop : ℕ) (xs ys : List ℕ) → list_all (λ x. not (x == stop)) xs ≡ true → cut stop (xs ++ stop ∷ ys) ≡ Some (xs, ys)
+pub cut_front : (stop : ℕ) (xs ys : List ℕ) → list_all (λ x. not (x == stop)) xs ≡ true → cut stop (xs ++ stop ∷ ys) ≡ Some (xs, ys)
 cut_front stop xs ys h =
     let at : position (λ b. b == stop) (xs ++ stop ∷ ys) ≡ Some (length xs) = position_front (λ b. b == stop) xs ys stop h (self stop) in
     rw at (ap (λ a. Some (a, drop (length xs + 1) (xs ++ stop ∷ ys))) (take-append_seam xs (stop ∷ ys)) ∙ ap (λ d. Some (xs, d)) (drop-append-add xs (stop ∷ ys) 1))
@@ -54,10 +54,10 @@ not_stop : (p : ℕ → Bool) (stop x : ℕ) → p stop ≡ false → (b : Bool)
 not_stop p stop x none false e h = refl
 not_stop p stop x none true e h = let same : x ≡ stop = eqb-true x stop e in let k : true ≡ false = sym h ∙ ap p same ∙ none in cc
 
-without : (p : ℕ → Bool) (stop : ℕ) → p stop ≡ false → (xs : List ℕ) → list_all p xs ≡ true → list_all (λ x. not (x == stop)) xs ≡ true
+pub without : (p : ℕ → Bool) (stop : ℕ) → p stop ≡ false → (xs : List ℕ) → list_all p xs ≡ true → list_all (λ x. not (x == stop)) xs ≡ true
 without p stop none xs h = all_weaker p (λ x. not (x == stop)) (λ x k. not_stop p stop x none (x == stop) refl k) xs h
 
-name_letters : (least most : ℕ) (name : List ℕ) → is_name least most name ≡ true → list_all is_ascii_alphanumeric name ≡ true
+pub name_letters : (least most : ℕ) (name : List ℕ) → is_name least most name ≡ true → list_all is_ascii_alphanumeric name ≡ true
 name_letters least most name h = both_right (nat_le least (length name) && nat_le (length name) most) (list_all is_ascii_alphanumeric name) h
 
 path_bytes : (path : List ℕ) → is_path path ≡ true → list_all is_path_byte path ≡ true

@@ -15,3 +15,4 @@ pub mod Outcome
 pub mod Apply
 pub mod Replies
 pub mod Spelling
+pub mod Want

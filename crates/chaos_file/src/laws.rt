@@ -9,6 +9,7 @@ ghost use Rattle.chaos_file.specs.Answer.{reply_to};
 ghost use Rattle.chaos_file.specs.Step.{file_step};
 ghost use Rattle.chaos_file.specs.Apply.{IsApplied, IsStep};
 ghost use Rattle.chaos_file.specs.Replies.{memory_change, replies_of, replies_from, files_after, session_after};
+ghost use Rattle.chaos_file.specs.Want.{is_want};
 ghost use Rattle.chaos_file.specs.declared.error.FileError.TheVariants.{NoMemory};
 
 /// The bytes that are read as a command are those that spell it, with legal names and parts.
@@ -36,4 +37,10 @@ pub fn law_replies()
 pub fn law_honest()
     ensures { (m n : Files) (s t : SessionView) (c reply : List ℕ) → IsApplied (memory_change m n) s t c reply →
         ¬ (reply ≡ reply_to (parse_of c) (Err NoMemory)) → IsStep (memory_change m n) (file_step m s c) reply t }
+{}
+
+/// The reply for want of memory to any command is told as such by [`is_want`](crate::is_want).
+#[tactic(auto, using(crate::proofs::NoMemory::want_told))]
+pub fn law_want()
+    ensures { (command : List ℕ) → is_want (reply_to (parse_of command) (Err NoMemory)) ≡ true }
 {}

@@ -23,6 +23,7 @@ mod session;
 mod store;
 #[cfg(test)]
 mod tests;
+mod want;
 
 pub use answer::Reply;
 pub use command::{Command, Parsed, Word};
@@ -30,7 +31,7 @@ pub use dir_store::DirStore;
 pub use error::FileError;
 pub use file_bytes::FileBytes;
 pub use fuse_store::FuseStore;
-pub use laws::{law_honest, law_replies, law_spelling};
+pub use laws::{law_honest, law_replies, law_spelling, law_want};
 pub use limits::{
     MAX_CHUNK, MAX_FILE, MAX_HANDLE, MAX_HANDLES, MAX_NAME, MAX_PATH, MAX_REPLY, MAX_TID, NL,
 };
@@ -38,3 +39,4 @@ pub use mem_store::MemStore;
 pub use parse::parse_command;
 pub use session::Session;
 pub use store::{Got, Removed, Renamed, Store, Stored};
+pub use want::is_want;

@@ -13,6 +13,8 @@ use Rattle.chaos_conn.specs.declared.state.State.TheVariants as st
 use Rattle.chaos_conn.specs.declared.answers.ReadEnd.{ReadEnd}
 use Rattle.chaos_conn.specs.declared.answers.ReadEnd.TheVariants as gave
 use Rattle.chaos_conn.specs.Calls.{act_read}
+use Rattle.chaos_conn.specs.Acted.{Acted}
+use Rattle.chaos_conn.specs.Opening.{Outcome as Asked}
 use Rattle.chaos_conn.specs.View.{new_conn}
 use Rattle.chaos_conn.specs.Config.{ConfigView, IsConfig}
 use Rattle.chaos_conn.specs.State.{is_ended}
@@ -27,9 +29,9 @@ use Rattle.chaos_lab.specs.Machine.Kind.{Nth, Sns, Sts, Cls}
 use Rattle.chaos_lab.specs.Machine.Event.{Deliver}
 use Rattle.chaos_lab.specs.Law.{DeliversInside}
 use Rattle.chaos_lab.specs.Shown.{Rest, shown_at, HasItems, IsWhat, is_a}
-use Rattle.chaos_lab.specs.Laboratory.{LabView, Happening, lab_end, lab_start, lab_request, stamp, with_given, happen, delivery_effect, is_fresh, is_request, call_at, after_call, after_all}
+use Rattle.chaos_lab.specs.Laboratory.{LabView, Happening, lab_end, start_for, stamp, with_given, happen, delivery_effect, is_fresh, is_request, call_at, after_call, after_all}
 use Rattle.chaos_lab.specs.Laboratory.Happening.{DeliverCopy}
-use Rattle.chaos_lab.specs.Tied.{HasMachine, StandsCopy, Tied, Ties, base_of, lab_machine, plain_run}
+use Rattle.chaos_lab.specs.Tied.{HasMachine, StandsCopy, Tied, Ties, base_of, machine_for, plain_run}
 use Rattle.chaos_lab.specs.Headline.{len_at, IsCopyOf, ComesInside, Unclosed, ReadsInTurn}
 use Rattle.chaos_lab.proofs.Copies.{KindOk, len_of}
 use Rattle.chaos_lab.proofs.Calls.{last_item}
@@ -37,7 +39,7 @@ use Rattle.chaos_lab.proofs.Lists.{length-one_more}
 use Rattle.chaos_lab.proofs.Machines.{Holds, copy_at, reached_holds, end_holds}
 use Rattle.chaos_lab.proofs.OpenEnd.{is_open, open_is}
 use Rattle.chaos_lab.proofs.DeliveryLaw.{beginning, in_turn}
-use Rattle.chaos_lab.proofs.StartTie.{tied_start}
+use Rattle.chaos_lab.proofs.StartTie.{asked_for, asks, tied_start}
 use Rattle.chaos_lab.proofs.OnSide.{Outcome, Refuses, Steps, Stepped, conn_at, stands_at, written_at, read_at}
 use Rattle.chaos_lab.proofs.UserTies.{read_ties}
 use Rattle.chaos_lab.proofs.CopyTies.{CopyKnown, copy_known, copy_of}
@@ -46,11 +48,13 @@ use Rattle.chaos_lab.proofs.Runs.{runs, unclosed}
 
 -- ---- the start
 
-pub start_ties : (config_a config_b : ConfigView) (number : ℕ) → number < 65536 → IsConfig config_a → IsConfig config_b → Ties (lab_machine config_a config_b) (lab_start config_a config_b number)
-start_ties config_a config_b number fits a b =
-    let t = tied_start number 0 config_a config_b fits (a.some_send, a.send_fits, a.some_recv, a.recv_fits) (b.some_send, b.send_fits, b.some_recv, b.recv_fits) in
+pub start_ties : (contact : List ℕ) (config_a config_b : ConfigView) (number : ℕ) → length contact ≤ 488 → number < 65536 → IsConfig config_a → IsConfig config_b → Ties (machine_for contact config_a config_b) (start_for contact config_a config_b number)
+start_ties contact config_a config_b number short fits a b =
+    let t = tied_start number 0 contact config_a config_b fits (a.some_send, a.send_fits, a.some_recv, a.recv_fits) (b.some_send, b.send_fits, b.some_recv, b.recv_fits) in
+    let sent : Tied number 0 (machine_for contact config_a config_b) (asked_for contact config_a number).view (new_conn config_b) (map (stamp A 1 0) (asked_for contact config_a number).packets) =
+    subst (λ ps. Tied number 0 (machine_for contact config_a config_b) (asked_for contact config_a number).view (new_conn config_b) (map (stamp A 1 0) ps)) (sym t.1) t.2 in
     record {
-      tied = subst (λ ps. Tied number 0 (lab_machine config_a config_b) (lab_request config_a number).view (new_conn config_b) (map (stamp A 1 0) ps)) (sym t.1) t.2;
+      tied = subst (λ (acted : Acted Asked). Tied number 0 (machine_for contact config_a config_b) acted.view (new_conn config_b) (map (stamp A 1 0) acted.packets)) (sym (asks contact config_a number short)) sent;
       written_a = refl;
       written_b = refl;
       read_a = refl;
@@ -89,7 +93,7 @@ open_by Open x rest b b' p e end h = refl
 open_by Ended x rest b b' p e end h = absurd (false≢true (sym (ap is_ended h) ∙ end))
 open_by Closed x rest b b' p e end h = let no : st.Inactive ≡ st.Open = h in absurd (cc)
 
-open_at : (x : Side) (w : Machine) (l : LabView) → Ties w l → (conn_at l x).state ≡ st.Open → (end_of w x).phase ≡ Open
+pub open_at : (x : Side) (w : Machine) (l : LabView) → Ties w l → (conn_at l x).state ≡ st.Open → (end_of w x).phase ≡ Open
 open_at x w l t h = let s = stands_at x w l t in open_by (end_of w x).phase x s.0 _ _ (end_of w (other x)) (end_of w x) s.1 (sym (ap (λ v. v.state) s.2) ∙ h)
 
 -- and it announces what its connection does

@@ -37,3 +37,4 @@ pub mod CopyTies
 pub mod LabTies
 pub mod Runs
 pub mod HeadlineLaw
+pub mod Turns

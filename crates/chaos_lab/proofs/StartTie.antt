@@ -1,8 +1,8 @@
 -- The start: A has requested, B is new.
-use Rattle.std.proofs.Common.{◌≡◌, ℕ, ◌<◌, [], ◌∷◌, Some, refl, sym, ap, inl, arith}
+use Rattle.std.proofs.Common.{◌≡◌, ℕ, ◌<◌, ◌≤◌, List, [], ◌∷◌, length, Some, Ok, refl, sym, ap, inl, arith}
 use Rattle.std.specs.FinSet.{contains, empty, contains-empty}
 use Rattle.std.specs.Ordering.{nat_cmp}
-use Rattle.std.proofs.lemmas.Bool.{cond-false}
+use Rattle.std.proofs.lemmas.Bool.{cond-false, le-ltb}
 use Rattle.std.proofs.lemmas.List.Elements.{All-push, All-nil}
 use Rattle.chaos_lab.specs.declared.side.Side.TheVariants.{A}
 use Rattle.chaos_lab.specs.Machine.Told.{Nothing}
@@ -15,7 +15,9 @@ use Rattle.chaos_packet.specs.Item.{ItemView}
 use Rattle.chaos_window.specs.Receive.{started_receive}
 use Rattle.chaos_conn.specs.Config.{ConfigView}
 use Rattle.chaos_conn.specs.View.{new_conn}
-use Rattle.chaos_conn.specs.Opening.{act_request}
+use Rattle.chaos_conn.specs.Acted.{Acted}
+use Rattle.chaos_conn.specs.Sending.{with_item}
+use Rattle.chaos_conn.specs.Opening.{Outcome, act_request, after_asking, rfc_item}
 use Rattle.chaos_lab.specs.Shown.{Rest, shown, send_view, recv_view, recv_shown, place_of}
 use Rattle.chaos_lab.specs.Tied.{Agrees, MetBefore, Tied}
 use Rattle.chaos_lab.specs.Laboratory.{stamp}
@@ -26,12 +28,17 @@ rest_of c = record { retransmit = c.retransmit; probe = c.probe; down = c.down; 
 abbrev caps_of : ConfigView → Caps
 caps_of c = record { send = c.send_cap; recv = c.recv_cap }
 
-abbrev pub lab_rfc : ItemView
-lab_rfc = record { op = 1; body = 76 ∷ 65 ∷ 66 ∷ [] }
+-- the request of a contact that fits into a packet
+abbrev pub asked_for : List ℕ → ConfigView → ℕ → Acted Outcome
+asked_for contact c number = with_item (after_asking (new_conn c) (place_of A) 258 number 0) (rfc_item contact) (Ok tt)
 
--- A has requested contact LAB of B at moment 0
-pub tied_start : (ba bb : ℕ) (ca cb : ConfigView) → ba < 65536 → AreCaps (caps_of ca) → AreCaps (caps_of cb) → let acted = act_request (new_conn ca) (place_of A) 258 (76 ∷ 65 ∷ 66 ∷ []) ba 0 in (pk : _) × (acted.packets ≡ pk ∷ []) × Tied ba bb (start (caps_of ca) (caps_of cb) lab_rfc) acted.view (new_conn cb) (stamp A 1 0 pk ∷ [])
-tied_start ba bb ca cb fits right_a right_b =
+pub asks : (contact : List ℕ) (c : ConfigView) (number : ℕ) → length contact ≤ 488 → act_request (new_conn c) (place_of A) 258 contact number 0 ≡ asked_for contact c number
+asks contact c number short = cond-false _ _ _ (le-ltb 488 (length contact) short)
+
+-- A has requested a contact of B at moment 0
+pub tied_start : (ba bb : ℕ) (contact : List ℕ) (ca cb : ConfigView) → ba < 65536 → AreCaps (caps_of ca) → AreCaps (caps_of cb) → let acted = asked_for contact ca ba in (pk : _) × (acted.packets ≡ pk ∷ []) × Tied ba bb (start (caps_of ca) (caps_of cb) (rfc_item contact)) acted.view (new_conn cb) (stamp A 1 0 pk ∷ [])
+tied_start ba bb contact ca cb fits right_a right_b =
+    let lab_rfc : ItemView = rfc_item contact in
     let w : Machine = start (caps_of ca) (caps_of cb) lab_rfc in
     let first : Copy = record { sender = A; kind = Nth 0; told = Nothing; len_a = 1; len_b = 0 } in
     let number : ba ≡ num ba 0 = omega arith in
@@ -48,7 +55,7 @@ tied_start ba bb ca cb fits right_a right_b =
         copies = (record { side = refl; len_a = refl; len_b = refl; stands = record { header = record { dst = refl; dst_index = refl; src = refl; src_index = refl }; what = (refl, first_number); tells = refl } }, tt);
         kinds = All-push (λ c. Agrees c.sender c.kind c.told) [] first (All-nil _) tt;
         met = All-push (MetBefore w) [] first (All-nil _) (λ is. inl refl);
-        items_a = record { first = λ item h. let same : lab_rfc ≡ item = some_is h in ap (λ i. i.op) (sym same); users = λ i item h. absurd (cc) };
+        items_a = record { first = λ item h. let same : rfc_item contact ≡ item = some_is h in ap (λ i. i.op) (sym same); users = λ i item h. absurd (cc) };
         items_b = record { first = λ item h. absurd (cc); users = λ i item h. absurd (cc) };
       },
     )

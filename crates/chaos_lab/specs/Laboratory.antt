@@ -162,19 +162,23 @@ call_at l x call = call_effect l x call (refusal_of (act (lab_end l x).conn call
 abbrev pub lab_contact : List ℕ
 lab_contact = codes "LAB"
 
--- A asks B at moment 0
-abbrev pub lab_request : ConfigView → ℕ → Acted Outcome
-lab_request config start = act_request (new_conn config) (place_of A) (address_of B) lab_contact start 0
+-- A asks B for a contact at moment 0
+abbrev pub request_for : List ℕ → ConfigView → ℕ → Acted Outcome
+request_for contact config start = act_request (new_conn config) (place_of A) (address_of B) contact start 0
 
--- A has requested, and its RFC is copy 0; B is new
-abbrev pub lab_start : ConfigView → ConfigView → ℕ → LabView
-lab_start config_a config_b start = record {
-  a = record { conn = (lab_request config_a start).view; first = start; written = rfc_item lab_contact ∷ []; read = [] };
+-- A has requested a contact, and its RFC is copy 0; B is new
+abbrev pub start_for : List ℕ → ConfigView → ConfigView → ℕ → LabView
+start_for contact config_a config_b start = record {
+  a = record { conn = (request_for contact config_a start).view; first = start; written = rfc_item contact ∷ []; read = [] };
   b = record { conn = new_conn config_b; first = 0; written = []; read = [] };
-  copies = map (stamp A 1 0) (lab_request config_a start).packets;
+  copies = map (stamp A 1 0) (request_for contact config_a start).packets;
   asked = false;
   clock = 0;
 }
+
+-- so for contact `LAB`
+abbrev pub lab_start : ConfigView → ConfigView → ℕ → LabView
+lab_start config_a config_b start = start_for lab_contact config_a config_b start
 
 -- ---- Events
 

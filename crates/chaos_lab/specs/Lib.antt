@@ -8,3 +8,6 @@ pub mod Headline
 pub mod Inside
 pub mod Makes
 pub mod Sound
+pub mod Turn
+pub mod Turning
+pub mod Turns

@@ -93,10 +93,13 @@ abbrev pub plain_run : LabView → List Happening → Schedule
 plain_run l [] = []
 plain_run l (event ∷ events) = plain_next (happen l event).answer (plain_event l event) (plain_run (happen l event).lab events)
 
--- the plain machine of a new laboratory
+-- the plain machine of a new laboratory, whose A asks for a contact
+abbrev pub machine_for : List ℕ → ConfigView → ConfigView → Machine
+machine_for contact a b =
+    start (record { send = a.send_cap; recv = a.recv_cap }) (record { send = b.send_cap; recv = b.recv_cap }) (rfc_item contact)
+
 abbrev pub lab_machine : ConfigView → ConfigView → Machine
-lab_machine a b =
-    start (record { send = a.send_cap; recv = a.recv_cap }) (record { send = b.send_cap; recv = b.recv_cap }) (rfc_item lab_contact)
+lab_machine a b = machine_for lab_contact a b
 
 -- it is tied to a plain machine
 pub record HasMachine (l : LabView) : Type 0 where

@@ -1,5 +1,5 @@
 //! The laboratory.
-ghost use Rattle.std.specs.Prelude.{◌≡◌, true, slice_get, ℕ, List, ◌∷◌, map, Some, Err, IfOk, OnOk, OnErr};
+ghost use Rattle.std.specs.Prelude.{◌≡◌, true, ◌≤◌, length, slice_get, ℕ, List, ◌∷◌, map, Some, Err, IfOk, OnOk, OnErr};
 ghost use Rattle.chaos_conn.specs.Stored.{stored_packets, stored_bytes};
 ghost use Rattle.chaos_packet.specs.Begins.{Begins};
 ghost use Rattle.chaos_packet.specs.Opcode.{is_controlled};
@@ -7,21 +7,27 @@ ghost use Rattle.chaos_packet.specs.Packet.{item_of};
 ghost use Rattle.chaos_lab.specs.declared.side.Side.{Side};
 ghost use Rattle.chaos_lab.specs.declared.stamped.Stamped.{Stamped};
 ghost use Rattle.chaos_lab.specs.Machine.{Machine, Step, Run, other};
-ghost use Rattle.chaos_lab.specs.Laboratory.{Happening, Happens, check, lab_end, lab_start, after_all, StopsWithin};
+ghost use Rattle.chaos_lab.specs.Laboratory.{Happening, Happens, check, lab_end, lab_start, start_for, after_all, StopsWithin};
 ghost use Rattle.chaos_lab.specs.Laboratory.Happening.{DeliverCopy};
 ghost use Rattle.chaos_lab.specs.Headline.{IsCopyOf, ComesInside, Unclosed, ReadsInTurn};
 ghost use Rattle.chaos_lab.specs.Inside.{happening_of};
-ghost use Rattle.chaos_lab.specs.Tied.{Ties, HasMachine, lab_machine, plain_event, plain_run};
+ghost use Rattle.chaos_lab.specs.Turn.{Turn};
+ghost use Rattle.chaos_lab.specs.Turns.{TurnHappens};
+ghost use Rattle.chaos_lab.specs.Tied.{Ties, HasMachine, lab_machine, machine_for, plain_event, plain_run};
 
 use crate::event::{Event, Stepped};
 use crate::fault::LabFault;
 use crate::rig::Rig;
 use crate::side::Side;
 use crate::stamped::Stamped;
+use crate::user::User;
 use chaos_conn::ConnConfig;
-use chaos_packet::{Item, PktNum};
+use chaos_packet::{Item, MAX_DATA, PktNum};
 use std::alloc::{AllocError, Global};
 use std::marker::Model;
+
+/// What A asks for.
+const CONTACT: &[u8] = b"LAB";
 
 /// Two ends of one connection, and every packet that was ever sent between them. A contract sees both connections with all that
 /// each wrote and its user read, and the packets with their stamps.
@@ -58,7 +64,22 @@ impl Lab {
         // which stands for the plain machine's start
         ensures machine { IfOk result (λ lab. Ties (lab_machine config_a config_b) lab) }
     {
-        let rig = Rig::new(alloc, config_a, config_b, start_a)?;
+        Lab::asking_for(alloc, config_a, config_b, CONTACT, start_a)
+    }
+
+    /// So with another contact, of at most 488 bytes.
+    pub fn asking_for(
+        alloc: Global,
+        config_a: ConnConfig,
+        config_b: ConnConfig,
+        contact: &[u8],
+        start_a: PktNum,
+    ) -> Result<Self, AllocError>
+        requires { length contact.now ≤ MAX_DATA }
+        ensures start { IfOk result (λ lab. lab ≡ start_for contact.now config_a config_b start_a) }
+        ensures machine { IfOk result (λ lab. Ties (machine_for contact.now config_a config_b) lab) }
+    {
+        let rig = Rig::new(alloc, config_a, config_b, contact, start_a)?;
         Ok(Lab { rig })
     }
 
@@ -89,6 +110,16 @@ impl Lab {
         ensures machine { OnOk result ((m : Machine) → Ties m self.old → (n : Machine) × Run m (plain_run self.old (map happening_of events.now)) n × Ties n self.new) }
     {
         self.rig.run(events)
+    }
+
+    /// Lets a user of B's connection take a turn, at the greatest moment that was ticked. Its read and its write are events of
+    /// their own: what the read puts out is stamped before the write is counted. Where there is no memory it takes no turn, and
+    /// nothing changes.
+    pub fn take_turn<U: User>(&mut self, alloc: Global, user: &mut U) -> Result<(), AllocError>
+        ensures turn { OnOk result ((turn : Turn) × U.may_turn user.old user.new self.old.b.conn self.old.clock turn × TurnHappens self.old turn self.new) }
+        ensures no_memory { OnErr result ((self.new ≡ self.old) × (user.new ≡ user.old)) }
+    {
+        self.rig.take_turn(alloc, user)
     }
 
     /// All that an end wrote, its item 0 first.

@@ -1,6 +1,8 @@
 //! One end of the laboratory.
 ghost use Rattle.std.specs.Prelude.{◌≡◌, ℕ, ◌<◌, ◌≤◌, [], ◌∷◌, ◌++◌, length, OnOk, OnErr, IfOk, Ok, Some, None, map, slice_get};
-ghost use Rattle.chaos_packet.specs.Outbox.{with_put};
+ghost use Rattle.chaos_packet.specs.Outbox.{room_of, with_put};
+ghost use Rattle.chaos_lab.specs.Turn.{Turn};
+ghost use Rattle.chaos_lab.specs.Turning.{EndTurns};
 ghost use Rattle.chaos_packet.specs.Packet.{item_of};
 ghost use Rattle.chaos_conn.specs.Act.Call.{Accept, Announce, Close, Deliver, Read, TakeRequest, Tick, Write};
 ghost use Rattle.chaos_lab.specs.declared.side.Side.TheVariants.{B};
@@ -10,17 +12,15 @@ ghost use Rattle.chaos_lab.specs.Inside.{end_view, HasRoom};
 ghost use Rattle.chaos_lab.specs.Makes.{Makes};
 ghost use Rattle.chaos_conn.specs.View.{new_conn};
 ghost use Rattle.chaos_conn.specs.Opening.{rfc_item};
-ghost use Rattle.chaos_lab.specs.Laboratory.{lab_request, lab_contact};
+ghost use Rattle.chaos_lab.specs.Laboratory.{request_for};
 
 use crate::event::Stepped;
 use crate::fault::LabFault;
+use crate::user::{Turned, User};
 use chaos_conn::{Conn, ConnConfig, Delivered, End, ReadEnd};
-use chaos_packet::{Item, Opcode, Outbox, Packet, PktNum};
+use chaos_packet::{Item, MAX_DATA, Opcode, Outbox, Packet, PktNum};
 use chaos_window::MAX_WINDOW;
 use std::alloc::{AllocError, Global};
-
-/// What A asks for.
-const CONTACT: &[u8] = b"LAB";
 
 /// Where A is.
 const PLACE_A: End = End {
@@ -63,21 +63,23 @@ impl LabEnd {
     pub(crate) fn asking(
         alloc: Global,
         config: ConnConfig,
+        contact: &[u8],
         start: PktNum,
         out: &mut Outbox,
     ) -> Result<Self, AllocError>
+        requires short { length contact.now ≤ MAX_DATA }
         requires empty { out.old.packets ≡ [] }
         requires fits { 0 < out.old.cap }
-        ensures end { IfOk result (λ e. end_view e ≡ record { conn = (lab_request config start).view; first = start; written = rfc_item lab_contact ∷ []; read = [] }) }
+        ensures end { IfOk result (λ e. end_view e ≡ record { conn = (request_for contact.now config start).view; first = start; written = rfc_item contact.now ∷ []; read = [] }) }
         ensures number { IfOk result (λ e. start < 65536) }
-        ensures packets { IfOk result (λ e. out.new ≡ record out.old { packets = (lab_request config start).packets }) }
+        ensures packets { IfOk result (λ e. out.new ≡ record out.old { packets = (request_for contact.now config start).packets }) }
     {
         let mut end = LabEnd::new(alloc, config)?;
         end.first = start;
-        end.written.push(Item::new(Opcode::RFC, CONTACT))?;
+        end.written.push(Item::new(Opcode::RFC, contact))?;
         let _ = end
             .conn
-            .request(PLACE_A, PLACE_B.address, CONTACT, start, 0, out);
+            .request(PLACE_A, PLACE_B.address, contact, start, 0, out);
         Ok(end)
     }
 
@@ -222,6 +224,30 @@ impl LabEnd {
             }
             Err(why) => Err(LabFault::Refused(why)),
         }
+    }
+
+    /// Lets its user take a turn, and keeps a copy of the item that is read in it.
+    pub(crate) fn take_turn<U: User>(
+        &mut self,
+        alloc: Global,
+        user: &mut U,
+        now: u64,
+        out: &mut Outbox,
+    ) -> Turned
+        requires room { HasRoom self.old }
+        requires fits { 2 ≤ room_of out.old }
+        ensures turn { (turn : Turn) × U.may_turn user.old user.new self.old.conn now turn
+            × EndTurns (end_view self.old) now turn (end_view self.new) out.old out.new result }
+        ensures same { self.new.written ≡ self.old.written }
+    {
+        let front = self.front();
+        let turned = user.turn(alloc, &mut self.conn, now, out);
+        if turned != Turned::Rested {
+            if let Some(item) = front {
+                self.read.push_reserved(item);
+            }
+        }
+        turned
     }
 
     /// A copy of the next item that its user can read.

@@ -19,6 +19,7 @@ mod side;
 mod stamped;
 #[cfg(test)]
 mod tests;
+mod user;
 
 pub use event::{Event, Stepped};
 pub use fault::LabFault;
@@ -26,3 +27,4 @@ pub use lab::Lab;
 pub use law::{law_delivery, law_numbers};
 pub use side::Side;
 pub use stamped::Stamped;
+pub use user::{Turned, User};

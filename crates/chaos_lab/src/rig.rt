@@ -6,10 +6,12 @@ ghost use Rattle.chaos_lab.specs.declared.side.Side.TheVariants.{B};
 ghost use Rattle.chaos_conn.specs.Config.{IsConfig};
 ghost use Rattle.chaos_conn.specs.Stored.{stored_packets, stored_bytes};
 ghost use Rattle.chaos_lab.specs.Shown.{place_of};
-ghost use Rattle.chaos_lab.specs.Laboratory.{Happens, happen, lab_end, lab_start, after_all, StopsWithin, Calls, CallsWith, is_fresh, is_request, stamp};
+ghost use Rattle.chaos_lab.specs.Laboratory.{Happens, happen, lab_end, start_for, after_all, StopsWithin, Calls, CallsWith, is_fresh, is_request, stamp};
 ghost use Rattle.chaos_lab.specs.Laboratory.Happening.{DeliverCopy};
 ghost use Rattle.chaos_lab.specs.Inside.{end_view, happening_of, HasRoom};
 ghost use Rattle.chaos_lab.specs.Makes.{MakesAt};
+ghost use Rattle.chaos_lab.specs.Turn.{Turn, IsTaken, turn_events};
+ghost use Rattle.chaos_lab.specs.Turning.{stamped_reply, reply_items};
 
 use crate::both_ends::BothEnds;
 use crate::event::{Event, Stepped};
@@ -17,8 +19,9 @@ use crate::fault::LabFault;
 use crate::lab_end::LabEnd;
 use crate::side::Side;
 use crate::stamped::Stamped;
+use crate::user::{Turned, User};
 use chaos_conn::ConnConfig;
-use chaos_packet::{Item, Kind, Opcode, Outbox, PktNum};
+use chaos_packet::{Item, Kind, MAX_DATA, Opcode, Outbox, PktNum};
 use chaos_window::MAX_WINDOW;
 use std::alloc::{AllocError, Global};
 use std::marker::Model;
@@ -54,21 +57,23 @@ impl Model for Rig {
 }
 
 impl Rig {
-    /// Two ends with these configurations. A, which is host 401 octal, has asked B, which is host 402 octal, for the contact
-    /// `LAB` at moment 0, and numbers what it writes from `start_a` on. Its RFC is copy 0.
+    /// Two ends with these configurations. A, which is host 401 octal, has asked B, which is host 402 octal, for a contact at
+    /// moment 0, and numbers what it writes from `start_a` on. Its RFC is copy 0.
     pub(crate) fn new(
         alloc: Global,
         config_a: ConnConfig,
         config_b: ConnConfig,
+        contact: &[u8],
         start_a: PktNum,
     ) -> Result<Self, AllocError>
-        ensures start { IfOk result (λ rig. rig ≡ lab_start config_a config_b start_a) }
+        requires { length contact.now ≤ MAX_DATA }
+        ensures start { IfOk result (λ rig. rig ≡ start_for contact.now config_a config_b start_a) }
         ensures number { IfOk result (λ rig. start_a < 65536) }
         ensures configs { IsConfig config_a × IsConfig config_b }
     {
         let (_, _) = (config_a.send_cap(), config_b.send_cap());
         let mut out = Outbox::new(alloc, MAX_WINDOW as usize)?;
-        let a = LabEnd::asking(alloc, config_a, start_a, &mut out)?;
+        let a = LabEnd::asking(alloc, config_a, contact, start_a, &mut out)?;
         let b = LabEnd::new(alloc, config_b)?;
         let mut copies = Vec::with_capacity(alloc, MAX_WINDOW as usize)?;
         let ends = BothEnds { a, b };
@@ -220,6 +225,31 @@ impl Rig {
         Ok(stepped)
     }
 
+    /// Lets B's user take a turn. Where there is no memory it takes none.
+    pub(crate) fn take_turn<U: User>(
+        &mut self,
+        alloc: Global,
+        user: &mut U,
+    ) -> Result<(), AllocError>
+        ensures ok { OnOk result ((turn : Turn) × U.may_turn user.old user.new self.old.b.conn self.old.clock turn
+            × IsTaken self.old.b.conn self.old.clock turn × (self.new ≡ after_all self.old (turn_events turn))) }
+        ensures err { OnErr result ((self.new ≡ self.old) × (user.new ≡ user.old)) }
+    {
+        if grow(&mut self.ends, &mut self.copies).is_err() {
+            return Err(AllocError);
+        }
+        let turned = self
+            .ends
+            .b
+            .take_turn(alloc, user, self.clock, &mut self.out);
+        if turned == Turned::Replied {
+            post_reply(&mut self.copies, &mut self.out, &mut self.ends);
+        } else {
+            post(&mut self.copies, &mut self.out, Side::B, &self.ends);
+        }
+        Ok(())
+    }
+
     /// A copy comes to the end that it was sent to.
     fn deliver(&mut self, k: usize) -> Result<Stepped, LabFault>
         ensures { Happens self.old (DeliverCopy k) self.new result }
@@ -322,4 +352,41 @@ fn post(copies: &mut Vec<Stamped>, out: &mut Outbox, side: Side, ends: &BothEnds
             len_b,
         });
     }
+}
+
+/// Takes what was put out in a turn that ended with B's reply into the copies, and the reply into what B wrote. What went out
+/// before it is stamped before the reply is counted.
+fn post_reply(copies: &mut Vec<Stamped>, out: &mut Outbox, ends: &mut BothEnds)
+    requires few { length out.old.packets ≤ 2 }
+    requires room { (vec_len copies.old + MAX_WINDOW ≤ vec_capacity copies.old) × (vec_len ends.old.b.written < vec_capacity ends.old.b.written) }
+    ensures copies { copies.new.items ≡ copies.old.items ++ stamped_reply (length ends.old.a.written.items) (length ends.old.b.written.items) out.old.packets }
+    ensures ends { (ends.new.a ≡ ends.old.a) × (end_view ends.new.b ≡ record (end_view ends.old.b) { written = ends.old.b.written.items ++ reply_items out.old.packets }) }
+    ensures out { out.new ≡ record out.old { packets = [] } }
+{
+    let len_a = ends.a.written.len();
+    let len_b = ends.b.written.len();
+    let Some(first) = out.take() else {
+        return;
+    };
+    let reply = match out.take() {
+        None => first,
+        Some(reply) => {
+            copies.push_reserved(Stamped {
+                side: Side::B,
+                packet: first,
+                len_a,
+                len_b,
+            });
+            reply
+        }
+    };
+    ends.b
+        .written
+        .push_reserved(Item::new(reply.op, reply.bytes()));
+    copies.push_reserved(Stamped {
+        side: Side::B,
+        packet: reply,
+        len_a,
+        len_b: len_b + 1,
+    });
 }

@@ -5,7 +5,7 @@ use Rattle.std.proofs.lemmas.List.{drop_all}
 use Rattle.chaos_lab.specs.declared.stamped.Stamped.{Stamped}
 use Rattle.chaos_lab.specs.declared.event.Stepped.{Stepped}
 use Rattle.chaos_lab.specs.declared.fault.LabFault.{LabFault}
-use Rattle.chaos_lab.specs.declared.fault.LabFault.TheVariants.{NoSuchCopy, Stale, Refused, NoMemory}
+use Rattle.chaos_lab.specs.declared.fault.LabFault.TheVariants.{NoSuchCopy, Stale, Refused, NoMemory, ByServer}
 use Rattle.chaos_lab.specs.Laboratory.{LabView, Happening, Happens, happen}
 use Rattle.chaos_lab.proofs.Happening.{no_memory}
 use Rattle.chaosd_engines.specs.declared.fault.RunFault.{RunFault}
@@ -20,6 +20,7 @@ by_answer (Err NoSuchCopy) P p = p
 by_answer (Err Stale) P p = p
 by_answer (Err (Refused why)) P p = p
 by_answer (Err NoMemory) P p = tt
+by_answer (Err ByServer) P p = p
 
 -- a line whose event was let happen
 pub line_plays : (line : List ℕ) (before after : LabView) (old mid new : List ℕ) (event : Happening) (answer : Result Stepped LabFault) (result : Result Bool RunFault)
@@ -52,6 +53,7 @@ is_want (Err NoSuchCopy) h = absurd (cc)
 is_want (Err Stale) h = absurd (cc)
 is_want (Err (Refused why)) h = absurd (cc)
 is_want (Err NoMemory) h = refl
+is_want (Err ByServer) h = absurd (cc)
 
 no_copies : (copies : List Stamped) (n : ℕ) → length copies ≤ n → copies_text n (drop n copies) ≡ []
 unfolding copies_text

@@ -61,6 +61,7 @@ refusal_text fault.NoSuchCopy = line (codes "refused 1 NoSuchCopy")
 refusal_text fault.Stale = line (codes "refused 2 Stale")
 refusal_text (fault.Refused why) = named_line (codes "refused 3") (conn_fault_name why)
 refusal_text fault.NoMemory = line (codes "refused 4 NoMemory")
+refusal_text fault.ByServer = line (codes "refused 5 ByServer")
 
 -- what came of an event
 abbrev pub answer_text : Result Stepped LabFault → List ℕ

@@ -89,6 +89,7 @@ fn put_refusal(out: &mut WriteBuffer, fault: LabFault) -> Result<(), NotWritten>
         LabFault::Stale => put_line(out, "refused 2 Stale"),
         LabFault::Refused(fault) => put_named(out, "refused 3", conn_fault_name(fault)),
         LabFault::NoMemory => put_line(out, "refused 4 NoMemory"),
+        LabFault::ByServer => put_line(out, "refused 5 ByServer"),
     }
 }
 

@@ -1,0 +1,20 @@
+//! Replies for want of memory.
+ghost use Rattle.std.specs.Prelude.{◌≡◌};
+ghost use Rattle.chaos_file.specs.Want.{is_want};
+
+use crate::error::FileError;
+use crate::parse::cut;
+
+/// Whether a reply tells want of memory: behind its two names stands the error MEM, and nothing else. No answer of a command
+/// that was carried out reads so.
+pub fn is_want(reply: &[u8]) -> bool
+    ensures { result ≡ is_want reply.now }
+{
+    let Some((_, after)) = cut(reply, b' ') else {
+        return false;
+    };
+    let Some((_, text)) = cut(after, b' ') else {
+        return false;
+    };
+    text == FileError::NoMemory.text()
+}

@@ -1,0 +1,251 @@
+-- Each event keeps what B's server has done.
+use Rattle.std.proofs.Common.{◌≡◌, ℕ, ◌≤◌, suc, zero, List, [], ◌∷◌, ◌++◌, drop, length, Bool, true, false, Some, None, Result, Ok, Err, IfOk, IfErr, OnOk, OnErr, refl, sym, ap, ◌∙◌, subst, inl, inr, arith}
+use Rattle.std.specs.Prelude.{◌||◌, slice_get}
+use Rattle.std.specs.List.{list_any}
+use Rattle.std.specs.FinMap as map
+use Rattle.std.proofs.lemmas.List.{append-nil}
+use Rattle.std.proofs.lemmas.Bool.{false≢true}
+use Rattle.chaos_packet.specs.Begins.{Begins}
+use Rattle.chaos_packet.specs.Item.{ItemView}
+use Rattle.chaos_packet.specs.Opcode.{op_data, kind_of}
+use Rattle.chaos_packet.specs.declared.opcode.Kind.TheVariants as kind
+use Rattle.chaos_conn.specs.View.{ConnView}
+use Rattle.chaos_conn.specs.Calls.{front_of}
+use Rattle.chaos_conn.specs.Act.{act}
+use Rattle.chaos_conn.specs.Act.Call.{Read, Write}
+use Rattle.chaos_file.specs.declared.error.FileError.TheVariants as e
+use Rattle.chaos_file.specs.Answer.{reply_to}
+use Rattle.chaos_file.specs.Apply.{IsApplied, IsStep}
+use Rattle.chaos_file.specs.Grammar.{parse_of}
+use Rattle.chaos_file.specs.Session.{SessionView, new_session}
+use Rattle.chaos_file.specs.Store.{Files}
+use Rattle.chaos_file.specs.Step.{file_step}
+use Rattle.chaos_file.specs.Replies.{memory_change, replies_of, replies_from, files_after, session_after}
+use Rattle.chaos_file.specs.Want.{is_want}
+use Rattle.chaos_serve.specs.Work.{Work, NotOpen, Nothing, Full, LastItem, Command, work_of}
+use Rattle.chaos_serve.specs.declared.served.Served.{Served}
+use Rattle.chaos_serve.proofs.Taken.{only_open}
+use Rattle.chaos_lab.specs.declared.side.Side.TheVariants.{A, B}
+use Rattle.chaos_lab.specs.Machine.{Machine}
+use Rattle.chaos_lab.specs.Machine.Phase.{Open}
+use Rattle.chaos_lab.specs.Shown.{IsUsers}
+use Rattle.chaos_lab.specs.Laboratory.{LabView, with_given, after_call, after_all, call_effect, refusal_of}
+use Rattle.chaos_lab.specs.Tied.{HasMachine}
+use Rattle.chaos_lab.specs.Turn.{Turn, Rests, Reads, Replies, HasFront, IsTaken, turn_events}
+use Rattle.chaos_lab.specs.Turns.{TurnHappens}
+use Rattle.chaos_lab.proofs.Turns.{read_gives}
+use Rattle.chaos_lab.proofs.HeadlineLaw.{begins, open_at}
+use Rattle.chaos_lab.proofs.Machines.{reached_holds}
+use Rattle.chaos_lab.proofs.Ends.{HasMet, fits_at}
+use Rattle.chaos_lab.proofs.TiedOn.{front_same}
+use Rattle.chaos_lab.proofs.Calls.{last_item}
+use Rattle.chaos_lab.proofs.Lists.{length-one_more}
+use Rattle.chaos_filelab.specs.Bodies.{with_body, data_bodies}
+use Rattle.chaos_filelab.specs.View.{FileLabView, commands_at_b, replies_of_b}
+use Rattle.chaos_filelab.specs.Serving.{ServesBy}
+use Rattle.chaos_filelab.specs.declared.event.FileStepped.{FileStepped}
+use Rattle.chaos_filelab.specs.declared.event.FileStepped.TheVariants as stepped
+use Rattle.chaos_lab.specs.declared.fault.LabFault.{LabFault}
+use Rattle.chaos_lab.specs.declared.fault.LabFault.TheVariants as fault
+use Rattle.chaos_filelab.specs.Events.{Serving, ServeHappens, service_of}
+use Rattle.chaos_filelab.specs.Kept.{IsServed}
+use Rattle.chaos_filelab.proofs.BodyLists.{begins_split, bodies_append}
+use Rattle.chaos_filelab.proofs.ServedTurns.{is_work}
+use Rattle.chaos_filelab.proofs.QuietSteps.{SameBodies}
+
+-- ---- B's bodies stay
+
+pub same_keeps : (l m : FileLabView) → SameBodies (l.lab.b.written, l.lab.b.read) (m.lab.b.written, m.lab.b.read) → m.session ≡ l.session → m.files ≡ l.files → IsServed l → IsServed m
+same_keeps l m b session files h isnt =
+    let s = h (ap (list_any is_want) (sym b.written) ∙ isnt) in
+    record {
+      replies = b.written ∙ s.replies ∙ ap (replies_of map.empty) (sym b.read);
+      session = session ∙ s.session ∙ ap (session_after map.empty new_session) (sym b.read);
+      files = files ∙ s.files ∙ ap (files_after map.empty new_session) (sym b.read);
+    }
+
+-- ---- what a turn reads and writes
+
+reads_one : (l : LabView) (h : HasFront l.b.conn) → (after_call l B Read).b.read ≡ l.b.read ++ h.item ∷ []
+reads_one l h = ap (λ g. with_given g l.b.read) (read_gives l.b.conn h)
+
+-- the item that was read and the item that was written
+pub record Replied (l m : LabView) (h : HasFront l.b.conn) (op : ℕ) (bytes : List ℕ) : Type 0 where
+  pub read : m.b.read ≡ l.b.read ++ h.item ∷ []
+  pub written : m.b.written ≡ l.b.written ++ (record { op = op; body = bytes }) ∷ []
+
+pub replied : (l : LabView) (op : ℕ) (bytes : List ℕ) (t : IsTaken l.b.conn l.clock (Replies op bytes)) → Replied l (after_all l (turn_events (Replies op bytes))) t.0 op bytes
+replied l op bytes t =
+    let k : LabView = after_call l B Read in
+    let v : ConnView = (act l.b.conn Read).view in
+    let none : refusal_of (act v (Write op bytes l.clock)).answer ≡ None = ap refusal_of t.1.1 in
+    record {
+      read = ap (λ o. (call_effect k B (Write op bytes l.clock) o).lab.b.read) none ∙ reads_one l t.0;
+      written = ap (λ o. (call_effect k B (Write op bytes l.clock) o).lab.b.written) none;
+    }
+
+-- ---- what B's user reads are A's users' items
+
+pub some_is : {X : Type 0} → {x y : X} → Some x ≡ Some y → x ≡ y
+some_is h = cc
+
+-- the last of a beginning stands where it stood
+at_last : (xs ys : List ItemView) (x : ItemView) → Begins (xs ++ x ∷ []) ys → slice_get ys (length xs) ≡ Some x
+at_last xs ys x h =
+    let one = length-one_more xs x in
+    ap (λ zs. slice_get zs (length xs)) (begins_split (xs ++ x ∷ []) ys h)
+    ∙ sym (front_same (xs ++ x ∷ []) (drop (length (xs ++ x ∷ [])) ys) (length xs) (omega (arith, one)))
+    ∙ last_item xs x
+
+users_later : (ys : List ItemView) (n : ℕ) (x : ItemView) → 1 ≤ n → ((i : ℕ) (item : ItemView) → slice_get ys (suc i) ≡ Some item → IsUsers item) → slice_get ys n ≡ Some x → IsUsers x
+users_later ys zero x some users at = absurd (omega arith)
+users_later ys (suc i) x some users at = users i x at
+
+machine_after : (l m : LabView) (turn : Turn) → HasMachine l → TurnHappens l turn m → HasMachine m
+machine_after l m turn h t = let n = t.run h.plain h.ties in record { plain = n.0; ties = n.2 }
+
+front_users : (l m : LabView) (turn : Turn) (h : HasFront l.b.conn) → HasMachine l → TurnHappens l turn m → m.b.read ≡ l.b.read ++ h.item ∷ [] → IsUsers h.item
+front_users l m turn h had t read =
+    let w : Machine = had.plain in
+    let k = machine_after l m turn had t in
+    let is_in = open_at B w l had.ties h.is_open in
+    let met : HasMet w.b.written w.b.read = fits_at B w.b Open (reached_holds w had.ties.tied.reached).b is_in in
+    let some : 1 ≤ length l.b.read = subst (λ (xs : List ItemView). 1 ≤ length xs) (sym had.ties.read_b) met.0 in
+    let begin : Begins (l.b.read ++ h.item ∷ []) m.a.written = subst (λ xs. Begins xs m.a.written) read (begins m A k) in
+    users_later k.plain.a.written (length l.b.read) h.item some k.ties.tied.items_a.users
+    (ap (λ ws. slice_get ws (length l.b.read)) (sym k.ties.written_a) ∙ at_last l.b.read m.a.written h.item begin)
+
+-- ---- bodies of one item more
+
+eof_no_body : (items : List ItemView) (item : ItemView) → kind_of item.op ≡ kind.Eof → data_bodies (items ++ item ∷ []) ≡ data_bodies items
+eof_no_body items item is =
+    bodies_append items (item ∷ []) ∙ ap (λ k. data_bodies items ++ with_body k item.body []) is ∙ append-nil (data_bodies items)
+
+pub one_body : (items : List ItemView) (item : ItemView) → kind_of item.op ≡ kind.Data → data_bodies (items ++ item ∷ []) ≡ data_bodies items ++ item.body ∷ []
+one_body items item is = bodies_append items (item ∷ []) ∙ ap (λ k. data_bodies items ++ with_body k item.body []) is
+
+-- ---- one command more
+
+-- no reply for want of memory among all
+pub record NoWant (xs : List (List ℕ)) (x : List ℕ) : Type 0 where
+  pub before : list_any is_want xs ≡ false
+  pub last : is_want x ≡ false
+
+no_or : (a b : Bool) → (a || b) ≡ false → (a ≡ false) × (b ≡ false)
+no_or true b h = absurd (false≢true (sym h))
+no_or false b h = (refl, h)
+
+both_no : (a b : Bool) → a ≡ false → b ≡ false → (a || b) ≡ false
+both_no a b h k = ap (λ c. c || b) h ∙ k
+
+pub no_want : (xs : List (List ℕ)) (x : List ℕ) → list_any is_want (xs ++ x ∷ []) ≡ false → NoWant xs x
+no_want [] x h = record { before = refl; last = (no_or (is_want x) false h).0 }
+no_want (y ∷ xs) x h =
+    let p = no_or (is_want y) (list_any is_want (xs ++ x ∷ [])) h in
+    let k = no_want xs x p.1 in
+    record { before = both_no (is_want y) (list_any is_want xs) p.0 k.before; last = k.last }
+
+session_more : (m : Files) (s : SessionView) (xs : List (List ℕ)) (c : List ℕ) → session_after m s (xs ++ c ∷ []) ≡ (file_step (files_after m s xs) (session_after m s xs) c).session
+session_more m s [] c = refl
+session_more m s (x ∷ xs) c = session_more (file_step m s x).files (file_step m s x).session xs c
+
+files_more : (m : Files) (s : SessionView) (xs : List (List ℕ)) (c : List ℕ) → files_after m s (xs ++ c ∷ []) ≡ (file_step (files_after m s xs) (session_after m s xs) c).files
+files_more m s [] c = refl
+files_more m s (x ∷ xs) c = files_more (file_step m s x).files (file_step m s x).session xs c
+
+-- the laws of the language that this rests on
+pub record Laws : Type 0 where
+  pub go_on : (m : Files) (xs ys : List (List ℕ)) → replies_of m (xs ++ ys) ≡ replies_of m xs ++ replies_from (files_after m new_session xs) (session_after m new_session xs) ys
+  pub honest : (m n : Files) (s t : SessionView) (c reply : List ℕ) → IsApplied (memory_change m n) s t c reply → (reply ≡ reply_to (parse_of c) (Err e.NoMemory) → ⊥) → IsStep (memory_change m n) (file_step m s c) reply t
+  pub want : (c : List ℕ) → is_want (reply_to (parse_of c) (Err e.NoMemory)) ≡ true
+
+pub command_keeps : Laws → (l m : FileLabView) (c reply : List ℕ) → IsApplied (memory_change l.files m.files) l.session m.session c reply → commands_at_b m ≡ commands_at_b l ++ c ∷ [] → replies_of_b m ≡ replies_of_b l ++ reply ∷ [] → IsServed l → IsServed m
+command_keeps laws l m c reply applied read wrote h isnt =
+    let w = no_want (replies_of_b l) reply (ap (list_any is_want) (sym wrote) ∙ isnt) in
+    let s = h w.before in
+    let cs = commands_at_b l in
+    let step = laws.honest l.files m.files l.session m.session c reply applied
+    (λ is. false≢true (sym w.last ∙ ap is_want is ∙ laws.want c)) in
+    let at = files_after map.empty new_session cs in
+    let in_session = session_after map.empty new_session cs in
+    let same : file_step l.files l.session c ≡ file_step at in_session c = (λ j. file_step (s.files j) (s.session j) c) in
+    record {
+      replies = wrote ∙ (λ j. s.replies j ++ (step.0 ∙ ap (λ d. d.reply) same) j ∷ []) ∙ sym (laws.go_on map.empty cs (c ∷ [])) ∙ ap (replies_of map.empty) (sym read);
+      session = step.1 ∙ ap (λ d. d.session) same ∙ sym (session_more map.empty new_session cs c) ∙ ap (session_after map.empty new_session) (sym read);
+      files = some_is step.2 ∙ ap (λ d. d.files) same ∙ sym (files_more map.empty new_session cs c) ∙ ap (files_after map.empty new_session) (sym read);
+    }
+
+-- ---- B's server serves once
+
+rests_keeps : (l m : FileLabView) (turn : Turn) → turn ≡ Rests → service_of m ≡ service_of l → m.lab ≡ after_all l.lab (turn_events turn) → IsServed l → IsServed m
+rests_keeps l m turn is same after h =
+    let lab : m.lab ≡ l.lab = after ∙ ap (λ t. after_all l.lab (turn_events t)) is in
+    same_keeps l m (record { written = ap (λ k. data_bodies k.b.written) lab; read = ap (λ k. data_bodies k.b.read) lab })
+    (ap (λ s. s.session) same) (ap (λ s. s.files) same) h
+
+eof_keeps : (l m : FileLabView) (f : HasFront l.lab.b.conn) → kind_of f.item.op ≡ kind.Eof → service_of m ≡ service_of l → m.lab ≡ after_all l.lab (turn_events Reads) → IsServed l → IsServed m
+eof_keeps l m f is same after h =
+    same_keeps l m
+    (record {
+      written = ap (λ k. data_bodies k.b.written) after;
+      read = ap (λ k. data_bodies k.b.read) after ∙ ap data_bodies (reads_one l.lab f) ∙ eof_no_body l.lab.b.read f.item is;
+    })
+    (ap (λ s. s.session) same) (ap (λ s. s.files) same) h
+
+data_of : (item : ItemView) → IsUsers item → (kind_of item.op ≡ kind.Eof → ⊥) → kind_of item.op ≡ kind.Data
+data_of item (inl h) isnt = h
+data_of item (inr h) isnt = absurd (isnt h.0)
+
+reply_keeps : Laws → (l m : FileLabView) (item : ItemView) (reply : List ℕ) (turn : Turn) → turn ≡ Replies op_data reply → front_of l.lab.b.conn ≡ Some item → (kind_of item.op ≡ kind.Eof → ⊥) → IsApplied (memory_change l.files m.files) l.session m.session item.body reply → HasMachine l.lab → TurnHappens l.lab turn m.lab → IsServed l → IsServed m
+reply_keeps laws l m item reply turn is front isnt applied machine t h =
+    let u : TurnHappens l.lab (Replies op_data reply) m.lab = subst (λ s. TurnHappens l.lab s m.lab) is t in
+    let f : HasFront l.lab.b.conn = u.taken.0 in
+    let same : f.item ≡ item = some_is (sym f.front ∙ front) in
+    let r = replied l.lab op_data reply u.taken in
+    let read : m.lab.b.read ≡ l.lab.b.read ++ f.item ∷ [] = ap (λ k. k.b.read) u.after ∙ r.read in
+    let users = front_users l.lab m.lab (Replies op_data reply) f machine u read in
+    let is_data : kind_of item.op ≡ kind.Data = data_of item (subst IsUsers same users) isnt in
+    command_keeps laws l m item.body reply applied
+    (ap data_bodies (read ∙ ap (λ i. l.lab.b.read ++ i ∷ []) same) ∙ one_body l.lab.b.read item is_data)
+    (ap data_bodies (ap (λ k. k.b.written) u.after ∙ r.written) ∙ one_body l.lab.b.written (record { op = op_data; body = reply }) refl)
+    h
+
+pub serving_keeps : Laws → (l m : FileLabView) (served : Served) → HasMachine l.lab → Serving l m served → IsServed l → IsServed m
+serving_keeps laws l m served machine s h = by (work_of l.lab.b.conn) refl s.serves
+  where
+    v : ConnView
+    v = l.lab.b.conn
+
+    by : (work : Work) → work_of l.lab.b.conn ≡ work → ServesBy (service_of l) (service_of m) s.turn served work → IsServed m
+    by (NotOpen state) is x = rests_keeps l m s.turn x.0 x.1 s.happens.after h
+    by Nothing is x = rests_keeps l m s.turn x.0 x.1 s.happens.after h
+    by Full is x = rests_keeps l m s.turn x.0 x.1 s.happens.after h
+    by LastItem is x =
+        let k = is_work l.lab.b.conn LastItem is in
+        let f : HasFront l.lab.b.conn = record { is_open = only_open l.lab.b.conn.state k.0; item = k.1; front = k.2 } in
+        eof_keeps l m f k.3 x.1 (s.happens.after ∙ ap (λ t. after_all l.lab (turn_events t)) x.0) h
+    by (Command body) is x =
+        let k = is_work l.lab.b.conn (Command body) is in
+        reply_keeps laws l m k.1 x.0 s.turn x.1 k.2 k.5
+        (subst (λ b. IsApplied (memory_change l.files m.files) l.session m.session b x.0) (sym k.4) x.3.applied)
+        machine s.happens h
+
+-- ---- what the laboratory says of the turn
+
+abbrev pub TurnServes : (l m : FileLabView) → Served → Type 0
+TurnServes l m served = (turn : Turn) × ServesBy (service_of l) (service_of m) turn served (work_of l.lab.b.conn) × TurnHappens l.lab turn m.lab
+
+abbrev pub AreSame : (l m : FileLabView) → Type 0
+AreSame l m = (m.lab ≡ l.lab) × (service_of m ≡ service_of l)
+
+view_same : (l m : FileLabView) → AreSame l m → m ≡ l
+view_same l m h = λ j. record { lab = h.0 j; session = (h.1 j).session; files = (h.1 j).files }
+
+module _ {R E : Type 0} where
+  pub turn_keeps : Laws → (l m : FileLabView) (served : Served) (r : Result R E) → HasMachine l.lab → OnOk r (TurnServes l m served) → OnErr r (AreSame l m) → IsServed l → IsServed m
+  turn_keeps laws l m served (Ok x) machine t s h = serving_keeps laws l m served machine (record { turn = t.0; serves = t.1; happens = t.2 }) h
+  turn_keeps laws l m served (Err x) machine t s h = subst IsServed (sym (view_same l m s)) h
+
+  pub turn_happens : (l m : FileLabView) (served : Served) (r : Result R E) (answer : Result FileStepped LabFault) → OnOk r (TurnServes l m served) → OnErr r (AreSame l m) → IfOk r (λ _. answer ≡ Ok (stepped.Served served)) → IfErr r (λ _. answer ≡ Err fault.NoMemory) → ServeHappens l m answer
+  turn_happens l m served (Ok x) answer t s is isnt = inl (served, record { turn = t.0; serves = t.1; happens = t.2 }, is)
+  turn_happens l m served (Err x) answer t s is isnt = inr (view_same l m s, isnt)

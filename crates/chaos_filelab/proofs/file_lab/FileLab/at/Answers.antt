@@ -1,0 +1,18 @@
+use Rattle.std.proofs.Common.{rules, ◌≡◌, false, refl}
+use Rattle.chaos_lab.specs.Inside.{happening_of}
+use Rattle.chaos_filelab.specs.View.{FileLabView}
+use Rattle.chaos_filelab.specs.Events.{is_by_server}
+use Rattle.chaos_filelab.specs.Kept.{file_view}
+use Rattle.chaos_filelab.proofs.QuietSteps.{quiet}
+use Rattle.chaos_filelab.proofs.KeptSteps.{same_keeps}
+use Rattle.chaos_filelab.proofs.file_lab.FileLab.at.Goals as goal
+
+-- what B's server has done stays
+pub invariant_of-self : goal.invariant_of-self
+invariant_of-self c =
+    let l : FileLabView = file_view c.self.inside in
+    let m : FileLabView = file_view (record { lab = c.step.new.self; server = c.self.inside.server }) in
+    let isnt : is_by_server (happening_of c.args.event.now) ≡ false = search rules in
+    same_keeps l m
+    (quiet c.self.inside.lab c.step.new.self (happening_of c.args.event.now) c.step.result c.law_headline.ensures.machine isnt (c.step.ensures.refused, c.step.ensures.machine))
+    refl refl c.self.invariant

@@ -1,0 +1,28 @@
+-- The bodies of the data items of a list.
+use Rattle.std.specs.Prelude.{ℕ, Bool, true, false, ◌&&◌, List, [], ◌∷◌, Option, Some, None}
+use Rattle.chaos_file.specs.Want.{is_want}
+use Rattle.chaos_packet.specs.Item.{ItemView}
+use Rattle.chaos_packet.specs.Opcode.{kind_of}
+use Rattle.chaos_packet.specs.declared.opcode.Kind.{Kind}
+use Rattle.chaos_packet.specs.declared.opcode.Kind.TheVariants as kind
+
+abbrev pub with_body : Kind → List ℕ → List (List ℕ) → List (List ℕ)
+with_body kind.Data body bodies = body ∷ bodies
+with_body _ body bodies = bodies
+
+abbrev pub data_bodies : List ItemView → List (List ℕ)
+data_bodies [] = []
+data_bodies (item ∷ items) = with_body (kind_of item.op) item.body (data_bodies items)
+
+abbrev pub is_data_kind : Kind → Bool
+is_data_kind kind.Data = true
+is_data_kind _ = false
+
+-- a data item whose body is a reply for want of memory
+abbrev pub is_mem : ItemView → Bool
+is_mem item = is_data_kind (kind_of item.op) && is_want item.body
+
+-- the first of a list, and the others
+abbrev pub first_of : List (List ℕ) → Option (List ℕ × List (List ℕ))
+first_of [] = None
+first_of (body ∷ bodies) = Some (body, bodies)

@@ -1,0 +1,59 @@
+//! The bodies of data items.
+ghost use Rattle.std.specs.Prelude.{◌≡◌, option_map, slice_get, drop, length};
+ghost use Rattle.chaos_filelab.specs.Bodies.{data_bodies, first_of};
+
+use chaos_packet::{Item, Kind};
+use std::marker::Model;
+
+/// The bodies of the data items among some items, in order, which are lent. A contract sees the list of them.
+#[derive(Drop)]
+pub struct Bodies<'a> {
+    items: &'a [Item],
+}
+
+impl<'a> Model for Bodies<'a> {
+    ghost use Rattle.std.specs.Prelude.{ℕ, List};
+    ghost use Rattle.chaos_filelab.specs.Bodies.{data_bodies};
+
+    ghost Value = { List (List ℕ) };
+
+    ghost view = { λ b. data_bodies b.items.now };
+}
+
+impl<'a> Bodies<'a> {
+    pub(crate) fn new(items: &'a [Item]) -> Self
+        ensures { result ≡ data_bodies items.now }
+    {
+        Bodies { items }
+    }
+
+    /// Takes the next body out.
+    pub fn next(&mut self) -> Option<&'a [u8]>
+        ensures body { option_map (λ b. b.now) result ≡ slice_get self.old 0 }
+        ensures rest { self.new ≡ drop 1 self.old }
+    {
+        match first_data(self.items) {
+            Some((body, rest)) => {
+                self.items = rest;
+                Some(body)
+            }
+            None => {
+                self.items = &[];
+                None
+            }
+        }
+    }
+}
+
+/// The body of the first data item, and the items behind it.
+fn first_data(items: &[Item]) -> Option<(&[u8], &[Item])>
+    ensures { option_map (λ p. (p.0.now, data_bodies p.1.now)) result ≡ first_of (data_bodies items.now) }
+{
+    let [item, rest @ ..] = items else {
+        return None;
+    };
+    match item.op.kind() {
+        Kind::Data => Some((item.bytes(), rest)),
+        _ => first_data(rest),
+    }
+}

@@ -1,0 +1,214 @@
+//! The laboratory whose B serves FILE.
+ghost use Rattle.std.specs.Prelude.{◌≡◌, ◌≤◌, length, codes, map, ◌<◌, ℕ, take, Ok, Err, IfOk, IfErr, OnOk, OnErr, true, false, ◌↔◌};
+ghost use Rattle.std.specs.FinMap as files;
+ghost use Rattle.std.specs.List.{list_any};
+ghost use Rattle.chaos_file.specs.Session.{new_session};
+ghost use Rattle.chaos_conn.specs.Stored.{stored_packets, stored_bytes};
+ghost use Rattle.chaos_lab.specs.Inside.{happening_of};
+ghost use Rattle.chaos_lab.specs.Laboratory.{lab_end, start_for};
+ghost use Rattle.chaos_lab.specs.Tied.{HasMachine};
+ghost use Rattle.chaos_filelab.specs.View.{FileLabView, commands_of, replies_to_a, wrote_mem};
+ghost use Rattle.chaos_filelab.specs.Events.{At, Serve, FileHappens, LabHappens, ServeHappens, Passes, Runs, StopsWithin, file_event, is_by_server};
+ghost use Rattle.chaos_filelab.specs.Bodies.{is_mem};
+ghost use Rattle.chaos_filelab.specs.Exact.{IsExact};
+ghost use Rattle.chaos_filelab.specs.Law.{RepliesBegin};
+
+use crate::bodies::Bodies;
+use crate::event::{FileEvent, FileStepped};
+use crate::server::Server;
+use chaos_conn::ConnConfig;
+use chaos_file::{MemStore, Session, is_want, law_honest, law_replies, law_want};
+use chaos_lab::{Event, Lab, LabFault, Side, Stamped};
+use chaos_packet::{Item, Kind, PktNum};
+use chaos_serve::Served;
+use std::alloc::{AllocError, Global};
+use std::marker::Model;
+
+/// What A asks for.
+const CONTACT: &[u8] = b"FILE";
+
+/// Two ends of one connection, and every packet that was ever sent between them. A is a client of FILE, and its user is the
+/// caller; B's user is a server with its own session and store, which serves one command at a time. A contract sees the
+/// laboratory, the session and the files.
+#[derive(Drop)]
+pub struct FileLab {
+    lab: Lab,
+    server: Server,
+}
+
+impl Model for FileLab {
+    ghost use Rattle.chaos_filelab.specs.View.{FileLabView};
+    ghost use Rattle.chaos_filelab.specs.Kept.{IsServed, file_view, files_code};
+    ghost use Rattle.std.specs.Coded.{codes};
+
+    ghost Value = { FileLabView };
+
+    ghost coded = { Prim.hlevel (codes, files_code) };
+
+    ghost view = { file_view };
+
+    ghost invariant = { λ s. IsServed (file_view s) };
+}
+
+impl FileLab {
+    /// Two ends with these configurations. A has asked B for the contact `FILE` at moment 0, and numbers what it writes from
+    /// `start_a` on. B has a new session, and no files.
+    pub fn new(
+        alloc: Global,
+        config_a: ConnConfig,
+        config_b: ConnConfig,
+        start_a: PktNum,
+    ) -> Result<Self, AllocError>
+        ensures { IfOk result (λ l. l ≡ record { lab = start_for (codes "FILE") config_a config_b start_a; session = new_session; files = files.empty }) }
+    {
+        let lab = Lab::asking_for(alloc, config_a, config_b, CONTACT, start_a)?;
+        let server = Server {
+            session: Session::new(),
+            store: MemStore::new(alloc),
+            served: Served::Idle,
+        };
+        Ok(FileLab { lab, server })
+    }
+
+    /// Lets an event happen. Refused, in this order: `ByServer` for a write and a read at B; what [`Lab::step`] refuses.
+    /// Nothing changes then.
+    pub fn step(&mut self, alloc: Global, event: &FileEvent<'_>) -> Result<FileStepped, LabFault>
+        ensures happens { FileHappens self.old (file_event event.now) self.new result }
+        ensures refused { OnErr result (self.new ≡ self.old) }
+        // unless B wrote a reply for want of memory, a Serve is a function of what was before
+        ensures exact { wrote_mem self.new ≡ false → IsExact self.old (file_event event.now) self.new result }
+    {
+        match event {
+            FileEvent::Serve => self.serve(alloc),
+            FileEvent::At(event) => {
+                if is_by_server(event) {
+                    return Err(LabFault::ByServer);
+                }
+                self.at(alloc, event)
+            }
+        }
+    }
+
+    /// Lets events happen, one after the other. A refused event changes nothing, and the next one follows. Where there is no
+    /// memory for the histories it stops, with all as after the events before that one.
+    pub fn run(&mut self, alloc: Global, events: &[FileEvent<'_>]) -> Result<(), AllocError>
+        ensures all { OnOk result (Runs self.old (map file_event events.now) self.new) }
+        ensures no_memory { OnErr result (StopsWithin self.old (map file_event events.now) self.new) }
+    {
+        for event in events {
+            self.attempt(alloc, event)?;
+        }
+        Ok(())
+    }
+
+    /// Lets an event happen, whatever it answers, unless there is no memory.
+    fn attempt(&mut self, alloc: Global, event: &FileEvent<'_>) -> Result<(), AllocError>
+        ensures ok { OnOk result (Passes self.old (file_event event.now) self.new) }
+        ensures err { OnErr result (self.new ≡ self.old) }
+    {
+        match self.step(alloc, event) {
+            Ok(_) => Ok(()),
+            Err(LabFault::NoMemory) => Err(AllocError),
+            Err(_) => Ok(()),
+        }
+    }
+
+    /// Lets an event of the laboratory happen that is none of B's server.
+    fn at(&mut self, alloc: Global, event: &Event<'_>) -> Result<FileStepped, LabFault>
+        requires { is_by_server (happening_of event.now) ≡ false }
+        ensures { LabHappens self.old (happening_of event.now) self.new result }
+    {
+        self.lab.law_headline();
+        match self.lab.step(alloc, event) {
+            Ok(stepped) => Ok(FileStepped::Lab(stepped)),
+            Err(why) => Err(why),
+        }
+    }
+
+    /// B's server serves once.
+    fn serve(&mut self, alloc: Global) -> Result<FileStepped, LabFault>
+        ensures happens { ServeHappens self.old self.new result }
+        ensures exact { wrote_mem self.new ≡ false → IsExact self.old Serve self.new result }
+    {
+        self.lab.law_headline();
+        law_replies();
+        law_honest();
+        law_want();
+        match self.lab.take_turn(alloc, &mut self.server) {
+            Ok(()) => Ok(FileStepped::Served(self.server.served)),
+            Err(_) => Err(LabFault::NoMemory),
+        }
+    }
+
+    /// The bodies of the data items that A wrote.
+    pub fn commands(&self) -> Bodies<'_>
+        ensures { result ≡ commands_of self.now }
+    {
+        Bodies::new(self.lab.written(Side::A))
+    }
+
+    /// The bodies of the data items that A's user has read.
+    pub fn replies(&self) -> Bodies<'_>
+        ensures { result ≡ replies_to_a self.now }
+    {
+        Bodies::new(self.lab.read(Side::A))
+    }
+
+    /// Whether B wrote a reply for want of memory. It looks at each item that B wrote.
+    #[tactic(auto, using(crate::proofs::BodyLists::any_bodies))]
+    pub fn wrote_mem(&self) -> bool
+        ensures { result ≡ wrote_mem self.now }
+    {
+        any_mem(self.lab.written(Side::B))
+    }
+
+    /// Every packet that was sent, with its stamp, the oldest first.
+    pub fn copies(&self) -> &[Stamped]
+        ensures { result.now ≡ self.now.lab.copies }
+    {
+        self.lab.copies()
+    }
+
+    /// How many packets an end stores, and their bytes with a header for each.
+    pub fn stored(&self, side: Side) -> (usize, usize)
+        ensures packets { result.0 ≡ stored_packets (lab_end self.now.lab side).conn }
+        ensures bytes { result.1 ≡ stored_bytes (lab_end self.now.lab side).conn }
+    {
+        self.lab.stored(side)
+    }
+
+    /// FILE over a losing network: whatever happened, and unless B wrote a reply for want of memory, the replies that A has read
+    /// are a beginning of those that the definition of the language gives to the commands that A wrote, over no files at first.
+    pub fn law_replies(&self)
+        ensures machine { HasMachine self.now.lab }
+        ensures replies { RepliesBegin self.now }
+    {
+        self.lab.law_headline();
+        law_replies();
+    }
+}
+
+/// Whether an event is B's server's alone.
+fn is_by_server(event: &Event<'_>) -> bool
+    ensures { result ≡ is_by_server (happening_of event.now) }
+{
+    match event {
+        Event::Write(Side::B, _, _) => true,
+        Event::Read(Side::B) => true,
+        _ => false,
+    }
+}
+
+/// Whether an item is a reply for want of memory.
+fn is_mem(item: &Item) -> bool
+    ensures { result ≡ is_mem item.now }
+{
+    item.op.kind() == Kind::Data && is_want(item.bytes())
+}
+
+/// Whether any of these items is one.
+fn any_mem(items: &[Item]) -> bool
+    ensures { result ≡ list_any is_mem items.now }
+{
+    items.iter().any(is_mem)
+}

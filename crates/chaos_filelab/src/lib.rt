@@ -1,0 +1,16 @@
+//! FILE over a losing network: a laboratory of two connections, whose A is the caller's, and whose B serves FILE.
+//!
+//! [`FileLab`] lets events happen as [`chaos_lab::Lab`] does, and B's server serve one command at a time. Whatever the network
+//! loses, repeats and reorders, [`FileLab::law_replies`] says what A reads.
+#![tactic(auto)]
+
+mod bodies;
+mod event;
+mod file_lab;
+mod server;
+#[cfg(test)]
+mod tests;
+
+pub use bodies::Bodies;
+pub use event::{FileEvent, FileStepped};
+pub use file_lab::FileLab;

@@ -1,0 +1,3 @@
+mod play;
+mod rows;
+mod sessions;
