@@ -1,0 +1,373 @@
+#!/usr/bin/env python3
+"""Tests tools/wireshark/chaosnet.lua by tshark: a FILE session between `serve` and `ask`, and 2,000 datagrams, good and bad,
+which tshark and `chaosd show` have to read alike, field by field.
+
+    make && tests/dissector.py [PROGRAM]
+
+PROGRAM is bin/chaosd by default. Captures are written by the test itself, from datagrams that it made or that a relay between the
+two programs saw, so that no right to capture is needed. Where tshark isn't installed all is left out, and 0 checks are counted.
+One line is printed for each check, and the count at the end. The status is 0 where all checks held, and else 1.
+"""
+
+import contextlib
+import os
+import pathlib
+import random
+import re
+import shutil
+import socket
+import struct
+import subprocess
+import sys
+import tempfile
+import threading
+
+sys.dont_write_bytecode = True
+import files  # noqa: E402
+import program  # noqa: E402
+from files import CLIENT, CLS, DATA, DATA_LIMIT, EOF, OPN, RFC, SERVER, STS, datagram  # noqa: E402
+from program import DONE, Checks, run  # noqa: E402
+
+ROOT = program.HERE.parent
+DISSECTOR = ROOT / "tools/wireshark/chaosnet.lua"
+PROTOCOL = ROOT / "docs/PROTOCOL.md"
+HELLO = ROOT / "examples/hello.file"
+
+# The sockets that stand in the captures, as in the README.
+SERVER_PORT, CLIENT_PORT = 9001, 9002
+MARK_1, MARK_2 = b"CH\x01\x00", b"CH\x02"
+# What the texts of docs/PROTOCOL.md were printed by.
+DOCUMENTED = "4.0"
+
+COUNT, SEED = 2_000, 1981
+
+
+# Captures, and what tshark says of them.
+
+
+def captured(datagrams):
+    """A capture (pcap, raw IP) of datagrams, each with the ports of its two sockets on 127.0.0.1."""
+    here = bytes([127, 0, 0, 1])
+    pieces = [struct.pack("<IHHiIII", 0xA1B2C3D4, 2, 4, 0, 0, 65_535, 101)]
+    for number, (source, target, payload) in enumerate(datagrams):
+        udp = struct.pack(">4H", source, target, 8 + len(payload), 0) + payload
+        ip = struct.pack(">BBHHHBBH4s4s", 0x45, 0, 20 + len(udp), number % 65_536, 0, 64, 17, 0, here, here)
+        pieces.append(struct.pack("<4I", 0, number * 1_000, len(ip) + len(udp), len(ip) + len(udp)) + ip + udp)
+    return b"".join(pieces)
+
+
+class Tshark:
+    """tshark with the dissector, in a home of its own."""
+
+    def __init__(self, home):
+        self.home = pathlib.Path(home)
+        self.environment = os.environ | {"HOME": home, "WIRESHARK_CONFIG_DIR": home, "LC_ALL": "C.UTF-8"}
+        self.said = ""
+
+    def run(self, datagrams, *words):
+        """What it prints for these datagrams. What it says of Lua is kept."""
+        capture = self.home / "capture.pcap"
+        capture.write_bytes(captured(datagrams))
+        line = ["tshark", "-r", capture, "-X", f"lua_script:{DISSECTOR}", *words]
+        ended = subprocess.run(line, env=self.environment, capture_output=True, text=True, timeout=program.PATIENCE * 3)
+        self.said += "".join(line + "\n" for line in ended.stderr.splitlines() if "Running as" not in line)
+        return ended.stdout
+
+    def fields(self, datagrams, names, *words):
+        """The values of these fields, a row a frame."""
+        named = [word for name in names for word in ("-e", name)]
+        text = self.run(datagrams, "-T", "fields", "-E", "separator=/t", "-E", "occurrence=a", *named, *words)
+        return [line.split("\t") for line in text.splitlines()]
+
+    def frames(self, datagrams, wanted, *words):
+        """The numbers of the frames that a display filter keeps."""
+        return [int(row[0]) for row in self.fields(datagrams, ["frame.number"], "-Y", wanted, *words)]
+
+    def list(self, datagrams, *words):
+        """The columns Protocol and Info, a line a frame."""
+        columns = 'gui.column.format:"Protocol","%p","Info","%i"'
+        return self.run(datagrams, "-o", columns, *words).splitlines()
+
+    def version(self):
+        return subprocess.run(["tshark", "--version"], capture_output=True, text=True).stdout.split()[2]
+
+
+def differences(seen, wanted, limit=3):
+    """The first places where two lists differ."""
+    pairs = [f"{n}: {one!r} and not {other!r}" for n, (one, other) in enumerate(zip(seen, wanted), 1) if one != other]
+    return pairs[:limit] + ([f"there are {len(seen)} and not {len(wanted)}"] if len(seen) != len(wanted) else [])
+
+
+# A session between `serve` and `ask`.
+
+
+class Relay(threading.Thread):
+    """A network between a server and a client that writes down each datagram."""
+
+    def __init__(self, port, server, client):
+        super().__init__(daemon=True)
+        self.socket = socket.socket(socket.AF_INET, socket.SOCK_DGRAM)
+        self.socket.bind(("127.0.0.1", port))
+        self.other = {server: client, client: server}
+        self.name_of = {server: SERVER_PORT, client: CLIENT_PORT}
+        self.seen = []
+
+    def run(self):
+        with contextlib.suppress(OSError, KeyError):
+            while True:
+                payload, (_, port) = self.socket.recvfrom(2_048)
+                self.seen.append((self.name_of[port], self.name_of[self.other[port]], payload))
+                self.socket.sendto(payload, ("127.0.0.1", self.other[port]))
+
+
+def session(script):
+    """What `ask` printed for a script, and the datagrams between it and `serve`."""
+    with files.serving() as server:
+        (client,) = files.free_ports(1)
+        relay = Relay(server.peers[0], server.port, client)
+        relay.start()
+        ended = run(["ask", "402", files.at(client), "401", f"401={files.at(server.peers[0])}"], script)
+        relay.socket.close()
+    return ended, relay.seen
+
+
+PARTS = ["tid", "handle", "command", "answer", "user", "mode", "path", "length", "bytes"]
+HELLO_TEXT = b'(DEFUN HELLO () (PRINT "HELLO, WORLD"))'
+# Each command of examples/hello.file with its reply, by their parts.
+HELLO_PARTS = [
+    (["T1", "", "LOGIN", "", "LISPM", "", "", "", ""], ["T1", "", "", "LOGIN", "LISPM", "", "", "", ""]),
+    (["T2", "H1", "OPEN", "", "", "WRITE", "HELLO.LISP", "", ""], ["T2", "H1", "", "OPEN", "", "", "", "0", ""]),
+    (["T3", "H1", "WRITE", "", "", "", "", "", HELLO_TEXT.hex()], ["T3", "H1", "", "WRITE", "", "", "", "39", ""]),
+    (["T4", "H1", "CLOSE", "", "", "", "", "", ""], ["T4", "H1", "", "CLOSE", "", "", "", "39", ""]),
+    (["T5", "H2", "OPEN", "", "", "READ", "HELLO.LISP", "", ""], ["T5", "H2", "", "OPEN", "", "", "", "39", ""]),
+    (["T6", "H2", "READ", "", "", "", "", "", ""], ["T6", "H2", "", "READ", "", "", "", "", HELLO_TEXT.hex()]),
+    (["T7", "H2", "READ", "", "", "", "", "", ""], ["T7", "H2", "", "EOF", "", "", "", "", ""]),
+    (["T8", "H2", "CLOSE", "", "", "", "", "", ""], ["T8", "H2", "", "CLOSE", "", "", "", "39", ""]),
+]
+
+
+def hello(checks, tshark):
+    """The session of examples/hello.file: nothing is given but the capture."""
+    ended, seen = session(HELLO.read_bytes())
+    checks.check("ask and serve speak through the relay", ended.problems(DONE))
+    names = ["chaosnet.file.line", *(f"chaosnet.file.{part}" for part in PARTS)]
+    rows = tshark.fields(seen, names, "-Y", "chaosnet.file and not chaosnet.analysis.retransmission")
+    lines = [line for pair in zip(HELLO.read_text().splitlines(), ended.out.decode().splitlines()) for line in pair]
+    checks.check("FILE's commands and replies are those of the script and of `ask`", differences([row[0] for row in rows], lines))
+    checks.check("and so are their parts", differences([row[1:] for row in rows], [row for pair in HELLO_PARTS for row in pair]))
+    ops = [int(payload[4]) for _, _, payload in seen]
+    rows = tshark.fields(seen, ["chaosnet.op", "chaosnet.stream", "chaosnet.contact", "chaosnet.fault"])
+    wanted = [[str(op), "0", "FILE" if op == RFC else "", ""] for op in ops]
+    checks.check("each datagram is recognized by its mark, and of one stream", differences(rows, wanted))
+    first = {kind: n for n, kind in reversed(list(enumerate(ops, 1)))}
+    problems = [] if {RFC, OPN, STS, DATA, EOF, CLS} <= set(first) else [f"there are {ops}"]
+    checks.check("there are RFC, OPN, STS, data, EOF and CLS", problems)
+
+
+def matching(checks, tshark):
+    """A reply names its command's frame, and in a second pass the other way round; what comes again is told."""
+    me, host, new = (CLIENT, 0o1405), (SERVER, 0), (SERVER, 1)
+    up = [datagram(RFC, host, me, 65_535, 0, b"FILE 1 2"), datagram(DATA, new, me, 0, 7, b"T  LOGIN M"), datagram(DATA, new, me, 1, 7, b"T  X")]
+    down = [datagram(OPN, me, new, 7, 65_535, bytes(4)), datagram(DATA, me, new, 8, 0, b"T  LOGIN M")]
+    down += [datagram(DATA, me, new, 9, 1, b"T  ERROR UKC Unknown command.")]
+    order = [up[0], down[0], up[1], up[1], up[2], down[2], down[1], down[1]]
+    seen = [(CLIENT_PORT, SERVER_PORT, each) if each in up else (SERVER_PORT, CLIENT_PORT, each) for each in order]
+    names = ["chaosnet.file.command_in", "chaosnet.file.reply_in", "chaosnet.analysis.first_in", "chaosnet.args", "chaosnet.file.error.code"]
+    wanted = [["", "", "", "1 2", ""], ["", "", "", "", ""], ["", "7", "", "", ""], ["", "7", "3", "", ""], ["", "6", "", "", ""]]
+    wanted += [["5", "", "", "", "UKC"], ["3", "", "", "", ""], ["3", "", "7", "", ""]]
+    checks.check("commands and replies find each other, and what comes again is told", differences(tshark.fields(seen, names, "-2"), wanted))
+    for wanted, frames in [
+        ("chaosnet.op == 0200 and chaosnet.file.command", [3, 4, 5]),
+        ("chaosnet.op >= 0200 and chaosnet.file.answer", [6, 7, 8]),
+        ("chaosnet.dst.addr == 0401", [1, 3, 4, 5]),
+        ("chaosnet.src.index == 01405", [1, 3, 4, 5]),
+        ("chaosnet.addr == 0402 and chaosnet.index == 01405", list(range(1, 9))),
+        ("chaosnet.op == OPN", [2]),
+        ("chaosnet.op == 1", [1]),
+        ("chaosnet.analysis.retransmission", [4, 8]),
+        ("chaosnet.file.form", [5]),
+        ("chaosnet.file.error", [6]),
+        ("chaosnet.file.error.code == \"UKC\"", [6]),
+    ]:
+        checks.check(f"the filter {wanted}", differences(tshark.frames(seen, wanted), frames))
+
+
+# The same datagrams through tshark and `show`.
+
+KNOWN = [1, 2, 3, 4, 5, 6, 7, 9, 10, 12, 13, 0o200, 0o201, 0o277, 0o300, 0o377]
+ENDS = [(0o401, 0), (0o401, 0o1001), (0o402, 0o1405), (0o402, 0), (0o177777, 0o177777)]
+TEXTS = [b"FILE", b"FILE 1 2", b"T1  LOGIN LISPM", b"T2 H OPEN READ\x8dA.LISP", b"T  ERROR SYN Bad command syntax.", b"T H WRITE\x8d^\\\x00"]
+
+
+def random_words(dice):
+    """A packet as words, with whatever in its free halves."""
+    op = dice.choice(KNOWN) if dice.random() < 0.8 else dice.randrange(256)
+    body = dice.choice([dice.randbytes(dice.randrange(9)), dice.randbytes(dice.randrange(DATA_LIMIT + 1)), dice.choice(TEXTS)])
+    ends = [dice.choice(ENDS) if dice.random() < 0.9 else (dice.randrange(65_536), dice.randrange(65_536)) for _ in range(2)]
+    numbers = dice.randrange(65_536), dice.randrange(65_536)
+    header = struct.pack(">BBH6H", op, dice.randrange(256), dice.randrange(16) << 12 | len(body), *ends[0], *ends[1], *numbers)
+    body += dice.randbytes(len(body) % 2)
+    return header + b"".join(body[at : at + 2][::-1] for at in range(0, len(body), 2))
+
+
+def several(dice):
+    """A datagram of version 2."""
+    number = dice.randrange(1, 9)
+    return MARK_2 + bytes([number]) + b"".join(random_words(dice) for _ in range(number))
+
+
+def with_bytes(payload, at, new):
+    return payload[:at] + bytes(new) + payload[at + len(new) :]
+
+
+# What makes a good datagram another, mostly a bad one.
+HARMS = [
+    lambda dice, good: good[: dice.randrange(1, len(good))],
+    lambda dice, good: good[: dice.randrange(1, 24)],
+    lambda dice, good: good + dice.randbytes(dice.randrange(1, 5)),
+    lambda dice, good: with_bytes(good, dice.randrange(2), [dice.randrange(256)]),
+    lambda dice, good: with_bytes(good, 2, [dice.choice([0, 1, 3, 255]), dice.randrange(3)]),
+    lambda dice, good: with_bytes(good, 6, struct.pack(">H", dice.randrange(489, 65_536))),
+    lambda dice, good: dice.randbytes(dice.randrange(1, 40)),
+]
+
+
+def made_up(both_versions):
+    """The datagrams, half of them harmed. None is empty: UDP hands an empty one to no dissector."""
+    dice = random.Random(SEED)
+    goods = [several(dice) if both_versions and dice.random() < 0.2 else MARK_1 + random_words(dice) for _ in range(COUNT)]
+    return [dice.choice(HARMS)(dice, good) if dice.random() < 0.5 else good for good in goods]
+
+
+FIELDS = ["op", "fwd", "count", "dst.addr", "dst.index", "src.addr", "src.index", "num", "ack", "receipt", "window", "data"]
+
+
+def packets_of(values, name_list):
+    """The reports of a datagram's packets, from tshark's fields. Each field has a value for each packet that has it."""
+    rest = {name: value.split(",") if value else [] for name, value in zip(FIELDS, values)}
+    take = {name: (lambda name=name: rest[name].pop(0)) for name in FIELDS}
+    for name in name_list:
+        op, fwd, count, *ends, num, ack = (int(take[field]()) for field in FIELDS[:9])
+        named = f"op {op:03o}" + ("" if name == f"{op:03o}" else f" {name}")
+        lines = [named, f"fwd {fwd} count {count}", "to {:06o} {:06o}".format(*ends[:2]), "from {:06o} {:06o}".format(*ends[2:]), f"num {num} ack {ack}"]
+        if op in (OPN, STS) and count >= 4:
+            lines.append(f"receipt {take['receipt']()} window {take['window']()}")
+        elif count:
+            lines.append("data " + bytes.fromhex(take["data"]()).hex(" ").upper())
+        yield "\n".join(lines)
+
+
+def reports_of(rows):
+    """What `show` would print, from what tshark prints."""
+    for fault, packets, info, *values in rows:
+        if fault:
+            yield fault
+            continue
+        reports = list(packets_of(values, re.findall(r"\d{6}:\d{6} → \d{6}:\d{6} \[(\w+)\]", info)))
+        yield "\n\n".join(([f"carriage 2 packets {packets}"] if packets else []) + reports)
+
+
+def shown(datagrams):
+    """The report of each datagram, by `show`. One of several packets begins with their number."""
+    out = run(["show"], "\n".join(payload.hex() for payload in datagrams).encode()).out.decode()
+    blocks = iter(out.removesuffix("\n").split("\n\n"))
+    for block in blocks:
+        several = re.fullmatch(r"carriage 2 packets (\d)", block)
+        yield "\n\n".join([block] + [next(blocks) for _ in range(int(several[1]) if several else 0)])
+
+
+def both_ways(checks, tshark):
+    """The same datagrams, field by field."""
+    both_versions = b"BadVersion" not in run(["show"], b"43480200").out
+    datagrams = made_up(both_versions)
+    seen = [(CLIENT_PORT, SERVER_PORT, each) for each in datagrams]
+    names = ["chaosnet.fault", "chaosnet.packets", "_ws.col.Info", *(f"chaosnet.{name}" for name in FIELDS)]
+    rows = tshark.fields(seen, names, "-d", f"udp.port=={SERVER_PORT},chaosnet")
+    wanted = list(shown(datagrams))
+    faults = {report for report in wanted if report.startswith("fault")}
+    problems = [] if len(faults) >= 7 and sum(report in faults for report in wanted) > COUNT / 4 else [f"only {faults}"]
+    checks.check(f"among {COUNT} datagrams each fault stands", problems)
+    checks.check(f"{COUNT} datagrams are read by tshark and by `show` alike", differences(list(reports_of(rows)), wanted))
+    checks.check("nothing stops the dissector", differences(tshark.frames(seen, "_ws.lua.error", "-d", f"udp.port=={SERVER_PORT},chaosnet"), []))
+    piped = tshark.run(seen, "-T", "fields", "-e", "udp.payload")
+    checks.check("`show` reads what tshark prints of udp.payload", differences(piped.split(), [each.hex() for each in datagrams]))
+    if not both_versions:
+        print("(the program has no version 2 of the carriage, so that none of the datagrams is of it)")
+
+
+def several_packets(checks, tshark):
+    """Version 2: two packets in a datagram, and each of its faults, typed."""
+    sts = bytes.fromhex("0700 0004 0101 0201 0102 0305 0000 0010 0012 000D")
+    dat = bytes.fromhex("8000 0001 0101 0201 0102 0305 0005 0010 0041")
+    greatest = bytes.fromhex("8000 01E8 0101 0201 0102 0305 0005 0010") + bytes(DATA_LIMIT)
+    rows = [
+        (b"\x02" + sts + dat, "", "7,128"),
+        (b"\x03" + sts + dat, "fault 8 PacketAt 3 1 Short", "7,128"),
+        (b"\x01" + sts + dat, "fault 5 Trailing", "7"),
+        (b"\x00" + sts + dat, "fault 6 BadNumber", ""),
+        (b"\x09" + sts + dat, "fault 6 BadNumber", ""),
+        (b"\x04" + greatest * 4, "", "128,128,128,128"),
+        (b"\x04" + greatest * 4 + b"x", "fault 7 TooLong", ""),
+        (b"\x02" + sts + dat[:2] + b"\x01\xe9" + dat[4:], "fault 8 PacketAt 2 2 BadCount", "7,128"),
+        (b"\x02" + sts + dat[:-1], "fault 8 PacketAt 2 3 Truncated", "7,128"),
+        (b"", "fault 1 Short", ""),
+    ]
+    seen = [(CLIENT_PORT, SERVER_PORT, MARK_2 + rest) for rest, _, _ in rows]
+    table = tshark.fields(seen, ["chaosnet.fault", "chaosnet.op"])
+    checks.check("datagrams of version 2, typed", differences(table, [[fault, ops] for _, fault, ops in rows]))
+
+
+# docs/PROTOCOL.md.
+
+
+def documented_session():
+    """The datagrams of one FILE command, from the table in docs/PROTOCOL.md."""
+    rows = [line.split("|")[2:-1] for line in PROTOCOL.read_text().splitlines() if re.match(r"\| \d \| `[0-9A-F]{2} 00`", line)]
+    payloads = [MARK_1 + bytes.fromhex("".join(rows).replace("`", "")) for rows in rows]
+    ports = [(CLIENT_PORT, SERVER_PORT) if each[12:14] == b"\x01\x01" else (SERVER_PORT, CLIENT_PORT) for each in payloads]
+    return [(*pair, each) for pair, each in zip(ports, payloads)]
+
+
+def documented_text(command):
+    """What stands in docs/PROTOCOL.md below a command line, up to the end of its block."""
+    _, _, rest = PROTOCOL.read_text().partition(f"$ {command}\n")
+    return rest.partition("```")[0].splitlines()
+
+
+def document(checks, tshark):
+    """docs/PROTOCOL.md shows what tshark prints of the seven datagrams in its table."""
+    seen = documented_session()
+    checks.check("the table has seven datagrams", [] if len(seen) == 7 else [f"it has {len(seen)}"])
+    if not tshark.version().startswith(DOCUMENTED):
+        print(f"(tshark is {tshark.version()}: what docs/PROTOCOL.md shows of {DOCUMENTED} isn't compared)")
+        return
+    wanted = documented_text("tshark -r login.pcap -o 'gui.column.format:\"Protocol\",\"%p\",\"Info\",\"%i\"'")
+    checks.check("the list of packets is as documented", differences(tshark.list(seen), wanted))
+    _, front, rest = tshark.run(seen, "-V", "-Y", "frame.number == 4").partition("\nChaosnet, ")
+    wanted = documented_text("tshark -r login.pcap -V -Y 'frame.number == 4'")
+    checks.check("the details of a command are as documented", differences((front + rest).strip("\n").splitlines(), wanted))
+
+
+GROUPS = [hello, matching, both_ways, several_packets, document]
+
+
+def main():
+    if len(sys.argv) > 1:
+        program.PROGRAM = pathlib.Path(sys.argv[1]).resolve()
+    if not program.PROGRAM.is_file():
+        sys.exit(f"{program.PROGRAM} isn't there: run make first")
+    checks = Checks()
+    if shutil.which("tshark"):
+        with tempfile.TemporaryDirectory() as home:
+            tshark = Tshark(home)
+            for group in GROUPS:
+                group(checks, tshark)
+            checks.check("tshark has nothing to say of the dissector", tshark.said.splitlines())
+    else:
+        print("tshark isn't installed: the dissector is not tested")
+    print(f"{checks.count - checks.failed} passed, {checks.failed} failed")
+    sys.exit(1 if checks.failed else 0)
+
+
+if __name__ == "__main__":
+    main()
