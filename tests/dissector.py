@@ -31,7 +31,7 @@ from program import DONE, Checks, run  # noqa: E402
 ROOT = program.HERE.parent
 DISSECTOR = ROOT / "tools/wireshark/chaosnet.lua"
 PROTOCOL = ROOT / "docs/PROTOCOL.md"
-HELLO = ROOT / "examples/hello.file"
+HELLO, LOGIN = ROOT / "examples/hello.file", ROOT / "examples/login.hex"
 
 # The sockets that stand in the captures, as in the README.
 SERVER_PORT, CLIENT_PORT = 9001, 9002
@@ -82,11 +82,6 @@ class Tshark:
     def frames(self, datagrams, wanted, *words):
         """The numbers of the frames that a display filter keeps."""
         return [int(row[0]) for row in self.fields(datagrams, ["frame.number"], "-Y", wanted, *words)]
-
-    def list(self, datagrams, *words):
-        """The columns Protocol and Info, a line a frame."""
-        columns = 'gui.column.format:"Protocol","%p","Info","%i"'
-        return self.run(datagrams, "-o", columns, *words).splitlines()
 
     def version(self):
         return subprocess.run(["tshark", "--version"], capture_output=True, text=True).stdout.split()[2]
@@ -190,6 +185,20 @@ def matching(checks, tshark):
         ("chaosnet.file.error.code == \"UKC\"", [6]),
     ]:
         checks.check(f"the filter {wanted}", differences(tshark.frames(seen, wanted), frames))
+
+
+def recognition(checks, tshark):
+    """What is taken for Chaosnet: by the mark and a version, after one such, and on a port that was named."""
+    good = datagram(STS, (SERVER, 1), (CLIENT, 1), 0, 0, bytes(4))
+    other = with_bytes(good, 0, b"XY")
+    seen = [(CLIENT_PORT, SERVER_PORT, each) for each in (other, good[:2], with_bytes(good, 2, b"\x03"), b"")]
+    seen += [(CLIENT_PORT, SERVER_PORT, good), (SERVER_PORT, CLIENT_PORT, other), (CLIENT_PORT + 1, SERVER_PORT, other)]
+    for name, words, frames in [
+        ("the mark and a version, and what goes between the same sockets later", [], [5, 6]),
+        ("all but the empty one, on a port of the preference", ["-o", f"chaosnet.ports:{SERVER_PORT}"], [1, 2, 3, 5, 6, 7]),
+        ("and on a port that is decoded as it", ["-d", f"udp.port=={SERVER_PORT},chaosnet"], [1, 2, 3, 5, 6, 7]),
+    ]:
+        checks.check(f"recognized: {name}", differences(tshark.frames(seen, "chaosnet", *words), frames))
 
 
 # The same datagrams through tshark and `show`.
@@ -323,32 +332,39 @@ def several_packets(checks, tshark):
 def documented_session():
     """The datagrams of one FILE command, from the table in docs/PROTOCOL.md."""
     rows = [line.split("|")[2:-1] for line in PROTOCOL.read_text().splitlines() if re.match(r"\| \d \| `[0-9A-F]{2} 00`", line)]
-    payloads = [MARK_1 + bytes.fromhex("".join(rows).replace("`", "")) for rows in rows]
-    ports = [(CLIENT_PORT, SERVER_PORT) if each[12:14] == b"\x01\x01" else (SERVER_PORT, CLIENT_PORT) for each in payloads]
-    return [(*pair, each) for pair, each in zip(ports, payloads)]
+    return [MARK_1 + bytes.fromhex("".join(row).replace("`", "")) for row in rows]
 
 
-def documented_text(command):
-    """What stands in docs/PROTOCOL.md below a command line, up to the end of its block."""
-    _, _, rest = PROTOCOL.read_text().partition(f"$ {command}\n")
-    return rest.partition("```")[0].splitlines()
+def documented_commands():
+    """The commands of the section on Wireshark, each with what it prints."""
+    _, _, section = PROTOCOL.read_text().partition("\n## In Wireshark\n")
+    for block in re.findall(r"```text\n(.*?)```", section.partition("\n## ")[0], re.S):
+        for command in re.split(r"^\$ ", block, flags=re.M)[1:]:
+            line, _, text = command.partition("\n")
+            yield line, text
 
 
 def document(checks, tshark):
-    """docs/PROTOCOL.md shows what tshark prints of the seven datagrams in its table."""
-    seen = documented_session()
-    checks.check("the table has seven datagrams", [] if len(seen) == 7 else [f"it has {len(seen)}"])
+    """docs/PROTOCOL.md shows what its commands print, of the datagrams in its table."""
+    hexes = [bytes.fromhex(line) for line in LOGIN.read_text().splitlines()]
+    checks.check("examples/login.hex has the datagrams of the table", differences(documented_session(), hexes))
     if not tshark.version().startswith(DOCUMENTED):
         print(f"(tshark is {tshark.version()}: what docs/PROTOCOL.md shows of {DOCUMENTED} isn't compared)")
         return
-    wanted = documented_text("tshark -r login.pcap -o 'gui.column.format:\"Protocol\",\"%p\",\"Info\",\"%i\"'")
-    checks.check("the list of packets is as documented", differences(tshark.list(seen), wanted))
-    _, front, rest = tshark.run(seen, "-V", "-Y", "frame.number == 4").partition("\nChaosnet, ")
-    wanted = documented_text("tshark -r login.pcap -V -Y 'frame.number == 4'")
-    checks.check("the details of a command are as documented", differences((front + rest).strip("\n").splitlines(), wanted))
+    with tempfile.TemporaryDirectory() as home:
+        for name in ["examples", "tools"]:
+            (pathlib.Path(home) / name).symlink_to(ROOT / name)
+        (pathlib.Path(home) / "bin").mkdir()
+        (pathlib.Path(home) / "bin/chaosd").symlink_to(program.PROGRAM)
+        environment = {"HOME": home, "PATH": os.environ["PATH"], "LC_ALL": "C.UTF-8"}
+        commands = list(documented_commands())
+        for line, text in commands:
+            out = subprocess.run(["bash", "-c", line], cwd=home, env=environment, capture_output=True, text=True).stdout
+            checks.check(f"$ {line}", differences(out.strip().splitlines(), text.splitlines()))
+        checks.check("the section has commands", [] if commands else ["it has none"])
 
 
-GROUPS = [hello, matching, both_ways, several_packets, document]
+GROUPS = [hello, matching, recognition, both_ways, several_packets, document]
 
 
 def main():

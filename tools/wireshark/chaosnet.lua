@@ -16,6 +16,7 @@ local file = Proto("chaosnet.file", "Chaosnet FILE")
 local HEADER_WORDS, DATA_LIMIT = 8, 488
 local FRONT, GREATEST = 4, 2020
 local HALF_CIRCLE, CIRCLE = 32768, 65536
+local MOST_SHOWN = 200
 
 local RFC, OPN, CLS, FWD, STS, LOS, LSN, EOF = 1, 2, 3, 4, 7, 9, 10, 12
 local OPCODES = {
@@ -365,6 +366,11 @@ local function add_header(tree, tvb, from)
   end
 end
 
+-- A text for the list of packets, which has room for some 4,000 bytes.
+local function clipped(text)
+  return #text > MOST_SHOWN and text:sub(1, MOST_SHOWN) .. "…" or text
+end
+
 -- The data by what the opcode makes of it, and its text for the list of packets.
 local function add_data(packet, tree, tvb)
   if packet.has_status then
@@ -380,7 +386,7 @@ local function add_data(packet, tree, tvb)
   elseif packet.op == CLS or packet.op == LOS or packet.op == FWD then
     tree:add(f.text, tvb(), shown(packet.body))
   end
-  return " " .. shown(packet.body)
+  return " " .. clipped(shown(packet.body))
 end
 
 local function end_text(one)
