@@ -45,14 +45,16 @@ COUNT, SEED = 2_000, 1981
 # Captures, and what tshark says of them.
 
 
-def captured(datagrams):
-    """A capture (pcap, raw IP) of datagrams, each with the ports of its two sockets on 127.0.0.1."""
+def captured(datagrams, most=65_535):
+    """A capture (pcap, raw IP) of datagrams, each with the ports of its two sockets on 127.0.0.1; at most so many bytes of each
+    frame were kept."""
     here = bytes([127, 0, 0, 1])
     pieces = [struct.pack("<IHHiIII", 0xA1B2C3D4, 2, 4, 0, 0, 65_535, 101)]
     for number, (source, target, payload) in enumerate(datagrams):
         udp = struct.pack(">4H", source, target, 8 + len(payload), 0) + payload
         ip = struct.pack(">BBHHHBBH4s4s", 0x45, 0, 20 + len(udp), number % 65_536, 0, 64, 17, 0, here, here)
-        pieces.append(struct.pack("<4I", 0, number * 1_000, len(ip) + len(udp), len(ip) + len(udp)) + ip + udp)
+        frame = (ip + udp)[:most]
+        pieces.append(struct.pack("<4I", 0, number * 1_000, len(frame), len(ip) + len(udp)) + frame)
     return b"".join(pieces)
 
 
@@ -65,9 +67,9 @@ class Tshark:
         self.said = ""
 
     def run(self, datagrams, *words):
-        """What it prints for these datagrams. What it says of Lua is kept."""
+        """What it prints for these datagrams, or for a capture of them. What it says of Lua is kept."""
         capture = self.home / "capture.pcap"
-        capture.write_bytes(captured(datagrams))
+        capture.write_bytes(datagrams if isinstance(datagrams, bytes) else captured(datagrams))
         line = ["tshark", "-r", capture, "-X", f"lua_script:{DISSECTOR}", *words]
         ended = subprocess.run(line, env=self.environment, capture_output=True, text=True, timeout=program.PATIENCE * 3)
         self.said += "".join(line + "\n" for line in ended.stderr.splitlines() if "Running as" not in line)
@@ -199,6 +201,9 @@ def recognition(checks, tshark):
         ("and on a port that is decoded as it", ["-d", f"udp.port=={SERVER_PORT},chaosnet"], [1, 2, 3, 5, 6, 7]),
     ]:
         checks.check(f"recognized: {name}", differences(tshark.frames(seen, "chaosnet", *words), frames))
+    for kept in (4, 19, len(good) - 1):
+        rows = tshark.fields(captured(seen[4:5], 28 + kept), ["chaosnet.cut", "chaosnet.fault"])
+        checks.check(f"a datagram of which {kept} bytes were kept is cut, and has no fault", differences(rows, [["1", ""]]))
 
 
 # The same datagrams through tshark and `show`.
@@ -206,6 +211,8 @@ def recognition(checks, tshark):
 KNOWN = [1, 2, 3, 4, 5, 6, 7, 9, 10, 12, 13, 0o200, 0o201, 0o277, 0o300, 0o377]
 ENDS = [(0o401, 0), (0o401, 0o1001), (0o402, 0o1405), (0o402, 0), (0o177777, 0o177777)]
 TEXTS = [b"FILE", b"FILE 1 2", b"T1  LOGIN LISPM", b"T2 H OPEN READ\x8dA.LISP", b"T  ERROR SYN Bad command syntax.", b"T H WRITE\x8d^\\\x00"]
+TEXTS += [b"T H OPEN 9999999999999999999999", b"T H RENAME\x8dA\x8dB\x8dC", b"T  LOGIN \xff", b"FILE\x00 \x8d", b"  ERROR  "]
+
 
 
 def random_words(dice):

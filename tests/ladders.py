@@ -127,7 +127,7 @@ def forms(checks):
     wanted = ["A", "sends 2, receives 1", "B", "sends 3, receives 2", "2 stored", "1 stored", "0 RFC 7", "1 OPN 100 ack 7", "2 STS ack 7"]
     wanted += ["4 EOF 9 ack 100", "5 OPN 100 ack 7 again", "6 DWD 101 ack 7", "7 CLS", "request", "Requested", "accept 100", "Dropped NotOpen"]
     wanted += ["window 1", "serve → ended Open", "write 201 “<&>” → 8", "write EOF → 9", "500 ms → resent 2", "deliver 9 → refused: NoSuchCopy"]
-    wanted += ["deliver 2 → refused: Stale", "later than ever → be it", "close “good\\20bye”"]
+    wanted += ["deliver 2 → refused: Stale", "later than ever → so be it", "close “good\\20bye”"]
     checks.check("a script of every form: its texts", [f"no {text!r} in {seen}" for text in wanted if text not in seen])
     checks.check("its refusals are red", [] if count["refused"] == 3 else [f"{count['refused']} are"])
     checks.check("its lost copies end in a cross", [] if count["cross"] == 2 * 6 else [f"{count['cross'] // 2} do"])

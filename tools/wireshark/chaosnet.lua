@@ -16,7 +16,7 @@ local file = Proto("chaosnet.file", "Chaosnet FILE")
 local HEADER_WORDS, DATA_LIMIT = 8, 488
 local FRONT, GREATEST = 4, 2020
 local HALF_CIRCLE, CIRCLE = 32768, 65536
-local MOST_SHOWN = 200
+local MOST_SHOWN, GREATEST_LENGTH = 200, 4294967295
 
 local RFC, OPN, CLS, FWD, STS, LOS, LSN, EOF = 1, 2, 3, 4, 7, 9, 10, 12
 local OPCODES = {
@@ -305,7 +305,7 @@ local function add_part(tree, field, tvb, from, part)
   if field == g.bytes then
     if #part > 0 then tree:add(field, tvb(from, #part)) end
   elseif field == g.length then
-    tree:add(field, tvb(from, #part), tonumber(part))
+    tree:add(field, tvb(from, #part), math.min(tonumber(part), GREATEST_LENGTH))
   elseif #part > 0 then
     tree:add(field, tvb(from, #part), shown(part))
   end
