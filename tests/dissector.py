@@ -189,6 +189,43 @@ def matching(checks, tshark):
         checks.check(f"the filter {wanted}", differences(tshark.frames(seen, wanted), frames))
 
 
+LINE_PARTS = [*PARTS, "path.to", "error.code", "error.text"]
+# Commands, then replies, with their parts by name; where there is None, the line is of no form.
+COMMANDS = [
+    (b"T1  RENAME\x8dA.LISP\x8dB", {"tid": "T1", "command": "RENAME", "path": "A.LISP", "path.to": "B"}),
+    (b"T1  DELETE\x8dA\x8dB", {"tid": "T1", "command": "DELETE", "path": "A^B"}),
+    (b"T1 H WRITE\x8d^\x8d\\", {"tid": "T1", "handle": "H", "command": "WRITE", "bytes": "5e8d5c"}),
+    (b"T1 H WRITE\x8d", {"tid": "T1", "handle": "H", "command": "WRITE"}),
+    (b"T1 H READ 1", None),
+    (b"T1  LOGIN", None),
+    (b"T1 H OPEN APPEND", None),
+    (b"T1", None),
+    (b"", None),
+]
+REPLIES = [
+    (b"T1  RENAME", {"tid": "T1", "answer": "RENAME"}),
+    (b"T1 H OPEN 1048576", {"tid": "T1", "handle": "H", "answer": "OPEN", "length": "1048576"}),
+    (b"T1 H READ\x8d\x00\x8d", {"tid": "T1", "handle": "H", "answer": "READ", "bytes": "008d"}),
+    (b"  ERROR SYN Bad command syntax.", {"answer": "ERROR", "error.code": "SYN", "error.text": "Bad command syntax."}),
+    (b"T1 H EOF 1", None),
+    (b"T1 H WRITE", None),
+]
+
+
+def file_lines(checks, tshark):
+    """Typed commands and replies, with their parts."""
+    me, host, new = (CLIENT, 1), (SERVER, 0), (SERVER, 1)
+    front = [datagram(RFC, host, me, 0, 0, b"FILE"), datagram(OPN, me, new, 0, 0, bytes(4))]
+    up = [datagram(DATA, new, me, n, 0, line) for n, (line, _) in enumerate(COMMANDS, 1)]
+    down = [datagram(DATA, me, new, n, 0, line) for n, (line, _) in enumerate(REPLIES, 1)]
+    seen = [(CLIENT_PORT, SERVER_PORT, each) for each in front + up + down]
+    rows = tshark.fields(seen, ["chaosnet.file.form", *(f"chaosnet.file.{part}" for part in LINE_PARTS)])[2:]
+    for (line, parts), row in zip(COMMANDS + REPLIES, rows):
+        wanted = ["", *(parts.get(part, "") for part in LINE_PARTS)] if parts else ["1"]
+        checks.check(f"{line!r}", differences([row if parts else row[:1]], [wanted]))
+    checks.check("each is a line of FILE", differences([len(rows)], [len(COMMANDS + REPLIES)]))
+
+
 def recognition(checks, tshark):
     """What is taken for Chaosnet: by the mark and a version, after one such, and on a port that was named."""
     good = datagram(STS, (SERVER, 1), (CLIENT, 1), 0, 0, bytes(4))
@@ -371,7 +408,7 @@ def document(checks, tshark):
         checks.check("the section has commands", [] if commands else ["it has none"])
 
 
-GROUPS = [hello, matching, recognition, both_ways, several_packets, document]
+GROUPS = [hello, matching, file_lines, recognition, both_ways, several_packets, document]
 
 
 def main():

@@ -344,7 +344,6 @@ local function dissect_file(packet, note, tvb, root)
   if not good then tree:add_proto_expert_info(g_expert.form) end
   if good and word == "ERROR" and not note.from_client then tree:add_proto_expert_info(g_expert.error) end
   add_frames(tree, note)
-  return line
 end
 
 -- Dissecting.
@@ -412,13 +411,10 @@ local function add_packet(packet, note, range, tree, root)
   local tvb, from = range.tvb, range.from
   add_header(tree, tvb, from)
   if note then tree:add(f.stream, note.stream.index):set_generated() end
-  local text, is_file = info_of(packet), false
-  if packet.count > 0 then
-    local data = packet.bytes:tvb("Chaosnet data")
-    text = text .. add_data(packet, tree, data)
-    is_file = note and packet.is_data and note.contact == "FILE"
-    if is_file then dissect_file(packet, note, data, root) end
-  end
+  local text, is_file = info_of(packet), note and packet.is_data and note.contact == "FILE"
+  local data = packet.count > 0 and packet.bytes:tvb("Chaosnet data")
+  if data then text = text .. add_data(packet, tree, data) end
+  if is_file then dissect_file(packet, note, data or tvb(from, 2 * HEADER_WORDS):tvb(), root) end
   if packet.count % 2 == 1 then tree:add(f.free, tvb(range.stop - 2, 1)) end
   if note and note.first_in then
     tree:add_proto_expert_info(e.again)
