@@ -71,7 +71,7 @@ class Tshark:
         capture = self.home / "capture.pcap"
         capture.write_bytes(datagrams if isinstance(datagrams, bytes) else captured(datagrams))
         line = ["tshark", "-r", capture, "-X", f"lua_script:{DISSECTOR}", *words]
-        ended = subprocess.run(line, env=self.environment, capture_output=True, text=True, timeout=program.PATIENCE * 3)
+        ended = subprocess.run(line, env=self.environment, capture_output=True, text=True, timeout=program.PATIENCE * 6)
         self.said += "".join(line + "\n" for line in ended.stderr.splitlines() if "Running as" not in line)
         return ended.stdout
 

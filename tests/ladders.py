@@ -74,7 +74,7 @@ def counted(checks):
         problems = [f"{count[name]} of {name} and not {number}" for name, number in wanted.items() if count[name] != number]
         problems += [f"no label of copy {number}" for number, kind in copies if not any(text.startswith(f"{number} {kind}") for text in seen)]
         for line in re.findall(r"^read \d{3} (.*)$", output, re.M):
-            problems += [] if any(f"→ “{line[:40]}" in text for text in seen) else [f"nobody reads {line}"]
+            problems += [] if any(f"“{line[:36]}" in text for text in seen) else [f"nobody reads {line}"]
         checks.check(f"{script.name}: arrows, crosses and texts", problems)
 
 
