@@ -25,7 +25,7 @@ import threading
 sys.dont_write_bytecode = True
 import files  # noqa: E402
 import program  # noqa: E402
-from files import CLIENT, CLS, DATA, DATA_LIMIT, EOF, OPN, RFC, SERVER, STS, datagram  # noqa: E402
+from files import CLIENT, CLS, DATA, DATA_LIMIT, EOF, LOS, OPN, RFC, SERVER, SNS, STS, datagram  # noqa: E402
 from program import DONE, Checks, run  # noqa: E402
 
 ROOT = program.HERE.parent
@@ -36,6 +36,7 @@ HELLO, LOGIN = ROOT / "examples/hello.file", ROOT / "examples/login.hex"
 # The sockets that stand in the captures, as in the README.
 SERVER_PORT, CLIENT_PORT = 9001, 9002
 MARK_1, MARK_2 = b"CH\x01\x00", b"CH\x02"
+FWD, ANS, LSN = 0o4, 0o5, 0o12
 # What the texts of docs/PROTOCOL.md were printed by.
 DOCUMENTED = "4.0"
 
@@ -187,6 +188,25 @@ def matching(checks, tshark):
         ("chaosnet.file.error.code == \"UKC\"", [6]),
     ]:
         checks.check(f"the filter {wanted}", differences(tshark.frames(seen, wanted), frames))
+
+
+def texts(checks, tshark):
+    """What the data of a packet is by its opcode: typed."""
+    me, host = (CLIENT, 1), (SERVER, 0)
+    rows = [
+        (RFC, b"TIME", ["TIME", "", "", "", "", "54494d45"]),
+        (LSN, b"FILE a\x8d b", ["FILE", "a^ b", "", "", "", b"FILE a\x8d b".hex()]),
+        (CLS, b"No server for this contact name.", ["", "", "No server for this contact name.", "", "", b"No server for this contact name.".hex()]),
+        (LOS, b"gone", ["", "", "gone", "", "", "676f6e65"]),
+        (FWD, b"^\\", ["", "", r"\5e\5c", "", "", "5e5c"]),
+        (ANS, b"A", ["", "", "", "", "", "41"]),
+        (OPN, b"\x01\x00\x0d\x01\xff", ["", "", "", "1", "269", ""]),
+        (STS, b"\x01\x00\x0d", ["", "", "", "", "", "01000d"]),
+        (SNS, b"", [""] * 6),
+    ]
+    seen = [(CLIENT_PORT, SERVER_PORT, datagram(op, host, me, 0, 0, body)) for op, body, _ in rows]
+    names = [f"chaosnet.{name}" for name in ["contact", "args", "text", "receipt", "window", "data"]]
+    checks.check("contact, arguments, text and status, typed", differences(tshark.fields(seen, names), [row for _, _, row in rows]))
 
 
 LINE_PARTS = [*PARTS, "path.to", "error.code", "error.text"]
@@ -408,7 +428,7 @@ def document(checks, tshark):
         checks.check("the section has commands", [] if commands else ["it has none"])
 
 
-GROUPS = [hello, matching, file_lines, recognition, both_ways, several_packets, document]
+GROUPS = [hello, matching, texts, file_lines, recognition, both_ways, several_packets, document]
 
 
 def main():
