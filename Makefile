@@ -1,7 +1,7 @@
 # Proves and builds Poltxegun. Everything is done by the kit's `rt`; this file only names the usual wishes.
 #
 #   make                    proves the program and all that it stands on, and builds bin/chaosd
-#   make demo               runs a FILE session between two hosts in one process
+#   make demo               shows a FILE session between two hosts in one process: without proof, in a minute, where bin/chaosd is not built
 #   make check              the gate: claims, every proof from nothing, wrong bodies, tests, and the program as a user meets it
 #   make wrong-bodies       the wrong bodies that the gate leaves out, for before a release (about an hour)
 #   make dialogues          random dialogues between two hosts, a million packets from a seed of the clock's; SEED=.. PACKETS=..
@@ -24,13 +24,12 @@ PACKETS ?= 1000000
 all: bin/chaosd
 
 bin/chaosd: $(SOURCES)
-	cd crates/chaosd && $(RT) run -- --help > out.log 2>&1 || { cat out.log; rm -f out.log; exit 1; }
-	@rm -f crates/chaosd/out.log
+	@RT=$(RT) tools/build chaosd --help
 	@mkdir -p bin
 	cp crates/chaosd/out/chaosd $@
 
-demo: bin/chaosd
-	@bin/chaosd loop < examples/hello.file
+demo:
+	@RT=$(RT) tools/demo $$($(MAKE) -q bin/chaosd > /dev/null 2>&1 && echo built)
 
 check:
 	@RT=$(RT) tools/gate
@@ -42,8 +41,7 @@ dialogues: $(DIALOGUES)
 	@$(DIALOGUES) $(SEED) $(PACKETS)
 
 $(DIALOGUES): $(SOURCES)
-	cd crates/random_dialogues && $(RT) run -- 1 1 > out.log 2>&1 || { cat out.log; rm -f out.log; exit 1; }
-	@rm -f crates/random_dialogues/out.log
+	@RT=$(RT) tools/build random_dialogues 1 1
 	@touch $@
 
 bench: $(PROGRAM_BENCHES:%=bench-%) $(BENCHES:%=bench-%)
@@ -61,4 +59,4 @@ install: bin/chaosd
 	install -m 644 docs/chaosd.1 $(DESTDIR)$(PREFIX)/share/man/man1/chaosd.1
 
 clean:
-	rm -rf bin crates/*/out
+	rm -rf bin out crates/*/out
