@@ -37,6 +37,7 @@
 //! number 65535; a tick sends the first item alone again, or the kept ones in another order.
 #![tactic(auto)]
 
+mod announcing;
 mod arriving;
 mod chance;
 mod content;
