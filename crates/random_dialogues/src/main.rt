@@ -34,11 +34,14 @@
 //! differs where, and ends with status 1; the same seed and that many packets stop there again. Status 2 is a mistake in the
 //! words, 4 want of memory. What it prints changes with what hosts send, and with it the file `stdout`.
 //!
-//! Each of these faults, put into the crates below without their proofs, stopped the run from seed 8, most of them within a
-//! hundred packets and all within some thousand: a number one past the window is taken; an item that is held, or was read,
-//! is taken again; packets are told from one another by their index alone; a LOS ends the next slot's connection too;
-//! numbers are compared without going round; what arrived is told as read; a freed slot keeps its index; a read leaves the
-//! number 65535; a tick sends the first item alone again, or the kept ones in another order.
+//! Each of these faults, put into the crates below without their proofs, stopped the run from seed 8, most of them within some
+//! hundred packets and all within six thousand: a number one past the window is taken; an item that is held, or was read, is
+//! taken again; packets are told from one another by their index alone; a LOS ends the next slot's connection too; numbers are
+//! compared without going round; what arrived is told as read; a freed slot keeps its index; a read leaves the number 65535; a
+//! tick sends the first item alone again, or the kept ones in another order. So did these, of windows that are announced: what
+//! is held is dropped; a held item past a smaller window is outside; items are taken up to the greatest window; a status tells
+//! that one; reads are told by that one; a smaller window is not told; an OPN that is sent again tells the present window; a
+//! close keeps a small one; a window of 0 is refused, or one past the greatest taken.
 #![tactic(auto)]
 
 mod announcing;
