@@ -38,7 +38,7 @@ OPEN_TEXT = (
 def examples(checks):
     """Each script of examples/lab prints its text."""
     scripts = sorted(EXAMPLES.glob("*.lab"))
-    checks.check("there are six examples", [] if len(scripts) == 6 else [f"there are {len(scripts)}"])
+    checks.check("there are seven examples", [] if len(scripts) == 7 else [f"there are {len(scripts)}"])
     for script in scripts:
         text = script.with_suffix(".txt").read_bytes()
         status = REFUSED if b"\nrefused " in text else DONE
@@ -65,6 +65,14 @@ def scripts(checks):
             START_TEXT + b"refused 1 NoSuchCopy\n" + STORED,
         ),
         ("the greatest moment", START + b"tick a 18446744073709551615\n", DONE, START_TEXT + b"ticked down\n" + STORED),
+        (
+            "a window is announced at open ends alone, and up to the greatest",
+            START + b"window a 1\nwindow b 65535\ndeliver 0\naccept 100\nwindow b 3\nwindow b 65535\nwindow b 2\n",
+            REFUSED,
+            START_TEXT
+            + b"refused 3 1 NotOpen\nrefused 3 1 NotOpen\ndelivered Requested\naccepted 100\ncopy 1 b OPN num 100 ack 1\n"
+            + b"refused 3 9 BadWindow\nrefused 3 9 BadWindow\nannounced 2\ncopy 2 b STS num 0 ack 1\nstored a 1 b 1\n",
+        ),
         ("an end that was never asked", START + b"read b\nclose b\n", DONE, START_TEXT + b"read ended Inactive\nclosed\n" + STORED),
     ]:
         checks.check(name, run(["lab"], script).problems(status, text, b""))
@@ -104,6 +112,7 @@ def bad_lines(checks):
     lines += [b"tick a 01", b"tick a 18446744073709551616", b"accept", b"accept 65536", b"deliver 18446744073709551616", b"deliver 0x1"]
     lines += [b"write a", b"write a 20 X", b"write a 400 X", b"write a 0200 X", b"write a 288 X", b"write a 200 \\8D", b"write a 200 \\8"]
     lines += [b"write a 200 \x8d", b"write a 200 \t", b"close a \x7f", b"close", b"write a 200 " + b"x" * 489, b"write a 200 \\", b"serve"]
+    lines += [b"window", b"window a", b"window c 1", b"window a 65536", b"window a 01", b"window a -1", b"window a 1 "]
     lines += [b"ends 2 2 2 2 1", b"read a\r\r", b"read a" + b" " * 5_000, b"deliver " + b"9" * 40_000]
     for line in lines:
         ended = run(["lab"], START + line + b"\nread a\n")

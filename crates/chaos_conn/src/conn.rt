@@ -17,11 +17,12 @@ use std::marker::Model;
 /// - The user's calls. [`Conn::request`] asks a peer; [`Conn::take_request`] takes a peer's request, and then
 ///   [`Conn::accept`], [`Conn::answer`] or [`Conn::reject`] replies to it. At an open end [`Conn::write`] and
 ///   [`Conn::unc`] send; [`Conn::read`] hands the next item out, or [`Conn::front`] lends it and [`Conn::read_done`]
-///   passes over it. [`Conn::announce`] changes the window that the peer may fill. [`Conn::close`] gives the connection up, in any state, and makes the value ready for another.
+///   passes over it. [`Conn::announce`] changes the window that the peer may fill. [`Conn::close`] gives the connection up,
+///   in any state, and makes the value ready for another.
 /// - Packets from the network: [`Conn::deliver`].
 /// - The tick: [`Conn::tick`], called now and then, sends what is due.
 /// - Looks, which change nothing: [`Conn::state`], [`Conn::config`], [`Conn::peer`], [`Conn::asked`],
-///   [`Conn::can_write`], [`Conn::drained`] and [`Conn::stored`].
+///   [`Conn::announced`], [`Conn::can_write`], [`Conn::drained`] and [`Conn::stored`].
 ///
 /// The order: `new`; then `request`, or `take_request` and a reply; then packets, ticks, writes and reads as they come;
 /// then `close`. A call in the wrong state is refused, and changes nothing.

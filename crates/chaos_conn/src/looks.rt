@@ -46,6 +46,15 @@ impl Conn {
         self.asked
     }
 
+    /// The window that this end announces: the configuration's receive window, until [`Conn::announce`] makes it another. A
+    /// close sets it back.
+    pub fn announced(&self) -> u16
+        ensures value { result ≡ self.now.recv.window }
+        ensures fits { result ≤ self.now.config.recv_cap }
+    {
+        self.recv.window()
+    }
+
     /// Whether the end is open and its window has room, so that a write of data is taken.
     pub fn can_write(&self) -> bool
         ensures { result ≡ can_write self.now }

@@ -19,3 +19,4 @@ mod station;
 mod streams;
 mod time;
 mod user;
+mod windows;

@@ -22,12 +22,11 @@ use std::marker::Model;
 /// - The user's calls on one connection, which a [`ConnId`] names. [`Host::accept`], [`Host::answer`] or [`Host::reject`]
 ///   replies to a request that it holds. [`Host::write`] and [`Host::unc`] send; [`Host::read`] hands the next item out, or
 ///   [`Host::front`] lends it and [`Host::read_done`] passes over it. [`Host::announce`] changes the window that the peer
-///   may fill. [`Host::close`] gives it up. `answer`, `reject` and
-///   `close` free its slot.
+///   may fill. [`Host::close`] gives it up. `answer`, `reject` and `close` free its slot.
 /// - Packets from the network: [`Host::deliver`], which finds the connection, or takes a new request.
 /// - The tick: [`Host::tick`], called now and then for each slot, sends what is due there.
-/// - Looks, which change nothing: [`Host::state`], [`Host::can_write`] and [`Host::drained`] of a connection;
-///   [`Host::id_of`], [`Host::stored`], [`Host::config`] and [`Host::conns`] of the table.
+/// - Looks, which change nothing: [`Host::state`], [`Host::announced`], [`Host::can_write`] and [`Host::drained`] of a
+///   connection; [`Host::id_of`], [`Host::stored`], [`Host::config`] and [`Host::conns`] of the table.
 ///
 /// The order: `new`; then `listen` for each contact; then packets, ticks and the user's calls as they come. An index is told
 /// by `connect`, and by `deliver` with a new request. It names its connection until the slot is freed, and no call on it

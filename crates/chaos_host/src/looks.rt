@@ -46,6 +46,13 @@ impl Host {
         Ok(named(&self.slots, id)?.conn.drained())
     }
 
+    /// The window that a connection announces to its peer.
+    pub fn announced(&self, id: ConnId) -> Result<u16, CallFault>
+        ensures { result ≡ host_look self.now id (λ conn. conn.recv.window) }
+    {
+        Ok(named(&self.slots, id)?.conn.announced())
+    }
+
     /// Lends a connection's next item, where it is held.
     pub fn front(&self, id: ConnId) -> Result<Option<&Item>, CallFault>
         ensures { result_map_both (λ front. option_copied front) (λ fault. fault) result ≡ host_look self.now id (λ conn. front_of conn) }

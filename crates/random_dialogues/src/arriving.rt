@@ -12,7 +12,7 @@ use chaos_packet::PktNum;
 
 impl Station {
     /// A packet arrives, and all is compared: it names a slot or none, it went there and nowhere else, and an item of the
-    /// peer's was taken exactly where it is new and inside the window.
+    /// peer's was taken exactly where it is new and inside the window that the end announces.
     pub fn arrive(&mut self, sent: &Sent, scene: &mut Scene) -> Result<(), Fault> {
         if self.out.room() == 0 {
             return Err(self.differs(None, What::NoRoom));
@@ -100,7 +100,9 @@ impl Station {
             return Err(self.differs(Some(id), What::Misled));
         }
         let packet = &sent.packet;
-        let life = Life::new(packet.src, Some(packet.src_index), sent.from, PktNum(0));
+        let index = Some(packet.src_index);
+        let greatest = self.host.config().recv_cap();
+        let life = Life::new(packet.src, index, sent.from, PktNum(0), greatest);
         let number = scene.lives.add(life)?;
         self.seat(slot, Some(number));
         Ok(())
@@ -147,12 +149,16 @@ impl Station {
             return Ok(Delivered::Duplicate);
         }
         let past = place - life.read;
-        if past >= u64::from(self.host.config().recv_cap()) || past >= 64 {
+        if past >= 64 {
             return Ok(Delivered::Outside);
         }
         let bit = 1u64.rotate_left(past as u32);
+        // What is held stays so past a window that was made smaller.
         if life.held & bit != 0 {
             return Ok(Delivered::Duplicate);
+        }
+        if past >= u64::from(life.window) {
+            return Ok(Delivered::Outside);
         }
         life.held |= bit;
         Ok(Delivered::Took)

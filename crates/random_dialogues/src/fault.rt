@@ -34,6 +34,10 @@ pub enum What {
     NotDrained,
     #[error("other packets were sent again than are kept")]
     Unsent,
+    #[error("a window is shown or told that the end does not announce")]
+    Window,
+    #[error("a status was due and not sent, or was sent and not due")]
+    Told,
     #[error("a call was refused that the looks allow")]
     Refused,
     #[error("a call was taken that the looks refuse")]

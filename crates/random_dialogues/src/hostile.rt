@@ -26,7 +26,7 @@ impl Station {
         let slot = scene.chance.place(self.seats.len().max(1));
         let life = match self.life_at(slot, scene) {
             Some((_, life)) => life,
-            None => Life::new(self.other, None, None, PktNum(0)),
+            None => Life::new(self.other, None, None, PktNum(0), 0),
         };
         let mut packet = any_packet(&life, &mut scene.chance);
         packet.dst = self.address;

@@ -22,11 +22,21 @@ pub struct Life {
     pub read: u64,
     /// The items past those that were read, the next one in the lowest bit: whether each was delivered.
     pub held: u64,
+    /// The window that it announces.
+    pub window: u16,
+    /// How many items its user read while it was open since a packet told so.
+    pub untold: u64,
 }
 
 impl Life {
-    /// A connection at its beginning.
-    pub fn new(address: u16, index: Option<u16>, peer: Option<usize>, start: PktNum) -> Self {
+    /// A connection at its beginning, which announces its greatest window.
+    pub fn new(
+        address: u16,
+        index: Option<u16>,
+        peer: Option<usize>,
+        start: PktNum,
+        greatest: u16,
+    ) -> Self {
         Life {
             address,
             index,
@@ -36,6 +46,8 @@ impl Life {
             written: 0,
             read: 0,
             held: 0,
+            window: greatest,
+            untold: 0,
         }
     }
 

@@ -17,6 +17,7 @@ pub struct Digest {
 pub struct Look {
     pub id: Option<ConnId>,
     pub state: State,
+    pub announced: u16,
     pub can_write: bool,
     pub drained: bool,
     pub front: Option<Digest>,
@@ -43,6 +44,7 @@ impl Look {
         Look {
             id: None,
             state: State::Inactive,
+            announced: 0,
             can_write: false,
             drained: true,
             front: None,
@@ -62,6 +64,7 @@ impl Look {
         Look {
             id: Some(id),
             state: host.state(id).unwrap_or(State::Inactive),
+            announced: host.announced(id).unwrap_or(0),
             can_write: host.can_write(id).unwrap_or(false),
             drained: host.drained(id).unwrap_or(false),
             front: front_of(host, id),

@@ -1,8 +1,8 @@
 //! `random_dialogues [SEED [PACKETS]]`: random dialogues between two hosts, 1 and 20,000 where no words are given.
 //!
 //! Two hosts of `chaos_host` hold connections with one another over a network that loses packets, repeats them and hands them
-//! over in any order. Their users ask, accept, refuse, answer, write, read and close as chance has it, and tick; among the
-//! packets come others that no host sent, of every opcode. A run is one dialogue after another until so many packets
+//! over in any order. Their users ask, accept, refuse, answer, write, read, announce windows and close as chance has it, and
+//! tick; among the packets come others that no host sent, of every opcode. A run is one dialogue after another until so many packets
 //! arrived, each of 1 to 4 connections a host, windows from 1 to 64 (mostly short), and numbers that often begin shortly
 //! before 65535. The seed decides all of it, and there is no clock: a run can be had again.
 //!
@@ -11,13 +11,17 @@
 //!
 //! - *Read begins written.* What is read at an end, and what lies in front, is the next item that its own peer's user wrote:
 //!   opcode and data, for all connections at once. Nothing is read that was not delivered.
-//! - *What is delivered can be read.* An item of the peer's that arrives inside the window of an open end is taken, one that
-//!   came before is a duplicate, one past the window is outside; and what was taken is in front in its turn.
+//! - *What is delivered can be read.* An item of the peer's that arrives inside the window that an open end announces is taken;
+//!   one that was read or is held is a duplicate, also past a window that was made smaller; every other past the window is
+//!   outside; and what was taken is in front in its turn.
+//! - *Windows are told.* A status tells the window that its end announces, an OPN the greatest, however often it is sent. A
+//!   greater one is refused. A read at an open end sends a packet exactly where the reads that none told come to a third of the
+//!   window, and so does each window that is announced.
 //! - *What is sent was written.* Each item that a host puts out, first or again, has a number and the data of one that its
 //!   user wrote, and is among the last 64. A tick puts out as many packets as it says.
 //! - *Drained is read.* An end that is drained has a peer whose user read all that was written.
 //! - *No other connection changes.* A packet, a call or a tick names one slot or none; of each other slot the index, the state,
-//!   the item in front, `can_write` and `drained` stay. A packet goes where it is named and nowhere else.
+//!   the window announced, the item in front, `can_write` and `drained` stay. A packet goes where it is named and nowhere else.
 //! - *The store has its bound*: the connections times both windows, and 504 bytes each.
 //!
 //! What the protocol doesn't promise is kept out. A copy is under way for 4,000 rounds at most, in which each side writes at
@@ -30,13 +34,17 @@
 //! differs where, and ends with status 1; the same seed and that many packets stop there again. Status 2 is a mistake in the
 //! words, 4 want of memory. What it prints changes with what hosts send, and with it the file `stdout`.
 //!
-//! Each of these faults, put into the crates below without their proofs, stopped the run from seed 8, most of them within a
-//! hundred packets and all within some thousand: a number one past the window is taken; an item that is held, or was read,
-//! is taken again; packets are told from one another by their index alone; a LOS ends the next slot's connection too;
-//! numbers are compared without going round; what arrived is told as read; a freed slot keeps its index; a read leaves the
-//! number 65535; a tick sends the first item alone again, or the kept ones in another order.
+//! Each of these faults, put into the crates below without their proofs, stopped the run from seed 8, most of them within some
+//! hundred packets and all within six thousand: a number one past the window is taken; an item that is held, or was read, is
+//! taken again; packets are told from one another by their index alone; a LOS ends the next slot's connection too; numbers are
+//! compared without going round; what arrived is told as read; a freed slot keeps its index; a read leaves the number 65535; a
+//! tick sends the first item alone again, or the kept ones in another order. So did these, of windows that are announced: what
+//! is held is dropped; a held item past a smaller window is outside; items are taken up to the greatest window; a status tells
+//! that one; reads are told by that one; a smaller window is not told; an OPN that is sent again tells the present window; a
+//! close keeps a small one; a window of 0 is refused, or one past the greatest taken.
 #![tactic(auto)]
 
+mod announcing;
 mod arriving;
 mod chance;
 mod content;

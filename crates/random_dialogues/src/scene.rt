@@ -6,14 +6,15 @@ use crate::network::{Network, Sent};
 use chaos_packet::Packet;
 use std::alloc::{AllocError, Global};
 
-/// How often users and strangers do what they may. A connection is closed, and a packet comes that nobody sent, once in so
-/// many times.
+/// How often users and strangers do what they may. A window is announced, a connection is closed, and a packet comes that
+/// nobody sent, once in so many times.
 #[derive(Clone, Copy, Debug, PartialEq, Eq)]
 pub struct Habits {
     /// The most packets under way.
     pub room: u64,
     pub losing: u64,
     pub repeating: u64,
+    pub announcing: u64,
     pub closing: u64,
     pub hostile: u64,
 }
@@ -41,6 +42,7 @@ impl Habits {
             room: chance.one_of(&[3, 16, 60, 250]),
             losing: chance.one_of(&[0, 3, 8, 30]),
             repeating: chance.one_of(&[0, 2, 4, 16]),
+            announcing: chance.one_of(&[0, 1, 2, 8]),
             closing: chance.one_of(&[5, 60, 500, 5_000]),
             hostile: chance.one_of(&[0, 2, 8, 40]),
         }

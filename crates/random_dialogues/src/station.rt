@@ -1,5 +1,6 @@
 //! A host with its users, and what they compare after each call.
 
+use crate::announcing::note_told;
 use crate::content::item_of;
 use crate::fault::{Difference, Fault, What};
 use crate::life::Life;
@@ -98,12 +99,14 @@ impl Station {
         Ok(())
     }
 
-    /// Puts a packet on its way. An item has to be one that its connection wrote.
+    /// Puts a packet on its way. An item has to be one that its connection wrote, and a window the one that it announces.
     fn send(&self, packet: Packet, from: Option<usize>, scene: &mut Scene) -> Result<(), Fault> {
         let mut place = None;
         if is_item(&packet) {
             place = Some(self.checked_place(&packet, from, scene)?);
         }
+        self.check_window(&packet, from, scene)?;
+        note_told(&packet, from, scene);
         Ok(scene.post(packet, from, place)?)
     }
 
@@ -167,8 +170,8 @@ impl Station {
         Ok(())
     }
 
-    /// A connection with a peer shows the next item exactly where it was delivered, and counts no item as read that the peer
-    /// has not read.
+    /// A connection shows the window that it announces. One with a peer shows the next item exactly where it was delivered,
+    /// and counts no item as read that the peer has not read.
     fn check_named(&self, slot: usize, scene: &Scene) -> Result<(), Fault> {
         let Some(id) = self.host.id_of(slot) else {
             return Ok(());
@@ -176,6 +179,9 @@ impl Station {
         let Some((_, life)) = self.life_at(slot, scene) else {
             return Ok(());
         };
+        if self.host.announced(id) != Ok(life.window) {
+            return Err(self.differs(Some(id), What::Window));
+        }
         let Some((number, peer)) = scene.lives.peer_of(&life) else {
             return Ok(());
         };

@@ -52,8 +52,9 @@ impl Station {
         let asked = self
             .host
             .connect(peer, contact, start, scene.now, &mut self.out);
+        let greatest = self.host.config().recv_cap();
         match asked {
-            Ok(id) => self.begin(id, Life::new(peer, None, None, start), scene),
+            Ok(id) => self.begin(id, Life::new(peer, None, None, start, greatest), scene),
             Err(_) => Err(self.differs(None, What::Refused)),
         }
     }
@@ -109,11 +110,14 @@ impl Station {
         self.check_taken(id, done)
     }
 
-    /// Writes, reads, or gives up.
+    /// Writes, reads, announces a window, or gives up.
     fn talk(&mut self, slot: usize, id: ConnId, scene: &mut Scene) -> Result<(), Fault> {
         match scene.chance.below(32) {
             0..=13 => self.write(slot, id, scene),
-            14..=30 => self.read(slot, id, scene),
+            14..=28 => self.read(slot, id, scene),
+            29 | 30 if scene.chance.once_in(scene.habits.announcing) => {
+                self.announce(slot, id, scene)
+            }
             _ if self.out.room() > 0 && scene.chance.once_in(2) => {
                 let done = self.host.unc(id, b"Now.", &mut self.out);
                 self.check_taken(id, done)
@@ -158,20 +162,28 @@ impl Station {
 
     /// Reads, by either way: the item is handed out, or was lent and is passed over.
     fn read(&mut self, slot: usize, id: ConnId, scene: &mut Scene) -> Result<(), Fault> {
-        if self.out.room() == 0 {
+        let room = self.out.room();
+        if room == 0 {
             return Err(self.differs(Some(id), What::NoRoom));
         }
+        let was_open = self.host.state(id) == Ok(State::Open);
         if scene.chance.once_in(2) {
             match self.host.read(id, &mut self.out) {
-                Ok(ReadEnd::Item(item)) => self.take_item(slot, id, &item, scene),
-                Ok(_) => self.take_nothing(slot, id, scene),
+                Ok(ReadEnd::Item(item)) => {
+                    self.count_read(slot, id, room, was_open, scene)?;
+                    self.take_item(slot, id, &item, scene)
+                }
+                Ok(_) => self.take_nothing(slot, id, room, scene),
                 Err(_) => Err(self.differs(Some(id), What::Refused)),
             }
         } else {
             match self.host.read_done(id, &mut self.out) {
                 // `check` compared the item while it was lent.
-                Ok(ReadDone::Done) => self.pass(slot, id, scene),
-                Ok(_) => self.take_nothing(slot, id, scene),
+                Ok(ReadDone::Done) => {
+                    self.count_read(slot, id, room, was_open, scene)?;
+                    self.pass(slot, id, scene)
+                }
+                Ok(_) => self.take_nothing(slot, id, room, scene),
                 Err(_) => Err(self.differs(Some(id), What::Refused)),
             }
         }
@@ -218,8 +230,15 @@ impl Station {
         Ok(())
     }
 
-    /// Nothing was read: the next item was not delivered.
-    fn take_nothing(&mut self, slot: usize, id: ConnId, scene: &Scene) -> Result<(), Fault> {
+    /// Nothing was read: the next item was not delivered, and nothing went out since the outbox had this room.
+    fn take_nothing(
+        &mut self,
+        slot: usize,
+        id: ConnId,
+        room: usize,
+        scene: &Scene,
+    ) -> Result<(), Fault> {
+        self.check_told(id, room, false)?;
         match self.life_at(slot, scene) {
             Some((_, life)) if life.peer.is_some() && life.holds_next() => {
                 Err(self.differs(Some(id), What::Gone))

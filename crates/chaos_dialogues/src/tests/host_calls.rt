@@ -26,6 +26,7 @@ fn request_is_made_opened_and_closed(rt: HostRuntime) -> Result<(), Fail> {
     station.sends(&rt, Opcode::STS, 9, 1, &[100, 0, 5, 0]);
     let over = CallFault::Refused(ConnFault::BadWindow);
     station.does(&rt, 1, Call::Announce(14), Err(over));
+    assert_eq!(rt; station.host.announced(id), Ok(5));
     station.does(&rt, 2, Call::Announce(1), Err(CallFault::NoSuchConnection));
     station.ticks(&rt, 0, 500, Ticked::Resent(1));
     station.sends(&rt, Opcode::DATA, 9, 1, b"hello");

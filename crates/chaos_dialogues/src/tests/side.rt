@@ -169,6 +169,7 @@ impl Side {
     /// The user announces a window, and an STS with this receipt and acknowledgement tells it.
     pub fn announces(&mut self, rt: &impl Abort, window: u16, receipt: u16, ack: u16) {
         self.does(rt, Call::Announce(window), Ok(()));
+        assert_eq!(rt; self.conn.announced(), window);
         self.window = window;
         self.sends_status(rt, receipt, ack);
         self.is_quiet(rt);

@@ -1,5 +1,5 @@
-use super::packets::{data, packet, status};
-use super::side::{Call, item, open, rfc_sent, windows};
+use super::packets::{data, status};
+use super::side::{Call, item, open, windows};
 use chaos_conn::{ConnConfig, ConnFault, Delivered, ReadEnd};
 use chaos_packet::Opcode;
 use std::test::Fail;
@@ -52,50 +52,6 @@ fn writes_are_data_and_empty_eofs(rt: HostRuntime) -> Result<(), Fail> {
     side.sends(&rt, Opcode::UNC, 0, 0, b"now");
     side.gives_all_back(&rt);
     side.writes(&rt, Opcode::DATA, b"x", Err(ConnFault::NotOpen));
-    side.is_quiet(&rt);
-    Ok(())
-}
-
-#[test]
-fn another_window_is_announced_and_kept_to(rt: HostRuntime) -> Result<(), Fail> {
-    let mut side = open(&rt, rt.alloc(), windows(13, 4)?, 7, 10)?;
-    side.does(&rt, Call::Announce(5), Err(ConnFault::BadWindow));
-    side.gets(&rt, &data(13, 7), Delivered::Took);
-    side.announces(&rt, 1, 10, 10);
-    side.gets(&rt, &data(13, 7), Delivered::Duplicate);
-    side.sends_status(&rt, 10, 10);
-    side.gets(&rt, &data(12, 7), Delivered::Outside);
-    side.sends_status(&rt, 10, 10);
-    side.gets(&rt, &data(11, 7), Delivered::Took);
-    side.is_quiet(&rt);
-    side.reads(&rt, item(b'd'));
-    side.sends_status(&rt, 11, 11);
-    side.gets(&rt, &data(12, 7), Delivered::Took);
-    side.announces(&rt, 0, 13, 11);
-    side.reads(&rt, item(b'd'));
-    side.sends_status(&rt, 13, 12);
-    side.reads(&rt, item(b'd'));
-    side.sends_status(&rt, 13, 13);
-    side.gets(&rt, &data(14, 7), Delivered::Outside);
-    side.sends_status(&rt, 13, 13);
-    side.announces(&rt, 4, 13, 13);
-    side.gets(&rt, &data(17, 7), Delivered::Took);
-    side.gives_all_back(&rt);
-    side.does(&rt, Call::Announce(1), Err(ConnFault::NotOpen));
-    side.does(&rt, Call::Announce(5), Err(ConnFault::NotOpen));
-    side.is_quiet(&rt);
-    Ok(())
-}
-
-#[test]
-fn only_an_open_end_announces_a_window(rt: HostRuntime) -> Result<(), Fail> {
-    let mut side = rfc_sent(&rt, rt.alloc(), ConnConfig::usual(), 7)?;
-    side.does(&rt, Call::Announce(1), Err(ConnFault::NotOpen));
-    side.opens(&rt, 7, 100);
-    side.announces(&rt, 3, 100, 100);
-    let cls = packet(Opcode::CLS, 0, 0, b"");
-    side.gets(&rt, &cls, Delivered::Closed(cls.copy()));
-    side.does(&rt, Call::Announce(1), Err(ConnFault::NotOpen));
     side.is_quiet(&rt);
     Ok(())
 }
