@@ -23,6 +23,3 @@ pub use fault::LineFault;
 pub use law::law_one_line;
 pub use line::{Ask, Line, Serve};
 pub use parse::{parse_line, read_line};
-
-#[cfg(test)]
-mod tests;

@@ -1,5 +1,0 @@
-//! Lines of each kind, by hand.
-
-mod bad_words;
-mod help;
-mod lines;
