@@ -8,6 +8,7 @@
 #   make bench              times everything beside the same in plain Rust (rustc and python3)
 #   make bench-show         `chaosd show` alone; likewise bench-lab and bench-loop of the program, and bench-codec, bench-links,
 #                           bench-window, bench-host, bench-file and bench-turn of the libraries
+#   make pictures           draws the pictures of the documents again (python3)
 #   make install PREFIX=DIR puts the program into DIR/bin, and its manual page into DIR/share/man/man1
 
 PREFIX ?= /usr/local
@@ -19,7 +20,7 @@ DIALOGUES := crates/random_dialogues/out/random_dialogues
 SEED ?= $(shell date +%s)
 PACKETS ?= 1000000
 
-.PHONY: all demo check wrong-bodies dialogues bench $(PROGRAM_BENCHES:%=bench-%) $(BENCHES:%=bench-%) install clean
+.PHONY: all demo check wrong-bodies dialogues pictures bench $(PROGRAM_BENCHES:%=bench-%) $(BENCHES:%=bench-%) install clean
 
 all: bin/chaosd
 
@@ -43,6 +44,9 @@ dialogues: $(DIALOGUES)
 $(DIALOGUES): $(SOURCES)
 	@RT=$(RT) tools/build random_dialogues 1 1
 	@touch $@
+
+pictures:
+	@tools/ladder --pictures docs/pictures
 
 bench: $(PROGRAM_BENCHES:%=bench-%) $(BENCHES:%=bench-%)
 

@@ -239,10 +239,11 @@ def file_lines(checks, tshark):
     up = [datagram(DATA, new, me, n, 0, line) for n, (line, _) in enumerate(COMMANDS, 1)]
     down = [datagram(DATA, me, new, n, 0, line) for n, (line, _) in enumerate(REPLIES, 1)]
     seen = [(CLIENT_PORT, SERVER_PORT, each) for each in front + up + down]
-    rows = tshark.fields(seen, ["chaosnet.file.form", *(f"chaosnet.file.{part}" for part in LINE_PARTS)])[2:]
-    for (line, parts), row in zip(COMMANDS + REPLIES, rows):
+    rows = tshark.fields(seen, [f"chaosnet.file.{part}" for part in ["line", "form", *LINE_PARTS]])[2:]
+    for (line, parts), (shown, *row) in zip(COMMANDS + REPLIES, rows):
         wanted = ["", *(parts.get(part, "") for part in LINE_PARTS)] if parts else ["1"]
-        checks.check(f"{line!r}", differences([row if parts else row[:1]], [wanted]))
+        text = files.text_of(line).decode()
+        checks.check(f"{line!r}", differences([shown, row if parts else row[:1]], [text, wanted]))
     checks.check("each is a line of FILE", differences([len(rows)], [len(COMMANDS + REPLIES)]))
 
 

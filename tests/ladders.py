@@ -140,7 +140,7 @@ def of_reports(checks):
     seen = texts(drawn(LOGIN.with_suffix(".txt")).stdout)
     wanted = ["000401", "000402", "“FILE”", "“T1  LOGIN LISPM”", "receipt 65534, window 13", "1 RFC 65534", "7 CLS"]
     checks.check("its picture: texts", [f"no {text!r} in {seen}" for text in wanted if text not in seen])
-    for name, words in [("no words", []), ("three words", ["a", "b", "c"]), ("a file of no packets", [ROOT / "crates.txt"])]:
+    for name, words in [("no words", []), ("three words", ["a", "b", "c"]), ("a file of no packets", [ROOT / "crates.txt"]), ("no script", [ROOT / "crates.txt"] * 2)]:
         ended = drawn(*words)
         checks.check(f"{name}: told on standard error", [] if ended.returncode == 1 and ended.stderr and not ended.stdout else [f"{ended}"])
 
