@@ -40,7 +40,7 @@ gives_open v item None h = absurd (cc)
 gives_open v item (Some other) h =
     let u : ConnView = record v { recv = after_advance v.recv; untold = v.untold + 1 } in
     let same : other ≡ item = cc in
-    cond_both (nat_le u.config.recv_cap (3 * u.untold)) (with_sts u (gave.Item other)) (quietly u (gave.Item other)) (λ (a : Acted ReadEnd). a.answer ≡ gave.Item item)
+    cond_both (nat_le u.recv.window (3 * u.untold)) (with_sts u (gave.Item other)) (quietly u (gave.Item other)) (λ (a : Acted ReadEnd). a.answer ≡ gave.Item item)
     (λ _. ap gave.Item same)
     (λ _. ap gave.Item same)
 
@@ -55,7 +55,7 @@ few_open : (v : ConnView) (front : Option ItemView) → length (read_at_open v f
 few_open v None = omega arith
 few_open v (Some item) =
     let u : ConnView = record v { recv = after_advance v.recv; untold = v.untold + 1 } in
-    cond_both (nat_le u.config.recv_cap (3 * u.untold)) (with_sts u (gave.Item item)) (quietly u (gave.Item item)) (λ (a : Acted ReadEnd). length a.packets ≤ 1)
+    cond_both (nat_le u.recv.window (3 * u.untold)) (with_sts u (gave.Item item)) (quietly u (gave.Item item)) (λ (a : Acted ReadEnd). length a.packets ≤ 1)
     (λ _. omega arith)
     (λ _. omega arith)
 
