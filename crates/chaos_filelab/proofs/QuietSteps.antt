@@ -11,11 +11,11 @@ use Rattle.chaos_lab.specs.declared.side.Side.{Side}
 use Rattle.chaos_lab.specs.declared.side.Side.TheVariants.{A, B}
 use Rattle.chaos_lab.specs.declared.event.Stepped.{Stepped}
 use Rattle.chaos_lab.specs.declared.fault.LabFault.{LabFault}
-use Rattle.chaos_lab.specs.Machine.{PlainEnd as Plain, Told, Copy, Machine, Row, other, Step, Moves, OrNothing, Accept, Write, Read, Comes, Tick, Close, End, hear, take_in, read_item, read_next}
+use Rattle.chaos_lab.specs.Machine.{PlainEnd as Plain, Told, Copy, Machine, Row, other, Step, Moves, OrNothing, Accept, Write, Read, Comes, Tick, Resize, Close, End, hear, take_in, read_item, read_next}
 use Rattle.chaos_lab.specs.Machine.Phase.{RfcSent, RfcReceived}
 use Rattle.chaos_lab.specs.Machine.Told.{Nothing, Acknowledges, Status}
 use Rattle.chaos_lab.specs.Laboratory.{LabView, Happening}
-use Rattle.chaos_lab.specs.Laboratory.Happening.{WriteBy, ReadBy, TickOf, CloseBy, AcceptFrom, DeliverCopy}
+use Rattle.chaos_lab.specs.Laboratory.Happening.{WriteBy, ReadBy, AnnounceBy, TickOf, CloseBy, AcceptFrom, DeliverCopy}
 use Rattle.chaos_lab.specs.Tied.{Ties, HasMachine, plain_event}
 use Rattle.chaos_lab.proofs.Ends.{IsNew, fits_at}
 use Rattle.chaos_lab.proofs.Machines.{reached_holds}
@@ -63,6 +63,9 @@ comes_stays c p e f isnt (inr (inr (inr (inr h)))) = end_stays p e f h.1
 tick_stays : (p e f : Plain) → Tick p e f → Stays e f
 tick_stays p e f (inl h) = end_stays p e f h
 tick_stays p e f (inr h) = stays_same e f h
+
+resize_stays : (window : ℕ) (p e f : Plain) → Resize window p e f → Stays e f
+resize_stays window p e f h = stays_to e f _ h.2 (record { written = refl; read = refl })
 
 close_stays : (p e f : Plain) → Close p e f → Stays e f
 close_stays p e f h = stays_to e f _ h.1 (record { written = refl; read = refl })
@@ -140,6 +143,8 @@ stepped (WriteBy A op bytes) w v l m isnt t u s = stays_bodies w.b v.b (at_a (Wr
 stepped (WriteBy B op bytes) w v l m isnt t u s = absurd (false≢true (sym isnt))
 stepped (ReadBy A) w v l m isnt t u s = stays_bodies w.b v.b (at_a Read w v s)
 stepped (ReadBy B) w v l m isnt t u s = absurd (false≢true (sym isnt))
+stepped (AnnounceBy A window) w v l m isnt t u s = stays_bodies w.b v.b (at_a (Resize window) w v s)
+stepped (AnnounceBy B window) w v l m isnt t u s = stays_bodies w.b v.b (at_b (Resize window) w v (resize_stays window w.a w.b) s)
 stepped (TickOf A now) w v l m isnt t u s = stays_bodies w.b v.b (at_a Tick w v s)
 stepped (TickOf B now) w v l m isnt t u s = stays_bodies w.b v.b (at_b Tick w v (tick_stays w.a w.b) s)
 stepped (CloseBy A text) w v l m isnt t u s = stays_bodies w.b v.b (at_a Close w v s)
