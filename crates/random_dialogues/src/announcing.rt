@@ -51,10 +51,11 @@ impl Station {
         if !was_open {
             return self.check_told(id, room, false);
         }
-        life.untold = life.untold.saturating_add(1);
+        let untold = life.untold.saturating_add(1);
+        let window = u64::from(life.window);
+        life.untold = untold;
         scene.lives.set(number, life);
-        let is_due = life.untold.saturating_mul(3) >= u64::from(life.window);
-        self.check_told(id, room, is_due)
+        self.check_told(id, room, untold.saturating_mul(3) >= window)
     }
 
     /// One packet went out since the outbox had this room, or none.
