@@ -5,3 +5,10 @@
 
 #[cfg(test)]
 mod lines;
+
+use std::net::{Ipv4Addr, SocketAddrV4};
+
+/// A socket of this machine.
+pub fn local(port: u16) -> SocketAddrV4 {
+    SocketAddrV4::new(Ipv4Addr::LOCALHOST, port)
+}
