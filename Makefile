@@ -30,7 +30,7 @@ bin/chaosd: $(SOURCES)
 	cp crates/chaosd/out/chaosd $@
 
 demo:
-	@RT=$(RT) tools/demo $$($(MAKE) -q bin/chaosd > /dev/null 2>&1 && echo built)
+	@RT=$(RT) tools/demo
 
 check:
 	@RT=$(RT) tools/gate

@@ -1,12 +1,8 @@
 //! Lines that are read, and lines that are not.
-use chaosd_line::*;
+use crate::local;
+use chaosd_line::{Ask, Line, LineFault, Serve, parse_line, read_line};
 use std::net::{Ipv4Addr, SocketAddrV4};
 use std::test::Fail;
-
-/// A socket of this machine.
-fn local(port: u16) -> SocketAddrV4 {
-    SocketAddrV4::new(Ipv4Addr::LOCALHOST, port)
-}
 
 /// What these words serve.
 fn serve_of<'a>(rt: &HostRuntime, words: &'a [&'a str]) -> Result<Serve<'a>, Fail> {

@@ -1,0 +1,137 @@
+#!/usr/bin/env python3
+"""Tests the command line of `chaosd` as a user meets it: what help says, and what is told of words that are not of their form.
+
+    make && tests/line.py [PROGRAM]
+
+PROGRAM is bin/chaosd by default. One line is printed for each check, and the count at the end. The status is 0 where all
+checks held, and else 1.
+"""
+
+import pathlib
+import sys
+
+sys.dont_write_bytecode = True
+
+import program
+from program import BAD_LINE, DONE, Checks, run
+
+ADDRESS_FORM = "1 to 6 octal digits, from 1 to 177777"
+SOCKET_FORM = "a.b.c.d:port in decimal without leading zeros, the port from 1 to 65535"
+TURNS_FORM = "a decimal number without leading zeros, at most 1000000000"
+PEER_FORM = "an address, `=` and a socket, as 402=127.0.0.1:9002"
+
+BAD_ADDRESSES = [
+    "", "0", "000000", "0000401", "8", "19", "401x", "x", "+1", " 1", "1 ", "0o1", "200000", "777777", "1000000", "4.1",
+]
+BAD_SOCKETS = [
+    "", ":", "127.0.0.1", "127.0.0.1:", ":9001", "9001", "127.0.0.1:0", "127.0.0.1:00", "127.0.0.1:09001", "127.0.0.1:65536",
+    "127.0.0.1:+1", "127.0.0.1:x", "127.0.0.1:1 ", " 127.0.0.1:1", "127.0.0.01:1", "00.0.0.1:1", "256.0.0.1:1", "127.0.0:1",
+    "127.0.0.1.1:1", "127.0.0.1:1:1", "localhost:9001", "[::1]:9001", "127.0.0.1=9001",
+]
+BAD_TURNS = ["", "01", "00", "+1", "x", "1x", " 1", "1.5", "0x1", "1000000001", "4294967296", "10000000000"]
+BAD_PEERS = [
+    "", "=", "402", "402=", "=127.0.0.1:1", "402:127.0.0.1:1", "402=127.0.0.1", "0=127.0.0.1:1", "200000=127.0.0.1:1",
+    "0000402=127.0.0.1:1", "402=127.0.0.1:0", "402==127.0.0.1:1", "402 =127.0.0.1:1", "402=403=127.0.0.1:1",
+]
+
+HELP = {
+    "--help": [
+        "Usage: chaosd <COMMAND>\n",
+        "  show   Hexadecimal lines from standard input, one datagram a line, to reports\n",
+        "  lab    A script of two connections from standard input, to what each line did\n",
+        "  loop   A FILE script from standard input, put by one host to another in this process, to its replies\n",
+        "  serve  The files of a folder, served to other hosts\n",
+        "  ask    A FILE script from standard input, put to another host, to its replies\n",
+        "  3  something was refused, or no reply came\n",
+    ],
+    "help show": ["Usage: chaosd show\n"],
+    "help lab": ["Usage: chaosd lab\n"],
+    "help loop": ["Usage: chaosd loop\n"],
+    "help serve": ["Usage: chaosd serve [OPTIONS] <ADDRESS> <UDP> <FOLDER> [PEER]...\n"],
+    "help ask": ["Usage: chaosd ask <ADDRESS> <UDP> <TO> [PEER]...\n"],
+    "serve --help": [
+        "  <ADDRESS>  Chaosnet address of this host: 1 to 6 octal digits, from 1 to 177777\n",
+        "  <UDP>      UDP address that this host receives at: a.b.c.d:port in decimal, the port from 1 to 65535\n",
+        "  <FOLDER>   Folder whose files are served\n",
+        "  [PEER]...  Another host, as ADDRESS=UDP in the forms above: at most 32, each Chaosnet address once\n",
+        "--turns <N>  Turns after which the server ends, 0 to 1000000000; one that waits takes some 10 ms [default: 1000000000]\n",
+        "  chaosd serve 401 127.0.0.1:9001 files 402=127.0.0.1:9002\n",
+    ],
+    "ask --help": ["  <TO>       Chaosnet address of the host to ask, in the form of ADDRESS\n"],
+    "ask nonsense -h": ["Usage: chaosd ask"],
+}
+
+
+def is_told(checks, words, text, place, form):
+    """A line whose one bad word is this text at this place: what is told begins with it, the place and what is wanted."""
+    ended = run(words)
+    problems = ended.problems(BAD_LINE, b"", None)
+    wanted = f"error: invalid value '{text}' for '{place}': wanted {form}\n"
+    if not ended.err.startswith(wanted.encode()):
+        problems.append(f"error output {ended.err!r}")
+    checks.check(f"{text!r} at {place} of {words[0]} is told, status 2", problems)
+
+
+def words_out_of_form(checks):
+    """Each word that is not of its form is named, with its place and what is wanted."""
+    for text in BAD_ADDRESSES:
+        is_told(checks, ["serve", text, "127.0.0.1:1", "d"], text, "ADDRESS", ADDRESS_FORM)
+        is_told(checks, ["ask", text, "127.0.0.1:1", "401"], text, "ADDRESS", ADDRESS_FORM)
+        is_told(checks, ["ask", "402", "127.0.0.1:1", text], text, "TO", ADDRESS_FORM)
+    for text in BAD_SOCKETS:
+        is_told(checks, ["serve", "401", text, "d"], text, "UDP", SOCKET_FORM)
+        is_told(checks, ["ask", "402", text, "401"], text, "UDP", SOCKET_FORM)
+    for text in BAD_TURNS:
+        is_told(checks, ["serve", "--turns", text, "401", "127.0.0.1:1", "d"], text, "--turns", TURNS_FORM)
+
+
+def peers_out_of_form(checks):
+    """Likewise peers, one too many, and a second one of an address."""
+    for text in BAD_PEERS:
+        is_told(checks, ["serve", "401", "127.0.0.1:1", "d", text], text, "PEER", PEER_FORM)
+        is_told(checks, ["ask", "402", "127.0.0.1:1", "401", "403=127.0.0.1:3", text], text, "PEER", PEER_FORM)
+    for words in [
+        ["serve", "401", "127.0.0.1:1", "d", "402=127.0.0.1:2", "000402=127.0.0.1:3"],
+        ["ask", "402", "127.0.0.1:1", "401", "401=127.0.0.1:2", "401=127.0.0.1:2"],
+    ]:
+        is_told(checks, words, words[-1], "PEER", "each Chaosnet address once")
+    many = [f"{address:o}=127.0.0.1:9002" for address in range(1, 34)]
+    is_told(checks, ["serve", "401", "127.0.0.1:9001", "d", *many], "41=127.0.0.1:9002", "PEER", "at most 32 peers")
+
+
+def mistakes(checks):
+    """The first bad word is told with the usage of its subcommand; what clap finds is told in its words."""
+    wanted = (
+        f"error: invalid value 'x' for '--turns': wanted {TURNS_FORM}\n\n"
+        "Usage: chaosd serve [OPTIONS] <ADDRESS> <UDP> <FOLDER> [PEER]...\n\nFor more information, try '--help'.\n"
+    )
+    ended = run(["serve", "--turns", "x", "0", "u", "d", "p"])
+    checks.check("the first bad word is told with its usage", ended.problems(BAD_LINE, b"", wanted.encode()))
+    for words, piece in [
+        (["nonsense"], b"unrecognized subcommand 'nonsense'"),
+        (["serve", "401", "127.0.0.1:1"], b"  <FOLDER>\n"),
+    ]:
+        checks.check(f"`chaosd {' '.join(words)}`: a mistake is told", run(words).problems(BAD_LINE, b"", [piece]))
+
+
+def helps(checks):
+    """Help says what each subcommand does, and what each word is."""
+    for words, pieces in HELP.items():
+        ended = run(words.split())
+        checks.check(f"`chaosd {words}` says it", ended.problems(DONE, [piece.encode() for piece in pieces], b""))
+
+
+def main():
+    if len(sys.argv) > 1:
+        program.PROGRAM = pathlib.Path(sys.argv[1]).resolve()
+    if not program.PROGRAM.is_file():
+        sys.exit(f"{program.PROGRAM} isn't there: run make first")
+    checks = Checks()
+    for group in [words_out_of_form, peers_out_of_form, mistakes, helps]:
+        group(checks)
+    print(f"{checks.count - checks.failed} passed, {checks.failed} failed")
+    sys.exit(1 if checks.failed else 0)
+
+
+if __name__ == "__main__":
+    main()
