@@ -139,7 +139,7 @@ impl<R: Files> Store for DirStore<R> {
     // It claims no files, so that no call's `files` says anything.
     ghost contents = { λ _. None };
 
-    ghost may_give = { λ _ _ limit bytes. length bytes ≤ limit };
+    ghost may_give = { λ _ _ _ _. Unit {0} };
 
     ghost count = { λ s. s };
 
@@ -148,7 +148,8 @@ impl<R: Files> Store for DirStore<R> {
         ensures files { Unit {0} }
         ensures counted { self.new ≡ failures_after_get result self.old }
         ensures illegal { is_path path.now ≡ false → result ≡ Got.Failed }
-        ensures gives { Gives (λ bytes. length bytes ≤ limit) result }
+        ensures limit { Gives (λ bytes. length bytes ≤ limit) result }
+        ensures gives { Gives (λ _. Unit {0}) result }
     {
         let got = self.folder.got(alloc, path, limit);
         if matches!(&got, Got::Failed) {
