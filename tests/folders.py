@@ -1,13 +1,16 @@
 #!/usr/bin/env python3
 """Shows what a folder's store makes of what std can't make, by a proved test of chaos_file that plays the rows it is given: entries
-that are no file, what may not be read or written, a disk that takes no more, and one that fails.
+that are no file, what may not be read or written, a disk that takes no more and is full, one that fails, and a folder that is
+another's.
 
     rt ci && tests/folders.py
 
-It needs what the gate leaves of that crate's tests, and cc. A test that waits is a failure. The last line is 'N passed, M failed'.
+It needs what the gate leaves of that crate's tests, and cc. A disk is filled where this user may mount one in memory. A test that
+waits is a failure. The last line is 'N passed, M failed'.
 """
 
 import errno
+import fcntl
 import os
 import pathlib
 import resource
@@ -64,16 +67,6 @@ T5  RENAME^A^B => T5  ERROR STF Store fault.
 T6 S OPEN READ^NONE => T6 S ERROR FNF No such file.
 """
 
-# a folder of which nothing is known
-CLOSED = LOGIN + """\
-T2 R OPEN READ^A => T2 R ERROR STF Store fault.
-T3 R OPEN READ^NONE => T3 R ERROR STF Store fault.
-T4 W OPEN WRITE^B => T4 W OPEN 0
-T4 W CLOSE => T4 W ERROR STF Store fault.
-T5  DELETE^A => T5  ERROR STF Store fault.
-T6  RENAME^A^B => T6  ERROR STF Store fault.
-"""
-
 UNREADABLE = LOGIN + "T2 R OPEN READ^A => T2 R ERROR STF Store fault.\n"
 
 # a file is replaced
@@ -98,7 +91,11 @@ T2 W CLOSE => T2 W ERROR STF Store fault.
 T3 R OPEN READ^A => T3 R OPEN 3
 T3 R READ => T3 R READ^(A)
 T4 W WRITE^ => T4 W WRITE 1344
-""" + GOES_ON
+"""
+
+# a disk of 64 KiB takes one file of so many chunks and no second one, until the first is gone
+DISK = 65_536
+CHUNKS = 90
 
 
 def make_fifo(at):
@@ -164,13 +161,18 @@ def entry_problem(program, folder, make, at_new):
     return None if kept else "other bytes are there"
 
 
+def bound(folder):
+    """A user whom modes bind, who owns the folder then."""
+    if os.geteuid():
+        return {}
+    for path in (folder, folder / "A"):
+        os.chown(path, NOBODY, NOBODY)
+    return {"user": NOBODY, "group": NOBODY, "extra_groups": []}
+
+
 def leave_problem(program, folder, rows, of_folder, of_file):
     """The rows over a folder and a file of these modes, as a user whom they bind. Nothing changes."""
-    options = {}
-    if os.geteuid() == 0:
-        options = {"user": NOBODY, "group": NOBODY, "extra_groups": []}
-        for path in (folder, folder / "A"):
-            os.chown(path, NOBODY, NOBODY)
+    options = bound(folder)
     (folder / "A").chmod(of_file)
     folder.chmod(of_folder)
     _, problem = run(program, folder, rows, **options)
@@ -180,13 +182,88 @@ def leave_problem(program, folder, rows, of_folder, of_file):
     return problem or (None if kept else "the folder was changed")
 
 
+def written(handle, path, chunks, told):
+    """The rows that write a file of so many chunks, and what its CLOSE is told."""
+    writes = [f"T2 {handle} WRITE^% => T2 {handle} WRITE {448 * n}" for n in range(1, chunks + 1)]
+    return "\n".join([f"T2 {handle} OPEN WRITE^{path} => T2 {handle} OPEN 0", *writes, f"T2 {handle} CLOSE => T2 {handle} {told}\n"])
+
+
+def free_of(folder):
+    """The free bytes of the folder's disk."""
+    disk = os.statvfs(folder)
+    return disk.f_bfree * disk.f_frsize
+
+
+def disk_problem(program, folder):
+    """A put that a full disk ends gives the disk's room back, and can be done again where there is room."""
+    size = 448 * CHUNKS
+    mounted = subprocess.run(["mount", "-t", "tmpfs", "-o", f"size={DISK},mode=700", "tmpfs", folder], capture_output=True, text=True)
+    if mounted.returncode:
+        raise PermissionError(errno.EPERM, mounted.stderr.strip())
+    try:
+        _, problem = run(program, folder, LOGIN + written("W", "A", CHUNKS, f"CLOSE {size}"))
+        before = free_of(folder)
+        full = written("V", "B", CHUNKS, "ERROR STF Store fault.")
+        problem = problem or run(program, folder, LOGIN + full)[1]
+        if not problem and (free_of(folder) != before or (folder / ".new").exists()):
+            problem = "the disk is fuller than before"
+        emptied = f"T3  DELETE^A => T3  DELETE\nT4 V CLOSE => T4 V CLOSE {size}\n"
+        problem = problem or run(program, folder, LOGIN + full + emptied)[1]
+        return problem or (None if (folder / "B").read_bytes() == b"A" * size else "other bytes are there")
+    finally:
+        subprocess.run(["umount", folder], check=True)
+
+
+def left_problem(program, folder):
+    """What lies at `.new` when the folder is opened is taken away, and so is its room."""
+    (folder / ".new").write_bytes(b"left")
+    return run(program, folder, LOGIN)[1]
+
+
+def locked_problem(program, folder):
+    """A folder that another process has locked isn't opened, and nothing of it is taken away."""
+    (folder / ".new").write_bytes(b"another's")
+    held = os.open(folder, os.O_RDONLY)
+    fcntl.flock(held, fcntl.LOCK_EX)
+    problem = refused_problem(program, folder, "another server")
+    os.close(held)
+    kept = (folder / ".new").exists()
+    (folder / ".new").unlink(missing_ok=True)
+    return problem or (None if kept else "`.new` is gone")
+
+
+def refused_problem(program, folder, why, **options):
+    """The folder isn't opened, for this reason."""
+    _, problem = run(program, folder, LOGIN, **options)
+    return None if problem and why in problem else f"it was opened, or it said: {problem}"
+
+
+def shut_problem(program, folder, of_folder):
+    """A folder of this mode isn't opened by a user whom it binds."""
+    options = bound(folder)
+    folder.chmod(of_folder)
+    problem = refused_problem(program, folder, "PermissionDenied", **options)
+    folder.chmod(0o700)
+    return problem
+
+
+def mode_problem(program, folder):
+    """A file that is replaced leaves its mode to the new one, and a new one has what the user's mask leaves."""
+    (folder / "A").chmod(0o604)
+    _, problem = run(program, folder, PUT + GOES_ON, umask=0o027)
+    modes = [stat.S_IMODE((folder / name).stat().st_mode) for name in ("A", "B")]
+    return problem or (None if modes == [0o604, 0o640] else f"the modes are {modes}")
+
+
 def full_problem(program, folder):
     """The rows where a file may have so many bytes. No signal ends who writes more: python ignores it, and so does what it starts."""
 
     def limit():
         resource.setrlimit(resource.RLIMIT_FSIZE, (FULL_AT, FULL_AT))
 
-    return run(program, folder, FULL, restore_signals=False, preexec_fn=limit)[1]
+    problem = run(program, folder, FULL, restore_signals=False, preexec_fn=limit)[1]
+    problem = problem or ("`.new` was left" if (folder / ".new").exists() else None)
+    return problem or run(program, folder, LOGIN + GOES_ON, restore_signals=False, preexec_fn=limit)[1]
 
 
 def flush_problem(program, folder, rows, fail_at, noted, left):
@@ -223,10 +300,14 @@ def checks():
         beside = ", and one at `.new` is taken away" if at_new else ""
         yield f"{name} at a path is a store fault to each command, and stays{beside}", entry_problem, make, at_new
     yield "a folder without leave to write is a store fault, and its files can be read", leave_problem, READ_ONLY, 0o500, 0o600
-    yield "a folder that may not be flushed is a store fault before a path changes", leave_problem, NO_PUT, 0o300, 0o600
-    yield "a folder without any leave is a store fault", leave_problem, CLOSED, 0o000, 0o600
+    yield "a folder that may not be read isn't opened", shut_problem, 0o300
+    yield "a folder without any leave isn't opened", shut_problem, 0o000
+    yield "a folder that another process has locked isn't opened, and stays as it is", locked_problem
+    yield "what lies at `.new` of a folder that is opened is taken away", left_problem
     yield "a file without leave to read is a store fault", leave_problem, UNREADABLE, 0o700, 0o000
     yield "a disk that takes no more is a store fault, and leaves the file and the handle", full_problem
+    yield "a full disk is a store fault, its room is given back, and there is room again once a file is gone", disk_problem
+    yield "a file that is replaced leaves its mode to the new one", mode_problem
     yield "a file is flushed before it has its path, and then the folder is", flush_problem, PUT, 0, FLUSHED, b"new"
     yield "a file that can't be flushed is a store fault, and can be put again", flush_problem, FAILED + AGAIN, 1, FLUSHED, b"new"
     yield "and until then its path is as it was", flush_problem, FAILED, 1, "", b"(A)"
@@ -247,6 +328,8 @@ def main():
             (folder / "A").write_bytes(b"(A)")
             try:
                 problem = problem_of(program, folder, *given)
+                if not problem and os.path.lexists(folder / ".new"):
+                    problem = "`.new` was left"
             except OSError as refused:
                 if refused.errno not in (errno.EPERM, errno.EACCES, errno.EINVAL):
                     raise

@@ -1,5 +1,5 @@
 -- What the calls of a store do to its files.
-use Rattle.std.specs.Prelude.{◌≡◌, ℕ, Bool, true, false, List, [], Option, Some, None, unwrap_or, is_some, length, nat_lt, if◌then◌else◌}
+use Rattle.std.specs.Prelude.{◌≡◌, ◌≤◌, ℕ, Bool, true, false, List, [], Option, Some, None, unwrap_or, is_some, length, nat_lt, if◌then◌else◌}
 use Rattle.std.specs.Ordering.{nat_cmp}
 use Rattle.std.specs.Cmp.Lexicographic.{slice_cmp}
 use Rattle.std.specs.FinMap as map
@@ -97,8 +97,8 @@ failures_after_rename _ count = count
 
 -- ---- what a command leaves of a store
 
--- its files before and afterwards, where it is honest; which bytes a `get` of a path may give; that its count of
--- failures rose; and that it is as it was
+-- its files before and afterwards, where it is honest; which bytes a `get` of a path may give, never more than the greatest
+-- file; that its count of failures rose; and that it is as it was
 pub record StoreChange : Type 1 where
   pub before : Option Files
   pub after : Option Files
@@ -111,7 +111,7 @@ abbrev pub change : {A : Type 0} → (A → Option Files) → (A → List ℕ �
 change contents may_give count old new = record {
   before = contents old;
   after = contents new;
-  may_give = λ path bytes. may_give old path MAX_FILE bytes;
+  may_give = λ path bytes. (length bytes ≤ MAX_FILE) × may_give old path MAX_FILE bytes;
   rose = Rose (count old) (count new);
   same = new ≡ old;
 }

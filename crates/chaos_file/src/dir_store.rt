@@ -11,6 +11,7 @@ use crate::names::is_path;
 use crate::store::{Got, Removed, Renamed, Store, Stored};
 use folder::Folder;
 use std::alloc::Global;
+use std::fs::File;
 use std::io;
 use std::io::ErrorKind;
 use std::marker::Model;
@@ -24,9 +25,12 @@ use std::rt::Files;
 /// replaced or taken away. So no path leads out of the folder, and no call waits for anybody but the disk.
 ///
 /// A `put` writes the file `.new` of the folder, flushes it to the disk, renames it over the path and flushes the folder,
-/// so that a path has its old content or its new one whole, and one that was answered `Done` survives a loss of power. What
-/// was left at `.new` is taken away first, and never followed. A `put` that failed left its path as it was, unless it was the
-/// folder's flush that failed.
+/// so that a path has its old content or its new one whole, and one that was answered `Done` survives a loss of power. A file
+/// that is replaced leaves its mode to the new one. What was left at `.new` is taken away first, and never followed. A `put`
+/// that failed left its path as it was and nothing at `.new`, unless it was the folder's flush that failed.
+///
+/// A folder has one store at a time: its store holds the system's lock on the folder, and a second one isn't opened. The lock
+/// keeps other stores out and no other program.
 ///
 /// A `put` waits for two flushes, which is what it costs: some milliseconds each, as the disk is. The other calls flush
 /// nothing, so that a loss of power may undo a `remove` or a `rename`. Each call takes memory for the joined paths, and `get`
@@ -46,10 +50,11 @@ impl<R> Model for DirStore<R> {
 }
 
 impl<R: Files> DirStore<R> {
-    /// The store of a folder that is there, without failures; else the system's fault.
+    /// The store of a folder that is there and has no other, without failures; else the system's fault, which is
+    /// `ResourceBusy` where another has it. What a put left that was never ended is taken away.
     pub fn open(rt: R, folder: String) -> io::Result<DirStore<R>>
     where
-        R: Drop,
+        R: Drop + Files<File = File>,
         ensures { IfOk result (λ s. s ≡ 0) }
     {
         Ok(DirStore {
@@ -134,7 +139,7 @@ impl<R: Files> Store for DirStore<R> {
     // It claims no files, so that no call's `files` says anything.
     ghost contents = { λ _. None };
 
-    ghost may_give = { λ _ _ limit bytes. length bytes ≤ limit };
+    ghost may_give = { λ _ _ _ _. Unit {0} };
 
     ghost count = { λ s. s };
 
@@ -143,7 +148,8 @@ impl<R: Files> Store for DirStore<R> {
         ensures files { Unit {0} }
         ensures counted { self.new ≡ failures_after_get result self.old }
         ensures illegal { is_path path.now ≡ false → result ≡ Got.Failed }
-        ensures gives { Gives (λ bytes. length bytes ≤ limit) result }
+        ensures limit { Gives (λ bytes. length bytes ≤ limit) result }
+        ensures gives { Gives (λ _. Unit {0}) result }
     {
         let got = self.folder.got(alloc, path, limit);
         if matches!(&got, Got::Failed) {

@@ -1,5 +1,5 @@
 //! A store that fails once.
-ghost use Rattle.std.specs.Prelude.{◌≡◌, ◌≢◌, ◌==◌, IfSome, if◌then◌else◌};
+ghost use Rattle.std.specs.Prelude.{◌≡◌, ◌≢◌, ◌≤◌, ◌==◌, length, IfSome, if◌then◌else◌};
 ghost use Rattle.chaos_packet.specs.Count.{Rose};
 ghost use Rattle.chaos_file.specs.Store.{Gives, Gets, Puts, Removes, Renames};
 ghost use Rattle.chaos_file.specs.Fuse.{new_fuse, count_with, after_blow, after_pass};
@@ -68,6 +68,7 @@ impl<S: Store> Store for FuseStore<S> {
 
     fn get(&mut self, alloc: Global, path: &[u8], limit: usize) -> Got
         ensures failed { result ≡ Got.Failed → Rose (count_with S.count self.old) (count_with S.count self.new) }
+        ensures limit { Gives (λ bytes. length bytes ≤ limit) result }
         ensures gives { Gives (S.may_give self.old.inner path.now limit) result }
         ensures files { IfSome (S.contents self.old.inner) (Gets path.now limit result (S.contents self.new.inner)) }
         ensures blown { self.old.calls_left ≡ 1 → (result ≡ Got.Failed) × (self.new ≡ after_blow self.old) }

@@ -1,7 +1,8 @@
 //! Laws of the language, over its definition alone.
-ghost use Rattle.std.specs.Prelude.{◌≡◌, ℕ, true, List, ◌++◌, length, Err};
+ghost use Rattle.std.specs.Prelude.{◌≡◌, ℕ, true, List, ◌++◌, length, Some, Err};
 ghost use Rattle.chaos_file.specs.Session.{SessionView, new_session};
-ghost use Rattle.chaos_file.specs.Store.{Files};
+ghost use Rattle.chaos_packet.specs.Count.{Rose};
+ghost use Rattle.chaos_file.specs.Store.{Files, change};
 ghost use Rattle.chaos_file.specs.Command.{CommandView, Good};
 ghost use Rattle.chaos_file.specs.Spelling.{spelling_of, is_good};
 ghost use Rattle.chaos_file.specs.Grammar.{parse_of};
@@ -11,6 +12,8 @@ ghost use Rattle.chaos_file.specs.Apply.{IsApplied, IsStep};
 ghost use Rattle.chaos_file.specs.Replies.{memory_change, replies_of, replies_from, files_after, session_after};
 ghost use Rattle.chaos_file.specs.Want.{is_want};
 ghost use Rattle.chaos_file.specs.declared.error.FileError.TheVariants.{NoMemory};
+
+use crate::store::Store;
 
 /// The bytes that are read as a command are those that spell it, with legal names and parts.
 #[tactic(auto, using(crate::proofs::Spelling::parsed_spelled, crate::proofs::Reading::read_spelled, crate::proofs::Reading::read_good))]
@@ -31,10 +34,21 @@ pub fn law_replies()
         ≡ replies_of m xs ++ replies_from (files_after m new_session xs) (session_after m new_session xs) ys }
 {}
 
+/// Over every honest store: where its count of failures didn't rise at a command, a reply that isn't for want of memory is the
+/// definition's, and so are the session and the files.
+#[tactic(auto, using(crate::proofs::Replies::honest_step))]
+pub fn law_honest<S: Store>()
+    ensures { (old new : S) (m : Files) (s t : SessionView) (c reply : List ℕ) →
+        S.contents old ≡ Some m → ¬ (Rose (S.count old) (S.count new)) →
+        IsApplied (change S.contents S.may_give S.count old new) s t c reply →
+        ¬ (reply ≡ reply_to (parse_of c) (Err NoMemory)) →
+        IsStep (change S.contents S.may_give S.count old new) (file_step m s c) reply t }
+{}
+
 /// Over a store in memory, which never fails, a reply that isn't for want of memory is the definition's, and so are the
 /// session and the files.
-#[tactic(auto, using(crate::proofs::Replies::honest_step))]
-pub fn law_honest()
+#[tactic(auto, using(crate::proofs::Replies::memory_step))]
+pub fn law_memory()
     ensures { (m n : Files) (s t : SessionView) (c reply : List ℕ) → IsApplied (memory_change m n) s t c reply →
         ¬ (reply ≡ reply_to (parse_of c) (Err NoMemory)) → IsStep (memory_change m n) (file_step m s c) reply t }
 {}

@@ -31,9 +31,10 @@ pub use dir_store::DirStore;
 pub use error::FileError;
 pub use file_bytes::FileBytes;
 pub use fuse_store::FuseStore;
-pub use laws::{law_honest, law_replies, law_spelling, law_want};
+pub use laws::{law_honest, law_memory, law_replies, law_spelling, law_want};
 pub use limits::{
     MAX_CHUNK, MAX_FILE, MAX_HANDLE, MAX_HANDLES, MAX_NAME, MAX_PATH, MAX_REPLY, MAX_TID, NL,
+    law_limits,
 };
 pub use mem_store::MemStore;
 pub use parse::parse_command;

@@ -1,4 +1,7 @@
 //! The limits of the language, each with its unit.
+ghost use Rattle.std.specs.Prelude.{◌≡◌};
+ghost use Rattle.chaos_file.specs.declared.limits.TheConstants.{NL, MAX_TID, MAX_HANDLE, MAX_NAME, MAX_PATH, MAX_CHUNK, MAX_FILE, MAX_HANDLES, MAX_REPLY};
+
 use chaos_packet::MAX_DATA;
 
 /// The byte that ends a line: octal 215, the Return of the Lisp machine.
@@ -30,3 +33,16 @@ pub const MAX_REPLY: usize = MAX_DATA;
 
 /// The most bytes of a reply's front: tid, space, handle, space.
 pub(crate) const MAX_FRONT: usize = 18;
+
+/// The limits as numerals, and the byte that ends a line.
+pub fn law_limits()
+    ensures line_end { NL ≡ 141 }
+    ensures tid { MAX_TID ≡ 8 }
+    ensures handle { MAX_HANDLE ≡ 8 }
+    ensures name { MAX_NAME ≡ 16 }
+    ensures path { MAX_PATH ≡ 64 }
+    ensures chunk { MAX_CHUNK ≡ 448 }
+    ensures file { MAX_FILE ≡ 1048576 }
+    ensures handles { MAX_HANDLES ≡ 8 }
+    ensures reply { MAX_REPLY ≡ 488 }
+{}

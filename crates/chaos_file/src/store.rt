@@ -1,5 +1,5 @@
 //! Where files are kept.
-ghost use Rattle.std.specs.Prelude.{◌≡◌, ℕ, List, Option, IfSome};
+ghost use Rattle.std.specs.Prelude.{◌≡◌, ◌≤◌, ℕ, List, length, Option, IfSome};
 ghost use Rattle.chaos_packet.specs.Count.{Rose};
 ghost use Rattle.chaos_file.specs.Store.{Files, Gives, Gets, Puts, Removes, Renames};
 
@@ -69,8 +69,8 @@ pub trait Store {
     /// The files, where the store is known to be honest; a store that claims nothing has None.
     ghost contents: { Self → Option Files };
 
-    /// The bytes that a `get` of a path may give within a limit. What is known of every answer is said here; a store
-    /// that says nothing allows all.
+    /// The bytes that a `get` of a path may give within a limit. What is known of a store's answers beside the limit is
+    /// said here; a store that says nothing allows all.
     ghost may_give: { Self → List ℕ → ℕ → List ℕ → Type 0 };
 
     /// How many calls have failed so far.
@@ -79,6 +79,7 @@ pub trait Store {
     /// The bytes of a path's file, where they are at most `limit`.
     fn get(&mut self, alloc: Global, path: &[u8], limit: usize) -> Got
         ensures failed { result ≡ Got.Failed → Rose (count self.old) (count self.new) }
+        ensures limit { Gives (λ bytes. length bytes ≤ limit) result }
         ensures gives { Gives (may_give self.old path.now limit) result }
         ensures files { IfSome (contents self.old) (Gets path.now limit result (contents self.new)) };
 

@@ -11,6 +11,7 @@ mod sessions;
 mod stores;
 
 use arrayvec::ArrayVec;
+use std::fs::File;
 use std::process::Abort;
 use std::rt::Files;
 use std::test::Fail;
@@ -52,7 +53,10 @@ fn talk<S: Store>(
 }
 
 /// The store of a new folder.
-fn fresh_store<'a, R: Files + AllocGlobal>(rt: &'a R, folder: &str) -> io::Result<DirStore<&'a R>> {
+fn fresh_store<'a, R: Files<File = File> + AllocGlobal>(
+    rt: &'a R,
+    folder: &str,
+) -> io::Result<DirStore<&'a R>> {
     let _ = rt.remove_dir_all(rt.alloc(), folder);
     fs::create_dir(rt, folder)?;
     DirStore::open(rt, String::from_str(rt.alloc(), folder)?)
@@ -61,7 +65,7 @@ fn fresh_store<'a, R: Files + AllocGlobal>(rt: &'a R, folder: &str) -> io::Resul
 /// A dialogue of a new session over each store, empty at its beginning. No call of a store fails, and what isn't there is
 /// no failure.
 fn over_both(
-    rt: &(impl Abort + AllocGlobal + Files),
+    rt: &(impl Abort + AllocGlobal + Files<File = File>),
     folder: &str,
     dialogue: &str,
 ) -> Result<(), Fail> {

@@ -17,7 +17,7 @@ use crate::bodies::Bodies;
 use crate::event::{FileEvent, FileStepped};
 use crate::server::Server;
 use chaos_conn::ConnConfig;
-use chaos_file::{MemStore, Session, is_want, law_honest, law_replies, law_want};
+use chaos_file::{MemStore, Session, is_want, law_memory, law_replies, law_want};
 use chaos_lab::{Event, Lab, LabFault, Side, Stamped};
 use chaos_packet::{Item, Kind, PktNum};
 use chaos_serve::Served;
@@ -132,7 +132,7 @@ impl FileLab {
     {
         self.lab.law_headline();
         law_replies();
-        law_honest();
+        law_memory();
         law_want();
         match self.lab.take_turn(alloc, &mut self.server) {
             Ok(()) => Ok(FileStepped::Served(self.server.served)),

@@ -12,7 +12,7 @@ use Rattle.chaos_lab.specs.declared.event.Stepped.{Stepped}
 use Rattle.chaos_lab.specs.declared.fault.LabFault.{LabFault}
 use Rattle.chaos_lab.specs.declared.fault.LabFault.TheVariants as fault
 use Rattle.chaos_lab.specs.Machine.{other}
-use Rattle.chaos_lab.specs.Laboratory.{LabView, Happening, Done, Happens, happen, after_all, call_effect, call_at, delivery_effect, delivery, is_fresh, refusal, refusal_of, lab_end}
+use Rattle.chaos_lab.specs.Laboratory.{LabView, Happening, Done, Happens, happen, check, after_all, call_effect, call_at, delivery_effect, delivery, is_fresh, refusal, refusal_of, lab_end}
 use Rattle.chaos_lab.specs.Laboratory.Happening.{WriteBy, ReadBy, AnnounceBy, TickOf, CloseBy, AcceptFrom, DeliverCopy}
 
 -- one event more
@@ -55,6 +55,11 @@ no_memory l (DeliverCopy k) = no_memory_copy l (slice_get l.copies k)
 pub met : (old : LabView) (event : Happening) (new : LabView) (answer : Result Stepped LabFault) → Happens old event new answer → answer ≡ Err fault.NoMemory → new ≡ old
 met old event new answer (inl h) is = absurd (no_memory old event (sym h.1 ∙ is))
 met old event new answer (inr h) is = h.1
+
+-- and comes at an event that passed its checks
+pub passed : (old : LabView) (event : Happening) (new : LabView) (answer : Result Stepped LabFault) → Happens old event new answer → answer ≡ Err fault.NoMemory → check old event ≡ None
+passed old event new answer (inl h) is = absurd (no_memory old event (sym h.1 ∙ is))
+passed old event new answer (inr h) is = h.0
 
 pub unmet : (old : LabView) (event : Happening) (new : LabView) (answer : Result Stepped LabFault) → Happens old event new answer → (answer ≡ Err fault.NoMemory → ⊥) → new ≡ (happen old event).lab
 unmet old event new answer (inl h) isnt = h.0

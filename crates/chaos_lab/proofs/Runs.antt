@@ -12,7 +12,7 @@ use Rattle.std.proofs.lemmas.Bool.{cond-true, cond-false, cases_Bool}
 use Rattle.chaos_lab.specs.declared.stamped.Stamped.{Stamped as Sent}
 use Rattle.chaos_lab.specs.Laboratory.{LabView, Happening, Done, Happens, StopsWithin, happen, after_all, check, copy_fault, delivery_effect, is_fresh}
 use Rattle.chaos_lab.specs.Laboratory.Happening.{WriteBy, ReadBy, AnnounceBy, TickOf, CloseBy, AcceptFrom, DeliverCopy}
-use Rattle.chaos_lab.specs.Tied.{Ties, HasMachine, plain_event, plain_next, plain_run}
+use Rattle.chaos_lab.specs.Tied.{Ties, HasMachine, Stops, plain_event, plain_next, plain_run}
 use Rattle.chaos_lab.specs.Headline.{Unclosed}
 use Rattle.chaos_lab.proofs.OnSide.{Outcome, Refuses, Steps}
 use Rattle.chaos_lab.proofs.LabTies.{Answered, event_ties, ok_or_refused}
@@ -63,7 +63,7 @@ pub after_machine : (l m : LabView) (events : List Happening) → HasMachine l �
 after_machine l m events h is = let r = runs events h.plain l h.ties in subst HasMachine (sym is) (record { plain = r.machine; ties = r.ties })
 
 pub stops_machine : (l m : LabView) (events : List Happening) → HasMachine l → StopsWithin l events m → HasMachine m
-stops_machine l m events h s = after_machine l m (take s.0 events) h s.2
+stops_machine l m events h s = after_machine l m (take s.0 events) h s.4
 
 -- an event that was taken is a step
 pub step_of : (l m : LabView) (event : Happening) (answer : Result Answer LabFault) (s : Answer) → Happens l event m answer → answer ≡ Ok s → (w : Machine) → Ties w l → (v : Machine) × Step w (plain_event l event) v × Ties v m
@@ -85,6 +85,11 @@ module _ {R E : Type 0} where
   pub run_on : (l m : LabView) (events : List Happening) (r : Result R E) → OnOk r (m ≡ after_all l events) → OnOk r ((w : Machine) → Ties w l → (v : Machine) × Run w (plain_run l events) v × Ties v m)
   run_on l m events (Ok x) all = run_of l m events all
   run_on l m events (Err x) all = tt
+
+  -- stopped for want of memory: the events before are a run
+  pub stops_on : (l m : LabView) (events : List Happening) (r : Result R E) → OnErr r (StopsWithin l events m) → OnErr r (Stops l events m)
+  stops_on l m events (Ok x) s = tt
+  stops_on l m events (Err x) s = record { done = s.0; event = s.1; next = s.2; passed = s.3; after = s.4; machine = run_of l m (take s.0 events) s.4 }
 
 pub step_on : (l m : LabView) (event : Happening) (r : Result Answer LabFault) → Happens l event m r → IfOk r (λ _. (w : Machine) → Ties w l → (v : Machine) × Step w (plain_event l event) v × Ties v m)
 step_on l m event (Ok s) h = step_of l m event (Ok s) s h refl

@@ -249,6 +249,8 @@ abbrev pub after_all : LabView → List Happening → LabView
 after_all l [] = l
 after_all l (event ∷ events) = after_all (happen l event).lab events
 
--- The laboratory after the first events of these, at whose next one there was no memory.
+-- The laboratory after the first events of these, at whose next one there was no memory. That one had passed the checks.
 abbrev pub StopsWithin : LabView → List Happening → LabView → Type 0
-StopsWithin old events new = (done : ℕ) × (done < length events) × (new ≡ after_all old (take done events))
+StopsWithin old events new =
+    (done : ℕ) × (event : Happening) × (slice_get events done ≡ Some event) × (check new event ≡ None)
+    × (new ≡ after_all old (take done events))

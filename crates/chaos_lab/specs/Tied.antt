@@ -1,12 +1,12 @@
 -- Two connections and the packets between them, tied to a reached world.
-use Rattle.std.specs.Prelude.{◌≡◌, ℕ, zero, suc, ◌≤◌, List, [], ◌∷◌, length, Bool, true, false, Result, Ok, Err, ⊤, ◌⊎◌}
+use Rattle.std.specs.Prelude.{◌≡◌, ℕ, zero, suc, ◌≤◌, List, [], ◌∷◌, length, take, slice_get, Bool, true, false, Option, Some, None, Result, Ok, Err, ⊤, ◌⊎◌}
 use Rattle.std.specs.List.{All, AllZip}
 use Rattle.chaos_lab.specs.declared.side.Side.{Side}
 use Rattle.chaos_lab.specs.declared.side.Side.TheVariants.{A, B}
 use Rattle.chaos_lab.specs.Machine.Kind.{Nth, Sns, Sts, Cls}
 use Rattle.chaos_lab.specs.Machine.Told.{Nothing, Acknowledges, Status}
 use Rattle.chaos_lab.specs.declared.stamped.Stamped.{Stamped}
-use Rattle.chaos_lab.specs.Machine.{Phase, Kind, Told, Copy, Machine, Event, Schedule, Reached, start, other, end_of}
+use Rattle.chaos_lab.specs.Machine.{Phase, Kind, Told, Copy, Machine, Event, Schedule, Run, Reached, start, other, end_of}
 use Rattle.chaos_lab.specs.Machine.Phase.{Inactive}
 use Rattle.chaos_lab.specs.Machine.Event.{AcceptAt, WriteAt, ReadAt, ResizeAt, TickAt, CloseAt, Deliver}
 use Rattle.chaos_packet.specs.Item.{ItemView}
@@ -14,7 +14,7 @@ use Rattle.chaos_packet.specs.Opcode.{op_opn}
 use Rattle.chaos_packet.specs.Packet.{PacketView, item_of}
 use Rattle.chaos_conn.specs.Opening.{act_accept, rfc_item}
 use Rattle.chaos_conn.specs.Config.{ConfigView}
-use Rattle.chaos_lab.specs.Laboratory.{LabView, Happening, happen, lab_contact}
+use Rattle.chaos_lab.specs.Laboratory.{LabView, Happening, happen, after_all, check, lab_contact}
 use Rattle.chaos_lab.specs.declared.event.Stepped.{Stepped}
 use Rattle.chaos_lab.specs.declared.fault.LabFault.{LabFault}
 use Rattle.chaos_lab.specs.Laboratory.Happening.{WriteBy, ReadBy, AnnounceBy, TickOf, CloseBy, AcceptFrom, DeliverCopy}
@@ -105,3 +105,13 @@ lab_machine a b = machine_for lab_contact a b
 pub record HasMachine (l : LabView) : Type 0 where
   pub plain : Machine
   pub ties : Ties plain l
+
+-- Events stopped for want of memory: so many of them happened, and those that were taken are a run of the plain machine. The
+-- next one had passed the checks.
+pub record Stops (old : LabView) (events : List Happening) (new : LabView) : Type 0 where
+  pub done : ℕ
+  pub event : Happening
+  pub next : slice_get events done ≡ Some event
+  pub passed : check new event ≡ None
+  pub after : new ≡ after_all old (take done events)
+  pub machine : (m : Machine) → Ties m old → (n : Machine) × Run m (plain_run old (take done events)) n × Ties n new

@@ -7,13 +7,13 @@ ghost use Rattle.chaos_packet.specs.Packet.{item_of};
 ghost use Rattle.chaos_lab.specs.declared.side.Side.{Side};
 ghost use Rattle.chaos_lab.specs.declared.stamped.Stamped.{Stamped};
 ghost use Rattle.chaos_lab.specs.Machine.{Machine, Step, Run, other};
-ghost use Rattle.chaos_lab.specs.Laboratory.{Happening, Happens, check, lab_end, lab_start, start_for, after_all, StopsWithin};
+ghost use Rattle.chaos_lab.specs.Laboratory.{Happening, Happens, check, lab_end, lab_start, start_for, after_all};
 ghost use Rattle.chaos_lab.specs.Laboratory.Happening.{DeliverCopy};
 ghost use Rattle.chaos_lab.specs.Headline.{IsCopyOf, ComesInside, Unclosed, ReadsInTurn};
 ghost use Rattle.chaos_lab.specs.Inside.{happening_of};
 ghost use Rattle.chaos_lab.specs.Turn.{Turn};
 ghost use Rattle.chaos_lab.specs.Turns.{TurnHappens};
-ghost use Rattle.chaos_lab.specs.Tied.{Ties, HasMachine, lab_machine, machine_for, plain_event, plain_run};
+ghost use Rattle.chaos_lab.specs.Tied.{Ties, HasMachine, Stops, lab_machine, machine_for, plain_event, plain_run};
 
 use crate::event::{Event, Stepped};
 use crate::fault::LabFault;
@@ -102,10 +102,11 @@ impl Lab {
     }
 
     /// Lets events happen, one after the other. A refused event changes nothing, and the next one follows. Where there is no
-    /// memory it stops, with the laboratory as after the events before that one.
+    /// memory it stops, with the laboratory as after the events before that one, which had passed its checks.
     pub fn run(&mut self, _alloc: Global, events: &[Event<'_>]) -> Result<(), AllocError>
         ensures all { OnOk result (self.new ≡ after_all self.old (map happening_of events.now)) }
-        ensures no_memory { OnErr result (StopsWithin self.old (map happening_of events.now) self.new) }
+        // so many happened, of which those that were taken are a run of the plain machine, and the next one had passed the checks
+        ensures no_memory { OnErr result (Stops self.old (map happening_of events.now) self.new) }
         // the events that were taken are a run of the plain machine
         ensures machine { OnOk result ((m : Machine) → Ties m self.old → (n : Machine) × Run m (plain_run self.old (map happening_of events.now)) n × Ties n self.new) }
     {

@@ -82,3 +82,10 @@ pub fn law_numbers()
     ensures told_by { (b told count : ℕ) → count ≤ told → told ≤ count + greatest_window →
         off (told_num b told) (told_num b count) ≡ told - count }
 {}
+
+/// The limits as numerals: how many items more than when a copy was sent either end may write while it counts as fresh, and the
+/// greatest window.
+pub fn law_limits()
+    ensures fresh { fresh_span ≡ 32640 }
+    ensures window { greatest_window ≡ 64 }
+{}

@@ -6,7 +6,7 @@ ghost use Rattle.chaos_lab.specs.declared.side.Side.TheVariants.{B};
 ghost use Rattle.chaos_conn.specs.Config.{IsConfig};
 ghost use Rattle.chaos_conn.specs.Stored.{stored_packets, stored_bytes};
 ghost use Rattle.chaos_lab.specs.Shown.{place_of};
-ghost use Rattle.chaos_lab.specs.Laboratory.{Happens, happen, lab_end, start_for, after_all, StopsWithin, Calls, CallsWith, is_fresh, is_request, stamp};
+ghost use Rattle.chaos_lab.specs.Laboratory.{Happens, happen, check, lab_end, start_for, after_all, StopsWithin, Calls, CallsWith, is_fresh, is_request, stamp};
 ghost use Rattle.chaos_lab.specs.Laboratory.Happening.{DeliverCopy};
 ghost use Rattle.chaos_lab.specs.Inside.{end_view, happening_of, HasRoom};
 ghost use Rattle.chaos_lab.specs.Makes.{MakesAt};
@@ -141,6 +141,7 @@ impl Rig {
     fn attempt(&mut self, event: &Event<'_>) -> Result<(), AllocError>
         ensures ok { OnOk result (self.new ≡ (happen self.old (happening_of event.now)).lab) }
         ensures err { OnErr result (self.new ≡ self.old) }
+        ensures passed { OnErr result (check self.old (happening_of event.now) ≡ None) }
     {
         match self.step(event) {
             Ok(_) => Ok(()),

@@ -22,7 +22,7 @@ pub use datagram::{from_datagram, law_carries};
 pub use encode::{to_datagram, write_datagram};
 pub use fault::{LinkFault, PeerFault};
 pub use fuse::FuseLink;
-pub use limits::{LINK_ROOM, MARK_BYTES, MAX_DATAGRAM, MAX_PEERS, MAX_WAIT};
+pub use limits::{LINK_ROOM, MARK_BYTES, MAX_DATAGRAM, MAX_PEERS, MAX_WAIT, law_limits};
 pub use link::{Link, Received, Sent};
 pub use mem::MemLink;
 pub use peers::{Peer, Peers};

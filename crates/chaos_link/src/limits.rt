@@ -1,4 +1,6 @@
 //! Sizes and times, each with its unit.
+ghost use Rattle.std.specs.Prelude.{◌≡◌};
+ghost use Rattle.chaos_link.specs.declared.limits.TheConstants.{MARK_BYTES, MAX_DATAGRAM, LINK_ROOM, MAX_PEERS, MAX_WAIT};
 
 /// The bytes of the mark and the version that a datagram begins with.
 pub const MARK_BYTES: usize = 4;
@@ -14,3 +16,12 @@ pub const MAX_PEERS: usize = 32;
 
 /// The most milliseconds that a receive waits for a datagram.
 pub const MAX_WAIT: u64 = 10;
+
+/// The limits as numerals.
+pub fn law_limits()
+    ensures mark { MARK_BYTES ≡ 4 }
+    ensures datagram { MAX_DATAGRAM ≡ 508 }
+    ensures room { LINK_ROOM ≡ 2048 }
+    ensures peers { MAX_PEERS ≡ 32 }
+    ensures wait { MAX_WAIT ≡ 10 }
+{}

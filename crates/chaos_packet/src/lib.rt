@@ -18,7 +18,7 @@ mod writing;
 
 pub use fault::PacketFault;
 pub use item::{Item, body_of};
-pub use limits::{HEADER_WORDS, MAX_DATA, MAX_FORWARDS, MAX_WORDS};
+pub use limits::{HEADER_WORDS, MAX_DATA, MAX_FORWARDS, MAX_WORDS, law_limits};
 pub use number::PktNum;
 pub use opcode::{Kind, Opcode};
 pub use outbox::Outbox;

@@ -1,4 +1,6 @@
 //! The sizes of a packet, each with its unit.
+ghost use Rattle.std.specs.Prelude.{◌≡◌};
+ghost use Rattle.chaos_packet.specs.declared.limits.TheConstants.{HEADER_WORDS, MAX_DATA, MAX_WORDS, MAX_FORWARDS};
 
 /// The words of a header.
 pub const HEADER_WORDS: usize = 8;
@@ -11,3 +13,11 @@ pub const MAX_WORDS: usize = 252;
 
 /// The most often that a packet is forwarded.
 pub const MAX_FORWARDS: u8 = 15;
+
+/// The limits as numerals.
+pub fn law_limits()
+    ensures header { HEADER_WORDS ≡ 8 }
+    ensures data { MAX_DATA ≡ 488 }
+    ensures words { MAX_WORDS ≡ 252 }
+    ensures forwards { MAX_FORWARDS ≡ 15 }
+{}

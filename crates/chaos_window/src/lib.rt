@@ -13,6 +13,6 @@ mod slots;
 mod tests;
 
 pub use arrival::Arrived;
-pub use limits::MAX_WINDOW;
+pub use limits::{MAX_WINDOW, law_limits};
 pub use receive::RecvWindow;
 pub use send::{Full, SendWindow};

@@ -16,7 +16,7 @@ use crate::words::words_of;
 use chaosd_engines::RunFault;
 use chaosd_line::{Line, LineFault, parse_line};
 use clap::Error;
-use std::fs::Files;
+use std::fs::{File, Files};
 use std::net::Net;
 use std::process::ExitCode;
 use std::rt::Env;
@@ -25,7 +25,7 @@ use std::time::Clock;
 /// Does what the line asks for. The answer is the exit status.
 fn run_line<R>(rt: &R, line: Line<'_>) -> u8
 where
-    R: AllocGlobal + Clock + Eprint + Files + Input + Net + Print,
+    R: AllocGlobal + Clock + Eprint + Files<File = File> + Input + Net + Print,
 {
     match line {
         Line::Show => run_show_line(rt),
@@ -49,7 +49,7 @@ fn refuse<R: Print + Eprint>(rt: &R, error: &Error) -> u8 {
 /// Reads the command line and does what it asks for. The answer is the exit status.
 fn run<R>(rt: &R) -> u8
 where
-    R: AllocGlobal + Clock + Env + Eprint + Files + Input + Net + Print,
+    R: AllocGlobal + Clock + Env + Eprint + Files<File = File> + Input + Net + Print,
 {
     let words = match words_of(rt) {
         Ok(words) => words,

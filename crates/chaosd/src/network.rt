@@ -7,7 +7,7 @@ use chaosd_file::{
     LOOP_CLIENT, LOOP_SERVER, ScriptEnd, run_ask, run_loop, run_serve, script_status, serve_status,
 };
 use chaosd_line::{Ask, Serve};
-use std::fs::Files;
+use std::fs::{File, Files};
 use std::io;
 use std::io::Read;
 use std::net::{Ipv4Addr, Net, SocketAddr, SocketAddrV4, UdpSocket};
@@ -51,8 +51,11 @@ fn own_links<R: Net>(rt: &R) -> io::Result<(UdpLink, UdpLink)> {
     Ok((link_to(near, to_server), link_to(far, to_client)))
 }
 
-/// The store of a folder.
-fn store_at<'a, R: AllocGlobal + Files>(rt: &'a R, folder: &str) -> io::Result<DirStore<&'a R>> {
+/// The store of a folder, which no other store has.
+fn store_at<'a, R: AllocGlobal + Files<File = File>>(
+    rt: &'a R,
+    folder: &str,
+) -> io::Result<DirStore<&'a R>> {
     let name = String::from_str(rt.alloc(), folder)?;
     DirStore::open(rt, name)
 }
@@ -118,7 +121,7 @@ pub(crate) fn run_ask_line<R: AllocGlobal + Clock + Eprint + Input + Net + Print
 }
 
 /// Runs `serve` on a folder, which is opened first, and then the socket.
-pub(crate) fn run_serve_line<R: AllocGlobal + Clock + Eprint + Files + Net>(
+pub(crate) fn run_serve_line<R: AllocGlobal + Clock + Eprint + Files<File = File> + Net>(
     rt: &R,
     line: Serve<'_>,
 ) -> u8 {

@@ -1,4 +1,6 @@
 //! The sizes that the engines keep to, each with its unit.
+ghost use Rattle.std.specs.Prelude.{◌≡◌};
+ghost use Rattle.chaosd_engines.specs.declared.limits.TheConstants.{INPUT_LIMIT, LINE_LIMIT, KEPT_LEN, BUFFER_LEN, CHUNK_LEN, INTERRUPTIONS};
 
 /// The most bytes of an input.
 pub const INPUT_LIMIT: usize = 1_048_576;
@@ -18,3 +20,13 @@ pub const CHUNK_LEN: usize = 16_384;
 
 /// How often the reads of a run may be interrupted, together.
 pub const INTERRUPTIONS: u64 = 2_000_000;
+
+/// The limits as numerals.
+pub fn law_limits()
+    ensures input { INPUT_LIMIT ≡ 1048576 }
+    ensures line { LINE_LIMIT ≡ 4096 }
+    ensures kept { KEPT_LEN ≡ 4098 }
+    ensures buffer { BUFFER_LEN ≡ 16384 }
+    ensures chunk { CHUNK_LEN ≡ 16384 }
+    ensures interruptions { INTERRUPTIONS ≡ 2000000 }
+{}

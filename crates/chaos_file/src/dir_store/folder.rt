@@ -3,7 +3,7 @@ ghost use Rattle.std.specs.Prelude.{◌≡◌, ◌≤◌, true, length, IfOk, If
 ghost use Rattle.chaos_file.specs.Names.{is_path};
 
 use std::alloc::Global;
-use std::fs::{File, OpenFile};
+use std::fs::{File, Metadata, OpenFile, TryLockError};
 use std::io::{ErrorKind, Read, Write};
 use std::rt::Files;
 use std::{fs, io};
@@ -11,11 +11,35 @@ use std::{fs, io};
 /// The name under which a file is written before it is renamed. It is no legal path.
 const NEW: &str = ".new";
 
-/// A folder of the system.
+/// A folder of the system, which is this store's alone: no other that asks for its lock gets it as long as this is there.
 #[derive(Drop)]
 pub(crate) struct Folder<R> {
     rt: R,
     path: String,
+    /// Where a file is written before it has its path.
+    fresh: String,
+    /// The folder itself, locked.
+    locked: File,
+}
+
+/// Locks a folder that is open, where nobody else has locked it.
+fn lock(folder: &File) -> io::Result<()> {
+    folder.try_lock().map_err(|fault| match fault {
+        TryLockError::WouldBlock => io::Error::new(
+            ErrorKind::ResourceBusy,
+            "it is in use by another server",
+        ),
+        TryLockError::Error(fault) => fault,
+    })
+}
+
+/// What is named is to be a folder.
+fn require_folder(info: &Metadata) -> io::Result<()> {
+    if info.is_dir() {
+        Ok(())
+    } else {
+        Err(io::Error::from(ErrorKind::NotADirectory))
+    }
 }
 
 /// Reads what a file has, or None where that is more than the limit: one byte more than it is read at most.
@@ -32,7 +56,7 @@ fn read_within<F: Read + Drop>(alloc: Global, file: F, limit: usize) -> io::Resu
 }
 
 /// What is named is to be a file: a folder, a link, a fifo, a socket and a device are refused.
-fn require_file(info: fs::Metadata) -> io::Result<()> {
+fn require_file(info: &Metadata) -> io::Result<()> {
     if info.is_file() {
         Ok(())
     } else {
@@ -41,31 +65,36 @@ fn require_file(info: fs::Metadata) -> io::Result<()> {
 }
 
 impl<R: Files> Folder<R> {
-    /// The folder of this path, where there is one.
+    /// The folder of this path, where there is one and nobody else has locked it. What was left of a file that was never
+    /// put is taken away.
     pub(crate) fn open(rt: R, path: String) -> io::Result<Folder<R>>
     where
-        R: Drop,
+        R: Drop + Files<File = File>,
     {
-        let info = rt.metadata(path.as_str())?;
-        if info.is_dir() {
-            Ok(Folder { rt, path })
-        } else {
-            Err(io::Error::from(ErrorKind::NotADirectory))
-        }
-    }
-
-    /// Where the file of this name lies.
-    fn join(&self, alloc: Global, name: &str) -> io::Result<String> {
-        let folder = self.path.as_str();
-        Ok(format!(in alloc; "{folder}/{name}")?)
+        require_folder(&rt.metadata(path.as_str())?)?;
+        let locked = fs::open(&rt, path.as_str())?;
+        lock(&locked)?;
+        let mut fresh = path.clone()?;
+        fresh.push_str("/")?;
+        fresh.push_str(NEW)?;
+        let folder = Folder {
+            rt,
+            path,
+            fresh,
+            locked,
+        };
+        // what can't be taken away is told by each put
+        let _ = folder.clear_fresh();
+        Ok(folder)
     }
 
     /// Where the file of a legal path lies.
     fn place(&self, alloc: Global, path: &[u8]) -> io::Result<String>
         requires { is_path path.now ≡ true }
     {
+        let folder = self.path.as_str();
         match str::from_utf8(path) {
-            Ok(name) => self.join(alloc, name),
+            Ok(name) => Ok(format!(in alloc; "{folder}/{name}")?),
             Err(_) => Err(io::Error::from(ErrorKind::InvalidInput)),
         }
     }
@@ -87,49 +116,55 @@ impl<R: Files> Folder<R> {
     /// Opens a file of the folder, and nothing else: the kind is asked before the open, since the open of a fifo would
     /// wait for its writer, and again of what was opened.
     fn open_file(&self, place: &str) -> io::Result<R::File> {
-        require_file(self.rt.symlink_metadata(place)?)?;
+        require_file(&self.rt.symlink_metadata(place)?)?;
         let file = fs::open(&self.rt, place)?;
-        require_file(file.metadata()?)?;
+        require_file(&file.metadata()?)?;
         Ok(file)
     }
 
-    /// Whether there is a file at this place.
-    fn has_file(&self, place: &str) -> io::Result<bool> {
+    /// The file at this place, where there is one.
+    fn file_at(&self, place: &str) -> io::Result<Option<Metadata>> {
         match self.rt.symlink_metadata(place) {
             Ok(info) => {
-                require_file(info)?;
-                Ok(true)
+                require_file(&info)?;
+                Ok(Some(info))
             }
-            Err(e) if e.kind() == ErrorKind::NotFound => Ok(false),
+            Err(e) if e.kind() == ErrorKind::NotFound => Ok(None),
             Err(e) => Err(e),
         }
     }
 
     /// Writes a file whole, and then gives it its path. The bytes are on the disk before the path leads to them, and the
-    /// path is on the disk at the end. What may be refused is tried before the path changes, but for the last flush.
+    /// path is on the disk at the end. What may be refused is tried before the path changes, but for the last flush. Where
+    /// the path didn't change, what was written is taken away.
     pub(crate) fn put(&self, alloc: Global, path: &[u8], bytes: &[u8]) -> io::Result<()>
         requires { is_path path.now ≡ true }
     {
-        let fresh = self.join(alloc, NEW)?;
         let place = self.place(alloc, path)?;
-        let folder = fs::open(&self.rt, self.path.as_str())?;
-        let _replaces = self.has_file(place.as_str())?;
-        self.clear(fresh.as_str())?;
-        self.write_new(fresh.as_str(), bytes)?;
-        fs::rename(&self.rt, fresh.as_str(), place.as_str())?;
-        folder.sync_all()
+        let replaced = self.file_at(place.as_str())?;
+        self.clear_fresh()?;
+        if let Err(fault) = self.replace(place.as_str(), replaced, bytes) {
+            let _ = self.clear_fresh();
+            return Err(fault);
+        }
+        self.locked.sync_all()
     }
 
-    /// Writes a new file, and flushes it to the disk.
-    fn write_new(&self, place: &str, bytes: &[u8]) -> io::Result<()> {
-        let mut file = File::create_new(&self.rt, place)?;
+    /// Writes a new file and gives it this place, with the mode of the file that it replaces.
+    fn replace(&self, place: &str, replaced: Option<Metadata>, bytes: &[u8]) -> io::Result<()> {
+        let fresh = self.fresh.as_str();
+        let mut file = File::create_new(&self.rt, fresh)?;
+        if let Some(info) = replaced {
+            file.set_permissions(info.permissions())?;
+        }
         file.write_all(bytes)?;
-        file.sync_all()
+        file.sync_all()?;
+        fs::rename(&self.rt, fresh, place)
     }
 
-    /// Takes away what was left behind, where there is such: a link itself, and never what it leads to.
-    fn clear(&self, place: &str) -> io::Result<()> {
-        match fs::remove_file(&self.rt, place) {
+    /// Takes away what was left of a put, where there is such: a link itself, and never what it leads to.
+    fn clear_fresh(&self) -> io::Result<()> {
+        match fs::remove_file(&self.rt, self.fresh.as_str()) {
             Err(e) if e.kind() != ErrorKind::NotFound => Err(e),
             _ => Ok(()),
         }
@@ -140,7 +175,7 @@ impl<R: Files> Folder<R> {
         requires { is_path path.now ≡ true }
     {
         let place = self.place(alloc, path)?;
-        require_file(self.rt.symlink_metadata(place.as_str())?)?;
+        require_file(&self.rt.symlink_metadata(place.as_str())?)?;
         fs::remove_file(&self.rt, place.as_str())
     }
 
@@ -151,8 +186,8 @@ impl<R: Files> Folder<R> {
     {
         let from = self.place(alloc, old)?;
         let to = self.place(alloc, new)?;
-        require_file(self.rt.symlink_metadata(from.as_str())?)?;
-        if self.has_file(to.as_str())? {
+        require_file(&self.rt.symlink_metadata(from.as_str())?)?;
+        if self.file_at(to.as_str())?.is_some() {
             return Ok(false);
         }
         fs::rename(&self.rt, from.as_str(), to.as_str())?;

@@ -1,9 +1,9 @@
 //! What a folder's store makes of what is no file.
 use super::*;
-use std::fs::File;
-use std::io::pipe;
+use std::fs::Permissions;
+use std::io::{ErrorKind, pipe};
 use std::os::fd::AsRawFd;
-use std::os::unix::fs::symlink;
+use std::os::unix::fs::{MetadataExt, PermissionsExt, symlink};
 
 /// Whether a store has just these bytes at a path. A folder's store gives those of a file alone, and of no link.
 fn holds<S: Store>(rt: &impl AllocGlobal, store: &mut S, path: &[u8], bytes: &[u8]) -> bool {
@@ -33,6 +33,43 @@ fn a_put_is_whole(rt: HostRuntime) -> Result<(), Fail> {
     assert!(rt; store.remove(rt.alloc(), b".new") == Removed::Failed);
     assert!(rt; store.failures() == 3);
     rt.remove_dir_all(rt.alloc(), "chaos_file_whole")?;
+    Ok(())
+}
+
+/// A folder has one store at a time. A store that is opened takes away what a put left at `.new`, and one that is refused
+/// takes away nothing.
+#[test]
+fn a_folder_has_one_store(rt: HostRuntime) -> Result<(), Fail> {
+    let folder = String::from_str(rt.alloc(), "chaos_file_one")?;
+    let mut store = fresh_store(&rt, "chaos_file_one")?;
+    drop(File::create(&rt, "chaos_file_one/.new")?);
+    match DirStore::open(&rt, folder.clone()?) {
+        Ok(_) => assert!(rt; false, "a second store"),
+        Err(fault) => assert!(rt; fault.kind() == ErrorKind::ResourceBusy),
+    }
+    assert!(rt; fs::exists(&rt, "chaos_file_one/.new")?);
+    assert!(rt; store.put(rt.alloc(), b"A", b"kept") == Stored::Done);
+    drop(store);
+    drop(File::create(&rt, "chaos_file_one/.new")?);
+    let mut store = DirStore::open(&rt, folder)?;
+    assert!(rt; !fs::exists(&rt, "chaos_file_one/.new")?);
+    assert!(rt; holds(&rt, &mut store, b"A", b"kept"));
+    rt.remove_dir_all(rt.alloc(), "chaos_file_one")?;
+    Ok(())
+}
+
+/// A put keeps the mode of the file that it replaces.
+#[test]
+fn a_put_keeps_the_mode(rt: HostRuntime) -> Result<(), Fail> {
+    let mut store = fresh_store(&rt, "chaos_file_mode")?;
+    for mode in [0o600, 0o646, 0o440] {
+        assert!(rt; store.put(rt.alloc(), b"A", b"first") == Stored::Done);
+        fs::set_permissions(&rt, "chaos_file_mode/A", Permissions::from_mode(mode))?;
+        assert!(rt; store.put(rt.alloc(), b"A", b"second") == Stored::Done);
+        let now = fs::metadata(&rt, "chaos_file_mode/A")?.mode();
+        assert_eq!(rt; now & 0o7777, mode);
+    }
+    rt.remove_dir_all(rt.alloc(), "chaos_file_mode")?;
     Ok(())
 }
 

@@ -45,15 +45,17 @@ fn made(alloc: Global, config: ConnConfig) -> Result<Lab, Fail> {
     }
 }
 
-/// Lets an event happen, and again where there was no memory: the laboratory is then as it was.
-fn insist(rt: &impl Abort, alloc: Global, lab: &mut Lab, event: &Event<'_>) {
+/// Lets an event happen, and again where there was no memory: the laboratory is then as it was. Says whether it was so.
+fn insist(rt: &impl Abort, alloc: Global, lab: &mut Lab, event: &Event<'_>) -> bool {
     let before = sizes(lab);
     let mut answer = lab.step(alloc, event);
-    if answer == Err(LabFault::NoMemory) {
+    let wants = answer == Err(LabFault::NoMemory);
+    if wants {
         assert_eq!(rt; sizes(lab), before);
         answer = lab.step(alloc, event);
     }
     assert!(rt; answer.is_ok());
+    wants
 }
 
 /// Want of memory changes nothing, so that the event can happen again.
@@ -61,7 +63,9 @@ fn insist(rt: &impl Abort, alloc: Global, lab: &mut Lab, event: &Event<'_>) {
 fn want_of_memory_changes_nothing(rt: HostRuntime) -> Result<(), Fail> {
     let mut lab = made(rt.alloc(), windows(2)?)?;
     for event in &EVENTS {
-        insist(&rt, rt.alloc(), &mut lab, event);
+        if insist(&rt, rt.alloc(), &mut lab, event) {
+            println!(rt; "met")?;
+        }
     }
     assert_eq!(rt; sizes(&lab), [11, 3, 1, 1, 3, 0, 0]);
     Ok(())

@@ -13,7 +13,7 @@ pub invariant_of-self : goal.invariant_of-self
 invariant_of-self c =
     let l : FileLabView = file_view c.self.inside in
     let m : FileLabView = file_view (record { lab = c.take_turn.new.self; server = c.take_turn.new.user }) in
-    let laws : Laws = record { go_on = c.law_replies.ensures.go_on; honest = c.law_honest.ensures; want = c.law_want.ensures } in
+    let laws : Laws = record { go_on = c.law_replies.ensures.go_on; honest = c.law_memory.ensures; want = c.law_want.ensures } in
     let turn : OnOk c.take_turn.result (TurnServes l m c.take_turn.new.user.served) = search rules in
     let same : OnErr c.take_turn.result (AreSame l m) = search rules in
     turn_keeps laws l m c.take_turn.new.user.served c.take_turn.result c.law_headline.ensures.machine turn same c.self.invariant
@@ -32,7 +32,7 @@ returns-clause-happens c =
 -- and as the definition says
 pub returns-clause-exact : goal.returns-clause-exact
 returns-clause-exact c =
-    let laws : Laws = record { go_on = c.law_replies.ensures.go_on; honest = c.law_honest.ensures; want = c.law_want.ensures } in
+    let laws : Laws = record { go_on = c.law_replies.ensures.go_on; honest = c.law_memory.ensures; want = c.law_want.ensures } in
     let l : FileLabView = file_view c.self.inside in
     let m : FileLabView = file_view (record { lab = c.take_turn.new.self; server = c.take_turn.new.user }) in
     let turn : OnOk c.take_turn.result (TurnServes l m c.take_turn.new.user.served) = search rules in
