@@ -23,5 +23,5 @@ pub use answers::{Delivered, ReadDone, ReadEnd, Ticked, Why};
 pub use config::ConnConfig;
 pub use conn::Conn;
 pub use fault::{ConfigFault, ConnFault};
-pub use limits::MAX_PACKET_BYTES;
+pub use limits::{MAX_PACKET_BYTES, law_limits};
 pub use state::{End, State};

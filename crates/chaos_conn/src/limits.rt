@@ -1,4 +1,7 @@
 //! Sizes and times, each with its unit.
+ghost use Rattle.std.specs.Prelude.{◌≡◌};
+ghost use Rattle.chaos_conn.specs.declared.limits.TheConstants.{HEADER_BYTES, MAX_PACKET_BYTES, USUAL_WINDOW, USUAL_RETRANSMIT, USUAL_PROBE, USUAL_DOWN};
+
 use chaos_packet::{HEADER_WORDS, MAX_WORDS};
 
 /// The bytes of a packet's header.
@@ -18,3 +21,13 @@ pub const USUAL_PROBE: u64 = 10_000;
 
 /// After how many milliseconds a silent peer counts as down, as usual.
 pub const USUAL_DOWN: u64 = 90_000;
+
+/// The limits and the usual values as numerals.
+pub fn law_limits()
+    ensures header { HEADER_BYTES ≡ 16 }
+    ensures packet { MAX_PACKET_BYTES ≡ 504 }
+    ensures window { USUAL_WINDOW ≡ 13 }
+    ensures retransmit { USUAL_RETRANSMIT ≡ 500 }
+    ensures probe { USUAL_PROBE ≡ 10000 }
+    ensures down { USUAL_DOWN ≡ 90000 }
+{}

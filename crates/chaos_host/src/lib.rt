@@ -29,4 +29,4 @@ pub use fault::{CallFault, ConnectFault, ListenFault, MakeFault};
 pub use host::Host;
 pub use index::ConnId;
 pub use law::{law_in_use, law_index, law_pending};
-pub use limits::{MAX_CONNS, MAX_CONTACT, MAX_LISTENERS};
+pub use limits::{MAX_CONNS, MAX_CONTACT, MAX_LISTENERS, law_limits};
