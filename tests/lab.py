@@ -1,5 +1,5 @@
 #!/usr/bin/env python3
-"""Tests `chaosd lab` as a user meets it: the examples, bad lines, statuses, and what a fault of reading or writing does.
+"""Tests `chaosd lab` and `chaosd filelab` as a user meets them: the examples, bad lines, statuses, and what a fault of reading or writing does.
 
     make && tests/lab.py [PROGRAM]
 
@@ -21,6 +21,7 @@ import program
 from program import BAD_LINE, DONE, FAULT, INPUT_LIMIT, PATIENCE, REFUSED, Checks, run, within
 
 EXAMPLES = program.HERE.parent / "examples/lab"
+FILE_EXAMPLES = program.HERE.parent / "examples/filelab"
 NO_MEMORY = 4
 
 START = b"ends 2 2 2 2 1\n"
@@ -43,6 +44,24 @@ def examples(checks):
         text = script.with_suffix(".txt").read_bytes()
         status = REFUSED if b"\nrefused " in text else DONE
         checks.check(f"{script.name}, status {status}", run(["lab"], script.read_bytes()).problems(status, text, b""))
+
+
+def file_examples(checks):
+    """Each script of examples/filelab prints its text, and what only the server may do is refused."""
+    scripts = sorted(FILE_EXAMPLES.glob("*.lab"))
+    checks.check("there are three examples of FILE", [] if len(scripts) == 3 else [f"there are {len(scripts)}"])
+    for script in scripts:
+        text = script.with_suffix(".txt").read_bytes()
+        checks.check(f"filelab {script.name}", run(["filelab"], script.read_bytes()).problems(DONE, text, b""))
+    for name, script, status, text in [
+        ("a server that was never asked", START + b"serve\n", DONE, START_TEXT + b"served ended Inactive\n" + STORED),
+        ("the server's own calls", START + b"write b 200 X\nread b\n", REFUSED, START_TEXT + 2 * b"refused 5 ByServer\n" + STORED),
+    ]:
+        checks.check(f"filelab: {name}", run(["filelab"], script).problems(status, text, b""))
+    checks.check(
+        "filelab: serve has no words", run(["filelab"], START + b"serve b\n").problems(BAD_LINE, START_TEXT, b"line 2: bad\n")
+    )
+    checks.check("lab has no serve", run(["lab"], START + b"serve\n").problems(BAD_LINE, START_TEXT, b"line 2: bad\n"))
 
 
 def scripts(checks):
@@ -221,7 +240,7 @@ def main():
     if not program.PROGRAM.is_file():
         sys.exit(f"{program.PROGRAM} isn't there: run make first")
     checks = Checks()
-    for group in [examples, scripts, texts, bad_lines, limits, memory, lines, writers, readers, typed_lines]:
+    for group in [examples, file_examples, scripts, texts, bad_lines, limits, memory, lines, writers, readers, typed_lines]:
         group(checks)
     print(f"{checks.count - checks.failed} passed, {checks.failed} failed")
     sys.exit(1 if checks.failed else 0)

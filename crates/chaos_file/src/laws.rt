@@ -1,16 +1,17 @@
 //! Laws of the language, over its definition alone.
-ghost use Rattle.std.specs.Prelude.{◌≡◌, ℕ, true, List, ◌++◌, length, Some, Err};
+ghost use Rattle.std.specs.Prelude.{◌≡◌, ℕ, true, false, List, ◌++◌, length, Result, Some, Err};
 ghost use Rattle.chaos_file.specs.Session.{SessionView, new_session};
 ghost use Rattle.chaos_packet.specs.Count.{Rose};
 ghost use Rattle.chaos_file.specs.Store.{Files, change};
 ghost use Rattle.chaos_file.specs.Command.{CommandView, Good};
 ghost use Rattle.chaos_file.specs.Spelling.{spelling_of, is_good};
 ghost use Rattle.chaos_file.specs.Grammar.{parse_of};
-ghost use Rattle.chaos_file.specs.Answer.{reply_to};
+ghost use Rattle.chaos_file.specs.Answer.{Answer, reply_to};
 ghost use Rattle.chaos_file.specs.Step.{file_step};
 ghost use Rattle.chaos_file.specs.Apply.{IsApplied, IsStep};
 ghost use Rattle.chaos_file.specs.Replies.{memory_change, replies_of, replies_from, files_after, session_after};
-ghost use Rattle.chaos_file.specs.Want.{is_want};
+ghost use Rattle.chaos_file.specs.Want.{is_want, is_no_memory};
+ghost use Rattle.chaos_file.specs.declared.error.FileError.{FileError};
 ghost use Rattle.chaos_file.specs.declared.error.FileError.TheVariants.{NoMemory};
 
 use crate::store::Store;
@@ -53,8 +54,10 @@ pub fn law_memory()
         ¬ (reply ≡ reply_to (parse_of c) (Err NoMemory)) → IsStep (memory_change m n) (file_step m s c) reply t }
 {}
 
-/// The reply for want of memory to any command is told as such by [`is_want`](crate::is_want).
-#[tactic(auto, using(crate::proofs::NoMemory::want_told))]
+/// [`is_want`](crate::is_want) is told of a reply exactly where the command's outcome is want of memory. So no bytes that a READ
+/// gives read so, and none of the definition's replies does.
+#[tactic(auto, using(crate::proofs::NoMemory::want_told, crate::proofs::NoMemory::none_wanted))]
 pub fn law_want()
-    ensures { (command : List ℕ) → is_want (reply_to (parse_of command) (Err NoMemory)) ≡ true }
+    ensures told { (command : List ℕ) (outcome : Result Answer FileError) → is_want (reply_to (parse_of command) outcome) ≡ is_no_memory outcome }
+    ensures defined { (m : Files) (s : SessionView) (command : List ℕ) → is_want (file_step m s command).reply ≡ false }
 {}

@@ -1,6 +1,6 @@
 -- Bodies of lists.
-use Rattle.std.proofs.Common.{◌≡◌, ℕ, List, [], ◌∷◌, ◌++◌, drop, length, refl, sym, ap, ◌∙◌, subst}
-use Rattle.std.specs.Prelude.{◌||◌, ◌&&◌}
+use Rattle.std.proofs.Common.{◌≡◌, ℕ, zero, suc, ◌<◌, ◌-◌, Bool, true, false, List, [], ◌∷◌, ◌++◌, drop, length, Some, refl, sym, ap, ◌∙◌, subst, arith, length-append}
+use Rattle.std.specs.Prelude.{◌||◌, ◌&&◌, slice_get}
 use Rattle.std.specs.List.{list_any}
 use Rattle.std.proofs.lemmas.List.{take-append-drop}
 use Rattle.std.proofs.Math.Seq.{take-append_seam}
@@ -10,7 +10,8 @@ use Rattle.chaos_packet.specs.Opcode.{kind_of}
 use Rattle.chaos_packet.specs.declared.opcode.Kind.{Kind}
 use Rattle.chaos_packet.specs.declared.opcode.Kind.TheVariants as kind
 use Rattle.chaos_file.specs.Want.{is_want}
-use Rattle.chaos_filelab.specs.Bodies.{with_body, data_bodies, is_data_kind, is_mem}
+use Rattle.chaos_filelab.specs.Bodies.{with_body, data_bodies, is_data_kind, is_mem, some_mem, told_want}
+use Rattle.chaos_serve.specs.declared.served.Served.TheVariants as told
 
 with_any : (k : Kind) (body : List ℕ) (bodies : List (List ℕ)) → list_any is_want (with_body k body bodies) ≡ ((is_data_kind k && is_want body) || list_any is_want bodies)
 with_any kind.Data body bodies = refl
@@ -60,3 +61,40 @@ begins_whole xs ys zs e = subst (λ l. Begins xs l) (sym e) (take-append_seam xs
 
 pub bodies_begin : (xs ys : List ItemView) → Begins xs ys → Begins (data_bodies xs) (data_bodies ys)
 bodies_begin xs ys h = begins_whole (data_bodies xs) (data_bodies ys) (data_bodies (drop (length xs) ys)) (ap data_bodies (begins_split xs ys h) ∙ bodies_append xs (drop (length xs) ys))
+
+-- ---- items of a list
+
+pub front_same : (xs ys : List ItemView) (i : ℕ) → i < length xs → slice_get xs i ≡ slice_get (xs ++ ys) i
+front_same [] ys i h = absurd (omega arith)
+front_same (x ∷ xs) ys zero h = refl
+front_same (x ∷ xs) ys (suc i) h = front_same xs ys i (omega arith)
+
+pub last_item : (xs : List ItemView) (x : ItemView) → slice_get (xs ++ x ∷ []) (length xs) ≡ Some x
+last_item [] x = refl
+last_item (y ∷ xs) x = last_item xs x
+
+-- ---- a reply more
+
+or_false : (b : Bool) → (b || false) ≡ b
+or_false true = refl
+or_false false = refl
+
+or_more : (a b c : Bool) → ((a || b) || c) ≡ (a || (b || c))
+or_more true b c = refl
+or_more false b c = refl
+
+any_more : (xs : List ItemView) (x : ItemView) → (list_any is_mem xs || is_mem x) ≡ list_any is_mem (xs ++ x ∷ [])
+any_more [] x = sym (or_false (is_mem x))
+any_more (y ∷ xs) x = or_more (is_mem y) (list_any is_mem xs) (is_mem x) ∙ ap (λ b. is_mem y || b) (any_more xs x)
+
+-- nothing was written
+pub want_same : (xs : List ItemView) (flag : Bool) → flag ≡ list_any is_want (data_bodies xs) → (flag || false) ≡ list_any is_want (data_bodies xs)
+want_same xs flag is = or_false flag ∙ is
+
+-- a reply was
+pub want_more : (xs : List ItemView) (x : ItemView) (flag : Bool) → flag ≡ list_any is_want (data_bodies xs) → (flag || told_want told.Replied (xs ++ x ∷ [])) ≡ list_any is_want (data_bodies (xs ++ x ∷ []))
+want_more xs x flag is =
+    let last : length (xs ++ x ∷ []) - 1 ≡ length xs = omega (arith, length-append xs (x ∷ [])) in
+    ap (λ b. b || told_want told.Replied (xs ++ x ∷ [])) (is ∙ any_bodies xs)
+    ∙ ap (λ o. list_any is_mem xs || some_mem o) (ap (slice_get (xs ++ x ∷ [])) last ∙ last_item xs x)
+    ∙ any_more xs x ∙ sym (any_bodies (xs ++ x ∷ []))

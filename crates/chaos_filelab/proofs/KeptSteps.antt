@@ -1,56 +1,59 @@
 -- Each event keeps what B's server has done.
-use Rattle.std.proofs.Common.{◌≡◌, ℕ, ◌≤◌, suc, zero, List, [], ◌∷◌, ◌++◌, drop, length, Bool, true, false, Some, None, Result, Ok, Err, IfOk, IfErr, OnOk, OnErr, refl, sym, ap, ◌∙◌, subst, inl, inr, arith}
-use Rattle.std.specs.Prelude.{◌||◌, slice_get}
+use Rattle.std.proofs.Common.{◌≡◌, ℕ, ◌≤◌, suc, zero, List, [], ◌∷◌, ◌++◌, drop, length, Bool, true, false, Option, Some, None, Result, Ok, Err, refl, sym, ap, ◌∙◌, subst, inl, inr, arith, length-append}
+use Rattle.std.specs.Prelude.{◌||◌, slice_get, nat_le, ◌+◌, ◌*◌}
 use Rattle.std.specs.List.{list_any}
 use Rattle.std.specs.FinMap as map
 use Rattle.std.proofs.lemmas.List.{append-nil}
-use Rattle.std.proofs.lemmas.Bool.{false≢true}
+use Rattle.std.proofs.lemmas.Bool.{false≢true, cond_both, cond-true, cond-false}
 use Rattle.chaos_packet.specs.Begins.{Begins}
 use Rattle.chaos_packet.specs.Item.{ItemView}
 use Rattle.chaos_packet.specs.Opcode.{op_data, kind_of}
 use Rattle.chaos_packet.specs.declared.opcode.Kind.TheVariants as kind
 use Rattle.chaos_conn.specs.View.{ConnView}
-use Rattle.chaos_conn.specs.Calls.{front_of}
+use Rattle.chaos_conn.specs.Calls.{front_of, read_at_open, act_read}
+use Rattle.chaos_conn.specs.Acted.{Acted, quietly}
+use Rattle.chaos_conn.specs.Sending.{with_sts}
+use Rattle.chaos_conn.specs.State.{is_open, is_opening}
+use Rattle.chaos_conn.specs.declared.state.State.TheVariants as st
+use Rattle.chaos_conn.specs.declared.answers.ReadEnd.{ReadEnd}
+use Rattle.chaos_conn.specs.declared.answers.ReadEnd.TheVariants as gave
+use Rattle.chaos_window.specs.Receive.{after_advance}
 use Rattle.chaos_conn.specs.Act.{act}
 use Rattle.chaos_conn.specs.Act.Call.{Read, Write}
 use Rattle.chaos_file.specs.declared.error.FileError.TheVariants as e
-use Rattle.chaos_file.specs.Answer.{reply_to}
+use Rattle.chaos_file.specs.declared.error.FileError.{FileError}
+use Rattle.chaos_file.specs.Answer.{Answer, reply_to}
 use Rattle.chaos_file.specs.Apply.{IsApplied, IsStep}
 use Rattle.chaos_file.specs.Grammar.{parse_of}
 use Rattle.chaos_file.specs.Session.{SessionView, new_session}
 use Rattle.chaos_file.specs.Store.{Files}
 use Rattle.chaos_file.specs.Step.{file_step}
 use Rattle.chaos_file.specs.Replies.{memory_change, replies_of, replies_from, files_after, session_after}
-use Rattle.chaos_file.specs.Want.{is_want}
+use Rattle.chaos_file.specs.Want.{is_want, is_no_memory}
 use Rattle.chaos_serve.specs.Work.{Work, NotOpen, Nothing, Full, LastItem, Command, work_of}
 use Rattle.chaos_serve.specs.declared.served.Served.{Served}
-use Rattle.chaos_serve.proofs.Taken.{only_open}
+use Rattle.chaos_serve.specs.declared.served.Served.TheVariants as told
+use Rattle.chaos_lab.specs.declared.side.Side.{Side}
 use Rattle.chaos_lab.specs.declared.side.Side.TheVariants.{A, B}
-use Rattle.chaos_lab.specs.Machine.{Machine}
-use Rattle.chaos_lab.specs.Machine.Phase.{Open}
+use Rattle.chaos_lab.specs.Machine.{Machine, Reached}
+use Rattle.chaos_lab.specs.Law.{writer, reader}
 use Rattle.chaos_lab.specs.Shown.{IsUsers}
-use Rattle.chaos_lab.specs.Laboratory.{LabView, with_given, after_call, after_all, call_effect, refusal_of}
+use Rattle.chaos_lab.specs.Laboratory.{LabView, lab_end, with_given, after_call, after_all, call_effect, refusal_of}
 use Rattle.chaos_lab.specs.Tied.{HasMachine}
 use Rattle.chaos_lab.specs.Turn.{Turn, Rests, Reads, Replies, HasFront, IsTaken, turn_events}
 use Rattle.chaos_lab.specs.Turns.{TurnHappens}
-use Rattle.chaos_lab.proofs.Turns.{read_gives}
-use Rattle.chaos_lab.proofs.HeadlineLaw.{begins, open_at}
-use Rattle.chaos_lab.proofs.Machines.{reached_holds}
-use Rattle.chaos_lab.proofs.Ends.{HasMet, fits_at}
-use Rattle.chaos_lab.proofs.TiedOn.{front_same}
-use Rattle.chaos_lab.proofs.Calls.{last_item}
-use Rattle.chaos_lab.proofs.Lists.{length-one_more}
-use Rattle.chaos_filelab.specs.Bodies.{with_body, data_bodies}
-use Rattle.chaos_filelab.specs.View.{FileLabView, commands_at_b, replies_of_b}
+use Rattle.chaos_filelab.specs.Bodies.{with_body, data_bodies, told_want}
+use Rattle.chaos_filelab.specs.View.{FileLabView, commands_at_b, replies_of_b, wrote_mem}
 use Rattle.chaos_filelab.specs.Serving.{ServesBy}
 use Rattle.chaos_filelab.specs.declared.event.FileStepped.{FileStepped}
 use Rattle.chaos_filelab.specs.declared.event.FileStepped.TheVariants as stepped
 use Rattle.chaos_lab.specs.declared.fault.LabFault.{LabFault}
 use Rattle.chaos_lab.specs.declared.fault.LabFault.TheVariants as fault
 use Rattle.chaos_filelab.specs.Events.{Serving, ServeHappens, service_of}
-use Rattle.chaos_filelab.specs.Kept.{IsServed}
-use Rattle.chaos_filelab.proofs.BodyLists.{begins_split, bodies_append}
-use Rattle.chaos_filelab.proofs.ServedTurns.{is_work}
+use Rattle.chaos_filelab.specs.declared.file_lab.FileLab.TheInside.{Inside}
+use Rattle.chaos_filelab.specs.Kept.{IsServed, IsSound}
+use Rattle.chaos_filelab.proofs.BodyLists.{begins_split, bodies_append, front_same, last_item, want_same, want_more}
+use Rattle.chaos_filelab.proofs.ServedTurns.{only_open, is_work}
 use Rattle.chaos_filelab.proofs.QuietSteps.{SameBodies}
 
 -- ---- B's bodies stay
@@ -65,6 +68,21 @@ same_keeps l m b session files h isnt =
     }
 
 -- ---- what a turn reads and writes
+
+gives_open : (v : ConnView) (item : ItemView) (front : Option ItemView) → front ≡ Some item → (read_at_open v front).answer ≡ gave.Item item
+gives_open v item None is = absurd (cc)
+gives_open v item (Some other) is =
+    let same : other ≡ item = cc in
+    let u : ConnView = record v { recv = after_advance v.recv; untold = v.untold + 1 } in
+    cond_both (nat_le u.recv.window (3 * u.untold)) (with_sts u (gave.Item other)) (quietly u (gave.Item other)) (λ (a : Acted ReadEnd). a.answer ≡ gave.Item item)
+    (λ _. ap gave.Item same)
+    (λ _. ap gave.Item same)
+
+read_open_is : (v : ConnView) → HasFront v → act_read v ≡ read_at_open v (front_of v)
+read_open_is v h = cond-false _ _ _ (ap is_opening h.is_open) ∙ cond-true _ _ _ (ap is_open h.is_open)
+
+read_gives : (v : ConnView) (h : HasFront v) → (act_read v).answer ≡ gave.Item h.item
+read_gives v h = ap (λ a. a.answer) (read_open_is v h) ∙ gives_open v h.item (front_of v) h.front
 
 reads_one : (l : LabView) (h : HasFront l.b.conn) → (after_call l B Read).b.read ≡ l.b.read ++ h.item ∷ []
 reads_one l h = ap (λ g. with_given g l.b.read) (read_gives l.b.conn h)
@@ -92,7 +110,7 @@ some_is h = cc
 -- the last of a beginning stands where it stood
 at_last : (xs ys : List ItemView) (x : ItemView) → Begins (xs ++ x ∷ []) ys → slice_get ys (length xs) ≡ Some x
 at_last xs ys x h =
-    let one = length-one_more xs x in
+    let one = length-append xs (x ∷ []) in
     ap (λ zs. slice_get zs (length xs)) (begins_split (xs ++ x ∷ []) ys h)
     ∙ sym (front_same (xs ++ x ∷ []) (drop (length (xs ++ x ∷ [])) ys) (length xs) (omega (arith, one)))
     ∙ last_item xs x
@@ -104,16 +122,21 @@ users_later ys (suc i) x some users at = users i x at
 machine_after : (l m : LabView) (turn : Turn) → HasMachine l → TurnHappens l turn m → HasMachine m
 machine_after l m turn h t = let n = t.run h.plain h.ties in record { plain = n.0; ties = n.2 }
 
-front_users : (l m : LabView) (turn : Turn) (h : HasFront l.b.conn) → HasMachine l → TurnHappens l turn m → m.b.read ≡ l.b.read ++ h.item ∷ [] → IsUsers h.item
-front_users l m turn h had t read =
-    let w : Machine = had.plain in
-    let k = machine_after l m turn had t in
-    let is_in = open_at B w l had.ties h.is_open in
-    let met : HasMet w.b.written w.b.read = fits_at B w.b Open (reached_holds w had.ties.tied.reached).b is_in in
-    let some : 1 ≤ length l.b.read = subst (λ (xs : List ItemView). 1 ≤ length xs) (sym had.ties.read_b) met.0 in
-    let begin : Begins (l.b.read ++ h.item ∷ []) m.a.written = subst (λ xs. Begins xs m.a.written) read (begins m A k) in
-    users_later k.plain.a.written (length l.b.read) h.item some k.ties.tied.items_a.users
-    (ap (λ ws. slice_get ws (length l.b.read)) (sym k.ties.written_a) ∙ at_last l.b.read m.a.written h.item begin)
+-- what the laboratory says of itself: it stands for the plain machine, and an open end has read an item
+pub record LabLaws (l : LabView) : Type 0 where
+  pub machine : HasMachine l
+  pub opened : (x : Side) → (lab_end l x).conn.state ≡ st.Open → 1 ≤ length (lab_end l x).read
+
+-- what was read is a beginning of what was written
+abbrev pub Beginning : Type 0
+Beginning = (m : Machine) (x : Side) → Reached m → Begins (reader m x).read (writer m x).written
+
+front_users : Beginning → (l m : LabView) (turn : Turn) (h : HasFront l.b.conn) → LabLaws l → TurnHappens l turn m → m.b.read ≡ l.b.read ++ h.item ∷ [] → IsUsers h.item
+front_users beginning l m turn h had t read =
+    let k = machine_after l m turn had.machine t in
+    let some : 1 ≤ length l.b.read = had.opened B h.is_open in
+    let begin : Begins (l.b.read ++ h.item ∷ []) k.plain.a.written = subst (λ xs. Begins xs k.plain.a.written) (sym k.ties.read_b ∙ read) (beginning k.plain A k.ties.tied.reached) in
+    users_later k.plain.a.written (length l.b.read) h.item some k.ties.tied.items_a.users (at_last l.b.read k.plain.a.written h.item begin)
 
 -- ---- bodies of one item more
 
@@ -157,7 +180,8 @@ files_more m s (x ∷ xs) c = files_more (file_step m s x).files (file_step m s 
 pub record Laws : Type 0 where
   pub go_on : (m : Files) (xs ys : List (List ℕ)) → replies_of m (xs ++ ys) ≡ replies_of m xs ++ replies_from (files_after m new_session xs) (session_after m new_session xs) ys
   pub honest : (m n : Files) (s t : SessionView) (c reply : List ℕ) → IsApplied (memory_change m n) s t c reply → (reply ≡ reply_to (parse_of c) (Err e.NoMemory) → ⊥) → IsStep (memory_change m n) (file_step m s c) reply t
-  pub want : (c : List ℕ) → is_want (reply_to (parse_of c) (Err e.NoMemory)) ≡ true
+  pub want : (c : List ℕ) (outcome : Result Answer FileError) → is_want (reply_to (parse_of c) outcome) ≡ is_no_memory outcome
+  pub beginning : Beginning
 
 pub command_keeps : Laws → (l m : FileLabView) (c reply : List ℕ) → IsApplied (memory_change l.files m.files) l.session m.session c reply → commands_at_b m ≡ commands_at_b l ++ c ∷ [] → replies_of_b m ≡ replies_of_b l ++ reply ∷ [] → IsServed l → IsServed m
 command_keeps laws l m c reply applied read wrote h isnt =
@@ -165,7 +189,7 @@ command_keeps laws l m c reply applied read wrote h isnt =
     let s = h w.before in
     let cs = commands_at_b l in
     let step = laws.honest l.files m.files l.session m.session c reply applied
-    (λ is. false≢true (sym w.last ∙ ap is_want is ∙ laws.want c)) in
+    (λ is. false≢true (sym w.last ∙ ap is_want is ∙ laws.want c (Err e.NoMemory))) in
     let at = files_after map.empty new_session cs in
     let in_session = session_after map.empty new_session cs in
     let same : file_step l.files l.session c ≡ file_step at in_session c = (λ j. file_step (s.files j) (s.session j) c) in
@@ -196,21 +220,21 @@ data_of : (item : ItemView) → IsUsers item → (kind_of item.op ≡ kind.Eof �
 data_of item (inl h) isnt = h
 data_of item (inr h) isnt = absurd (isnt h.0)
 
-reply_keeps : Laws → (l m : FileLabView) (item : ItemView) (reply : List ℕ) (turn : Turn) → turn ≡ Replies op_data reply → front_of l.lab.b.conn ≡ Some item → (kind_of item.op ≡ kind.Eof → ⊥) → IsApplied (memory_change l.files m.files) l.session m.session item.body reply → HasMachine l.lab → TurnHappens l.lab turn m.lab → IsServed l → IsServed m
+reply_keeps : Laws → (l m : FileLabView) (item : ItemView) (reply : List ℕ) (turn : Turn) → turn ≡ Replies op_data reply → front_of l.lab.b.conn ≡ Some item → (kind_of item.op ≡ kind.Eof → ⊥) → IsApplied (memory_change l.files m.files) l.session m.session item.body reply → LabLaws l.lab → TurnHappens l.lab turn m.lab → IsServed l → IsServed m
 reply_keeps laws l m item reply turn is front isnt applied machine t h =
     let u : TurnHappens l.lab (Replies op_data reply) m.lab = subst (λ s. TurnHappens l.lab s m.lab) is t in
     let f : HasFront l.lab.b.conn = u.taken.0 in
     let same : f.item ≡ item = some_is (sym f.front ∙ front) in
     let r = replied l.lab op_data reply u.taken in
     let read : m.lab.b.read ≡ l.lab.b.read ++ f.item ∷ [] = ap (λ k. k.b.read) u.after ∙ r.read in
-    let users = front_users l.lab m.lab (Replies op_data reply) f machine u read in
+    let users = front_users laws.beginning l.lab m.lab (Replies op_data reply) f machine u read in
     let is_data : kind_of item.op ≡ kind.Data = data_of item (subst IsUsers same users) isnt in
     command_keeps laws l m item.body reply applied
     (ap data_bodies (read ∙ ap (λ i. l.lab.b.read ++ i ∷ []) same) ∙ one_body l.lab.b.read item is_data)
     (ap data_bodies (ap (λ k. k.b.written) u.after ∙ r.written) ∙ one_body l.lab.b.written (record { op = op_data; body = reply }) refl)
     h
 
-pub serving_keeps : Laws → (l m : FileLabView) (served : Served) → HasMachine l.lab → Serving l m served → IsServed l → IsServed m
+pub serving_keeps : Laws → (l m : FileLabView) (served : Served) → LabLaws l.lab → Serving l m served → IsServed l → IsServed m
 serving_keeps laws l m served machine s h = by (work_of l.lab.b.conn) refl s.serves
   where
     v : ConnView
@@ -230,22 +254,39 @@ serving_keeps laws l m served machine s h = by (work_of l.lab.b.conn) refl s.ser
         (subst (λ b. IsApplied (memory_change l.files m.files) l.session m.session b x.0) (sym k.4) x.3.applied)
         machine s.happens h
 
--- ---- what the laboratory says of the turn
+-- ---- a reply for want of memory is known
 
-abbrev pub TurnServes : (l m : FileLabView) → Served → Type 0
-TurnServes l m served = (turn : Turn) × ServesBy (service_of l) (service_of m) turn served (work_of l.lab.b.conn) × TurnHappens l.lab turn m.lab
+pub serving_told : (l m : FileLabView) (served : Served) (flag : Bool) → Serving l m served → flag ≡ wrote_mem l → (flag || told_want served m.lab.b.written) ≡ wrote_mem m
+serving_told l m served flag s is = by (work_of l.lab.b.conn) s.serves
+  where
+    rested : (turn : Turn) → s.turn ≡ turn → (after_all l.lab (turn_events turn)).b.written ≡ l.lab.b.written → ((ws : List ItemView) → told_want served ws ≡ false) → (flag || told_want served m.lab.b.written) ≡ wrote_mem m
+    rested turn at same none =
+        let written : m.lab.b.written ≡ l.lab.b.written = ap (λ k. k.b.written) (s.happens.after ∙ ap (λ t. after_all l.lab (turn_events t)) at) ∙ same in
+        ap (λ b. flag || b) (none m.lab.b.written) ∙ want_same l.lab.b.written flag is ∙ ap (λ ws. list_any is_want (data_bodies ws)) (sym written)
 
-abbrev pub AreSame : (l m : FileLabView) → Type 0
-AreSame l m = (m.lab ≡ l.lab) × (service_of m ≡ service_of l)
+    untold : (other : Served) → served ≡ other → ((ws : List ItemView) → told_want other ws ≡ false) → (ws : List ItemView) → told_want served ws ≡ false
+    untold other at none ws = ap (λ o. told_want o ws) at ∙ none ws
 
-view_same : (l m : FileLabView) → AreSame l m → m ≡ l
-view_same l m h = λ j. record { lab = h.0 j; session = (h.1 j).session; files = (h.1 j).files }
+    by : (work : Work) → ServesBy (service_of l) (service_of m) s.turn served work → (flag || told_want served m.lab.b.written) ≡ wrote_mem m
+    by (NotOpen state) x = rested Rests x.0 refl (untold (told.Ended state) x.2 (λ ws. refl))
+    by Nothing x = rested Rests x.0 refl (untold told.Idle x.2 (λ ws. refl))
+    by Full x = rested Rests x.0 refl (untold told.NoRoom x.2 (λ ws. refl))
+    by LastItem x = rested Reads x.0 refl (untold told.Eof x.2 (λ ws. refl))
+    by (Command body) x =
+        let reply : List ℕ = x.0 in
+        let item : ItemView = record { op = op_data; body = reply } in
+        let u : TurnHappens l.lab (Replies op_data reply) m.lab = subst (λ t. TurnHappens l.lab t m.lab) x.1 s.happens in
+        let written : m.lab.b.written ≡ l.lab.b.written ++ item ∷ [] = ap (λ k. k.b.written) u.after ∙ (replied l.lab op_data reply u.taken).written in
+        ap (λ o. flag || told_want o m.lab.b.written) x.2
+        ∙ ap (λ ws. flag || told_want told.Replied ws) written
+        ∙ want_more l.lab.b.written item flag is
+        ∙ ap (λ ws. list_any is_want (data_bodies ws)) (sym written)
 
-module _ {R E : Type 0} where
-  pub turn_keeps : Laws → (l m : FileLabView) (served : Served) (r : Result R E) → HasMachine l.lab → OnOk r (TurnServes l m served) → OnErr r (AreSame l m) → IsServed l → IsServed m
-  turn_keeps laws l m served (Ok x) machine t s h = serving_keeps laws l m served machine (record { turn = t.0; serves = t.1; happens = t.2 }) h
-  turn_keeps laws l m served (Err x) machine t s h = subst IsServed (sym (view_same l m s)) h
+-- ---- there was no memory
 
-  pub turn_happens : (l m : FileLabView) (served : Served) (r : Result R E) (answer : Result FileStepped LabFault) → OnOk r (TurnServes l m served) → OnErr r (AreSame l m) → IfOk r (λ _. answer ≡ Ok (stepped.Served served)) → IfErr r (λ _. answer ≡ Err fault.NoMemory) → ServeHappens l m answer
-  turn_happens l m served (Ok x) answer t s is isnt = inl (served, record { turn = t.0; serves = t.1; happens = t.2 }, is)
-  turn_happens l m served (Err x) answer t s is isnt = inr (view_same l m s, isnt)
+pub serves_not : (l m : FileLabView) → m ≡ l → ServeHappens l m (Err fault.NoMemory)
+serves_not l m same = inr (same, refl)
+
+-- a laboratory whose parts stayed
+pub stays_sound : (s t : Inside) → t.lab ≡ s.lab → t.server ≡ s.server → t.wanted ≡ s.wanted → IsSound s → IsSound t
+stays_sound s t lab server wanted h = subst IsSound (λ j. record { lab = sym lab j; server = sym server j; wanted = sym wanted j }) h

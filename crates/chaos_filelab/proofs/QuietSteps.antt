@@ -4,24 +4,27 @@ use Rattle.std.specs.Prelude.{slice_get}
 use Rattle.std.proofs.lemmas.Bool.{cond_both, false≢true}
 use Rattle.std.specs.Prelude.{nat_le, nat_lt, ◌&&◌, ◌+◌}
 use Rattle.std.specs.FinSet.{insert}
-use Rattle.std.proofs.lemmas.List.{append-nil, nil_from_length}
+use Rattle.std.proofs.lemmas.List.{append-nil}
 use Rattle.chaos_packet.specs.Item.{ItemView}
 use Rattle.chaos_packet.specs.Opcode.{kind_of}
 use Rattle.chaos_lab.specs.declared.side.Side.{Side}
 use Rattle.chaos_lab.specs.declared.side.Side.TheVariants.{A, B}
 use Rattle.chaos_lab.specs.declared.event.Stepped.{Stepped}
 use Rattle.chaos_lab.specs.declared.fault.LabFault.{LabFault}
-use Rattle.chaos_lab.specs.Machine.{PlainEnd as Plain, Told, Copy, Machine, Row, other, Step, Moves, OrNothing, Accept, Write, Read, Comes, Tick, Resize, Close, End, hear, take_in, read_item, read_next}
+use Rattle.chaos_lab.specs.Machine.{PlainEnd as Plain, Told, Copy, Machine, Row, other, Step, Moves, OrNothing, Reached, Accept, Write, Read, Comes, Tick, Resize, Close, End, hear, take_in, read_item, read_next}
 use Rattle.chaos_lab.specs.Machine.Phase.{RfcSent, RfcReceived}
 use Rattle.chaos_lab.specs.Machine.Told.{Nothing, Acknowledges, Status}
 use Rattle.chaos_lab.specs.Laboratory.{LabView, Happening}
 use Rattle.chaos_lab.specs.Laboratory.Happening.{WriteBy, ReadBy, AnnounceBy, TickOf, CloseBy, AcceptFrom, DeliverCopy}
 use Rattle.chaos_lab.specs.Tied.{Ties, HasMachine, plain_event}
-use Rattle.chaos_lab.proofs.Ends.{IsNew, fits_at}
-use Rattle.chaos_lab.proofs.Machines.{reached_holds}
 use Rattle.chaos_filelab.specs.Bodies.{with_body, data_bodies}
 use Rattle.chaos_filelab.specs.Events.{is_by_server}
 use Rattle.chaos_filelab.proofs.BodyLists.{bodies_append}
+
+-- what an end of the machine has written and read, by its phase
+pub record PhaseLaws : Type 0 where
+  pub answers : (m : Machine) → Reached m → m.b.phase ≡ RfcSent → ⊥
+  pub asked : (m : Machine) → Reached m → m.b.phase ≡ RfcReceived → (m.b.written ≡ []) × (m.b.read ≡ [])
 
 -- an end whose user's commands and replies stay
 pub record Stays (e f : Plain) : Type 0 where
@@ -111,8 +114,8 @@ first_read p e (Some item) none first =
     ∙ ap (λ op. data_bodies e.read ++ with_body (kind_of op) item.body []) (first item refl)
     ∙ append-nil (data_bodies e.read)
 
-accepted : (opn : ItemView) (w v : Machine) (l m : LabView) → Ties w l → Ties v m → Moves (Accept opn) w B v → SameBodies (w.b.written, w.b.read) (v.b.written, v.b.read)
-accepted opn w v l m t u moved = by moved.1
+accepted : PhaseLaws → (opn : ItemView) (w v : Machine) (l m : LabView) → Ties w l → Ties v m → Moves (Accept opn) w B v → SameBodies (w.b.written, w.b.read) (v.b.written, v.b.read)
+accepted laws opn w v l m t u moved = by moved.1
   where
     to : v.b ≡ moved.0
     to = ap (λ n. n.b) moved.2.2
@@ -120,47 +123,44 @@ accepted opn w v l m t u moved = by moved.1
     by : OrNothing (Accept opn) w.a w.b moved.0 → SameBodies (w.b.written, w.b.read) (v.b.written, v.b.read)
     by (inr h) = stays_bodies w.b v.b (stays_same w.b v.b (to ∙ h.1))
     by (inl h) =
-        let holds = reached_holds w t.tied.reached in
-        let new : IsNew B w.b.written w.b.read = (fits_at B w.b RfcReceived holds.b h.0).0 in
-        let nil : w.b.written ≡ [] = nil_from_length w.b.written new.1 in
+        let new = laws.asked w t.tied.reached h.0 in
+        let nil : w.b.written ≡ [] = new.0 in
+        let none : length w.b.read ≡ 0 = ap length new.1 in
         let wrote : v.b.written ≡ w.b.written ++ opn ∷ [] = ap (λ e. e.written) (to ∙ h.1) in
         let got : v.b.read ≡ (read_next w.a w.b).read = ap (λ e. e.read) (to ∙ h.1) in
         let one : v.b.written ≡ opn ∷ [] = wrote ∙ ap (λ ws. ws ++ opn ∷ []) nil in
         let op : opn.op ≡ 2 = (u.tied.items_b.first opn (ap (λ ws. slice_get ws 0) one)).0 in
         record {
           written = ap data_bodies one ∙ ap (λ o. with_body (kind_of o) opn.body []) op ∙ sym (ap data_bodies nil);
-          read = ap data_bodies got ∙ first_read w.a w.b (slice_get w.a.written (length w.b.read)) new.0
-              (λ item at. t.tied.items_a.first item (ap (slice_get w.a.written) (sym new.0) ∙ at));
+          read = ap data_bodies got ∙ first_read w.a w.b (slice_get w.a.written (length w.b.read)) none
+              (λ item at. t.tied.items_a.first item (ap (slice_get w.a.written) (sym none) ∙ at));
         }
 
 -- ---- any event
 
-never_asks : (w : Machine) (l : LabView) → Ties w l → w.b.phase ≡ RfcSent → ⊥
-never_asks w l t is = fits_at B w.b RfcSent (reached_holds w t.tied.reached).b is
-
-stepped : (event : Happening) (w v : Machine) (l m : LabView) → is_by_server event ≡ false → Ties w l → Ties v m → Step w (plain_event l event) v → SameBodies (w.b.written, w.b.read) (v.b.written, v.b.read)
-stepped (WriteBy A op bytes) w v l m isnt t u s = stays_bodies w.b v.b (at_a (Write (record { op = op; body = bytes })) w v s)
-stepped (WriteBy B op bytes) w v l m isnt t u s = absurd (false≢true (sym isnt))
-stepped (ReadBy A) w v l m isnt t u s = stays_bodies w.b v.b (at_a Read w v s)
-stepped (ReadBy B) w v l m isnt t u s = absurd (false≢true (sym isnt))
-stepped (AnnounceBy A window) w v l m isnt t u s = stays_bodies w.b v.b (at_a (Resize window) w v s)
-stepped (AnnounceBy B window) w v l m isnt t u s = stays_bodies w.b v.b (at_b (Resize window) w v (resize_stays window w.a w.b) s)
-stepped (TickOf A now) w v l m isnt t u s = stays_bodies w.b v.b (at_a Tick w v s)
-stepped (TickOf B now) w v l m isnt t u s = stays_bodies w.b v.b (at_b Tick w v (tick_stays w.a w.b) s)
-stepped (CloseBy A text) w v l m isnt t u s = stays_bodies w.b v.b (at_a Close w v s)
-stepped (CloseBy B text) w v l m isnt t u s = stays_bodies w.b v.b (at_b Close w v (close_stays w.a w.b) s)
-stepped (AcceptFrom start) w v l m isnt t u s = accepted _ w v l m t u s
-stepped (DeliverCopy n) w v l m isnt t u s = stays_bodies w.b v.b (comes_to s.0.sender s.0 w v (never_asks w l t) s.3)
+stepped : PhaseLaws → (event : Happening) (w v : Machine) (l m : LabView) → is_by_server event ≡ false → Ties w l → Ties v m → Step w (plain_event l event) v → SameBodies (w.b.written, w.b.read) (v.b.written, v.b.read)
+stepped laws (WriteBy A op bytes) w v l m isnt t u s = stays_bodies w.b v.b (at_a (Write (record { op = op; body = bytes })) w v s)
+stepped laws (WriteBy B op bytes) w v l m isnt t u s = absurd (false≢true (sym isnt))
+stepped laws (ReadBy A) w v l m isnt t u s = stays_bodies w.b v.b (at_a Read w v s)
+stepped laws (ReadBy B) w v l m isnt t u s = absurd (false≢true (sym isnt))
+stepped laws (AnnounceBy A window) w v l m isnt t u s = stays_bodies w.b v.b (at_a (Resize window) w v s)
+stepped laws (AnnounceBy B window) w v l m isnt t u s = stays_bodies w.b v.b (at_b (Resize window) w v (resize_stays window w.a w.b) s)
+stepped laws (TickOf A now) w v l m isnt t u s = stays_bodies w.b v.b (at_a Tick w v s)
+stepped laws (TickOf B now) w v l m isnt t u s = stays_bodies w.b v.b (at_b Tick w v (tick_stays w.a w.b) s)
+stepped laws (CloseBy A text) w v l m isnt t u s = stays_bodies w.b v.b (at_a Close w v s)
+stepped laws (CloseBy B text) w v l m isnt t u s = stays_bodies w.b v.b (at_b Close w v (close_stays w.a w.b) s)
+stepped laws (AcceptFrom start) w v l m isnt t u s = accepted laws _ w v l m t u s
+stepped laws (DeliverCopy n) w v l m isnt t u s = stays_bodies w.b v.b (comes_to s.0.sender s.0 w v (laws.answers w t.tied.reached) s.3)
 
 -- what a step of the laboratory promises
 abbrev pub StepOf : LabView → Happening → LabView → Result Stepped LabFault → Type 0
 StepOf l event m r = OnErr r (m ≡ l) × IfOk r (λ _. (w : Machine) → Ties w l → (v : Machine) × Step w (plain_event l event) v × Ties v m)
 
-pub quiet : (l m : LabView) (event : Happening) (r : Result Stepped LabFault) → HasMachine l → is_by_server event ≡ false → StepOf l event m r → SameBodies (l.b.written, l.b.read) (m.b.written, m.b.read)
-quiet l m event (Err why) h isnt s = record { written = ap (λ k. data_bodies k.b.written) s.0; read = ap (λ k. data_bodies k.b.read) s.0 }
-quiet l m event (Ok x) h isnt s =
+pub quiet : PhaseLaws → (l m : LabView) (event : Happening) (r : Result Stepped LabFault) → HasMachine l → is_by_server event ≡ false → StepOf l event m r → SameBodies (l.b.written, l.b.read) (m.b.written, m.b.read)
+quiet laws l m event (Err why) h isnt s = record { written = ap (λ k. data_bodies k.b.written) s.0; read = ap (λ k. data_bodies k.b.read) s.0 }
+quiet laws l m event (Ok x) h isnt s =
     let v = s.1 h.plain h.ties in
-    let b = stepped event h.plain v.0 l m isnt h.ties v.2 v.1 in
+    let b = stepped laws event h.plain v.0 l m isnt h.ties v.2 v.1 in
     record {
       written = ap data_bodies v.2.written_b ∙ b.written ∙ sym (ap data_bodies h.ties.written_b);
       read = ap data_bodies v.2.read_b ∙ b.read ∙ sym (ap data_bodies h.ties.read_b);

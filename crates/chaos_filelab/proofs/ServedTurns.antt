@@ -7,6 +7,7 @@ use Rattle.chaos_packet.specs.declared.opcode.Kind.{Kind}
 use Rattle.chaos_packet.specs.declared.opcode.Kind.TheVariants as kind
 use Rattle.chaos_window.specs.Send.{next_of}
 use Rattle.chaos_conn.specs.declared.state.State.{State}
+use Rattle.chaos_conn.specs.declared.state.State.TheVariants as st
 use Rattle.chaos_conn.specs.State.{is_open}
 use Rattle.chaos_conn.specs.View.{ConnView}
 use Rattle.chaos_conn.specs.Calls.{can_write, front_of}
@@ -14,9 +15,19 @@ use Rattle.chaos_file.specs.Replies.{memory_change}
 use Rattle.chaos_serve.specs.Work.{Work, NotOpen, Nothing, Full, LastItem, Command, work_of, work_at_front, work_of_kind}
 use Rattle.chaos_serve.specs.Serve.{Serves, ServesConn, ActsTwice, IsReplyTaken}
 use Rattle.chaos_serve.specs.declared.served.Served.{Served}
-use Rattle.chaos_serve.proofs.Taken.{only_open}
 use Rattle.chaos_lab.specs.Turn.{Turn, Rests, Reads, Replies, HasFront, TakesTurn}
 use Rattle.chaos_filelab.specs.Serving.{Service, ServesBy, turned_by}
+
+pub only_open : (s : State) → is_open s ≡ true → s ≡ st.Open
+only_open st.Inactive e = absurd (cc)
+only_open st.RfcSent e = absurd (cc)
+only_open st.RfcReceived e = absurd (cc)
+only_open st.Open e = refl
+only_open st.Answered e = absurd (cc)
+only_open st.ClsReceived e = absurd (cc)
+only_open st.LosReceived e = absurd (cc)
+only_open st.HostDown e = absurd (cc)
+only_open st.Forwarded e = absurd (cc)
 
 -- ---- what is to be done, by the state, the item in front and the room for a reply
 

@@ -1,7 +1,6 @@
 //! The laboratory whose B serves FILE.
-ghost use Rattle.std.specs.Prelude.{◌≡◌, ◌≤◌, length, codes, map, ◌<◌, ℕ, take, Ok, Err, IfOk, IfErr, OnOk, OnErr, true, false, ◌↔◌};
+ghost use Rattle.std.specs.Prelude.{◌≡◌, ◌||◌, ◌≤◌, length, codes, map, ◌<◌, ℕ, take, Ok, Err, IfOk, IfErr, OnOk, OnErr, true, false, ◌↔◌};
 ghost use Rattle.std.specs.FinMap as files;
-ghost use Rattle.std.specs.List.{list_any};
 ghost use Rattle.chaos_file.specs.Session.{new_session};
 ghost use Rattle.chaos_conn.specs.Stored.{stored_packets, stored_bytes};
 ghost use Rattle.chaos_lab.specs.Inside.{happening_of};
@@ -9,7 +8,7 @@ ghost use Rattle.chaos_lab.specs.Laboratory.{lab_end, start_for};
 ghost use Rattle.chaos_lab.specs.Tied.{HasMachine};
 ghost use Rattle.chaos_filelab.specs.View.{FileLabView, commands_of, replies_to_a, wrote_mem};
 ghost use Rattle.chaos_filelab.specs.Events.{At, Serve, FileHappens, LabHappens, ServeHappens, Passes, Runs, StopsWithin, file_event, is_by_server};
-ghost use Rattle.chaos_filelab.specs.Bodies.{is_mem};
+ghost use Rattle.chaos_filelab.specs.Bodies.{is_mem, told_want};
 ghost use Rattle.chaos_filelab.specs.Exact.{IsExact};
 ghost use Rattle.chaos_filelab.specs.Law.{RepliesBegin};
 
@@ -18,7 +17,7 @@ use crate::event::{FileEvent, FileStepped};
 use crate::server::Server;
 use chaos_conn::ConnConfig;
 use chaos_file::{MemStore, Session, is_want, law_memory, law_replies, law_want};
-use chaos_lab::{Event, Lab, LabFault, Side, Stamped};
+use chaos_lab::{Event, Lab, LabFault, Side, Stamped, law_delivery, law_phases};
 use chaos_packet::{Item, Kind, PktNum};
 use chaos_serve::Served;
 use std::alloc::{AllocError, Global};
@@ -34,11 +33,13 @@ const CONTACT: &[u8] = b"FILE";
 pub struct FileLab {
     lab: Lab,
     server: Server,
+    /// Whether B wrote a reply for want of memory.
+    wanted: bool,
 }
 
 impl Model for FileLab {
     ghost use Rattle.chaos_filelab.specs.View.{FileLabView};
-    ghost use Rattle.chaos_filelab.specs.Kept.{IsServed, file_view, files_code};
+    ghost use Rattle.chaos_filelab.specs.Kept.{IsSound, file_view, files_code};
     ghost use Rattle.std.specs.Coded.{codes};
 
     ghost Value = { FileLabView };
@@ -47,7 +48,7 @@ impl Model for FileLab {
 
     ghost view = { file_view };
 
-    ghost invariant = { λ s. IsServed (file_view s) };
+    ghost invariant = { λ s. IsSound s };
 }
 
 impl FileLab {
@@ -67,15 +68,20 @@ impl FileLab {
             store: MemStore::new(alloc),
             served: Served::Idle,
         };
-        Ok(FileLab { lab, server })
+        Ok(FileLab {
+            lab,
+            server,
+            wanted: false,
+        })
     }
 
     /// Lets an event happen. Refused, in this order: `ByServer` for a write and a read at B; what [`Lab::step`] refuses.
     /// Nothing changes then.
+    #[tactic(auto, using(crate::proofs::Exactly::server_exact))]
     pub fn step(&mut self, alloc: Global, event: &FileEvent<'_>) -> Result<FileStepped, LabFault>
         ensures happens { FileHappens self.old (file_event event.now) self.new result }
         ensures refused { OnErr result (self.new ≡ self.old) }
-        // unless B wrote a reply for want of memory, a Serve is a function of what was before
+        // unless B wrote a reply for want of memory, an event is a function of what was before
         ensures exact { wrote_mem self.new ≡ false → IsExact self.old (file_event event.now) self.new result }
     {
         match event {
@@ -114,11 +120,15 @@ impl FileLab {
     }
 
     /// Lets an event of the laboratory happen that is none of B's server.
+    #[tactic(auto, using(crate::proofs::Exactly::at_exact))]
     fn at(&mut self, alloc: Global, event: &Event<'_>) -> Result<FileStepped, LabFault>
         requires { is_by_server (happening_of event.now) ≡ false }
-        ensures { LabHappens self.old (happening_of event.now) self.new result }
+        ensures happens { LabHappens self.old (happening_of event.now) self.new result }
+        ensures refused { OnErr result (self.new ≡ self.old) }
+        ensures exact { IsExact self.old (At (happening_of event.now)) self.new result }
     {
         self.lab.law_headline();
+        law_phases();
         match self.lab.step(alloc, event) {
             Ok(stepped) => Ok(FileStepped::Lab(stepped)),
             Err(why) => Err(why),
@@ -126,18 +136,22 @@ impl FileLab {
     }
 
     /// B's server serves once.
+    #[tactic(auto, using(crate::proofs::KeptSteps::serves_not, crate::proofs::KeptSteps::stays_sound))]
     fn serve(&mut self, alloc: Global) -> Result<FileStepped, LabFault>
         ensures happens { ServeHappens self.old self.new result }
         ensures exact { wrote_mem self.new ≡ false → IsExact self.old Serve self.new result }
     {
         self.lab.law_headline();
+        law_delivery();
         law_replies();
         law_memory();
         law_want();
-        match self.lab.take_turn(alloc, &mut self.server) {
-            Ok(()) => Ok(FileStepped::Served(self.server.served)),
-            Err(_) => Err(LabFault::NoMemory),
-        }
+        let Ok(()) = self.lab.take_turn(alloc, &mut self.server) else {
+            return Err(LabFault::NoMemory);
+        };
+        let served = self.server.served;
+        self.wanted = wanted_after(self.wanted, served, self.lab.written(Side::B));
+        Ok(FileStepped::Served(served))
     }
 
     /// The bodies of the data items that A wrote.
@@ -154,12 +168,11 @@ impl FileLab {
         Bodies::new(self.lab.read(Side::A))
     }
 
-    /// Whether B wrote a reply for want of memory. It looks at each item that B wrote.
-    #[tactic(auto, using(crate::proofs::BodyLists::any_bodies))]
+    /// Whether B wrote a reply for want of memory.
     pub fn wrote_mem(&self) -> bool
         ensures { result ≡ wrote_mem self.now }
     {
-        any_mem(self.lab.written(Side::B))
+        self.wanted
     }
 
     /// Every packet that was sent, with its stamp, the oldest first.
@@ -206,9 +219,19 @@ fn is_mem(item: &Item) -> bool
     item.op.kind() == Kind::Data && is_want(item.bytes())
 }
 
-/// Whether any of these items is one.
-fn any_mem(items: &[Item]) -> bool
-    ensures { result ≡ list_any is_mem items.now }
+/// Whether serving ended with such a reply, which is then the last item that B wrote.
+fn told_want(served: Served, written: &[Item]) -> bool
+    ensures { result ≡ told_want served written.now }
 {
-    items.iter().any(is_mem)
+    match (served, written.last()) {
+        (Served::Replied, Some(reply)) => is_mem(reply),
+        _ => false,
+    }
+}
+
+/// Whether B wrote such a reply: before, or by serving just now.
+fn wanted_after(wanted: bool, served: Served, written: &[Item]) -> bool
+    ensures { result ≡ (wanted || told_want served written.now) }
+{
+    wanted || told_want(served, written)
 }

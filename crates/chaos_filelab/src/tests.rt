@@ -1,3 +1,4 @@
+mod memory;
 mod play;
 mod rows;
 mod sessions;

@@ -37,6 +37,7 @@ use Rattle.chaos_lab.proofs.Copies.{KindOk, len_of}
 use Rattle.chaos_lab.proofs.Calls.{last_item}
 use Rattle.chaos_lab.proofs.Lists.{length-one_more}
 use Rattle.chaos_lab.proofs.Machines.{Holds, copy_at, reached_holds, end_holds}
+use Rattle.chaos_lab.proofs.Phases.{open_met}
 use Rattle.chaos_lab.proofs.OpenEnd.{is_open, open_is}
 use Rattle.chaos_lab.proofs.DeliveryLaw.{beginning, in_turn}
 use Rattle.chaos_lab.proofs.StartTie.{asked_for, asks, tied_start}
@@ -95,6 +96,12 @@ open_by Closed x rest b b' p e end h = let no : st.Inactive ≡ st.Open = h in a
 
 pub open_at : (x : Side) (w : Machine) (l : LabView) → Ties w l → (conn_at l x).state ≡ st.Open → (end_of w x).phase ≡ Open
 open_at x w l t h = let s = stands_at x w l t in open_by (end_of w x).phase x s.0 _ _ (end_of w (other x)) (end_of w x) s.1 (sym (ap (λ v. v.state) s.2) ∙ h)
+
+-- its user has read the first item of the other end
+pub opened : (l : LabView) (x : Side) → HasMachine l → (lab_end l x).conn.state ≡ st.Open → 1 ≤ length (lab_end l x).read
+opened l x h is =
+    subst (λ (xs : List ItemView). 1 ≤ length xs) (sym (read_at x h.plain l h.ties))
+    (open_met h.plain x h.ties.tied.reached (open_at x h.plain l h.ties is)).1
 
 -- and it announces what its connection does
 window_at : (x : Side) (w : Machine) (l : LabView) → Ties w l → (end_of w x).phase ≡ Open → (conn_at l x).recv.window ≡ (end_of w x).announced

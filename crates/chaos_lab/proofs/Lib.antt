@@ -36,5 +36,6 @@ pub mod UserTies
 pub mod CopyTies
 pub mod LabTies
 pub mod Runs
+pub mod Phases
 pub mod HeadlineLaw
 pub mod Turns

@@ -1,6 +1,7 @@
 //! The laboratory.
 ghost use Rattle.std.specs.Prelude.{◌≡◌, true, ◌≤◌, length, slice_get, ℕ, List, ◌∷◌, map, Some, Err, IfOk, OnOk, OnErr};
 ghost use Rattle.chaos_conn.specs.Stored.{stored_packets, stored_bytes};
+ghost use Rattle.chaos_conn.specs.declared.state.State.TheVariants.{Open};
 ghost use Rattle.chaos_packet.specs.Begins.{Begins};
 ghost use Rattle.chaos_packet.specs.Opcode.{is_controlled};
 ghost use Rattle.chaos_packet.specs.Packet.{item_of};
@@ -158,6 +159,8 @@ impl Lab {
         ensures machine { HasMachine self.now }
         // in each direction, what was read is a beginning of what was written
         ensures beginning { (x : Side) → Begins (lab_end self.now (other x)).read (lab_end self.now x).written }
+        // an open end's user has read the first item of the other end
+        ensures opened { (x : Side) → (lab_end self.now x).conn.state ≡ Open → 1 ≤ length (lab_end self.now x).read }
         // each copy of an RFC, an OPN, an EOF or data is a copy of an item that its sender wrote
         ensures items { (copy : ℕ) (s : Stamped) → slice_get self.now.copies copy ≡ Some s → is_controlled s.packet.op ≡ true → (i : ℕ) × IsCopyOf self.now s i }
         // an item that comes to an open end inside its window is what a read answers in its turn, until the end's own user closes

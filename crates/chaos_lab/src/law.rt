@@ -1,13 +1,13 @@
 //! The laws of the plain machine and of packet numbers. A law is a function that does nothing: its contract is the law, and a
 //! caller learns it by the call. Both hold of the definitions in `specs/` alone.
 
-ghost use Rattle.std.specs.Prelude.{◌≡◌, ◌↔◌, ℕ, ◌+◌, ◌-◌, ◌<◌, ◌≤◌, length, true, slice_get};
+ghost use Rattle.std.specs.Prelude.{◌≡◌, ◌↔◌, ℕ, ◌+◌, ◌-◌, ◌<◌, ◌≤◌, [], length, true, slice_get};
 ghost use Rattle.std.specs.FinSet.{contains};
 ghost use Rattle.chaos_packet.specs.Item.{ItemView};
 ghost use Rattle.chaos_packet.specs.Number.{num, off};
 ghost use Rattle.chaos_lab.specs.declared.side.Side.{Side};
 ghost use Rattle.chaos_lab.specs.Machine.{Machine, Event, Schedule, other, FirstMissing, Step, Run, Reached, fresh_span, greatest_window};
-ghost use Rattle.chaos_lab.specs.Machine.Phase.{Open};
+ghost use Rattle.chaos_lab.specs.Machine.Phase.{RfcSent, RfcReceived, Open};
 ghost use Rattle.chaos_lab.specs.Machine.Event.{ReadAt};
 ghost use Rattle.chaos_lab.specs.Numbers.{told_num};
 ghost use Rattle.chaos_packet.specs.Begins.{Begins};
@@ -59,6 +59,18 @@ pub fn law_delivery()
     // no schedule is left out: each event has a step, but for the delivery of a copy that wasn't sent or isn't fresh
     ensures happens { (m : Machine) (event : Event) → CanHappen m event →
         (n : Machine) × Step m event n }
+{}
+
+/// What an end has written and read, by its phase.
+#[tactic(auto, using(crate::proofs::Phases::never_asks, crate::proofs::Phases::new_asked, crate::proofs::Phases::open_met))]
+pub fn law_phases()
+    // B never asks
+    ensures answers { (m : Machine) → Reached m → ¬ (m.b.phase ≡ RfcSent) }
+    // asked, it has neither written nor read anything
+    ensures asked { (m : Machine) → Reached m → m.b.phase ≡ RfcReceived → (m.b.written ≡ []) × (m.b.read ≡ []) }
+    // an open end has written its item 0, and read that of the other
+    ensures met { (m : Machine) (x : Side) → Reached m → (writer m x).phase ≡ Open →
+        (1 ≤ length (writer m x).written) × (1 ≤ length (writer m x).read) }
 {}
 
 /// The law of packet numbers: those of items near one another differ, modulo 65536, as the items' indices do. So an end that

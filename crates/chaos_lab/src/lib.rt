@@ -24,7 +24,7 @@ mod user;
 pub use event::{Event, Stepped};
 pub use fault::LabFault;
 pub use lab::Lab;
-pub use law::{law_delivery, law_limits, law_numbers};
+pub use law::{law_delivery, law_limits, law_numbers, law_phases};
 pub use side::Side;
 pub use stamped::Stamped;
 pub use user::{Turned, User};

@@ -1,4 +1,5 @@
-//! `chaosd`: a thin main over the command line (`chaosd_line`) and the engines (`chaosd_engines`, `chaosd_lab`, `chaosd_file`).
+//! `chaosd`: a thin main over the command line (`chaosd_line`) and the engines (`chaosd_engines`, `chaosd_lab`,
+//! `chaosd_filelab`, `chaosd_file`).
 //! It hands the words to the one, opens the folder and the sockets that they name, hands these with standard input and output to
 //! the others, and ends with their status.
 #![tactic(auto)]
@@ -10,7 +11,7 @@ mod told;
 mod words;
 
 use crate::network::{run_ask_line, run_loop_line, run_serve_line};
-use crate::runs::{run_lab_line, run_show_line};
+use crate::runs::{run_filelab_line, run_lab_line, run_show_line};
 use crate::status::refused_status;
 use crate::words::words_of;
 use chaosd_engines::RunFault;
@@ -30,6 +31,7 @@ where
     match line {
         Line::Show => run_show_line(rt),
         Line::Lab => run_lab_line(rt),
+        Line::FileLab => run_filelab_line(rt),
         Line::Loop => run_loop_line(rt),
         Line::Ask(ask) => run_ask_line(rt, ask),
         Line::Serve(serve) => run_serve_line(rt, serve),

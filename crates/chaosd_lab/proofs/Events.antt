@@ -1,6 +1,6 @@
 -- What one line does.
 use Rattle.std.proofs.Common.{◌≡◌, ◌≢◌, ℕ, ◌≤◌, Bool, List, [], ◌++◌, length, drop, append_assoc, append-nil, refl, ap, subst, ◌∙◌, sym, inl, inr, arith}
-use Rattle.std.specs.Prelude.{Option, Some, None, Result, Ok, Err, is_err, IfOk}
+use Rattle.std.specs.Prelude.{Option, Some, None, Result, Ok, Err, is_err, IfOk, option_map}
 use Rattle.std.proofs.lemmas.List.{drop_all}
 use Rattle.chaos_lab.specs.declared.stamped.Stamped.{Stamped}
 use Rattle.chaos_lab.specs.declared.event.Stepped.{Stepped}
@@ -12,7 +12,8 @@ use Rattle.chaosd_engines.specs.declared.fault.RunFault.{RunFault}
 use Rattle.chaosd_engines.specs.declared.fault.RunFault.TheVariants as run
 use Rattle.chaosd_lab.specs.Answers.{answer_text, refusal_text, copies_text}
 use Rattle.chaosd_lab.specs.Event.{event_of}
-use Rattle.chaosd_lab.specs.Play.{event_text, PlaysLine, refused_or_ended}
+use Rattle.chaosd_script.specs.Script.{PlaysLine}
+use Rattle.chaosd_lab.specs.Play.{event_text, event_done, lab_script, refused_or_ended}
 
 by_answer : (answer : Result Stepped LabFault) (P : Bool → Type 0) → P (is_err answer) → IfOk (refused_or_ended answer) P
 by_answer (Ok stepped) P p = p
@@ -26,16 +27,16 @@ by_answer (Err ByServer) P p = p
 pub line_plays : (line : List ℕ) (before after : LabView) (old mid new : List ℕ) (event : Happening) (answer : Result Stepped LabFault) (result : Result Bool RunFault)
     → event_of line ≡ Some event → Happens before event after answer → mid ≡ old ++ answer_text answer
     → new ≡ mid ++ copies_text (length before.copies) (drop (length before.copies) after.copies) → result ≡ refused_or_ended answer
-    → IfOk result (λ refused. PlaysLine line before after old new refused)
+    → IfOk result (λ refused. PlaysLine lab_script line before after old new refused)
 unfolding event_text
 line_plays line before after old mid new event answer result said happens first last same =
-    let P : Bool → Type 0 = λ refused. PlaysLine line before after old new refused in
+    let P : Bool → Type 0 = λ refused. PlaysLine lab_script line before after old new refused in
     let n = length before.copies in
     let joined : List ℕ = copies_text n (drop n after.copies) in
     subst (λ r. IfOk r P) (sym same) (elim happens [
       | inl h ↦ by_answer answer P (record {
-        event = event;
-        said = said;
+        does = event_done event;
+        said = ap (option_map event_done) said;
         lab = h.0;
         text = last ∙ ap (λ l. l ++ joined) first ∙ append_assoc old (answer_text answer) joined
             ∙ ap (λ a. old ++ (answer_text a ++ joined)) h.1
@@ -79,3 +80,9 @@ line_wants line before after old mid new event answer result said happens first 
             ∙ first ∙ ap (λ a. old ++ answer_text a) none,
       )
     ]
+
+-- ---- a line of no form
+
+pub no_event : (said : Option Happening) → option_map event_done said ≡ None → said ≡ None
+no_event None h = refl
+no_event (Some event) h = absurd (cc)

@@ -1,6 +1,4 @@
 pub mod Digits
 pub mod Copies
 pub mod Events
-pub mod Plays
-pub mod Inputs
-pub mod Ends
+pub mod Wants

@@ -7,4 +7,3 @@ pub mod Names
 pub mod Answers
 pub mod Status
 pub mod Play
-pub mod Player

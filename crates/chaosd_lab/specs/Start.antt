@@ -38,31 +38,35 @@ if_good (Err fault) = None
 abbrev pub config_of : Caps → Option ConfigView
 config_of caps = if_good (checked_config (config_view caps.send caps.recv 500 10000 90000))
 
--- the laboratory of two ends and a first number
-abbrev pub lab_of : Option ConfigView → Option ConfigView → Option ℕ → Option LabView
-lab_of (Some a) (Some b) (Some start) = Some (lab_start a b start)
-lab_of _ _ _ = None
+-- two ends and a first number
+abbrev pub start_parts : Option ConfigView → Option ConfigView → Option ℕ → Option Start
+start_parts (Some a) (Some b) (Some start) = Some (record { a = a; b = b; start = start })
+start_parts _ _ _ = None
 
-abbrev pub with_b : Caps → Option (Caps × List ℕ) → Option LabView
+abbrev pub with_b : Caps → Option (Caps × List ℕ) → Option Start
 with_b a None = None
-with_b a (Some b) = lab_of (config_of a) (config_of b.0) (number_of greatest_number b.1)
+with_b a (Some b) = start_parts (config_of a) (config_of b.0) (number_of greatest_number b.1)
 
-abbrev pub with_a : Option (Caps × List ℕ) → Option LabView
+abbrev pub with_a : Option (Caps × List ℕ) → Option Start
 with_a None = None
 with_a (Some a) = with_b a.0 (caps_of a.1)
 
 -- `SA RA SB RB N`
-abbrev pub ends_of : List ℕ → Option LabView
+abbrev pub ends_of : List ℕ → Option Start
 ends_of rest = with_a (caps_of rest)
 
-abbrev pub first_parts : Option (List ℕ × List ℕ) → Option LabView
+abbrev pub first_parts : Option (List ℕ × List ℕ) → Option Start
 first_parts None = None
 first_parts (Some p) = if bytes_eq p.0 (codes "ends") then ends_of p.1 else None
 
--- the laboratory of the line `ends SA RA SB RB N`, where it is of that form
-unfoldable pub first_of : List ℕ → Option LabView
-first_of line = first_parts (cut line)
+-- what the line `ends SA RA SB RB N` says, where it is of that form
+unfoldable pub start_of : List ℕ → Option Start
+start_of line = first_parts (cut line)
 
--- what the code hands on, as what contracts see
+-- the laboratory of such a start
 abbrev pub start_said : Start → LabView
 start_said s = lab_start s.a s.b s.start
+
+-- the laboratory of that line
+abbrev pub first_of : List ℕ → Option LabView
+first_of line = option_map start_said (start_of line)

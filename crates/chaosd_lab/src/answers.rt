@@ -10,7 +10,7 @@ use chaosd_engines::{NotWritten, WriteBuffer, put_decimal, put_line, put_octal_t
 
 /// A word or more, and a name.
 #[tactic(auto, unfolding(crate::specs::Answers::named_line))]
-fn put_named(out: &mut WriteBuffer, words: &str, name: &str) -> Result<(), NotWritten>
+pub fn put_named(out: &mut WriteBuffer, words: &str, name: &str) -> Result<(), NotWritten>
     ensures { OnOk result (out.new ≡ out.old ++ named_line words.now name.now) }
 {
     out.put(words.as_bytes())?;
@@ -65,7 +65,7 @@ fn put_ticked(out: &mut WriteBuffer, ticked: Ticked) -> Result<(), NotWritten>
 }
 
 /// What an event did that was taken.
-fn put_stepped(out: &mut WriteBuffer, stepped: &Stepped) -> Result<(), NotWritten>
+pub fn put_stepped(out: &mut WriteBuffer, stepped: &Stepped) -> Result<(), NotWritten>
     ensures { OnOk result (out.new ≡ out.old ++ stepped_text stepped.now) }
 {
     match stepped {
@@ -81,7 +81,7 @@ fn put_stepped(out: &mut WriteBuffer, stepped: &Stepped) -> Result<(), NotWritte
 }
 
 /// Why an event was refused.
-fn put_refusal(out: &mut WriteBuffer, fault: LabFault) -> Result<(), NotWritten>
+pub fn put_refusal(out: &mut WriteBuffer, fault: LabFault) -> Result<(), NotWritten>
     ensures { OnOk result (out.new ≡ out.old ++ refusal_text fault) }
 {
     match fault {

@@ -1,8 +1,8 @@
 //! The engine `lab` of the program `chaosd`: scripts of what happens to two ends of a connection in, what came of it out.
 //!
-//! It works on a reader and a writer that its caller hands in, with the laboratory of `chaos_lab`. `fields` divides a line,
-//! `numbers` reads what a field says, `command` is what a line asks for and `parse` reads it, `names` and `answers`
-//! print what came of it, `line` plays a line, `player` one after another, and `run` reads chunks.
+//! It works on a reader and a writer that its caller hands in, with the laboratory of `chaos_lab`, and `chaosd_script` plays its
+//! lines. `fields` divides a line, `numbers` reads what a field says, `command` is what a line asks for and `parse` reads it,
+//! `start` reads the first line, `names` and `answers` print what came of a line, `line` plays it, and `run` is the whole.
 #![tactic(auto)]
 
 mod answers;
@@ -12,12 +12,17 @@ mod line;
 mod names;
 mod numbers;
 mod parse;
-mod player;
 mod run;
 mod start;
 mod status;
 #[cfg(test)]
 mod tests;
 
+pub use answers::{put_copies, put_named, put_refusal, put_stepped, put_stored};
+pub use command::Command;
+pub use line::is_refused;
+pub use names::state_name;
+pub use parse::event_of;
 pub use run::run_lab;
+pub use start::{Start, start_of};
 pub use status::lab_status;

@@ -1,42 +1,95 @@
-//! One line of a script.
-ghost use Rattle.std.specs.Prelude.{◌≡◌, ◌++◌, ◌≢◌, ℕ, Err, None, Some, IfErr, IfOk};
+//! One line of a laboratory's script.
+ghost use Rattle.std.specs.Prelude.{◌≡◌, ◌++◌, ◌≢◌, ℕ, List, Err, None, Some, IfErr, IfOk, OnOk};
 ghost use Rattle.chaosd_lab.specs.Answers.{copies_text, refusal_text};
 ghost use Rattle.chaos_lab.specs.declared.fault.LabFault.TheVariants.{NoMemory};
 ghost use Rattle.chaosd_lab.specs.Event.{event_of};
 ghost use Rattle.chaosd_lab.specs.Start.{first_of};
-ghost use Rattle.chaosd_lab.specs.Play.{PlaysLine, refused_or_ended};
-ghost use Rattle.chaosd_lab.specs.Player.{IsLineFault};
+ghost use Rattle.chaosd_script.specs.Script.{PlaysLine};
+ghost use Rattle.chaosd_lab.specs.Play.{lab_script, end_text, refused_or_ended};
+ghost use Rattle.chaosd_script.specs.Player.{IsLineFault};
 
-use crate::answers::{put_answer, put_copies};
+use crate::answers::{put_answer, put_copies, put_stored};
 use crate::parse::event_of;
-use crate::start::first_of;
-use chaos_lab::{Lab, LabFault, Stepped};
-use chaosd_engines::{RunFault, WriteBuffer, written};
+use crate::start::start_of;
+use chaos_lab::{Lab, LabFault, Side};
+use chaosd_engines::{NotWritten, RunFault, WriteBuffer, written};
+use chaosd_script::Stage;
 use std::alloc::Global;
+use std::marker::Model;
+
+/// The laboratory that a script plays in.
+#[derive(Drop)]
+pub struct LabStage {
+    lab: Lab,
+}
+
+impl Model for LabStage {
+    ghost use Rattle.chaos_lab.specs.Laboratory.{LabView};
+
+    ghost Value = { LabView };
+
+    ghost view = { λ s. s.lab };
+}
+
+impl Stage for LabStage {
+    ghost script = { lab_script };
+
+    fn begin(
+        alloc: Global,
+        out: &mut WriteBuffer,
+        line: &[u8],
+        number: u64,
+    ) -> Result<Self, RunFault> {
+        begin(alloc, out, line, number)
+    }
+
+    fn play(
+        &mut self,
+        alloc: Global,
+        out: &mut WriteBuffer,
+        line: &[u8],
+        number: u64,
+    ) -> Result<bool, RunFault> {
+        play(alloc, &mut self.lab, out, line, number)
+    }
+
+    fn end(&self, out: &mut WriteBuffer) -> Result<(), NotWritten> {
+        put_ends(out, &self.lab)
+    }
+}
 
 /// The laboratory of a first line, and the line of its first copy.
 ///
 /// # Errors
 /// `BadScript` with this number where the line is of no form, `NoMemory`, and `WriteFault` where the text doesn't fit.
-pub fn begin(
+fn begin(
     alloc: Global,
     out: &mut WriteBuffer,
     line: &[u8],
     number: u64,
-) -> Result<Lab, RunFault>
-    ensures begun { IfOk result (λ lab. (first_of line.now ≡ Some lab) × (out.new ≡ out.old ++ copies_text 0 lab.copies)) }
+) -> Result<LabStage, RunFault>
+    ensures begun { IfOk result (λ stage. (first_of line.now ≡ Some stage) × (out.new ≡ out.old ++ copies_text 0 stage.copies)) }
     ensures bad { (n : ℕ) → result ≡ Err (RunFault.BadScript n) → (n ≡ number) × (first_of line.now ≡ None) × (out.new ≡ out.old) }
     ensures no_memory { result ≡ Err RunFault.NoMemory → (first_of line.now ≢ None) × (out.new ≡ out.old) }
     ensures faults { IfErr result (λ fault. IsLineFault fault) }
 {
-    let Some(start) = first_of(line) else {
+    let Some(start) = start_of(line) else {
         return Err(RunFault::BadScript(number));
     };
     let Ok(lab) = Lab::new(alloc, start.a, start.b, start.start) else {
         return Err(RunFault::NoMemory);
     };
     written(put_copies(out, lab.copies(), 0))?;
-    Ok(lab)
+    Ok(LabStage { lab })
+}
+
+/// How many packets both ends store.
+fn put_ends(out: &mut WriteBuffer, lab: &Lab) -> Result<(), NotWritten>
+    ensures { OnOk result (out.new ≡ out.old ++ end_text lab.now) }
+{
+    let (a, _) = lab.stored(Side::A);
+    let (b, _) = lab.stored(Side::B);
+    put_stored(out, a, b)
 }
 
 /// Lets the event of a line happen, writes what came of it, and says whether it was refused.
@@ -44,14 +97,14 @@ pub fn begin(
 /// # Errors
 /// `BadScript` with this number where the line is of no form, `NoMemory`, which is written too, and `WriteFault` where the text
 /// doesn't fit.
-pub fn play(
+fn play(
     alloc: Global,
     lab: &mut Lab,
     out: &mut WriteBuffer,
     line: &[u8],
     number: u64,
 ) -> Result<bool, RunFault>
-    ensures played { IfOk result (λ refused. PlaysLine line.now lab.old lab.new out.old out.new refused) }
+    ensures played { IfOk result (λ refused. PlaysLine lab_script line.now lab.old lab.new out.old out.new refused) }
     ensures bad { (n : ℕ) → result ≡ Err (RunFault.BadScript n) → (n ≡ number) × (event_of line.now ≡ None) × (lab.new ≡ lab.old) × (out.new ≡ out.old) }
     ensures no_memory { result ≡ Err RunFault.NoMemory → (event_of line.now ≢ None) × (lab.new ≡ lab.old) × (out.new ≡ out.old ++ refusal_text NoMemory) }
     ensures faults { IfErr result (λ fault. IsLineFault fault) }
@@ -67,7 +120,7 @@ pub fn play(
 }
 
 /// Whether an event was refused; that there was no memory ends the run.
-fn is_refused(answer: &Result<Stepped, LabFault>) -> Result<bool, RunFault>
+pub fn is_refused<T>(answer: &Result<T, LabFault>) -> Result<bool, RunFault>
     ensures { result ≡ refused_or_ended answer.now }
 {
     match answer {

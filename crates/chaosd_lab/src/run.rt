@@ -2,12 +2,14 @@
 ghost use Rattle.std.specs.Prelude.{◌≡◌, ◌≢◌, ◌<◌, ◌≤◌, ◌+◌, ◌-◌, ◌++◌, [], ℕ, List, Option, Err, Some, None, length, take, OnOk, IfOk, IfErr, IfSome};
 ghost use Rattle.std.specs.Io.KnownBytes.{Appends, IsAtEnd};
 ghost use Rattle.chaosd_engines.specs.Lines.{lines_of, ended_lines};
-ghost use Rattle.chaosd_lab.specs.Play.{Played, play_of, text_of, end_text, IsFirstBad};
-ghost use Rattle.chaosd_engines.specs.Buffer.{written_of};
-ghost use Rattle.chaosd_lab.specs.Player.{PlaysRead, PlaysInput, PlaysAll, StopsRun, want_text};
+ghost use Rattle.chaosd_script.specs.Script.{Played, play_of, text_of, IsFirstBad};
+ghost use Rattle.chaosd_lab.specs.Play.{lab_script, end_text, want_text};
+ghost use Rattle.chaos_lab.specs.Laboratory.{LabView};
+ghost use Rattle.chaosd_script.specs.Player.{PlaysRead};
 
-use crate::player::Player;
-use chaosd_engines::{CHUNK_LEN, INPUT_LIMIT, RunFault, read_chunk};
+use crate::line::LabStage;
+use chaosd_engines::{INPUT_LIMIT, RunFault};
+use chaosd_script::run_script;
 use std::alloc::Global;
 use std::io::{Read, Write};
 
@@ -27,67 +29,25 @@ pub fn run_lab<R: Read, W: Write>(
     writer: &mut W,
 ) -> Result<u64, RunFault>
     // What was written is the text of all lines that were read, and the answer counts the events that were refused.
-    ensures text { IfOk result (λ refused. IfSome (R.remaining reader.old) (λ input. (p : Played) × (play_of (lines_of input) ≡ Some p) × (refused ≡ p.refused)
+    ensures text { IfOk result (λ refused. IfSome (R.remaining reader.old) (λ input. (p : Played LabView) × (play_of lab_script (lines_of input) ≡ Some p) × (refused ≡ p.refused)
         × Appends (W.contents writer.old) (W.contents writer.new) (p.text ++ end_text p.lab))) }
     ensures ended { OnOk result (IsAtEnd (R.remaining reader.new)) }
     ensures within { OnOk result (IfSome (R.remaining reader.old) (λ input. length input ≤ INPUT_LIMIT)) }
 
     // The line that is told is the first that is missing or of no form, and the text of the lines before it was written.
     ensures bad { (number : ℕ) → result ≡ Err (RunFault.BadScript number) → IfSome (R.remaining reader.old) (λ input.
-        IsFirstBad number (lines_of input) × Appends (W.contents writer.old) (W.contents writer.new) (text_of (play_of (take (number - 1) (lines_of input))))) }
+        IsFirstBad lab_script number (lines_of input) × Appends (W.contents writer.old) (W.contents writer.new) (text_of (play_of lab_script (take (number - 1) (lines_of input))))) }
 
     // A script is refused as too long only where it is, and the lines that ended within the limit were played.
     ensures too_long { result ≡ Err RunFault.InputTooLong → IfSome (R.remaining reader.old) (λ input.
-        (INPUT_LIMIT < length input) × Appends (W.contents writer.old) (W.contents writer.new) (text_of (play_of (ended_lines (take INPUT_LIMIT input))))) }
+        (INPUT_LIMIT < length input) × Appends (W.contents writer.old) (W.contents writer.new) (text_of (play_of lab_script (ended_lines (take INPUT_LIMIT input))))) }
 
     // Where the reader failed, the lines that ended in what it had given were played, and no more.
-    ensures unread { result ≡ Err RunFault.ReadFault → PlaysRead (R.remaining reader.old) (R.remaining reader.new) (W.contents writer.old) (W.contents writer.new) }
+    ensures unread { result ≡ Err RunFault.ReadFault → PlaysRead lab_script (R.remaining reader.old) (R.remaining reader.new) (W.contents writer.old) (W.contents writer.new) }
 
     // At want of memory the lines before were played, and an event that met it is told; the line is of the form of its place.
-    ensures no_memory { result ≡ Err RunFault.NoMemory → IfSome (R.remaining reader.old) (λ input. (n : ℕ) × (n < length (lines_of input)) × (play_of (take (n + 1) (lines_of input)) ≢ None)
-        × Appends (W.contents writer.old) (W.contents writer.new) (text_of (play_of (take n (lines_of input))) ++ want_text n)) }
+    ensures no_memory { result ≡ Err RunFault.NoMemory → IfSome (R.remaining reader.old) (λ input. (n : ℕ) × (n < length (lines_of input)) × (play_of lab_script (take (n + 1) (lines_of input)) ≢ None)
+        × Appends (W.contents writer.old) (W.contents writer.new) (text_of (play_of lab_script (take n (lines_of input))) ++ want_text n)) }
 {
-    let mut player = Player::new(alloc);
-    let end = play_all(&mut player, reader, writer);
-    if let Err(RunFault::WriteFault) = end {
-        return Err(RunFault::WriteFault);
-    }
-    player.hand_on(writer)?;
-    end?;
-    Ok(player.refused)
-}
-
-/// Plays all lines.
-fn play_all<R: Read, W: Write>(
-    player: &mut Player,
-    reader: &mut R,
-    writer: &mut W,
-) -> Result<(), RunFault>
-    requires { player.old.lines ≡ 0 }
-    ensures plays { OnOk result ((before : Option (List ℕ))
-        → PlaysInput before (written_of (W.contents writer.old) player.old.out) player.old.lab player.old.lines player.old.refused player.old.line.items []
-        → IfSome (R.remaining reader.old) (PlaysAll before (written_of (W.contents writer.new) player.new.out) player.new.refused)) }
-    ensures ended { OnOk result (IsAtEnd (R.remaining reader.new)) }
-    ensures within { OnOk result (IfSome (R.remaining reader.old) (λ input. length input ≤ INPUT_LIMIT)) }
-    ensures stops { IfErr result (λ fault. (before : Option (List ℕ))
-        → PlaysInput before (written_of (W.contents writer.old) player.old.out) player.old.lab player.old.lines player.old.refused player.old.line.items []
-        → StopsRun (R.remaining reader.old) (R.remaining reader.new) before (written_of (W.contents writer.new) player.new.out) fault) }
-{
-    let mut chunk = [0; CHUNK_LEN];
-    let mut interruptions = 0;
-    let mut room = INPUT_LIMIT;
-    'reads: loop {
-        player.hand_on(writer)?;
-        let count = read_chunk(reader, &mut chunk, &mut interruptions)?;
-        if count == 0 {
-            break 'reads;
-        }
-        let within = count.min(room);
-        player.feed(writer, &chunk[..within])?;
-        if within < count {
-            return Err(RunFault::InputTooLong);
-        }
-        room -= within;
-    }
-    player.finish(writer)
+    run_script::<LabStage, R, W>(alloc, reader, writer)
 }

@@ -1,6 +1,6 @@
 //! The first line, which says what both ends are.
 ghost use Rattle.std.specs.Prelude.{◌≡◌, option_map};
-ghost use Rattle.chaosd_lab.specs.Start.{caps_of, cap_of, config_of, ends_of, first_of, start_said};
+ghost use Rattle.chaosd_lab.specs.Start.{caps_of, cap_of, config_of, ends_of, start_of};
 
 use crate::fields::cut;
 use crate::numbers::number_of;
@@ -60,7 +60,7 @@ fn config_of(caps: Caps) -> Option<ConnConfig>
 
 /// `SA RA SB RB N`.
 fn ends_of(rest: &[u8]) -> Option<Start>
-    ensures { option_map start_said result ≡ ends_of rest.now }
+    ensures { result ≡ ends_of rest.now }
 {
     let (a, rest) = caps_of(rest)?;
     let (b, rest) = caps_of(rest)?;
@@ -75,9 +75,9 @@ fn ends_of(rest: &[u8]) -> Option<Start>
 }
 
 /// What the line `ends SA RA SB RB N` says, where it is of that form.
-#[tactic(auto, unfolding(crate::specs::Start::first_of))]
-pub fn first_of(line: &[u8]) -> Option<Start>
-    ensures { option_map start_said result ≡ first_of line.now }
+#[tactic(auto, unfolding(crate::specs::Start::start_of))]
+pub fn start_of(line: &[u8]) -> Option<Start>
+    ensures { result ≡ start_of line.now }
 {
     let (word, rest) = cut(line)?;
     if word == b"ends".as_slice() {

@@ -65,6 +65,7 @@ same_ask rows s t h k = record {
 abbrev letter : Line → ℕ
 letter line.Show = 104
 letter line.Lab = 97
+letter line.FileLab = 105
 letter line.Loop = 111
 letter (line.Serve x) = 101
 letter (line.Ask x) = 115
@@ -72,6 +73,7 @@ letter (line.Ask x) = 115
 letter_is : (name : Text) (rows : List Row) (x : Line) → IsLine name rows x → slice_index name 1 ≡ letter x
 letter_is name rows line.Show h = ap (λ t. slice_index t 1) h
 letter_is name rows line.Lab h = ap (λ t. slice_index t 1) h
+letter_is name rows line.FileLab h = ap (λ t. slice_index t 1) h
 letter_is name rows line.Loop h = ap (λ t. slice_index t 1) h
 letter_is name rows (line.Serve x) h = ap (λ t. slice_index t 1) h.0
 letter_is name rows (line.Ask x) h = ap (λ t. slice_index t 1) h.0
@@ -83,6 +85,8 @@ same_line : (name : Text) (rows : List Row) (x y : Line) → IsLine name rows x 
 same_line name rows line.Show line.Show h k = refl
 same_line name rows line.Show line.Lab h k =
     let e : ◌≡◌ {A = ℕ} 104 97 = same_letter name rows line.Show line.Lab h k in absurd (omega arith)
+same_line name rows line.Show line.FileLab h k =
+    let e : ◌≡◌ {A = ℕ} 104 105 = same_letter name rows line.Show line.FileLab h k in absurd (omega arith)
 same_line name rows line.Show line.Loop h k =
     let e : ◌≡◌ {A = ℕ} 104 111 = same_letter name rows line.Show line.Loop h k in absurd (omega arith)
 same_line name rows line.Show (line.Serve t) h k =
@@ -92,16 +96,31 @@ same_line name rows line.Show (line.Ask t) h k =
 same_line name rows line.Lab line.Show h k =
     let e : ◌≡◌ {A = ℕ} 97 104 = same_letter name rows line.Lab line.Show h k in absurd (omega arith)
 same_line name rows line.Lab line.Lab h k = refl
+same_line name rows line.Lab line.FileLab h k =
+    let e : ◌≡◌ {A = ℕ} 97 105 = same_letter name rows line.Lab line.FileLab h k in absurd (omega arith)
 same_line name rows line.Lab line.Loop h k =
     let e : ◌≡◌ {A = ℕ} 97 111 = same_letter name rows line.Lab line.Loop h k in absurd (omega arith)
 same_line name rows line.Lab (line.Serve t) h k =
     let e : ◌≡◌ {A = ℕ} 97 101 = same_letter name rows line.Lab (line.Serve t) h k in absurd (omega arith)
 same_line name rows line.Lab (line.Ask t) h k =
     let e : ◌≡◌ {A = ℕ} 97 115 = same_letter name rows line.Lab (line.Ask t) h k in absurd (omega arith)
+same_line name rows line.FileLab line.Show h k =
+    let e : ◌≡◌ {A = ℕ} 105 104 = same_letter name rows line.FileLab line.Show h k in absurd (omega arith)
+same_line name rows line.FileLab line.Lab h k =
+    let e : ◌≡◌ {A = ℕ} 105 97 = same_letter name rows line.FileLab line.Lab h k in absurd (omega arith)
+same_line name rows line.FileLab line.FileLab h k = refl
+same_line name rows line.FileLab line.Loop h k =
+    let e : ◌≡◌ {A = ℕ} 105 111 = same_letter name rows line.FileLab line.Loop h k in absurd (omega arith)
+same_line name rows line.FileLab (line.Serve t) h k =
+    let e : ◌≡◌ {A = ℕ} 105 101 = same_letter name rows line.FileLab (line.Serve t) h k in absurd (omega arith)
+same_line name rows line.FileLab (line.Ask t) h k =
+    let e : ◌≡◌ {A = ℕ} 105 115 = same_letter name rows line.FileLab (line.Ask t) h k in absurd (omega arith)
 same_line name rows line.Loop line.Show h k =
     let e : ◌≡◌ {A = ℕ} 111 104 = same_letter name rows line.Loop line.Show h k in absurd (omega arith)
 same_line name rows line.Loop line.Lab h k =
     let e : ◌≡◌ {A = ℕ} 111 97 = same_letter name rows line.Loop line.Lab h k in absurd (omega arith)
+same_line name rows line.Loop line.FileLab h k =
+    let e : ◌≡◌ {A = ℕ} 111 105 = same_letter name rows line.Loop line.FileLab h k in absurd (omega arith)
 same_line name rows line.Loop line.Loop h k = refl
 same_line name rows line.Loop (line.Serve t) h k =
     let e : ◌≡◌ {A = ℕ} 111 101 = same_letter name rows line.Loop (line.Serve t) h k in absurd (omega arith)
@@ -111,6 +130,8 @@ same_line name rows (line.Serve s) line.Show h k =
     let e : ◌≡◌ {A = ℕ} 101 104 = same_letter name rows (line.Serve s) line.Show h k in absurd (omega arith)
 same_line name rows (line.Serve s) line.Lab h k =
     let e : ◌≡◌ {A = ℕ} 101 97 = same_letter name rows (line.Serve s) line.Lab h k in absurd (omega arith)
+same_line name rows (line.Serve s) line.FileLab h k =
+    let e : ◌≡◌ {A = ℕ} 101 105 = same_letter name rows (line.Serve s) line.FileLab h k in absurd (omega arith)
 same_line name rows (line.Serve s) line.Loop h k =
     let e : ◌≡◌ {A = ℕ} 101 111 = same_letter name rows (line.Serve s) line.Loop h k in absurd (omega arith)
 same_line name rows (line.Serve s) (line.Serve t) h k = (t, refl, same_serve rows s t h.1 k.1)
@@ -120,6 +141,8 @@ same_line name rows (line.Ask s) line.Show h k =
     let e : ◌≡◌ {A = ℕ} 115 104 = same_letter name rows (line.Ask s) line.Show h k in absurd (omega arith)
 same_line name rows (line.Ask s) line.Lab h k =
     let e : ◌≡◌ {A = ℕ} 115 97 = same_letter name rows (line.Ask s) line.Lab h k in absurd (omega arith)
+same_line name rows (line.Ask s) line.FileLab h k =
+    let e : ◌≡◌ {A = ℕ} 115 105 = same_letter name rows (line.Ask s) line.FileLab h k in absurd (omega arith)
 same_line name rows (line.Ask s) line.Loop h k =
     let e : ◌≡◌ {A = ℕ} 115 111 = same_letter name rows (line.Ask s) line.Loop h k in absurd (omega arith)
 same_line name rows (line.Ask s) (line.Serve t) h k =

@@ -50,8 +50,10 @@ abbrev pub chaosd : App
 chaosd = with_subcommand
     (with_subcommand
     (with_subcommand
+    (with_subcommand
     (with_subcommand (with_subcommand bare_chaosd (new_app (codes "show")).top)
     (new_app (codes "lab")).top)
+    (new_app (codes "filelab")).top)
     (new_app (codes "loop")).top)
     serve_command.top)
     ask_command.top

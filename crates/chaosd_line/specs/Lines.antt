@@ -28,6 +28,7 @@ pub record IsAsk (rows : List Row) (ask : Ask) : Type 0 where
 abbrev pub IsLine : Text → List Row → Line → Type 0
 IsLine name rows line.Show = name ≡ codes "show"
 IsLine name rows line.Lab = name ≡ codes "lab"
+IsLine name rows line.FileLab = name ≡ codes "filelab"
 IsLine name rows line.Loop = name ≡ codes "loop"
 IsLine name rows (line.Serve serve) = (name ≡ codes "serve") × IsServe rows serve
 IsLine name rows (line.Ask ask) = (name ≡ codes "ask") × IsAsk rows ask

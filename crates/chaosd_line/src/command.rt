@@ -121,7 +121,8 @@ pub(crate) fn command<'a>(alloc: Global) -> Result<Command<'a>, AllocError>
 {
     let showing = with_plain(alloc, bare(alloc)?, "show", help::SHOW)?;
     let trying = with_plain(alloc, showing, "lab", help::LAB)?;
-    let looping = with_plain(alloc, trying, "loop", help::LOOP)?;
+    let filing = with_plain(alloc, trying, "filelab", help::FILELAB)?;
+    let looping = with_plain(alloc, filing, "loop", help::LOOP)?;
     let serving = with_serve(alloc, looping)?;
     with_ask(alloc, serving)
 }

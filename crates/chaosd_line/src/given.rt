@@ -124,6 +124,7 @@ pub(crate) fn line_of<'a>(matches: &ArgMatches<'a>) -> Result<Line<'a>, BadWord<
     match matches.subcommand() {
         Some(("show", _)) => Ok(Line::Show),
         Some(("lab", _)) => Ok(Line::Lab),
+        Some(("filelab", _)) => Ok(Line::FileLab),
         Some(("loop", _)) => Ok(Line::Loop),
         Some(("serve", values)) => Ok(Line::Serve(serve_of(values)?)),
         Some(("ask", values)) => Ok(Line::Ask(ask_of(values)?)),

@@ -20,6 +20,10 @@ pub(crate) const SHOW: &str =
 pub(crate) const LAB: &str =
     "A script of two connections from standard input, to what each line did";
 
+/// What the help says of `filelab`.
+pub(crate) const FILELAB: &str =
+    "A script of a FILE client and its server from standard input, to what each line did";
+
 /// What the help says of `loop`.
 pub(crate) const LOOP: &str =
     "A FILE script from standard input, put by one host to another in this process, to its replies";

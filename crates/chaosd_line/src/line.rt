@@ -11,6 +11,8 @@ pub enum Line<'a> {
     Show,
     /// `chaosd lab`: a script of two connections from standard input, to what each line did.
     Lab,
+    /// `chaosd filelab`: a script of a client of FILE and its server from standard input, to what each line did.
+    FileLab,
     /// `chaosd loop`: a FILE script from standard input between two hosts in one process.
     Loop,
     /// `chaosd serve`: the FILE service of a folder, to other hosts.

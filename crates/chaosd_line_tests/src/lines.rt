@@ -26,6 +26,7 @@ fn plain_subcommands_are_lines(rt: HostRuntime) {
     assert!(rt; matches!(parse_line(alloc, &["show"]), Ok(Line::Show)));
     assert!(rt; matches!(read_line(alloc, &["show"]), Ok(Line::Show)));
     assert!(rt; matches!(read_line(alloc, &["lab"]), Ok(Line::Lab)));
+    assert!(rt; matches!(read_line(alloc, &["filelab"]), Ok(Line::FileLab)));
     assert!(rt; matches!(read_line(alloc, &["loop"]), Ok(Line::Loop)));
 }
 

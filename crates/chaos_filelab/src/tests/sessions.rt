@@ -7,7 +7,7 @@ use chaos_serve::Served;
 use std::process::Abort;
 use std::test::Fail;
 
-const COMMANDS: [&[u8]; 7] = [
+pub const COMMANDS: [&[u8]; 7] = [
     b"T1  LOGIN LISPM",
     b"T2 H1 OPEN WRITE\x8dA.LISP",
     b"T3 H1 WRITE\x8d(A)",
@@ -17,7 +17,7 @@ const COMMANDS: [&[u8]; 7] = [
     b"T7 H2 READ",
 ];
 
-const REPLIES: [&[u8]; 7] = [
+pub const REPLIES: [&[u8]; 7] = [
     b"T1  LOGIN LISPM",
     b"T2 H1 OPEN 0",
     b"T3 H1 WRITE 3",
@@ -28,7 +28,7 @@ const REPLIES: [&[u8]; 7] = [
 ];
 
 /// Delivers each copy from this one on, twice; how many there are then.
-fn deliver_twice(play: &mut Play, from: usize) -> usize {
+pub fn deliver_twice(play: &mut Play, from: usize) -> usize {
     let mut next = from;
     for _ in 0..100 {
         if next >= play.lab.copies().len() {

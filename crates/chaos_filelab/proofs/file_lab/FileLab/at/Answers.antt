@@ -1,9 +1,11 @@
-use Rattle.std.proofs.Common.{rules, ◌≡◌, false, refl}
+use Rattle.std.proofs.Common.{rules, ◌≡◌, false, refl, sym, ap, ◌∙◌}
+use Rattle.std.specs.List.{list_any}
 use Rattle.chaos_lab.specs.Inside.{happening_of}
+use Rattle.chaos_file.specs.Want.{is_want}
 use Rattle.chaos_filelab.specs.View.{FileLabView}
 use Rattle.chaos_filelab.specs.Events.{is_by_server}
 use Rattle.chaos_filelab.specs.Kept.{file_view}
-use Rattle.chaos_filelab.proofs.QuietSteps.{quiet}
+use Rattle.chaos_filelab.proofs.QuietSteps.{PhaseLaws, quiet}
 use Rattle.chaos_filelab.proofs.KeptSteps.{same_keeps}
 use Rattle.chaos_filelab.proofs.file_lab.FileLab.at.Goals as goal
 
@@ -11,8 +13,11 @@ use Rattle.chaos_filelab.proofs.file_lab.FileLab.at.Goals as goal
 pub invariant_of-self : goal.invariant_of-self
 invariant_of-self c =
     let l : FileLabView = file_view c.self.inside in
-    let m : FileLabView = file_view (record { lab = c.step.new.self; server = c.self.inside.server }) in
+    let m : FileLabView = file_view (record { lab = c.step.new.self; server = c.self.inside.server; wanted = c.self.inside.wanted }) in
     let isnt : is_by_server (happening_of c.args.event.now) ≡ false = search rules in
-    same_keeps l m
-    (quiet c.self.inside.lab c.step.new.self (happening_of c.args.event.now) c.step.result c.law_headline.ensures.machine isnt (c.step.ensures.refused, c.step.ensures.machine))
-    refl refl c.self.invariant
+    let laws : PhaseLaws = record { answers = c.law_phases.ensures.answers; asked = c.law_phases.ensures.asked } in
+    let same = quiet laws c.self.inside.lab c.step.new.self (happening_of c.args.event.now) c.step.result c.law_headline.ensures.machine isnt (c.step.ensures.refused, c.step.ensures.machine) in
+    record {
+      served = same_keeps l m same refl refl c.self.invariant.served;
+      flag = c.self.invariant.flag ∙ ap (list_any is_want) (sym same.written);
+    }

@@ -5,7 +5,7 @@ use Rattle.chaos_lab.specs.declared.side.Side.TheVariants.{A, B}
 use Rattle.chaos_lab.specs.Machine.{other}
 use Rattle.chaos_lab.specs.Laboratory.{LabView, lab_end}
 use Rattle.chaos_filelab.specs.View.{FileLabView}
-use Rattle.chaos_filelab.specs.Kept.{IsServed}
+use Rattle.chaos_filelab.specs.Kept.{IsServed, file_view}
 use Rattle.chaos_filelab.proofs.RepliesLaw.{replies_begin}
 use Rattle.chaos_filelab.proofs.file_lab.FileLab.law_replies.Goals as goal
 
@@ -15,5 +15,6 @@ returns-clause-replies c =
     let l : FileLabView = c.args.self.now in
     let lab : c.self.inside.lab ≡ l.lab = search rules in
     let begins = subst (λ (k : LabView). (x : Side) → Begins (lab_end k (other x)).read (lab_end k x).written) lab c.law_headline.ensures.beginning in
-    let served : IsServed l = search rules in
+    let view : file_view c.self.inside ≡ l = search rules in
+    let served : IsServed l = subst IsServed view c.self.invariant.served in
     replies_begin l c.law_replies.ensures.go_on (begins B) (begins A) served

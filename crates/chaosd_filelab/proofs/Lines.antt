@@ -1,0 +1,94 @@
+-- What one line does.
+use Rattle.std.proofs.Common.{◌≡◌, ◌≢◌, ℕ, ◌≤◌, Bool, false, List, [], ◌++◌, length, drop, append_assoc, append-nil, refl, ap, subst, ◌∙◌, sym, inl, inr, arith}
+use Rattle.std.specs.Prelude.{◌⊎◌, Option, Some, None, Result, Ok, Err, is_err, IfOk, OnErr, option_map}
+use Rattle.std.proofs.lemmas.List.{drop_all}
+use Rattle.chaos_lab.specs.declared.stamped.Stamped.{Stamped}
+use Rattle.chaos_lab.specs.declared.fault.LabFault.{LabFault}
+use Rattle.chaos_lab.specs.declared.fault.LabFault.TheVariants.{NoSuchCopy, Stale, Refused, NoMemory, ByServer}
+use Rattle.chaos_filelab.specs.declared.event.FileStepped.{FileStepped}
+use Rattle.chaos_filelab.specs.View.{FileLabView, wrote_mem}
+use Rattle.chaos_filelab.specs.Events.{FileHappening}
+use Rattle.chaos_filelab.specs.Exact.{file_happen, IsExact}
+use Rattle.chaosd_engines.specs.declared.fault.RunFault.{RunFault}
+use Rattle.chaosd_engines.specs.declared.fault.RunFault.TheVariants as run
+use Rattle.chaosd_lab.specs.Answers.{refusal_text, copies_text}
+use Rattle.chaosd_lab.specs.Play.{refused_or_ended}
+use Rattle.chaosd_script.specs.Script.{PlaysLine}
+use Rattle.chaosd_filelab.specs.Answers.{file_answer_text}
+use Rattle.chaosd_filelab.specs.Event.{file_line_of}
+use Rattle.chaosd_filelab.specs.Play.{event_text, event_done, filelab_script}
+
+by_answer : (answer : Result FileStepped LabFault) (P : Bool → Type 0) → P (is_err answer) → IfOk (refused_or_ended answer) P
+by_answer (Ok stepped) P p = p
+by_answer (Err NoSuchCopy) P p = p
+by_answer (Err Stale) P p = p
+by_answer (Err (Refused why)) P p = p
+by_answer (Err NoMemory) P p = tt
+by_answer (Err ByServer) P p = p
+
+-- a line whose event was let happen
+pub line_plays : (line : List ℕ) (before after : FileLabView) (old mid new : List ℕ) (event : FileHappening) (answer : Result FileStepped LabFault) (result : Result Bool RunFault)
+    → file_line_of line ≡ Some event → IsExact before event after answer → mid ≡ old ++ file_answer_text answer
+    → new ≡ mid ++ copies_text (length before.lab.copies) (drop (length before.lab.copies) after.lab.copies) → result ≡ refused_or_ended answer → wrote_mem after ≡ false
+    → IfOk result (λ refused. PlaysLine filelab_script line before after old new refused × (wrote_mem after ≡ false))
+unfolding event_text
+line_plays line before after old mid new event answer result said exact first last same none =
+    let P : Bool → Type 0 = λ refused. PlaysLine filelab_script line before after old new refused × (wrote_mem after ≡ false) in
+    let n = length before.lab.copies in
+    let joined : List ℕ = copies_text n (drop n after.lab.copies) in
+    subst (λ r. IfOk r P) (sym same) (elim exact [
+      | inl h ↦ by_answer answer P (record {
+        does = event_done event;
+        said = ap (option_map event_done) said;
+        lab = h.0;
+        text = last ∙ ap (λ l. l ++ joined) first ∙ append_assoc old (file_answer_text answer) joined
+            ∙ ap (λ a. old ++ (file_answer_text a ++ joined)) h.1
+            ∙ ap (λ (l : FileLabView). old ++ (file_answer_text (file_happen before event).answer ++ copies_text n (drop n l.lab.copies))) h.0;
+        count = ap is_err h.1;
+      }, none)
+      | inr h ↦ subst (λ a. IfOk (refused_or_ended a) P) (sym h.1) tt
+    ])
+
+-- ---- want of memory
+
+is_want : (answer : Result FileStepped LabFault) → refused_or_ended answer ≡ Err run.NoMemory → answer ≡ Err NoMemory
+is_want (Ok stepped) h = absurd (cc)
+is_want (Err NoSuchCopy) h = absurd (cc)
+is_want (Err Stale) h = absurd (cc)
+is_want (Err (Refused why)) h = absurd (cc)
+is_want (Err NoMemory) h = refl
+is_want (Err ByServer) h = absurd (cc)
+
+no_copies : (copies : List Stamped) (n : ℕ) → length copies ≤ n → copies_text n (drop n copies) ≡ []
+unfolding copies_text
+no_copies copies n le = ap (copies_text n) (drop_all n copies le)
+
+pub some_said : (said : Option FileHappening) (event : FileHappening) → said ≡ Some event → said ≢ None
+some_said None event h none = absurd (cc)
+some_said (Some e) event h none = cc
+
+-- a refused event changes nothing
+pub not_wanted : {X E P : Type 0} (answer : Result X E) (why : E) → OnErr answer P → answer ≡ Err why → P
+not_wanted (Ok x) why h is = absurd (cc)
+not_wanted (Err e) why h is = h
+
+pub line_wants : (before after : FileLabView) (old mid new : List ℕ) (answer : Result FileStepped LabFault) (result : Result Bool RunFault)
+    → (answer ≡ Err NoMemory → after ≡ before) → mid ≡ old ++ file_answer_text answer
+    → new ≡ mid ++ copies_text (length before.lab.copies) (drop (length before.lab.copies) after.lab.copies) → result ≡ refused_or_ended answer → result ≡ Err run.NoMemory
+    → new ≡ old ++ refusal_text NoMemory
+line_wants before after old mid new answer result refused first last same wants =
+    let n = length before.lab.copies in
+    let none : answer ≡ Err NoMemory = is_want answer (sym same ∙ wants) in
+    last ∙ ap (λ (l : FileLabView). mid ++ copies_text n (drop n l.lab.copies)) (refused none) ∙ ap (λ l. mid ++ l) (no_copies before.lab.copies n (omega arith)) ∙ append-nil mid
+    ∙ first ∙ ap (λ a. old ++ file_answer_text a) none
+
+-- ---- what the language says
+
+pub no_event : (said : Option FileHappening) → option_map event_done said ≡ None → said ≡ None
+no_event None h = refl
+no_event (Some event) h = absurd (cc)
+
+-- want of memory is told, or nothing is printed
+pub want_printed : (old new : List ℕ) → (new ≡ old ++ refusal_text NoMemory) ⊎ (new ≡ old) → (text : List ℕ) × filelab_script.wants text × (new ≡ old ++ text)
+want_printed old new (inl more) = (refusal_text NoMemory, inl refl, more)
+want_printed old new (inr same) = ([], inr refl, same ∙ sym (append-nil old))

@@ -1,0 +1,5 @@
+pub mod Command
+pub mod Event
+pub mod Start
+pub mod Answers
+pub mod Play

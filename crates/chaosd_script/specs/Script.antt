@@ -1,0 +1,84 @@
+-- Scripts: what their lines say, and their text as a fold over the lines.
+use Rattle.std.specs.Prelude.{◌≡◌, ◌≢◌, ℕ, ◌+◌, ◌<◌, Bool, List, [], ◌∷◌, ◌++◌, length, take, Option, Some, None, option_map, nat_lt, if◌then◌else◌}
+use Rattle.std.specs.Io.BufRead.{strip_last}
+use Rattle.chaosd_engines.specs.declared.limits.TheConstants.{LINE_LIMIT}
+
+-- what a line did in a laboratory: the laboratory after it, what is printed of it, and whether its event was refused
+pub record Done (X : Type 0) : Type 0 where
+  pub lab : X
+  pub text : List ℕ
+  pub is_refused : Bool
+
+-- The language of a script whose laboratories look so.
+pub record Script (X : Type 0) : Type 1 where
+  -- the laboratory of a first line, where it is of that form, and what is printed of it
+  pub first : List ℕ → Option X
+  pub begun : X → List ℕ
+  -- what a later line does, where it is of the form of one
+  pub event : List ℕ → Option (X → Done X)
+  -- what is printed at the end
+  pub ended : X → List ℕ
+  -- the laboratories in which lines do what `event` says
+  pub ready : X → Type 0
+  -- what may be printed of an event that meets want of memory
+  pub wants : List ℕ → Type 0
+
+-- what was played: the laboratory, what was printed, and how many events were refused
+pub record Played (X : Type 0) : Type 0 where
+  pub lab : X
+  pub text : List ℕ
+  pub refused : ℕ
+
+-- a laboratory that was just made
+abbrev pub start_play : {X : Type 0} → Script X → X → Played X
+start_play script l = record { lab = l; text = script.begun l; refused = 0 }
+
+-- one event more
+abbrev pub with_done : {X : Type 0} → Played X → Done X → Played X
+with_done p d = record {
+  lab = d.lab;
+  text = p.text ++ d.text;
+  refused = p.refused + (if d.is_refused then 1 else 0);
+}
+
+-- what a line says by this reading, where it isn't too long. A byte 13 at its end is ignored
+abbrev pub says_by : {X : Type 0} → (List ℕ → Option X) → List ℕ → Option X
+says_by reading raw = if nat_lt LINE_LIMIT (length (strip_last 13 raw)) then None else reading (strip_last 13 raw)
+
+abbrev pub with_reading : {X : Type 0} → Played X → Option (X → Done X) → Option (Played X)
+with_reading p None = None
+with_reading p (Some does) = Some (with_done p (does p.lab))
+
+-- one line more: None where it is of no form
+abbrev pub with_line : {X : Type 0} → Script X → Option (Played X) → List ℕ → Option (Played X)
+with_line script None raw = None
+with_line script (Some p) raw = with_reading p (says_by script.event raw)
+
+-- the lines behind the first
+abbrev pub play_on : {X : Type 0} → Script X → Option (Played X) → List (List ℕ) → Option (Played X)
+play_on script p [] = p
+play_on script p (raw ∷ lines) = play_on script (with_line script p raw) lines
+
+-- what lines play: None where there is none, or where one is of no form
+abbrev pub play_of : {X : Type 0} → Script X → List (List ℕ) → Option (Played X)
+play_of script [] = None
+play_of script (first ∷ lines) = play_on script (option_map (start_play script) (says_by script.first first)) lines
+
+-- what is printed of these lines
+abbrev pub text_of : {X : Type 0} → Option (Played X) → List ℕ
+text_of None = []
+text_of (Some p) = p.text
+
+-- the number of the first line that is missing or of no form, counted from 1
+pub record IsFirstBad {X : Type 0} (script : Script X) (number : ℕ) (lines : List (List ℕ)) : Type 0 where
+  pub counts : 0 < number
+  pub bad : play_of script (take number lines) ≡ None
+  pub good : (n : ℕ) → 0 < n → n < number → play_of script (take n lines) ≢ None
+
+-- A line did what the language says, and what came of it was printed.
+pub record PlaysLine {X : Type 0} (script : Script X) (line : List ℕ) (before after : X) (old new : List ℕ) (refused : Bool) : Type 0 where
+  pub does : X → Done X
+  pub said : script.event line ≡ Some does
+  pub lab : after ≡ (does before).lab
+  pub text : new ≡ old ++ (does before).text
+  pub count : refused ≡ (does before).is_refused

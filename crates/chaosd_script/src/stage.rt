@@ -1,0 +1,48 @@
+//! What scripts are played in.
+ghost use Rattle.std.specs.Prelude.{◌≡◌, ◌≢◌, ◌++◌, ℕ, List, Err, None, Some, IfErr, IfOk, OnOk};
+ghost use Rattle.chaosd_script.specs.Script.{Script, PlaysLine};
+ghost use Rattle.chaosd_script.specs.Player.{IsLineFault};
+
+use chaosd_engines::{NotWritten, RunFault, WriteBuffer};
+use std::alloc::Global;
+
+/// A laboratory that scripts are played in: the first line makes it, and each later one lets an event happen in it.
+pub trait Stage: Drop {
+    /// What the lines of its scripts say.
+    ghost script: { Script Self };
+
+    /// The laboratory of a first line, and the text of how it begins.
+    ///
+    /// # Errors
+    /// `BadScript` with this number where the line is of no form, `NoMemory`, and `WriteFault` where the text doesn't fit.
+    fn begin(
+        alloc: Global,
+        out: &mut WriteBuffer,
+        line: &[u8],
+        number: u64,
+    ) -> Result<Self, RunFault>
+        ensures begun { IfOk result (λ lab. (script.first line.now ≡ Some lab) × (out.new ≡ out.old ++ script.begun lab) × script.ready lab) }
+        ensures bad { (n : ℕ) → result ≡ Err (RunFault.BadScript n) → (n ≡ number) × (script.first line.now ≡ None) × (out.new ≡ out.old) }
+        ensures no_memory { result ≡ Err RunFault.NoMemory → (script.first line.now ≢ None) × (out.new ≡ out.old) }
+        ensures faults { IfErr result (λ fault. IsLineFault fault) };
+
+    /// Lets the event of a line happen, writes what came of it, and says whether it was refused.
+    ///
+    /// # Errors
+    /// `BadScript` with this number where the line is of no form, `NoMemory`, and `WriteFault` where the text doesn't fit.
+    fn play(
+        &mut self,
+        alloc: Global,
+        out: &mut WriteBuffer,
+        line: &[u8],
+        number: u64,
+    ) -> Result<bool, RunFault>
+        ensures played { IfOk result (λ refused. script.ready self.old → PlaysLine script line.now self.old self.new out.old out.new refused × script.ready self.new) }
+        ensures bad { (n : ℕ) → result ≡ Err (RunFault.BadScript n) → (n ≡ number) × (script.event line.now ≡ None) × (out.new ≡ out.old) }
+        ensures no_memory { result ≡ Err RunFault.NoMemory → (script.event line.now ≢ None) × ((text : List ℕ) × script.wants text × (out.new ≡ out.old ++ text)) }
+        ensures faults { IfErr result (λ fault. IsLineFault fault) };
+
+    /// Writes what is said at the end.
+    fn end(&self, out: &mut WriteBuffer) -> Result<(), NotWritten>
+        ensures { OnOk result (out.new ≡ out.old ++ script.ended self.now) };
+}
