@@ -30,10 +30,10 @@ returns-clause-no_memory c wants =
     let n = length c.args.lab.now.lab.copies in (
       some_said _ (file_event c.event.result) (sym c.file_line_of.ensures ∙ ap (option_map file_said) c.in-Some.is ∙ ap Some (sym c.event.ensures)),
       inl (line_wants c.args.lab.now c.step-answer.new.self c.args.out.now mid c.put_copies.new.out c.step-answer.result _
-      (not_wanted c.step-answer.result _ c.step-answer.ensures.refused)
-      (went_well _ _ _ c.written.ensures c.in_ok-written.was c.put_answer.ensures)
-      (went_well _ _ _ c.written-2.ensures c.in_ok-written-2.was c.put_copies.ensures
-      ∙ ap (λ k. mid ++ copies_text (length k) (drop (length k) c.copies.result.now)) c.copies-before.ensures
-      ∙ ap (λ k. mid ++ copies_text n (drop n k)) c.copies.ensures)
-      c.is_refused.ensures wants),
+          (not_wanted c.step-answer.result _ c.step-answer.ensures.refused)
+          (went_well _ _ _ c.written.ensures c.in_ok-written.was c.put_answer.ensures)
+          (went_well _ _ _ c.written-2.ensures c.in_ok-written-2.was c.put_copies.ensures
+          ∙ ap (λ k. mid ++ copies_text (length k) (drop (length k) c.copies.result.now)) c.copies-before.ensures
+          ∙ ap (λ k. mid ++ copies_text n (drop n k)) c.copies.ensures)
+          c.is_refused.ensures wants),
     )
