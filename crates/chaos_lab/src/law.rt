@@ -62,7 +62,6 @@ pub fn law_delivery()
 {}
 
 /// What an end has written and read, by its phase.
-#[tactic(auto, using(crate::proofs::Phases::never_asks, crate::proofs::Phases::new_asked, crate::proofs::Phases::open_met))]
 pub fn law_phases()
     // B never asks
     ensures answers { (m : Machine) → Reached m → ¬ (m.b.phase ≡ RfcSent) }
