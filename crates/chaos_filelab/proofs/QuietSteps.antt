@@ -41,7 +41,7 @@ heard (Status a r w) e = record { written = refl; read = refl }
 
 taken : (i : ℕ) (e : Plain) → Stays e (take_in i e)
 taken i e =
-    cond_both (nat_le (length e.read) i && nat_lt i (length e.read + e.recv_cap)) (record e { arrived = insert e.arrived i }) e (Stays e)
+    cond_both (nat_le (length e.read) i && nat_lt i (length e.read + e.announced)) (record e { arrived = insert e.arrived i }) e (Stays e)
     (λ _. record { written = refl; read = refl })
     (λ _. record { written = refl; read = refl })
 
