@@ -37,15 +37,18 @@ line_plays line before after old mid new event answer result said exact first la
     let n = length before.lab.copies in
     let joined : List ℕ = copies_text n (drop n after.lab.copies) in
     subst (λ r. IfOk r P) (sym same) (elim exact [
-      | inl h ↦ by_answer answer P (record {
-        does = event_done event;
-        said = ap (option_map event_done) said;
-        lab = h.0;
-        text = last ∙ ap (λ l. l ++ joined) first ∙ append_assoc old (file_answer_text answer) joined
-            ∙ ap (λ a. old ++ (file_answer_text a ++ joined)) h.1
-            ∙ ap (λ (l : FileLabView). old ++ (file_answer_text (file_happen before event).answer ++ copies_text n (drop n l.lab.copies))) h.0;
-        count = ap is_err h.1;
-      }, none)
+      | inl h ↦ by_answer answer P (
+        record {
+          does = event_done event;
+          said = ap (option_map event_done) said;
+          lab = h.0;
+          text = last ∙ ap (λ l. l ++ joined) first ∙ append_assoc old (file_answer_text answer) joined
+              ∙ ap (λ a. old ++ (file_answer_text a ++ joined)) h.1
+              ∙ ap (λ (l : FileLabView). old ++ (file_answer_text (file_happen before event).answer ++ copies_text n (drop n l.lab.copies))) h.0;
+          count = ap is_err h.1;
+        },
+        none,
+      )
       | inr h ↦ subst (λ a. IfOk (refused_or_ended a) P) (sym h.1) tt
     ])
 

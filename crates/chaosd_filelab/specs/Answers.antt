@@ -16,6 +16,7 @@ served_text told.Eof = line (codes "served Eof")
 served_text told.Idle = line (codes "served Idle")
 served_text told.NoRoom = line (codes "served NoRoom")
 served_text (told.Ended state) = named_line (codes "served ended") (state_name state)
+served_text told.NoSuchConnection = line (codes "served NoSuchConnection")
 
 abbrev pub file_stepped_text : FileStepped → List ℕ
 file_stepped_text (stepped.Lab s) = stepped_text s

@@ -18,6 +18,7 @@ fn put_served(out: &mut WriteBuffer, served: Served) -> Result<(), NotWritten>
         Served::Idle => put_line(out, "served Idle"),
         Served::NoRoom => put_line(out, "served NoRoom"),
         Served::Ended(state) => put_named(out, "served ended", state_name(state)),
+        Served::NoSuchConnection => put_line(out, "served NoSuchConnection"),
     }
 }
 
