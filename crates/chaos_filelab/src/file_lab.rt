@@ -77,7 +77,6 @@ impl FileLab {
 
     /// Lets an event happen. Refused, in this order: `ByServer` for a write and a read at B; what [`Lab::step`] refuses.
     /// Nothing changes then.
-    #[tactic(auto, using(crate::proofs::Exactly::server_exact))]
     pub fn step(&mut self, alloc: Global, event: &FileEvent<'_>) -> Result<FileStepped, LabFault>
         ensures happens { FileHappens self.old (file_event event.now) self.new result }
         ensures refused { OnErr result (self.new ≡ self.old) }
@@ -86,13 +85,21 @@ impl FileLab {
     {
         match event {
             FileEvent::Serve => self.serve(alloc),
-            FileEvent::At(event) => {
-                if is_by_server(event) {
-                    return Err(LabFault::ByServer);
-                }
-                self.at(alloc, event)
-            }
+            FileEvent::At(event) => self.happen(alloc, event),
         }
+    }
+
+    /// Lets an event of the laboratory happen, as [`FileLab::step`] does: `ByServer` for a write and a read at B.
+    #[tactic(auto, using(crate::proofs::Exactly::server_exact))]
+    pub fn happen(&mut self, alloc: Global, event: &Event<'_>) -> Result<FileStepped, LabFault>
+        ensures happens { FileHappens self.old (At (happening_of event.now)) self.new result }
+        ensures refused { OnErr result (self.new ≡ self.old) }
+        ensures exact { wrote_mem self.new ≡ false → IsExact self.old (At (happening_of event.now)) self.new result }
+    {
+        if is_by_server(event) {
+            return Err(LabFault::ByServer);
+        }
+        self.at(alloc, event)
     }
 
     /// Lets events happen, one after the other. A refused event changes nothing, and the next one follows. Where there is no
@@ -135,9 +142,9 @@ impl FileLab {
         }
     }
 
-    /// B's server serves once.
+    /// B's server serves once, as [`FileLab::step`] lets it.
     #[tactic(auto, using(crate::proofs::KeptSteps::serves_not, crate::proofs::KeptSteps::stays_sound))]
-    fn serve(&mut self, alloc: Global) -> Result<FileStepped, LabFault>
+    pub fn serve(&mut self, alloc: Global) -> Result<FileStepped, LabFault>
         ensures happens { ServeHappens self.old self.new result }
         ensures exact { wrote_mem self.new ≡ false → IsExact self.old Serve self.new result }
     {

@@ -1,11 +1,14 @@
 //! What a line asks for.
-ghost use Rattle.std.specs.Prelude.{◌≡◌, option_map};
-ghost use Rattle.chaos_filelab.specs.Events.{file_event};
+ghost use Rattle.std.specs.Prelude.{◌≡◌, false, option_map, OnErr};
+ghost use Rattle.chaos_filelab.specs.View.{wrote_mem};
+ghost use Rattle.chaos_filelab.specs.Exact.{IsExact};
 ghost use Rattle.chaosd_filelab.specs.Command.{file_said};
 ghost use Rattle.chaosd_filelab.specs.Event.{file_line_of};
 
-use chaos_filelab::FileEvent;
+use chaos_filelab::{FileLab, FileStepped};
+use chaos_lab::LabFault;
 use chaosd_lab::{Command, event_of};
+use std::alloc::Global;
 
 /// An event with bytes of its own.
 #[derive(Drop)]
@@ -15,13 +18,14 @@ pub enum FileCommand {
 }
 
 impl FileCommand {
-    /// The event, its bytes lent.
-    pub fn event(&self) -> FileEvent<'_>
-        ensures { file_event result ≡ file_said self.now }
+    /// Lets the event happen.
+    pub fn act(&self, alloc: Global, lab: &mut FileLab) -> Result<FileStepped, LabFault>
+        ensures refused { OnErr result (lab.new ≡ lab.old) }
+        ensures exact { wrote_mem lab.new ≡ false → IsExact lab.old (file_said self.now) lab.new result }
     {
         match self {
-            FileCommand::At(command) => FileEvent::At(command.event()),
-            FileCommand::Serve => FileEvent::Serve,
+            FileCommand::At(command) => lab.happen(alloc, &command.event()),
+            FileCommand::Serve => lab.serve(alloc),
         }
     }
 }

@@ -110,7 +110,7 @@ fn play(
         return Err(RunFault::BadScript(number));
     };
     let before = lab.copies().len();
-    let answer = lab.step(alloc, &command.event());
+    let answer = command.act(alloc, lab);
     if lab.wrote_mem() {
         return Err(RunFault::NoMemory);
     }

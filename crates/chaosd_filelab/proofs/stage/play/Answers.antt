@@ -2,7 +2,6 @@ use Rattle.std.proofs.Common.{rules, ◌≡◌, ◌++◌, length, drop, sym, ◌
 use Rattle.std.specs.Prelude.{option_map, OnErr}
 use Rattle.chaos_lab.specs.declared.fault.LabFault.TheVariants.{NoMemory}
 use Rattle.chaos_filelab.specs.View.{wrote_mem}
-use Rattle.chaos_filelab.specs.Events.{file_event}
 use Rattle.chaos_filelab.specs.Exact.{IsExact}
 use Rattle.chaosd_lab.specs.Answers.{copies_text}
 use Rattle.chaosd_engines.proofs.Runs.{went_well}
@@ -14,10 +13,10 @@ pub returns-clause-played : goal.returns-clause-played
 returns-clause-played c =
     let mid = c.put_answer.new.out in
     let n = length c.args.lab.now.lab.copies in
-    let none : wrote_mem c.step-answer.new.self ≡ false = search rules in
-    line_plays c.args.line.now c.args.lab.now c.step-answer.new.self c.args.out.now mid c.put_copies.new.out (file_event c.event.result) c.step-answer.result _
-    (sym c.file_line_of.ensures ∙ ap (option_map file_said) c.in-Some.is ∙ ap Some (sym c.event.ensures))
-    (c.step-answer.ensures.exact none)
+    let none : wrote_mem c.act-answer.new.lab ≡ false = search rules in
+    line_plays c.args.line.now c.args.lab.now c.act-answer.new.lab c.args.out.now mid c.put_copies.new.out (file_said c.in-Some.command) c.act-answer.result _
+    (sym c.file_line_of.ensures ∙ ap (option_map file_said) c.in-Some.is)
+    (c.act-answer.ensures.exact none)
     (went_well _ _ _ c.written.ensures c.in_ok-written.was c.put_answer.ensures)
     (went_well _ _ _ c.written-2.ensures c.in_ok-written-2.was c.put_copies.ensures
     ∙ ap (λ k. mid ++ copies_text (length k) (drop (length k) c.copies.result.now)) c.copies-before.ensures
@@ -28,9 +27,9 @@ pub returns-clause-no_memory : goal.returns-clause-no_memory
 returns-clause-no_memory c wants =
     let mid = c.put_answer.new.out in
     let n = length c.args.lab.now.lab.copies in (
-      some_said _ (file_event c.event.result) (sym c.file_line_of.ensures ∙ ap (option_map file_said) c.in-Some.is ∙ ap Some (sym c.event.ensures)),
-      inl (line_wants c.args.lab.now c.step-answer.new.self c.args.out.now mid c.put_copies.new.out c.step-answer.result _
-          (not_wanted c.step-answer.result _ c.step-answer.ensures.refused)
+      some_said _ (file_said c.in-Some.command) (sym c.file_line_of.ensures ∙ ap (option_map file_said) c.in-Some.is),
+      inl (line_wants c.args.lab.now c.act-answer.new.lab c.args.out.now mid c.put_copies.new.out c.act-answer.result _
+          (not_wanted c.act-answer.result _ c.act-answer.ensures.refused)
           (went_well _ _ _ c.written.ensures c.in_ok-written.was c.put_answer.ensures)
           (went_well _ _ _ c.written-2.ensures c.in_ok-written-2.was c.put_copies.ensures
           ∙ ap (λ k. mid ++ copies_text (length k) (drop (length k) c.copies.result.now)) c.copies-before.ensures
