@@ -107,9 +107,12 @@ impl Schedule {
         Ok(())
     }
 
+    /// The server serves what is in front.
     fn serve(&mut self) -> Result<(), Fault> {
-        self.step(&FileEvent::Serve)?;
-        Ok(())
+        match self.lab.serve(self.alloc) {
+            Err(LabFault::NoMemory) => Err(Fault::NoMemory),
+            _ => Ok(()),
+        }
     }
 
     /// The client writes its next command.
