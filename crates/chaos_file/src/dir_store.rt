@@ -49,12 +49,10 @@ impl<R> Model for DirStore<R> {
     ghost view = { λ s. s.failures };
 }
 
-impl<R: Files> DirStore<R> {
+impl<R: Drop + Files<File = File>> DirStore<R> {
     /// The store of a folder that is there and has no other, without failures; else the system's fault, which is
     /// `ResourceBusy` where another has it. What a put left that was never ended is taken away.
     pub fn open(rt: R, folder: String) -> io::Result<DirStore<R>>
-    where
-        R: Drop + Files<File = File>,
         ensures { IfOk result (λ s. s ≡ 0) }
     {
         Ok(DirStore {
@@ -62,7 +60,9 @@ impl<R: Files> DirStore<R> {
             failures: 0,
         })
     }
+}
 
+impl<R: Files> DirStore<R> {
     fn note_failure(&mut self)
         ensures { self.new ≡ with_failure self.old }
     {

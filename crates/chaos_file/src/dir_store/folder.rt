@@ -64,13 +64,10 @@ fn require_file(info: &Metadata) -> io::Result<()> {
     }
 }
 
-impl<R: Files> Folder<R> {
+impl<R: Drop + Files<File = File>> Folder<R> {
     /// The folder of this path, where there is one and nobody else has locked it. What was left of a file that was never
     /// put is taken away.
-    pub(crate) fn open(rt: R, path: String) -> io::Result<Folder<R>>
-    where
-        R: Drop + Files<File = File>,
-    {
+    pub(crate) fn open(rt: R, path: String) -> io::Result<Folder<R>> {
         require_folder(&rt.metadata(path.as_str())?)?;
         let locked = fs::open(&rt, path.as_str())?;
         lock(&locked)?;
@@ -87,7 +84,9 @@ impl<R: Files> Folder<R> {
         let _ = folder.clear_fresh();
         Ok(folder)
     }
+}
 
+impl<R: Files> Folder<R> {
     /// Where the file of a legal path lies.
     fn place(&self, alloc: Global, path: &[u8]) -> io::Result<String>
         requires { is_path path.now ≡ true }
