@@ -47,7 +47,9 @@ fn want_of_memory_is_told(rt: HostRuntime) -> Result<(), Fail> {
     }
     let wrote = play.lab.wrote_mem();
     assert_eq!(rt; wrote, has_read_want(&play));
-    if !wrote {
+    if wrote {
+        println!(rt; "met")?;
+    } else {
         play.has_read(&rt, &REPLIES);
     }
     Ok(())
