@@ -24,7 +24,7 @@ TESTS = [
     ("chaos_file", "tests::memory::want_of_memory_changes_nothing", 8),
     ("chaos_file", "tests::memory::want_of_memory_changes_no_folder", 4),
     ("chaos_lab", "tests::memory::want_of_memory_changes_nothing", 1),
-    ("chaos_filelab", "tests::memory::want_of_memory_is_told", 2),
+    ("chaos_filelab", "tests::memory::want_of_memory_is_told", 4),
     ("chaosd_lab", "tests::faults::want_of_memory_is_told", 11),
     ("chaosd_file", "tests::memory::loop_tells_want_of_memory", 40),
     ("chaosd_file", "tests::memory::serve_tells_want_of_memory", 30),
