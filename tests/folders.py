@@ -1,7 +1,7 @@
 #!/usr/bin/env python3
-"""Shows what a folder's store makes of what std can't make, by a proved test of chaos_file that plays the rows it is given: entries
-that are no file, what may not be read or written, a disk that takes no more and is full, one that fails, and a folder that is
-another's.
+"""Shows what a folder's store makes of what std can't make, by a proved test of chaos_file_tests that plays the rows it is given:
+entries that are no file, what may not be read or written, a disk that takes no more and is full, one that fails, and a folder that
+is another's.
 
     rt ci && tests/folders.py
 
@@ -22,7 +22,7 @@ import sys
 import tempfile
 
 HERE = pathlib.Path(__file__).resolve().parent
-PROGRAM = HERE.parent / "crates/chaos_file/out/chaos_file_tests"
+PROGRAM = HERE.parent / "crates/chaos_file_tests/out/chaos_file_tests_tests"
 TEST = "tests::folders::dialogue_over_a_folder_made_outside"
 PATIENCE = 10
 NOBODY = 65534

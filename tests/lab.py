@@ -64,6 +64,34 @@ def file_examples(checks):
     checks.check("lab has no serve", run(["lab"], START + b"serve\n").problems(BAD_LINE, START_TEXT, b"line 2: bad\n"))
 
 
+def demo_twice(checks):
+    """The session of the demo, each of its eight commands asked and answered over a network that delivers every copy twice."""
+    commands = (program.HERE.parent / "examples/hello.file").read_bytes().splitlines()
+    replies = [b"T1  LOGIN LISPM", b"T2 H1 OPEN 0", b"T3 H1 WRITE 39", b"T4 H1 CLOSE 39", b"T5 H2 OPEN 39"]
+    replies += [b'T6 H2 READ^(DEFUN HELLO () (PRINT "HELLO, WORLD"))', b"T7 H2 EOF", b"T8 H2 CLOSE 39"]
+    script, delivered = b"ends 13 13 13 13 65530\n", 0
+
+    def deliver():
+        nonlocal script, delivered
+        while copies := run(["filelab"], script).out.count(b"copy ") - delivered:
+            script += b"".join(2 * b"deliver %d\n" % (delivered + n) for n in range(copies))
+            delivered += copies
+
+    deliver()
+    script += b"accept 65534\n"
+    for command in commands:
+        deliver()
+        script += b"write a 200 %s\n" % command
+        deliver()
+        script += b"serve\nserve\n"
+        deliver()
+        script += b"read a\n"
+    ended = run(["filelab"], script)
+    read = [line[9:] for line in ended.out.splitlines() if line.startswith(b"read 200 ")]
+    problems = [] if (len(commands), read) == (8, replies) else [f"{len(commands)} commands, read {read}"]
+    checks.check("the demo's session with every copy delivered twice", problems)
+
+
 def scripts(checks):
     """Scripts that are played to their end."""
     for name, script, status, text in [
@@ -91,6 +119,33 @@ def scripts(checks):
             START_TEXT
             + b"refused 3 1 NotOpen\nrefused 3 1 NotOpen\ndelivered Requested\naccepted 100\ncopy 1 b OPN num 100 ack 1\n"
             + b"refused 3 9 BadWindow\nrefused 3 9 BadWindow\nannounced 2\ncopy 2 b STS num 0 ack 1\nstored a 1 b 1\n",
+        ),
+        (
+            "data before the OPN are dropped, and taken after it",
+            b"ends 2 2 2 2 65534\ndeliver 0\naccept 100\nwrite b 200 X\ndeliver 2\ndeliver 1\ndeliver 2\nread a\n",
+            DONE,
+            b"copy 0 a RFC num 65534 ack 0\ndelivered Requested\naccepted 100\ncopy 1 b OPN num 100 ack 65534\nwrote 101\n"
+            + b"copy 2 b DAT num 101 ack 65534\ndelivered Dropped NotOpen\ndelivered Opened\ncopy 3 a STS num 0 ack 100\n"
+            + b"delivered Took\nread 200 X\ncopy 4 a STS num 0 ack 101\nstored a 0 b 2\n",
+        ),
+        (
+            "a lost item is sent again, and what came before it waits",
+            b"ends 2 2 2 2 65534\ndeliver 0\naccept 100\ndeliver 1\nwrite a 200 A\nwrite a 200 B\ndeliver 4\nread b\ntick a 500\n"
+            + b"deliver 5\ndeliver 6\nread b\nread b\n",
+            DONE,
+            b"copy 0 a RFC num 65534 ack 0\ndelivered Requested\naccepted 100\ncopy 1 b OPN num 100 ack 65534\ndelivered Opened\n"
+            + b"copy 2 a STS num 0 ack 100\nwrote 65535\ncopy 3 a DAT num 65535 ack 100\nwrote 0\ncopy 4 a DAT num 0 ack 100\n"
+            + b"delivered Took\nread nothing\nticked resent 2\ncopy 5 a DAT num 65535 ack 100\ncopy 6 a DAT num 0 ack 100\n"
+            + b"delivered Took\ndelivered Duplicate\ncopy 7 b STS num 0 ack 65534\nread 200 A\ncopy 8 b STS num 0 ack 65535\n"
+            + b"read 200 B\ncopy 9 b STS num 0 ack 0\nstored a 2 b 0\n",
+        ),
+        (
+            "refusals of the connection, and a request that is refused and comes again",
+            START + b"accept 5\nwrite a 200 X\nclose b not yet\ndeliver 0\ndeliver 0\nclose b no\ndeliver 0\nread b\n",
+            REFUSED,
+            START_TEXT
+            + b"refused 3 6 WrongState\nrefused 3 1 NotOpen\nclosed\ndelivered Requested\ndelivered Duplicate\nclosed\n"
+            + b"copy 1 b CLS num 0 ack 0\ndelivered Dropped NotOpen\nread ended Inactive\n" + STORED,
         ),
         ("an end that was never asked", START + b"read b\nclose b\n", DONE, START_TEXT + b"read ended Inactive\nclosed\n" + STORED),
     ]:
@@ -120,6 +175,22 @@ def texts(checks):
     for line in [b"write a 200", b"write a 200 "]:
         wanted = OPEN_TEXT + b"wrote 2\ncopy 3 a DAT num 2 ack 100\ndelivered Took\nread 200\n" + STORED
         checks.check(f"{line}: no bytes", run(["lab"], OPEN + line + b"\ndeliver 3\nread b\n").problems(DONE, wanted, b""))
+
+
+def longest_texts(checks):
+    """The longest text of one event, 64 items sent again, is printed whole wherever it falls among the texts before it."""
+    opening = b"ends 64 64 64 64 65000\ndeliver 0\naccept 65001\ndeliver 1\ndeliver 2\n"
+    copies = [b"a RFC num 65000 ack 0", b"b OPN num 65001 ack 65000", b"a STS num 0 ack 65001"]
+    items = [b"a DAT num %d ack 65001" % (65001 + n) for n in range(64)]
+    text = b"copy 0 %s\ndelivered Requested\naccepted 65001\ncopy 1 %s\ndelivered Opened\ncopy 2 %s\ndelivered Status\n" % tuple(copies)
+    text += b"".join(b"wrote %d\ncopy %d %s\n" % (65001 + n, 3 + n, item) for n, item in enumerate(items))
+    count = 3 + len(items)
+    ticks = 15
+    for _ in range(ticks):
+        text += b"ticked resent 64\n" + b"".join(b"copy %d %s\n" % (count + n, item) for n, item in enumerate(items))
+        count += len(items)
+    script = opening + b"write a 200 x\n" * 64 + b"".join(b"tick a %d\n" % (600 * (n + 1)) for n in range(ticks))
+    checks.check("64 items sent again, 15 times", run(["lab"], script).problems(DONE, text + b"stored a 64 b 0\n", b""))
 
 
 def bad_lines(checks):
@@ -240,7 +311,7 @@ def main():
     if not program.PROGRAM.is_file():
         sys.exit(f"{program.PROGRAM} isn't there: run make first")
     checks = Checks()
-    for group in [examples, file_examples, scripts, texts, bad_lines, limits, memory, lines, writers, readers, typed_lines]:
+    for group in [examples, file_examples, demo_twice, scripts, texts, longest_texts, bad_lines, limits, memory, lines, writers, readers, typed_lines]:
         group(checks)
     print(f"{checks.count - checks.failed} passed, {checks.failed} failed")
     sys.exit(1 if checks.failed else 0)

@@ -21,10 +21,10 @@ CRATES = HERE.parent / "crates"
 # a crate, one of its tests, and how many refusals it is to meet at least and go on after
 TESTS = [
     ("chaos_dialogues", "tests::memory::host_is_made_with_memory", 7),
-    ("chaos_file", "tests::memory::want_of_memory_changes_nothing", 8),
-    ("chaos_file", "tests::memory::want_of_memory_changes_no_folder", 4),
-    ("chaos_lab", "tests::memory::want_of_memory_changes_nothing", 1),
-    ("chaos_filelab", "tests::memory::want_of_memory_is_told", 4),
+    ("chaos_file_tests", "tests::memory::want_of_memory_changes_nothing", 8),
+    ("chaos_file_tests", "tests::memory::want_of_memory_changes_no_folder", 4),
+    ("chaos_lab_tests", "tests::memory::want_of_memory_changes_nothing", 1),
+    ("chaos_filelab_tests", "tests::memory::want_of_memory_is_told", 4),
     ("chaosd_lab", "tests::faults::want_of_memory_is_told", 11),
     ("chaosd_file", "tests::memory::loop_tells_want_of_memory", 40),
     ("chaosd_file", "tests::memory::serve_tells_want_of_memory", 30),

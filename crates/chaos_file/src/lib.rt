@@ -21,8 +21,6 @@ mod names;
 mod parse;
 mod session;
 mod store;
-#[cfg(test)]
-mod tests;
 mod want;
 
 pub use answer::Reply;

@@ -8,8 +8,6 @@ mod bodies;
 mod event;
 mod file_lab;
 mod server;
-#[cfg(test)]
-mod tests;
 
 pub use bodies::Bodies;
 pub use event::{FileEvent, FileStepped};

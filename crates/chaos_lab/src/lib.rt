@@ -17,8 +17,6 @@ mod law;
 mod rig;
 mod side;
 mod stamped;
-#[cfg(test)]
-mod tests;
 mod user;
 
 pub use event::{Event, Stepped};

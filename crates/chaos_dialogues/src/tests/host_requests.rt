@@ -67,6 +67,7 @@ fn ended_connection_is_released(rt: HostRuntime) -> Result<(), Fail> {
     assert_eq!(rt; station.host.state(id), Err(CallFault::NoSuchConnection));
     station.does(&rt, 0o1, Call::Release, Err(CallFault::NoSuchConnection));
     station.stores(&rt, 0, 0);
+    station.takes(&rt, 2, 0o401);
     station.is_quiet(&rt);
     Ok(())
 }

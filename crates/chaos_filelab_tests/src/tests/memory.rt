@@ -1,8 +1,8 @@
 //! A session in which an allocation is refused.
 use super::play::Play;
 use super::sessions::{COMMANDS, REPLIES, deliver_twice};
-use crate::FileEvent;
 use chaos_file::is_want;
+use chaos_filelab::FileEvent;
 use chaos_lab::{Event, LabFault, Side};
 use chaos_packet::{Opcode, PktNum};
 use std::process::Abort;

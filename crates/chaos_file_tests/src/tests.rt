@@ -1,7 +1,5 @@
 //! Worked dialogues over both stores. A row is a command and the reply that is wanted, ` => ` between them. `^` stands
 //! for the byte that ends a line, `%` for 448 times the byte `A`.
-use super::*;
-
 mod commands;
 mod folders;
 mod fuses;
@@ -11,6 +9,10 @@ mod sessions;
 mod stores;
 
 use arrayvec::ArrayVec;
+use chaos_file::{
+    Command, DirStore, FileBytes, FileError, FuseStore, Got, MAX_CHUNK, MAX_FILE, MemStore, NL,
+    Parsed, Removed, Renamed, Session, Store, Stored, Word, parse_command,
+};
 use std::fs::File;
 use std::process::Abort;
 use std::rt::Files;

@@ -1,9 +1,8 @@
 mod memory;
 mod play;
-mod rows;
 mod stale;
 
-use super::*;
+use chaos_lab::{Side, law_delivery, law_limits, law_numbers, law_phases};
 
 #[test]
 fn each_side_is_the_other_of_the_other(rt: HostRuntime) {
@@ -16,4 +15,6 @@ fn each_side_is_the_other_of_the_other(rt: HostRuntime) {
 fn laws_are_called() {
     law_delivery();
     law_numbers();
+    law_phases();
+    law_limits();
 }

@@ -1,7 +1,7 @@
 //! Want of memory, where one allocation is refused: `rt try --test --fail-alloc N`.
 use super::play::windows;
-use crate::{Event, Lab, LabFault, Side};
 use chaos_conn::ConnConfig;
+use chaos_lab::{Event, Lab, LabFault, Side};
 use chaos_packet::{Opcode, PktNum};
 use std::alloc::Global;
 use std::process::Abort;
@@ -78,5 +78,6 @@ fn lab_succeeds_with_memory(rt: HostRuntime) -> Result<(), Fail> {
     assert!(rt; lab.run(rt.alloc(), &EVENTS).is_ok());
     assert_eq!(rt; sizes(&lab), [11, 3, 1, 1, 3, 0, 0]);
     assert!(rt; lab.read(Side::B) == lab.written(Side::A));
+    lab.law_headline();
     Ok(())
 }

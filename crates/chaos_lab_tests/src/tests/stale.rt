@@ -1,7 +1,7 @@
 //! A copy of which nobody heard for 32,640 items.
 use super::play::{Play, delivered};
-use crate::{Event, LabFault, Side, Stepped};
 use chaos_conn::Delivered;
+use chaos_lab::{Event, LabFault, Side, Stepped};
 use chaos_packet::{Opcode, PktNum};
 use std::process::Abort;
 use std::test::Fail;

@@ -1,6 +1,6 @@
 //! A session over a network that repeats each packet.
 use super::play::Play;
-use crate::FileEvent;
+use chaos_filelab::FileEvent;
 use chaos_lab::{Event, Side};
 use chaos_packet::{Opcode, PktNum};
 use chaos_serve::Served;
