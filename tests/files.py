@@ -266,17 +266,18 @@ def loop_lines(checks):
 
 def loop_bad_lines(checks):
     """A bad line stops a script when it is its turn."""
-    bad = [b"T1  LOGIN\tX", b"T1  LOGIN \x8d", b"T1  LOGIN \xff", rb"T1  LOGIN \8D", rb"T1  LOGIN \8", rb"T1  LOGIN \g0"]
-    bad += [b"T1  LOGIN \\", b"T1  LOGIN X\r\r", b"T1  LOGIN\x00", b"x" * (DATA_LIMIT + 1), rb"\20" * (DATA_LIMIT + 1)]
-    bad += [b"x" * (LINE_LIMIT + 1)]
-    for line in bad:
+    bad = [(b"T1  LOGIN\tX", b"byte 10"), (b"T1  LOGIN \x8d", b"byte 11"), (b"T1  LOGIN \xff", b"byte 11")]
+    bad += [(line, b"hexadecimal") for line in [rb"T1  LOGIN \8D", rb"T1  LOGIN \8", rb"T1  LOGIN \g0", b"T1  LOGIN \\"]]
+    bad += [(b"T1  LOGIN X\r\r", b"byte 12"), (b"T1  LOGIN\x00", b"byte 10")]
+    bad += [(b"x" * (DATA_LIMIT + 1), b"488"), (rb"\20" * (DATA_LIMIT + 1), b"488"), (b"x" * (LINE_LIMIT + 1), b"4096")]
+    for line, fault in bad:
         for before, out in [(b"", b""), (FILE_SCRIPT, FILE_REPLIES)]:
             number = before.count(b"\n") + 1
             ended = run(["loop"], before + line + b"\nT9  LOGIN MORE\n")
             name = f"loop: {line[:20]!r}.. of {len(line)} bytes is bad in line {number}, status 2"
-            checks.check(name, ended.problems(BAD_LINE, out, b"line %d: bad\n" % number))
+            checks.check(name, ended.problems(BAD_LINE, out, [b"line %d: bad: " % number, fault]))
     ended = run(["loop"], FILE_SCRIPT + b"\t")
-    checks.check("loop: a bad last line without its end", ended.problems(BAD_LINE, FILE_REPLIES, b"line 8: bad\n"))
+    checks.check("loop: a bad last line without its end", ended.problems(BAD_LINE, FILE_REPLIES, [b"line 8: bad: "]))
 
 
 def loop_limits(checks):
@@ -291,7 +292,7 @@ def loop_limits(checks):
     name = "loop: one byte more is a fault behind the replies, status 1"
     checks.check(name, ended.problems(FAULT, EMPTY_REPLY * count, [b"chaosd: ", b"1048576"]))
     ended = run(["loop"], b"x" * INPUT_LIMIT)
-    checks.check("loop: a line of 1,048,576 bytes is bad", ended.problems(BAD_LINE, b"", b"line 1: bad\n"))
+    checks.check("loop: a line of 1,048,576 bytes is bad", ended.problems(BAD_LINE, b"", [b"line 1: bad: "]))
     ended = run(["loop"], b"x" * (INPUT_LIMIT + 1))
     checks.check("loop: a line past the limit is a fault, status 1", ended.problems(FAULT, b"", [b"chaosd: "]))
 
@@ -366,6 +367,28 @@ def good_lines(checks):
             ("ask of an empty script with 32 peers", ["ask", "402", at(ports[0]), "000401", *peers]),
         ]:
             checks.check(f"{name}: status 0", run(words).problems(DONE, b"", None))
+
+
+def no_peers(checks):
+    """`ask` of a host that is no peer ends at once; `serve` tells once of a host that is none and asks, and that its turns are over."""
+    with tempfile.TemporaryDirectory() as folder:
+        ports = free_ports(2)
+        start = time.monotonic()
+        ended = run(["ask", "402", at(ports[0]), "401", f"403={at(ports[1])}"], FILE_SCRIPT)
+        problems = ended.problems(REFUSED, NO_REPLY, b"chaosd: host 000401 is no PEER\n")
+        problems += ["it took long"] if time.monotonic() - start > SOON else []
+        checks.check("ask of a host that is no peer: told, `no reply`, status 3, at once", problems)
+        words = ["serve", "--turns", "300", "401", at(ports[0]), folder]
+        server = started(words, stdout=subprocess.PIPE, stderr=subprocess.PIPE)
+        said = line_of(server.stderr)
+        with socket.socket(socket.AF_INET, socket.SOCK_DGRAM) as stranger:
+            for index in (1, 2, 3):
+                stranger.sendto(datagram(RFC, (SERVER, 0), (0o777, index), 5, 0, b"FILE"), ("127.0.0.1", ports[0]))
+        out, err = server.communicate(timeout=LONG)
+        told = b"chaosd: host 000777 asks and is no PEER\n"
+        wanted = told + b"chaosd: 300 turns are over\n"
+        problems = program.Ended(server.returncode, out, said + err).problems(DONE, b"", said + wanted)
+        checks.check("serve tells once of a host that is no peer and asks, and at its end that its turns are over", problems)
 
 
 def openings(checks):
@@ -448,7 +471,7 @@ def typed_commands(checks):
             asking = Asking(words)
             problems = asking.problems(exchanges[0])
             out, err = asking.process.communicate(b"\x00\nT2  LOGIN X\n", timeout=program.PATIENCE)
-            problems += program.Ended(asking.process.returncode, out, err).problems(BAD_LINE, b"", b"line 2: bad\n")
+            problems += program.Ended(asking.process.returncode, out, err).problems(BAD_LINE, b"", [b"line 2: bad: "])
             checks.check(f"{words[0]}: a bad line stops when it is its turn, status 2", problems)
 
 
@@ -638,8 +661,9 @@ def another_program(checks):
         checks.check("of 17 connections 16 are taken", [] if ops == [OPN] * 16 + [CLS] else [f"{ops}"])
         start = time.monotonic()
         ended = run(server.words(1), FILE_SCRIPT)
-        problems = ended.problems(REFUSED, NO_REPLY, b"") + (["it took long"] if time.monotonic() - start > SOON else [])
-        checks.check("ask: a request that is turned away has no reply, status 3, at once", problems)
+        said = [b"refused the connection: Connection table full."]
+        problems = ended.problems(REFUSED, NO_REPLY, said) + (["it took long"] if time.monotonic() - start > SOON else [])
+        checks.check("ask: a request that is turned away has no reply, status 3, at once, and its text is told", problems)
         peer.socket.close()
 
 
@@ -671,26 +695,27 @@ class Waiting:
 
     def __init__(self):
         *ports, nobody = free_ports(3)
-        lines = [("without a peer", []), ("to a peer that isn't there", [f"401={at(nobody)}"])]
+        lines = [("without a peer", [], [b"host 000401 is no PEER"])]
+        lines += [("to a peer that isn't there", [f"401={at(nobody)}"], [b"no connection opened in ", b" ms"])]
         self.running = []
-        for (name, peers), port in zip(lines, ports):
+        for (name, peers, said), port in zip(lines, ports):
             pipes = {"stdin": subprocess.PIPE, "stdout": subprocess.PIPE, "stderr": subprocess.PIPE}
             process = started(["ask", "402", at(port), "401", *peers], **pipes)
             process.stdin.write(FILE_SCRIPT)
             process.stdin.close()
             process.stdin = None
-            self.running.append((name, process))
+            self.running.append((name, process, said))
         self.begun = time.monotonic()
 
     def check(self, checks):
-        for name, process in self.running:
+        for name, process, said in self.running:
             try:
                 out, err = process.communicate(timeout=max(1, LONG - (time.monotonic() - self.begun)))
-                problems = program.Ended(process.returncode, out, err).problems(REFUSED, NO_REPLY, b"")
+                problems = program.Ended(process.returncode, out, err).problems(REFUSED, NO_REPLY, said)
             except subprocess.TimeoutExpired:
                 process.kill()
                 problems = ["it waits on"]
-            checks.check(f"ask {name}: `no reply` once, status 3", problems)
+            checks.check(f"ask {name}: `no reply` once, status 3, and why on standard error", problems)
 
 
 class Lossy(threading.Thread):
@@ -759,7 +784,7 @@ class Losing:
         checks.check("a file comes whole over a network that loses, repeats and reorders", problems)
 
 
-GROUPS = [loop_rows, loop_lines, loop_bad_lines, loop_limits, streams, command_lines, good_lines, openings, files_both_ways]
+GROUPS = [loop_rows, loop_lines, loop_bad_lines, loop_limits, streams, command_lines, good_lines, no_peers, openings, files_both_ways]
 GROUPS += [typed_commands, four_clients, vanished_clients, store_faults, another_program, signals]
 
 

@@ -13,7 +13,7 @@ use Rattle.chaos_conn.specs.View.{ConnView}
 use Rattle.chaos_conn.specs.Calls.{can_write, front_of}
 use Rattle.chaos_file.specs.Replies.{memory_change}
 use Rattle.chaos_serve.specs.Work.{Work, NotOpen, Nothing, Full, LastItem, Command, work_of, work_at_front, work_of_kind}
-use Rattle.chaos_serve.specs.Serve.{Serves, ServesConn, ActsTwice, IsReplyTaken}
+use Rattle.chaos_serve.specs.Serve.{DoesWork, ServesConn, ActsTwice, IsReplyTaken}
 use Rattle.chaos_serve.specs.declared.served.Served.{Served}
 use Rattle.chaos_lab.specs.Turn.{Turn, Rests, Reads, Replies, HasFront, TakesTurn}
 use Rattle.chaos_filelab.specs.Serving.{Service, ServesBy, turned_by}
@@ -68,7 +68,7 @@ is_work v work is = subst (IsWork (is_open v.state) (front_of v) (can_write v)) 
 pub TurnOf : (s t : Service) (v w : ConnView) (now : ℕ) (before after : OutboxView) (answer : Served) (work : Work) → Type 0
 TurnOf s t v w now before after answer work = (turn : Turn) × ServesBy s t turn answer work × TakesTurn v now turn w before after (turned_by answer)
 
-turn_by : (s t : Service) (v w : ConnView) (now : ℕ) (before after : OutboxView) (answer : Served) → IsReplyTaken → (work : Work) → work_of v ≡ work → Serves (memory_change s.files t.files) s.session t.session (λ acted. ActsTwice v acted w before after answer) v now work → TurnOf s t v w now before after answer work
+turn_by : (s t : Service) (v w : ConnView) (now : ℕ) (before after : OutboxView) (answer : Served) → IsReplyTaken → (work : Work) → work_of v ≡ work → DoesWork (memory_change s.files t.files) s.session t.session (λ acted. ActsTwice v acted w before after answer) v now work → TurnOf s t v w now before after answer work
 unfolding TurnOf
 turn_by s t v w now before after answer law (NotOpen state) is h =
     (Rests, (refl, (λ j. record { session = h.0.0 j; files = h.0.1 j }), h.1.answers), record { taken = tt; view = h.1.view; packets = h.1.packets; config = h.1.config; done = ap turned_by h.1.answers })

@@ -19,12 +19,9 @@ use chaos_conn::ConnConfig;
 use chaos_file::{MemStore, Session, is_want, law_memory, law_replies, law_want};
 use chaos_lab::{Event, Lab, LabFault, Side, Stamped, law_delivery, law_phases};
 use chaos_packet::{Item, Kind, PktNum};
-use chaos_serve::Served;
+use chaos_serve::{CONTACT, Served};
 use std::alloc::{AllocError, Global};
 use std::marker::Model;
-
-/// What A asks for.
-const CONTACT: &[u8] = b"FILE";
 
 /// Two ends of one connection, and every packet that was ever sent between them. A is a client of FILE, and its user is the
 /// caller; B's user is a server with its own session and store, which serves one command at a time. A contract sees the

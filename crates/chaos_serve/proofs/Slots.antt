@@ -17,9 +17,9 @@ use Rattle.chaos_host.specs.declared.slot.Slot.{Slot}
 use Rattle.chaos_host.specs.Slot.{is_used, index_of, place_of, named_slot, with_index}
 use Rattle.chaos_host.specs.View.{HostView}
 use Rattle.chaos_host.specs.Acted.{HostActed, HostDoes, no_effect, slot_after_call}
-use Rattle.chaos_serve.specs.Calls.{after_reply_at, after_eof_at, ServesByCalls, work_at}
-use Rattle.chaos_serve.specs.Host.{in_slot, ServesIn, ServesOne}
-use Rattle.chaos_serve.specs.Serve.{reply_write, after_reply, after_eof, Serves}
+use Rattle.chaos_serve.specs.Calls.{after_reply_at, after_eof_at, DoesWorkByCalls, work_at}
+use Rattle.chaos_serve.specs.Host.{in_slot, DoesWorkInSlot, ServesOne}
+use Rattle.chaos_serve.specs.Serve.{reply_write, after_reply, after_eof, DoesWork}
 use Rattle.chaos_serve.specs.Work.{Work, NotOpen, Nothing, Full, LastItem, Command, work_of, work_by}
 use Rattle.chaos_file.specs.Store.{StoreChange}
 use Rattle.chaos_serve.specs.declared.served.Served.TheVariants as told
@@ -103,7 +103,7 @@ quiet_in h id slot answer e =
 
 -- the same told by the host's calls and by the slot, for each kind of work
 module _ (store : StoreChange) (s t : SessionView) (does : HostActed Served → Type 0) (h : HostView) (id now : ℕ) (slot : Slot) (e : named_slot h.slots id ≡ Some slot) where
-  by_work : (work : Work) → work ≡ work_of slot.conn → ServesByCalls store s t does h id now (Some work) → Serves store s t (λ acted. does (in_slot h (place_of id) slot acted)) slot.conn now work
+  by_work : (work : Work) → work ≡ work_of slot.conn → DoesWorkByCalls store s t does h id now (Some work) → DoesWork store s t (λ acted. does (in_slot h (place_of id) slot acted)) slot.conn now work
   by_work (NotOpen state) e' done = (done.0, subst does (quiet_in h id slot _ e) done.1)
   by_work Nothing e' done = (done.0, subst does (quiet_in h id slot _ e) done.1)
   by_work Full e' done = (done.0, subst does (quiet_in h id slot _ e) done.1)
@@ -111,10 +111,10 @@ module _ (store : StoreChange) (s t : SessionView) (does : HostActed Served → 
   by_work (Command body) e' done = (done.0, done.1, subst does (replied_in h id slot done.0 now e (opened_for slot.conn body e')) done.2)
 
 pub serves_in : (store : StoreChange) (s t : SessionView) (does : HostActed Served → Type 0) (h : HostView) (id now : ℕ) (found : Option Slot) → found ≡ named_slot h.slots id
-    → ServesByCalls store s t does h id now (option_map (λ slot. work_of slot.conn) found) → ServesIn store s t does h (place_of id) now found
+    → DoesWorkByCalls store s t does h id now (option_map (λ slot. work_of slot.conn) found) → DoesWorkInSlot store s t does h (place_of id) now found
 serves_in store s t does h id now None e done = done
 serves_in store s t does h id now (Some slot) e done = by_work store s t does h id now slot (sym e) (work_of slot.conn) refl done
 
 pub serves_one : (store : StoreChange) (s t : SessionView) (old : HostView) (id now : ℕ) (new : HostView) (before after : OutboxView) (answer : Served)
-    → ServesByCalls store s t (λ acted. HostDoes old 2 acted new before after answer) old id now (work_at old id) → ServesOne store s t old id now new before after answer
+    → DoesWorkByCalls store s t (λ acted. HostDoes old 2 acted new before after answer) old id now (work_at old id) → ServesOne store s t old id now new before after answer
 serves_one store s t old id now new before after answer done = serves_in store s t (λ acted. HostDoes old 2 acted new before after answer) old id now (named_slot old.slots id) refl done

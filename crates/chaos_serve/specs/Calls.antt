@@ -32,10 +32,10 @@ abbrev pub work_at : HostView → ℕ → Option Work
 work_at h id = option_map (λ slot. work_of slot.conn) (named_slot h.slots id)
 
 -- what serving does, told by those calls
-abbrev pub ServesByCalls : StoreChange → SessionView → SessionView → (HostActed Served → Type 0) → HostView → ℕ → ℕ → Option Work → Type 0
-ServesByCalls store s t does h id now None = IsUnused store s t × does (no_effect h told.NoSuchConnection)
-ServesByCalls store s t does h id now (Some (NotOpen state)) = IsUnused store s t × does (no_effect h (told.Ended state))
-ServesByCalls store s t does h id now (Some Nothing) = IsUnused store s t × does (no_effect h told.Idle)
-ServesByCalls store s t does h id now (Some Full) = IsUnused store s t × does (no_effect h told.NoRoom)
-ServesByCalls store s t does h id now (Some LastItem) = IsUnused store s t × does (after_eof_at h id)
-ServesByCalls store s t does h id now (Some (Command body)) = (reply : List ℕ) × IsAnswered store s t body reply × does (after_reply_at h id reply now)
+abbrev pub DoesWorkByCalls : StoreChange → SessionView → SessionView → (HostActed Served → Type 0) → HostView → ℕ → ℕ → Option Work → Type 0
+DoesWorkByCalls store s t does h id now None = IsUnused store s t × does (no_effect h told.NoSuchConnection)
+DoesWorkByCalls store s t does h id now (Some (NotOpen state)) = IsUnused store s t × does (no_effect h (told.Ended state))
+DoesWorkByCalls store s t does h id now (Some Nothing) = IsUnused store s t × does (no_effect h told.Idle)
+DoesWorkByCalls store s t does h id now (Some Full) = IsUnused store s t × does (no_effect h told.NoRoom)
+DoesWorkByCalls store s t does h id now (Some LastItem) = IsUnused store s t × does (after_eof_at h id)
+DoesWorkByCalls store s t does h id now (Some (Command body)) = (reply : List ℕ) × IsAnswered store s t body reply × does (after_reply_at h id reply now)

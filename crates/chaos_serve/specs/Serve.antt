@@ -32,12 +32,12 @@ abbrev pub after_eof : ConnView → Acted Served
 after_eof v = record { view = (act v FinishRead).view; packets = (act v FinishRead).packets; answer = told.Eof }
 
 -- What serving does, and what session and store make of it. `does`: the end did this.
-abbrev pub Serves : StoreChange → SessionView → SessionView → (Acted Served → Type 0) → ConnView → ℕ → Work → Type 0
-Serves store s t does v now (NotOpen state) = IsUnused store s t × does (quietly v (told.Ended state))
-Serves store s t does v now Nothing = IsUnused store s t × does (quietly v told.Idle)
-Serves store s t does v now Full = IsUnused store s t × does (quietly v told.NoRoom)
-Serves store s t does v now LastItem = IsUnused store s t × does (after_eof v)
-Serves store s t does v now (Command body) = (reply : List ℕ) × IsAnswered store s t body reply × does (after_reply v reply now)
+abbrev pub DoesWork : StoreChange → SessionView → SessionView → (Acted Served → Type 0) → ConnView → ℕ → Work → Type 0
+DoesWork store s t does v now (NotOpen state) = IsUnused store s t × does (quietly v (told.Ended state))
+DoesWork store s t does v now Nothing = IsUnused store s t × does (quietly v told.Idle)
+DoesWork store s t does v now Full = IsUnused store s t × does (quietly v told.NoRoom)
+DoesWork store s t does v now LastItem = IsUnused store s t × does (after_eof v)
+DoesWork store s t does v now (Command body) = (reply : List ℕ) × IsAnswered store s t body reply × does (after_reply v reply now)
 
 -- An end did this: at most two packets went out, and the configuration stayed.
 pub record ActsTwice (old : ConnView) (acted : Acted Served) (new : ConnView) (before after : OutboxView) (answer : Served) : Type 0 where
@@ -50,7 +50,7 @@ pub record ActsTwice (old : ConnView) (acted : Acted Served) (new : ConnView) (b
 -- the end of a connection is served
 abbrev pub ServesConn : StoreChange → SessionView → SessionView → ConnView → ℕ → ConnView → OutboxView → OutboxView → Served → Type 0
 ServesConn store s t old now new before after answer =
-    Serves store s t (λ acted. ActsTwice old acted new before after answer) old now (work_of old)
+    DoesWork store s t (λ acted. ActsTwice old acted new before after answer) old now (work_of old)
 
 -- Where an end can write, the write of a reply after the read is taken.
 abbrev pub IsReplyTaken : Type 0

@@ -3,7 +3,7 @@ ghost use Rattle.std.specs.Prelude.{◌≡◌, ◌≤◌, option_map};
 ghost use Rattle.chaos_packet.specs.Outbox.{room_of};
 ghost use Rattle.chaos_file.specs.Store.{change};
 ghost use Rattle.chaos_host.specs.Acted.{HostDoes};
-ghost use Rattle.chaos_serve.specs.Calls.{ServesByCalls, after_eof_at, after_reply_at, work_at};
+ghost use Rattle.chaos_serve.specs.Calls.{DoesWorkByCalls, after_eof_at, after_reply_at, work_at};
 ghost use Rattle.chaos_serve.specs.Host.{ServesOne};
 ghost use Rattle.chaos_serve.specs.Task.{work_in};
 
@@ -61,7 +61,7 @@ fn serve_by_calls<S: Store>(
     out: &mut Outbox,
 ) -> Served
     requires { 2 ≤ room_of out.old }
-    ensures { ServesByCalls (change S.contents S.may_give S.count store.old store.new) session.old session.new
+    ensures { DoesWorkByCalls (change S.contents S.may_give S.count store.old store.new) session.old session.new
         (λ acted. HostDoes host.old 2 acted host.new out.old out.new result) host.old id now (work_at host.old id) }
 {
     let Some(task) = task_at(host, id) else {

@@ -6,6 +6,7 @@
 #![tactic(auto)]
 
 mod conn;
+mod contact;
 mod host;
 mod law;
 mod served;
@@ -14,6 +15,7 @@ mod task;
 mod tests;
 
 pub use conn::serve_conn;
+pub use contact::CONTACT;
 pub use host::serve_one;
 pub use law::law_reply_taken;
 pub use served::Served;

@@ -1,55 +1,75 @@
 -- A whole turn of its parts.
-use Rattle.std.proofs.Common.{◌≡◌, ℕ, Bool, true, if◌then◌else◌, List, [], ◌∷◌, ◌++◌, length, Option, refl, ap, sym, ◌∙◌, subst}
-use Rattle.chaos_packet.specs.Packet.{PacketView}
-use Rattle.chaos_packet.specs.Outbox.{OutboxView}
+use Rattle.std.proofs.Common.{◌≡◌, ℕ, Bool, true, if◌then◌else◌, List, [], ◌∷◌, ◌++◌, length, Option, Some, None, IfSome, is_some, refl, ap, sym, ◌∙◌, subst}
 use Rattle.chaos_link.specs.Link.{QueueView}
 use Rattle.chaos_file.specs.Store.{StoreChange}
 use Rattle.chaos_host.specs.View.{HostView}
-use Rattle.chaos_turn.specs.Arrive.{Arrival, arrive_at_server}
-use Rattle.chaos_turn.specs.Link.{Sends, has_packets}
-use Rattle.chaos_turn.specs.Phase.{Effect, DoesPhase}
-use Rattle.chaos_turn.specs.Serve.{ServesEach, ServesSlots, server_of}
-use Rattle.chaos_turn.specs.Sessions.{Serving}
+use Rattle.chaos_turn.specs.Arrive.{Arrival, Receives, arrival_from, arrive_at_server}
+use Rattle.chaos_turn.specs.Link.{Sends, has_datagrams, sent_into, without_first}
+use Rattle.chaos_turn.specs.Phase.{DoesPhase}
+use Rattle.chaos_turn.specs.Serve.{ServerDoes, ServesSlots}
 use Rattle.chaos_turn.specs.Slots.{end_phases}
-use Rattle.chaos_turn.specs.Turn.{TakesTurn}
+use Rattle.chaos_turn.specs.Station.{Server, Station, station, with_host}
+use Rattle.chaos_turn.specs.Turn.{IsTurn, has_work, queue_after}
+use Rattle.chaos_turn.specs.End.{TellsWork}
+use Rattle.chaos_turn.specs.declared.end.TurnEnd.{TurnEnd}
 use Rattle.chaos_turn.proofs.Queue.{sends_both}
 
-has_all : (xs ys zs : List PacketView) → has_packets (xs ++ (ys ++ zs)) ≡ (if has_packets xs then true else (if has_packets ys then true else has_packets zs))
+has_all : (xs ys zs : List (List ℕ)) → has_datagrams (xs ++ (ys ++ zs)) ≡ (if has_datagrams xs then true else (if has_datagrams ys then true else has_datagrams zs))
 has_all [] [] zs = refl
 has_all [] (y ∷ ys) zs = refl
 has_all (x ∷ xs) ys zs = refl
 
--- what came, then each slot served, then the last phases
-pub turn_so : {S : Type 0} (changes : S → S → StoreChange) (came : Arrival) (start now : ℕ) (h h1 h2 h3 : HostView) (k k2 : List Serving) (a b : S) (q q1 q2 q3 : Option QueueView) (o o1 o2 o3 : OutboxView) (x y z all : Bool)
-    → DoesPhase h (arrive_at_server came start now h) h1 q q1 o o1 x
-    → ServesSlots changes now (length h1.slots) (server_of h1 k) a b h2 k2 q1 q2 o1 o2 y
-    → DoesPhase h2 (end_phases k2 now h2) h3 q2 q3 o2 o3 z
-    → all ≡ (if x then true else (if y then true else z))
-    → TakesTurn changes came start now (server_of h k) a b h3 k2 q q3 o o3 all
-turn_so changes came start now h h1 h2 h3 k k2 a b q q1 q2 q3 o o1 o2 o3 x y z all one two three e =
-    let m = two.0 in
-    let does = two.3 in
-    let first = arrive_at_server came start now h in
-    let last = end_phases m.sessions now m.host in
-    let each : ServesEach changes now (length h.slots) (server_of first.host k) a m b two.1
-    = subst (λ (n : ℕ). ServesEach changes now n (server_of first.host k) a m b two.1) one.size
-    (subst (λ (v : HostView). ServesEach changes now (length h1.slots) (server_of v k) a m b two.1) one.host two.2) in
-    let ends : end_phases k2 now h2 ≡ last = ap (λ (v : HostView). end_phases k2 now v) does.host ∙ ap (λ (ks : List Serving). end_phases ks now m.host) does.sessions in
-    let late : Sends q2 last.packets q3 = subst (λ (f : Effect). Sends q2 f.packets q3) ends three.sends in (
-      server_of last.host m.sessions,
-      first.packets ++ (two.1 ++ last.packets),
-      record { served = m; replies = two.1; serves = each; server = refl; out = refl },
+-- a server at its link, of whose station its host's phases see the host
+abbrev pub host_at : {S : Type 0} → Station (Server S) → Station HostView
+host_at a = station a.node.host a.queue a.outbox
+
+module _ {S : Type 0} (changes : S → S → StoreChange) where
+  -- what came, then each slot served, then the last phases
+  pub turn_so : (came : Arrival) (start now : ℕ) (a b c d : Station (Server S)) (x y z all : Bool)
+      → b.node ≡ with_host a.node b.node.host → d.node ≡ with_host c.node d.node.host
+      → DoesPhase (arrive_at_server came start now a.node.host) (host_at a) (host_at b) x
+      → ServerDoes (ServesSlots changes now (length b.node.host.slots)) b c y
+      → DoesPhase (end_phases c.node.sessions now c.node.host) (host_at c) (host_at d) z
+      → all ≡ (if x then true else (if y then true else z))
+      → ServerDoes (IsTurn changes came start now) a d all
+  turn_so came start now a b c d x y z all same same' one two three e =
+      let first = arrive_at_server came start now a.node.host in
+      let last = end_phases c.node.sessions now c.node.host in
+      let arrived : b.node ≡ with_host a.node first.host = same ∙ ap (with_host a.node) one.host in
+      let each : ServesSlots changes now (length a.node.host.slots) (with_host a.node first.host) c.node two.datagrams
+      = subst (λ (n : ℕ). ServesSlots changes now n (with_host a.node first.host) c.node two.datagrams) one.size
+      (subst (λ (s : Server S). ServesSlots changes now (length b.node.host.slots) s c.node two.datagrams) arrived two.done) in
       record {
-        host = three.host ∙ ap (λ (f : Effect). f.host) ends;
-        sessions = does.sessions;
-        sends = sends_both q q1 q3 first.packets (two.1 ++ last.packets) one.sends (sends_both q1 q2 q3 two.1 last.packets does.sends late);
-        outbox = three.outbox ∙ (does.outbox ∙ one.outbox);
+        datagrams = first.datagrams ++ (two.datagrams ++ last.datagrams);
+        done = record { served = c.node; replies = two.datagrams; serves = each; ended = same' ∙ ap (with_host c.node) three.host; out = refl };
+        sends = sends_both a.queue b.queue d.queue first.datagrams (two.datagrams ++ last.datagrams) one.sends (sends_both b.queue c.queue d.queue two.datagrams last.datagrams two.sends three.sends);
+        outbox = three.outbox ∙ (two.outbox ∙ one.outbox);
         told = e ∙ (ap (λ (t : Bool). if t then true else (if y then true else z)) one.told
-            ∙ (ap (λ (t : Bool). if has_packets first.packets then true else (if t then true else z)) does.told
-            ∙ (ap (λ (t : Bool). if has_packets first.packets then true else (if has_packets two.1 then true else t)) (three.told ∙ ap (λ (f : Effect). has_packets f.packets) ends)
-            ∙ sym (has_all first.packets two.1 last.packets))));
-        config = three.config ∙ (does.config ∙ one.config);
-        size = three.size ∙ (does.size ∙ one.size);
-        count = does.count;
-      },
-    )
+            ∙ (ap (λ (t : Bool). if has_datagrams first.datagrams then true else (if t then true else z)) two.told
+            ∙ (ap (λ (t : Bool). if has_datagrams first.datagrams then true else (if has_datagrams two.datagrams then true else t)) three.told
+            ∙ sym (has_all first.datagrams two.datagrams last.datagrams))));
+        config = three.config ∙ (two.config ∙ one.config);
+        size = three.size ∙ (two.size ∙ one.size);
+        count = ap (λ (s : Server S). length s.sessions) same' ∙ (two.count ∙ ap (λ (s : Server S). length s.sessions) same);
+      }
+
+-- whether there was work is told of the parts of a turn
+pub work_told : (waited got sent all : Bool) (waiting datagrams : List (List ℕ)) (came : Arrival) (result : TurnEnd)
+    → waited ≡ has_datagrams waiting → got ≡ is_some came → sent ≡ has_datagrams datagrams → all ≡ (if waited then true else (if got then true else sent))
+    → TellsWork all result → TellsWork (has_work waiting came datagrams) result
+work_told waited got sent all waiting datagrams came result one two three e told =
+    let same : all ≡ has_work waiting came datagrams
+    = e ∙ (ap (λ (t : Bool). if t then true else (if got then true else sent)) one
+    ∙ (ap (λ (t : Bool). if has_datagrams waiting then true else (if t then true else sent)) two
+    ∙ ap (λ (t : Bool). if has_datagrams waiting then true else (if is_some came then true else t)) three)) in
+    subst (λ (t : Bool). TellsWork t result) same told
+
+-- what waited was sent, a datagram was received, and those of the turn were sent
+pub over_link : (q0 q1 q2 q3 : Option QueueView) (waiting datagrams : List (List ℕ)) (came : Arrival)
+    → Sends q0 waiting q1 → IfSome q1 (Receives came q2) → Sends q2 datagrams q3
+    → IfSome q0 (λ queue. (came ≡ arrival_from (sent_into queue waiting)) × (q3 ≡ Some (queue_after queue waiting datagrams)))
+over_link None q1 q2 q3 waiting datagrams came first receives last = tt
+over_link (Some queue) q1 q2 q3 waiting datagrams came first receives last =
+    let got : Receives came q2 (sent_into queue waiting) = subst (λ (q : Option QueueView). IfSome q (Receives came q2)) first receives in
+    let sent : Sends (Some (without_first (sent_into queue waiting))) datagrams q3 = subst (λ (q : Option QueueView). Sends q datagrams q3) got.1 last in
+    (got.0, sent)

@@ -56,3 +56,8 @@ arrive_at_server _ start now h = no_effect_on h
 abbrev pub arrive_at_client : Arrival → ℕ → HostView → Effect
 arrive_at_client (Some (Ok p)) now h = deliver_effect p now h
 arrive_at_client _ now h = no_effect_on h
+
+-- what became of the packet that came, where one did
+abbrev pub told_at_client : Arrival → ℕ → HostView → Option HostDelivered
+told_at_client (Some (Ok p)) now h = Some (host_deliver h p now).answer
+told_at_client _ now h = None

@@ -5,4 +5,5 @@ pub mod Phase
 pub mod Serve
 pub mod Sessions
 pub mod Slots
+pub mod Station
 pub mod Turn

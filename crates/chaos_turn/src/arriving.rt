@@ -1,20 +1,22 @@
 //! What the datagram that came makes of a host.
 ghost use Rattle.std.specs.Prelude.{◌≡◌, ◌≤◌, []};
 ghost use Rattle.chaos_turn.specs.Phase.{DoesPhase};
-ghost use Rattle.chaos_turn.specs.Arrive.{accept_by, arrive_at_client, arrive_at_server, deliver_effect, greet, request_in};
+ghost use Rattle.chaos_turn.specs.Arrive.{accept_by, arrive_at_client, arrive_at_server, deliver_effect, greet, request_in, told_at_client};
+ghost use Rattle.chaos_turn.specs.Station.{station};
 
 use crate::limits::TURN_ROOM;
 use crate::sending::send_all;
 use chaos_host::{ConnId, Host, HostDelivered};
 use chaos_link::{Link, LinkFault};
 use chaos_packet::{Outbox, Packet, PktNum};
+use chaos_serve::CONTACT;
 
 /// The new connection of a request for FILE.
 fn request_in(packet: &Packet, delivered: HostDelivered) -> Option<ConnId>
     ensures { result ≡ request_in packet.now delivered }
 {
     match delivered {
-        HostDelivered::Requested(id) if packet.contact() == b"FILE".as_slice() => Some(id),
+        HostDelivered::Requested(id) if packet.contact() == CONTACT => Some(id),
         _ => None,
     }
 }
@@ -31,7 +33,7 @@ fn accept<L: Link>(
 ) -> bool
     requires room { TURN_ROOM ≤ out.old.cap }
     requires empty { out.old.packets ≡ [] }
-    ensures { DoesPhase host.old (accept_by host.old start now request) host.new (L.queue link.old) (L.queue link.new) out.old out.new result }
+    ensures { DoesPhase (accept_by host.old start now request) (station host.old (L.queue link.old) out.old) (station host.new (L.queue link.new) out.new) result }
 {
     let Some(id) = request else {
         return false;
@@ -52,7 +54,7 @@ fn greet<L: Link>(
 ) -> bool
     requires room { TURN_ROOM ≤ out.old.cap }
     requires empty { out.old.packets ≡ [] }
-    ensures { DoesPhase host.old (greet packet.now start now host.old) host.new (L.queue link.old) (L.queue link.new) out.old out.new result }
+    ensures { DoesPhase (greet packet.now start now host.old) (station host.old (L.queue link.old) out.old) (station host.new (L.queue link.new) out.new) result }
 {
     let delivered = host.deliver(packet, now, out);
     let sent = send_all(link, out);
@@ -70,7 +72,7 @@ pub fn arrive_at_server<L: Link>(
 ) -> bool
     requires room { TURN_ROOM ≤ out.old.cap }
     requires empty { out.old.packets ≡ [] }
-    ensures { DoesPhase host.old (arrive_at_server came.now start now host.old) host.new (L.queue link.old) (L.queue link.new) out.old out.new result }
+    ensures { DoesPhase (arrive_at_server came.now start now host.old) (station host.old (L.queue link.old) out.old) (station host.new (L.queue link.new) out.new) result }
 {
     match came {
         Some(Ok(packet)) => greet(host, packet, link, start, now, out),
@@ -78,7 +80,7 @@ pub fn arrive_at_server<L: Link>(
     }
 }
 
-/// Takes what came at a client, which accepts nothing.
+/// Takes what came at a client, which accepts nothing, and leaves in `told` what became of its packet.
 #[tactic(auto, using(crate::proofs::Phase::put_into_empty))]
 pub fn arrive_at_client<L: Link>(
     host: &mut Host,
@@ -86,14 +88,17 @@ pub fn arrive_at_client<L: Link>(
     link: &mut L,
     now: u64,
     out: &mut Outbox,
+    told: &mut Option<HostDelivered>,
 ) -> bool
     requires room { TURN_ROOM ≤ out.old.cap }
     requires empty { out.old.packets ≡ [] }
-    ensures { DoesPhase host.old (arrive_at_client came.now now host.old) host.new (L.queue link.old) (L.queue link.new) out.old out.new result }
+    ensures phase { DoesPhase (arrive_at_client came.now now host.old) (station host.old (L.queue link.old) out.old) (station host.new (L.queue link.new) out.new) result }
+    ensures told { told.new ≡ told_at_client came.now now host.old }
 {
+    *told = None;
     match came {
         Some(Ok(packet)) => {
-            let _ = host.deliver(packet, now, out);
+            *told = Some(host.deliver(packet, now, out));
             send_all(link, out)
         }
         _ => false,

@@ -1,7 +1,9 @@
 //! One turn of a client.
 ghost use Rattle.std.specs.Prelude.{◌≡◌, ◌≤◌, ◌↔◌, []};
 ghost use Rattle.chaos_packet.specs.Count.{Rose};
+ghost use Rattle.chaos_turn.specs.Arrive.{told_at_client};
 ghost use Rattle.chaos_turn.specs.Phase.{DoesPhase};
+ghost use Rattle.chaos_turn.specs.Station.{station};
 ghost use Rattle.chaos_turn.specs.Turn.{RunsClientTurn, client_phases};
 
 use crate::arriving::arrive_at_client;
@@ -10,7 +12,7 @@ use crate::limits::TURN_ROOM;
 use crate::receiving::receive;
 use crate::sending::send_all;
 use crate::ticking::tick_slots;
-use chaos_host::Host;
+use chaos_host::{Host, HostDelivered};
 use chaos_link::{Link, LinkFault};
 use chaos_packet::{Outbox, Packet};
 
@@ -21,12 +23,14 @@ fn take_client_turn<L: Link>(
     link: &mut L,
     now: u64,
     out: &mut Outbox,
+    told: &mut Option<HostDelivered>,
 ) -> bool
     requires room { TURN_ROOM ≤ out.old.cap }
     requires empty { out.old.packets ≡ [] }
-    ensures { DoesPhase host.old (client_phases came.now now host.old) host.new (L.queue link.old) (L.queue link.new) out.old out.new result }
+    ensures told { told.new ≡ told_at_client came.now now host.old }
+    ensures phases { DoesPhase (client_phases came.now now host.old) (station host.old (L.queue link.old) out.old) (station host.new (L.queue link.new) out.new) result }
 {
-    let arrived = arrive_at_client(host, came, link, now, out);
+    let arrived = arrive_at_client(host, came, link, now, out, told);
     let ticked = tick_slots(host, link, now, out);
     any_of(ticked, arrived, false)
 }
@@ -34,18 +38,27 @@ fn take_client_turn<L: Link>(
 /// One turn of a client: it sends what waits, receives at most one datagram, delivers its packet, and ticks each slot. What
 /// the host puts out is sent after each of its calls. It accepts no request and serves nothing.
 ///
+/// It leaves in `told` what became of the packet that came, as [`Host::deliver`] answered it, and `None` where no datagram
+/// came or it carried no packet. So a client learns with which text its request was refused.
+///
 /// What it answers and asks for is as at [`run_turn`](crate::run_turn); it walks over the slots once, and takes no memory.
-pub fn client_turn<L: Link>(host: &mut Host, link: &mut L, now: u64, out: &mut Outbox) -> TurnEnd
+pub fn client_turn<L: Link>(
+    host: &mut Host,
+    link: &mut L,
+    now: u64,
+    out: &mut Outbox,
+    told: &mut Option<HostDelivered>,
+) -> TurnEnd
     requires room { TURN_ROOM ≤ out.old.cap }
     ensures fault { (result ≡ TurnEnd.LinkFault) ↔ Rose (L.count link.old) (L.count link.new) }
-    ensures turn { RunsClientTurn now host.old host.new (L.queue link.old) (L.queue link.new) out.old result }
+    ensures turn { RunsClientTurn now (station host.old (L.queue link.old) out.old) (station host.new (L.queue link.new) out.new) result told.new }
     // All was sent.
     ensures outbox { out.new ≡ record { packets = []; cap = out.old.cap } }
 {
     let before = link.failures();
     let waited = send_all(link, out);
     let came = receive(link);
-    let sent = take_client_turn(host, &came, link, now, out);
+    let sent = take_client_turn(host, &came, link, now, out, told);
     end_of(
         before,
         link.failures(),

@@ -2,6 +2,7 @@
 ghost use Rattle.std.specs.Prelude.{◌≡◌, ◌<◌, ◌≤◌, [], length};
 ghost use Rattle.chaos_turn.specs.Phase.{DoesPhase, over_slots};
 ghost use Rattle.chaos_turn.specs.Slots.{close_at, end_phases, release_at};
+ghost use Rattle.chaos_turn.specs.Station.{station};
 
 use crate::end::any_of;
 use crate::limits::TURN_ROOM;
@@ -25,7 +26,7 @@ fn close_slot<L: Link>(
     requires within { place < length sessions.now }
     requires room { TURN_ROOM ≤ out.old.cap }
     requires empty { out.old.packets ≡ [] }
-    ensures { DoesPhase host.old (close_at sessions.now place host.old) host.new (L.queue link.old) (L.queue link.new) out.old out.new result }
+    ensures { DoesPhase (close_at sessions.now place host.old) (station host.old (L.queue link.old) out.old) (station host.new (L.queue link.new) out.new) result }
 {
     let Some(id) = host.id_of(place) else {
         return false;
@@ -48,8 +49,7 @@ pub fn close_slots<L: Link>(
     requires alike { length sessions.now ≡ length host.old.slots }
     requires room { TURN_ROOM ≤ out.old.cap }
     requires empty { out.old.packets ≡ [] }
-    ensures { DoesPhase host.old (over_slots (close_at sessions.now) (length host.old.slots) host.old) host.new
-        (L.queue link.old) (L.queue link.new) out.old out.new result }
+    ensures { DoesPhase (over_slots (close_at sessions.now) (length host.old.slots) host.old) (station host.old (L.queue link.old) out.old) (station host.new (L.queue link.new) out.new) result }
 {
     let mut sent = false;
     for place in 0..host.conns() {
@@ -63,7 +63,7 @@ pub fn close_slots<L: Link>(
 fn release_slot<L: Link>(host: &mut Host, place: usize, link: &mut L, out: &mut Outbox) -> bool
     requires room { TURN_ROOM ≤ out.old.cap }
     requires empty { out.old.packets ≡ [] }
-    ensures { DoesPhase host.old (release_at place host.old) host.new (L.queue link.old) (L.queue link.new) out.old out.new result }
+    ensures { DoesPhase (release_at place host.old) (station host.old (L.queue link.old) out.old) (station host.new (L.queue link.new) out.new) result }
 {
     let Some(id) = host.id_of(place) else {
         return false;
@@ -77,8 +77,7 @@ fn release_slot<L: Link>(host: &mut Host, place: usize, link: &mut L, out: &mut 
 pub fn release_slots<L: Link>(host: &mut Host, link: &mut L, out: &mut Outbox) -> bool
     requires room { TURN_ROOM ≤ out.old.cap }
     requires empty { out.old.packets ≡ [] }
-    ensures { DoesPhase host.old (over_slots release_at (length host.old.slots) host.old) host.new
-        (L.queue link.old) (L.queue link.new) out.old out.new result }
+    ensures { DoesPhase (over_slots release_at (length host.old.slots) host.old) (station host.old (L.queue link.old) out.old) (station host.new (L.queue link.new) out.new) result }
 {
     let mut sent = false;
     for place in 0..host.conns() {
@@ -99,8 +98,7 @@ pub fn end_slots<L: Link>(
     requires alike { length sessions.now ≡ length host.old.slots }
     requires room { TURN_ROOM ≤ out.old.cap }
     requires empty { out.old.packets ≡ [] }
-    ensures { DoesPhase host.old (end_phases sessions.now now host.old) host.new
-        (L.queue link.old) (L.queue link.new) out.old out.new result }
+    ensures { DoesPhase (end_phases sessions.now now host.old) (station host.old (L.queue link.old) out.old) (station host.new (L.queue link.new) out.new) result }
 {
     let closed = close_slots(host, sessions, link, out);
     let released = release_slots(host, link, out);

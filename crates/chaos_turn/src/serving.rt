@@ -2,9 +2,9 @@
 ghost use Rattle.std.specs.Prelude.{◌≡◌, ◌<◌, ◌≤◌, [], length};
 ghost use Rattle.chaos_packet.specs.Outbox.{room_of};
 ghost use Rattle.chaos_file.specs.Store.{change};
-ghost use Rattle.chaos_host.specs.View.{id_at};
-ghost use Rattle.chaos_turn.specs.Serve.{DoesKept, DoesServing, ServesAt, ServesBy, ServesSlots, server_of};
+ghost use Rattle.chaos_turn.specs.Serve.{DoesKept, ServerDoes, ServesSlot, ServesSlots, SessionServes};
 ghost use Rattle.chaos_turn.specs.Sessions.{serving_of};
+ghost use Rattle.chaos_turn.specs.Station.{server, station};
 
 use crate::limits::TURN_ROOM;
 use crate::sending::send_all;
@@ -27,7 +27,7 @@ fn serve_kept<S: Store>(
     out: &mut Outbox,
 )
     requires { 2 ≤ room_of out.old }
-    ensures { ServesBy (change S.contents S.may_give S.count store.old store.new) now id (serving_of id kept.old)
+    ensures { SessionServes (change S.contents S.may_give S.count store.old store.new) now id (serving_of id kept.old)
         (λ serving acted. DoesKept serving kept.new host.old acted host.new out.old out.new) host.old }
 {
     kept.turn_to(id);
@@ -50,9 +50,9 @@ fn serve_slot<S: Store, L: Link>(
     requires within { place < length sessions.old }
     requires room { TURN_ROOM ≤ out.old.cap }
     requires empty { out.old.packets ≡ [] }
-    ensures { ServesAt (change S.contents S.may_give S.count store.old store.new) now place (server_of host.old sessions.old)
-        (λ server packets. DoesServing host.old sessions.old server packets host.new sessions.new (L.queue link.old) (L.queue link.new) out.old out.new result)
-        (id_at host.old place) }
+    ensures { ServerDoes (ServesSlot (change S.contents S.may_give S.count) now place)
+        (station (server host.old sessions.old store.old) (L.queue link.old) out.old)
+        (station (server host.new sessions.new store.new) (L.queue link.new) out.new) result }
 {
     let Some(id) = host.id_of(place) else {
         return false;
@@ -75,8 +75,9 @@ pub fn serve_slots<S: Store, L: Link>(
     requires alike { length sessions.old ≡ length host.old.slots }
     requires room { TURN_ROOM ≤ out.old.cap }
     requires empty { out.old.packets ≡ [] }
-    ensures { ServesSlots (change S.contents S.may_give S.count) now (length host.old.slots) (server_of host.old sessions.old) store.old store.new
-        host.new sessions.new (L.queue link.old) (L.queue link.new) out.old out.new result }
+    ensures { ServerDoes (ServesSlots (change S.contents S.may_give S.count) now (length host.old.slots))
+        (station (server host.old sessions.old store.old) (L.queue link.old) out.old)
+        (station (server host.new sessions.new store.new) (L.queue link.new) out.new) result }
 {
     let mut sent = false;
     for place in 0..host.conns() {

@@ -2,6 +2,7 @@
 ghost use Rattle.std.specs.Prelude.{◌≡◌, ◌≤◌, [], length};
 ghost use Rattle.chaos_turn.specs.Phase.{DoesPhase, over_slots};
 ghost use Rattle.chaos_turn.specs.Slots.{tick_at};
+ghost use Rattle.chaos_turn.specs.Station.{station};
 
 use crate::limits::TURN_ROOM;
 use crate::sending::send_all;
@@ -21,7 +22,7 @@ fn tick_slot<L: Link>(
     requires window { host.old.config.send_cap ≤ TURN_ROOM }
     requires room { TURN_ROOM ≤ out.old.cap }
     requires empty { out.old.packets ≡ [] }
-    ensures { DoesPhase host.old (tick_at now place host.old) host.new (L.queue link.old) (L.queue link.new) out.old out.new result }
+    ensures { DoesPhase (tick_at now place host.old) (station host.old (L.queue link.old) out.old) (station host.new (L.queue link.new) out.new) result }
 {
     let _ = host.tick(place, now, out);
     send_all(link, out)
@@ -32,8 +33,7 @@ fn tick_slot<L: Link>(
 pub fn tick_slots<L: Link>(host: &mut Host, link: &mut L, now: u64, out: &mut Outbox) -> bool
     requires room { TURN_ROOM ≤ out.old.cap }
     requires empty { out.old.packets ≡ [] }
-    ensures { DoesPhase host.old (over_slots (tick_at now) (length host.old.slots) host.old) host.new
-        (L.queue link.old) (L.queue link.new) out.old out.new result }
+    ensures { DoesPhase (over_slots (tick_at now) (length host.old.slots) host.old) (station host.old (L.queue link.old) out.old) (station host.new (L.queue link.new) out.new) result }
 {
     // A configuration has a send window of at most 64 packets, so that the outbox has room for a tick.
     let _window = host.config().send_cap();

@@ -2,8 +2,9 @@
 ghost use Rattle.std.specs.Prelude.{◌≡◌, ◌≤◌, ◌↔◌, [], length};
 ghost use Rattle.chaos_packet.specs.Count.{Rose};
 ghost use Rattle.chaos_file.specs.Store.{change};
-ghost use Rattle.chaos_turn.specs.Serve.{server_of};
-ghost use Rattle.chaos_turn.specs.Turn.{RunsTurn, TakesTurn};
+ghost use Rattle.chaos_turn.specs.Serve.{ServerDoes};
+ghost use Rattle.chaos_turn.specs.Station.{server, station};
+ghost use Rattle.chaos_turn.specs.Turn.{IsTurn, RunsTurn};
 
 use crate::arriving::arrive_at_server;
 use crate::end::{TurnEnd, any_of, end_of};
@@ -34,8 +35,9 @@ fn take_turn<S: Store, L: Link>(
     requires alike { length sessions.old ≡ length host.old.slots }
     requires room { TURN_ROOM ≤ out.old.cap }
     requires empty { out.old.packets ≡ [] }
-    ensures { TakesTurn (change S.contents S.may_give S.count) came.now start now (server_of host.old sessions.old) store.old store.new
-        host.new sessions.new (L.queue link.old) (L.queue link.new) out.old out.new result }
+    ensures { ServerDoes (IsTurn (change S.contents S.may_give S.count) came.now start now)
+        (station (server host.old sessions.old store.old) (L.queue link.old) out.old)
+        (station (server host.new sessions.new store.new) (L.queue link.new) out.new) result }
 {
     let arrived = arrive_at_server(host, came, link, start, now, out);
     let served = serve_slots(alloc, host, sessions, store, link, now, out);
@@ -74,8 +76,9 @@ pub fn run_turn<S: Store, L: Link>(
     requires room { TURN_ROOM ≤ out.old.cap }
     ensures fault { (result ≡ TurnEnd.LinkFault) ↔ Rose (L.count link.old) (L.count link.new) }
     // The turn is the definition; over a queue its packets went out in order.
-    ensures turn { RunsTurn (change S.contents S.may_give S.count) start now (server_of host.old sessions.old) store.old store.new
-        host.new sessions.new (L.queue link.old) (L.queue link.new) out.old result }
+    ensures turn { RunsTurn (change S.contents S.may_give S.count) start now
+        (station (server host.old sessions.old store.old) (L.queue link.old) out.old)
+        (station (server host.new sessions.new store.new) (L.queue link.new) out.new) result }
     // All was sent.
     ensures outbox { out.new ≡ record { packets = []; cap = out.old.cap } }
     // A next turn finds as many sessions as slots.

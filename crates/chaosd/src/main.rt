@@ -5,6 +5,7 @@
 #![tactic(auto)]
 
 mod network;
+mod noting;
 mod runs;
 mod status;
 mod told;

@@ -1,10 +1,12 @@
 //! The runs over sockets: `loop`, `ask` and `serve`.
-use crate::told::{tell_end, tell_unopened};
+use crate::noting::Noting;
+use crate::told::{tell_end, tell_script, tell_unopened};
 use chaos_file::DirStore;
 use chaos_link::{Peer, Peers, UdpLink};
 use chaosd_engines::RunFault;
 use chaosd_file::{
-    LOOP_CLIENT, LOOP_SERVER, ScriptEnd, run_ask, run_loop, run_serve, script_status, serve_status,
+    LOOP_CLIENT, LOOP_SERVER, NOBODY, ScriptEnd, Why, run_ask, run_loop, run_serve, script_status,
+    serve_status,
 };
 use chaosd_line::{Ask, Serve};
 use std::fs::{File, Files};
@@ -66,28 +68,39 @@ fn has_input<R: Input>(rt: &R) -> bool {
 }
 
 /// Tells how a script ended, and gives the exit status.
-fn end_script<R: Eprint>(rt: &R, end: &Result<ScriptEnd, RunFault>) -> u8 {
-    tell_end(rt, end);
+fn end_script<R: Eprint>(rt: &R, end: &Result<ScriptEnd, RunFault>, why: &Option<Why>) -> u8 {
+    tell_script(rt, end, why);
     script_status(end)
+}
+
+/// The host that is asked: this one where it is a peer. Of one that is none nothing can be asked, which is told.
+fn asked_host<R: Eprint>(rt: &R, to: u16, peers: &Peers) -> u16 {
+    if peers.find(to).is_some() {
+        return to;
+    }
+    let _ = eprintln!(rt; "chaosd: host {to:06o} is no PEER");
+    NOBODY
 }
 
 /// Runs `loop` from standard input to standard output.
 pub(crate) fn run_loop_line<R: AllocGlobal + Eprint + Input + Net + Print>(rt: &R) -> u8 {
     if !has_input(rt) {
-        return end_script(rt, &Err(RunFault::ReadFault));
+        return end_script(rt, &Err(RunFault::ReadFault), &None);
     }
     let (mut near, mut far) = match own_links(rt) {
         Ok(links) => links,
         Err(error) => return tell_unopened(rt, &"a socket of this machine", &error),
     };
+    let mut why = None;
     let end = run_loop(
         rt.alloc(),
         &mut rt.reader(),
         &mut io::writer(rt),
         &mut near,
         &mut far,
+        &mut why,
     );
-    end_script(rt, &end)
+    end_script(rt, &end, &why)
 }
 
 /// Runs `ask` from standard input to standard output.
@@ -102,12 +115,14 @@ pub(crate) fn run_ask_line<R: AllocGlobal + Clock + Eprint + Input + Net + Print
         peers,
     } = line;
     if !has_input(rt) {
-        return end_script(rt, &Err(RunFault::ReadFault));
+        return end_script(rt, &Err(RunFault::ReadFault), &None);
     }
+    let to = asked_host(rt, to, &peers);
     let mut link = match link_at(rt, socket, peers) {
         Ok(link) => link,
         Err(error) => return tell_unopened(rt, &socket, &error),
     };
+    let mut why = None;
     let end = run_ask(
         rt,
         rt.alloc(),
@@ -116,8 +131,9 @@ pub(crate) fn run_ask_line<R: AllocGlobal + Clock + Eprint + Input + Net + Print
         &mut link,
         address,
         to,
+        &mut why,
     );
-    end_script(rt, &end)
+    end_script(rt, &end, &why)
 }
 
 /// Runs `serve` on a folder, which is opened first, and then the socket.
@@ -137,7 +153,7 @@ pub(crate) fn run_serve_line<R: AllocGlobal + Clock + Eprint + Files<File = File
         Err(error) => return tell_unopened(rt, &folder, &error),
     };
     let mut link = match link_at(rt, socket, peers) {
-        Ok(link) => link,
+        Ok(link) => Noting::new(rt, link),
         Err(error) => return tell_unopened(rt, &socket, &error),
     };
     let _ = eprintln!(rt; "chaosd: host {address:06o} serves {folder} at {socket}");
@@ -150,5 +166,8 @@ pub(crate) fn run_serve_line<R: AllocGlobal + Clock + Eprint + Files<File = File
         u64::from(turns),
     );
     tell_end(rt, &end);
+    if end.is_ok() {
+        let _ = eprintln!(rt; "chaosd: {turns} turns are over");
+    }
     serve_status(&end)
 }

@@ -2,6 +2,7 @@
 ghost use Rattle.std.specs.Prelude.{◌≡◌, ◌⊎◌};
 
 use chaosd_engines::{FAULT, NO_MEMORY, RunFault};
+use chaosd_file::{ScriptEnd, Why};
 use std::fmt::Display;
 use std::io;
 
@@ -14,6 +15,20 @@ pub(crate) fn tell_end<R: Eprint, T>(rt: &R, end: &Result<T, RunFault>) {
             _ => eprintln!(rt; "chaosd: {fault}"),
         };
     }
+}
+
+/// Tells how a run over a script ended: as [`tell_end`] does, and what is wrong with a bad line, and why a command got no reply.
+pub(crate) fn tell_script<R: Eprint>(rt: &R, end: &Result<ScriptEnd, RunFault>, why: &Option<Why>) {
+    let _ = match (end, why) {
+        (Err(fault @ RunFault::BadScript(_)), Some(Why::BadLine(bad))) => {
+            eprintln!(rt; "{fault}: {bad}")
+        }
+        (Ok(_), Some(Why::NoReply(why))) => eprintln!(rt; "chaosd: {why}"),
+        _ => {
+            tell_end(rt, end);
+            return;
+        }
+    };
 }
 
 /// Tells what could not be opened, and why. The answer is the status of a program that ends by it: 4 for want of memory, else 1.

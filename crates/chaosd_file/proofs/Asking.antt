@@ -1,13 +1,14 @@
 -- A run over a script, command by command.
 use Rattle.std.proofs.Common.{◌≡◌, ℕ, ◌+◌, ◌-◌, ◌<◌, ◌≤◌, Bool, true, false, cond, eqb, ltb, List, [], ◌∷◌, ◌++◌, All, length, take, drop, refl, sym, ap, ◌∙◌, subst, arith, append_assoc, append-nil, take_all, length-take, length-append}
-use Rattle.std.specs.Prelude.{Option, None, Some, is_some, IfSome, Ok, Err}
+use Rattle.std.specs.Prelude.{Option, None, Some, is_some, IfSome, IfOk, Result, Ok, Err}
 use Rattle.std.specs.Io.BufRead.{strip_last}
 use Rattle.std.specs.Io.KnownBytes.{Appends, Consumes}
 use Rattle.std.proofs.KnownBytes.{Appends-nil, Appends-trans}
-use Rattle.std.proofs.lemmas.Bool.{lt-ltb}
+use Rattle.std.proofs.lemmas.Bool.{le-ltb, lt-ltb}
 use Rattle.std.proofs.lemmas.Bool.Decides.{nat_tests}
 use Rattle.std.proofs.lemmas.Grind.{common_steps}
 use Rattle.std.proofs.lemmas.List.{take-take, take-append-drop}
+use Rattle.std.proofs.Math.Seq.{take-append-add, take-append_seam}
 use Rattle.std.proofs.lemmas.List.Concat.{flat_map-append}
 use Rattle.std.proofs.lemmas.List.Elements.{All-nil, All-push}
 use Rattle.std.proofs.lemmas.List.Splits.{length-slice_split}
@@ -15,14 +16,21 @@ use Rattle.chaosd_engines.specs.declared.fault.RunFault.{RunFault}
 use Rattle.chaosd_engines.specs.declared.fault.RunFault.TheVariants.{ReadFault, WriteFault, InputTooLong, NoMemory, BadScript, LinkFault, ClockFault}
 use Rattle.chaosd_engines.specs.declared.limits.TheConstants.{INPUT_LIMIT, KEPT_LEN, LINE_LIMIT}
 use Rattle.chaosd_engines.specs.Escapes.{data_of}
-use Rattle.chaosd_engines.specs.Lines.{is_newline, pieces_of, without_empty_last, ended_lines, lines_of}
+use Rattle.chaosd_engines.specs.Lines.{all_but_last, is_newline, pieces_of, without_empty_last, ended_lines, lines_of}
 use Rattle.chaosd_file.specs.declared.lines.LineReader.{LineReader}
 use Rattle.chaosd_file.specs.Command.{command_of}
 use Rattle.chaosd_file.specs.Fault.{IsTurnFault}
-use Rattle.chaosd_file.specs.Printed.{reply_line, replies_text, no_reply_line, PrintsReplies}
+use Rattle.chaosd_file.specs.Printed.{ending_of, reply_line, replies_text, no_reply_line, PrintsReplies}
 use Rattle.chaosd_file.specs.Reader.{waiting, Going, Done, Gives, NextLine}
-use Rattle.chaosd_file.specs.Script.{IsCommand, IsFirstBad, BeginWithCommands, AreCommands, Ran, Runs}
+use Rattle.chaosd_file.specs.Script.{IsCommand, IsFirstBad, BeginWithCommands, AreCommands, lines_within, Ran, Runs}
 use Rattle.chaosd_file.specs.Asking.{Asked}
+use Rattle.chaosd_file.specs.Conversation.{AsksAll, Converses, commands_said, item_for}
+use Rattle.chaos_link.specs.Link.{QueueView}
+use Rattle.chaosd_file.specs.Exchange.{Exchanges, SaysFarewell, command_item}
+use Rattle.chaosd_file.specs.Talk.{Talker, and_later, silence}
+use Rattle.chaosd_file.specs.declared.end.ScriptEnd.{ScriptEnd}
+use Rattle.chaos_packet.specs.Item.{ItemView}
+use Rattle.chaosd_file.proofs.Talking.{talks_none, talks_on}
 
 -- ---- what is kept of a line decides what it stands for
 
@@ -57,32 +65,74 @@ without_empty_last-append (first ∷ []) [] some = absurd (omega (arith, some))
 without_empty_last-append (first ∷ []) (piece ∷ pieces) some = refl
 without_empty_last-append (first ∷ next ∷ others) pieces some = ap (λ l. first ∷ l) (without_empty_last-append (next ∷ others) pieces some)
 
-begin_by : (given : List (List ℕ)) (all read rest begun : List ℕ) → all ≡ read ++ rest → pieces_of (read ++ rest) ≡ given ++ pieces_of begun → (others : List (List ℕ)) × (lines_of all ≡ given ++ others)
-begin_by given all read rest begun whole e = (
-  without_empty_last (pieces_of begun),
-  ap lines_of whole ∙ ap without_empty_last e ∙ without_empty_last-append given (pieces_of begun) (omega (arith, length-slice_split is_newline begun)),
+all_but_last-append : (lines pieces : List (List ℕ)) → 0 < length pieces → all_but_last (lines ++ pieces) ≡ lines ++ all_but_last pieces
+all_but_last-append [] pieces some = refl
+all_but_last-append (first ∷ []) [] some = absurd (omega (arith, some))
+all_but_last-append (first ∷ []) (piece ∷ pieces) some = refl
+all_but_last-append (first ∷ next ∷ others) pieces some = ap (λ l. first ∷ l) (all_but_last-append (next ∷ others) pieces some)
+
+-- of an input, these lines were given, and what goes on behind them is known
+pub record GoesOn (all read rest : List ℕ) (given : List (List ℕ)) (begun : List ℕ) : Type 0 where
+  pub whole : all ≡ read ++ rest
+  pub few : length read ≤ INPUT_LIMIT
+  pub goes_on : (more : List ℕ) → pieces_of (read ++ more) ≡ given ++ pieces_of (begun ++ more)
+
+begins_short : (all read rest begun : List ℕ) (given : List (List ℕ)) → GoesOn all read rest given begun → (others : List (List ℕ)) × (lines_of all ≡ given ++ others)
+begins_short all read rest begun given s = (
+  without_empty_last (pieces_of (begun ++ rest)),
+  ap lines_of s.whole ∙ ap without_empty_last (s.goes_on rest) ∙ without_empty_last-append given (pieces_of (begun ++ rest)) (omega (arith, length-slice_split is_newline (begun ++ rest))),
 )
 
+limited : (all read rest : List ℕ) → all ≡ read ++ rest → length read ≤ INPUT_LIMIT → take INPUT_LIMIT all ≡ read ++ take (INPUT_LIMIT - length read) rest
+limited all read rest whole few =
+    let sum : INPUT_LIMIT ≡ length read + (INPUT_LIMIT - length read) = omega arith in
+    ap (take INPUT_LIMIT) whole ∙ ap (λ n. take n (read ++ rest)) sum ∙ take-append-add read rest (INPUT_LIMIT - length read)
+
+begins_long : (all read rest begun : List ℕ) (given : List (List ℕ)) → GoesOn all read rest given begun → (others : List (List ℕ)) × (ended_lines (take INPUT_LIMIT all) ≡ given ++ others)
+begins_long all read rest begun given s =
+    let more : List ℕ = take (INPUT_LIMIT - length read) rest in (
+      all_but_last (pieces_of (begun ++ more)),
+      ap ended_lines (limited all read rest s.whole s.few) ∙ ap all_but_last (s.goes_on more) ∙ all_but_last-append given (pieces_of (begun ++ more)) (omega (arith, length-slice_split is_newline (begun ++ more))),
+    )
+
+begin_by : (is_long : Bool) (all read rest begun : List ℕ) (given : List (List ℕ)) → GoesOn all read rest given begun
+    → (others : List (List ℕ)) × (cond is_long (ended_lines (take INPUT_LIMIT all)) (lines_of all) ≡ given ++ others)
+begin_by true all read rest begun given s = begins_long all read rest begun given s
+begin_by false all read rest begun given s = begins_short all read rest begun given s
+
 abbrev Begins : Option (List ℕ) → List (List ℕ) → Type 0
-Begins input given = IfSome input (λ all. (others : List (List ℕ)) × (lines_of all ≡ given ++ others))
+Begins input given = IfSome input (λ all. (others : List (List ℕ)) × (lines_within all ≡ given ++ others))
+
+few_read : (input rest : Option (List ℕ)) (given : List (List ℕ)) (r : LineReader) (s : Going input rest given [] r) → length s.read ≤ INPUT_LIMIT
+few_read input rest given r s = omega (arith, s.room)
 
 within_begins : (input rest : Option (List ℕ)) (given : List (List ℕ)) (r : LineReader) (s : Going input rest given [] r) → Consumes input rest s.read → Begins input given
 within_begins None rest given r s c = tt
 within_begins (Some all) None given r s c = absurd c
-within_begins (Some all) (Some left) given r s c = begin_by given all s.read left (waiting r ++ left) c (s.goes_on left)
+within_begins (Some all) (Some left) given r s c =
+    begin_by (ltb INPUT_LIMIT (length all)) all s.read left (waiting r) given (record { whole = c; few = few_read (Some all) (Some left) given r s; goes_on = s.goes_on })
 
 past_begins : (input rest : Option (List ℕ)) (given : List (List ℕ)) (r : LineReader) (s : Going input rest given [] r) → IfSome input (λ all. (INPUT_LIMIT < length all) × (take INPUT_LIMIT all ≡ s.read)) → Begins input given
 past_begins None rest given r s past = tt
 past_begins (Some all) rest given r s past =
-    begin_by given all s.read (drop INPUT_LIMIT all) (waiting r ++ drop INPUT_LIMIT all) (sym (take-append-drop INPUT_LIMIT all) ∙ ap (λ l. l ++ drop INPUT_LIMIT all) past.1) (s.goes_on (drop INPUT_LIMIT all))
+    begin_by (ltb INPUT_LIMIT (length all)) all s.read (drop INPUT_LIMIT all) (waiting r) given
+    (record {
+      whole = sym (take-append-drop INPUT_LIMIT all) ∙ ap (λ l. l ++ drop INPUT_LIMIT all) past.1;
+      few = few_read (Some all) rest given r s;
+      goes_on = s.goes_on;
+    })
 
 going_begins : (input rest : Option (List ℕ)) (given : List (List ℕ)) (r : LineReader) (is_over : Bool) → r.is_over ≡ is_over → Going input rest given [] r → Begins input given
 going_begins input rest given r true over s = past_begins input rest given r s (s.past over)
 going_begins input rest given r false over s = within_begins input rest given r s (s.within over)
 
+-- of an input within the limit all lines can be had
+within_all : (all : List ℕ) → length all ≤ INPUT_LIMIT → lines_within all ≡ lines_of all
+within_all all few = ap (λ b. cond b (ended_lines (take INPUT_LIMIT all)) (lines_of all)) (le-ltb INPUT_LIMIT (length all) few)
+
 done_begins : (input rest : Option (List ℕ)) (given : List (List ℕ)) → Done input rest given → Begins input given
 done_begins None rest given s = tt
-done_begins (Some all) rest given s = ([], s.lines.1 ∙ sym (append-nil given))
+done_begins (Some all) rest given s = ([], within_all all s.lines.0 ∙ s.lines.1 ∙ sym (append-nil given))
 
 begins_by : (input rest : Option (List ℕ)) (given : List (List ℕ)) (r : LineReader) (is_at_end : Bool) → r.is_at_end ≡ is_at_end → Gives input rest given r → Begins input given
 begins_by input rest given r true ended s = done_begins input rest given (s.done ended)
@@ -108,32 +158,46 @@ none_given input rest given kept r true e h = absurd (let no : ⊥ = cc in no)
 none_given input rest given kept r false e h = h
 
 -- one reply more
-reply_more : (before between after : Option (List ℕ)) (replied : ℕ) (reply : List ℕ) → PrintsReplies replied before between → Appends between after (reply_line reply) → PrintsReplies (replied + 1) before after
-reply_more before between after replied reply p more = record {
-  replies = p.replies ++ reply ∷ [];
-  number = length-append p.replies (reply ∷ []) ∙ ap (λ n. n + 1) p.number;
-  text = subst (Appends before after)
-      (sym (flat_map-append reply_line p.replies (reply ∷ []) ∙ ap (λ l. replies_text p.replies ++ l) (append-nil (reply_line reply))))
-      (Appends-trans before between after (replies_text p.replies) (reply_line reply) p.text more);
-}
+text_more : (before between after : Option (List ℕ)) (replies : List (List ℕ)) (reply : List ℕ) → Appends before between (replies_text replies) → Appends between after (reply_line reply) → Appends before after (replies_text (replies ++ reply ∷ []))
+text_more before between after replies reply printed more =
+    subst (Appends before after)
+    (sym (flat_map-append reply_line replies (reply ∷ []) ∙ ap (λ l. replies_text replies ++ l) (append-nil (reply_line reply))))
+    (Appends-trans before between after (replies_text replies) (reply_line reply) printed more)
+
+one_said : (raw command : List ℕ) → command_of raw ≡ Some command → commands_said (raw ∷ []) ≡ command_item command ∷ []
+one_said raw command is = ap (λ o. item_for o ++ []) is
+
+-- one command more
+said_more : (given : List (List ℕ)) (before said : List ItemView) (raw command : List ℕ) → before ≡ commands_said given → said ≡ command_item command ∷ [] → command_of raw ≡ Some command
+    → before ++ said ≡ commands_said (given ++ raw ∷ [])
+said_more given before said raw command so_far now is =
+    ap (λ l. l ++ said) so_far ∙ ap (λ l. commands_said given ++ l) (now ∙ sym (one_said raw command is)) ∙ sym (flat_map-append (λ line. item_for (command_of line)) given (raw ∷ []))
 
 -- a command got its reply
-pub asked_more : (input rest rest' before between after : Option (List ℕ)) (replied : ℕ) (kept command reply : List ℕ) (r r' : LineReader) (more : Bool) (s : Asked input rest before between replied r)
-    → more ≡ true → NextLine input rest' s.given kept r' (Ok more) → command_of kept ≡ Some command → Appends between after (reply_line reply)
-    → Asked input rest' before after (replied + 1) r'
-asked_more input rest rest' before between after replied kept command reply r r' more s e next is printed =
+pub asked_more : (first mid last : Talker) (input rest rest' before between after : Option (List ℕ)) (replied : ℕ) (kept command reply : List ℕ) (r r' : LineReader) (more : Bool) (s : Asked first mid input rest before between replied r)
+    → more ≡ true → NextLine input rest' s.given kept r' (Ok more) → command_of kept ≡ Some command → Exchanges mid command (Some reply) last → Appends between after (reply_line reply)
+    → Asked first last input rest' before after (replied + 1) r'
+asked_more first mid last input rest rest' before between after replied kept command reply r r' more s e next is (talk, talks, (said, heard)) printed =
     let (raw, front, gives) = line_given input rest' s.given kept r' more e next in
     record {
       given = s.given ++ raw ∷ [];
       count = length-append s.given (raw ∷ []) ∙ ap (λ n. n + 1) s.count;
       commands = All-push IsCommand s.given raw s.commands (some_command kept raw command front is);
       gives = gives;
-      printed = reply_more before between after replied reply s.printed printed;
+      printed = record {
+        replies = s.printed.replies ++ reply ∷ [];
+        number = length-append s.printed.replies (reply ∷ []) ∙ ap (λ n. n + 1) s.printed.number;
+        text = text_more before between after s.printed.replies reply s.printed.text printed;
+      };
+      talk = and_later s.talk talk;
+      talks = talks_on first mid last s.talk talk s.talks talks;
+      said = said_more s.given s.talk.said talk.said raw command s.said said (kept_decides kept raw front ∙ is);
+      heard = ap (λ l. s.talk.heard ++ l) heard ∙ ap (λ l. l ++ reply ∷ []) s.heard;
     }
 
 -- ---- how a run ends
 
-tried_first : (input : Option (List ℕ)) (tried : List (List ℕ)) (count : ℕ) → All IsCommand tried → length tried ≡ count → Begins input tried → IfSome input (λ all. BeginWithCommands count (lines_of all))
+tried_first : (input : Option (List ℕ)) (tried : List (List ℕ)) (count : ℕ) → All IsCommand tried → length tried ≡ count → Begins input tried → IfSome input (λ all. BeginWithCommands count (lines_within all))
 tried_first None tried count commands number h = tt
 tried_first (Some all) tried count commands number h = record { tried = tried; others = h.0; whole = h.1; commands = commands; number = number }
 
@@ -143,21 +207,33 @@ same_count n = grind (arith, nat_tests)
 less_count : (n : ℕ) → eqb n (n + 1) ≡ false
 less_count n = grind (arith, nat_tests)
 
+-- where each command got a reply, nothing stands behind the replies; else it is said that one got none
+whole_text : (before after : Option (List ℕ)) (replied : ℕ) (replies : List (List ℕ)) → Appends before after (replies_text replies)
+    → Appends before after (replies_text replies ++ ending_of (record { commands = replied; replied = replied }))
+whole_text before after replied replies printed =
+    subst (Appends before after) (sym (ap (λ b. replies_text replies ++ cond b [] no_reply_line) (same_count replied) ∙ append-nil _)) printed
+
+part_text : (before between after : Option (List ℕ)) (replied : ℕ) (replies : List (List ℕ)) → Appends before between (replies_text replies) → Appends between after no_reply_line
+    → Appends before after (replies_text replies ++ ending_of (record { commands = replied + 1; replied = replied }))
+part_text before between after replied replies printed none =
+    subst (Appends before after) (sym (ap (λ b. replies_text replies ++ cond b [] no_reply_line) (less_count replied)))
+    (Appends-trans before between after (replies_text replies) no_reply_line printed none)
+
 all_given : (input rest : Option (List ℕ)) (given : List (List ℕ)) (replied : ℕ) → length given ≡ replied → All IsCommand given → Done input rest given → IfSome input (λ all. (length all ≤ INPUT_LIMIT) × AreCommands replied (lines_of all))
 all_given None rest given replied count commands s = tt
 all_given (Some all) rest given replied count commands s = (s.lines.0, (subst (All IsCommand) (sym s.lines.1) commands, ap length s.lines.1 ∙ count))
 
 -- each command got a reply
-pub ran_to_end : (input rest rest' before after : Option (List ℕ)) (replied : ℕ) (kept : List ℕ) (r r' : LineReader) (more : Bool) (s : Asked input rest before after replied r)
+pub ran_to_end : (first last : Talker) (input rest rest' before after : Option (List ℕ)) (replied : ℕ) (kept : List ℕ) (r r' : LineReader) (more : Bool) (s : Asked first last input rest before after replied r)
     → more ≡ false → NextLine input rest' s.given kept r' (Ok more) → Ran input rest' before after (record { commands = replied; replied = replied })
-ran_to_end input rest rest' before after replied kept r r' more s e next =
+ran_to_end first last input rest rest' before after replied kept r r' more s e next =
     let done = none_given input rest' s.given kept r' more e next in
     record {
       counts = (omega arith, omega arith);
       text = record {
         replies = s.printed.replies;
         number = s.printed.number;
-        text = subst (Appends before after) (sym (ap (λ b. replies_text s.printed.replies ++ cond b [] no_reply_line) (same_count replied) ∙ append-nil _)) s.printed.text;
+        text = whole_text before after replied s.printed.replies s.printed.text;
       };
       tried = tried_first input s.given replied s.commands s.count (done_begins input rest' s.given done);
       whole = λ _. all_given input rest' s.given replied s.count s.commands done;
@@ -165,10 +241,10 @@ ran_to_end input rest rest' before after replied kept r r' more s e next =
     }
 
 -- a command got no reply
-pub ran_in_part : (input rest rest' before between after : Option (List ℕ)) (replied : ℕ) (kept command : List ℕ) (r r' : LineReader) (more : Bool) (s : Asked input rest before between replied r)
+pub ran_in_part : (first last : Talker) (input rest rest' before between after : Option (List ℕ)) (replied : ℕ) (kept command : List ℕ) (r r' : LineReader) (more : Bool) (s : Asked first last input rest before between replied r)
     → more ≡ true → NextLine input rest' s.given kept r' (Ok more) → command_of kept ≡ Some command → Appends between after no_reply_line
     → Ran input rest' before after (record { commands = replied + 1; replied = replied })
-ran_in_part input rest rest' before between after replied kept command r r' more s e next is printed =
+ran_in_part first last input rest rest' before between after replied kept command r r' more s e next is printed =
     let (raw, front, gives) = line_given input rest' s.given kept r' more e next in
     let differ : replied ≡ replied + 1 → ⊥ = λ same. omega (arith, same) in
     record {
@@ -176,8 +252,7 @@ ran_in_part input rest rest' before between after replied kept command r r' more
       text = record {
         replies = s.printed.replies;
         number = s.printed.number;
-        text = subst (Appends before after) (sym (ap (λ b. replies_text s.printed.replies ++ cond b [] no_reply_line) (less_count replied)))
-            (Appends-trans before between after (replies_text s.printed.replies) no_reply_line s.printed.text printed);
+        text = part_text before between after replied s.printed.replies s.printed.text printed;
       };
       tried = tried_first input (s.given ++ raw ∷ []) (replied + 1) (All-push IsCommand s.given raw s.commands (some_command kept raw command front is))
           (length-append s.given (raw ∷ []) ∙ ap (λ n. n + 1) s.count) (begins input rest' (s.given ++ raw ∷ []) r' gives);
@@ -186,7 +261,7 @@ ran_in_part input rest rest' before between after replied kept command r r' more
     }
 
 first_bad : (input : Option (List ℕ)) (given : List (List ℕ)) (raw : List ℕ) (replied : ℕ) → length given ≡ replied → All IsCommand given → command_of raw ≡ None → Begins input (given ++ raw ∷ [])
-    → IfSome input (λ all. IsFirstBad (replied + 1) (lines_of all))
+    → IfSome input (λ all. IsFirstBad (replied + 1) (lines_within all))
 first_bad None given raw replied count commands none h = tt
 first_bad (Some all) given raw replied count commands none h = record {
   good = given;
@@ -199,9 +274,9 @@ first_bad (Some all) given raw replied count commands none h = record {
 }
 
 -- a line stands for no command
-pub met_bad : (input rest rest' before after : Option (List ℕ)) (replied : ℕ) (kept : List ℕ) (r r' : LineReader) (more : Bool) (s : Asked input rest before after replied r)
+pub met_bad : (first last : Talker) (input rest rest' before after : Option (List ℕ)) (replied : ℕ) (kept : List ℕ) (r r' : LineReader) (more : Bool) (s : Asked first last input rest before after replied r)
     → more ≡ true → NextLine input rest' s.given kept r' (Ok more) → command_of kept ≡ None → Runs input rest' before after (Err (BadScript (replied + 1)))
-met_bad input rest rest' before after replied kept r r' more s e next is =
+met_bad first last input rest rest' before after replied kept r r' more s e next is =
     let (raw, front, gives) = line_given input rest' s.given kept r' more e next in
     let same : replied ≡ replied + 1 - 1 = omega arith in (
       first_bad input s.given raw replied s.count s.commands (kept_decides kept raw front ∙ is) (begins input rest' (s.given ++ raw ∷ []) r' gives),
@@ -219,35 +294,105 @@ past_runs None before after given replied count commands printed h = tt
 past_runs (Some all) before after given replied count commands printed h = (h.0, replies_to given _ before after replied h.1 count commands printed)
 
 -- the next line couldn't be had
-pub unread_runs : (input rest rest' before after : Option (List ℕ)) (replied : ℕ) (kept : List ℕ) (r r' : LineReader) (fault : RunFault) (s : Asked input rest before after replied r)
+pub unread_runs : (first last : Talker) (input rest rest' before after : Option (List ℕ)) (replied : ℕ) (kept : List ℕ) (r r' : LineReader) (fault : RunFault) (s : Asked first last input rest before after replied r)
     → NextLine input rest' s.given kept r' (Err fault) → Runs input rest' before after (Err fault)
-unread_runs input rest rest' before after replied kept r r' ReadFault s (read, consumed, e) = (read, consumed, replies_to s.given _ before after replied e s.count s.commands s.printed)
-unread_runs input rest rest' before after replied kept r r' InputTooLong s h = past_runs input before after s.given replied s.count s.commands s.printed h
-unread_runs input rest rest' before after replied kept r r' WriteFault s h = absurd h
-unread_runs input rest rest' before after replied kept r r' NoMemory s h = absurd h
-unread_runs input rest rest' before after replied kept r r' (BadScript number) s h = absurd h
-unread_runs input rest rest' before after replied kept r r' LinkFault s h = absurd h
-unread_runs input rest rest' before after replied kept r r' ClockFault s h = absurd h
+unread_runs first last input rest rest' before after replied kept r r' ReadFault s (read, consumed, e) = (read, consumed, replies_to s.given _ before after replied e s.count s.commands s.printed)
+unread_runs first last input rest rest' before after replied kept r r' InputTooLong s h = past_runs input before after s.given replied s.count s.commands s.printed h
+unread_runs first last input rest rest' before after replied kept r r' WriteFault s h = absurd h
+unread_runs first last input rest rest' before after replied kept r r' NoMemory s h = absurd h
+unread_runs first last input rest rest' before after replied kept r r' (BadScript number) s h = absurd h
+unread_runs first last input rest rest' before after replied kept r r' LinkFault s h = absurd h
+unread_runs first last input rest rest' before after replied kept r r' ClockFault s h = absurd h
 
 -- a fault of a turn says nothing
-pub turn_runs : (input rest before after : Option (List ℕ)) (fault : RunFault) → IsTurnFault fault → Runs input rest before after (Err fault)
-turn_runs input rest before after LinkFault h = tt
-turn_runs input rest before after ClockFault h = tt
-turn_runs input rest before after ReadFault h = absurd h
-turn_runs input rest before after WriteFault h = absurd h
-turn_runs input rest before after InputTooLong h = absurd h
-turn_runs input rest before after NoMemory h = absurd h
-turn_runs input rest before after (BadScript number) h = absurd h
+pub turn_runs : (input rest before after : Option (List ℕ)) (count : ℕ) (fault : RunFault) → IsTurnFault count fault → Runs input rest before after (Err fault)
+turn_runs input rest before after count LinkFault h = tt
+turn_runs input rest before after count ClockFault h = tt
+turn_runs input rest before after count ReadFault h = absurd h
+turn_runs input rest before after count WriteFault h = absurd h
+turn_runs input rest before after count InputTooLong h = absurd h
+turn_runs input rest before after count NoMemory h = absurd h
+turn_runs input rest before after count (BadScript number) h = absurd h
 
 pub write_runs : (input rest before after : Option (List ℕ)) (fault : RunFault) → fault ≡ WriteFault → Runs input rest before after (Err fault)
 write_runs input rest before after fault same = subst (λ f. Runs input rest before after (Err f)) (sym same) tt
 
 -- nothing was asked yet
-pub nothing_asked : (input before : Option (List ℕ)) (r : LineReader) → Gives input input [] r → Asked input input before before 0 r
-nothing_asked input before r s = record {
+pub nothing_asked : (first : Talker) (input before : Option (List ℕ)) (r : LineReader) → Gives input input [] r → Asked first first input input before before 0 r
+nothing_asked first input before r s = record {
   given = [];
   count = refl;
   commands = All-nil _;
   gives = s;
   printed = record { replies = []; number = refl; text = Appends-nil before };
+  talk = silence;
+  talks = talks_none first;
+  said = refl;
+  heard = refl;
 }
+
+-- ---- what was said and heard
+
+first_said : (input : Option (List ℕ)) (given : List (List ℕ)) (count : ℕ) (said : List ItemView) → said ≡ commands_said given → length given ≡ count → Begins input given
+    → IfSome input (λ all. said ≡ commands_said (take count (lines_within all)))
+first_said None given count said e number h = tt
+first_said (Some all) given count said e number (others, whole) =
+    let front : take count (lines_within all) ≡ given = ap (λ n. take n (lines_within all)) (sym number) ∙ ap (take (length given)) whole ∙ take-append_seam given others in
+    e ∙ ap commands_said (sym front)
+
+tried_said : (input : Option (List ℕ)) (given : List (List ℕ)) (count : ℕ) (said last : List ItemView) → said ++ last ≡ commands_said given → length given ≡ count → Begins input given
+    → IfSome input (λ all. commands_said (take count (lines_within all)) ≡ said ++ last)
+tried_said None given count said last e number h = tt
+tried_said (Some all) given count said last e number h = sym (first_said (Some all) given count (said ++ last) e number h)
+
+fewer_begin : (input : Option (List ℕ)) (given : List (List ℕ)) (raw : List ℕ) → Begins input (given ++ raw ∷ []) → Begins input given
+fewer_begin None given raw h = tt
+fewer_begin (Some all) given raw (others, whole) = (raw ∷ others, whole ∙ append_assoc given (raw ∷ []) others)
+
+heard_text : (before after : Option (List ℕ)) (printed heard : List (List ℕ)) (more : List ℕ) → heard ≡ printed → Appends before after (replies_text printed ++ more) → Appends before after (replies_text heard ++ more)
+heard_text before after printed heard more e h = subst (λ l. Appends before after (replies_text l ++ more)) (sym e) h
+
+-- each command got a reply
+pub asks_to_end : (first last parted : Talker) (input rest rest' before after : Option (List ℕ)) (replied : ℕ) (kept : List ℕ) (r r' : LineReader) (more : Bool) (s : Asked first last input rest before after replied r)
+    → more ≡ false → NextLine input rest' s.given kept r' (Ok more) → SaysFarewell last parted → AsksAll first parted input before after (record { commands = replied; replied = replied })
+asks_to_end first last parted input rest rest' before after replied kept r r' more s e next farewell =
+    let done = none_given input rest' s.given kept r' more e next in
+    record {
+      talk = s.talk;
+      replied = last;
+      asks = s.talks;
+      said = first_said input s.given replied s.talk.said s.said s.count (done_begins input rest' s.given done);
+      heard = ap length s.heard ∙ s.printed.number;
+      text = heard_text before after s.printed.replies s.talk.heard _ s.heard (whole_text before after replied s.printed.replies s.printed.text);
+      to_end = λ _. farewell;
+      in_part = λ differ. absurd (omega (arith, differ));
+    }
+
+-- a command got no reply
+pub asks_in_part : (first last parted : Talker) (input rest rest' before between after : Option (List ℕ)) (replied : ℕ) (kept command : List ℕ) (r r' : LineReader) (more : Bool) (s : Asked first last input rest before between replied r)
+    → more ≡ true → NextLine input rest' s.given kept r' (Ok more) → command_of kept ≡ Some command → Exchanges last command None parted → Appends between after no_reply_line
+    → AsksAll first parted input before after (record { commands = replied + 1; replied = replied })
+asks_in_part first last parted input rest rest' before between after replied kept command r r' more s e next is exchange printed =
+    let (raw, front, gives) = line_given input rest' s.given kept r' more e next in
+    let begun : Begins input (s.given ++ raw ∷ []) = begins input rest' (s.given ++ raw ∷ []) r' gives in
+    record {
+      talk = s.talk;
+      replied = last;
+      asks = s.talks;
+      said = first_said input s.given replied s.talk.said s.said s.count (fewer_begin input s.given raw begun);
+      heard = ap length s.heard ∙ s.printed.number;
+      text = heard_text before after s.printed.replies s.talk.heard _ s.heard (part_text before between after replied s.printed.replies s.printed.text printed);
+      to_end = λ same. absurd (omega (arith, same));
+      in_part = λ _. (
+        command,
+        exchange,
+        tried_said input (s.given ++ raw ∷ []) (replied + 1) s.talk.said (command_item command ∷ []) (said_more s.given s.talk.said (command_item command ∷ []) raw command s.said refl (kept_decides kept raw front ∙ is))
+            (length-append s.given (raw ∷ []) ∙ ap (λ n. n + 1) s.count) begun,
+      );
+    }
+
+-- of the same client, and over the same queue
+pub converses_as : (first other : Talker) (queue queue' : Option QueueView) (input before after : Option (List ℕ)) (result : Result ScriptEnd RunFault) → first ≡ other → queue ≡ queue'
+    → IfOk result (λ end. Converses first queue input before after end) → IfOk result (λ end. Converses other queue' input before after end)
+converses_as first other queue queue' input before after (Ok end) p q h = rw (← p, ← q) h
+converses_as first other queue queue' input before after (Err fault) p q h = tt

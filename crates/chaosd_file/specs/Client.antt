@@ -1,32 +1,55 @@
 -- What a client's calls make of its host.
-use Rattle.std.specs.Prelude.{ℕ, Bool, true, false, if◌then◌else◌, List, Option, Some, None, Ok}
+use Rattle.std.specs.Prelude.{zero, suc, ℕ, Bool, true, false, if◌then◌else◌, List, [], codes, Option, Some, None, Result, Ok, Err}
 use Rattle.chaos_packet.specs.Opcode.{is_data}
+use Rattle.chaos_conn.specs.State.{is_ended}
 use Rattle.chaos_conn.specs.declared.answers.ReadEnd.TheVariants as gave
-use Rattle.chaos_conn.specs.Act.{Read, Write, Gave, Wrote}
-use Rattle.chaos_host.specs.Calls.{HostReply, host_call}
-use Rattle.chaos_host.specs.View.{HostView}
+use Rattle.chaos_conn.specs.declared.state.State.{State}
+use Rattle.chaos_conn.specs.Act.{Call, Close, Gave, Wrote}
+use Rattle.chaos_host.specs.declared.fault.CallFault.{CallFault}
+use Rattle.chaos_host.specs.declared.fault.CallFault.TheVariants.{NoSuchConnection}
+use Rattle.chaos_host.specs.Acted.{HostActed, no_effect}
+use Rattle.chaos_host.specs.Calls.{HostReply, host_call, host_end}
+use Rattle.chaos_host.specs.Connect.{ConnectAnswer, host_connect}
+use Rattle.chaos_host.specs.View.{HostView, host_look}
+
+-- what a call of the connection does, where there is one
+abbrev pub call_by : HostView → Call → Option ℕ → HostActed HostReply
+call_by h call None = no_effect h (Err NoSuchConnection)
+call_by h call (Some id) = host_call h id call
 
 -- a number was given to what was written
 abbrev pub is_wrote : HostReply → Bool
 is_wrote (Ok (Wrote (Ok num))) = true
 is_wrote _ = false
 
--- whether the connection, where there is one, takes an item that is written
-abbrev pub is_taken : HostView → ℕ → List ℕ → ℕ → Option ℕ → Bool
-is_taken h op bytes now None = false
-is_taken h op bytes now (Some id) = is_wrote (host_call h id (Write op bytes now)).answer
-
--- the host after an item was written by the connection, where there is one
-abbrev pub after_write : HostView → ℕ → List ℕ → ℕ → Option ℕ → HostView
-after_write h op bytes now None = h
-after_write h op bytes now (Some id) = (host_call h id (Write op bytes now)).view
-
 -- the bytes of an item that was read, where it is data
 abbrev pub data_read : HostReply → Option (List ℕ)
 data_read (Ok (Gave (gave.Item item))) = if is_data item.op then Some item.body else None
 data_read _ = None
 
--- the bytes of the connection's next item, where there is one and it is data
-abbrev pub next_data : HostView → Option ℕ → Option (List ℕ)
-next_data h None = None
-next_data h (Some id) = data_read (host_call h id Read).answer
+abbrev pub has_ended : Result State CallFault → Bool
+has_ended (Ok state) = is_ended state
+has_ended (Err fault) = true
+
+-- the connection has ended, or there is none
+abbrev pub is_over : HostView → Option ℕ → Bool
+is_over h None = true
+is_over h (Some id) = has_ended (host_look h id (λ conn. conn.state))
+
+-- ---- indices that are used up
+
+abbrev pub given_up : HostView → ConnectAnswer → HostView
+given_up h (Ok id) = (host_end h id (Close [])).view
+given_up h (Err fault) = h
+
+abbrev pub asked_and_given_up : HostActed ConnectAnswer → HostView
+asked_and_given_up acted = given_up acted.view acted.answer
+
+-- an index was used up, by a connection that was asked for and given up at once
+abbrev pub pass_index : ℕ → HostView → HostView
+pass_index to h = asked_and_given_up (host_connect h to (codes "FILE") 0 0)
+
+-- so many were
+abbrev pub after_passing : ℕ → ℕ → HostView → HostView
+after_passing to zero h = h
+after_passing to (suc count) h = pass_index to (after_passing to count h)

@@ -1,16 +1,17 @@
 -- Which faults a part of a run meets.
+use Rattle.std.specs.Prelude.{ℕ, ◌<◌}
 use Rattle.chaosd_engines.specs.declared.fault.RunFault.{RunFault}
 use Rattle.chaosd_engines.specs.declared.fault.RunFault.TheVariants.{ReadFault, WriteFault, InputTooLong, NoMemory, BadScript, LinkFault, ClockFault}
 
--- a turn meets a fault of a link or of the clock alone
-abbrev pub IsTurnFault : RunFault → Type 0
-IsTurnFault LinkFault = Unit {0}
-IsTurnFault ClockFault = Unit {0}
-IsTurnFault ReadFault = ⊥
-IsTurnFault WriteFault = ⊥
-IsTurnFault InputTooLong = ⊥
-IsTurnFault NoMemory = ⊥
-IsTurnFault (BadScript number) = ⊥
+-- a turn meets a fault of the clock, or of a link, where so many failures are counted then
+abbrev pub IsTurnFault : ℕ → RunFault → Type 0
+IsTurnFault count LinkFault = 0 < count
+IsTurnFault count ClockFault = Unit {0}
+IsTurnFault count ReadFault = ⊥
+IsTurnFault count WriteFault = ⊥
+IsTurnFault count InputTooLong = ⊥
+IsTurnFault count NoMemory = ⊥
+IsTurnFault count (BadScript number) = ⊥
 
 -- a service meets besides only want of memory
 abbrev pub IsServiceFault : RunFault → Type 0

@@ -2,7 +2,11 @@ pub mod Status
 pub mod Command
 pub mod Fault
 pub mod Client
+pub mod Talk
+pub mod Exchange
 pub mod Printed
 pub mod Script
+pub mod Conversation
 pub mod Reader
+pub mod Service
 pub mod Asking

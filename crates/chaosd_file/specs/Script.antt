@@ -1,5 +1,5 @@
 -- A run over a FILE script.
-use Rattle.std.specs.Prelude.{◌≡◌, ℕ, ◌+◌, ◌-◌, ◌<◌, ◌≤◌, true, List, ◌∷◌, ◌++◌, All, length, take, Option, None, is_some, IfSome, Result, Ok, Err}
+use Rattle.std.specs.Prelude.{◌≡◌, ℕ, ◌+◌, ◌-◌, ◌<◌, ◌≤◌, nat_lt, if◌then◌else◌, true, List, ◌∷◌, ◌++◌, All, length, take, Option, None, is_some, IfSome, Result, Ok, Err}
 use Rattle.std.specs.Io.KnownBytes.{Consumes, IsAtEnd}
 use Rattle.chaosd_engines.specs.declared.fault.RunFault.{RunFault}
 use Rattle.chaosd_engines.specs.declared.fault.RunFault.TheVariants.{ReadFault, WriteFault, InputTooLong, NoMemory, BadScript, LinkFault, ClockFault}
@@ -8,6 +8,10 @@ use Rattle.chaosd_engines.specs.Lines.{lines_of, ended_lines}
 use Rattle.chaosd_file.specs.declared.end.ScriptEnd.{ScriptEnd}
 use Rattle.chaosd_file.specs.Command.{command_of}
 use Rattle.chaosd_file.specs.Printed.{PrintsReplies, PrintsScript}
+
+-- the lines that can be had of an input: all where it is within the limit, else those that end within it
+abbrev pub lines_within : List ℕ → List (List ℕ)
+lines_within input = if nat_lt INPUT_LIMIT (length input) then ended_lines (take INPUT_LIMIT input) else lines_of input
 
 -- A line stands for a command.
 abbrev pub IsCommand : List ℕ → Type 0
@@ -49,7 +53,7 @@ RepliesRead input rest before after = (read : List ℕ) × Consumes input rest r
 pub record Ran (input rest before after : Option (List ℕ)) (end : ScriptEnd) : Type 0 where
   pub counts : (end.replied ≤ end.commands) × (end.commands ≤ end.replied + 1)
   pub text : PrintsScript end before after
-  pub tried : IfSome input (λ all. BeginWithCommands end.commands (lines_of all))
+  pub tried : IfSome input (λ all. BeginWithCommands end.commands (lines_within all))
   pub whole : end.replied ≡ end.commands → IfSome input (λ all. (length all ≤ INPUT_LIMIT) × AreCommands end.commands (lines_of all))
   pub ended : end.replied ≡ end.commands → IsAtEnd rest
 
@@ -58,7 +62,7 @@ abbrev pub Runs : Option (List ℕ) → Option (List ℕ) → Option (List ℕ) 
 Runs input rest before after (Ok end) = Ran input rest before after end
 Runs input rest before after (Err ReadFault) = RepliesRead input rest before after
 Runs input rest before after (Err InputTooLong) = IfSome input (λ all. (INPUT_LIMIT < length all) × PrintsRepliesTo (ended_lines (take INPUT_LIMIT all)) before after)
-Runs input rest before after (Err (BadScript number)) = IfSome input (λ all. IsFirstBad number (lines_of all)) × PrintsReplies (number - 1) before after
+Runs input rest before after (Err (BadScript number)) = IfSome input (λ all. IsFirstBad number (lines_within all)) × PrintsReplies (number - 1) before after
 Runs input rest before after (Err WriteFault) = Unit {0}
 Runs input rest before after (Err NoMemory) = Unit {0}
 Runs input rest before after (Err LinkFault) = Unit {0}

@@ -1,17 +1,20 @@
 //! The engine `ask`.
-ghost use Rattle.std.specs.Prelude.{◌≡◌, ◌<◌, ◌≤◌, ◌+◌, ◌-◌, ℕ, Err, length, take, IfOk, IfSome, OnOk};
+ghost use Rattle.std.specs.Prelude.{◌≡◌, ◌<◌, ◌≤◌, ◌+◌, ◌-◌, ◌%◌, ℕ, Err, length, take, IfOk, IfSome, OnOk};
 ghost use Rattle.std.specs.Io.KnownBytes.{IsAtEnd};
 ghost use Rattle.chaosd_engines.specs.declared.limits.TheConstants.{INPUT_LIMIT};
 ghost use Rattle.chaosd_engines.specs.Lines.{lines_of, ended_lines};
+ghost use Rattle.chaosd_file.specs.Conversation.{Converses};
+ghost use Rattle.chaosd_file.specs.Talk.{new_talker};
 ghost use Rattle.chaosd_file.specs.Printed.{PrintsReplies, PrintsScript};
-ghost use Rattle.chaosd_file.specs.Script.{AreCommands, BeginWithCommands, IsFirstBad, PrintsRepliesTo, RepliesRead};
+ghost use Rattle.chaosd_file.specs.Script.{AreCommands, BeginWithCommands, IsFirstBad, lines_within, PrintsRepliesTo, RepliesRead};
 
 use crate::client::Client;
 use crate::clock::Beginning;
 use crate::end::ScriptEnd;
 use crate::script::run_script;
 use crate::turns::Turns;
-use chaos_host::Host;
+use crate::why::Why;
+use chaos_host::{Host, HostDelivered};
 use chaos_link::Link;
 use chaos_packet::Outbox;
 use chaos_turn::{TurnEnd, client_turn};
@@ -35,12 +38,20 @@ impl<C: Clock, L: Link> Turns for Timed<'_, C, L> {
 
     ghost links = { λ turns. turns.link.ghost_name ∷ [] };
 
+    ghost queue = { λ turns. L.queue turns.link.now };
+
     fn now(&self) -> Result<u64, RunFault> {
         self.beginning.moment(self.clock)
     }
 
-    fn turn(&mut self, host: &mut Host, now: u64, out: &mut Outbox) -> Result<(), RunFault> {
-        match client_turn(host, self.link, now, out) {
+    fn turn(
+        &mut self,
+        host: &mut Host,
+        now: u64,
+        out: &mut Outbox,
+        told: &mut Option<HostDelivered>,
+    ) -> Result<(), RunFault> {
+        match client_turn(host, self.link, now, out, told) {
             TurnEnd::LinkFault => Err(RunFault::LinkFault),
             _ => Ok(()),
         }
@@ -54,6 +65,8 @@ impl<C: Clock, L: Link> Turns for Timed<'_, C, L> {
 /// index is one that a run before it from the same address is unlikely to have had: as many indices as the low 8 bits tell are
 /// passed over.
 ///
+/// In `why` it leaves what is wrong with a bad line, and why a command got no reply, in words for a user; no clause speaks of it.
+///
 /// # Errors
 /// [`RunFault`] as for [`crate::run_loop`], and 7 where the clock can't be read.
 pub fn run_ask<C: Clock, R: Read, W: Write, L: Link>(
@@ -64,23 +77,29 @@ pub fn run_ask<C: Clock, R: Read, W: Write, L: Link>(
     link: &mut L,
     me: u16,
     to: u16,
+    why: &mut Option<Why>,
 ) -> Result<ScriptEnd, RunFault>
     requires { 0 < me }
     // It ends well only where the link's count of failures didn't rise.
     ensures well { OnOk result (L.count link.new ≤ L.count link.old) }
+    // It ends by a LinkFault only where the link counted failures.
+    ensures failed { result ≡ Err RunFault.LinkFault → 0 < L.count link.new }
     // As many commands were tried as were replied to, or one more, the last.
     ensures counts { IfOk result (λ end. (end.replied ≤ end.commands) × (end.commands ≤ end.replied + 1)) }
     // What was printed are that many replies, each on its line, and then `no reply` where the last command got none.
     ensures text { IfOk result (λ end. PrintsScript end (W.contents writer.old) (W.contents writer.new)) }
+    // What its connection wrote are the commands of these lines, in order, and then an EOF, and what was printed are the data that it
+    // read, in order.
+    ensures talk { (millis : ℕ) × IfOk result (λ end. Converses (new_talker me to (millis % 65536) (millis % 256) (L.queue link.old)) (L.queue link.new) (R.remaining reader.old) (W.contents writer.old) (W.contents writer.new) end) }
     // The commands are the first lines; where each got a reply they are all lines, and the input was read to its end.
-    ensures tried { IfOk result (λ end. IfSome (R.remaining reader.old) (λ input. BeginWithCommands end.commands (lines_of input))) }
+    ensures tried { IfOk result (λ end. IfSome (R.remaining reader.old) (λ input. BeginWithCommands end.commands (lines_within input))) }
     ensures whole { IfOk result (λ end. end.replied ≡ end.commands
         → IfSome (R.remaining reader.old) (λ input. (length input ≤ INPUT_LIMIT) × AreCommands end.commands (lines_of input))) }
     ensures ended { IfOk result (λ end. end.replied ≡ end.commands → IsAtEnd (R.remaining reader.new)) }
 
     // The line that is told is the first that stands for no command, and replies to those before it were printed.
     ensures bad { (number : ℕ) → result ≡ Err (RunFault.BadScript number)
-        → IfSome (R.remaining reader.old) (λ input. IsFirstBad number (lines_of input)) × PrintsReplies (number - 1) (W.contents writer.old) (W.contents writer.new) }
+        → IfSome (R.remaining reader.old) (λ input. IsFirstBad number (lines_within input)) × PrintsReplies (number - 1) (W.contents writer.old) (W.contents writer.new) }
 
     // A script is refused as too long only where it is, and replies to the lines that ended within the limit were printed.
     ensures too_long { result ≡ Err RunFault.InputTooLong → IfSome (R.remaining reader.old) (λ input.
@@ -97,5 +116,5 @@ pub fn run_ask<C: Clock, R: Read, W: Write, L: Link>(
         link,
         beginning,
     };
-    run_script(&mut client, &mut turns, reader, writer)
+    run_script(&mut client, &mut turns, reader, writer, why)
 }

@@ -2,7 +2,8 @@
 //!
 //! They work on readers, writers, links, a store and a clock that their callers hand in. `command` reads a line of a script,
 //! `lines` cuts an input into lines, `replies` prints, `client` is the end that asks, `server` the host that answers, `turns` is
-//! what a client takes turns with, `script` runs a script, and `loop_run`, `ask_run` and `serve_run` are the engines.
+//! what a client takes turns with, `script` runs a script, and `loop_run`, `ask_run` and `serve_run` are the engines. `patience`,
+//! `why` and `text` have what a user is told of a run besides.
 #![tactic(auto)]
 
 mod ask_run;
@@ -13,6 +14,7 @@ mod end;
 mod limits;
 mod lines;
 mod loop_run;
+mod patience;
 mod replies;
 mod script;
 mod serve_run;
@@ -20,11 +22,15 @@ mod server;
 mod status;
 #[cfg(test)]
 mod tests;
+mod text;
 mod turns;
+mod why;
 
 pub use ask_run::run_ask;
 pub use end::ScriptEnd;
-pub use limits::{LOOP_CLIENT, LOOP_SERVER};
+pub use limits::{LOOP_CLIENT, LOOP_SERVER, NOBODY};
 pub use loop_run::run_loop;
+pub use patience::NoReply;
 pub use serve_run::run_serve;
 pub use status::{script_status, serve_status};
+pub use why::{BadLine, Why};

@@ -1,9 +1,6 @@
 //! The numbers that the engines keep to.
 use chaos_packet::{Opcode, PktNum};
 
-/// The contact of the service.
-pub const CONTACT: &[u8] = b"FILE";
-
 /// The turns that a command waits for its reply, those before the connection is open and has room among them.
 pub const COMMAND_TURNS: u32 = 1_000;
 
@@ -12,6 +9,9 @@ pub const END_TURNS: u32 = 100;
 
 /// The connections of a server's host.
 pub const SERVER_CONNS: usize = 16;
+
+/// No host's address. Of nobody no connection is asked for, so that a run ends at its first command.
+pub const NOBODY: u16 = 0;
 
 /// The client's address in `loop`.
 pub const LOOP_CLIENT: u16 = 0o401;

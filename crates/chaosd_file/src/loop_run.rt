@@ -3,8 +3,10 @@ ghost use Rattle.std.specs.Prelude.{◌≡◌, ◌<◌, ◌≤◌, ◌+◌, ◌-
 ghost use Rattle.std.specs.Io.KnownBytes.{IsAtEnd};
 ghost use Rattle.chaosd_engines.specs.declared.limits.TheConstants.{INPUT_LIMIT};
 ghost use Rattle.chaosd_engines.specs.Lines.{lines_of, ended_lines};
+ghost use Rattle.chaosd_file.specs.Conversation.{Converses};
+ghost use Rattle.chaosd_file.specs.Talk.{new_talker};
 ghost use Rattle.chaosd_file.specs.Printed.{PrintsReplies, PrintsScript};
-ghost use Rattle.chaosd_file.specs.Script.{AreCommands, BeginWithCommands, IsFirstBad, PrintsRepliesTo, RepliesRead, Runs};
+ghost use Rattle.chaosd_file.specs.Script.{AreCommands, BeginWithCommands, IsFirstBad, lines_within, PrintsRepliesTo, RepliesRead, Runs};
 
 use crate::client::Client;
 use crate::end::ScriptEnd;
@@ -12,8 +14,9 @@ use crate::limits::{LOOP_CLIENT, LOOP_CLIENT_START, LOOP_SERVER, LOOP_SERVER_STA
 use crate::script::run_script;
 use crate::server::Server;
 use crate::turns::Turns;
+use crate::why::Why;
 use chaos_file::MemStore;
-use chaos_host::Host;
+use chaos_host::{Host, HostDelivered};
 use chaos_link::Link;
 use chaos_packet::Outbox;
 use chaos_turn::{TurnEnd, client_turn};
@@ -39,14 +42,22 @@ impl<A: Link, B: Link> Turns for Both<'_, A, B> {
 
     ghost links = { λ turns. turns.near.ghost_name ∷ turns.far.ghost_name ∷ [] };
 
+    ghost queue = { λ turns. A.queue turns.near.now };
+
     fn now(&self) -> Result<u64, RunFault> {
         Ok(self.turns.saturating_mul(LOOP_TURN))
     }
 
     /// A turn of the client, and then one of the server.
-    fn turn(&mut self, host: &mut Host, now: u64, out: &mut Outbox) -> Result<(), RunFault> {
+    fn turn(
+        &mut self,
+        host: &mut Host,
+        now: u64,
+        out: &mut Outbox,
+        told: &mut Option<HostDelivered>,
+    ) -> Result<(), RunFault> {
         self.turns = self.turns.saturating_add(1);
-        let asked = client_turn(host, self.near, now, out);
+        let asked = client_turn(host, self.near, now, out, told);
         let served = self
             .server
             .turn(self.alloc, self.store, self.far, LOOP_SERVER_START, now);
@@ -72,6 +83,8 @@ impl<A: Link, B: Link> Turns for Both<'_, A, B> {
 /// The first fault is the answer. The cost is a look at each byte and the turns, of which a command mostly takes two; the hosts take
 /// their memory first, and later only the server's files take some.
 ///
+/// In `why` it leaves what is wrong with a bad line, and why a command got no reply, in words for a user; no clause speaks of it.
+///
 /// # Errors
 /// [`RunFault`]: 1 where the reader fails or is interrupted 2,000,000 times, 2 where the writer fails, 3 where more than 1,048,576
 /// bytes come, 4 where there is no memory for the hosts, 5 at a line that stands for no command, 6 where a link failed, after the
@@ -82,22 +95,28 @@ pub fn run_loop<R: Read, W: Write, A: Link, B: Link>(
     writer: &mut W,
     link_a: &mut A,
     link_b: &mut B,
+    why: &mut Option<Why>,
 ) -> Result<ScriptEnd, RunFault>
     // It ends well only where the links' counts of failures, together, didn't rise.
     ensures well { OnOk result (A.count link_a.new + B.count link_b.new ≤ A.count link_a.old + B.count link_b.old) }
+    // It ends by a LinkFault only where a link counted failures.
+    ensures failed { result ≡ Err RunFault.LinkFault → 0 < A.count link_a.new + B.count link_b.new }
     // As many commands were tried as were replied to, or one more, the last.
     ensures counts { IfOk result (λ end. (end.replied ≤ end.commands) × (end.commands ≤ end.replied + 1)) }
     // What was printed are that many replies, each on its line, and then `no reply` where the last command got none.
     ensures text { IfOk result (λ end. PrintsScript end (W.contents writer.old) (W.contents writer.new)) }
+    // What its connection wrote are the commands of these lines, in order, and then an EOF, and what was printed are the data that it
+    // read, in order.
+    ensures talk { IfOk result (λ end. Converses (new_talker LOOP_CLIENT LOOP_SERVER 65534 0 (A.queue link_a.old)) (A.queue link_a.new) (R.remaining reader.old) (W.contents writer.old) (W.contents writer.new) end) }
     // The commands are the first lines; where each got a reply they are all lines, and the input was read to its end.
-    ensures tried { IfOk result (λ end. IfSome (R.remaining reader.old) (λ input. BeginWithCommands end.commands (lines_of input))) }
+    ensures tried { IfOk result (λ end. IfSome (R.remaining reader.old) (λ input. BeginWithCommands end.commands (lines_within input))) }
     ensures whole { IfOk result (λ end. end.replied ≡ end.commands
         → IfSome (R.remaining reader.old) (λ input. (length input ≤ INPUT_LIMIT) × AreCommands end.commands (lines_of input))) }
     ensures ended { IfOk result (λ end. end.replied ≡ end.commands → IsAtEnd (R.remaining reader.new)) }
 
     // The line that is told is the first that stands for no command, and replies to those before it were printed.
     ensures bad { (number : ℕ) → result ≡ Err (RunFault.BadScript number)
-        → IfSome (R.remaining reader.old) (λ input. IsFirstBad number (lines_of input)) × PrintsReplies (number - 1) (W.contents writer.old) (W.contents writer.new) }
+        → IfSome (R.remaining reader.old) (λ input. IsFirstBad number (lines_within input)) × PrintsReplies (number - 1) (W.contents writer.old) (W.contents writer.new) }
 
     // A script is refused as too long only where it is, and replies to the lines that ended within the limit were printed.
     ensures too_long { result ≡ Err RunFault.InputTooLong → IfSome (R.remaining reader.old) (λ input.
@@ -117,6 +136,7 @@ pub fn run_loop<R: Read, W: Write, A: Link, B: Link>(
         link_b,
         &mut server,
         &mut store,
+        why,
     )
 }
 
@@ -129,8 +149,11 @@ fn run_between<R: Read, W: Write, A: Link, B: Link>(
     far: &mut B,
     server: &mut Server,
     store: &mut MemStore,
+    why: &mut Option<Why>,
 ) -> Result<ScriptEnd, RunFault>
     ensures runs { Runs (R.remaining reader.old) (R.remaining reader.new) (W.contents writer.old) (W.contents writer.new) result }
+    ensures talk { IfOk result (λ end. Converses (new_talker LOOP_CLIENT LOOP_SERVER 65534 0 (A.queue near.old)) (A.queue near.new) (R.remaining reader.old) (W.contents writer.old) (W.contents writer.new) end) }
+    ensures failed { result ≡ Err RunFault.LinkFault → 0 < A.count near.new + B.count far.new }
     ensures well { OnOk result (A.count near.new + B.count far.new ≤ A.count near.old + B.count far.old) }
 {
     let mut client = Client::new(alloc, LOOP_CLIENT, LOOP_SERVER, LOOP_CLIENT_START, 0)?;
@@ -142,5 +165,5 @@ fn run_between<R: Read, W: Write, A: Link, B: Link>(
         store,
         turns: 0,
     };
-    run_script(&mut client, &mut turns, reader, writer)
+    run_script(&mut client, &mut turns, reader, writer, why)
 }

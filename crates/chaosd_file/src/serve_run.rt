@@ -1,6 +1,8 @@
 //! The engine `serve`.
 ghost use Rattle.std.specs.Prelude.{◌≡◌, ◌<◌, ◌≤◌, Err, IfErr, OnOk};
+ghost use Rattle.chaos_file.specs.Store.{change};
 ghost use Rattle.chaosd_file.specs.Fault.{IsServiceFault};
+ghost use Rattle.chaosd_file.specs.Service.{Serves};
 
 use crate::clock::Beginning;
 use crate::server::Server;
@@ -31,13 +33,15 @@ pub fn run_serve<C: Clock, L: Link, S: Store>(
 ) -> Result<(), RunFault>
     requires { 0 < me }
     ensures faults { IfErr result IsServiceFault }
+    // Where it ends well it made all its turns.
+    ensures turns { OnOk result (Serves (change S.contents S.may_give S.count) turns me store.old store.new (L.queue link.old) (L.queue link.new)) }
     // It ends well only where the link's count of failures didn't rise, and by LinkFault only where failures were counted.
     ensures well { OnOk result (L.count link.new ≤ L.count link.old) }
     ensures failed { result ≡ Err RunFault.LinkFault → 0 < L.count link.new }
 {
     let beginning = Beginning::new(clock)?;
     let mut server = Server::new(alloc, me)?;
-    for _ in 0..turns {
+    for turn in 0..turns {
         let now = beginning.moment(clock)?;
         let end = server.turn(alloc, store, link, beginning.number(now), now);
         if end == TurnEnd::LinkFault {

@@ -2,12 +2,13 @@
 ghost use Rattle.std.specs.Prelude.{◌≡◌, ◌≤◌, ◌<◌, ◌↔◌, length, IfErr};
 ghost use Rattle.chaos_turn.specs.declared.limits.TheConstants.{TURN_ROOM};
 
-use crate::limits::{CONTACT, SERVER_CONNS};
+use crate::limits::SERVER_CONNS;
 use chaos_conn::ConnConfig;
 use chaos_file::Store;
 use chaos_host::Host;
 use chaos_link::Link;
 use chaos_packet::{Outbox, PktNum};
+use chaos_serve::CONTACT;
 use chaos_turn::{Sessions, TURN_ROOM, TurnEnd, run_turn};
 use chaosd_engines::RunFault;
 use std::alloc::Global;
@@ -23,18 +24,30 @@ pub struct Server {
 }
 
 impl Server {
+    ghost use Rattle.std.specs.Prelude.{[], replicate, IfOk};
+    ghost use Rattle.chaos_file.specs.Store.{change};
     ghost use Rattle.chaos_packet.specs.Count.{Rose};
+    ghost use Rattle.chaos_turn.specs.Sessions.{new_serving};
+    ghost use Rattle.chaosd_file.specs.Service.{listening_host, service_of, ServesTurn};
 
     /// A server with this address.
     pub fn new(alloc: Global, address: u16) -> Result<Self, RunFault>
         requires { 0 < address }
-        ensures { IfErr result (λ fault. fault ≡ RunFault.NoMemory) }
+        ensures faults { IfErr result (λ fault. fault ≡ RunFault.NoMemory) }
+        ensures host { IfOk result (λ server. server.host ≡ listening_host address) }
+        ensures sessions { IfOk result (λ server. server.sessions ≡ replicate SERVER_CONNS new_serving) }
+        ensures out { IfOk result (λ server. server.out ≡ record { packets = []; cap = TURN_ROOM }) }
     {
-        let made = Host::new(alloc, address, SERVER_CONNS, ConnConfig::usual());
-        let mut host = made.map_err(|_| RunFault::NoMemory)?;
+        let Ok(mut host) = Host::new(alloc, address, SERVER_CONNS, ConnConfig::usual()) else {
+            return Err(RunFault::NoMemory);
+        };
         let _ = host.listen(CONTACT);
-        let sessions = Sessions::new(alloc, host.conns()).map_err(|_| RunFault::NoMemory)?;
-        let out = Outbox::new(alloc, TURN_ROOM).map_err(|_| RunFault::NoMemory)?;
+        let Ok(sessions) = Sessions::new(alloc, SERVER_CONNS) else {
+            return Err(RunFault::NoMemory);
+        };
+        let Ok(out) = Outbox::new(alloc, TURN_ROOM) else {
+            return Err(RunFault::NoMemory);
+        };
         Ok(Server {
             host,
             sessions,
@@ -51,7 +64,8 @@ impl Server {
         start: PktNum,
         now: u64,
     ) -> TurnEnd
-        ensures { (result ≡ TurnEnd.LinkFault) ↔ Rose (L.count link.old) (L.count link.new) }
+        ensures fault { (result ≡ TurnEnd.LinkFault) ↔ Rose (L.count link.old) (L.count link.new) }
+        ensures serves { ServesTurn (change S.contents S.may_give S.count) (service_of self.old store.old (L.queue link.old)) (service_of self.new store.new (L.queue link.new)) }
     {
         run_turn(
             alloc,

@@ -5,5 +5,7 @@ mod fakes;
 mod faults;
 mod links;
 mod memory;
+mod puppet;
 mod scripts;
 mod serving;
+mod wire;

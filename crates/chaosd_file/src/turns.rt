@@ -1,9 +1,11 @@
 //! What a client takes turns with.
-ghost use Rattle.std.specs.Prelude.{◌≡◌, ◌≤◌, ℕ, List, [], IfErr, OnOk};
+ghost use Rattle.std.specs.Prelude.{◌≡◌, ◌≤◌, ℕ, List, [], Option, IfErr, OnOk};
 ghost use Rattle.std.specs.Borrow.{GName};
+ghost use Rattle.chaos_link.specs.Link.{QueueView};
 ghost use Rattle.chaosd_file.specs.Fault.{IsTurnFault};
+ghost use Rattle.chaosd_file.specs.Talk.{TakesTurn};
 
-use chaos_host::Host;
+use chaos_host::{Host, HostDelivered};
 use chaos_packet::Outbox;
 use chaos_turn::TURN_ROOM;
 use chaosd_engines::RunFault;
@@ -16,22 +18,34 @@ pub trait Turns {
     /// Which links these are: the names of the references to them.
     ghost links: { Self → List GName };
 
+    /// The queue that the client's link is. `None` for a link that is none.
+    ghost queue: { Self → Option QueueView };
+
     /// The moment, in milliseconds, of the next turn and of the calls before it.
     ///
     /// # Errors
     /// `ClockFault` where it can't be told.
     fn now(&self) -> Result<u64, RunFault>
-        ensures { IfErr result IsTurnFault };
+        ensures { IfErr result (λ fault. fault ≡ RunFault.ClockFault) };
 
-    /// One turn, of the client's host and of all that takes part. What waits in the outbox is sent.
+    /// One turn, of the client's host and of all that takes part. What waits in the outbox is sent, and what became of the packet
+    /// that came is left in `told`.
     ///
     /// # Errors
     /// `LinkFault` where a link failed in the turn, which went on to its end.
-    fn turn(&mut self, host: &mut Host, now: u64, out: &mut Outbox) -> Result<(), RunFault>
+    fn turn(
+        &mut self,
+        host: &mut Host,
+        now: u64,
+        out: &mut Outbox,
+        told: &mut Option<HostDelivered>,
+    ) -> Result<(), RunFault>
         requires { TURN_ROOM ≤ out.old.cap }
+        ensures turned { TakesTurn now host.old host.new (queue self.old) (queue self.new) out.old out.new }
         ensures sent { out.new ≡ record { packets = []; cap = out.old.cap } }
         ensures same_links { links self.new ≡ links self.old }
         // It ends well only where no link's count rose.
         ensures well { OnOk result (failures self.new ≤ failures self.old) }
-        ensures faults { IfErr result IsTurnFault };
+        // A fault of a link is told only where failures were counted.
+        ensures faults { IfErr result (IsTurnFault (failures self.new)) };
 }

@@ -1,9 +1,9 @@
-//! A command from a client's host to a server's, and its reply.
+//! What a client's host asks of a server's: a command and its reply, and a request that is refused.
 use super::links::Crossing;
 use super::turns::{Station, asks, made, serves};
 use crate::TurnEnd;
-use chaos_conn::State;
-use chaos_host::ConnId;
+use chaos_conn::{Delivered, State};
+use chaos_host::{ConnId, HostDelivered};
 use chaos_packet::{Opcode, PktNum};
 use std::alloc::AllocGlobal;
 use std::process::Abort;
@@ -47,5 +47,35 @@ fn login_is_answered(rt: HostRuntime) -> Result<(), Fail> {
     carry(&rt, &mut client, &mut server, &mut link);
     let reply = client.host.front(id)?.ok_or("a reply")?;
     assert_eq!(rt; reply.bytes(), b"T1  LOGIN LISPM".as_slice());
+    Ok(())
+}
+
+/// The text of the CLS that came, where one did.
+fn refusal(told: &Option<HostDelivered>) -> Option<&[u8]> {
+    match told {
+        Some(HostDelivered::At(_, Delivered::Closed(cls))) => Some(cls.body.as_slice()),
+        _ => None,
+    }
+}
+
+#[test]
+fn text_of_a_refusal_is_told(rt: HostRuntime) -> Result<(), Fail> {
+    let mut client = made(rt.alloc(), 0o402)?;
+    let mut server = made(rt.alloc(), 0o401)?;
+    let mut link = Crossing::new(rt.alloc())?;
+    assert!(rt; client.out.room() > 0);
+    let _ = client
+        .host
+        .connect(0o401, b"FILE", PktNum(5), 0, &mut client.out)?;
+    let _ = asks(&rt, &mut client, &mut link);
+    assert!(rt; client.told.is_none());
+    link.turn_round();
+    let _ = serves(&rt, &mut server, &mut link);
+    link.turn_round();
+    let _ = asks(&rt, &mut client, &mut link);
+    let text = refusal(&client.told).ok_or("a CLS")?;
+    assert_eq!(rt; text, b"No server for this contact name.".as_slice());
+    let _ = asks(&rt, &mut client, &mut link);
+    assert!(rt; client.told.is_none());
     Ok(())
 }

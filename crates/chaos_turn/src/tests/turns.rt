@@ -3,7 +3,7 @@ use super::links::Broken;
 use crate::{Sessions, TURN_ROOM, TurnEnd, client_turn, run_turn};
 use chaos_conn::ConnConfig;
 use chaos_file::MemStore;
-use chaos_host::Host;
+use chaos_host::{Host, HostDelivered};
 use chaos_link::{FuseLink, LINK_ROOM, Link, MemLink, Received, from_datagram, to_datagram};
 use chaos_packet::{Item, Opcode, Outbox, Packet, PktNum};
 use std::alloc::{AllocGlobal, Global};
@@ -17,6 +17,7 @@ pub struct Station {
     pub sessions: Sessions,
     pub store: MemStore,
     pub out: Outbox,
+    pub told: Option<HostDelivered>,
 }
 
 /// A host with this address and two slots.
@@ -26,6 +27,7 @@ pub fn made(alloc: Global, address: u16) -> Result<Station, Fail> {
         sessions: Sessions::new(alloc, 2)?,
         store: MemStore::new(alloc),
         out: Outbox::new(alloc, TURN_ROOM + 4)?,
+        told: None,
     })
 }
 
@@ -62,7 +64,13 @@ fn serves_at<L: Link>(
 /// A turn of a client at moment 0.
 pub fn asks<L: Link>(rt: &impl Abort, station: &mut Station, link: &mut L) -> TurnEnd {
     assert!(rt; station.out.room() >= TURN_ROOM);
-    client_turn(&mut station.host, link, 0, &mut station.out)
+    client_turn(
+        &mut station.host,
+        link,
+        0,
+        &mut station.out,
+        &mut station.told,
+    )
 }
 
 /// A request for a contact, with number 5.

@@ -29,6 +29,7 @@ fn loop_without_a_way_ends_without_reply(rt: HostRuntime) -> Result<(), Fail> {
         &mut out,
         &mut near,
         &mut far,
+        &mut None,
     );
     assert_eq!(rt; end, NONE);
     assert_eq!(rt; out.as_slice(), b"no reply\n".as_slice());
@@ -49,6 +50,7 @@ fn ask_without_a_peer_ends_without_reply(rt: HostRuntime) -> Result<(), Fail> {
         &mut link,
         0o401,
         0o402,
+        &mut None,
     );
     assert_eq!(rt; end, NONE);
     assert_eq!(rt; out.as_slice(), b"no reply\n".as_slice());
@@ -71,6 +73,7 @@ fn ask_passes_indices_over(rt: HostRuntime) -> Result<(), Fail> {
         &mut link,
         0o401,
         0o402,
+        &mut None,
     );
     assert_eq!(rt; end, NONE);
     let rfc = received(&mut link.sent).ok_or("a request")?;
@@ -87,7 +90,14 @@ fn connection_is_closed_after_a_bad_line(rt: HostRuntime) -> Result<(), Fail> {
     let mut near = Watched::new(near);
     let mut out = Vec::new(rt.alloc());
     let script = b"T1  LOGIN M\n\\8D\n".as_slice();
-    let end = run_loop(rt.alloc(), &mut &*script, &mut out, &mut near, &mut far);
+    let end = run_loop(
+        rt.alloc(),
+        &mut &*script,
+        &mut out,
+        &mut near,
+        &mut far,
+        &mut None,
+    );
     assert_eq!(rt; end, Err(RunFault::BadScript(2)));
     assert_eq!(rt; Opcode(near.last), Opcode::CLS);
     Ok(())
@@ -106,6 +116,7 @@ fn thousand_commands_are_quick(rt: HostRuntime) -> Result<(), Fail> {
         &mut out,
         &mut near,
         &mut far,
+        &mut None,
     );
     let spent = start.elapsed(&rt)?.as_millis();
     assert_eq!(rt; end, all(1_000));
@@ -128,7 +139,14 @@ fn each_reply_is_seen_before_the_next_line(rt: HostRuntime) -> Result<(), Fail> 
         waiting: 0,
     };
     let (mut near, mut far) = linked(&rt)?;
-    let end = run_loop(rt.alloc(), &mut typist, &mut screen, &mut near, &mut far);
+    let end = run_loop(
+        rt.alloc(),
+        &mut typist,
+        &mut screen,
+        &mut near,
+        &mut far,
+        &mut None,
+    );
     assert_eq!(rt; end, all(5));
     assert_eq!(rt; (typist.reads, typist.missing), (6, 0));
     Ok(())
@@ -141,7 +159,16 @@ fn asks(
     script: &[u8],
     out: &mut Vec<u8>,
 ) -> Result<ScriptEnd, RunFault> {
-    run_ask(rt, rt.alloc(), &mut &*script, out, link, 0o401, 0o402)
+    run_ask(
+        rt,
+        rt.alloc(),
+        &mut &*script,
+        out,
+        link,
+        0o401,
+        0o402,
+        &mut None,
+    )
 }
 
 #[test]

@@ -147,3 +147,23 @@ impl Clock for Stopped {
         self.read(self.millis)
     }
 }
+
+/// A clock that moves on by this many milliseconds at each look at its moment, and began so many after 1970.
+#[derive(Drop)]
+pub struct Moving {
+    pub millis: u64,
+    pub step: u64,
+    pub looks: Cell<u64>,
+}
+
+impl Clock for Moving {
+    fn monotonic(&self) -> io::Result<Duration> {
+        let looks = self.looks.get();
+        self.looks.set(looks.saturating_add(1));
+        Ok(Duration::from_millis(looks.saturating_mul(self.step)))
+    }
+
+    fn since_1970(&self) -> io::Result<Duration> {
+        Ok(Duration::from_millis(self.millis))
+    }
+}

@@ -20,7 +20,14 @@ fn reader_fails(rt: HostRuntime) -> Result<(), Fail> {
             left,
         };
         let mut out = Vec::new(rt.alloc());
-        let end = run_loop(rt.alloc(), &mut reader, &mut out, &mut near, &mut far);
+        let end = run_loop(
+            rt.alloc(),
+            &mut reader,
+            &mut out,
+            &mut near,
+            &mut far,
+            &mut None,
+        );
         assert!(rt; FILE_REPLIES.starts_with(out.as_slice()), "{left}");
         let wanted = if left < 18 {
             Err(RunFault::ReadFault)
@@ -45,6 +52,7 @@ fn writer_fails(rt: HostRuntime) -> Result<(), Fail> {
                 &mut writer,
                 &mut near,
                 &mut far,
+                &mut None,
             );
             let taken = writer.taken.as_slice();
             assert!(rt; FILE_REPLIES.starts_with(taken), "{most} {left}");
@@ -72,6 +80,7 @@ fn link_fails(rt: HostRuntime) -> Result<(), Fail> {
             &mut out,
             &mut near,
             &mut far,
+            &mut None,
         );
         assert!(rt; FILE_REPLIES.starts_with(out.as_slice()), "{call}");
         if end == all(7) {
@@ -97,6 +106,7 @@ fn clock_fails(rt: HostRuntime) -> Result<(), Fail> {
             &mut link,
             0o401,
             0o402,
+            &mut None,
         );
         assert_eq!(rt; end, Err(RunFault::ClockFault), "{left}");
         let mut store = MemStore::new(rt.alloc());

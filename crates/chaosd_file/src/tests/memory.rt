@@ -45,6 +45,7 @@ fn loop_tells_want_of_memory(rt: HostRuntime) -> Result<(), Fail> {
         &mut out,
         &mut near,
         &mut far,
+        &mut None,
     );
     if end == all(7) {
         if out.others > 0 {

@@ -32,7 +32,14 @@ fn prints(
 ) -> Result<(), Fail> {
     let (mut near, mut far) = linked(rt)?;
     let mut out = Vec::new(rt.alloc());
-    let end = run_loop(rt.alloc(), &mut &*script, &mut out, &mut near, &mut far);
+    let end = run_loop(
+        rt.alloc(),
+        &mut &*script,
+        &mut out,
+        &mut near,
+        &mut far,
+        &mut None,
+    );
     assert_eq!(rt; out.as_slice(), text);
     assert_eq!(rt; end, wanted);
     Ok(())

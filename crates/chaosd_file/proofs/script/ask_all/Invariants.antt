@@ -2,6 +2,7 @@ use Rattle.std.proofs.Common.{◌≡◌, ◌≤◌, ◌+◌, []}
 use Rattle.chaosd_engines.specs.declared.limits.TheConstants.{INPUT_LIMIT}
 use Rattle.chaosd_file.specs.Reader.{left_of}
 use Rattle.chaosd_file.specs.Asking.{Asked}
+use Rattle.chaosd_file.specs.Exchange.{talker_of}
 use Rattle.chaosd_file.proofs.script.ask_all.Given as goal
 
 abbrev pub invariant-lines : goal.invariant-lines
@@ -10,7 +11,7 @@ invariant-lines g l = record {
   empty : l.out ≡ [];
   same_links : g.T.Turns.links l.turns ≡ g.T.Turns.links l.fn.turns;
   well : g.T.Turns.failures l.turns ≤ g.T.Turns.failures l.fn.turns;
-  asked : Asked (g.R.Read.remaining l.fn.reader) (g.R.Read.remaining l.reader) (g.W.Write.contents l.fn.writer) (g.W.Write.contents l.writer) l.replied l.lines;
+  asked : Asked (talker_of l.fn.client (g.T.Turns.queue l.fn.turns)) (talker_of l.client (g.T.Turns.queue l.turns)) (g.R.Read.remaining l.fn.reader) (g.R.Read.remaining l.reader) (g.W.Write.contents l.fn.writer) (g.W.Write.contents l.writer) l.replied l.lines;
 }
 
 abbrev pub decreases-lines : goal.decreases-lines

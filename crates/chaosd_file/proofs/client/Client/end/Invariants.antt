@@ -1,8 +1,11 @@
-use Rattle.std.proofs.Common.{◌≡◌, ◌≤◌}
+use Rattle.std.proofs.Common.{◌≡◌, ◌≤◌, false}
+use Rattle.chaosd_file.specs.Exchange.{WritesAndTurns, eof_item, talker_of}
 use Rattle.chaosd_file.proofs.client.Client.end.Given as goal
 
-abbrev pub invariant-loop : goal.invariant-loop
-invariant-loop g l = record {
+-- the EOF was written at most once, and nothing was heard
+abbrev pub invariant-loop-turn : goal.invariant-loop-turn
+invariant-loop-turn g l = record {
   same_links : g.T.Turns.links l.turns ≡ g.T.Turns.links l.fn.turns;
   well : g.T.Turns.failures l.turns ≤ g.T.Turns.failures l.fn.turns;
+  talk : WritesAndTurns l.turn (talker_of l.fn.self (g.T.Turns.queue l.fn.turns)) eof_item false l.is_written (talker_of l.self (g.T.Turns.queue l.turns));
 }
