@@ -34,11 +34,11 @@ none_after bs None h = (refl, (not_taken _ _ _ h).0)
 both_equal : (a m b n : ℕ) → not (eqb a m && eqb b n) ≡ false → (a ≡ m) × (b ≡ n)
 both_equal a m b n h = (grind (arith, nat_tests), grind (arith, nat_tests))
 
-at_least : (m n : ℕ) → nat_lt m n ≡ false → n ≤ m
+pub at_least : (m n : ℕ) → nat_lt m n ≡ false → n ≤ m
 at_least m n h = grind (arith, nat_tests)
 
 -- four bytes and what follows them
-front_four : (bs : List ℕ) → 4 ≤ length bs → bs ≡ get_or bs 0 0 ∷ get_or bs 1 0 ∷ get_or bs 2 0 ∷ get_or bs 3 0 ∷ drop 4 bs
+pub front_four : (bs : List ℕ) → 4 ≤ length bs → bs ≡ get_or bs 0 0 ∷ get_or bs 1 0 ∷ get_or bs 2 0 ∷ get_or bs 3 0 ∷ drop 4 bs
 front_four [] h = absurd (omega arith)
 front_four (a ∷ []) h = absurd (omega arith)
 front_four (a ∷ b ∷ []) h = absurd (omega arith)

@@ -1,5 +1,8 @@
+pub mod Bundled
 pub mod Canon
 pub mod Carriage
+pub mod Either
 pub mod Made
+pub mod Several
 pub mod Turned
 pub mod Words

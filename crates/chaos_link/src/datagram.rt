@@ -1,7 +1,7 @@
 //! A packet from its bytes on a link.
 ghost use Rattle.std.specs.Prelude.{◌≡◌, ◌+◌, ◌*◌, ◌<◌, ◌≤◌, ℕ, IfOk, MatchResult, Ok, Some, None, drop, length, slice_index};
 ghost use Rattle.chaos_packet.specs.Packet.{PacketView};
-ghost use Rattle.chaos_packet.specs.Words.{words_for, count_of, words_fault};
+ghost use Rattle.chaos_packet.specs.Words.{words_for, count_of, words_fault, packet_at};
 ghost use Rattle.chaos_link.specs.Datagram.{Carries, IsDecidedByCarries, datagram_len, datagram_read, fault_of, words_of};
 
 use crate::fault::LinkFault;
@@ -43,7 +43,19 @@ pub fn from_datagram(bytes: &[u8]) -> Result<Packet, LinkFault>
 {
     let count = checked_count(bytes)?;
     let (_, words) = bytes.split_at(MARK_BYTES);
+    Ok(packet_of(words, count))
+}
+
+/// The packet at the front of the whole words of the bytes, which has so many data bytes.
+#[inline(always)]
+pub(crate) fn packet_of(words: &[u8], count: usize) -> Packet
+    requires long { datagram_len count ≤ MARK_BYTES + length words.now }
+    requires count { count ≡ count_of (words_of words.now) }
+    requires small { count ≤ MAX_DATA }
+    ensures { result ≡ packet_at (words_of words.now) }
+{
     let (_, data) = words.split_at(2 * HEADER_WORDS);
+    let (data, _) = data.split_at(2 * ((count + 1) / 2));
     let mut packet = Packet {
         op: Opcode((word_at(words, 0) / 256) as u8),
         fwd: (word_at(words, 1) / 4096) as u8,
@@ -58,12 +70,12 @@ pub fn from_datagram(bytes: &[u8]) -> Result<Packet, LinkFault>
     // In place, since each copy of a packet costs as much as the data does.
     turn_pairs(data, packet.body.as_mut_slice());
     packet.body.truncate(count);
-    Ok(packet)
+    packet
 }
 
 /// How many data bytes the datagram's packet has, where it is one: what the checks make of the bytes, in their order.
 #[inline(always)]
-fn checked_count(bytes: &[u8]) -> Result<usize, LinkFault>
+pub(crate) fn checked_count(bytes: &[u8]) -> Result<usize, LinkFault>
     ensures fault { MatchResult result (λ _. fault_of bytes.now ≡ None) (λ f. fault_of bytes.now ≡ Some f) }
     ensures count { IfOk result (λ n. n ≡ count_of (words_of (drop MARK_BYTES bytes.now))) }
     ensures small { IfOk result (λ n. n ≤ MAX_DATA) }
@@ -88,7 +100,7 @@ fn checked_count(bytes: &[u8]) -> Result<usize, LinkFault>
 
 /// How many data bytes the packet at the front of the whole words of the bytes has, where one is there.
 #[inline(always)]
-fn data_count(bytes: &[u8]) -> Result<usize, PacketFault>
+pub(crate) fn data_count(bytes: &[u8]) -> Result<usize, PacketFault>
     ensures fault { MatchResult result (λ _. words_fault (words_of bytes.now) ≡ None) (λ f. words_fault (words_of bytes.now) ≡ Some f) }
     ensures count { IfOk result (λ n. n ≡ count_of (words_of bytes.now)) }
     ensures small { IfOk result (λ n. n ≤ MAX_DATA) }

@@ -1,13 +1,13 @@
 //! The bytes of a packet on a link.
-ghost use Rattle.std.specs.Prelude.{◌≡◌, ◌*◌, ◌<◌, ◌≤◌, ℕ, List, Ok, length, take, slice_index};
-ghost use Rattle.chaos_packet.specs.Words.{packed, words_for};
+ghost use Rattle.std.specs.Prelude.{◌≡◌, ◌+◌, ◌*◌, ◌<◌, ◌≤◌, ◌++◌, ℕ, List, Ok, length, take, slice_index};
+ghost use Rattle.chaos_packet.specs.Words.{HasZeroHalves, Spells, packed, spelling_of, words_for};
 ghost use Rattle.chaos_link.specs.Datagram.{Canonical, Carries, datagram_of, datagram_read, wire};
 
 use crate::datagram::MARK;
 use crate::limits::{MARK_BYTES, MAX_DATAGRAM};
 use crate::pairs::{put_words, turn_pairs};
 use arrayvec::ArrayVec;
-use chaos_packet::Packet;
+use chaos_packet::{HEADER_WORDS, MAX_DATA, Packet};
 
 /// The one canonical datagram that carries the packet: its free halves are zero (own profile). The data bytes
 /// are copied once, by whole words, and nothing is allocated; [`write_datagram`] spares the move of the datagram, too.
@@ -52,8 +52,24 @@ pub fn write_datagram(packet: &Packet, buffer: &mut [u8]) -> usize
     ensures exact { take result buffer.new ≡ datagram_of packet.now }
 {
     buffer[..MARK_BYTES].copy_from_slice(&MARK);
-    let front = put_words(&packet.header(), MARK_BYTES, buffer);
-    front + put_data(packet.bytes(), &mut buffer[front..])
+    put_packet(packet, MARK_BYTES, buffer)
+}
+
+/// Puts the words of a packet behind so many bytes, and says where they end. A packet has at most 488 data bytes, which the
+/// caller needn't know.
+#[inline(always)]
+pub(crate) fn put_packet(packet: &Packet, front: usize, buffer: &mut [u8]) -> usize
+    requires { length packet.now.body ≤ MAX_DATA → front + 2 * (HEADER_WORDS + words_for (length packet.now.body)) ≤ length buffer.old }
+    ensures end { result ≡ front + 2 * (HEADER_WORDS + words_for (length packet.now.body)) }
+    ensures fits { result ≤ length buffer.new }
+    ensures bytes { take result buffer.new ≡ take front buffer.old ++ wire (spelling_of packet.now) }
+    ensures spelled { Spells packet.now (spelling_of packet.now) }
+    ensures zero { HasZeroHalves (spelling_of packet.now) }
+    ensures small { length packet.now.body ≤ MAX_DATA }
+{
+    let data = packet.bytes();
+    let front = put_words(&packet.header(), front, buffer);
+    front + put_data(data, &mut buffer[front..])
 }
 
 /// Puts data bytes as the words that hold them, each high byte first, and says where they end.

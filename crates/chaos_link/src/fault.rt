@@ -21,6 +21,15 @@ pub enum LinkFault {
     /// A byte or more stands after the packet.
     #[error("bytes after the packet")]
     Trailing,
+    /// A datagram of version 2 says that it has no packet, or more than 8.
+    #[error("not 1 to 8 packets")]
+    BadNumber,
+    /// A datagram of version 2 has more than 2,020 bytes.
+    #[error("more than 2020 bytes")]
+    TooLong,
+    /// The words of this packet of a datagram of version 2, counted from 1, are no packet.
+    #[error("packet {0}: {1}")]
+    PacketAt(u8, PacketFault),
 }
 
 /// Why a peer was not added, in the order of the checks.

@@ -5,6 +5,7 @@
 //! is a UDP socket, which alone waits. Nothing here reads a clock or makes a socket.
 #![tactic(auto)]
 
+mod bundle;
 mod datagram;
 mod encode;
 mod fault;
@@ -12,18 +13,23 @@ mod fuse;
 mod limits;
 mod link;
 mod mem;
+mod packets;
 mod pairs;
 mod peers;
 #[cfg(test)]
 mod tests;
 mod udp;
 
+pub use bundle::{fits, to_datagram2, write_datagram2};
 pub use datagram::{from_datagram, law_carries};
 pub use encode::{to_datagram, write_datagram};
 pub use fault::{LinkFault, PeerFault};
 pub use fuse::FuseLink;
-pub use limits::{LINK_ROOM, MARK_BYTES, MAX_DATAGRAM, MAX_PEERS, MAX_WAIT, law_limits};
+pub use limits::{
+    LINK_ROOM, MARK_BYTES, MAX_BUNDLE, MAX_DATAGRAM, MAX_PACKETS, MAX_PEERS, MAX_WAIT, law_limits,
+};
 pub use link::{Link, Received, Sent};
 pub use mem::MemLink;
+pub use packets::{Packets, law_carries2, open_datagram, read_datagram};
 pub use peers::{Peer, Peers};
 pub use udp::UdpLink;

@@ -1,12 +1,18 @@
 //! Sizes and times, each with its unit.
 ghost use Rattle.std.specs.Prelude.{◌≡◌};
-ghost use Rattle.chaos_link.specs.declared.limits.TheConstants.{MARK_BYTES, MAX_DATAGRAM, LINK_ROOM, MAX_PEERS, MAX_WAIT};
+ghost use Rattle.chaos_link.specs.declared.limits.TheConstants.{MARK_BYTES, MAX_DATAGRAM, MAX_PACKETS, MAX_BUNDLE, LINK_ROOM, MAX_PEERS, MAX_WAIT};
 
 /// The bytes of the mark and the version that a datagram begins with.
 pub const MARK_BYTES: usize = 4;
 
 /// The most bytes of a datagram that carries a packet: the mark, the version and the greatest packet.
 pub const MAX_DATAGRAM: usize = 508;
+
+/// The most packets of a datagram of version 2.
+pub const MAX_PACKETS: usize = 8;
+
+/// The most bytes of a datagram of version 2: the mark and four of the greatest packets.
+pub const MAX_BUNDLE: usize = 2020;
 
 /// The most bytes that a link takes at once, and the bytes that a receive has room for.
 pub const LINK_ROOM: usize = 2048;
@@ -21,6 +27,8 @@ pub const MAX_WAIT: u64 = 10;
 pub fn law_limits()
     ensures mark { MARK_BYTES ≡ 4 }
     ensures datagram { MAX_DATAGRAM ≡ 508 }
+    ensures packets { MAX_PACKETS ≡ 8 }
+    ensures bundle { MAX_BUNDLE ≡ 2020 }
     ensures room { LINK_ROOM ≡ 2048 }
     ensures peers { MAX_PEERS ≡ 32 }
     ensures wait { MAX_WAIT ≡ 10 }

@@ -1,4 +1,5 @@
 //! Rows of the specification, and what only the outside can tell.
+mod bundles;
 mod datagrams;
 mod fuse;
 mod memory;

@@ -1,6 +1,6 @@
 -- What a packet is.
 use Rattle.std.specs.List.{before_first, after_first}
-use Rattle.std.specs.Prelude.{ℕ, ◌+◌, ◌*◌, List, ◌∷◌, Option, Some, None, ◌==◌, ◌||◌, if◌then◌else◌}
+use Rattle.std.specs.Prelude.{ℕ, ◌+◌, ◌*◌, List, [], ◌∷◌, Option, Some, None, ◌==◌, ◌||◌, if◌then◌else◌}
 use Rattle.chaos_packet.specs.Item.{ItemView}
 use Rattle.chaos_packet.specs.Opcode.{op_opn, op_sts}
 
@@ -15,6 +15,10 @@ pub record PacketView : Type 0 where
   pub num : ℕ
   pub ack : ℕ
   pub body : List ℕ
+
+-- zeros, and no data
+abbrev pub blank : PacketView
+blank = record { op = 0; fwd = 0; dst = 0; dst_index = 0; src = 0; src_index = 0; num = 0; ack = 0; body = [] }
 
 -- the item that a packet carries
 abbrev pub item_of : PacketView → ItemView

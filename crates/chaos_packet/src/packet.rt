@@ -1,6 +1,6 @@
 //! A packet.
 ghost use Rattle.std.specs.Prelude.{◌≡◌, ◌+◌, ◌*◌, ◌≤◌, ◌==◌, length, position};
-ghost use Rattle.chaos_packet.specs.Packet.{status_of, status_words, contact_of, arguments_of};
+ghost use Rattle.chaos_packet.specs.Packet.{blank, status_of, status_words, contact_of, arguments_of};
 ghost use Rattle.chaos_packet.specs.Words.{header_of};
 
 use crate::item::body_of;
@@ -85,6 +85,25 @@ impl Model for Packet {
       ack = v.ack;
       body = record { items = v.body };
     } };
+}
+
+/// Stands in the places of an array that hold no packet yet: zeros, and no data.
+impl Default for Packet {
+    fn default() -> Self
+        ensures { result ≡ blank }
+    {
+        Packet {
+            op: Opcode(0),
+            fwd: 0,
+            dst: 0,
+            dst_index: 0,
+            src: 0,
+            src_index: 0,
+            num: PktNum(0),
+            ack: PktNum(0),
+            body: ArrayVec::new(),
+        }
+    }
 }
 
 impl Packet {

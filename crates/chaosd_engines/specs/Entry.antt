@@ -1,11 +1,12 @@
 -- What a line is, and how it is reported.
-use Rattle.std.specs.Prelude.{◌≡◌, ◌↔◌, ℕ, ◌≤◌, Bool, true, false, List, ◌++◌, length, Option, Some, None, Result, Ok, Err, codes, nat_lt, if◌then◌else◌}
+use Rattle.std.specs.Prelude.{◌≡◌, ◌↔◌, ℕ, ◌≤◌, Bool, true, false, List, ◌∷◌, ◌++◌, length, Option, Some, None, Result, Ok, Err, codes, nat_lt, if◌then◌else◌}
+use Rattle.std.specs.Fmt.{decimal}
 use Rattle.std.specs.Io.BufRead.{strip_last}
 use Rattle.chaos_packet.specs.declared.fault.PacketFault.{PacketFault}
 use Rattle.chaos_packet.specs.declared.fault.PacketFault.TheVariants as words
 use Rattle.chaos_packet.specs.Packet.{PacketView}
 use Rattle.chaos_link.specs.declared.fault.LinkFault.{LinkFault}
-use Rattle.chaos_link.specs.declared.fault.LinkFault.TheVariants.{Short, BadMark, BadVersion, Packet, Trailing}
+use Rattle.chaos_link.specs.declared.fault.LinkFault.TheVariants.{Short, BadMark, BadVersion, Packet, Trailing, BadNumber, TooLong, PacketAt}
 use Rattle.chaos_link.specs.Datagram.{Carries, datagram_read}
 use Rattle.chaosd_engines.specs.declared.limits.TheConstants.{LINE_LIMIT}
 use Rattle.chaosd_engines.specs.Hex.{hex_bytes}
@@ -48,6 +49,9 @@ fault_text BadMark = codes "fault 2 BadMark"
 fault_text BadVersion = codes "fault 3 BadVersion"
 fault_text (Packet fault) = codes "fault 4 Packet " ++ packet_fault_text fault
 fault_text Trailing = codes "fault 5 Trailing"
+fault_text BadNumber = codes "fault 6 BadNumber"
+fault_text TooLong = codes "fault 7 TooLong"
+fault_text (PacketAt place fault) = codes "fault 8 PacketAt " ++ decimal place ++ 32 ∷ packet_fault_text fault
 
 -- the report
 unfoldable pub entry_text : Entry → List ℕ

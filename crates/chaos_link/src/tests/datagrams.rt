@@ -1,6 +1,6 @@
 //! Packets as datagrams.
 use crate::*;
-use chaos_packet::PacketFault;
+use chaos_packet::{Packet, PacketFault};
 use std::process::Abort;
 use std::test::Fail;
 
@@ -16,9 +16,25 @@ const LETTER: [u8; 22] = [
     0x00, 0x05, 0x00, 0x10, 0x00, 0x41,
 ];
 
+/// What `from_datagram` answers. The reader of both versions answers the same, with one packet.
+fn read(rt: &impl Abort, datagram: &[u8]) -> Result<Packet, LinkFault> {
+    let answer = from_datagram(datagram);
+    match (&answer, read_datagram(datagram)) {
+        (Ok(packet), Ok(packets)) => {
+            assert_eq!(rt; packets.len(), 1);
+            for other in packets.as_slice() {
+                assert!(rt; other == packet);
+            }
+        }
+        (Err(fault), Err(other)) => assert_eq!(rt; other, *fault),
+        _ => panic!(rt; "the readers differ"),
+    }
+    answer
+}
+
 #[test]
 fn status_datagram_is_read(rt: HostRuntime) -> Result<(), Fail> {
-    let packet = from_datagram(&STATUS)?;
+    let packet = read(&rt, &STATUS)?;
     assert_eq!(rt; packet.op.name().ok_or("named")?, "STS");
     assert_eq!(rt; (packet.dst, packet.dst_index), (0o401, 0o1001));
     assert_eq!(rt; (packet.src, packet.src_index), (0o402, 0o1405));
@@ -32,8 +48,8 @@ fn free_half_that_is_not_zero_gives_the_same_packet(rt: HostRuntime) -> Result<(
     let mut noisy = LETTER;
     noisy[5] = 0xEE;
     noisy[20] = 0xFF;
-    let packet = from_datagram(&LETTER)?;
-    let same = from_datagram(&noisy)?;
+    let packet = read(&rt, &LETTER)?;
+    let same = read(&rt, &noisy)?;
     assert!(rt; packet == same);
     assert_eq!(rt; same.bytes(), [0x41].as_slice());
     Ok(())
@@ -48,12 +64,12 @@ fn refused_where_cut(rt: &impl Abort, datagram: &[u8]) {
             _ => LinkFault::Packet(PacketFault::Truncated),
         };
         assert_eq!(rt;
-            from_datagram(&datagram[..len]).err(),
+            read(rt, &datagram[..len]).err(),
             Some(wanted),
             "{len} bytes"
         );
     }
-    assert!(rt; from_datagram(datagram).is_ok());
+    assert!(rt; read(rt, datagram).is_ok());
 }
 
 #[test]
@@ -70,20 +86,20 @@ fn count_489_is_refused_with_and_without_its_bytes(rt: HostRuntime) {
     let mut short = STATUS;
     short[6] = 0x01;
     short[7] = 0xE9;
-    assert_eq!(rt; from_datagram(&short).err(), fault);
+    assert_eq!(rt; read(&rt, &short).err(), fault);
     let mut long = [0; 510];
     long[..8].copy_from_slice(&short[..8]);
-    assert_eq!(rt; from_datagram(&long).err(), fault);
+    assert_eq!(rt; read(&rt, &long).err(), fault);
 }
 
 #[test]
 fn mark_and_version_are_checked_in_turn(rt: HostRuntime) {
     assert_eq!(rt;
-        from_datagram(&[0x42, 0x48, 0x01, 0x00]).err(),
+        read(&rt, &[0x42, 0x48, 0x01, 0x00]).err(),
         Some(LinkFault::BadMark)
     );
     assert_eq!(rt;
-        from_datagram(&[0x43, 0x49, 0x02, 0x00]).err(),
+        read(&rt, &[0x43, 0x49, 0x02, 0x00]).err(),
         Some(LinkFault::BadMark)
     );
     assert_eq!(rt;
@@ -91,7 +107,7 @@ fn mark_and_version_are_checked_in_turn(rt: HostRuntime) {
         Some(LinkFault::BadVersion)
     );
     assert_eq!(rt;
-        from_datagram(&[0x43, 0x48, 0x01, 0x01]).err(),
+        read(&rt, &[0x43, 0x48, 0x01, 0x01]).err(),
         Some(LinkFault::BadVersion)
     );
 }
@@ -100,20 +116,17 @@ fn mark_and_version_are_checked_in_turn(rt: HostRuntime) {
 fn byte_after_the_packet_is_refused(rt: HostRuntime) {
     let mut longer = [0; 26];
     longer[..24].copy_from_slice(&STATUS);
-    assert_eq!(rt;
-        from_datagram(&longer[..25]).err(),
-        Some(LinkFault::Trailing)
-    );
-    assert_eq!(rt; from_datagram(&longer).err(), Some(LinkFault::Trailing));
+    assert_eq!(rt; read(&rt, &longer[..25]).err(), Some(LinkFault::Trailing));
+    assert_eq!(rt; read(&rt, &longer).err(), Some(LinkFault::Trailing));
 }
 
 #[test]
 fn greatest_datagram_is_read(rt: HostRuntime) -> Result<(), Fail> {
     let mut bytes = [0x5A; MAX_DATAGRAM + 1];
     bytes[..8].copy_from_slice(&[0x43, 0x48, 0x01, 0x00, 0x80, 0x00, 0xF1, 0xE8]);
-    let packet = from_datagram(&bytes[..MAX_DATAGRAM])?;
+    let packet = read(&rt, &bytes[..MAX_DATAGRAM])?;
     assert_eq!(rt; (packet.fwd, packet.bytes().len()), (15, 488));
-    assert_eq!(rt; from_datagram(&bytes).err(), Some(LinkFault::Trailing));
+    assert_eq!(rt; read(&rt, &bytes).err(), Some(LinkFault::Trailing));
     Ok(())
 }
 
@@ -123,10 +136,10 @@ fn canonical_datagram_comes_of_either_reading(rt: HostRuntime) -> Result<(), Fai
     noisy[5] = 0xEE;
     noisy[20] = 0xFF;
     for bytes in [LETTER, noisy] {
-        let packet = from_datagram(&bytes)?;
+        let packet = read(&rt, &bytes)?;
         assert_eq!(rt; to_datagram(&packet).as_slice(), LETTER.as_slice());
     }
-    let packet = from_datagram(&STATUS)?;
+    let packet = read(&rt, &STATUS)?;
     assert_eq!(rt; to_datagram(&packet).as_slice(), STATUS.as_slice());
     let mut buffer = [0xFF; MAX_DATAGRAM];
     let end = write_datagram(&packet, &mut buffer);

@@ -1,7 +1,8 @@
 //! The report of a line.
 ghost use Rattle.std.specs.Prelude.{◌≡◌, ◌≤◌, ◌++◌, length, OnOk, IfOk};
 ghost use Rattle.chaos_link.specs.Datagram.{datagram_read};
-ghost use Rattle.chaosd_engines.specs.Entry.{fault_text, entry_of, entry_of_datagram, entry_of_text, entry_text, is_refusal};
+ghost use Rattle.chaosd_engines.specs.Entry.{fault_text, packet_fault_text, entry_of, entry_of_datagram, entry_of_text, entry_text, is_refusal};
+ghost use Rattle.chaosd_engines.specs.Report.{line};
 ghost use Rattle.chaosd_engines.specs.Show.{gap, line_report};
 
 use crate::buffer::{NotWritten, WriteBuffer};
@@ -9,7 +10,7 @@ use crate::limits::LINE_LIMIT;
 use crate::lines::without_return;
 use crate::show::hex::{MOST_BYTES, read_hex};
 use crate::show::report::put_packet;
-use crate::texts::put_line;
+use crate::texts::{put_decimal, put_line};
 use chaos_link::{LinkFault, from_datagram};
 use chaos_packet::PacketFault;
 
@@ -43,7 +44,7 @@ fn put_entry(
     let line = without_return(raw);
     // An empty line is the empty datagram: no place is made for a packet, as `from_datagram` does.
     if line.is_empty() {
-        put_line(out, fault_text(LinkFault::Short))?;
+        put_fault(out, LinkFault::Short)?;
         return Ok(true);
     }
     put_text(out, line, datagram)
@@ -82,23 +83,43 @@ fn put_datagram(out: &mut WriteBuffer, bytes: &[u8]) -> Result<bool, NotWritten>
             Ok(false)
         }
         Err(fault) => {
-            put_line(out, fault_text(fault))?;
+            put_fault(out, fault)?;
             Ok(true)
         }
     }
 }
 
-/// How a datagram's fault is reported.
-fn fault_text(fault: LinkFault) -> &'static str
-    ensures { result.now ≡ fault_text fault }
+/// Writes how a datagram's fault is reported.
+fn put_fault(out: &mut WriteBuffer, fault: LinkFault) -> Result<(), NotWritten>
+    ensures { OnOk result (out.new ≡ out.old ++ line (fault_text fault)) }
 {
     match fault {
-        LinkFault::Short => "fault 1 Short",
-        LinkFault::BadMark => "fault 2 BadMark",
-        LinkFault::BadVersion => "fault 3 BadVersion",
-        LinkFault::Packet(PacketFault::Short) => "fault 4 Packet 1 Short",
-        LinkFault::Packet(PacketFault::BadCount) => "fault 4 Packet 2 BadCount",
-        LinkFault::Packet(PacketFault::Truncated) => "fault 4 Packet 3 Truncated",
-        LinkFault::Trailing => "fault 5 Trailing",
+        LinkFault::Short => put_line(out, "fault 1 Short"),
+        LinkFault::BadMark => put_line(out, "fault 2 BadMark"),
+        LinkFault::BadVersion => put_line(out, "fault 3 BadVersion"),
+        LinkFault::Packet(fault) => {
+            out.put(b"fault 4 Packet ")?;
+            put_line(out, packet_fault_text(fault))
+        }
+        LinkFault::Trailing => put_line(out, "fault 5 Trailing"),
+        LinkFault::BadNumber => put_line(out, "fault 6 BadNumber"),
+        LinkFault::TooLong => put_line(out, "fault 7 TooLong"),
+        LinkFault::PacketAt(place, fault) => {
+            out.put(b"fault 8 PacketAt ")?;
+            put_decimal(out, usize::from(place))?;
+            out.put(b" ")?;
+            put_line(out, packet_fault_text(fault))
+        }
+    }
+}
+
+/// How a packet's fault is reported.
+fn packet_fault_text(fault: PacketFault) -> &'static str
+    ensures { result.now ≡ packet_fault_text fault }
+{
+    match fault {
+        PacketFault::Short => "1 Short",
+        PacketFault::BadCount => "2 BadCount",
+        PacketFault::Truncated => "3 Truncated",
     }
 }
