@@ -26,8 +26,8 @@ TESTS = [
     ("chaos_lab_tests", "tests::memory::want_of_memory_changes_nothing", 1),
     ("chaos_filelab_tests", "tests::memory::want_of_memory_is_told", 4),
     ("chaosd_lab", "tests::faults::want_of_memory_is_told", 11),
-    ("chaosd_file", "tests::memory::loop_tells_want_of_memory", 40),
-    ("chaosd_file", "tests::memory::serve_tells_want_of_memory", 30),
+    ("chaosd_file_tests", "tests::memory::loop_tells_want_of_memory", 40),
+    ("chaosd_file_tests", "tests::memory::serve_tells_want_of_memory", 30),
 ]
 # a name, the words of the program, and what it is given
 DATA_BEFORE_THE_OPN = b"ends 2 2 2 2 65534\ndeliver 0\naccept 100\nwrite b 200 X\ndeliver 2\ndeliver 1\ndeliver 2\nread a\n"

@@ -20,8 +20,6 @@ mod script;
 mod serve_run;
 mod server;
 mod status;
-#[cfg(test)]
-mod tests;
 mod text;
 mod turns;
 mod why;

@@ -2,10 +2,10 @@
 use super::fakes::{FuseReader, FuseWriter, Stopped};
 use super::links::linked;
 use super::scripts::{FILE_REPLIES, FILE_SCRIPT, all};
-use crate::{run_ask, run_loop, run_serve, script_status, serve_status};
 use chaos_file::MemStore;
 use chaos_link::{FuseLink, MemLink};
 use chaosd_engines::{FAULT, RunFault};
+use chaosd_file::{run_ask, run_loop, run_serve, script_status, serve_status};
 use std::alloc::AllocGlobal;
 use std::process::Abort;
 use std::test::Fail;

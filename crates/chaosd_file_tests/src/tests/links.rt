@@ -1,10 +1,14 @@
 //! Links of tests.
-ghost use Rattle.std.specs.Prelude.{None};
+ghost use Rattle.std.specs.Prelude.{◌≡◌, ◌≤◌, length, None};
+ghost use Rattle.chaos_turn.specs.declared.limits.TheConstants.{TURN_ROOM};
 
-use crate::server::Server;
+use chaos_conn::ConnConfig;
 use chaos_file::MemStore;
+use chaos_host::Host;
 use chaos_link::{LINK_ROOM, Link, MemLink, Peer, Peers, Received, Sent, UdpLink, from_datagram};
-use chaos_packet::{Packet, PktNum};
+use chaos_packet::{Outbox, Packet, PktNum};
+use chaos_serve::CONTACT;
+use chaos_turn::{Sessions, TURN_ROOM, run_turn};
 use std::alloc::Global;
 use std::net::{Ipv4Addr, Net, SocketAddr, SocketAddrV4, UdpSocket};
 use std::test::Fail;
@@ -136,16 +140,24 @@ impl Link for Crossing {
 #[derive(Drop)]
 pub struct Answering {
     alloc: Global,
-    server: Server,
+    host: Host,
+    sessions: Sessions,
+    out: Outbox,
     store: MemStore,
     crossing: Crossing,
+    ghost alike: { length sessions ≡ length host.slots },
+    ghost room: { TURN_ROOM ≤ out.cap },
 }
 
 impl Answering {
     pub fn new(alloc: Global) -> Result<Self, Fail> {
+        let mut host = Host::new(alloc, 0o402, 2, ConnConfig::usual())?;
+        host.listen(CONTACT)?;
         Ok(Answering {
             alloc,
-            server: Server::new(alloc, 0o402)?,
+            host,
+            sessions: Sessions::new(alloc, 2)?,
+            out: Outbox::new(alloc, TURN_ROOM)?,
             store: MemStore::new(alloc),
             crossing: Crossing {
                 sends: MemLink::new(alloc, 8)?,
@@ -166,9 +178,16 @@ impl Link for Answering {
 
     fn receive(&mut self, buffer: &mut [u8; LINK_ROOM]) -> Received {
         let start = PktNum(65_530);
-        let _turn = self
-            .server
-            .turn(self.alloc, &mut self.store, &mut self.crossing, start, 0);
+        let _turn = run_turn(
+            self.alloc,
+            &mut self.host,
+            &mut self.sessions,
+            &mut self.store,
+            &mut self.crossing,
+            start,
+            0,
+            &mut self.out,
+        );
         self.crossing.sends.receive(buffer)
     }
 

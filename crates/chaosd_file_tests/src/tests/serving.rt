@@ -2,11 +2,11 @@
 use super::fakes::{Moving, Stopped};
 use super::links::received;
 use super::puppet::{Part, Puppet};
-use crate::{run_serve, serve_status};
 use chaos_file::MemStore;
 use chaos_link::{Link, MemLink, to_datagram};
 use chaos_packet::{Item, Opcode, Packet, PktNum};
 use chaosd_engines::{DONE, RunFault};
+use chaosd_file::{run_serve, serve_status};
 use std::alloc::AllocGlobal;
 use std::cell::Cell;
 use std::process::Abort;

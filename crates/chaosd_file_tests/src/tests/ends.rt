@@ -2,10 +2,10 @@
 use super::fakes::{Screen, Stopped, Typist};
 use super::links::{Answering, Away, Watched, linked, received};
 use super::scripts::{FILE_REPLIES, FILE_SCRIPT, all, logins};
-use crate::{ScriptEnd, run_ask, run_loop, script_status};
 use chaos_link::MemLink;
 use chaos_packet::{Opcode, PktNum};
 use chaosd_engines::{REFUSED, RunFault};
+use chaosd_file::{ScriptEnd, run_ask, run_loop, script_status};
 use std::alloc::AllocGlobal;
 use std::cell::Cell;
 use std::process::Abort;

@@ -1,7 +1,7 @@
 //! Scripts and what they print.
 use super::links::linked;
-use crate::{ScriptEnd, run_loop, script_status};
 use chaosd_engines::{BAD_SCRIPT, DONE, RunFault};
+use chaosd_file::{ScriptEnd, run_loop, script_status};
 use std::alloc::AllocGlobal;
 use std::net::Net;
 use std::process::Abort;

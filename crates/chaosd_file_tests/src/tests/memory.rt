@@ -1,10 +1,10 @@
 //! Want of memory, where one allocation is refused: `rt try --test --fail-alloc N`.
 use super::links::linked;
 use super::scripts::{FILE_REPLIES, FILE_SCRIPT, all};
-use crate::{run_loop, run_serve, script_status, serve_status};
 use chaos_file::MemStore;
 use chaos_link::MemLink;
 use chaosd_engines::{NO_MEMORY, RunFault};
+use chaosd_file::{run_loop, run_serve, script_status, serve_status};
 use std::alloc::{AllocGlobal, Global};
 use std::io;
 use std::io::Write;
