@@ -1,19 +1,21 @@
--- A run: what was handed on, and what was read.
-use Rattle.std.proofs.Common.{◌≡◌, ℕ, ◌+◌, ◌<◌, ◌≤◌, List, [], ◌++◌, length, take, min, sym, ap, ◌∙◌, subst, arith, append-nil, length-take, length-append}
+-- A run: what was handed on and shown, and what is told at the end.
+use Rattle.std.proofs.Common.{◌≡◌, ℕ, ◌+◌, ◌<◌, ◌≤◌, true, false, eqb, List, [], ◌∷◌, ◌++◌, length, take, min, sym, ap, ◌∙◌, subst, arith, append-nil, length-take, length-append}
 use Rattle.std.specs.Prelude.{Option, None, Some, Result, Ok, Err, OnOk, IsOk, IfSome, MatchResult}
 use Rattle.std.specs.Io.KnownBytes.{Appends, Keeps, Consumes, IsAtEnd}
 use Rattle.std.proofs.KnownBytes.{Appends-kept, Consumes-trans}
 use Rattle.std.proofs.Math.Seq.{take-append-add}
 use Rattle.std.proofs.lemmas.List.{take-append-le, take-take}
-use Rattle.chaosd_engines.specs.declared.limits.TheConstants.{INPUT_LIMIT}
+use Rattle.chaosd_engines.specs.declared.limits.TheConstants.{INPUT_LIMIT, KEPT_LEN}
 use Rattle.chaosd_engines.specs.declared.fault.RunFault.{RunFault}
 use Rattle.chaosd_engines.specs.declared.fault.RunFault.TheVariants.{WriteFault}
 use Rattle.chaosd_engines.specs.declared.show.tally.Tally.{Tally}
 use Rattle.chaosd_engines.specs.Buffer.{written_of}
-use Rattle.chaosd_engines.specs.Lines.{ended_lines}
-use Rattle.chaosd_engines.specs.Show.{reports_of}
-use Rattle.chaosd_engines.specs.Shower.{Shows, ShowsAll}
-use Rattle.chaosd_engines.proofs.Steps.{ended_shown}
+use Rattle.chaosd_engines.specs.Lines.{ended_lines, lines_of}
+use Rattle.chaosd_engines.specs.Show.{line_report, reports_of, tally_of, gap, counted, ReportsRead}
+use Rattle.chaosd_engines.specs.Reader.{LinesView, Gives, Done, GivesNext, GivesLast}
+use Rattle.chaosd_engines.specs.Shown.{Shows, ShowsAll}
+use Rattle.chaosd_engines.proofs.Steps.{nothing_waits, line_more}
+use Rattle.chaosd_engines.proofs.Cutting.{if_some}
 
 no_fault : (Y : Type 0) (y : Y) → ◌≡◌ {A = Result Y RunFault} (Ok y) (Err WriteFault) → ⊥
 no_fault Y y h = cc
@@ -31,61 +33,72 @@ handed None held waiting text none p = tt
 handed (Some x) None waiting text none p = absurd p
 handed (Some x) (Some y) waiting text none p = sym (append-nil y) ∙ ap (λ l. y ++ l) (sym none) ∙ p
 
+-- ---- what was shown
+
+pub nothing_shown : (input before : Option (List ℕ)) (waiting : List ℕ) (tally : Tally) (lines : LinesView) → waiting ≡ [] → tally ≡ tally_of [] → Gives KEPT_LEN INPUT_LIMIT input input [] lines
+    → Shows input input before (written_of before waiting) tally lines
+nothing_shown input before waiting tally lines waits count gives = record { given = []; gives = gives; text = nothing_waits before waiting waits; count = count }
+
+-- more came, or the end did
+pub shown_of : (input rest rest' before written : Option (List ℕ)) (tally : Tally) (lines lines' : LinesView) → (s : Shows input rest before written tally lines)
+    → Gives KEPT_LEN INPUT_LIMIT input rest' s.given lines' → Shows input rest' before written tally lines'
+shown_of input rest rest' before written tally lines lines' s gives = record { given = s.given; gives = gives; text = s.text; count = s.count }
+
+-- one line more
+pub more_shown : (input rest before written written' : Option (List ℕ)) (tally tally' : Tally) (lines lines' : LinesView) (line : List ℕ) → (s : Shows input rest before written tally lines)
+    → GivesNext KEPT_LEN INPUT_LIMIT input rest s.given lines' true → line ≡ lines'.line → Appends written written' (gap (eqb tally.reports 0) ++ line_report line) → tally' ≡ counted tally line
+    → Shows input rest before written' tally' lines'
+more_shown input rest before written written' tally tally' lines lines' line s (raw, front, gives) e more next =
+    let reported = line_more before written written' tally tally' s.given raw line (ap (take KEPT_LEN) e ∙ front) s.text s.count more next in
+    record { given = s.given ++ raw ∷ []; gives = gives; text = reported.0; count = reported.1 }
+
+-- the end of the input
+pub all_shown : (input rest before written : Option (List ℕ)) (tally : Tally) (lines : LinesView) → (s : Shows input rest before written tally lines)
+    → GivesLast KEPT_LEN INPUT_LIMIT input rest s.given None → ShowsAll input rest before written tally
+all_shown input rest before written tally lines s done = record { given = s.given; done = done; text = s.text; count = s.count }
+
+pub last_shown : (input rest before written written' : Option (List ℕ)) (tally tally' : Tally) (lines : LinesView) (line : List ℕ) → (s : Shows input rest before written tally lines)
+    → GivesLast KEPT_LEN INPUT_LIMIT input rest s.given (Some line) → Appends written written' (gap (eqb tally.reports 0) ++ line_report line) → tally' ≡ counted tally line
+    → ShowsAll input rest before written' tally'
+last_shown input rest before written written' tally tally' lines line s (raw, front, done) more next =
+    let reported = line_more before written written' tally tally' s.given raw line front s.text s.count more next in
+    record { given = s.given ++ raw ∷ []; done = done; text = reported.0; count = reported.1 }
+
 -- handing on changes nothing of what was shown
-pub shown_kept : (before written written' : Option (List ℕ)) (tally tally' : Tally) (kept input : List ℕ) → Keeps written written' → tally' ≡ tally → Shows before written tally kept input → Shows before written' tally' kept input
-shown_kept before written written' tally tally' kept input keeps same s = record {
-  ended = s.ended;
-  begun = s.begun;
+pub shown_kept : (input rest before written written' : Option (List ℕ)) (tally tally' : Tally) (lines : LinesView) → Keeps written written' → tally' ≡ tally
+    → Shows input rest before written tally lines → Shows input rest before written' tally' lines
+shown_kept input rest before written written' tally tally' lines keeps same s = record {
+  given = s.given;
+  gives = s.gives;
   text = Appends-kept before written written' _ s.text keeps;
   count = same ∙ s.count;
-  front = s.front;
-  unended = s.unended;
-  goes_on = s.goes_on;
 }
 
--- the reports of the lines that ended
-pub ended_handed : (before held : Option (List ℕ)) (waiting : List ℕ) (tally : Tally) (kept input : List ℕ) → Shows before (written_of held waiting) tally kept input
-    → waiting ≡ [] → Appends before held (reports_of (ended_lines input))
-ended_handed before held waiting tally kept input s none = handed before held waiting _ none (ended_shown before _ tally kept input s)
-
--- the reports of all
-pub all_handed : (before written held : Option (List ℕ)) (waiting : List ℕ) (tally tally' : Tally) (input : List ℕ) → ShowsAll before written tally input
-    → Keeps written (written_of held waiting) → waiting ≡ [] → tally' ≡ tally → ShowsAll before held tally' input
-all_handed before written held waiting tally tally' input s keeps none same = record {
+-- the reports of all, which were handed on
+pub all_handed : (input rest before written held : Option (List ℕ)) (waiting : List ℕ) (tally tally' : Tally) → Keeps written (written_of held waiting) → waiting ≡ [] → tally' ≡ tally
+    → ShowsAll input rest before written tally → ShowsAll input rest before held tally'
+all_handed input rest before written held waiting tally tally' keeps none same s = record {
+  given = s.given;
+  done = s.done;
   text = handed before held waiting _ none (Appends-kept before written _ _ s.text keeps);
   count = same ∙ s.count;
 }
 
--- ---- what was read
+-- ---- what is told at the end
 
--- at the end it is the input
-pub of_all : (P : List ℕ → Type 0) (old mid new : Option (List ℕ)) (read last : List ℕ) → Consumes old mid read → Consumes mid new last → last ≡ [] → IsAtEnd new → P read → IfSome old P
-of_all P None mid new read last c d none end p = tt
-of_all P (Some x) None new read last c d none end p = absurd c
-of_all P (Some x) (Some y) None read last c d none end p = absurd d
-of_all P (Some x) (Some y) (Some z) read last c d none end p =
-    subst P (sym (c ∙ ap (λ l. read ++ l) (d ∙ ap (λ l. l ++ z) none ∙ end) ∙ append-nil read)) p
+pub past_shown : (input before held : Option (List ℕ)) (given : List (List ℕ)) → Appends before held (reports_of given) → IfSome input (λ all. (INPUT_LIMIT < length all) × (given ≡ ended_lines (take INPUT_LIMIT all)))
+    → IfSome input (λ all. (INPUT_LIMIT < length all) × Appends before held (reports_of (ended_lines (take INPUT_LIMIT all))))
+past_shown input before held given text past =
+    if_some input (λ all. (INPUT_LIMIT < length all) × (given ≡ ended_lines (take INPUT_LIMIT all))) (λ all. (INPUT_LIMIT < length all) × Appends before held (reports_of (ended_lines (take INPUT_LIMIT all))))
+    (λ all p. (p.0, subst (λ l. Appends before held (reports_of l)) p.1 text)) past
 
--- a chunk that goes past the limit
-pub past_limit : (P : List ℕ → Type 0) (old mid new : Option (List ℕ)) (read chunk : List ℕ) (room count within : ℕ) → Consumes old mid read → Consumes mid new (take count chunk)
-    → room + length read ≡ INPUT_LIMIT → count ≤ length chunk → within ≡ min count room → within < count
-    → P (read ++ take within chunk) → IfSome old (λ input. (INPUT_LIMIT < length input) × P (take INPUT_LIMIT input))
-past_limit P None mid new read chunk room count within c d fits le m past p = tt
-past_limit P (Some x) None new read chunk room count within c d fits le m past p = absurd c
-past_limit P (Some x) (Some y) None read chunk room count within c d fits le m past p = absurd d
-past_limit P (Some x) (Some y) (Some z) read chunk room count within c d fits le m past p =
-    let whole : x ≡ read ++ (take count chunk ++ z) = c ∙ ap (λ l. read ++ l) d in
-    let got : length (take count chunk) ≡ count = omega (arith, length-take count chunk) in
-    let limit : INPUT_LIMIT ≡ length read + within = omega arith in
-    let front : take INPUT_LIMIT x ≡ read ++ take within chunk =
-    ap (take INPUT_LIMIT) whole ∙ ap (λ n. take n (read ++ (take count chunk ++ z))) limit ∙ take-append-add read (take count chunk ++ z) within
-    ∙ ap (λ l. read ++ l) (take-append-le within (take count chunk) z (omega arith) ∙ take-take within count chunk (omega arith)) in
-    let long : length x ≡ length read + (length (take count chunk) + length z) = ap length whole ∙ length-append read _ ∙ ap (λ n. length read + n) (length-append (take count chunk) z) in
-    (omega arith, subst P (sym front) p)
+pub unread_shown : (input rest before held : Option (List ℕ)) (given : List (List ℕ)) → Appends before held (reports_of given) → (read : List ℕ) × Consumes input rest read × (given ≡ ended_lines read)
+    → ReportsRead input rest before held
+unread_shown input rest before held given text (read, came, same) = (read, came, subst (λ l. Appends before held (reports_of l)) same text)
 
--- one chunk more, within the limit
-pub chunk_more : (old mid new : Option (List ℕ)) (read chunk : List ℕ) (count within : ℕ) → count ≤ length chunk → within ≤ count → count ≤ within → Consumes old mid read → Consumes mid new (take count chunk)
-    → Consumes old new (read ++ take within chunk)
-chunk_more old mid new read chunk count within le same same' c d =
-    let same : count ≡ within = omega arith in
-    subst (Consumes old new) (ap (λ n. read ++ take n chunk) same) (Consumes-trans old mid new read (take count chunk) c d)
+-- what holds of all lines
+pub of_lines : (input rest : Option (List ℕ)) (given : List (List ℕ)) (P : List (List ℕ) → Type 0) → Done INPUT_LIMIT input rest given → P given → IfSome input (λ all. P (lines_of all))
+of_lines input rest given P done p = if_some input (λ all. (length all ≤ INPUT_LIMIT) × (lines_of all ≡ given)) (λ all. P (lines_of all)) (λ all h. subst P (sym h.1) p) done.lines
+
+pub within : (input rest : Option (List ℕ)) (given : List (List ℕ)) → Done INPUT_LIMIT input rest given → IfSome input (λ all. length all ≤ INPUT_LIMIT)
+within input rest given done = if_some input (λ all. (length all ≤ INPUT_LIMIT) × (lines_of all ≡ given)) (λ all. length all ≤ INPUT_LIMIT) (λ all h. h.0) done.lines

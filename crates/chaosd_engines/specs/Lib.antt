@@ -5,6 +5,7 @@ pub mod Status
 pub mod Hex
 pub mod Report
 pub mod Lines
+pub mod Reader
 pub mod Entry
 pub mod Show
-pub mod Shower
+pub mod Shown

@@ -1,5 +1,5 @@
 -- The lines of an input.
-use Rattle.std.specs.Prelude.{◌≡◌, ℕ, Bool, false, List, [], ◌∷◌, ◌++◌, All, length, ◌==◌, if◌then◌else◌}
+use Rattle.std.specs.Prelude.{◌≡◌, ◌≤◌, ◌⊎◌, ℕ, Bool, false, List, [], ◌∷◌, ◌++◌, All, length, take, ◌==◌, if◌then◌else◌}
 use Rattle.std.specs.List.{slice_split}
 
 -- a byte 10 ends a line
@@ -27,6 +27,10 @@ without_empty_last (piece ∷ next ∷ others) = piece ∷ without_empty_last (n
 -- all lines: the last piece is one too, where it isn't empty
 abbrev pub lines_of : List ℕ → List (List ℕ)
 lines_of input = without_empty_last (pieces_of input)
+
+-- A reader of at most `limit` bytes meets the line with this number: it ends within the limit, or the input does.
+abbrev pub IsMet : ℕ → ℕ → List ℕ → Type 0
+IsMet limit number input = (number ≤ length (ended_lines (take limit input))) ⊎ (length input ≤ limit)
 
 -- The bytes are a line without its end, the byte 10, and what comes after it.
 pub record IsCut (bytes line after : List ℕ) : Type 0 where

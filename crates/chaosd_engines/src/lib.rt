@@ -10,6 +10,7 @@ mod fault;
 mod input;
 mod limits;
 mod lines;
+mod reader;
 mod show;
 mod status;
 #[cfg(test)]
@@ -22,6 +23,7 @@ pub use fault::{RunFault, written};
 pub use input::read_chunk;
 pub use limits::{BUFFER_LEN, CHUNK_LEN, INPUT_LIMIT, KEPT_LEN, LINE_LIMIT, law_limits};
 pub use lines::{cut_line, keep, without_return};
+pub use reader::LineReader;
 pub use show::{Tally, law_report, run_show};
 pub use status::{BAD_SCRIPT, DONE, FAULT, NO_MEMORY, REFUSED, fault_status, show_status};
 pub use texts::{put_decimal, put_line, put_octal_three};

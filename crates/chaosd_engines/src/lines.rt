@@ -3,7 +3,6 @@ ghost use Rattle.std.specs.Prelude.{◌≡◌, ◌++◌, All, MatchOption, take,
 ghost use Rattle.std.specs.Io.BufRead.{strip_last};
 ghost use Rattle.chaosd_engines.specs.Lines.{is_newline, IsCut};
 
-use crate::limits::KEPT_LEN;
 use arrayvec::ArrayVec;
 
 /// The line that ends first, and what comes after its end; None where none ends.
@@ -17,8 +16,8 @@ pub fn cut_line(bytes: &[u8]) -> Option<(&[u8], &[u8])>
 }
 
 /// Keeps one more piece of a line, as much of it as there is room for.
-pub fn keep(line: &mut ArrayVec<u8, KEPT_LEN>, piece: &[u8])
-    ensures { line.new.items ≡ take KEPT_LEN (line.old.items ++ piece.now) }
+pub fn keep<const KEPT: usize>(line: &mut ArrayVec<u8, KEPT>, piece: &[u8])
+    ensures { line.new.items ≡ take KEPT (line.old.items ++ piece.now) }
 {
     let count = piece.len().min(line.remaining_capacity());
     let _fits = line.try_extend_from_slice(&piece[..count]);

@@ -1,7 +1,7 @@
 //! The engine `show`: lines of hexadecimal digits in, a report of each out.
 //!
-//! `run` reads chunks, `shower` cuts them into lines, `reporter` reports a line and counts it, `entry` says what a line
-//! is, `hex` reads its digits, and `report` prints a packet.
+//! `run` takes the lines of an input one after another, `reporter` reports a line and counts it, `entry` says what a line is,
+//! `hex` reads its digits, and `report` prints a packet.
 
 mod entry;
 mod hex;
@@ -9,7 +9,6 @@ mod law;
 mod report;
 mod reporter;
 mod run;
-mod shower;
 mod tally;
 
 pub use law::law_report;

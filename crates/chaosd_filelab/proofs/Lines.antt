@@ -92,6 +92,6 @@ no_event None h = refl
 no_event (Some event) h = absurd (cc)
 
 -- want of memory is told, or nothing is printed
-pub want_printed : (old new : List ℕ) → (new ≡ old ++ refusal_text NoMemory) ⊎ (new ≡ old) → (text : List ℕ) × filelab_script.wants text × (new ≡ old ++ text)
-want_printed old new (inl more) = (refusal_text NoMemory, inl refl, more)
-want_printed old new (inr same) = ([], inr refl, same ∙ sym (append-nil old))
+pub want_printed : (line old new : List ℕ) → (new ≡ old ++ refusal_text NoMemory) ⊎ (new ≡ old) → (text : List ℕ) × filelab_script.wants line text × (new ≡ old ++ text)
+want_printed line old new (inl more) = (refusal_text NoMemory, inl refl, more)
+want_printed line old new (inr same) = ([], inr refl, same ∙ sym (append-nil old))

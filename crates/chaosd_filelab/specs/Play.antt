@@ -40,5 +40,5 @@ filelab_script = record {
   event = line_done;
   ended = end_text;
   ready = λ l. wrote_mem l ≡ false;
-  wants = λ text. (text ≡ refusal_text NoMemory) ⊎ (text ≡ []);
+  wants = λ line text. (text ≡ refusal_text NoMemory) ⊎ (text ≡ []);
 }

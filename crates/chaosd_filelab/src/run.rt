@@ -1,9 +1,9 @@
 //! The run over a script.
 ghost use Rattle.std.specs.Prelude.{◌≡◌, ◌≢◌, ◌<◌, ◌≤◌, ◌+◌, ◌-◌, ◌++◌, ℕ, List, Err, Some, length, take, OnOk, IfOk, IfSome};
 ghost use Rattle.std.specs.Io.KnownBytes.{Appends, IsAtEnd};
-ghost use Rattle.chaosd_engines.specs.Lines.{lines_of, ended_lines};
+ghost use Rattle.chaosd_engines.specs.Lines.{lines_of, ended_lines, IsMet};
 ghost use Rattle.chaos_filelab.specs.View.{FileLabView};
-ghost use Rattle.chaosd_script.specs.Script.{Played, play_of, text_of, IsFirstBad};
+ghost use Rattle.chaosd_script.specs.Script.{Played, play_of, text_of, IsFirstBad, NoneBad};
 ghost use Rattle.chaosd_script.specs.Player.{PlaysRead, Wants};
 ghost use Rattle.chaosd_filelab.specs.Play.{filelab_script, end_text};
 
@@ -35,15 +35,18 @@ pub fn run_filelab<R: Read, W: Write>(
     ensures ended { OnOk result (IsAtEnd (R.remaining reader.new)) }
     ensures within { OnOk result (IfSome (R.remaining reader.old) (λ input. length input ≤ INPUT_LIMIT)) }
 
-    // The line that is told is the first that is missing or of no form, and the text of the lines before it was written.
+    // The line that is told is the first that is missing or of no form, it ends within the limit or the input does, and the text of the
+    // lines before it was written.
     ensures bad { (number : ℕ) → result ≡ Err (RunFault.BadScript number) → IfSome (R.remaining reader.old) (λ input.
-        IsFirstBad filelab_script number (lines_of input) × Appends (W.contents writer.old) (W.contents writer.new) (text_of (play_of filelab_script (take (number - 1) (lines_of input))))) }
+        IsFirstBad filelab_script number (lines_of input) × IsMet INPUT_LIMIT number input
+        × Appends (W.contents writer.old) (W.contents writer.new) (text_of (play_of filelab_script (take (number - 1) (lines_of input))))) }
 
-    // A script is refused as too long only where it is, and the lines that ended within the limit were played.
+    // A script is refused as too long only where it is and no line that ended within the limit is of no form, and those were played.
     ensures too_long { result ≡ Err RunFault.InputTooLong → IfSome (R.remaining reader.old) (λ input.
-        (INPUT_LIMIT < length input) × Appends (W.contents writer.old) (W.contents writer.new) (text_of (play_of filelab_script (ended_lines (take INPUT_LIMIT input))))) }
+        (INPUT_LIMIT < length input) × NoneBad filelab_script (ended_lines (take INPUT_LIMIT input))
+        × Appends (W.contents writer.old) (W.contents writer.new) (text_of (play_of filelab_script (ended_lines (take INPUT_LIMIT input))))) }
 
-    // Where the reader failed, the lines that ended in what it had given were played, and no more.
+    // Where the reader failed, no line that ended in what it had given is of no form, and those were played, and no more.
     ensures unread { result ≡ Err RunFault.ReadFault → PlaysRead filelab_script (R.remaining reader.old) (R.remaining reader.new) (W.contents writer.old) (W.contents writer.new) }
 
     // At want of memory the lines before were played, and an event that met it is told, but for a serve that wrote a reply for want

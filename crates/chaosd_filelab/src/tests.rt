@@ -1,6 +1,6 @@
 //! Scripts with the text that they print, and what comes of bad lines.
 use crate::run_filelab;
-use chaosd_engines::RunFault;
+use chaosd_engines::{INPUT_LIMIT, RunFault};
 use std::process::Abort;
 use std::test::Fail;
 
@@ -59,5 +59,22 @@ fn bad_lines(rt: HostRuntime) -> Result<(), Fail> {
             Err(RunFault::BadScript(2)),
         );
     }
+    Ok(())
+}
+
+/// A bad line is told though more than an input's limit stands behind it, and nothing behind it is played.
+#[test]
+fn first_fault_is_the_answer(rt: HostRuntime) -> Result<(), Fail> {
+    let mut script = Vec::with_capacity(rt.alloc(), 2 * INPUT_LIMIT)?;
+    script.extend_from_slice(b"ends 2 2 2 2 1\nserve b\n")?;
+    for _ in 0..INPUT_LIMIT {
+        script.push(b'\n')?;
+    }
+    plays(
+        &rt,
+        script.as_slice(),
+        b"copy 0 a RFC num 1 ack 0\n",
+        Err(RunFault::BadScript(2)),
+    );
     Ok(())
 }

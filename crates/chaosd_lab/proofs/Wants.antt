@@ -3,6 +3,7 @@ use Rattle.std.proofs.Common.{◌≡◌, ◌≢◌, ℕ, zero, suc, ◌+◌, ◌
 use Rattle.std.specs.Prelude.{Option, None, Some, IfSome}
 use Rattle.std.specs.Io.KnownBytes.{Appends}
 use Rattle.std.proofs.lemmas.Bool.Decides.{nat_tests}
+use Rattle.std.proofs.lemmas.Option.{slice_get_within}
 use Rattle.chaos_lab.specs.declared.fault.LabFault.TheVariants as why
 use Rattle.chaosd_engines.specs.Lines.{lines_of}
 use Rattle.chaosd_script.specs.Script.{text_of, play_of}
@@ -10,9 +11,9 @@ use Rattle.chaosd_script.specs.Player.{IsWantText, Wants}
 use Rattle.chaosd_lab.specs.Answers.{refusal_text}
 use Rattle.chaosd_lab.specs.Play.{lab_script, want_text}
 
-want_is : (n : ℕ) (text : List ℕ) → IsWantText lab_script n text → text ≡ want_text n
-want_is zero text is = is
-want_is (suc n) text is =
+want_is : (n : ℕ) (line text : List ℕ) → IsWantText lab_script n line text → text ≡ want_text n
+want_is zero line text is = is
+want_is (suc n) line text is =
     let some : eqb (suc n) 0 ≡ false = grind (arith, nat_tests) in
     is ∙ sym (ap (λ b. cond b [] (refusal_text why.NoMemory)) some)
 
@@ -21,4 +22,5 @@ pub lab_wants : (known before written : Option (List ℕ)) → IfSome known (Wan
     × Appends before written (text_of (play_of lab_script (take n (lines_of input))) ++ want_text n))
 lab_wants None before written w = tt
 lab_wants (Some input) before written w =
-    (w.0, w.1, w.2, subst (λ t. Appends before written (text_of (play_of lab_script (take w.0 (lines_of input))) ++ t)) (want_is w.0 w.3 w.4) w.5)
+    let (n, line, at, good, met, text, is, wrote) = w in
+    (n, slice_get_within (lines_of input) n line at, good, subst (λ t. Appends before written (text_of (play_of lab_script (take n (lines_of input))) ++ t)) (want_is n line text is) wrote)

@@ -1,6 +1,5 @@
 -- The script of a laboratory.
 use Rattle.std.specs.Prelude.{◌≡◌, ℕ, ◌==◌, Bool, true, false, List, [], ◌++◌, if◌then◌else◌, length, drop, Option, option_map, Result, Ok, Err, is_err, ⊤}
-use Rattle.chaos_lab.specs.declared.event.Stepped.{Stepped}
 use Rattle.chaos_lab.specs.declared.fault.LabFault.{LabFault}
 use Rattle.chaos_lab.specs.declared.fault.LabFault.TheVariants.{NoMemory}
 use Rattle.chaosd_engines.specs.declared.fault.RunFault.{RunFault}
@@ -43,7 +42,7 @@ lab_script = record {
   event = line_done;
   ended = end_text;
   ready = λ l. ⊤;
-  wants = λ text. text ≡ refusal_text NoMemory;
+  wants = λ line text. text ≡ refusal_text NoMemory;
 }
 
 -- whether an answer refuses; that there was no memory ends the run

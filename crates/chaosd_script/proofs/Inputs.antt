@@ -1,48 +1,33 @@
--- The bytes of a script that came: more of a line, the end of a line, the end of the input.
-use Rattle.std.proofs.Common.{◌≡◌, ℕ, ◌+◌, ◌-◌, ◌<◌, true, false, eqb, List, [], ◌∷◌, ◌++◌, length, take, All, refl, sym, ap, ◌∙◌, subst, arith, append_assoc, append-nil, length-take, length-append}
-use Rattle.std.specs.Prelude.{Option, None, Some, Result, Ok, Err, OnOk, IsOk, MatchResult}
+-- The lines of a script that were given: one more, the last, and one that isn't played.
+use Rattle.std.proofs.Common.{◌≡◌, ℕ, ◌+◌, ◌-◌, ◌≤◌, true, List, [], ◌∷◌, ◌++◌, length, take, inr, refl, sym, ap, ◌∙◌, subst, arith, length-append}
+use Rattle.std.specs.Prelude.{Option, None, Some, Result, Ok, Err, OnOk, IsOk, IfErr, IfSome, MatchResult, slice_get}
 use Rattle.std.specs.Io.KnownBytes.{Appends, Keeps}
 use Rattle.std.proofs.KnownBytes.{Appends-kept}
 use Rattle.std.proofs.Math.Seq.{take-append-add}
-use Rattle.std.proofs.lemmas.Bool.Decides.{nat_tests}
-use Rattle.std.proofs.lemmas.List.{take-take}
-use Rattle.std.proofs.lemmas.List.Elements.{All-nil, All-append}
-use Rattle.std.proofs.lemmas.List.Splits.{slice_split_none, slice_split_at, length-slice_split}
 use Rattle.chaosd_engines.specs.declared.fault.RunFault.{RunFault}
 use Rattle.chaosd_engines.specs.declared.fault.RunFault.TheVariants as run
-use Rattle.chaosd_engines.specs.declared.limits.TheConstants.{KEPT_LEN}
+use Rattle.chaosd_engines.specs.declared.limits.TheConstants.{INPUT_LIMIT, KEPT_LEN}
 use Rattle.chaosd_engines.specs.Buffer.{written_of}
-use Rattle.chaosd_engines.specs.Lines.{is_newline, pieces_of, without_empty_last, all_but_last, ended_lines, lines_of}
-use Rattle.chaosd_engines.proofs.Steps.{take_front, all_but_last-push, drops_empty_last, keeps_last, nothing_waits}
+use Rattle.chaosd_engines.specs.Lines.{lines_of, IsMet}
+use Rattle.chaosd_engines.specs.Reader.{LinesView, Gives, GivesNext, GivesLast}
+use Rattle.chaosd_engines.proofs.Steps.{nothing_waits}
+use Rattle.chaosd_engines.proofs.Cutting.{IsGiven, given_met, last_met, if_some}
+use Rattle.chaosd_script.specs.declared.standing.Standing.{Standing}
 use Rattle.chaosd_script.specs.Script.{Script, play_of, text_of, IsFirstBad}
-use Rattle.chaosd_script.specs.Player.{IsAt, PlaysLines, StopsLine, PlaysInput, StopsAt, StopsInput, PlaysAll}
-use Rattle.chaosd_script.proofs.Plays.{play_of-alike, first_bad, lines_before, text_more}
+use Rattle.chaosd_script.specs.Player.{IsAt, PlaysLines, IsWantText, StopsLine, PlaysGiven, PlaysDone, StopsAt, Wants, StopsRun, PlaysWithin}
+use Rattle.chaosd_script.proofs.Plays.{play_of-alike, alike_same, first_bad, lines_before, text_more}
 
--- ---- what is kept
+-- ---- lines that were played
 
 -- handing on changes nothing of what was played
-pub lines_kept : {X : Type 0} (script : Script X) (before written written' : Option (List ℕ)) (lab lab' : Option X) (lines lines' refused refused' : ℕ) (ended : List (List ℕ)) → Keeps written written'
-    → lab' ≡ lab → lines' ≡ lines → refused' ≡ refused → PlaysLines script before written lab lines refused ended → PlaysLines script before written' lab' lines' refused' ended
-lines_kept script before written written' lab lab' lines lines' refused refused' ended keeps same_lab same_lines same_refused s = record {
-  state = subst (λ l. IsAt script l refused' ended) (sym same_lab) (subst (λ n. IsAt script lab n ended) (sym same_refused) s.state);
-  text = Appends-kept before written written' _ s.text keeps;
-  count = same_lines ∙ s.count;
-}
-
-pub input_kept : {X : Type 0} (script : Script X) (before written written' : Option (List ℕ)) (lab lab' : Option X) (lines lines' refused refused' : ℕ) (kept kept' input : List ℕ) → Keeps written written'
-    → (lab' ≡ lab) × (lines' ≡ lines) × (refused' ≡ refused) × (kept' ≡ kept) → PlaysInput script before written lab lines refused kept input → PlaysInput script before written' lab' lines' refused' kept' input
-input_kept script before written written' lab lab' lines lines' refused refused' kept kept' input keeps same s = record {
-  ended = s.ended;
-  begun = s.begun;
-  plays = lines_kept script before written written' lab lab' lines lines' refused refused' s.ended keeps same.0 same.1 same.2 s.plays;
-  front = same.3 ∙ s.front;
-  unended = s.unended;
-  goes_on = s.goes_on;
-}
+pub lines_kept : {X : Type 0} (script : Script X) (before written written' : Option (List ℕ)) (at at' : Standing X) (ended : List (List ℕ)) → Keeps written written' → at' ≡ at
+    → PlaysLines script before written at ended → PlaysLines script before written' at' ended
+lines_kept script before written written' at at' ended keeps same s =
+    subst (λ a. PlaysLines script before written' a ended) (sym same) (record { state = s.state; text = Appends-kept before written written' _ s.text keeps; count = s.count })
 
 -- a line plays what another one does that begins alike
 lines_alike : {X : Type 0} (script : Script X) (before written : Option (List ℕ)) (lab : Option X) (lines refused : ℕ) (ended : List (List ℕ)) (f g : List ℕ) → take KEPT_LEN f ≡ take KEPT_LEN g
-    → PlaysLines script before written lab lines refused (ended ++ f ∷ []) → PlaysLines script before written lab lines refused (ended ++ g ∷ [])
+    → PlaysLines script before written (record { lab = lab; lines = lines; refused = refused }) (ended ++ f ∷ []) → PlaysLines script before written (record { lab = lab; lines = lines; refused = refused }) (ended ++ g ∷ [])
 lines_alike script before written None lines refused ended f g e s = absurd (omega (arith, ap length s.state.0, length-append ended (f ∷ [])))
 lines_alike script before written (Some lab) lines refused ended f g e s =
     let (p, is, same, count, ready) = s.state in
@@ -52,185 +37,154 @@ lines_alike script before written (Some lab) lines refused ended f g e s =
       count = s.count ∙ length-append ended (f ∷ []) ∙ sym (length-append ended (g ∷ []));
     }
 
--- ---- the bytes that come
+-- ---- lines that were given
 
--- nothing was read
-pub nothing_played : {X : Type 0} (script : Script X) (before : Option (List ℕ)) (waiting : List ℕ) (kept : List ℕ) → waiting ≡ [] → kept ≡ [] → PlaysInput script before (written_of before waiting) None 0 0 kept []
-nothing_played script before waiting kept waits none = record {
-  ended = [];
-  begun = [];
-  plays = record { state = (refl, refl); text = nothing_waits before waiting waits; count = refl };
-  front = none;
-  unended = All-nil _;
-  goes_on = λ rest. refl;
+-- more came, or the end did
+pub given_of : {X : Type 0} (script : Script X) (input rest rest' before written : Option (List ℕ)) (at : Standing X) (lines lines' : LinesView) → (s : PlaysGiven script input rest before written at lines)
+    → Gives KEPT_LEN INPUT_LIMIT input rest' s.given lines' → PlaysGiven script input rest' before written at lines'
+given_of script input rest rest' before written at lines lines' s gives = record { given = s.given; gives = gives; plays = s.plays }
+
+pub given_kept : {X : Type 0} (script : Script X) (input rest before written written' : Option (List ℕ)) (at at' : Standing X) (lines : LinesView) → Keeps written written' → at' ≡ at
+    → PlaysGiven script input rest before written at lines → PlaysGiven script input rest before written' at' lines
+given_kept script input rest before written written' at at' lines keeps same s = record {
+  given = s.given;
+  gives = s.gives;
+  plays = lines_kept script before written written' at at' s.given keeps same s.plays;
 }
 
-pub input_of : {X : Type 0} (script : Script X) (before written : Option (List ℕ)) (lab : Option X) (lines refused : ℕ) (kept input input' : List ℕ) → input ≡ input' → PlaysInput script before written lab lines refused kept input → PlaysInput script before written lab lines refused kept input'
-input_of script before written lab lines refused kept input input' same s = subst (λ l. PlaysInput script before written lab lines refused kept l) same s
-
--- more of a line came, and none of its end
-pub goes_on_piece : {X : Type 0} (script : Script X) (before written : Option (List ℕ)) (lab : Option X) (lines refused : ℕ) (kept kept' input piece : List ℕ) → All (λ b. is_newline b ≡ false) piece → kept' ≡ take KEPT_LEN (kept ++ piece)
-    → PlaysInput script before written lab lines refused kept input → PlaysInput script before written lab lines refused kept' (input ++ piece)
-goes_on_piece script before written lab lines refused kept kept' input piece unended e s = record {
-  ended = s.ended;
-  begun = s.begun ++ piece;
-  plays = s.plays;
-  front = e ∙ ap (λ l. take KEPT_LEN (l ++ piece)) s.front ∙ take_front KEPT_LEN s.begun piece;
-  unended = All-append (λ b. is_newline b ≡ false) s.begun piece s.unended unended;
-  goes_on = λ rest. ap pieces_of (append_assoc input piece rest) ∙ s.goes_on (piece ++ rest) ∙ ap (λ l. s.ended ++ pieces_of l) (sym (append_assoc s.begun piece rest));
+pub done_kept : {X : Type 0} (script : Script X) (input rest before written written' : Option (List ℕ)) (at at' : Standing X) → Keeps written written' → at' ≡ at
+    → PlaysDone script input rest before written at → PlaysDone script input rest before written' at'
+done_kept script input rest before written written' at at' keeps same s = record {
+  given = s.given;
+  done = s.done;
+  plays = lines_kept script before written written' at at' s.given keeps same s.plays;
 }
 
--- the line that a piece ends, behind those that ended, and the pieces after it
-pieces_on : {X : Type 0} (script : Script X) (before written : Option (List ℕ)) (lab : Option X) (lines refused : ℕ) (kept input piece rest : List ℕ) → All (λ b. is_newline b ≡ false) piece → (s : PlaysInput script before written lab lines refused kept input)
-    → pieces_of (input ++ piece ++ 10 ∷ rest) ≡ s.ended ++ (s.begun ++ piece) ∷ pieces_of rest
-pieces_on script before written lab lines refused kept input piece rest unended s =
-    ap pieces_of (append_assoc input piece (10 ∷ rest)) ∙ s.goes_on (piece ++ 10 ∷ rest)
-    ∙ ap (λ l. s.ended ++ pieces_of l) (sym (append_assoc s.begun piece (10 ∷ rest)))
-    ∙ ap (λ l. s.ended ++ l) (slice_split_at is_newline (s.begun ++ piece) 10 rest (All-append (λ b. is_newline b ≡ false) s.begun piece s.unended unended) refl)
+-- the next line was played
+pub next_played : {X : Type 0} (script : Script X) (input rest before written written' : Option (List ℕ)) (at at' : Standing X) (lines lines' : LinesView) (line : List ℕ) → (s : PlaysGiven script input rest before written at lines)
+    → GivesNext KEPT_LEN INPUT_LIMIT input rest s.given lines' true → line ≡ lines'.line
+    → (PlaysLines script before written at s.given → PlaysLines script before written' at' (s.given ++ line ∷ [])) → PlaysGiven script input rest before written' at' lines'
+next_played script input rest before written written' at at' lines lines' line s (raw, front, gives) e plays = record {
+  given = s.given ++ raw ∷ [];
+  gives = gives;
+  plays = lines_alike script before written' at'.lab at'.lines at'.refused s.given line raw (ap (take KEPT_LEN) e ∙ front) (plays s.plays);
+}
 
--- what is kept of a line that ends begins as the line does
-alike : {X : Type 0} (script : Script X) (before written : Option (List ℕ)) (lab : Option X) (lines refused : ℕ) (kept input piece raw : List ℕ) → raw ≡ take KEPT_LEN (kept ++ piece) → (s : PlaysInput script before written lab lines refused kept input)
-    → take KEPT_LEN raw ≡ take KEPT_LEN (s.begun ++ piece)
-alike script before written lab lines refused kept input piece raw e s =
-    ap (take KEPT_LEN) e ∙ take-take KEPT_LEN KEPT_LEN _ (omega arith) ∙ ap (λ l. take KEPT_LEN (l ++ piece)) s.front ∙ take_front KEPT_LEN s.begun piece
+-- there is no last line, or it was played
+pub none_played : {X : Type 0} (script : Script X) (input rest before written : Option (List ℕ)) (at : Standing X) (lines : LinesView) → (s : PlaysGiven script input rest before written at lines)
+    → GivesLast KEPT_LEN INPUT_LIMIT input rest s.given None → PlaysDone script input rest before written at
+none_played script input rest before written at lines s done = record { given = s.given; done = done; plays = s.plays }
 
--- the end of a line came, and the line was played
-pub line_ends : {X : Type 0} (script : Script X) (before written written' : Option (List ℕ)) (lab lab' : Option X) (lines lines' refused refused' : ℕ) (kept kept' input piece raw : List ℕ) → All (λ b. is_newline b ≡ false) piece
-    → raw ≡ take KEPT_LEN (kept ++ piece) → kept' ≡ []
-    → ((ended : List (List ℕ)) → PlaysLines script before written lab lines refused ended → PlaysLines script before written' lab' lines' refused' (ended ++ raw ∷ []))
-    → PlaysInput script before written lab lines refused kept input → PlaysInput script before written' lab' lines' refused' kept' (input ++ piece ++ 10 ∷ [])
-line_ends script before written written' lab lab' lines lines' refused refused' kept kept' input piece raw unended e none plays s =
-    let line = s.begun ++ piece in
-    record {
-      ended = s.ended ++ line ∷ [];
-      begun = [];
-      plays = lines_alike script before written' lab' lines' refused' s.ended raw line (alike script before written lab lines refused kept input piece raw e s) (plays s.ended s.plays);
-      front = none;
-      unended = All-nil _;
-      goes_on = λ rest.
-          ap pieces_of (append_assoc (input ++ piece) (10 ∷ []) rest) ∙ pieces_on script before written lab lines refused kept input piece rest unended s
-          ∙ sym (append_assoc s.ended (line ∷ []) (pieces_of rest));
-    }
+pub last_played : {X : Type 0} (script : Script X) (input rest before written written' : Option (List ℕ)) (at at' : Standing X) (lines : LinesView) (line : List ℕ) → (s : PlaysGiven script input rest before written at lines)
+    → GivesLast KEPT_LEN INPUT_LIMIT input rest s.given (Some line)
+    → (PlaysLines script before written at s.given → PlaysLines script before written' at' (s.given ++ line ∷ [])) → PlaysDone script input rest before written' at'
+last_played script input rest before written written' at at' lines line s (raw, front, done) plays = record {
+  given = s.given ++ raw ∷ [];
+  done = done;
+  plays = lines_alike script before written' at'.lab at'.lines at'.refused s.given line raw front (plays s.plays);
+}
 
 -- ---- a line that isn't played
 
-last_of_more : (ended more : List (List ℕ)) (line : List ℕ) → 0 < length more → without_empty_last (ended ++ line ∷ more) ≡ ended ++ line ∷ without_empty_last more
-last_of_more [] [] line some = absurd (omega (arith, some))
-last_of_more [] (first ∷ others) line some = refl
-last_of_more (one ∷ []) more line some = ap (λ l. one ∷ l) (last_of_more [] more line some)
-last_of_more (one ∷ next ∷ others) more line some = ap (λ l. one ∷ l) (last_of_more (next ∷ others) more line some)
-
--- a line of these, behind some that were played
-stops_within : {X : Type 0} (script : Script X) (before written : Option (List ℕ)) (lab : Option X) (refused : ℕ) (ended more : List (List ℕ)) (line : List ℕ) (input : List ℕ) (fault : RunFault) → IsAt script lab refused ended
-    → lines_of input ≡ ended ++ line ∷ more → StopsLine script before written ended line fault → StopsInput script before written input fault
-stops_within script before written lab refused ended more line input (run.BadScript number) at all stops =
-    let (is, bad, text) = stops in
-    let less : number - 1 ≡ length ended = omega arith in
-    let front : take (number - 1) (lines_of input) ≡ ended = ap (λ n. take n (lines_of input)) less ∙ ap (take (length ended)) all ∙ lines_before ended (line ∷ more) in (
-      subst (λ n. IsFirstBad script n (lines_of input)) (sym is) (subst (IsFirstBad script (length ended + 1)) (sym all) (first_bad script lab refused ended more line at bad)),
-      subst (λ l. Appends before written (text_of (play_of script l))) (sym front) text,
-    )
-stops_within script before written lab refused ended more line input run.NoMemory at all stops =
-    let (good, text, is, wrote) = stops in
-    let front : take (length ended) (lines_of input) ≡ ended = ap (take (length ended)) all ∙ lines_before ended (line ∷ more) in
-    let through : take (length ended + 1) (lines_of input) ≡ ended ++ line ∷ [] = ap (take (length ended + 1)) all ∙ take-append-add ended (line ∷ more) 1 in (
-      length ended,
-      omega (arith, ap length all, length-append ended (line ∷ more)),
-      λ none. good (ap (play_of script) (sym through) ∙ none),
-      text,
-      is,
-      subst (λ l. Appends before written (text_of (play_of script l) ++ text)) (sym front) wrote,
-    )
-stops_within script before written lab refused ended more line input run.WriteFault at all stops = tt
-stops_within script before written lab refused ended more line input run.ReadFault at all stops = absurd stops
-stops_within script before written lab refused ended more line input run.InputTooLong at all stops = absurd stops
-stops_within script before written lab refused ended more line input run.LinkFault at all stops = absurd stops
-stops_within script before written lab refused ended more line input run.ClockFault at all stops = absurd stops
+alike_wants : {X : Type 0} (script : Script X) (ended : List (List ℕ)) (f g text : List ℕ) → f ≡ g → IsWantText script (length ended) f text → IsWantText script (length ended) g text
+alike_wants script ended f g text same is = subst (λ l. IsWantText script (length ended) l text) same is
 
 -- of two lines that begin alike
 stops_alike : {X : Type 0} (script : Script X) (before written : Option (List ℕ)) (ended : List (List ℕ)) (f g : List ℕ) (fault : RunFault) → take KEPT_LEN f ≡ take KEPT_LEN g → StopsLine script before written ended f fault → StopsLine script before written ended g fault
 stops_alike script before written ended f g (run.BadScript number) e stops = (stops.0, sym (play_of-alike script ended f g e) ∙ stops.1, stops.2)
-stops_alike script before written ended f g run.NoMemory e stops = (λ none. stops.0 (play_of-alike script ended f g e ∙ none), stops.1, stops.2, stops.3)
+stops_alike script before written ended f g run.NoMemory e stops = (
+  λ none. stops.0 (play_of-alike script ended f g e ∙ none),
+  stops.1,
+  alike_wants script ended f g stops.1 (alike_same script ended f g e stops.0) stops.2,
+  stops.3,
+)
 stops_alike script before written ended f g run.WriteFault e stops = tt
 stops_alike script before written ended f g run.ReadFault e stops = absurd stops
 stops_alike script before written ended f g run.InputTooLong e stops = absurd stops
 stops_alike script before written ended f g run.LinkFault e stops = absurd stops
 stops_alike script before written ended f g run.ClockFault e stops = absurd stops
 
--- the end of a line came, and the line wasn't played
-pub line_stops : {X : Type 0} (script : Script X) (before written written' : Option (List ℕ)) (lab : Option X) (lines refused : ℕ) (kept input piece rest raw : List ℕ) (fault : RunFault) → All (λ b. is_newline b ≡ false) piece
-    → raw ≡ take KEPT_LEN (kept ++ piece) → ((ended : List (List ℕ)) → PlaysLines script before written lab lines refused ended → StopsLine script before written' ended raw fault)
-    → PlaysInput script before written lab lines refused kept input → StopsInput script before written' (input ++ piece ++ 10 ∷ rest) fault
-line_stops script before written written' lab lines refused kept input piece rest raw fault unended e stops s =
-    let line = s.begun ++ piece in
-    let all : lines_of (input ++ piece ++ 10 ∷ rest) ≡ s.ended ++ line ∷ without_empty_last (pieces_of rest) =
-    ap without_empty_last (pieces_on script before written lab lines refused kept input piece rest unended s)
-    ∙ last_of_more s.ended (pieces_of rest) line (omega (arith, length-slice_split is_newline rest)) in
-    stops_within script before written' lab refused s.ended (without_empty_last (pieces_of rest)) line (input ++ piece ++ 10 ∷ rest) fault s.plays.state all
-    (stops_alike script before written' s.ended raw line fault (alike script before written lab lines refused kept input piece raw e s) (stops s.ended s.plays))
+line_behind : (ended more : List (List ℕ)) (line : List ℕ) → slice_get (ended ++ line ∷ more) (length ended) ≡ Some line
+line_behind [] more line = refl
+line_behind (one ∷ others) more line = line_behind others more line
+
+-- a line of these, behind some that were played
+stops_at : {X : Type 0} (script : Script X) (before written : Option (List ℕ)) (lab : Option X) (refused number : ℕ) (ended : List (List ℕ)) (line input : List ℕ) → IsAt script lab refused ended
+    → StopsLine script before written ended line (run.BadScript number) → IsGiven INPUT_LIMIT ended line input → StopsAt script before written number input
+stops_at script before written lab refused number ended line input at (is, bad, text) (more, all, met) =
+    let less : number - 1 ≡ length ended = omega arith in
+    let front : take (number - 1) (lines_of input) ≡ ended = ap (λ n. take n (lines_of input)) less ∙ ap (take (length ended)) all ∙ lines_before ended (line ∷ more) in (
+      subst (λ n. IsFirstBad script n (lines_of input)) (sym is) (subst (IsFirstBad script (length ended + 1)) (sym all) (first_bad script lab refused ended more line at bad)),
+      subst (λ n. IsMet INPUT_LIMIT n input) (sym is) met,
+      subst (λ l. Appends before written (text_of (play_of script l))) (sym front) text,
+    )
+
+wants_at : {X : Type 0} (script : Script X) (before written : Option (List ℕ)) (ended : List (List ℕ)) (line input : List ℕ) → StopsLine script before written ended line run.NoMemory → IsGiven INPUT_LIMIT ended line input
+    → Wants script before written input
+wants_at script before written ended line input (good, text, is, wrote) (more, all, met) =
+    let front : take (length ended) (lines_of input) ≡ ended = ap (take (length ended)) all ∙ lines_before ended (line ∷ more) in
+    let through : take (length ended + 1) (lines_of input) ≡ ended ++ line ∷ [] = ap (take (length ended + 1)) all ∙ take-append-add ended (line ∷ more) 1 in (
+      length ended,
+      line,
+      ap (λ l. slice_get l (length ended)) all ∙ line_behind ended more line,
+      λ none. good (ap (play_of script) (sym through) ∙ none),
+      met,
+      text,
+      is,
+      subst (λ l. Appends before written (text_of (play_of script l) ++ text)) (sym front) wrote,
+    )
+
+stops_within : {X : Type 0} (script : Script X) (input rest before written : Option (List ℕ)) (lab : Option X) (refused : ℕ) (ended : List (List ℕ)) (line : List ℕ) (fault : RunFault) → IsAt script lab refused ended
+    → IfSome input (IsGiven INPUT_LIMIT ended line) → StopsLine script before written ended line fault → StopsRun script input rest before written fault
+stops_within script input rest before written lab refused ended line (run.BadScript number) at given stops =
+    if_some input (IsGiven INPUT_LIMIT ended line) (StopsAt script before written number) (λ all. stops_at script before written lab refused number ended line all at stops) given
+stops_within script input rest before written lab refused ended line run.NoMemory at given stops =
+    if_some input (IsGiven INPUT_LIMIT ended line) (Wants script before written) (λ all. wants_at script before written ended line all stops) given
+stops_within script input rest before written lab refused ended line run.WriteFault at given stops = tt
+stops_within script input rest before written lab refused ended line run.ReadFault at given stops = absurd stops
+stops_within script input rest before written lab refused ended line run.InputTooLong at given stops = absurd stops
+stops_within script input rest before written lab refused ended line run.LinkFault at given stops = absurd stops
+stops_within script input rest before written lab refused ended line run.ClockFault at given stops = absurd stops
+
+-- the next line wasn't played
+pub next_stops : {X : Type 0} (script : Script X) (input rest before written written' : Option (List ℕ)) (at : Standing X) (lines lines' : LinesView) (line : List ℕ) (fault : RunFault) → (s : PlaysGiven script input rest before written at lines)
+    → GivesNext KEPT_LEN INPUT_LIMIT input rest s.given lines' true → line ≡ lines'.line
+    → (PlaysLines script before written at s.given → StopsLine script before written' s.given line fault) → StopsRun script input rest before written' fault
+next_stops script input rest before written written' at lines lines' line fault s (raw, front, gives) e stops =
+    stops_within script input rest before written' at.lab at.refused s.given raw fault s.plays.state (given_met KEPT_LEN INPUT_LIMIT input rest s.given raw lines' gives)
+    (stops_alike script before written' s.given line raw fault (ap (take KEPT_LEN) e ∙ front) (stops s.plays))
+
+-- the last line wasn't played
+pub last_stops : {X : Type 0} (script : Script X) (input rest before written written' : Option (List ℕ)) (at : Standing X) (lines : LinesView) (line : List ℕ) (fault : RunFault) → (s : PlaysGiven script input rest before written at lines)
+    → GivesLast KEPT_LEN INPUT_LIMIT input rest s.given (Some line)
+    → (PlaysLines script before written at s.given → StopsLine script before written' s.given line fault) → StopsRun script input rest before written' fault
+last_stops script input rest before written written' at lines line fault s (raw, front, done) stops =
+    stops_within script input rest before written' at.lab at.refused s.given raw fault s.plays.state (last_met INPUT_LIMIT input rest s.given raw done)
+    (stops_alike script before written' s.given line raw fault front (stops s.plays))
 
 -- ---- the end of the input
 
-pieces_now : {X : Type 0} (script : Script X) (before written : Option (List ℕ)) (lab : Option X) (lines refused : ℕ) (kept input : List ℕ) → (s : PlaysInput script before written lab lines refused kept input) → pieces_of input ≡ s.ended ++ s.begun ∷ []
-pieces_now script before written lab lines refused kept input s =
-    ap pieces_of (sym (append-nil input)) ∙ s.goes_on [] ∙ ap (λ l. s.ended ++ pieces_of l) (append-nil s.begun) ∙ ap (λ l. s.ended ++ l) (slice_split_none is_newline s.begun s.unended)
-
--- the text of the lines that ended was written
-pub ended_played : {X : Type 0} (script : Script X) (before written : Option (List ℕ)) (lab : Option X) (lines refused : ℕ) (kept input : List ℕ) → PlaysInput script before written lab lines refused kept input
-    → Appends before written (text_of (play_of script (ended_lines input)))
-ended_played script before written lab lines refused kept input s =
-    subst (λ l. Appends before written (text_of (play_of script l))) (sym (ap all_but_last (pieces_now script before written lab lines refused kept input s) ∙ all_but_last-push s.ended s.begun)) s.plays.text
-
--- the input ends with the end of a line
-pub all_played : {X : Type 0} (script : Script X) (before written : Option (List ℕ)) (lab : Option X) (lines refused : ℕ) (kept input : List ℕ) → eqb (length kept) 0 ≡ true → PlaysInput script before written lab lines refused kept input
-    → PlaysLines script before written lab lines refused (lines_of input)
-all_played script before written lab lines refused kept input none s =
-    let short : eqb (length s.begun) 0 ≡ true = grind (arith, nat_tests, length-take KEPT_LEN s.begun, ap length s.front) in
-    let all : lines_of input ≡ s.ended = ap without_empty_last (pieces_now script before written lab lines refused kept input s) ∙ drops_empty_last s.ended s.begun short in
-    subst (PlaysLines script before written lab lines refused) (sym all) s.plays
-
--- the input ends with another line
-last_line : {X : Type 0} (script : Script X) (before written : Option (List ℕ)) (lab : Option X) (lines refused : ℕ) (kept input : List ℕ) → eqb (length kept) 0 ≡ false → (s : PlaysInput script before written lab lines refused kept input)
-    → lines_of input ≡ s.ended ++ s.begun ∷ []
-last_line script before written lab lines refused kept input some s =
-    let long : eqb (length s.begun) 0 ≡ false = grind (arith, nat_tests, length-take KEPT_LEN s.begun, ap length s.front) in
-    ap without_empty_last (pieces_now script before written lab lines refused kept input s) ∙ keeps_last s.ended s.begun long
-
-kept_alike : {X : Type 0} (script : Script X) (before written : Option (List ℕ)) (lab : Option X) (lines refused : ℕ) (kept input : List ℕ) → (s : PlaysInput script before written lab lines refused kept input) → take KEPT_LEN kept ≡ take KEPT_LEN s.begun
-kept_alike script before written lab lines refused kept input s = ap (take KEPT_LEN) s.front ∙ take-take KEPT_LEN KEPT_LEN s.begun (omega arith)
-
--- which was played
-pub last_played : {X : Type 0} (script : Script X) (before written written' : Option (List ℕ)) (lab lab' : Option X) (lines lines' refused refused' : ℕ) (kept input : List ℕ) → eqb (length kept) 0 ≡ false
-    → ((ended : List (List ℕ)) → PlaysLines script before written lab lines refused ended → PlaysLines script before written' lab' lines' refused' (ended ++ kept ∷ []))
-    → PlaysInput script before written lab lines refused kept input → PlaysLines script before written' lab' lines' refused' (lines_of input)
-last_played script before written written' lab lab' lines lines' refused refused' kept input some plays s =
-    subst (PlaysLines script before written' lab' lines' refused') (sym (last_line script before written lab lines refused kept input some s))
-    (lines_alike script before written' lab' lines' refused' s.ended kept s.begun (kept_alike script before written lab lines refused kept input s) (plays s.ended s.plays))
-
--- which wasn't played
-pub last_stops : {X : Type 0} (script : Script X) (before written written' : Option (List ℕ)) (lab : Option X) (lines refused : ℕ) (kept input : List ℕ) (fault : RunFault) → eqb (length kept) 0 ≡ false
-    → ((ended : List (List ℕ)) → PlaysLines script before written lab lines refused ended → StopsLine script before written' ended kept fault)
-    → PlaysInput script before written lab lines refused kept input → StopsInput script before written' input fault
-last_stops script before written written' lab lines refused kept input fault some stops s =
-    stops_within script before written' lab refused s.ended [] s.begun input fault s.plays.state (last_line script before written lab lines refused kept input some s)
-    (stops_alike script before written' s.ended kept s.begun fault (kept_alike script before written lab lines refused kept input s) (stops s.ended s.plays))
-
 -- there was no first line
-pub no_first_line : {X : Type 0} (script : Script X) (before written : Option (List ℕ)) (lab : Option X) (lines refused : ℕ) (input : List ℕ) → lab ≡ None → PlaysLines script before written lab lines refused (lines_of input) → StopsAt script before written 1 input
-no_first_line script before written lab lines refused input none s =
-    let (nil, none_refused) = subst (λ l. IsAt script l refused (lines_of input)) none s.state in
-    let at : IsFirstBad script 1 [] = record { counts = omega arith; bad = refl; good = λ n some few. absurd (omega arith) } in (
-      subst (IsFirstBad script 1) (sym nil) at,
-      subst (Appends before written) (ap (λ l. text_of (play_of script l)) nil) s.text,
-    )
+pub no_first_line : {X : Type 0} (script : Script X) (input rest before written : Option (List ℕ)) (at : Standing X) → at.lab ≡ None → PlaysDone script input rest before written at
+    → StopsRun script input rest before written (run.BadScript 1)
+no_first_line script input rest before written at none s =
+    let (nil, none_refused) = subst (λ l. IsAt script l at.refused s.given) none s.plays.state in
+    let bad : IsFirstBad script 1 [] = record { counts = omega arith; bad = refl; good = λ n some few. absurd (omega arith) } in
+    if_some input (λ all. (length all ≤ INPUT_LIMIT) × (lines_of all ≡ s.given)) (StopsAt script before written 1)
+    (λ all h. (
+      subst (IsFirstBad script 1) (sym (h.1 ∙ nil)) bad,
+      inr h.0,
+      subst (Appends before written) (ap (λ l. text_of (play_of script l)) nil) s.plays.text,
+    )) s.done.lines
 
 -- all lines were played, and what is said at the end was written
-pub end_said : {X : Type 0} (script : Script X) (before held : Option (List ℕ)) (lab : Option X) (lines refused : ℕ) (input old new : List ℕ) (l : X) → lab ≡ Some l
-    → new ≡ old ++ script.ended l → PlaysLines script before (written_of held old) lab lines refused (lines_of input) → PlaysAll script before (written_of held new) refused input
-end_said script before held lab lines refused input old new l some more s =
-    let (p, is, same, count, ready) = subst (λ x. IsAt script x refused (lines_of input)) some s.state in
+pub end_said : {X : Type 0} (script : Script X) (input rest before held : Option (List ℕ)) (at : Standing X) (old new : List ℕ) (l : X) → at.lab ≡ Some l
+    → new ≡ old ++ script.ended l → PlaysDone script input rest before (written_of held old) at → IfSome input (PlaysWithin script before (written_of held new) at.refused)
+end_said script input rest before held at old new l some more s =
+    let (p, is, same, count, ready) = subst (λ x. IsAt script x at.refused s.given) some s.plays.state in
     let said : new ≡ old ++ script.ended p.lab = more ∙ ap (λ x. old ++ script.ended x) (sym same) in
-    (p, is, sym count, text_more before held old new p.text (script.ended p.lab) (subst (Appends before (written_of held old)) (ap text_of is) s.text) said)
+    if_some input (λ all. (length all ≤ INPUT_LIMIT) × (lines_of all ≡ s.given)) (PlaysWithin script before (written_of held new) at.refused)
+    (λ all h. (h.0, (p, ap (play_of script) h.1 ∙ is, sym count, text_more before held old new p.text (script.ended p.lab) (subst (Appends before (written_of held old)) (ap text_of is) s.plays.text) said))) s.done.lines
 
 -- ---- calls that may fail
 
@@ -239,5 +193,11 @@ after_written (Ok x) (Ok y) fault p f = f p
 after_written (Ok x) (Err e) fault p f = tt
 after_written {Y = Y} {S = S} (Err x) answer fault p f = subst (λ (r : Result Y RunFault). OnOk r S) (sym fault) tt
 
-pub stops_of : {X : Type 0} (script : Script X) (before written : Option (List ℕ)) (input input' : List ℕ) (fault : RunFault) → input ≡ input' → StopsInput script before written input fault → StopsInput script before written input' fault
-stops_of script before written input input' fault same stops = subst (λ l. StopsInput script before written l fault) same stops
+not_ok : (X E : Type 0) (e : E) → IsOk {T = X} {E = E} (Err e) → ⊥
+not_ok X E e h = cc
+
+-- of a writer that failed nothing is said
+pub written_stops : {X Y E : Type 0} (end : Result X E) (answer : Result Y RunFault) (P : RunFault → Type 0) → MatchResult end (λ _. IsOk answer) (λ _. answer ≡ Err run.WriteFault) → P run.WriteFault → IfErr answer P
+written_stops (Ok x) (Ok y) P fault p = tt
+written_stops {Y = Y} (Ok x) (Err e) P fault p = absurd (not_ok Y RunFault e fault)
+written_stops {Y = Y} (Err x) answer P fault p = subst (λ (r : Result Y RunFault). IfErr r P) (sym fault) p

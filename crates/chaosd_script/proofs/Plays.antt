@@ -14,6 +14,7 @@ use Rattle.chaosd_engines.specs.declared.limits.TheConstants.{KEPT_LEN, LINE_LIM
 use Rattle.chaosd_engines.specs.Buffer.{written_of}
 use Rattle.chaosd_engines.proofs.Steps.{length-strip_last}
 use Rattle.chaosd_script.specs.Script.{Done, Script, Played, start_play, says_by, with_reading, with_line, play_on, play_of, text_of, IsFirstBad, PlaysLine}
+use Rattle.chaosd_script.specs.declared.standing.Standing.{Standing}
 use Rattle.chaosd_script.specs.Player.{IsAt, PlaysLines, IsLineFault, StopsLine, IsWantText}
 
 -- ---- a long line
@@ -38,6 +39,14 @@ front_decides reading f g false long e =
 said_alike : {X : Type 0} (reading : List ℕ → Option X) (f g : List ℕ) → take KEPT_LEN f ≡ take KEPT_LEN g → says_by reading f ≡ says_by reading g
 said_alike reading f g e = front_decides reading f g (ltb (length f) KEPT_LEN) refl e
 
+-- a line that says something is what another one is that begins alike
+same_line : {X : Type 0} (reading : List ℕ → Option X) (f g : List ℕ) (is_short : Bool) → ltb (length f) KEPT_LEN ≡ is_short → take KEPT_LEN f ≡ take KEPT_LEN g → says_by reading f ≢ None → f ≡ g
+same_line reading f g true short e some =
+    let len : length (take KEPT_LEN f) ≡ length (take KEPT_LEN g) = ap length e in
+    let few : length f < KEPT_LEN = grind (arith, nat_tests) in
+    sym (take_all KEPT_LEN f (omega arith)) ∙ e ∙ take_all KEPT_LEN g (omega (arith, length-take KEPT_LEN f, length-take KEPT_LEN g))
+same_line reading f g false long e some = absurd (some (says_nothing reading f (grind (arith, nat_tests))))
+
 -- ---- one line more
 
 play_on-push : {X : Type 0} (script : Script X) (p : Option (Played X)) (lines : List (List ℕ)) (raw : List ℕ) → play_on script p (lines ++ raw ∷ []) ≡ with_line script (play_on script p lines) raw
@@ -47,6 +56,10 @@ play_on-push script p (first ∷ lines) raw = play_on-push script (with_line scr
 with_line-alike : {X : Type 0} (script : Script X) (p : Option (Played X)) (f g : List ℕ) → take KEPT_LEN f ≡ take KEPT_LEN g → with_line script p f ≡ with_line script p g
 with_line-alike script None f g e = refl
 with_line-alike script (Some p) f g e = ap (with_reading p) (said_alike script.event f g e)
+
+says_none : {X : Type 0} (script : Script X) (p : Option (Played X)) (raw : List ℕ) → says_by script.event raw ≡ None → with_line script p raw ≡ None
+says_none script None raw none = refl
+says_none script (Some p) raw none = ap (with_reading p) none
 
 -- a line plays what another one does that begins alike
 pub play_of-alike : {X : Type 0} (script : Script X) (lines : List (List ℕ)) (f g : List ℕ) → take KEPT_LEN f ≡ take KEPT_LEN g → play_of script (lines ++ f ∷ []) ≡ play_of script (lines ++ g ∷ [])
@@ -59,6 +72,13 @@ play_of-alike script (first ∷ lines) f g e =
 play_of-push : {X : Type 0} (script : Script X) (lines : List (List ℕ)) (p : Played X) (raw : List ℕ) → play_of script lines ≡ Some p → play_of script (lines ++ raw ∷ []) ≡ with_reading p (says_by script.event raw)
 play_of-push script [] p raw h = absurd (cc)
 play_of-push script (first ∷ lines) p raw h = play_on-push script (option_map (start_play script) (says_by script.first first)) lines raw ∙ ap (λ q. with_line script q raw) h
+
+-- of two lines that begin alike, and of which one is of a form
+pub alike_same : {X : Type 0} (script : Script X) (lines : List (List ℕ)) (f g : List ℕ) → take KEPT_LEN f ≡ take KEPT_LEN g → play_of script (lines ++ f ∷ []) ≢ None → f ≡ g
+alike_same script [] f g e some =
+    same_line script.first f g (ltb (length f) KEPT_LEN) refl e (λ none. some (ap (option_map (start_play script)) none))
+alike_same script (first ∷ lines) f g e some =
+    same_line script.event f g (ltb (length f) KEPT_LEN) refl e (λ none. some (play_on-push script (option_map (start_play script) (says_by script.first first)) lines f ∙ says_none script (play_on script (option_map (start_play script) (says_by script.first first)) lines) f none))
 
 -- ---- the first line that is of no form
 
@@ -109,25 +129,26 @@ says : {X : Type 0} (reading : List ℕ → Option X) (raw : List ℕ) (said : O
 says reading raw said short is = ap (λ b. cond b None (reading (strip_last 13 raw))) short ∙ is
 
 -- the first line was played
-pub begins : {X : Type 0} (script : Script X) (before held : Option (List ℕ)) (lab : Option X) (lines refused : ℕ) (ended : List (List ℕ)) (raw old new : List ℕ) (made : X) → lab ≡ None
+pub begins : {X : Type 0} (script : Script X) (before held : Option (List ℕ)) (at at' : Standing X) (ended : List (List ℕ)) (raw old new : List ℕ) (made : X) → at.lab ≡ None → at' ≡ record { lab = Some made; lines = at.lines + 1; refused = at.refused }
     → ltb LINE_LIMIT (length (strip_last 13 raw)) ≡ false → script.first (strip_last 13 raw) ≡ Some made → new ≡ old ++ script.begun made → script.ready made
-    → PlaysLines script before (written_of held old) lab lines refused ended → PlaysLines script before (written_of held new) (Some made) (lines + 1) refused (ended ++ raw ∷ [])
-begins script before held lab lines refused ended raw old new made none short said more ready s =
-    let (nil, none_yet) = subst (λ l. IsAt script l refused ended) none s.state in
+    → PlaysLines script before (written_of held old) at ended → PlaysLines script before (written_of held new) at' (ended ++ raw ∷ [])
+begins script before held at at' ended raw old new made none next short said more ready s =
+    let (nil, none_yet) = subst (λ l. IsAt script l at.refused ended) none s.state in
     let played_first : play_of script (ended ++ raw ∷ []) ≡ Some (start_play script made) = ap (λ l. play_of script (l ++ raw ∷ [])) nil ∙ ap (option_map (start_play script)) (says script.first raw (Some made) short said) in
-    record {
+    subst (λ n. PlaysLines script before (written_of held new) n (ended ++ raw ∷ [])) (sym next) (record {
       state = (start_play script made, played_first, refl, sym none_yet, ready);
       text = subst (Appends before (written_of held new)) (sym (ap text_of played_first))
           (text_more before held old new [] _ (subst (Appends before (written_of held old)) (ap (λ l. text_of (play_of script l)) nil) s.text) more);
       count = omega (arith, s.count, ap length nil, ap (λ l. length (l ++ raw ∷ [])) nil);
-    }
+    })
 
 -- an event was let happen
-pub plays_event : {X : Type 0} (script : Script X) (before held : Option (List ℕ)) (lab : Option X) (lines refused refused' : ℕ) (ended : List (List ℕ)) (raw old new : List ℕ) (l l' : X) (was_refused : Bool) → lab ≡ Some l
-    → ltb LINE_LIMIT (length (strip_last 13 raw)) ≡ false → (script.ready l → PlaysLine script (strip_last 13 raw) l l' old new was_refused × script.ready l') → refused' ≡ refused + cond was_refused 1 0
-    → PlaysLines script before (written_of held old) lab lines refused ended → PlaysLines script before (written_of held new) (Some l') (lines + 1) refused' (ended ++ raw ∷ [])
-plays_event {X = X} script before held lab lines refused refused' ended raw old new l l' was_refused some short plays count s =
-    let (p, is, same, so_far, ready) = subst (λ x. IsAt script x refused ended) some s.state in
+pub plays_event : {X : Type 0} (script : Script X) (before held : Option (List ℕ)) (at at' : Standing X) (ended : List (List ℕ)) (raw old new : List ℕ) (l l' : X) (was_refused : Bool) → at.lab ≡ Some l
+    → at' ≡ record { lab = Some l'; lines = at.lines + 1; refused = at.refused + cond was_refused 1 0 }
+    → ltb LINE_LIMIT (length (strip_last 13 raw)) ≡ false → (script.ready l → PlaysLine script (strip_last 13 raw) l l' old new was_refused × script.ready l')
+    → PlaysLines script before (written_of held old) at ended → PlaysLines script before (written_of held new) at' (ended ++ raw ∷ [])
+plays_event {X = X} script before held at at' ended raw old new l l' was_refused some next short plays s =
+    let (p, is, same, so_far, ready) = subst (λ x. IsAt script x at.refused ended) some s.state in
     let (did, ready') = plays ready in
     let does : X → Done X = did.does in
     let after : Played X = record {
@@ -136,18 +157,18 @@ plays_event {X = X} script before held lab lines refused refused' ended raw old 
       refused = p.refused + cond (does p.lab).is_refused 1 0;
     } in
     let played_more : play_of script (ended ++ raw ∷ []) ≡ Some after = play_of-push script ended p raw is ∙ ap (with_reading p) (says script.event raw (Some does) short did.said) in
-    record {
+    subst (λ n. PlaysLines script before (written_of held new) n (ended ++ raw ∷ [])) (sym next) (record {
       state = (
         after,
         played_more,
         ap (λ x. (does x).lab) same ∙ sym did.lab,
-        ap (λ x. p.refused + cond (does x).is_refused 1 0) same ∙ ap (λ b. p.refused + cond b 1 0) (sym did.count) ∙ ap (λ n. n + cond was_refused 1 0) so_far ∙ sym count,
+        ap (λ x. p.refused + cond (does x).is_refused 1 0) same ∙ ap (λ b. p.refused + cond b 1 0) (sym did.count) ∙ ap (λ n. n + cond was_refused 1 0) so_far,
         ready',
       );
       text = subst (Appends before (written_of held new)) (sym (ap text_of played_more))
           (text_more before held old new p.text _ (subst (Appends before (written_of held old)) (ap text_of is) s.text) (did.text ∙ ap (λ x. old ++ (does x).text) (sym same)));
       count = omega (arith, s.count, length-append ended (raw ∷ []));
-    }
+    })
 
 -- ---- a line that isn't played
 
@@ -166,79 +187,79 @@ unplayed script None refused ended raw at first event = unplayed_first script No
 unplayed script (Some l) refused ended raw at first event = unplayed_event script (Some l) refused ended raw l refl at event
 
 -- a line that is too long
-pub too_long_stops : {X : Type 0} (script : Script X) (before written : Option (List ℕ)) (lab : Option X) (lines refused : ℕ) (ended : List (List ℕ)) (raw : List ℕ) → ltb LINE_LIMIT (length (strip_last 13 raw)) ≡ true
-    → PlaysLines script before written lab lines refused ended → StopsLine script before written ended raw (run.BadScript (lines + 1))
-too_long_stops script before written lab lines refused ended raw long s =
+pub too_long_stops : {X : Type 0} (script : Script X) (before written : Option (List ℕ)) (at : Standing X) (ended : List (List ℕ)) (raw : List ℕ) → ltb LINE_LIMIT (length (strip_last 13 raw)) ≡ true
+    → PlaysLines script before written at ended → StopsLine script before written ended raw (run.BadScript (at.lines + 1))
+too_long_stops script before written at ended raw long s =
     let none_first : says_by script.first raw ≡ None = ap (λ b. cond b None (script.first (strip_last 13 raw))) long in
     let none_event : says_by script.event raw ≡ None = ap (λ b. cond b None (script.event (strip_last 13 raw))) long in
-    (ap (λ n. n + 1) s.count, unplayed script lab refused ended raw s.state none_first none_event, s.text)
+    (ap (λ n. n + 1) s.count, unplayed script at.lab at.refused ended raw s.state none_first none_event, s.text)
 
 some_with : {X : Type 0} (p : Played X) (o : Option (X → Done X)) → o ≢ None → with_reading p o ≢ None
 some_with p None some none = some refl
 some_with p (Some does) some none = cc
 
-want_behind : {X : Type 0} (script : Script X) (ended : List (List ℕ)) (p : Played X) (text : List ℕ) → play_of script ended ≡ Some p → script.wants text → IsWantText script (length ended) text
-want_behind script [] p text is w = absurd (cc)
-want_behind script (first ∷ lines) p text is w = w
+want_behind : {X : Type 0} (script : Script X) (ended : List (List ℕ)) (p : Played X) (line text : List ℕ) → play_of script ended ≡ Some p → script.wants (strip_last 13 line) text → IsWantText script (length ended) line text
+want_behind script [] p line text is w = absurd (cc)
+want_behind script (first ∷ lines) p line text is w = w
 
 -- an event wasn't let happen
-pub event_stops : {X Y : Type 0} (script : Script X) (fault : RunFault) (before held : Option (List ℕ)) (lab : Option X) (lines refused : ℕ) (ended : List (List ℕ)) (raw old new : List ℕ) (l : X) → lab ≡ Some l
+pub event_stops : {X Y : Type 0} (script : Script X) (fault : RunFault) (before held : Option (List ℕ)) (at : Standing X) (ended : List (List ℕ)) (raw old new : List ℕ) (l : X) → at.lab ≡ Some l
     → ltb LINE_LIMIT (length (strip_last 13 raw)) ≡ false → IsLineFault fault
-    → ((n : ℕ) → ◌≡◌ {A = Result Y RunFault} (Err fault) (Err (run.BadScript n)) → (n ≡ lines + 1) × (script.event (strip_last 13 raw) ≡ None) × (new ≡ old))
-    → (◌≡◌ {A = Result Y RunFault} (Err fault) (Err run.NoMemory) → (script.event (strip_last 13 raw) ≢ None) × ((text : List ℕ) × script.wants text × (new ≡ old ++ text)))
-    → PlaysLines script before (written_of held old) lab lines refused ended → StopsLine script before (written_of held new) ended raw fault
-event_stops script (run.BadScript n) before held lab lines refused ended raw old new l some short is bad want s =
+    → ((n : ℕ) → ◌≡◌ {A = Result Y RunFault} (Err fault) (Err (run.BadScript n)) → (n ≡ at.lines + 1) × (script.event (strip_last 13 raw) ≡ None) × (new ≡ old))
+    → (◌≡◌ {A = Result Y RunFault} (Err fault) (Err run.NoMemory) → (script.event (strip_last 13 raw) ≢ None) × (script.ready l → (text : List ℕ) × script.wants (strip_last 13 raw) text × (new ≡ old ++ text)))
+    → PlaysLines script before (written_of held old) at ended → StopsLine script before (written_of held new) ended raw fault
+event_stops script (run.BadScript n) before held at ended raw old new l some short is bad want s =
     let (number, said, same) = bad n refl in (
       number ∙ ap (λ k. k + 1) s.count,
-      unplayed_event script lab refused ended raw l some s.state (says script.event raw None short said),
+      unplayed_event script at.lab at.refused ended raw l some s.state (says script.event raw None short said),
       subst (λ x. Appends before (written_of held x) (text_of (play_of script ended))) (sym same) s.text,
     )
-event_stops script run.NoMemory before held lab lines refused ended raw old new l some short is bad want s =
+event_stops script run.NoMemory before held at ended raw old new l some short is bad want s =
     let (said, told) = want refl in
-    let (text, wants, more) = told in
-    let (p, at, same, so_far, ready) = subst (λ x. IsAt script x refused ended) some s.state in
+    let (p, is_played, same, so_far, ready) = subst (λ x. IsAt script x at.refused ended) some s.state in
+    let (text, wants, more) = told ready in
     let good : says_by script.event raw ≢ None = λ nothing. said (sym (says script.event raw _ short refl) ∙ nothing) in (
-      λ nothing. some_with p (says_by script.event raw) good (sym (play_of-push script ended p raw at) ∙ nothing),
+      λ nothing. some_with p (says_by script.event raw) good (sym (play_of-push script ended p raw is_played) ∙ nothing),
       text,
-      want_behind script ended p text at wants,
+      want_behind script ended p raw text is_played wants,
       text_more before held old new (text_of (play_of script ended)) text s.text more,
     )
-event_stops script run.WriteFault before held lab lines refused ended raw old new l some short is bad want s = tt
-event_stops script run.ReadFault before held lab lines refused ended raw old new l some short is bad want s = absurd is
-event_stops script run.InputTooLong before held lab lines refused ended raw old new l some short is bad want s = absurd is
-event_stops script run.LinkFault before held lab lines refused ended raw old new l some short is bad want s = absurd is
-event_stops script run.ClockFault before held lab lines refused ended raw old new l some short is bad want s = absurd is
+event_stops script run.WriteFault before held at ended raw old new l some short is bad want s = tt
+event_stops script run.ReadFault before held at ended raw old new l some short is bad want s = absurd is
+event_stops script run.InputTooLong before held at ended raw old new l some short is bad want s = absurd is
+event_stops script run.LinkFault before held at ended raw old new l some short is bad want s = absurd is
+event_stops script run.ClockFault before held at ended raw old new l some short is bad want s = absurd is
 
 some_made : {X Y : Type 0} (f : X → Y) (o : Option X) → o ≢ None → option_map f o ≢ None
 some_made f None some none = some refl
 some_made f (Some x) some none = cc
 
 -- the laboratory wasn't made
-pub first_stops : {X Y : Type 0} (script : Script X) (fault : RunFault) (before held : Option (List ℕ)) (lab : Option X) (lines refused : ℕ) (ended : List (List ℕ)) (raw old new : List ℕ) → lab ≡ None
+pub first_stops : {X Y : Type 0} (script : Script X) (fault : RunFault) (before held : Option (List ℕ)) (at : Standing X) (ended : List (List ℕ)) (raw old new : List ℕ) → at.lab ≡ None
     → ltb LINE_LIMIT (length (strip_last 13 raw)) ≡ false → IsLineFault fault
-    → ((n : ℕ) → ◌≡◌ {A = Result Y RunFault} (Err fault) (Err (run.BadScript n)) → (n ≡ lines + 1) × (script.first (strip_last 13 raw) ≡ None) × (new ≡ old))
+    → ((n : ℕ) → ◌≡◌ {A = Result Y RunFault} (Err fault) (Err (run.BadScript n)) → (n ≡ at.lines + 1) × (script.first (strip_last 13 raw) ≡ None) × (new ≡ old))
     → (◌≡◌ {A = Result Y RunFault} (Err fault) (Err run.NoMemory) → (script.first (strip_last 13 raw) ≢ None) × (new ≡ old))
-    → PlaysLines script before (written_of held old) lab lines refused ended → StopsLine script before (written_of held new) ended raw fault
-first_stops script (run.BadScript n) before held lab lines refused ended raw old new none short is bad want s =
+    → PlaysLines script before (written_of held old) at ended → StopsLine script before (written_of held new) ended raw fault
+first_stops script (run.BadScript n) before held at ended raw old new none short is bad want s =
     let (number, said, same) = bad n refl in (
       number ∙ ap (λ k. k + 1) s.count,
-      unplayed_first script lab refused ended raw none s.state (says script.first raw None short said),
+      unplayed_first script at.lab at.refused ended raw none s.state (says script.first raw None short said),
       subst (λ x. Appends before (written_of held x) (text_of (play_of script ended))) (sym same) s.text,
     )
-first_stops script run.NoMemory before held lab lines refused ended raw old new none short is bad want s =
+first_stops script run.NoMemory before held at ended raw old new none short is bad want s =
     let (said, same) = want refl in
-    let (nil, none_yet) = subst (λ l. IsAt script l refused ended) none s.state in
+    let (nil, none_yet) = subst (λ l. IsAt script l at.refused ended) none s.state in
     let good : says_by script.first raw ≢ None = λ nothing. said (sym (says script.first raw _ short refl) ∙ nothing) in (
       λ nothing. some_made (start_play script) (says_by script.first raw) good (sym (ap (λ l. play_of script (l ++ raw ∷ [])) nil) ∙ nothing),
       [],
-      subst (λ (l : List (List ℕ)). IsWantText script (length l) []) (sym nil) refl,
+      subst (λ (l : List (List ℕ)). IsWantText script (length l) raw []) (sym nil) refl,
       text_more before held old new (text_of (play_of script ended)) [] s.text (same ∙ sym (append-nil old)),
     )
-first_stops script run.WriteFault before held lab lines refused ended raw old new none short is bad want s = tt
-first_stops script run.ReadFault before held lab lines refused ended raw old new none short is bad want s = absurd is
-first_stops script run.InputTooLong before held lab lines refused ended raw old new none short is bad want s = absurd is
-first_stops script run.LinkFault before held lab lines refused ended raw old new none short is bad want s = absurd is
-first_stops script run.ClockFault before held lab lines refused ended raw old new none short is bad want s = absurd is
+first_stops script run.WriteFault before held at ended raw old new none short is bad want s = tt
+first_stops script run.ReadFault before held at ended raw old new none short is bad want s = absurd is
+first_stops script run.InputTooLong before held at ended raw old new none short is bad want s = absurd is
+first_stops script run.LinkFault before held at ended raw old new none short is bad want s = absurd is
+first_stops script run.ClockFault before held at ended raw old new none short is bad want s = absurd is
 
 -- ---- calls that may fail
 

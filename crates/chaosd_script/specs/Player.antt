@@ -1,11 +1,14 @@
--- What a run over a script has done with the bytes that came.
-use Rattle.std.specs.Prelude.{◌≡◌, ◌≢◌, ℕ, zero, suc, ◌+◌, ◌-◌, ◌<◌, false, List, [], ◌∷◌, ◌++◌, All, Option, Some, None, IfSome, length, take, ⊤}
+-- What a run over a script has done with an input.
+use Rattle.std.specs.Prelude.{◌≡◌, ◌≢◌, ℕ, zero, suc, ◌+◌, ◌-◌, ◌<◌, ◌≤◌, List, [], ◌∷◌, ◌++◌, Option, Some, None, IfSome, length, take, slice_get, ⊤}
+use Rattle.std.specs.Io.BufRead.{strip_last}
 use Rattle.std.specs.Io.KnownBytes.{Appends, Consumes}
 use Rattle.chaosd_engines.specs.declared.fault.RunFault.{RunFault}
 use Rattle.chaosd_engines.specs.declared.fault.RunFault.TheVariants as run
 use Rattle.chaosd_engines.specs.declared.limits.TheConstants.{INPUT_LIMIT, KEPT_LEN}
-use Rattle.chaosd_engines.specs.Lines.{is_newline, pieces_of, lines_of, ended_lines}
-use Rattle.chaosd_script.specs.Script.{Script, Played, play_of, text_of, IsFirstBad}
+use Rattle.chaosd_engines.specs.Lines.{lines_of, ended_lines, IsMet}
+use Rattle.chaosd_engines.specs.Reader.{LinesView, Gives, Done}
+use Rattle.chaosd_script.specs.declared.standing.Standing.{Standing}
+use Rattle.chaosd_script.specs.Script.{Script, Played, play_of, text_of, IsFirstBad, NoneBad}
 
 -- ---- Lines
 
@@ -15,15 +18,15 @@ IsAt script None refused ended = (ended ≡ []) × (refused ≡ 0)
 IsAt {X = X} script (Some lab) refused ended = (p : Played X) × (play_of script ended ≡ Some p) × (p.lab ≡ lab) × (p.refused ≡ refused) × script.ready lab
 
 -- These lines were played and counted, and their text was written behind what stood there before.
-pub record PlaysLines {X : Type 0} (script : Script X) (before written : Option (List ℕ)) (lab : Option X) (lines refused : ℕ) (ended : List (List ℕ)) : Type 0 where
-  pub state : IsAt script lab refused ended
+pub record PlaysLines {X : Type 0} (script : Script X) (before written : Option (List ℕ)) (at : Standing X) (ended : List (List ℕ)) : Type 0 where
+  pub state : IsAt script at.lab at.refused ended
   pub text : Appends before written (text_of (play_of script ended))
-  pub count : lines ≡ length ended
+  pub count : at.lines ≡ length ended
 
--- what is printed at want of memory behind so many lines: nothing where the laboratory couldn't be made
-abbrev pub IsWantText : {X : Type 0} → Script X → ℕ → List ℕ → Type 0
-IsWantText script zero text = text ≡ []
-IsWantText script (suc n) text = script.wants text
+-- what is printed at want of memory of a line behind so many: nothing where the laboratory couldn't be made
+abbrev pub IsWantText : {X : Type 0} → Script X → ℕ → List ℕ → List ℕ → Type 0
+IsWantText script zero line text = text ≡ []
+IsWantText script (suc n) line text = script.wants (strip_last 13 line) text
 
 -- the faults of a line
 abbrev pub IsLineFault : RunFault → Type 0
@@ -36,59 +39,63 @@ IsLineFault _ = ⊥
 -- nothing is said.
 abbrev pub StopsLine : {X : Type 0} → Script X → Option (List ℕ) → Option (List ℕ) → List (List ℕ) → List ℕ → RunFault → Type 0
 StopsLine script before written ended line (run.BadScript number) = (number ≡ length ended + 1) × (play_of script (ended ++ line ∷ []) ≡ None) × Appends before written (text_of (play_of script ended))
-StopsLine script before written ended line run.NoMemory = (play_of script (ended ++ line ∷ []) ≢ None) × (text : List ℕ) × IsWantText script (length ended) text × Appends before written (text_of (play_of script ended) ++ text)
+StopsLine script before written ended line run.NoMemory = (play_of script (ended ++ line ∷ []) ≢ None) × (text : List ℕ) × IsWantText script (length ended) line text × Appends before written (text_of (play_of script ended) ++ text)
 StopsLine script before written ended line run.WriteFault = ⊤
 StopsLine script before written ended line _ = ⊥
 
--- ---- Bytes
+-- ---- Inputs
 
--- The lines of the input that ended were played, and what came of the next one was kept, or as much of its front as is kept of
--- a line. Whatever comes after goes on with that one.
-pub record PlaysInput {X : Type 0} (script : Script X) (before written : Option (List ℕ)) (lab : Option X) (lines refused : ℕ) (kept input : List ℕ) : Type 0 where
-  pub ended : List (List ℕ)
-  pub begun : List ℕ
-  pub plays : PlaysLines script before written lab lines refused ended
-  pub front : kept ≡ take KEPT_LEN begun
-  pub unended : All (λ b. is_newline b ≡ false) begun
-  pub goes_on : (rest : List ℕ) → pieces_of (input ++ rest) ≡ ended ++ pieces_of (begun ++ rest)
+-- The lines that were given of an input were played.
+pub record PlaysGiven {X : Type 0} (script : Script X) (input rest before written : Option (List ℕ)) (at : Standing X) (lines : LinesView) : Type 0 where
+  pub given : List (List ℕ)
+  pub gives : Gives KEPT_LEN INPUT_LIMIT input rest given lines
+  pub plays : PlaysLines script before written at given
+
+-- All lines of an input were played.
+pub record PlaysDone {X : Type 0} (script : Script X) (input rest before written : Option (List ℕ)) (at : Standing X) : Type 0 where
+  pub given : List (List ℕ)
+  pub done : Done INPUT_LIMIT input rest given
+  pub plays : PlaysLines script before written at given
 
 -- All lines of the input were played, and the text of all was written.
 abbrev pub PlaysAll : {X : Type 0} → Script X → Option (List ℕ) → Option (List ℕ) → ℕ → List ℕ → Type 0
 PlaysAll {X = X} script before written refused input = (p : Played X) × (play_of script (lines_of input) ≡ Some p) × (refused ≡ p.refused) × Appends before written (p.text ++ script.ended p.lab)
 
--- This line of the input is the first that is missing or of no form, and the text of the lines before it was written.
-abbrev pub StopsAt : {X : Type 0} → Script X → Option (List ℕ) → Option (List ℕ) → ℕ → List ℕ → Type 0
-StopsAt script before written number input = IsFirstBad script number (lines_of input) × Appends before written (text_of (play_of script (take (number - 1) (lines_of input))))
+-- The input has no more bytes than it may have, and all its lines were played.
+abbrev pub PlaysWithin : {X : Type 0} → Script X → Option (List ℕ) → Option (List ℕ) → ℕ → List ℕ → Type 0
+PlaysWithin script before written refused input = (length input ≤ INPUT_LIMIT) × PlaysAll script before written refused input
 
--- A line of the input met want of memory that is of the form of its place, and the text of the lines before it was written, and that
--- an event met it.
+-- This line of the input is the first that is missing or of no form, it ends within the limit or the input does, and the text of the
+-- lines before it was written.
+abbrev pub StopsAt : {X : Type 0} → Script X → Option (List ℕ) → Option (List ℕ) → ℕ → List ℕ → Type 0
+StopsAt script before written number input =
+    IsFirstBad script number (lines_of input) × IsMet INPUT_LIMIT number input
+    × Appends before written (text_of (play_of script (take (number - 1) (lines_of input))))
+
+-- A line of the input met want of memory that is of the form of its place, it ends within the limit or the input does, and the text of
+-- the lines before it was written, and what is printed of such a line.
 abbrev pub Wants : {X : Type 0} → Script X → Option (List ℕ) → Option (List ℕ) → List ℕ → Type 0
 Wants script before written input =
-    (n : ℕ) × (n < length (lines_of input)) × (play_of script (take (n + 1) (lines_of input)) ≢ None)
-    × (text : List ℕ) × IsWantText script n text × Appends before written (text_of (play_of script (take n (lines_of input))) ++ text)
+    (n : ℕ) × (line : List ℕ) × (slice_get (lines_of input) n ≡ Some line) × (play_of script (take (n + 1) (lines_of input)) ≢ None)
+    × IsMet INPUT_LIMIT (n + 1) input
+    × (text : List ℕ) × IsWantText script n line text × Appends before written (text_of (play_of script (take n (lines_of input))) ++ text)
 
--- Why not all lines of the input were played.
-abbrev pub StopsInput : {X : Type 0} → Script X → Option (List ℕ) → Option (List ℕ) → List ℕ → RunFault → Type 0
-StopsInput script before written input (run.BadScript number) = StopsAt script before written number input
-StopsInput script before written input run.NoMemory = Wants script before written input
-StopsInput script before written input run.WriteFault = ⊤
-StopsInput script before written input _ = ⊥
-
--- ---- A reader's input
-
--- What was written to a writer is the text of the lines that ended in what was read of an input.
+-- What was written to a writer is the text of the lines that ended in what was read of an input, of which none is of no form.
 abbrev pub PlaysRead : {X : Type 0} → Script X → Option (List ℕ) → Option (List ℕ) → Option (List ℕ) → Option (List ℕ) → Type 0
-PlaysRead script input rest old new = (read : List ℕ) × Consumes input rest read × Appends old new (text_of (play_of script (ended_lines read)))
+PlaysRead script input rest old new =
+    (read : List ℕ) × Consumes input rest read × NoneBad script (ended_lines read) × Appends old new (text_of (play_of script (ended_lines read)))
 
--- The input has more bytes than it may have, and the text of the lines that ended within the limit was written.
+-- The input has more bytes than it may have, no line that ended within the limit is of no form, and the text of those was written.
 abbrev pub PlaysFront : {X : Type 0} → Script X → Option (List ℕ) → Option (List ℕ) → List ℕ → Type 0
-PlaysFront script before written input = (INPUT_LIMIT < length input) × Appends before written (text_of (play_of script (ended_lines (take INPUT_LIMIT input))))
+PlaysFront script before written input =
+    (INPUT_LIMIT < length input) × NoneBad script (ended_lines (take INPUT_LIMIT input))
+    × Appends before written (text_of (play_of script (ended_lines (take INPUT_LIMIT input))))
 
 -- Why a run over a reader's input ended early, and what was written.
 abbrev pub StopsRun : {X : Type 0} → Script X → Option (List ℕ) → Option (List ℕ) → Option (List ℕ) → Option (List ℕ) → RunFault → Type 0
-StopsRun script old new before written (run.BadScript number) = IfSome old (StopsAt script before written number)
-StopsRun script old new before written run.NoMemory = IfSome old (Wants script before written)
-StopsRun script old new before written run.InputTooLong = IfSome old (PlaysFront script before written)
-StopsRun script old new before written run.ReadFault = PlaysRead script old new before written
-StopsRun script old new before written run.WriteFault = ⊤
-StopsRun script old new before written _ = ⊥
+StopsRun script input rest before written (run.BadScript number) = IfSome input (StopsAt script before written number)
+StopsRun script input rest before written run.NoMemory = IfSome input (Wants script before written)
+StopsRun script input rest before written run.InputTooLong = IfSome input (PlaysFront script before written)
+StopsRun script input rest before written run.ReadFault = PlaysRead script input rest before written
+StopsRun script input rest before written run.WriteFault = ⊤
+StopsRun script input rest before written _ = ⊥

@@ -20,8 +20,8 @@ pub record Script (X : Type 0) : Type 1 where
   pub ended : X → List ℕ
   -- the laboratories in which lines do what `event` says
   pub ready : X → Type 0
-  -- what may be printed of an event that meets want of memory
-  pub wants : List ℕ → Type 0
+  -- what is printed of a line whose event meets want of memory
+  pub wants : List ℕ → List ℕ → Type 0
 
 -- what was played: the laboratory, what was printed, and how many events were refused
 pub record Played (X : Type 0) : Type 0 where
@@ -74,6 +74,10 @@ pub record IsFirstBad {X : Type 0} (script : Script X) (number : ℕ) (lines : L
   pub counts : 0 < number
   pub bad : play_of script (take number lines) ≡ None
   pub good : (n : ℕ) → 0 < n → n < number → play_of script (take n lines) ≢ None
+
+-- No line of these is of no form.
+abbrev pub NoneBad : {X : Type 0} → Script X → List (List ℕ) → Type 0
+NoneBad script lines = lines ≢ [] → play_of script lines ≢ None
 
 -- A line did what the language says, and what came of it was printed.
 pub record PlaysLine {X : Type 0} (script : Script X) (line : List ℕ) (before after : X) (old new : List ℕ) (refused : Bool) : Type 0 where

@@ -1,13 +1,14 @@
 //! Scripts: lines played one after another in a laboratory of any kind, and what came of each written.
 //!
 //! A laboratory implements [`Stage`], which says what a line does and prints, and [`run_script`] plays a reader's lines in it.
-//! `player` cuts what comes into lines and plays them, and `run` reads chunks and hands on what waits. The engines `lab` and
-//! `filelab` stand on it.
+//! `standing` is where a script stands, `player` plays a line, and `run` takes the lines of a reader one after another and hands on
+//! what waits. The engines `lab` and `filelab` stand on it.
 #![tactic(auto)]
 
 mod player;
 mod run;
 mod stage;
+mod standing;
 
 pub use run::run_script;
 pub use stage::Stage;

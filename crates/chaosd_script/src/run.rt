@@ -1,13 +1,13 @@
 //! The run over a script.
-ghost use Rattle.std.specs.Prelude.{◌≡◌, ◌≢◌, ◌<◌, ◌≤◌, ◌+◌, ◌-◌, ◌++◌, [], ℕ, List, Option, Err, Some, None, length, take, OnOk, IfOk, IfErr, IfSome};
+ghost use Rattle.std.specs.Prelude.{◌≡◌, ◌≤◌, ◌+◌, [], ℕ, List, Option, Err, length, OnOk, IfOk, IfErr, IfSome};
 ghost use Rattle.std.specs.Io.KnownBytes.{Appends, IsAtEnd};
-ghost use Rattle.chaosd_engines.specs.Lines.{lines_of};
 ghost use Rattle.chaosd_engines.specs.Buffer.{written_of};
-ghost use Rattle.chaosd_script.specs.Player.{PlaysRead, PlaysFront, PlaysInput, PlaysAll, StopsAt, StopsRun, Wants};
+ghost use Rattle.chaosd_engines.specs.Reader.{left_of};
+ghost use Rattle.chaosd_script.specs.Player.{PlaysLines, PlaysGiven, PlaysDone, PlaysRead, PlaysFront, PlaysAll, PlaysWithin, StopsAt, StopsRun, Wants};
 
 use crate::player::Player;
 use crate::stage::Stage;
-use chaosd_engines::{CHUNK_LEN, INPUT_LIMIT, RunFault, read_chunk};
+use chaosd_engines::{INPUT_LIMIT, KEPT_LEN, LineReader, RunFault};
 use std::alloc::Global;
 use std::io::{Read, Write};
 
@@ -30,13 +30,14 @@ pub fn run_script<S: Stage, R: Read, W: Write>(
     ensures ended { OnOk result (IsAtEnd (R.remaining reader.new)) }
     ensures within { OnOk result (IfSome (R.remaining reader.old) (λ input. length input ≤ INPUT_LIMIT)) }
 
-    // The line that is told is the first that is missing or of no form, and the text of the lines before it was written.
+    // The line that is told is the first that is missing or of no form, it ends within the limit or the input does, and the text of the
+    // lines before it was written.
     ensures bad { (number : ℕ) → result ≡ Err (RunFault.BadScript number) → IfSome (R.remaining reader.old) (StopsAt S.script (W.contents writer.old) (W.contents writer.new) number) }
 
-    // A script is refused as too long only where it is, and the lines that ended within the limit were played.
+    // A script is refused as too long only where it is and each line that ended within the limit was played.
     ensures too_long { result ≡ Err RunFault.InputTooLong → IfSome (R.remaining reader.old) (PlaysFront S.script (W.contents writer.old) (W.contents writer.new)) }
 
-    // Where the reader failed, the lines that ended in what it had given were played, and no more.
+    // Where the reader failed, each line that ended in what it had given was played, and no more.
     ensures unread { result ≡ Err RunFault.ReadFault → PlaysRead S.script (R.remaining reader.old) (R.remaining reader.new) (W.contents writer.old) (W.contents writer.new) }
 
     // At want of memory the lines before were played, and what the language says of it is told; the line is of the form of its place.
@@ -49,40 +50,76 @@ pub fn run_script<S: Stage, R: Read, W: Write>(
     }
     player.hand_on(writer)?;
     end?;
-    Ok(player.refused)
+    Ok(player.at.refused)
 }
 
-/// Plays all lines.
+/// Plays all lines, and says what is said at the end.
 fn play_all<S: Stage, R: Read, W: Write>(
     player: &mut Player<S>,
     reader: &mut R,
     writer: &mut W,
 ) -> Result<(), RunFault>
-    requires { player.old.lines ≡ 0 }
+    requires { player.old.at.lines ≡ 0 }
     ensures plays { OnOk result ((before : Option (List ℕ))
-        → PlaysInput S.script before (written_of (W.contents writer.old) player.old.out) player.old.lab player.old.lines player.old.refused player.old.line.items []
-        → IfSome (R.remaining reader.old) (PlaysAll S.script before (written_of (W.contents writer.new) player.new.out) player.new.refused)) }
+        → PlaysLines S.script before (written_of (W.contents writer.old) player.old.out) player.old.at []
+        → IfSome (R.remaining reader.old) (PlaysWithin S.script before (written_of (W.contents writer.new) player.new.out) player.new.at.refused)) }
     ensures ended { OnOk result (IsAtEnd (R.remaining reader.new)) }
-    ensures within { OnOk result (IfSome (R.remaining reader.old) (λ input. length input ≤ INPUT_LIMIT)) }
     ensures stops { IfErr result (λ fault. (before : Option (List ℕ))
-        → PlaysInput S.script before (written_of (W.contents writer.old) player.old.out) player.old.lab player.old.lines player.old.refused player.old.line.items []
+        → PlaysLines S.script before (written_of (W.contents writer.old) player.old.out) player.old.at []
         → StopsRun S.script (R.remaining reader.old) (R.remaining reader.new) before (written_of (W.contents writer.new) player.new.out) fault) }
 {
-    let mut chunk = [0; CHUNK_LEN];
-    let mut interruptions = 0;
-    let mut room = INPUT_LIMIT;
+    let mut lines: LineReader<KEPT_LEN> = LineReader::new(INPUT_LIMIT);
     'reads: loop {
+        play_ended(player, &mut lines, writer)?;
         player.hand_on(writer)?;
-        let count = read_chunk(reader, &mut chunk, &mut interruptions)?;
-        if count == 0 {
+        if !lines.refill(reader)? {
             break 'reads;
         }
-        let within = count.min(room);
-        player.feed(writer, &chunk[..within])?;
-        if within < count {
-            return Err(RunFault::InputTooLong);
-        }
-        room -= within;
     }
+    play_last(player, &lines, writer)?;
     player.finish(writer)
+}
+
+/// Plays the lines that end in what came.
+fn play_ended<S: Stage, W: Write>(
+    player: &mut Player<S>,
+    lines: &mut LineReader<KEPT_LEN>,
+    writer: &mut W,
+) -> Result<(), RunFault>
+    requires { player.old.at.lines + left_of lines.old ≤ INPUT_LIMIT }
+    ensures plays { OnOk result ((input rest before : Option (List ℕ))
+        → PlaysGiven S.script input rest before (written_of (W.contents writer.old) player.old.out) player.old.at lines.old
+        → PlaysGiven S.script input rest before (written_of (W.contents writer.new) player.new.out) player.new.at lines.new) }
+    ensures stops { IfErr result (λ fault. (input rest before : Option (List ℕ))
+        → PlaysGiven S.script input rest before (written_of (W.contents writer.old) player.old.out) player.old.at lines.old
+        → StopsRun S.script input rest before (written_of (W.contents writer.new) player.new.out) fault) }
+    ensures none { OnOk result (lines.new.waiting ≡ []) }
+    ensures room { OnOk result (lines.new.room ≡ lines.old.room) }
+    ensures count { OnOk result (player.new.at.lines + left_of lines.new ≤ INPUT_LIMIT) }
+{
+    while lines.cut() {
+        player.play_line(writer, lines.line())?;
+    }
+    Ok(())
+}
+
+/// Plays what stands after the last end of a line, where that isn't empty.
+fn play_last<S: Stage, W: Write>(
+    player: &mut Player<S>,
+    lines: &LineReader<KEPT_LEN>,
+    writer: &mut W,
+) -> Result<(), RunFault>
+    requires room { player.old.at.lines ≤ INPUT_LIMIT }
+    requires none { lines.now.waiting ≡ [] }
+    ensures plays { OnOk result ((input rest before : Option (List ℕ))
+        → PlaysGiven S.script input rest before (written_of (W.contents writer.old) player.old.out) player.old.at lines.now → IsAtEnd rest
+        → PlaysDone S.script input rest before (written_of (W.contents writer.new) player.new.out) player.new.at) }
+    ensures stops { IfErr result (λ fault. (input rest before : Option (List ℕ))
+        → PlaysGiven S.script input rest before (written_of (W.contents writer.old) player.old.out) player.old.at lines.now → IsAtEnd rest
+        → StopsRun S.script input rest before (written_of (W.contents writer.new) player.new.out) fault) }
+{
+    let Some(line) = lines.last() else {
+        return Ok(());
+    };
+    player.play_line(writer, line)
 }

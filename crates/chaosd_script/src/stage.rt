@@ -39,7 +39,7 @@ pub trait Stage: Drop {
     ) -> Result<bool, RunFault>
         ensures played { IfOk result (λ refused. script.ready self.old → PlaysLine script line.now self.old self.new out.old out.new refused × script.ready self.new) }
         ensures bad { (n : ℕ) → result ≡ Err (RunFault.BadScript n) → (n ≡ number) × (script.event line.now ≡ None) × (out.new ≡ out.old) }
-        ensures no_memory { result ≡ Err RunFault.NoMemory → (script.event line.now ≢ None) × ((text : List ℕ) × script.wants text × (out.new ≡ out.old ++ text)) }
+        ensures no_memory { result ≡ Err RunFault.NoMemory → (script.event line.now ≢ None) × (script.ready self.old → (text : List ℕ) × script.wants line.now text × (out.new ≡ out.old ++ text)) }
         ensures faults { IfErr result (λ fault. IsLineFault fault) };
 
     /// Writes what is said at the end.

@@ -1,13 +1,17 @@
 //! The run over an input.
-ghost use Rattle.std.specs.Prelude.{◌≡◌, ◌<◌, ◌≤◌, ℕ, Err, length, take, OnOk, IfOk, IfSome};
+ghost use Rattle.std.specs.Prelude.{◌≡◌, ◌+◌, ◌<◌, ◌≤◌, [], ℕ, List, Option, Err, length, take, OnOk, IfOk, IfSome};
 ghost use Rattle.std.specs.Io.KnownBytes.{Appends, IsAtEnd};
+ghost use Rattle.chaosd_engines.specs.Buffer.{written_of};
 ghost use Rattle.chaosd_engines.specs.Lines.{lines_of, ended_lines};
+ghost use Rattle.chaosd_engines.specs.Reader.{left_of};
+ghost use Rattle.chaosd_engines.specs.Shown.{Shows, ShowsAll};
 ghost use Rattle.chaosd_engines.specs.Show.{report_of, reports_of, ReportsRead, tally_of};
 
+use crate::buffer::NotWritten;
 use crate::fault::{RunFault, written};
-use crate::input::read_chunk;
-use crate::limits::{CHUNK_LEN, INPUT_LIMIT};
-use crate::show::shower::Shower;
+use crate::limits::{INPUT_LIMIT, KEPT_LEN};
+use crate::reader::LineReader;
+use crate::show::reporter::Reporter;
 use crate::show::tally::Tally;
 use std::io::{Read, Write};
 
@@ -35,24 +39,54 @@ pub fn run_show<R: Read, W: Write>(reader: &mut R, writer: &mut W) -> Result<Tal
     ensures unread { result ≡ Err RunFault.ReadFault
         → ReportsRead (R.remaining reader.old) (R.remaining reader.new) (W.contents writer.old) (W.contents writer.new) }
 {
-    let mut shower = Shower::new();
-    let mut chunk = [0; CHUNK_LEN];
-    let mut interruptions = 0;
-    let mut room = INPUT_LIMIT;
+    let mut lines: LineReader<KEPT_LEN> = LineReader::new(INPUT_LIMIT);
+    let mut reporter = Reporter::new();
     'reads: loop {
-        written(shower.hand_on(writer))?;
-        let count = read_chunk(reader, &mut chunk, &mut interruptions)?;
-        if count == 0 {
+        written(report_ended(&mut reporter, &mut lines, writer))?;
+        written(reporter.hand_on(writer))?;
+        if !lines.refill(reader)? {
             break 'reads;
         }
-        let within = count.min(room);
-        written(shower.feed(writer, &chunk[..within]))?;
-        if within < count {
-            written(shower.hand_on(writer))?;
-            return Err(RunFault::InputTooLong);
-        }
-        room -= within;
     }
-    written(shower.finish(writer))?;
-    Ok(shower.reporter.tally)
+    written(report_last(&mut reporter, &lines, writer))?;
+    written(reporter.hand_on(writer))?;
+    Ok(reporter.tally)
+}
+
+/// Reports the lines that end in what came.
+fn report_ended<W: Write>(
+    reporter: &mut Reporter,
+    lines: &mut LineReader<KEPT_LEN>,
+    writer: &mut W,
+) -> Result<(), NotWritten>
+    requires { reporter.old.tally.reports + left_of lines.old ≤ INPUT_LIMIT }
+    ensures shown { OnOk result ((input rest before : Option (List ℕ))
+        → Shows input rest before (written_of (W.contents writer.old) reporter.old.out) reporter.old.tally lines.old
+        → Shows input rest before (written_of (W.contents writer.new) reporter.new.out) reporter.new.tally lines.new) }
+    ensures none { OnOk result (lines.new.waiting ≡ []) }
+    ensures room { OnOk result (lines.new.room ≡ lines.old.room) }
+    ensures count { OnOk result (reporter.new.tally.reports + left_of lines.new ≤ INPUT_LIMIT) }
+{
+    while lines.cut() {
+        reporter.report(writer, lines.line())?;
+    }
+    Ok(())
+}
+
+/// Reports what stands after the last end of a line, where that isn't empty.
+fn report_last<W: Write>(
+    reporter: &mut Reporter,
+    lines: &LineReader<KEPT_LEN>,
+    writer: &mut W,
+) -> Result<(), NotWritten>
+    requires room { reporter.old.tally.reports ≤ INPUT_LIMIT }
+    requires none { lines.now.waiting ≡ [] }
+    ensures shown { OnOk result ((input rest before : Option (List ℕ))
+        → Shows input rest before (written_of (W.contents writer.old) reporter.old.out) reporter.old.tally lines.now → IsAtEnd rest
+        → ShowsAll input rest before (written_of (W.contents writer.new) reporter.new.out) reporter.new.tally) }
+{
+    let Some(line) = lines.last() else {
+        return Ok(());
+    };
+    reporter.report(writer, line)
 }

@@ -117,6 +117,49 @@ fn longest_script_and_a_byte_more(rt: HostRuntime) -> Result<(), Fail> {
     Ok(())
 }
 
+/// A bad line is told though more than an input's limit stands behind it.
+#[test]
+fn first_fault_is_the_answer(rt: HostRuntime) -> Result<(), Fail> {
+    let mut script = Vec::with_capacity(rt.alloc(), 2 * INPUT_LIMIT)?;
+    script.extend_from_slice(b"ends 2 2 2 65 1\n")?;
+    for _ in 0..INPUT_LIMIT {
+        script.push(b'\n')?;
+    }
+    let mut out = Vec::new(rt.alloc());
+    let end = run_lab(rt.alloc(), &mut script.as_slice(), &mut out);
+    assert_eq!(rt; end, Err(RunFault::BadScript(1)));
+    assert_eq!(rt; out.as_slice(), b"".as_slice());
+    Ok(())
+}
+
+/// A bad line that is typed ends the run at once: the reader, which fails when it is asked again, isn't.
+#[test]
+fn bad_line_ends_the_run(rt: HostRuntime) -> Result<(), Fail> {
+    let mut reader = FuseReader {
+        rest: b"ends 2 2 2 2 1\nread c\n",
+        most: 64,
+        left: 1,
+        kind: ErrorKind::Other,
+        failures: 0,
+    };
+    let mut out = Vec::new(rt.alloc());
+    let end = run_lab(rt.alloc(), &mut reader, &mut out);
+    assert_eq!(rt; end, Err(RunFault::BadScript(2)));
+    assert_eq!(rt; reader.failures, 0);
+    assert_eq!(rt; out.as_slice(), b"copy 0 a RFC num 1 ack 0\n".as_slice());
+    Ok(())
+}
+
+/// The line in which the limit falls isn't told as bad, whatever stands in it.
+#[test]
+fn line_past_the_limit_is_not_bad(rt: HostRuntime) -> Result<(), Fail> {
+    let script = longest(rt.alloc(), b"what is this\n")?;
+    let mut out = Vec::new(rt.alloc());
+    let end = run_lab(rt.alloc(), &mut script.as_slice(), &mut out);
+    assert_eq!(rt; end, Err(RunFault::InputTooLong));
+    Ok(())
+}
+
 #[test]
 fn long_lines_are_bad(rt: HostRuntime) -> Result<(), Fail> {
     for len in [4_096, 4_097, 4_098, 40_000] {

@@ -1,20 +1,18 @@
-use Rattle.std.proofs.Common.{◌≡◌, ◌+◌, ◌≤◌, ℕ, List, [], length}
+use Rattle.std.proofs.Common.{◌+◌, ◌≤◌, ℕ, List, []}
 use Rattle.std.specs.Prelude.{Option}
-use Rattle.std.specs.Io.KnownBytes.{Consumes}
 use Rattle.chaosd_engines.specs.declared.limits.TheConstants.{INPUT_LIMIT}
 use Rattle.chaosd_engines.specs.Buffer.{written_of}
-use Rattle.chaosd_script.specs.Player.{PlaysInput}
+use Rattle.chaosd_engines.specs.Reader.{left_of}
+use Rattle.chaosd_script.specs.Player.{PlaysLines, PlaysGiven}
 use Rattle.chaosd_script.proofs.run.play_all.Given as goal
 
--- these bytes were read and played
+-- the lines that were given were played
 abbrev pub invariant-reads : goal.invariant-reads
-invariant-reads g l = (input : List ℕ)
-    × Consumes (g.R.Read.remaining l.fn.reader) (g.R.Read.remaining l.reader) input
-    × (l.room + length input ≡ INPUT_LIMIT)
-    × (l.player.lines ≤ length input)
+invariant-reads g l = (l.player.at.lines + left_of l.lines ≤ INPUT_LIMIT)
     × ((before : Option (List ℕ))
-    → PlaysInput g.S.Stage.script before (written_of (g.W.Write.contents l.fn.writer) l.fn.player.out) l.fn.player.lab l.fn.player.lines l.fn.player.refused l.fn.player.line.items []
-    → PlaysInput g.S.Stage.script before (written_of (g.W.Write.contents l.writer) l.player.out) l.player.lab l.player.lines l.player.refused l.player.line.items input)
+    → PlaysLines g.S.Stage.script before (written_of (g.W.Write.contents l.fn.writer) l.fn.player.out) l.fn.player.at []
+    → PlaysGiven g.S.Stage.script (g.R.Read.remaining l.fn.reader) (g.R.Read.remaining l.reader) before (written_of (g.W.Write.contents l.writer) l.player.out) l.player.at l.lines)
 
+-- fewer bytes may come
 abbrev pub decreases-reads : goal.decreases-reads
-decreases-reads g l = l.room
+decreases-reads g l = l.lines.room

@@ -1,5 +1,6 @@
+use Rattle.std.proofs.Common.{ap}
 use Rattle.chaosd_engines.specs.declared.fault.RunFault.TheVariants.{BadScript, InputTooLong, ReadFault, NoMemory}
-use Rattle.chaosd_script.proofs.Ends.{all_handed, stops_handed, stops_told}
+use Rattle.chaosd_script.proofs.Ends.{all_handed, within, stops_handed, stops_told}
 use Rattle.chaosd_script.proofs.run.run_script.Goals as goal
 
 pub returns-in_err-end-clause-bad : goal.returns-in_err-end-clause-bad
@@ -24,5 +25,8 @@ returns-in_err-end-clause-no_memory g c is =
 
 pub returns-clause-text : goal.returns-clause-text
 returns-clause-text g c =
-    all_handed g.S.Stage.script _ _ _ _ _ _ _ c.in_ok-hand_on.ensures.kept c.in_ok-hand_on.ensures.empty c.in_ok-hand_on.ensures.same.2
+    all_handed g.S.Stage.script _ _ _ _ _ _ _ c.in_ok-hand_on.ensures.kept c.in_ok-hand_on.ensures.empty (ap (λ a. a.refused) c.in_ok-hand_on.ensures.same)
     (c.in_ok-end.ensures.plays _ (c.new-player.ensures.plays _))
+
+pub returns-clause-within : goal.returns-clause-within
+returns-clause-within g c = within g.S.Stage.script _ _ _ _ (c.in_ok-end.ensures.plays _ (c.new-player.ensures.plays _))

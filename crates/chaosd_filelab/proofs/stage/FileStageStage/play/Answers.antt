@@ -22,4 +22,4 @@ returns-clause-bad c n is =
 pub returns-clause-no_memory : goal.returns-clause-no_memory
 returns-clause-no_memory c is =
     let (said, more) = c.play.ensures.no_memory is in
-    ((λ none. said (no_event _ none)), want_printed _ _ more)
+    ((λ none. said (no_event _ none)), λ ready. want_printed c.args.line.now _ _ more)

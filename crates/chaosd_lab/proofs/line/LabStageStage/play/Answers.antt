@@ -24,4 +24,4 @@ returns-clause-bad c n is =
 pub returns-clause-no_memory : goal.returns-clause-no_memory
 returns-clause-no_memory c is =
     let (said, same, more) = c.play.ensures.no_memory is in
-    ((λ none. said (no_event _ none)), (refusal_text NoMemory, refl, more))
+    ((λ none. said (no_event _ none)), λ ready. (refusal_text NoMemory, refl, more))
