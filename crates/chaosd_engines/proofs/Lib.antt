@@ -1,4 +1,5 @@
 pub mod Digits
+pub mod Faults
 pub mod TextBytes
 pub mod ReadBack
 pub mod Pairs

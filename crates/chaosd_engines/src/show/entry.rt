@@ -97,20 +97,30 @@ fn put_fault(out: &mut WriteBuffer, fault: LinkFault) -> Result<(), NotWritten>
         LinkFault::Short => put_line(out, "fault 1 Short"),
         LinkFault::BadMark => put_line(out, "fault 2 BadMark"),
         LinkFault::BadVersion => put_line(out, "fault 3 BadVersion"),
-        LinkFault::Packet(fault) => {
-            out.put(b"fault 4 Packet ")?;
-            put_line(out, packet_fault_text(fault))
-        }
+        LinkFault::Packet(fault) => put_packet_fault(out, fault),
         LinkFault::Trailing => put_line(out, "fault 5 Trailing"),
         LinkFault::BadNumber => put_line(out, "fault 6 BadNumber"),
         LinkFault::TooLong => put_line(out, "fault 7 TooLong"),
-        LinkFault::PacketAt(place, fault) => {
-            out.put(b"fault 8 PacketAt ")?;
-            put_decimal(out, usize::from(place))?;
-            out.put(b" ")?;
-            put_line(out, packet_fault_text(fault))
-        }
+        LinkFault::PacketAt(place, fault) => put_fault_at(out, place, fault),
     }
+}
+
+/// The report of a fault of the one packet.
+fn put_packet_fault(out: &mut WriteBuffer, fault: PacketFault) -> Result<(), NotWritten>
+    ensures { OnOk result (out.new ≡ out.old ++ line (fault_text (LinkFault.Packet fault))) }
+{
+    out.put(b"fault 4 Packet ")?;
+    put_line(out, packet_fault_text(fault))
+}
+
+/// The report of a fault of one packet of several, by its place.
+fn put_fault_at(out: &mut WriteBuffer, place: u8, fault: PacketFault) -> Result<(), NotWritten>
+    ensures { OnOk result (out.new ≡ out.old ++ line (fault_text (LinkFault.PacketAt place fault))) }
+{
+    out.put(b"fault 8 PacketAt ")?;
+    put_decimal(out, usize::from(place))?;
+    out.put(b" ")?;
+    put_line(out, packet_fault_text(fault))
 }
 
 /// How a packet's fault is reported.

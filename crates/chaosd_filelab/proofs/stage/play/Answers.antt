@@ -1,8 +1,6 @@
-use Rattle.std.proofs.Common.{rules, ◌≡◌, ◌++◌, length, drop, sym, ◌∙◌, ap, Some, Err, false, inl, inr, refl}
-use Rattle.std.specs.Prelude.{option_map, OnErr}
-use Rattle.chaos_lab.specs.declared.fault.LabFault.TheVariants.{NoMemory}
+use Rattle.std.proofs.Common.{rules, ◌≡◌, ◌++◌, length, drop, sym, ◌∙◌, ap, false, inl}
+use Rattle.std.specs.Prelude.{option_map}
 use Rattle.chaos_filelab.specs.View.{wrote_mem}
-use Rattle.chaos_filelab.specs.Exact.{IsExact}
 use Rattle.chaosd_lab.specs.Answers.{copies_text}
 use Rattle.chaosd_engines.proofs.Runs.{went_well}
 use Rattle.chaosd_filelab.specs.Command.{file_said}

@@ -1,4 +1,4 @@
-use Rattle.std.proofs.Common.{rules, subst, ap, refl, inl, inr, ◌∙◌, sym, append-nil, ⊎_elim, ◌≡◌, ◌++◌, [], List, ℕ}
+use Rattle.std.proofs.Common.{rules, subst, ap, ◌≡◌}
 use Rattle.std.specs.Prelude.{option_map}
 use Rattle.std.proofs.lemmas.Result.{IfOk-weaker}
 use Rattle.chaos_filelab.specs.View.{FileLabView}
