@@ -133,7 +133,11 @@ pub(crate) fn run_ask_line<R: AllocGlobal + Clock + Eprint + Input + Net + Print
         to,
         &mut why,
     );
-    end_script(rt, &end, &why)
+    match &why {
+        // That the host is no peer was told.
+        Some(Why::NoReply(_)) if to == NOBODY => end_script(rt, &end, &None),
+        _ => end_script(rt, &end, &why),
+    }
 }
 
 /// Runs `serve` on a folder, which is opened first, and then the socket.
