@@ -1,0 +1,13 @@
+pub mod Runs
+pub mod Steps
+pub mod Pieces
+pub mod Whole
+pub mod Numbers
+pub mod Talks
+pub mod Spelled
+pub mod Joined
+pub mod Growing
+pub mod Got
+pub mod Named
+pub mod Texts
+pub mod Memory

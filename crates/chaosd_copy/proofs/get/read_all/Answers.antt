@@ -1,0 +1,48 @@
+use Rattle.std.proofs.Common.{rules, arith, ap, sym, subst, ◌∙◌, ◌+◌, ◌-◌, ◌*◌, ◌<◌, ◌≤◌, ◌≡◌, Some, length, length-append}
+use Rattle.std.specs.Prelude.{min}
+use Rattle.std.specs.Fmt.{decimal}
+use Rattle.chaos_file.specs.declared.limits.TheConstants.{MAX_CHUNK}
+use Rattle.chaos_file.specs.Answer.{AtEnd}
+use Rattle.chaosd_copy.specs.Copy.{upto, reply_of, chunk_count}
+use Rattle.chaosd_copy.specs.Talk.{Since}
+use Rattle.chaosd_copy.specs.Row.{file_handle}
+use Rattle.chaosd_copy.specs.Ends.{read_said, read_heard}
+use Rattle.chaosd_copy.proofs.Talks.{wanted_asked}
+use Rattle.chaosd_copy.proofs.Joined.{when_copied, from_copied}
+use Rattle.chaosd_copy.proofs.Growing.{grows, ends}
+use Rattle.chaosd_copy.proofs.get.read_all.Goals as goal
+
+pub loop-i-preserved : goal.loop-i-preserved
+loop-i-preserved g c =
+    let p = when_copied _ _ c.in-Done.is c.in_ok-end.ensures in
+    let below : MAX_CHUNK * c.loop-i.i < c.args.len = omega (arith, c.chunk_count-count.ensures.value, c.loop-i-test.true) in
+    let old : length c.loop-i.bytes.items ≡ MAX_CHUNK * c.loop-i.i = c.loop-i.invariant.size ∙ omega arith in
+    let size : length p.0 ≡ min (c.args.len - MAX_CHUNK * c.loop-i.i) MAX_CHUNK = p.1 ∙ c.min.ensures in
+    record {
+      said = c.in_ok-reply.ensures.within;
+      asked = let h : c.loop-i.i < c.next_reply.new.said = wanted_asked (λ v. v.items) (c.loop-i.i < c.next_reply.new.said) c.in_ok-reply.reply _ p.3 c.in_ok-reply.ensures.asked in omega arith;
+      size = ap length p.2 ∙ length-append c.loop-i.bytes.items p.0 ∙ omega arith;
+      talk = subst (λ b. Since (g.T.Talk.talked c.args.talk.now) (g.T.Talk.talked c.next_reply.new.talk) (upto (read_said c.args.first) c.next_reply.new.said) (upto (read_heard c.args.first b) (c.loop-i.i + 1))) (sym p.2)
+          (grows _ _ (upto (read_said c.args.first) c.next_reply.new.said) c.args.first c.loop-i.i c.loop-i.bytes.items p.0 _ old (omega arith) (omega arith) p.3 (c.in_ok-reply.ensures.talk _ _ c.loop-i.invariant.talk));
+    }
+
+pub returns : goal.returns
+returns g c =
+    let n : c.loop-i.i ≡ c.chunk_count-count.result = search rules in
+    let k : c.chunk_count-count.result ≡ chunk_count c.args.len = c.chunk_count-count.ensures.value in
+    let all : min (MAX_CHUNK * c.loop-i.i) c.args.len ≡ c.args.len = omega arith in
+    let size : length c.loop-i.bytes.items ≡ c.args.len = c.loop-i.invariant.size ∙ all in
+    from_copied c.settled.result _ ((length c.loop-i.bytes.items ≡ c.args.len) × Since (g.T.Talk.talked c.args.talk.now) (g.T.Talk.talked c.next_reply-2.new.talk)
+    (upto (read_said c.args.first) (1 + chunk_count c.args.len)) (upto (read_heard c.args.first c.loop-i.bytes.items) (1 + chunk_count c.args.len)))
+    c.settled.ensures (λ e.
+    let asked : c.chunk_count-count.result < c.next_reply-2.new.said = wanted_asked (λ v. v.items) (c.chunk_count-count.result < c.next_reply-2.new.said) c.in_ok-last.last _ e c.in_ok-last.ensures.asked in
+    let within : c.next_reply-2.new.said ≤ 1 + c.chunk_count-count.result = c.in_ok-last.ensures.within in
+    let said : c.next_reply-2.new.said ≡ 1 + chunk_count c.args.len = omega arith in
+    let heard : c.loop-i.i + 1 ≡ 1 + chunk_count c.args.len = omega arith in (
+      size,
+      subst (λ m. Since (g.T.Talk.talked c.args.talk.now) (g.T.Talk.talked c.next_reply-2.new.talk) (upto (read_said c.args.first) m) (upto (read_heard c.args.first c.loop-i.bytes.items) (1 + chunk_count c.args.len))) said
+          (subst (λ m. Since (g.T.Talk.talked c.args.talk.now) (g.T.Talk.talked c.next_reply-2.new.talk) (upto (read_said c.args.first) c.next_reply-2.new.said) (upto (read_heard c.args.first c.loop-i.bytes.items) m)) heard
+          (ends _ _ (upto (read_said c.args.first) c.next_reply-2.new.said) c.args.first c.loop-i.bytes.items c.loop-i.i _ (omega arith)
+          (e ∙ ap Some (c.spelled-wanted.ensures ∙ ap (λ m. reply_of (decimal (c.args.first + m)) file_handle AtEnd) (sym n)))
+          (c.in_ok-last.ensures.talk _ _ c.loop-i.invariant.talk))),
+    ))

@@ -1,0 +1,16 @@
+use Rattle.std.proofs.Common.{◌≤◌, ◌≡◌, ◌*◌, length}
+use Rattle.std.specs.Prelude.{min}
+use Rattle.chaos_file.specs.declared.limits.TheConstants.{MAX_CHUNK}
+use Rattle.chaosd_copy.specs.Copy.{upto}
+use Rattle.chaosd_copy.specs.Talk.{Since}
+use Rattle.chaosd_copy.specs.Row.{row_command}
+use Rattle.chaosd_copy.specs.Ends.{read_heard}
+use Rattle.chaosd_copy.proofs.get.read_all.Given as goal
+
+abbrev pub invariant-loop-i : goal.invariant-loop-i
+invariant-loop-i g l = record {
+  said : l.said ≤ l.row.count;
+  asked : l.i ≤ l.said;
+  size : length l.bytes.items ≡ min (MAX_CHUNK * l.i) l.len;
+  talk : Since (g.T.Talk.talked l.fn.talk) (g.T.Talk.talked l.talk) (upto (row_command l.row) l.said) (upto (read_heard l.first l.bytes.items) l.i);
+}

@@ -1,0 +1,17 @@
+use Rattle.std.proofs.Common.{arith, ap, ◌∙◌, ◌+◌, ◌<◌}
+use Rattle.std.specs.Fmt.{decimal}
+use Rattle.chaos_file.specs.Answer.{Wrote}
+use Rattle.chaosd_copy.specs.Copy.{reply_of}
+use Rattle.chaosd_copy.specs.Row.{file_handle}
+use Rattle.chaosd_copy.specs.Ends.{write_heard}
+use Rattle.chaosd_copy.proofs.Talks.{heard_at, wanted_asked}
+use Rattle.chaosd_copy.proofs.put.write_all.Goals as goal
+
+pub loop-i-preserved : goal.loop-i-preserved
+loop-i-preserved g c = record {
+  said = c.in_ok-reply.ensures.within;
+  asked = let h : c.loop-i.i < c.next_reply.new.said = wanted_asked (λ v. v.items) (c.loop-i.i < c.next_reply.new.said) c.in_ok-reply.reply _ c.in-Done.ensures c.in_ok-reply.ensures.asked in omega arith;
+  talk = heard_at _ _ _ (write_heard c.args.first c.args.bytes.now) c.loop-i.i _ _ c.in-Done.ensures
+      (c.counted-wanted.ensures ∙ ap (λ n. reply_of (decimal (c.args.first + c.loop-i.i)) file_handle (Wrote n)) c.min.ensures)
+      (c.in_ok-reply.ensures.talk _ _ c.loop-i.invariant.talk);
+}

@@ -1,0 +1,6 @@
+pub mod Copy
+pub mod Talk
+pub mod Row
+pub mod Ends
+pub mod Text
+pub mod Memory

@@ -1,0 +1,17 @@
+//! How the copy of a file ended.
+use chaos_file::Reply;
+
+/// How the copy of a file ended.
+#[derive(Drop)]
+pub enum CopyEnd {
+    /// The whole file was copied.
+    Done,
+    /// The server refused a command: its whole reply.
+    Refused(Reply),
+    /// A reply came that answers no such command.
+    Strange(Reply),
+    /// No reply came within 1,000 turns and 10 seconds, or the connection ended before one.
+    NoReply,
+    /// Likewise, but after the whole file was written: no reply to the CLOSE of a put came, and whether the file was put isn't known.
+    Unknown,
+}

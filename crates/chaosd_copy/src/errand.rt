@@ -1,0 +1,73 @@
+//! What is asked of a server in a row.
+ghost use Rattle.std.specs.Prelude.{◌≡◌, ◌≤◌, ◌<◌, ◌+◌, ◌*◌, length, take, drop};
+ghost use Rattle.chaos_file.specs.declared.limits.TheConstants.{MAX_REPLY, MAX_CHUNK};
+ghost use Rattle.chaosd_copy.specs.Copy.{chunk};
+ghost use Rattle.chaosd_copy.specs.Row.{ErrandFits, errand_command};
+
+use crate::limits::HANDLE;
+use crate::words::spelled;
+use chaos_file::{MAX_CHUNK, Reply};
+
+/// A command that is said once, or again and again.
+#[derive(Clone, Copy)]
+pub enum Errand<'a> {
+    Login(&'a [u8]),
+    OpenRead(&'a [u8]),
+    OpenWrite(&'a [u8]),
+    Read,
+    /// The pieces of a file, one after another.
+    Write(&'a [u8]),
+    Close,
+}
+
+/// At most so many bytes of the front.
+fn at_most(bytes: &[u8], most: usize) -> &[u8]
+    ensures value { result.now ≡ take most bytes.now }
+    ensures short { length result.now ≤ most }
+{
+    if bytes.len() <= most {
+        bytes
+    } else {
+        &bytes[..most]
+    }
+}
+
+/// What stands behind so many bytes.
+fn behind(bytes: &[u8], from: usize) -> &[u8]
+    ensures { result.now ≡ drop from bytes.now }
+{
+    if from >= bytes.len() {
+        &[]
+    } else {
+        &bytes[from..]
+    }
+}
+
+/// A piece of a file.
+fn piece(bytes: &[u8], i: usize) -> &[u8]
+    requires { i ≤ 1000000 }
+    ensures value { result.now ≡ chunk bytes.now i }
+    ensures short { length result.now ≤ MAX_CHUNK }
+{
+    at_most(behind(bytes, MAX_CHUNK * i), MAX_CHUNK)
+}
+
+impl Errand<'_> {
+    /// The command that is said at a place of the row, which is named by this number.
+    #[tactic(auto, using(crate::proofs::Spelled::front_spelled))]
+    pub fn command(&self, i: usize, tid: u32) -> Reply
+        requires place { i ≤ 1000000 }
+        requires tid { tid < 100000000 }
+        requires fits { ErrandFits self.now }
+        ensures { result.items ≡ errand_command self.now i tid }
+    {
+        match self {
+            Errand::Login(name) => spelled(tid, b"", b"LOGIN ", name),
+            Errand::OpenRead(path) => spelled(tid, HANDLE, b"OPEN READ\x8d", path),
+            Errand::OpenWrite(path) => spelled(tid, HANDLE, b"OPEN WRITE\x8d", path),
+            Errand::Read => spelled(tid, HANDLE, b"READ", b""),
+            Errand::Write(bytes) => spelled(tid, HANDLE, b"WRITE\x8d", piece(bytes, i)),
+            Errand::Close => spelled(tid, HANDLE, b"CLOSE", b""),
+        }
+    }
+}

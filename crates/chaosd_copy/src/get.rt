@@ -1,0 +1,157 @@
+//! Getting a file.
+ghost use Rattle.std.specs.Prelude.{◌≡◌, ◌≤◌, ◌<◌, ◌+◌, ◌++◌, [], ℕ, List, Some, option_map, length, IfSome};
+ghost use Rattle.std.specs.Fmt.{decimal};
+ghost use Rattle.chaos_file.specs.declared.limits.TheConstants.{MAX_FILE, MAX_PATH, MAX_CHUNK};
+ghost use Rattle.chaos_file.specs.Answer.{Given};
+ghost use Rattle.chaosd_copy.specs.declared.limits.TheConstants.{MAX_FIRST};
+ghost use Rattle.chaosd_copy.specs.Copy.{upto, chunk_count, reply_of, get_commands, get_replies};
+ghost use Rattle.chaosd_copy.specs.Row.{file_handle};
+ghost use Rattle.chaosd_copy.specs.Talk.{Since};
+ghost use Rattle.chaosd_copy.specs.Ends.{IfDone, tids_from, read_said, read_heard};
+
+use crate::end::CopyEnd;
+use crate::errand::Errand;
+use crate::limits::HANDLE;
+use crate::put::chunk_count;
+use crate::talk::Talk;
+use crate::window::{Row, ask_one, next_reply, refusal, settled};
+use crate::words::{counted, spelled};
+use chaos_file::{MAX_CHUNK, MAX_FILE, Reply};
+use chaosd_engines::RunFault;
+
+/// A decimal number of a file's length.
+fn number_of(digits: &[u8]) -> Option<usize>
+    ensures { IfSome result (λ n. n ≤ MAX_FILE) }
+{
+    let mut n: usize = 0;
+    if digits.is_empty() || digits.len() > 7 {
+        return None;
+    }
+    for digit in digits {
+        if !digit.is_ascii_digit() || n > MAX_FILE {
+            return None;
+        }
+        n = 10 * n + (*digit - b'0') as usize;
+    }
+    if n <= MAX_FILE { Some(n) } else { None }
+}
+
+/// The length that OPEN may have been answered by.
+fn opened_length(reply: &Option<Reply>, tid: u32) -> Option<usize>
+    requires { tid < 100000000 }
+    ensures { IfSome result (λ n. n ≤ MAX_FILE) }
+{
+    match reply {
+        Some(reply) => {
+            let front = spelled(tid, HANDLE, b"OPEN ", b"");
+            let digits = reply.as_slice().strip_prefix(front.as_slice())?;
+            number_of(digits)
+        }
+        None => None,
+    }
+}
+
+/// What stands behind a front, where it has so many bytes.
+fn behind_front<'a>(reply: &'a Reply, front: &Reply, len: usize) -> Option<&'a [u8]>
+    ensures { IfSome result (λ more. (length more.now ≡ len) × (reply.now.items ≡ front.now.items ++ more.now)) }
+{
+    match reply.as_slice().strip_prefix(front.as_slice()) {
+        Some(more) if more.len() == len => Some(more),
+        _ => None,
+    }
+}
+
+/// Adds the bytes of the reply to a READ, which are so many.
+fn take_piece(
+    reply: Option<Reply>,
+    tid: u32,
+    len: usize,
+    bytes: &mut Vec<u8>,
+) -> Result<CopyEnd, RunFault>
+    requires { tid < 100000000 }
+    ensures { IfDone result ((more : List ℕ) × (length more ≡ len) × (bytes.new.items ≡ bytes.old.items ++ more)
+        × (option_map (λ v. v.items) reply ≡ Some (reply_of (decimal tid) file_handle (Given more)))) }
+{
+    let Some(reply) = reply else {
+        return Ok(CopyEnd::NoReply);
+    };
+    let front = spelled(tid, HANDLE, b"READ\x8d", b"");
+    let Some(more) = behind_front(&reply, &front, len) else {
+        return Ok(refusal(Some(reply), tid, HANDLE));
+    };
+    match bytes.extend_from_slice(more) {
+        Ok(()) => Ok(CopyEnd::Done),
+        Err(_) => Err(RunFault::NoMemory),
+    }
+}
+
+/// Reads a file of this length by an open handle.
+fn read_all<T: Talk>(
+    talk: &mut T,
+    first: u32,
+    len: usize,
+    bytes: &mut Vec<u8>,
+) -> Result<CopyEnd, RunFault>
+    requires first { first ≤ MAX_FIRST + 1 }
+    requires fits { len ≤ MAX_FILE }
+    requires empty { bytes.old.items ≡ [] }
+    ensures { IfDone result ((length bytes.new.items ≡ len) × Since (T.talked talk.old) (T.talked talk.new)
+        (upto (read_said first) (1 + chunk_count len)) (upto (read_heard first bytes.new.items) (1 + chunk_count len))) }
+{
+    let count = chunk_count(len);
+    let row = Row {
+        first,
+        count: 1 + count,
+        errand: Errand::Read,
+    };
+    let mut said = 0;
+    for i in 0..count {
+        let reply = next_reply(talk, &row, &mut said, i)?;
+        match take_piece(
+            reply,
+            first + i as u32,
+            (len - MAX_CHUNK * i).min(MAX_CHUNK),
+            bytes,
+        )? {
+            CopyEnd::Done => {}
+            end => return Ok(end),
+        }
+    }
+    let last = next_reply(talk, &row, &mut said, count)?;
+    let tid = first + count as u32;
+    let wanted = spelled(tid, HANDLE, b"EOF", b"");
+    Ok(settled(last, &wanted, tid, HANDLE))
+}
+
+/// Gets a file. Where the answer is `Done`, the commands that were said are OPEN, READs up to the one answered EOF, and CLOSE, and
+/// the bytes are those of the replies, joined, as many as OPEN and CLOSE told.
+pub fn get_file<T: Talk>(
+    talk: &mut T,
+    first: u32,
+    path: &[u8],
+    bytes: &mut Vec<u8>,
+) -> Result<CopyEnd, RunFault>
+    requires first { first ≤ MAX_FIRST }
+    requires path { length path.now ≤ MAX_PATH }
+    requires empty { bytes.old.items ≡ [] }
+    ensures { IfDone result (Since (T.talked talk.old) (T.talked talk.new)
+        (get_commands (tids_from first) file_handle path.now (length bytes.new.items)) (get_replies (tids_from first) file_handle bytes.new.items)) }
+{
+    let opened = ask_one(talk, Errand::OpenRead(path), first)?;
+    let Some(len) = opened_length(&opened, first) else {
+        return Ok(refusal(opened, first, HANDLE));
+    };
+    let wanted = counted(first, HANDLE, b"OPEN ", len);
+    match settled(opened, &wanted, first, HANDLE) {
+        CopyEnd::Done => {}
+        end => return Ok(end),
+    }
+    match read_all(talk, first + 1, len, bytes)? {
+        CopyEnd::Done => {}
+        end => return Ok(end),
+    }
+    let last = first + 2 + chunk_count(len) as u32;
+    let closed = ask_one(talk, Errand::Close, last)?;
+    let all = counted(last, HANDLE, b"CLOSE ", len);
+    Ok(settled(closed, &all, last, HANDLE))
+}

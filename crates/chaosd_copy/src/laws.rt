@@ -1,0 +1,62 @@
+//! Laws of whole files, over the definition of FILE alone.
+ghost use Rattle.std.specs.Prelude.{◌≡◌, ◌≤◌, ◌+◌, ◌∷◌, [], ℕ, true, List, Some, length};
+ghost use Rattle.std.specs.List.{flat_map};
+ghost use Rattle.std.specs.FinMap as map;
+ghost use Rattle.chaos_file.specs.Command.{OpenWrite, Write};
+ghost use Rattle.chaos_file.specs.declared.limits.TheConstants.{MAX_FILE, MAX_NAME};
+ghost use Rattle.chaos_file.specs.Names.{is_name, is_path};
+ghost use Rattle.chaos_file.specs.Session.{new_session};
+ghost use Rattle.chaos_file.specs.Replies.{files_after, replies_from};
+ghost use Rattle.chaos_file.specs.Spelling.{spelling_of};
+ghost use Rattle.chaos_file.specs.Store.{Files};
+ghost use Rattle.chaosd_copy.specs.declared.limits.TheConstants.{MAX_FIRST};
+ghost use Rattle.chaosd_copy.specs.Row.{file_handle};
+ghost use Rattle.chaosd_copy.specs.Ends.{tids_from, login_command, login_reply};
+ghost use Rattle.chaosd_copy.specs.Copy.{Tids, CanCopy, Does, upto, chunk, chunk_count, logged_in, put_commands, put_replies, get_commands, get_replies};
+
+/// A new session's LOGIN gives the user's name, and changes no file.
+pub fn law_login()
+    ensures { (m : Files) (name : List ℕ) → is_name 1 MAX_NAME name ≡ true →
+        Does m new_session (login_command name ∷ []) m (logged_in name) (login_reply name ∷ []) }
+{}
+
+/// The commands that put a file leave exactly that file at its path, whatever was there, and no handle open. Every other file stays.
+pub fn law_put()
+    ensures { (m : Files) (tid : Tids) (name handle path bytes : List ℕ) → CanCopy tid (2 + chunk_count (length bytes)) handle path bytes →
+        Does m (logged_in name) (put_commands tid handle path bytes) (map.insert m path bytes) (logged_in name) (put_replies tid handle bytes) }
+{}
+
+/// The commands that get a file are answered by its length, its bytes in pieces, EOF, and its length again, and change nothing.
+pub fn law_get()
+    ensures { (m : Files) (tid : Tids) (name handle path bytes : List ℕ) → CanCopy tid (3 + chunk_count (length bytes)) handle path bytes →
+        map.get m path ≡ Some bytes →
+        Does m (logged_in name) (get_commands tid handle path (length bytes)) m (logged_in name) (get_replies tid handle bytes) }
+{}
+
+/// The pieces of a file, joined, are the file.
+#[tactic(auto, using(crate::proofs::Whole::pieces_joined))]
+pub fn law_pieces()
+    ensures { (bytes : List ℕ) → flat_map (λ p. p) (upto (chunk bytes) (chunk_count (length bytes))) ≡ bytes }
+{}
+
+/// Before its CLOSE a put changes no file: one that is broken off, wherever, leaves what was there.
+pub fn law_put_broken()
+    ensures { (m : Files) (tid : Tids) (name handle path bytes : List ℕ) (k : ℕ) → CanCopy tid (2 + chunk_count (length bytes)) handle path bytes →
+        k ≤ chunk_count (length bytes) →
+        files_after m (logged_in name) (spelling_of (tid 0) handle (OpenWrite path)
+        ∷ upto (λ i. spelling_of (tid (1 + i)) handle (Write (chunk bytes i))) k) ≡ m }
+{}
+
+/// Where the commands that get a file were answered as a file of these bytes is, the server's file at the path has these bytes: the
+/// replies alone show it.
+pub fn law_got()
+    ensures { (m : Files) (tid : Tids) (name handle path bytes : List ℕ) → CanCopy tid (3 + chunk_count (length bytes)) handle path bytes →
+        replies_from m (logged_in name) (get_commands tid handle path (length bytes)) ≡ get_replies tid handle bytes →
+        map.get m path ≡ Some bytes }
+{}
+
+/// The engines' own names are such as the laws ask for: commands that are numbered from a `first` of at most `MAX_FIRST` on.
+pub fn law_tids()
+    ensures { (first : ℕ) (path bytes : List ℕ) → first ≤ MAX_FIRST → is_path path ≡ true → length bytes ≤ MAX_FILE →
+        CanCopy (tids_from first) (3 + chunk_count (length bytes)) file_handle path bytes }
+{}

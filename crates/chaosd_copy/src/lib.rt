@@ -1,0 +1,26 @@
+//! Whole files over FILE: the commands by which one is put and got, and the end that says them, many at a time.
+#![tactic(auto)]
+
+mod end;
+mod errand;
+mod get;
+mod laws;
+mod limits;
+mod local;
+mod mem_talk;
+mod put;
+mod talk;
+mod text;
+mod window;
+mod words;
+
+pub use end::CopyEnd;
+pub use get::get_file;
+pub use laws::{law_get, law_got, law_login, law_pieces, law_put, law_put_broken, law_tids};
+pub use limits::MAX_FIRST;
+pub use local::{last_name, read_whole, write_whole};
+pub use mem_talk::MemTalk;
+pub use put::put_file;
+pub use talk::Talk;
+pub use text::{Charset, law_text};
+pub use window::log_in;

@@ -1,0 +1,129 @@
+//! A talk with a FILE server in memory.
+ghost use Rattle.std.specs.Prelude.{◌≡◌, ◌≤◌, length, take, map, option_map, Some, Err};
+ghost use Rattle.std.specs.FinMap as fin;
+ghost use Rattle.chaos_file.specs.declared.error.FileError.TheVariants.{NoMemory};
+ghost use Rattle.chaos_file.specs.declared.limits.TheConstants.{MAX_REPLY};
+ghost use Rattle.chaos_file.specs.Answer.{reply_to};
+ghost use Rattle.chaos_file.specs.Grammar.{parse_of};
+ghost use Rattle.chaos_file.specs.Session.{new_session};
+ghost use Rattle.chaos_file.specs.Step.{file_step};
+ghost use Rattle.chaosd_copy.specs.Copy.{Does};
+ghost use Rattle.chaosd_copy.specs.Memory.{StepsOrStays};
+ghost use Rattle.chaosd_copy.specs.Talk.{Talked};
+
+use crate::talk::Talk;
+use crate::words::put;
+use chaos_file::{MemStore, Reply, Session, parse_command};
+use chaosd_engines::RunFault;
+use std::alloc::Global;
+
+/// A talk with a FILE server in memory, which begins without files and answers each command at once, as FILE's definition says. It
+/// keeps all that was said and answered, so that a test can look at it.
+#[derive(Drop)]
+pub struct MemTalk {
+    alloc: Global,
+    store: MemStore,
+    session: Session,
+    said: Vec<Reply>,
+    replies: Vec<Reply>,
+    /// So many of the replies were heard.
+    heard: usize,
+    turns: u64,
+    ghost within: { heard ≤ length replies.items },
+    ghost honest: { Does fin.empty new_session (map (λ v. v.items) said.items) store session (map (λ v. v.items) replies.items) },
+}
+
+/// The reply for want of memory to a command.
+fn want_of(command: &[u8]) -> Reply
+    ensures { result.items ≡ reply_to (parse_of command.now) (Err NoMemory) }
+{
+    let parsed = parse_command(command);
+    let mut reply = Reply::new();
+    put(&mut reply, parsed.tid());
+    put(&mut reply, b" ");
+    put(&mut reply, parsed.handle());
+    put(&mut reply, b" ");
+    put(&mut reply, b"ERROR MEM No memory.");
+    reply
+}
+
+/// Carries out a command. None where there was no memory for it: then nothing changed.
+fn applied(
+    alloc: Global,
+    store: &mut MemStore,
+    session: &mut Session,
+    command: &[u8],
+) -> Option<Reply>
+    ensures { StepsOrStays (file_step store.old session.old command.now) store.old session.old store.new session.new (option_map (λ v. v.items) result) }
+{
+    let reply = session.apply(alloc, store, command);
+    if reply.as_slice() == want_of(command).as_slice() {
+        None
+    } else {
+        Some(reply)
+    }
+}
+
+/// A copy of a command.
+fn kept(command: &[u8]) -> Reply
+    requires { length command.now ≤ MAX_REPLY }
+    ensures { result.items ≡ command.now }
+{
+    let mut copy = Reply::new();
+    put(&mut copy, command);
+    copy
+}
+
+impl MemTalk {
+    /// A server without files, and nothing said yet. It takes no memory.
+    pub fn new(alloc: Global) -> Self {
+        MemTalk {
+            alloc,
+            store: MemStore::new(alloc),
+            session: Session::new(),
+            said: Vec::new(alloc),
+            replies: Vec::new(alloc),
+            heard: 0,
+            turns: 0,
+        }
+    }
+}
+
+impl Talk for MemTalk {
+    ghost talked = { λ t. Some (record { said = map (λ v. v.items) t.said.items; heard = take t.heard (map (λ v. v.items) t.replies.items) }) };
+
+    fn say(&mut self, command: &[u8]) -> bool {
+        if self.said.reserve(1).is_err() || self.replies.reserve(1).is_err() {
+            return false;
+        }
+        let Some(reply) = applied(self.alloc, &mut self.store, &mut self.session, command) else {
+            return false;
+        };
+        self.said.push_reserved(kept(command));
+        self.replies.push_reserved(reply);
+        true
+    }
+
+    fn hear(&mut self) -> Option<Reply> {
+        if self.heard >= self.replies.len() {
+            return None;
+        }
+        let reply = kept(self.replies[self.heard].as_slice());
+        self.heard += 1;
+        Some(reply)
+    }
+
+    fn turn(&mut self) -> Result<(), RunFault> {
+        self.turns = self.turns.saturating_add(1);
+        Ok(())
+    }
+
+    /// A turn counts ten milliseconds.
+    fn moment(&self) -> u64 {
+        self.turns.saturating_mul(10)
+    }
+
+    fn is_over(&self) -> bool {
+        false
+    }
+}

@@ -1,0 +1,94 @@
+//! Putting a file.
+ghost use Rattle.std.specs.Prelude.{◌≡◌, ◌≤◌, ◌<◌, ◌+◌, length};
+ghost use Rattle.chaos_file.specs.declared.limits.TheConstants.{MAX_FILE, MAX_PATH};
+ghost use Rattle.chaosd_copy.specs.declared.limits.TheConstants.{MAX_FIRST};
+ghost use Rattle.chaosd_copy.specs.Copy.{upto, chunk_count, put_commands, put_replies};
+ghost use Rattle.chaosd_copy.specs.Row.{file_handle};
+ghost use Rattle.chaosd_copy.specs.Talk.{Since};
+ghost use Rattle.chaosd_copy.specs.Ends.{IfDone, tids_from, write_said, write_heard};
+
+use crate::end::CopyEnd;
+use crate::errand::Errand;
+use crate::limits::HANDLE;
+use crate::talk::Talk;
+use crate::window::{Row, ask_one, next_reply, settled};
+use crate::words::counted;
+use chaos_file::MAX_CHUNK;
+use chaosd_engines::RunFault;
+
+/// How many pieces a file of so many bytes has.
+pub fn chunk_count(length: usize) -> usize
+    requires { length ≤ MAX_FILE }
+    ensures value { result ≡ chunk_count length }
+    ensures few { result ≤ 2341 }
+{
+    (length + (MAX_CHUNK - 1)) / MAX_CHUNK
+}
+
+/// Writes the file's bytes by an open handle.
+fn write_all<T: Talk>(talk: &mut T, first: u32, bytes: &[u8]) -> Result<CopyEnd, RunFault>
+    requires first { first ≤ MAX_FIRST + 1 }
+    requires fits { length bytes.now ≤ MAX_FILE }
+    ensures { IfDone result (Since (T.talked talk.old) (T.talked talk.new)
+        (upto (write_said first bytes.now) (chunk_count (length bytes.now))) (upto (write_heard first bytes.now) (chunk_count (length bytes.now)))) }
+{
+    let count = chunk_count(bytes.len());
+    let row = Row {
+        first,
+        count,
+        errand: Errand::Write(bytes),
+    };
+    let mut said = 0;
+    for i in 0..count {
+        let reply = next_reply(talk, &row, &mut said, i)?;
+        let tid = first + i as u32;
+        let wanted = counted(
+            tid,
+            HANDLE,
+            b"WRITE ",
+            (MAX_CHUNK * (1 + i)).min(bytes.len()),
+        );
+        match settled(reply, &wanted, tid, HANDLE) {
+            CopyEnd::Done => {}
+            end => return Ok(end),
+        }
+    }
+    Ok(CopyEnd::Done)
+}
+
+/// Puts a file. Where the answer is `Done`, the commands that were said are OPEN, the file in WRITEs and CLOSE, and the server
+/// answered that it has the whole file. Where no reply to the CLOSE came it is `Unknown` whether the file was put; CLOSE is said only after each
+/// WRITE was answered by its count.
+///
+/// # Errors
+/// Those of the talk's turns.
+pub fn put_file<T: Talk>(
+    talk: &mut T,
+    first: u32,
+    path: &[u8],
+    bytes: &[u8],
+) -> Result<CopyEnd, RunFault>
+    requires first { first ≤ MAX_FIRST }
+    requires path { length path.now ≤ MAX_PATH }
+    requires fits { length bytes.now ≤ MAX_FILE }
+    ensures { IfDone result (Since (T.talked talk.old) (T.talked talk.new)
+        (put_commands (tids_from first) file_handle path.now bytes.now) (put_replies (tids_from first) file_handle bytes.now)) }
+{
+    let opened = ask_one(talk, Errand::OpenWrite(path), first)?;
+    let wanted = counted(first, HANDLE, b"OPEN ", 0);
+    match settled(opened, &wanted, first, HANDLE) {
+        CopyEnd::Done => {}
+        end => return Ok(end),
+    }
+    match write_all(talk, first + 1, bytes)? {
+        CopyEnd::Done => {}
+        end => return Ok(end),
+    }
+    let last = first + 1 + chunk_count(bytes.len()) as u32;
+    let closed = ask_one(talk, Errand::Close, last)?;
+    if closed.is_none() {
+        return Ok(CopyEnd::Unknown);
+    }
+    let all = counted(last, HANDLE, b"CLOSE ", bytes.len());
+    Ok(settled(closed, &all, last, HANDLE))
+}

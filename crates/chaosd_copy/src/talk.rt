@@ -1,0 +1,35 @@
+//! A talk with a FILE server.
+ghost use Rattle.std.specs.Prelude.{◌≡◌, ◌≤◌, Option, option_map, length, IfSome};
+ghost use Rattle.chaosd_copy.specs.Talk.{Talked, after_say, after_hear};
+ghost use Rattle.chaos_file.specs.declared.limits.TheConstants.{MAX_REPLY};
+
+use chaos_file::Reply;
+use chaosd_engines::RunFault;
+
+/// A talk with a FILE server: commands go out, and replies come back in the same order.
+pub trait Talk {
+    /// The commands that were said and the replies that were heard so far, each in order, where the talk can tell them.
+    ghost talked: { Self → Option Talked };
+
+    /// Says a command where there is room for it on its way, and says whether it did.
+    fn say(&mut self, command: &[u8]) -> bool
+        requires { length command.now ≤ MAX_REPLY }
+        ensures { talked self.new ≡ after_say result command.now (talked self.old) };
+
+    /// The next reply, where it is there.
+    fn hear(&mut self) -> Option<Reply>
+        ensures { talked self.new ≡ after_hear (option_map (λ v. v.items) result) (talked self.old) };
+
+    /// Goes on: what was said is sent, and one that comes is taken, for which it may wait a moment.
+    ///
+    /// # Errors
+    /// `LinkFault` and `ClockFault`.
+    fn turn(&mut self) -> Result<(), RunFault>
+        ensures { talked self.new ≡ talked self.old };
+
+    /// The moment of the last turn, in milliseconds since some beginning.
+    fn moment(&self) -> u64;
+
+    /// Whether no more replies come than are there.
+    fn is_over(&self) -> bool;
+}

@@ -1,0 +1,152 @@
+//! Commands that are said before the replies to those before them came.
+ghost use Rattle.std.specs.Prelude.{◌≡◌, ◌≤◌, ◌<◌, ◌+◌, ◌++◌, ◌∷◌, [], ℕ, true, List, Option, Some, option_map, length, IfOk, IfSome};
+ghost use Rattle.chaosd_copy.specs.Copy.{upto};
+ghost use Rattle.chaosd_copy.specs.Talk.{Talked, Since, after_hear};
+ghost use Rattle.chaosd_copy.specs.Row.{ErrandFits, errand_command, row_command, heard_in};
+ghost use Rattle.chaosd_copy.specs.declared.limits.TheConstants.{MAX_FIRST};
+ghost use Rattle.chaos_file.specs.declared.limits.TheConstants.{MAX_NAME};
+ghost use Rattle.chaosd_copy.specs.Ends.{IsRefusal, IfCopied, IfDone, login_command, login_reply};
+
+use crate::end::CopyEnd;
+use crate::errand::Errand;
+use crate::limits::{REPLY_MILLIS, REPLY_TURNS};
+use crate::talk::Talk;
+use crate::words::spelled;
+use chaos_file::Reply;
+use chaosd_engines::RunFault;
+
+/// A row of commands, named by numbers from `first` on.
+#[derive(Clone, Copy)]
+pub struct Row<'a> {
+    pub first: u32,
+    pub count: usize,
+    pub errand: Errand<'a>,
+}
+
+/// Says as many more of the commands as there is room for, and answers how many were said in all.
+fn say_on<T: Talk>(talk: &mut T, row: &Row<'_>, said: usize) -> usize
+    requires said { said ≤ row.now.count }
+    requires first { row.now.first ≤ MAX_FIRST + 9000 }
+    requires count { row.now.count ≤ 9000 }
+    requires fits { ErrandFits row.now.errand }
+    ensures within { result ≤ row.now.count }
+    ensures talk { (start : Option Talked) (replies : List (List ℕ)) → Since start (T.talked talk.old) (upto (row_command row.now) said) replies
+        → Since start (T.talked talk.new) (upto (row_command row.now) result) replies }
+{
+    for i in said..row.count {
+        let command = row.errand.command(i, row.first + i as u32);
+        if !talk.say(command.as_slice()) {
+            return i;
+        }
+    }
+    row.count
+}
+
+/// The next reply, where its command was said and it is there.
+fn hear_asked<T: Talk>(talk: &mut T, is_asked: bool) -> Option<Reply>
+    ensures asked { IfSome result (λ _. is_asked ≡ true) }
+    ensures talk { T.talked talk.new ≡ after_hear (option_map (λ v. v.items) result) (T.talked talk.old) }
+{
+    if is_asked { talk.hear() } else { None }
+}
+
+/// Whether a reply has been waited for long enough: by turns and by the clock, since a turn that gets a stranger's datagram doesn't wait.
+fn is_late<T: Talk>(talk: &T, turns: u32, since: u64) -> bool {
+    turns >= REPLY_TURNS && talk.moment().saturating_sub(since) >= REPLY_MILLIS
+}
+
+/// The next reply, which is that to the command at this place, waited for at least 1,000 turns and 10 seconds.
+///
+/// Commands are said as soon as there is room for them, but after the replies that are there were heard: so each tells the server that
+/// they were read, and the server never waits for room with all its replies read.
+pub fn next_reply<T: Talk>(
+    talk: &mut T,
+    row: &Row<'_>,
+    said: &mut usize,
+    place: usize,
+) -> Result<Option<Reply>, RunFault>
+    requires said { said.old ≤ row.now.count }
+    requires first { row.now.first ≤ MAX_FIRST + 9000 }
+    requires count { row.now.count ≤ 9000 }
+    requires fits { ErrandFits row.now.errand }
+    ensures within { said.new ≤ row.now.count }
+    // A reply is heard only where its command was said.
+    ensures asked { IfOk result (λ r. IfSome r (λ _. place < said.new)) }
+    ensures talk { (start : Option Talked) (replies : List (List ℕ)) → Since start (T.talked talk.old) (upto (row_command row.now) said.old) replies
+        → IfOk result (λ r. Since start (T.talked talk.new) (upto (row_command row.now) said.new) (replies ++ heard_in (option_map (λ v. v.items) r))) }
+{
+    let since = talk.moment();
+    for turns in 0..u32::MAX {
+        if let Some(reply) = hear_asked(talk, place < *said) {
+            return Ok(Some(reply));
+        }
+        if talk.is_over() || is_late(talk, turns, since) {
+            return Ok(None);
+        }
+        *said = say_on(talk, row, *said);
+        talk.turn()?;
+    }
+    Ok(None)
+}
+
+/// The reply to one command.
+pub fn ask_one<T: Talk>(
+    talk: &mut T,
+    errand: Errand<'_>,
+    tid: u32,
+) -> Result<Option<Reply>, RunFault>
+    requires tid { tid ≤ MAX_FIRST + 9000 }
+    requires fits { ErrandFits errand }
+    ensures { IfOk result (λ r. IfSome r (λ reply. Since (T.talked talk.old) (T.talked talk.new)
+        (errand_command errand.entry 0 tid ∷ []) (reply.items ∷ []))) }
+{
+    let row = Row {
+        first: tid,
+        count: 1,
+        errand,
+    };
+    let mut said = 0;
+    next_reply(talk, &row, &mut said, 0)
+}
+
+/// Why a reply isn't the one that was hoped for.
+pub fn refusal(reply: Option<Reply>, tid: u32, handle: &[u8]) -> CopyEnd
+    requires tid { tid < 100000000 }
+    requires handle { length handle.now ≤ 8 }
+    ensures { IsRefusal result }
+{
+    let Some(reply) = reply else {
+        return CopyEnd::NoReply;
+    };
+    let error = spelled(tid, handle, b"ERROR ", b"");
+    if reply.as_slice().starts_with(error.as_slice()) {
+        CopyEnd::Refused(reply)
+    } else {
+        CopyEnd::Strange(reply)
+    }
+}
+
+/// `Done` where a reply is the one that was hoped for, else why it isn't.
+pub fn settled(reply: Option<Reply>, wanted: &Reply, tid: u32, handle: &[u8]) -> CopyEnd
+    requires tid { tid < 100000000 }
+    requires handle { length handle.now ≤ 8 }
+    ensures { IfCopied result (option_map (λ v. v.items) reply ≡ Some wanted.now.items) }
+{
+    match reply {
+        Some(reply) if reply.as_slice() == wanted.as_slice() => CopyEnd::Done,
+        reply => refusal(reply, tid, handle),
+    }
+}
+
+/// Gives the user's name, of at most 16 bytes, by a LOGIN that is named 0. Where the answer is `Done`, that was said and answered.
+///
+/// # Errors
+/// Those of the talk's turns.
+pub fn log_in<T: Talk>(talk: &mut T, name: &[u8]) -> Result<CopyEnd, RunFault>
+    requires { length name.now ≤ MAX_NAME }
+    ensures { IfDone result (Since (T.talked talk.old) (T.talked talk.new) (login_command name.now ∷ []) (login_reply name.now ∷ [])) }
+{
+    let reply = ask_one(talk, Errand::Login(name), 0)?;
+    let wanted = spelled(0, b"", b"LOGIN ", name);
+    Ok(settled(reply, &wanted, 0, b""))
+}
