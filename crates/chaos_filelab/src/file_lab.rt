@@ -92,6 +92,8 @@ impl FileLab {
         ensures happens { FileHappens self.old (At (happening_of event.now)) self.new result }
         ensures refused { OnErr result (self.new ≡ self.old) }
         ensures exact { wrote_mem self.new ≡ false → IsExact self.old (At (happening_of event.now)) self.new result }
+        // a reply for want of memory is written by a serve alone
+        ensures mem { wrote_mem self.new ≡ wrote_mem self.old }
     {
         if is_by_server(event) {
             return Err(LabFault::ByServer);
@@ -130,6 +132,7 @@ impl FileLab {
         ensures happens { LabHappens self.old (happening_of event.now) self.new result }
         ensures refused { OnErr result (self.new ≡ self.old) }
         ensures exact { IsExact self.old (At (happening_of event.now)) self.new result }
+        ensures mem { wrote_mem self.new ≡ wrote_mem self.old }
     {
         self.lab.law_headline();
         law_phases();

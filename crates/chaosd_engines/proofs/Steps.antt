@@ -102,13 +102,13 @@ pub line_more : (before written written' : Option (List ℕ)) (tally tally' : Ta
     → Appends before written' (reports_of (lines ++ line ∷ [])) × (tally' ≡ tally_of (lines ++ line ∷ []))
 line_more before written written' tally tally' lines line raw alike text count more next =
     let same : entry_of raw ≡ entry_of line = same_front raw line alike in (
-  subst (Appends before written')
-      (ap (λ n. reports_of lines ++ (gap (eqb n 0) ++ line_report raw)) (ap (λ t. t.reports) count)
-      ∙ ap (λ e. reports_of lines ++ (gap (eqb (length lines) 0) ++ entry_text e)) same
-      ∙ sym (reports_of-push lines line))
-      (Appends-trans before written written' _ _ text more),
-  next ∙ ap (λ t. counted t raw) count ∙ ap (counted_entry (tally_of lines)) same ∙ sym (tally_of-push lines line),
-)
+      subst (Appends before written')
+          (ap (λ n. reports_of lines ++ (gap (eqb n 0) ++ line_report raw)) (ap (λ t. t.reports) count)
+          ∙ ap (λ e. reports_of lines ++ (gap (eqb (length lines) 0) ++ entry_text e)) same
+          ∙ sym (reports_of-push lines line))
+          (Appends-trans before written written' _ _ text more),
+      next ∙ ap (λ t. counted t raw) count ∙ ap (counted_entry (tally_of lines)) same ∙ sym (tally_of-push lines line),
+    )
 
 -- ---- what was written
 

@@ -7,7 +7,7 @@ use Rattle.chaos_lab.specs.declared.fault.LabFault.{LabFault}
 use Rattle.chaos_lab.specs.declared.fault.LabFault.TheVariants.{NoSuchCopy, Stale, Refused, NoMemory, ByServer}
 use Rattle.chaos_filelab.specs.declared.event.FileStepped.{FileStepped}
 use Rattle.chaos_filelab.specs.View.{FileLabView, wrote_mem}
-use Rattle.chaos_filelab.specs.Events.{FileHappening}
+use Rattle.chaos_filelab.specs.Events.{FileHappening, Serve}
 use Rattle.chaos_filelab.specs.Exact.{file_happen, IsExact}
 use Rattle.chaosd_engines.specs.declared.fault.RunFault.{RunFault}
 use Rattle.chaosd_engines.specs.declared.fault.RunFault.TheVariants as run
@@ -92,6 +92,6 @@ no_event None h = refl
 no_event (Some event) h = absurd (cc)
 
 -- want of memory is told, or nothing is printed
-pub want_printed : (line old new : List ℕ) → (new ≡ old ++ refusal_text NoMemory) ⊎ (new ≡ old) → (text : List ℕ) × filelab_script.wants line text × (new ≡ old ++ text)
+pub want_printed : (line old new : List ℕ) → (new ≡ old ++ refusal_text NoMemory) ⊎ ((file_line_of line ≡ Some Serve) × (new ≡ old)) → (text : List ℕ) × filelab_script.wants line text × (new ≡ old ++ text)
 want_printed line old new (inl more) = (refusal_text NoMemory, inl refl, more)
-want_printed line old new (inr same) = ([], inr refl, same ∙ sym (append-nil old))
+want_printed line old new (inr (is_serve, same)) = ([], inr (is_serve, refl), same ∙ sym (append-nil old))

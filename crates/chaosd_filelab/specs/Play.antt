@@ -1,8 +1,8 @@
 -- The script of a laboratory whose B serves FILE.
-use Rattle.std.specs.Prelude.{◌≡◌, ◌⊎◌, ℕ, false, List, [], ◌++◌, length, drop, Option, option_map, is_err}
+use Rattle.std.specs.Prelude.{◌≡◌, ◌⊎◌, ℕ, false, List, [], ◌++◌, length, drop, Option, Some, option_map, is_err}
 use Rattle.chaos_lab.specs.declared.fault.LabFault.TheVariants.{NoMemory}
 use Rattle.chaos_filelab.specs.View.{FileLabView, wrote_mem}
-use Rattle.chaos_filelab.specs.Events.{FileHappening}
+use Rattle.chaos_filelab.specs.Events.{FileHappening, Serve}
 use Rattle.chaos_filelab.specs.Exact.{file_happen}
 use Rattle.chaosd_lab.specs.Answers.{refusal_text, copies_text}
 use Rattle.chaosd_lab.specs.Play as lab
@@ -40,5 +40,5 @@ filelab_script = record {
   event = line_done;
   ended = end_text;
   ready = λ l. wrote_mem l ≡ false;
-  wants = λ line text. (text ≡ refusal_text NoMemory) ⊎ (text ≡ []);
+  wants = λ line text. (text ≡ refusal_text NoMemory) ⊎ ((file_line_of line ≡ Some Serve) × (text ≡ []));
 }

@@ -1,5 +1,6 @@
 //! What a line asks for.
-ghost use Rattle.std.specs.Prelude.{◌≡◌, false, option_map, OnErr};
+ghost use Rattle.std.specs.Prelude.{◌≡◌, ◌⊎◌, false, option_map, OnErr};
+ghost use Rattle.chaos_filelab.specs.Events.{Serve};
 ghost use Rattle.chaos_filelab.specs.View.{wrote_mem};
 ghost use Rattle.chaos_filelab.specs.Exact.{IsExact};
 ghost use Rattle.chaosd_filelab.specs.Command.{file_said};
@@ -22,6 +23,7 @@ impl FileCommand {
     pub fn act(&self, alloc: Global, lab: &mut FileLab) -> Result<FileStepped, LabFault>
         ensures refused { OnErr result (lab.new ≡ lab.old) }
         ensures exact { wrote_mem lab.new ≡ false → IsExact lab.old (file_said self.now) lab.new result }
+        ensures mem { (file_said self.now ≡ Serve) ⊎ (wrote_mem lab.new ≡ wrote_mem lab.old) }
     {
         match self {
             FileCommand::At(command) => lab.happen(alloc, &command.event()),

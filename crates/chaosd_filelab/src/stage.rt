@@ -1,6 +1,7 @@
 //! One line of a script.
 ghost use Rattle.std.specs.Prelude.{◌≡◌, ◌++◌, ◌≢◌, ◌⊎◌, ℕ, List, false, Err, None, Some, IfErr, IfOk, OnOk};
 ghost use Rattle.chaos_lab.specs.declared.fault.LabFault.TheVariants.{NoMemory};
+ghost use Rattle.chaos_filelab.specs.Events.{Serve};
 ghost use Rattle.chaos_filelab.specs.View.{wrote_mem};
 ghost use Rattle.chaosd_lab.specs.Answers.{copies_text, refusal_text};
 ghost use Rattle.chaosd_script.specs.Script.{PlaysLine};
@@ -103,7 +104,8 @@ fn play(
 ) -> Result<bool, RunFault>
     ensures played { IfOk result (λ refused. PlaysLine filelab_script line.now lab.old lab.new out.old out.new refused × (wrote_mem lab.new ≡ false)) }
     ensures bad { (n : ℕ) → result ≡ Err (RunFault.BadScript n) → (n ≡ number) × (file_line_of line.now ≡ None) × (out.new ≡ out.old) }
-    ensures no_memory { result ≡ Err RunFault.NoMemory → (file_line_of line.now ≢ None) × ((out.new ≡ out.old ++ refusal_text NoMemory) ⊎ (out.new ≡ out.old)) }
+    ensures no_memory { result ≡ Err RunFault.NoMemory → (file_line_of line.now ≢ None)
+        × (wrote_mem lab.old ≡ false → (out.new ≡ out.old ++ refusal_text NoMemory) ⊎ ((file_line_of line.now ≡ Some Serve) × (out.new ≡ out.old))) }
     ensures faults { IfErr result (λ fault. IsLineFault fault) }
 {
     let Some(command) = file_line_of(line) else {

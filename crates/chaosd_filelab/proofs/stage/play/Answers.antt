@@ -26,7 +26,7 @@ returns-clause-no_memory c wants =
     let mid = c.put_answer.new.out in
     let n = length c.args.lab.now.lab.copies in (
       some_said _ (file_said c.in-Some.command) (sym c.file_line_of.ensures ∙ ap (option_map file_said) c.in-Some.is),
-      inl (line_wants c.args.lab.now c.act-answer.new.lab c.args.out.now mid c.put_copies.new.out c.act-answer.result _
+      λ ready. inl (line_wants c.args.lab.now c.act-answer.new.lab c.args.out.now mid c.put_copies.new.out c.act-answer.result _
           (not_wanted c.act-answer.result _ c.act-answer.ensures.refused)
           (went_well _ _ _ c.written.ensures c.in_ok-written.was c.put_answer.ensures)
           (went_well _ _ _ c.written-2.ensures c.in_ok-written-2.was c.put_copies.ensures

@@ -2,7 +2,7 @@ use Rattle.std.proofs.Common.{rules, ◌≡◌, false, refl, sym, ap, ◌∙◌}
 use Rattle.std.specs.List.{list_any}
 use Rattle.chaos_lab.specs.Inside.{happening_of}
 use Rattle.chaos_file.specs.Want.{is_want}
-use Rattle.chaos_filelab.specs.View.{FileLabView}
+use Rattle.chaos_filelab.specs.View.{FileLabView, wrote_mem}
 use Rattle.chaos_filelab.specs.Events.{is_by_server}
 use Rattle.chaos_filelab.specs.Kept.{file_view}
 use Rattle.chaos_filelab.proofs.QuietSteps.{PhaseLaws, quiet}
@@ -21,3 +21,13 @@ invariant_of-self c =
       served = same_keeps l m same refl refl c.self.invariant.served;
       flag = c.self.invariant.flag ∙ ap (list_any is_want) (sym same.written);
     }
+
+-- and so is what it wrote
+pub returns-clause-mem : goal.returns-clause-mem
+returns-clause-mem c =
+    let l : FileLabView = file_view c.self.inside in
+    let isnt : is_by_server (happening_of c.args.event.now) ≡ false = search rules in
+    let laws : PhaseLaws = record { answers = c.law_phases.ensures.answers; asked = c.law_phases.ensures.asked } in
+    let same = quiet laws c.self.inside.lab c.step.new.self (happening_of c.args.event.now) c.step.result c.law_headline.ensures.machine isnt (c.step.ensures.refused, c.step.ensures.machine) in
+    let view : l ≡ c.args.self.now = search rules in
+    ap (list_any is_want) same.written ∙ ap wrote_mem view

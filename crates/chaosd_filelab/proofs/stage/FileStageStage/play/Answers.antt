@@ -1,7 +1,7 @@
-use Rattle.std.proofs.Common.{rules, subst, ap, ◌≡◌}
+use Rattle.std.proofs.Common.{rules, subst, ap, ◌≡◌, ◌∙◌}
 use Rattle.std.specs.Prelude.{option_map}
 use Rattle.std.proofs.lemmas.Result.{IfOk-weaker}
-use Rattle.chaos_filelab.specs.View.{FileLabView}
+use Rattle.chaos_filelab.specs.View.{FileLabView, wrote_mem}
 use Rattle.chaosd_script.specs.Script.{PlaysLine}
 use Rattle.chaosd_filelab.specs.Play.{event_done, filelab_script}
 use Rattle.chaosd_filelab.proofs.Lines.{no_event, want_printed}
@@ -21,5 +21,6 @@ returns-clause-bad c n is =
 
 pub returns-clause-no_memory : goal.returns-clause-no_memory
 returns-clause-no_memory c is =
+    let view : c.self.inside.lab ≡ c.args.self.now = search rules in
     let (said, more) = c.play.ensures.no_memory is in
-    ((λ none. said (no_event _ none)), λ ready. want_printed c.args.line.now _ _ more)
+    ((λ none. said (no_event _ none)), λ ready. want_printed c.args.line.now _ _ (more (ap wrote_mem view ∙ ready)))
