@@ -1,13 +1,11 @@
 -- A run over a script, command by command.
-use Rattle.std.proofs.Common.{◌≡◌, ℕ, ◌+◌, ◌-◌, ◌<◌, ◌≤◌, Bool, true, false, cond, eqb, ltb, List, [], ◌∷◌, ◌++◌, All, length, take, drop, refl, sym, ap, ◌∙◌, subst, arith, append_assoc, append-nil, take_all, length-take, length-append}
+use Rattle.std.proofs.Common.{◌≡◌, ℕ, ◌+◌, ◌-◌, ◌<◌, ◌≤◌, Bool, true, false, cond, eqb, ltb, List, [], ◌∷◌, ◌++◌, All, length, take, refl, sym, ap, ◌∙◌, subst, arith, append_assoc, append-nil, take_all, length-take, length-append}
 use Rattle.std.specs.Prelude.{Option, None, Some, is_some, IfSome, IfOk, Result, Ok, Err}
 use Rattle.std.specs.Io.BufRead.{strip_last}
-use Rattle.std.specs.Io.KnownBytes.{Appends, Consumes}
+use Rattle.std.specs.Io.KnownBytes.{Appends}
 use Rattle.std.proofs.KnownBytes.{Appends-nil, Appends-trans}
 use Rattle.std.proofs.lemmas.Bool.{le-ltb, lt-ltb}
 use Rattle.std.proofs.lemmas.Bool.Decides.{nat_tests}
-use Rattle.std.proofs.lemmas.Grind.{common_steps}
-use Rattle.std.proofs.lemmas.List.{take-take, take-append-drop}
 use Rattle.std.proofs.Math.Seq.{take-append-add, take-append_seam}
 use Rattle.std.proofs.lemmas.List.Concat.{flat_map-append}
 use Rattle.std.proofs.lemmas.List.Elements.{All-nil, All-push}
@@ -17,25 +15,22 @@ use Rattle.chaosd_engines.specs.declared.fault.RunFault.TheVariants.{ReadFault, 
 use Rattle.chaosd_engines.specs.declared.limits.TheConstants.{INPUT_LIMIT, KEPT_LEN, LINE_LIMIT}
 use Rattle.chaosd_engines.specs.Escapes.{data_of}
 use Rattle.chaosd_engines.specs.Lines.{all_but_last, is_newline, pieces_of, without_empty_last, ended_lines, lines_of}
-use Rattle.chaosd_file.specs.declared.lines.LineReader.{LineReader}
 use Rattle.chaosd_file.specs.Command.{command_of}
 use Rattle.chaosd_file.specs.Fault.{IsTurnFault}
 use Rattle.chaosd_file.specs.Printed.{ending_of, reply_line, replies_text, no_reply_line, PrintsReplies}
-use Rattle.chaosd_file.specs.Reader.{waiting, Going, Done, Gives, NextLine}
+use Rattle.chaosd_engines.specs.Reader.{LinesView, Gives, Done, GivesMore, GivesNext, GivesLast}
 use Rattle.chaosd_file.specs.Script.{IsCommand, IsFirstBad, BeginWithCommands, AreCommands, lines_within, Ran, Runs}
-use Rattle.chaosd_file.specs.Asking.{Asked}
+use Rattle.chaosd_file.specs.Asking.{Asked, AsksLine}
 use Rattle.chaosd_file.specs.Conversation.{AsksAll, Converses, commands_said, item_for}
 use Rattle.chaos_link.specs.Link.{QueueView}
-use Rattle.chaosd_file.specs.Exchange.{Exchanges, SaysFarewell, command_item}
+use Rattle.chaosd_file.specs.Exchange.{SaysFarewell, command_item}
 use Rattle.chaosd_file.specs.Talk.{Talker, and_later, silence}
 use Rattle.chaosd_file.specs.declared.end.ScriptEnd.{ScriptEnd}
 use Rattle.chaos_packet.specs.Item.{ItemView}
+use Rattle.chaosd_engines.proofs.Steps.{length-strip_last}
 use Rattle.chaosd_file.proofs.Talking.{talks_none, talks_on}
 
 -- ---- what is kept of a line decides what it stands for
-
-length-strip_last : (b : ℕ) (xs : List ℕ) → length xs ≤ length (strip_last b xs) + 1
-length-strip_last b xs = grind (arith, common_steps)
 
 long_command : (raw : List ℕ) → KEPT_LEN ≤ length raw → command_of raw ≡ None
 unfolding command_of
@@ -53,9 +48,8 @@ front_decides f g false long e =
     let many : KEPT_LEN ≤ length f = grind (arith, nat_tests) in
     long_command f many ∙ sym (long_command g (omega (arith, length-take KEPT_LEN f, length-take KEPT_LEN g)))
 
-pub kept_decides : (kept raw : List ℕ) → kept ≡ take KEPT_LEN raw → command_of raw ≡ command_of kept
-kept_decides kept raw e =
-    sym (front_decides kept raw (ltb (length kept) KEPT_LEN) refl (ap (take KEPT_LEN) e ∙ take-take KEPT_LEN KEPT_LEN raw (omega arith)))
+kept_decides : (line raw : List ℕ) → take KEPT_LEN line ≡ take KEPT_LEN raw → command_of raw ≡ command_of line
+kept_decides line raw e = sym (front_decides line raw (ltb (length line) KEPT_LEN) refl e)
 
 -- ---- the lines that were given are the first
 
@@ -71,91 +65,58 @@ all_but_last-append (first ∷ []) [] some = absurd (omega (arith, some))
 all_but_last-append (first ∷ []) (piece ∷ pieces) some = refl
 all_but_last-append (first ∷ next ∷ others) pieces some = ap (λ l. first ∷ l) (all_but_last-append (next ∷ others) pieces some)
 
--- of an input, these lines were given, and what goes on behind them is known
-pub record GoesOn (all read rest : List ℕ) (given : List (List ℕ)) (begun : List ℕ) : Type 0 where
-  pub whole : all ≡ read ++ rest
-  pub few : length read ≤ INPUT_LIMIT
-  pub goes_on : (more : List ℕ) → pieces_of (read ++ more) ≡ given ++ pieces_of (begun ++ more)
-
-begins_short : (all read rest begun : List ℕ) (given : List (List ℕ)) → GoesOn all read rest given begun → (others : List (List ℕ)) × (lines_of all ≡ given ++ others)
-begins_short all read rest begun given s = (
-  without_empty_last (pieces_of (begun ++ rest)),
-  ap lines_of s.whole ∙ ap without_empty_last (s.goes_on rest) ∙ without_empty_last-append given (pieces_of (begun ++ rest)) (omega (arith, length-slice_split is_newline (begun ++ rest))),
-)
-
-limited : (all read rest : List ℕ) → all ≡ read ++ rest → length read ≤ INPUT_LIMIT → take INPUT_LIMIT all ≡ read ++ take (INPUT_LIMIT - length read) rest
-limited all read rest whole few =
-    let sum : INPUT_LIMIT ≡ length read + (INPUT_LIMIT - length read) = omega arith in
-    ap (take INPUT_LIMIT) whole ∙ ap (λ n. take n (read ++ rest)) sum ∙ take-append-add read rest (INPUT_LIMIT - length read)
-
-begins_long : (all read rest begun : List ℕ) (given : List (List ℕ)) → GoesOn all read rest given begun → (others : List (List ℕ)) × (ended_lines (take INPUT_LIMIT all) ≡ given ++ others)
-begins_long all read rest begun given s =
-    let more : List ℕ = take (INPUT_LIMIT - length read) rest in (
-      all_but_last (pieces_of (begun ++ more)),
-      ap ended_lines (limited all read rest s.whole s.few) ∙ ap all_but_last (s.goes_on more) ∙ all_but_last-append given (pieces_of (begun ++ more)) (omega (arith, length-slice_split is_newline (begun ++ more))),
+begins_short : (all rest : List ℕ) (given : List (List ℕ)) (v : LinesView) → Gives KEPT_LEN INPUT_LIMIT (Some all) (Some rest) given v → (others : List (List ℕ)) × (lines_of all ≡ given ++ others)
+begins_short all rest given v s =
+    let after : List ℕ = s.begun ++ (v.waiting ++ rest) in (
+      without_empty_last (pieces_of after),
+      ap lines_of s.came ∙ ap without_empty_last (s.goes_on rest) ∙ without_empty_last-append given (pieces_of after) (omega (arith, length-slice_split is_newline after)),
     )
 
-begin_by : (is_long : Bool) (all read rest begun : List ℕ) (given : List (List ℕ)) → GoesOn all read rest given begun
-    → (others : List (List ℕ)) × (cond is_long (ended_lines (take INPUT_LIMIT all)) (lines_of all) ≡ given ++ others)
-begin_by true all read rest begun given s = begins_long all read rest begun given s
-begin_by false all read rest begun given s = begins_short all read rest begun given s
+begins_long : (all rest : List ℕ) (given : List (List ℕ)) (v : LinesView) → Gives KEPT_LEN INPUT_LIMIT (Some all) (Some rest) given v → (others : List (List ℕ)) × (ended_lines (take INPUT_LIMIT all) ≡ given ++ others)
+begins_long all rest given v s =
+    let near : List ℕ = s.begun ++ (v.waiting ++ take v.room rest) in
+    let limited : take INPUT_LIMIT all ≡ s.read ++ take v.room rest =
+    ap (take INPUT_LIMIT) s.came ∙ ap (λ n. take n (s.read ++ rest)) (sym s.room ∙ omega arith) ∙ take-append-add s.read rest v.room in (
+      all_but_last (pieces_of near),
+      ap ended_lines limited ∙ ap all_but_last (s.goes_on (take v.room rest)) ∙ all_but_last-append given (pieces_of near) (omega (arith, length-slice_split is_newline near)),
+    )
 
-abbrev Begins : Option (List ℕ) → List (List ℕ) → Type 0
+begin_by : (is_long : Bool) (all rest : List ℕ) (given : List (List ℕ)) (v : LinesView) → Gives KEPT_LEN INPUT_LIMIT (Some all) (Some rest) given v
+    → (others : List (List ℕ)) × (cond is_long (ended_lines (take INPUT_LIMIT all)) (lines_of all) ≡ given ++ others)
+begin_by true all rest given v s = begins_long all rest given v s
+begin_by false all rest given v s = begins_short all rest given v s
+
+-- The lines begin those that can be had of an input.
+abbrev pub Begins : Option (List ℕ) → List (List ℕ) → Type 0
 Begins input given = IfSome input (λ all. (others : List (List ℕ)) × (lines_within all ≡ given ++ others))
 
-few_read : (input rest : Option (List ℕ)) (given : List (List ℕ)) (r : LineReader) (s : Going input rest given [] r) → length s.read ≤ INPUT_LIMIT
-few_read input rest given r s = omega (arith, s.room)
-
-within_begins : (input rest : Option (List ℕ)) (given : List (List ℕ)) (r : LineReader) (s : Going input rest given [] r) → Consumes input rest s.read → Begins input given
-within_begins None rest given r s c = tt
-within_begins (Some all) None given r s c = absurd c
-within_begins (Some all) (Some left) given r s c =
-    begin_by (ltb INPUT_LIMIT (length all)) all s.read left (waiting r) given (record { whole = c; few = few_read (Some all) (Some left) given r s; goes_on = s.goes_on })
-
-past_begins : (input rest : Option (List ℕ)) (given : List (List ℕ)) (r : LineReader) (s : Going input rest given [] r) → IfSome input (λ all. (INPUT_LIMIT < length all) × (take INPUT_LIMIT all ≡ s.read)) → Begins input given
-past_begins None rest given r s past = tt
-past_begins (Some all) rest given r s past =
-    begin_by (ltb INPUT_LIMIT (length all)) all s.read (drop INPUT_LIMIT all) (waiting r) given
-    (record {
-      whole = sym (take-append-drop INPUT_LIMIT all) ∙ ap (λ l. l ++ drop INPUT_LIMIT all) past.1;
-      few = few_read (Some all) rest given r s;
-      goes_on = s.goes_on;
-    })
-
-going_begins : (input rest : Option (List ℕ)) (given : List (List ℕ)) (r : LineReader) (is_over : Bool) → r.is_over ≡ is_over → Going input rest given [] r → Begins input given
-going_begins input rest given r true over s = past_begins input rest given r s (s.past over)
-going_begins input rest given r false over s = within_begins input rest given r s (s.within over)
+gives_begins : (input rest : Option (List ℕ)) (given : List (List ℕ)) (v : LinesView) → Gives KEPT_LEN INPUT_LIMIT input rest given v → Begins input given
+gives_begins None rest given v s = tt
+gives_begins (Some all) None given v s = absurd s.came
+gives_begins (Some all) (Some rest) given v s = begin_by (ltb INPUT_LIMIT (length all)) all rest given v s
 
 -- of an input within the limit all lines can be had
 within_all : (all : List ℕ) → length all ≤ INPUT_LIMIT → lines_within all ≡ lines_of all
 within_all all few = ap (λ b. cond b (ended_lines (take INPUT_LIMIT all)) (lines_of all)) (le-ltb INPUT_LIMIT (length all) few)
 
-done_begins : (input rest : Option (List ℕ)) (given : List (List ℕ)) → Done input rest given → Begins input given
+done_begins : (input rest : Option (List ℕ)) (given : List (List ℕ)) → Done INPUT_LIMIT input rest given → Begins input given
 done_begins None rest given s = tt
 done_begins (Some all) rest given s = ([], within_all all s.lines.0 ∙ s.lines.1 ∙ sym (append-nil given))
 
-begins_by : (input rest : Option (List ℕ)) (given : List (List ℕ)) (r : LineReader) (is_at_end : Bool) → r.is_at_end ≡ is_at_end → Gives input rest given r → Begins input given
-begins_by input rest given r true ended s = done_begins input rest given (s.done ended)
-begins_by input rest given r false ended s = going_begins input rest given r r.is_over refl (s.going ended)
+-- The present line is the next one, as far as it is kept, and goes on those before.
+abbrev pub IsNext : Option (List ℕ) → List (List ℕ) → List ℕ → Type 0
+IsNext input given line = (raw : List ℕ) × (take KEPT_LEN line ≡ take KEPT_LEN raw) × Begins input (given ++ raw ∷ [])
 
-begins : (input rest : Option (List ℕ)) (given : List (List ℕ)) (r : LineReader) → Gives input rest given r → Begins input given
-begins input rest given r s = begins_by input rest given r r.is_at_end refl s
+pub next_is : (input rest : Option (List ℕ)) (given : List (List ℕ)) (v : LinesView) (line : List ℕ) → line ≡ v.line → GivesNext KEPT_LEN INPUT_LIMIT input rest given v true → IsNext input given line
+next_is input rest given v line e (raw, front, gives) = (raw, ap (take KEPT_LEN) e ∙ front, gives_begins input rest (given ++ raw ∷ []) v gives)
+
+pub last_is : (input rest : Option (List ℕ)) (given : List (List ℕ)) (line : List ℕ) → GivesLast KEPT_LEN INPUT_LIMIT input rest given (Some line) → IsNext input given line
+last_is input rest given line (raw, front, done) = (raw, front, done_begins input rest (given ++ raw ∷ []) done)
 
 -- ---- a command
 
-some_command : (kept raw : List ℕ) (command : List ℕ) → kept ≡ take KEPT_LEN raw → command_of kept ≡ Some command → IsCommand raw
-some_command kept raw command e h = ap is_some (kept_decides kept raw e ∙ h)
-
--- there is a next line
-pub line_given : (input rest : Option (List ℕ)) (given : List (List ℕ)) (kept : List ℕ) (r : LineReader) (more : Bool) → more ≡ true → NextLine input rest given kept r (Ok more)
-    → (raw : List ℕ) × (kept ≡ take KEPT_LEN raw) × Gives input rest (given ++ raw ∷ []) r
-line_given input rest given kept r true e h = h
-line_given input rest given kept r false e h = absurd (let no : ⊥ = cc in no)
-
--- there is none
-pub none_given : (input rest : Option (List ℕ)) (given : List (List ℕ)) (kept : List ℕ) (r : LineReader) (more : Bool) → more ≡ false → NextLine input rest given kept r (Ok more) → Done input rest given
-none_given input rest given kept r true e h = absurd (let no : ⊥ = cc in no)
-none_given input rest given kept r false e h = h
+some_command : (line raw : List ℕ) (command : List ℕ) → take KEPT_LEN line ≡ take KEPT_LEN raw → command_of line ≡ Some command → IsCommand raw
+some_command line raw command e h = ap is_some (kept_decides line raw e ∙ h)
 
 -- one reply more
 text_more : (before between after : Option (List ℕ)) (replies : List (List ℕ)) (reply : List ℕ) → Appends before between (replies_text replies) → Appends between after (reply_line reply) → Appends before after (replies_text (replies ++ reply ∷ []))
@@ -174,26 +135,30 @@ said_more given before said raw command so_far now is =
     ap (λ l. l ++ said) so_far ∙ ap (λ l. commands_said given ++ l) (now ∙ sym (one_said raw command is)) ∙ sym (flat_map-append (λ line. item_for (command_of line)) given (raw ∷ []))
 
 -- a command got its reply
-pub asked_more : (first mid last : Talker) (input rest rest' before between after : Option (List ℕ)) (replied : ℕ) (kept command reply : List ℕ) (r r' : LineReader) (more : Bool) (s : Asked first mid input rest before between replied r)
-    → more ≡ true → NextLine input rest' s.given kept r' (Ok more) → command_of kept ≡ Some command → Exchanges mid command (Some reply) last → Appends between after (reply_line reply)
-    → Asked first last input rest' before after (replied + 1) r'
-asked_more first mid last input rest rest' before between after replied kept command reply r r' more s e next is (talk, talks, (said, heard)) printed =
-    let (raw, front, gives) = line_given input rest' s.given kept r' more e next in
-    record {
-      given = s.given ++ raw ∷ [];
-      count = length-append s.given (raw ∷ []) ∙ ap (λ n. n + 1) s.count;
-      commands = All-push IsCommand s.given raw s.commands (some_command kept raw command front is);
-      gives = gives;
-      printed = record {
-        replies = s.printed.replies ++ reply ∷ [];
-        number = length-append s.printed.replies (reply ∷ []) ∙ ap (λ n. n + 1) s.printed.number;
-        text = text_more before between after s.printed.replies reply s.printed.text printed;
-      };
-      talk = and_later s.talk talk;
-      talks = talks_on first mid last s.talk talk s.talks talks;
-      said = said_more s.given s.talk.said talk.said raw command s.said said (kept_decides kept raw front ∙ is);
-      heard = ap (λ l. s.talk.heard ++ l) heard ∙ ap (λ l. l ++ reply ∷ []) s.heard;
-    }
+pub asked_more : (first mid last : Talker) (before between after : Option (List ℕ)) (replied : ℕ) (given : List (List ℕ)) (line raw : List ℕ) → take KEPT_LEN line ≡ take KEPT_LEN raw → Asked first mid before between replied given
+    → AsksLine mid last replied line between after (Ok true) → Asked first last before after (replied + 1) (given ++ raw ∷ [])
+asked_more first mid last before between after replied given line raw front s (command, reply, is, (talk, talks, (said, heard)), printed) = record {
+  count = length-append given (raw ∷ []) ∙ ap (λ n. n + 1) s.count;
+  commands = All-push IsCommand given raw s.commands (some_command line raw command front is);
+  printed = record {
+    replies = s.printed.replies ++ reply ∷ [];
+    number = length-append s.printed.replies (reply ∷ []) ∙ ap (λ n. n + 1) s.printed.number;
+    text = text_more before between after s.printed.replies reply s.printed.text printed;
+  };
+  talk = and_later s.talk talk;
+  talks = talks_on first mid last s.talk talk s.talks talks;
+  said = said_more given s.talk.said talk.said raw command s.said said (kept_decides line raw front ∙ is);
+  heard = ap (λ l. s.talk.heard ++ l) heard ∙ ap (λ l. l ++ reply ∷ []) s.heard;
+}
+
+-- Each line of the input stands for a command that got a reply.
+abbrev pub AskedAll : Talker → Talker → Option (List ℕ) → Option (List ℕ) → Option (List ℕ) → Option (List ℕ) → ℕ → Type 0
+AskedAll first last input rest before after replied = (given : List (List ℕ)) × Asked first last before after replied given × Done INPUT_LIMIT input rest given
+
+pub last_asked : (first mid last : Talker) (input rest before between after : Option (List ℕ)) (replied : ℕ) (given : List (List ℕ)) (line : List ℕ) → Asked first mid before between replied given
+    → GivesLast KEPT_LEN INPUT_LIMIT input rest given (Some line) → AsksLine mid last replied line between after (Ok true) → AskedAll first last input rest before after (replied + 1)
+last_asked first mid last input rest before between after replied given line s (raw, front, done) asks =
+    (given ++ raw ∷ [], asked_more first mid last before between after replied given line raw front s asks, done)
 
 -- ---- how a run ends
 
@@ -219,33 +184,28 @@ part_text before between after replied replies printed none =
     subst (Appends before after) (sym (ap (λ b. replies_text replies ++ cond b [] no_reply_line) (less_count replied)))
     (Appends-trans before between after (replies_text replies) no_reply_line printed none)
 
-all_given : (input rest : Option (List ℕ)) (given : List (List ℕ)) (replied : ℕ) → length given ≡ replied → All IsCommand given → Done input rest given → IfSome input (λ all. (length all ≤ INPUT_LIMIT) × AreCommands replied (lines_of all))
+all_given : (input rest : Option (List ℕ)) (given : List (List ℕ)) (replied : ℕ) → length given ≡ replied → All IsCommand given → Done INPUT_LIMIT input rest given → IfSome input (λ all. (length all ≤ INPUT_LIMIT) × AreCommands replied (lines_of all))
 all_given None rest given replied count commands s = tt
 all_given (Some all) rest given replied count commands s = (s.lines.0, (subst (All IsCommand) (sym s.lines.1) commands, ap length s.lines.1 ∙ count))
 
 -- each command got a reply
-pub ran_to_end : (first last : Talker) (input rest rest' before after : Option (List ℕ)) (replied : ℕ) (kept : List ℕ) (r r' : LineReader) (more : Bool) (s : Asked first last input rest before after replied r)
-    → more ≡ false → NextLine input rest' s.given kept r' (Ok more) → Ran input rest' before after (record { commands = replied; replied = replied })
-ran_to_end first last input rest rest' before after replied kept r r' more s e next =
-    let done = none_given input rest' s.given kept r' more e next in
-    record {
-      counts = (omega arith, omega arith);
-      text = record {
-        replies = s.printed.replies;
-        number = s.printed.number;
-        text = whole_text before after replied s.printed.replies s.printed.text;
-      };
-      tried = tried_first input s.given replied s.commands s.count (done_begins input rest' s.given done);
-      whole = λ _. all_given input rest' s.given replied s.count s.commands done;
-      ended = λ _. done.ended;
-    }
+pub ran_to_end : (first last : Talker) (input rest before after : Option (List ℕ)) (replied : ℕ) → AskedAll first last input rest before after replied → Ran input rest before after (record { commands = replied; replied = replied })
+ran_to_end first last input rest before after replied (given, s, done) = record {
+  counts = (omega arith, omega arith);
+  text = record {
+    replies = s.printed.replies;
+    number = s.printed.number;
+    text = whole_text before after replied s.printed.replies s.printed.text;
+  };
+  tried = tried_first input given replied s.commands s.count (done_begins input rest given done);
+  whole = λ _. all_given input rest given replied s.count s.commands done;
+  ended = λ _. done.ended;
+}
 
 -- a command got no reply
-pub ran_in_part : (first last : Talker) (input rest rest' before between after : Option (List ℕ)) (replied : ℕ) (kept command : List ℕ) (r r' : LineReader) (more : Bool) (s : Asked first last input rest before between replied r)
-    → more ≡ true → NextLine input rest' s.given kept r' (Ok more) → command_of kept ≡ Some command → Appends between after no_reply_line
-    → Ran input rest' before after (record { commands = replied + 1; replied = replied })
-ran_in_part first last input rest rest' before between after replied kept command r r' more s e next is printed =
-    let (raw, front, gives) = line_given input rest' s.given kept r' more e next in
+pub ran_in_part : (first mid last : Talker) (input rest before between after : Option (List ℕ)) (replied : ℕ) (given : List (List ℕ)) (line : List ℕ) → Asked first mid before between replied given
+    → IsNext input given line → AsksLine mid last replied line between after (Ok false) → Ran input rest before after (record { commands = replied + 1; replied = replied })
+ran_in_part first mid last input rest before between after replied given line s (raw, front, begun) (command, is, exchange, printed) =
     let differ : replied ≡ replied + 1 → ⊥ = λ same. omega (arith, same) in
     record {
       counts = (omega arith, omega arith);
@@ -254,8 +214,7 @@ ran_in_part first last input rest rest' before between after replied kept comman
         number = s.printed.number;
         text = part_text before between after replied s.printed.replies s.printed.text printed;
       };
-      tried = tried_first input (s.given ++ raw ∷ []) (replied + 1) (All-push IsCommand s.given raw s.commands (some_command kept raw command front is))
-          (length-append s.given (raw ∷ []) ∙ ap (λ n. n + 1) s.count) (begins input rest' (s.given ++ raw ∷ []) r' gives);
+      tried = tried_first input (given ++ raw ∷ []) (replied + 1) (All-push IsCommand given raw s.commands (some_command line raw command front is)) (length-append given (raw ∷ []) ∙ ap (λ n. n + 1) s.count) begun;
       whole = λ same. absurd (differ same);
       ended = λ same. absurd (differ same);
     }
@@ -273,15 +232,25 @@ first_bad (Some all) given raw replied count commands none h = record {
   count = ap (λ n. n + 1) (sym count);
 }
 
--- a line stands for no command
-pub met_bad : (first last : Talker) (input rest rest' before after : Option (List ℕ)) (replied : ℕ) (kept : List ℕ) (r r' : LineReader) (more : Bool) (s : Asked first last input rest before after replied r)
-    → more ≡ true → NextLine input rest' s.given kept r' (Ok more) → command_of kept ≡ None → Runs input rest' before after (Err (BadScript (replied + 1)))
-met_bad first last input rest rest' before after replied kept r r' more s e next is =
-    let (raw, front, gives) = line_given input rest' s.given kept r' more e next in
-    let same : replied ≡ replied + 1 - 1 = omega arith in (
-      first_bad input s.given raw replied s.count s.commands (kept_decides kept raw front ∙ is) (begins input rest' (s.given ++ raw ∷ []) r' gives),
-      subst (λ n. PrintsReplies n before after) same s.printed,
+met_bad : (first last : Talker) (input rest before between after : Option (List ℕ)) (replied : ℕ) (given : List (List ℕ)) (line : List ℕ) → Asked first last before between replied given
+    → IsNext input given line → command_of line ≡ None → after ≡ between → Runs input rest before after (Err (BadScript (replied + 1)))
+met_bad first last input rest before between after replied given line s (raw, front, begun) is same =
+    let number : replied ≡ replied + 1 - 1 = omega arith in (
+      first_bad input given raw replied s.count s.commands (kept_decides line raw front ∙ is) begun,
+      subst (λ n. PrintsReplies n before after) number (subst (PrintsReplies replied before) (sym same) s.printed),
     )
+
+-- a line stands for no command, or its turns or its text met a fault
+pub line_runs : (first mid last : Talker) (input rest before between after : Option (List ℕ)) (replied : ℕ) (given : List (List ℕ)) (line : List ℕ) (fault : RunFault) → Asked first mid before between replied given
+    → IsNext input given line → AsksLine mid last replied line between after (Err fault) → Runs input rest before after (Err fault)
+line_runs first mid last input rest before between after replied given line (BadScript number) s next (none, e, same) =
+    subst (λ n. Runs input rest before after (Err (BadScript n))) (sym e) (met_bad first mid input rest before between after replied given line s next none same)
+line_runs first mid last input rest before between after replied given line WriteFault s next h = tt
+line_runs first mid last input rest before between after replied given line LinkFault s next h = tt
+line_runs first mid last input rest before between after replied given line ClockFault s next h = tt
+line_runs first mid last input rest before between after replied given line NoMemory s next h = absurd h
+line_runs first mid last input rest before between after replied given line ReadFault s next h = absurd h
+line_runs first mid last input rest before between after replied given line InputTooLong s next h = absurd h
 
 replies_to : (given lines : List (List ℕ)) (before after : Option (List ℕ)) (replied : ℕ) → given ≡ lines → length given ≡ replied → All IsCommand given → PrintsReplies replied before after
     → All IsCommand lines × PrintsReplies (length lines) before after
@@ -293,16 +262,16 @@ past_runs : (input before after : Option (List ℕ)) (given : List (List ℕ)) (
 past_runs None before after given replied count commands printed h = tt
 past_runs (Some all) before after given replied count commands printed h = (h.0, replies_to given _ before after replied h.1 count commands printed)
 
--- the next line couldn't be had
-pub unread_runs : (first last : Talker) (input rest rest' before after : Option (List ℕ)) (replied : ℕ) (kept : List ℕ) (r r' : LineReader) (fault : RunFault) (s : Asked first last input rest before after replied r)
-    → NextLine input rest' s.given kept r' (Err fault) → Runs input rest' before after (Err fault)
-unread_runs first last input rest rest' before after replied kept r r' ReadFault s (read, consumed, e) = (read, consumed, replies_to s.given _ before after replied e s.count s.commands s.printed)
-unread_runs first last input rest rest' before after replied kept r r' InputTooLong s h = past_runs input before after s.given replied s.count s.commands s.printed h
-unread_runs first last input rest rest' before after replied kept r r' WriteFault s h = absurd h
-unread_runs first last input rest rest' before after replied kept r r' NoMemory s h = absurd h
-unread_runs first last input rest rest' before after replied kept r r' (BadScript number) s h = absurd h
-unread_runs first last input rest rest' before after replied kept r r' LinkFault s h = absurd h
-unread_runs first last input rest rest' before after replied kept r r' ClockFault s h = absurd h
+-- no more could be had
+pub unread_runs : (first last : Talker) (input rest before after : Option (List ℕ)) (replied : ℕ) (given : List (List ℕ)) (v : LinesView) (fault : RunFault) → Asked first last before after replied given
+    → GivesMore KEPT_LEN INPUT_LIMIT input rest given v (Err fault) → Runs input rest before after (Err fault)
+unread_runs first last input rest before after replied given v ReadFault s (read, consumed, e) = (read, consumed, replies_to given _ before after replied e s.count s.commands s.printed)
+unread_runs first last input rest before after replied given v InputTooLong s h = past_runs input before after given replied s.count s.commands s.printed h
+unread_runs first last input rest before after replied given v WriteFault s h = absurd h
+unread_runs first last input rest before after replied given v NoMemory s h = absurd h
+unread_runs first last input rest before after replied given v (BadScript number) s h = absurd h
+unread_runs first last input rest before after replied given v LinkFault s h = absurd h
+unread_runs first last input rest before after replied given v ClockFault s h = absurd h
 
 -- a fault of a turn says nothing
 pub turn_runs : (input rest before after : Option (List ℕ)) (count : ℕ) (fault : RunFault) → IsTurnFault count fault → Runs input rest before after (Err fault)
@@ -318,12 +287,10 @@ pub write_runs : (input rest before after : Option (List ℕ)) (fault : RunFault
 write_runs input rest before after fault same = subst (λ f. Runs input rest before after (Err f)) (sym same) tt
 
 -- nothing was asked yet
-pub nothing_asked : (first : Talker) (input before : Option (List ℕ)) (r : LineReader) → Gives input input [] r → Asked first first input input before before 0 r
-nothing_asked first input before r s = record {
-  given = [];
+pub nothing_asked : (first : Talker) (before : Option (List ℕ)) → Asked first first before before 0 []
+nothing_asked first before = record {
   count = refl;
   commands = All-nil _;
-  gives = s;
   printed = record { replies = []; number = refl; text = Appends-nil before };
   talk = silence;
   talks = talks_none first;
@@ -353,43 +320,37 @@ heard_text : (before after : Option (List ℕ)) (printed heard : List (List ℕ)
 heard_text before after printed heard more e h = subst (λ l. Appends before after (replies_text l ++ more)) (sym e) h
 
 -- each command got a reply
-pub asks_to_end : (first last parted : Talker) (input rest rest' before after : Option (List ℕ)) (replied : ℕ) (kept : List ℕ) (r r' : LineReader) (more : Bool) (s : Asked first last input rest before after replied r)
-    → more ≡ false → NextLine input rest' s.given kept r' (Ok more) → SaysFarewell last parted → AsksAll first parted input before after (record { commands = replied; replied = replied })
-asks_to_end first last parted input rest rest' before after replied kept r r' more s e next farewell =
-    let done = none_given input rest' s.given kept r' more e next in
-    record {
-      talk = s.talk;
-      replied = last;
-      asks = s.talks;
-      said = first_said input s.given replied s.talk.said s.said s.count (done_begins input rest' s.given done);
-      heard = ap length s.heard ∙ s.printed.number;
-      text = heard_text before after s.printed.replies s.talk.heard _ s.heard (whole_text before after replied s.printed.replies s.printed.text);
-      to_end = λ _. farewell;
-      in_part = λ differ. absurd (omega (arith, differ));
-    }
+pub asks_to_end : (first last parted : Talker) (input rest before after : Option (List ℕ)) (replied : ℕ) → AskedAll first last input rest before after replied → SaysFarewell last parted
+    → AsksAll first parted input before after (record { commands = replied; replied = replied })
+asks_to_end first last parted input rest before after replied (given, s, done) farewell = record {
+  talk = s.talk;
+  replied = last;
+  asks = s.talks;
+  said = first_said input given replied s.talk.said s.said s.count (done_begins input rest given done);
+  heard = ap length s.heard ∙ s.printed.number;
+  text = heard_text before after s.printed.replies s.talk.heard _ s.heard (whole_text before after replied s.printed.replies s.printed.text);
+  to_end = λ _. farewell;
+  in_part = λ differ. absurd (omega (arith, differ));
+}
 
 -- a command got no reply
-pub asks_in_part : (first last parted : Talker) (input rest rest' before between after : Option (List ℕ)) (replied : ℕ) (kept command : List ℕ) (r r' : LineReader) (more : Bool) (s : Asked first last input rest before between replied r)
-    → more ≡ true → NextLine input rest' s.given kept r' (Ok more) → command_of kept ≡ Some command → Exchanges last command None parted → Appends between after no_reply_line
-    → AsksAll first parted input before after (record { commands = replied + 1; replied = replied })
-asks_in_part first last parted input rest rest' before between after replied kept command r r' more s e next is exchange printed =
-    let (raw, front, gives) = line_given input rest' s.given kept r' more e next in
-    let begun : Begins input (s.given ++ raw ∷ []) = begins input rest' (s.given ++ raw ∷ []) r' gives in
-    record {
-      talk = s.talk;
-      replied = last;
-      asks = s.talks;
-      said = first_said input s.given replied s.talk.said s.said s.count (fewer_begin input s.given raw begun);
-      heard = ap length s.heard ∙ s.printed.number;
-      text = heard_text before after s.printed.replies s.talk.heard _ s.heard (part_text before between after replied s.printed.replies s.printed.text printed);
-      to_end = λ same. absurd (omega (arith, same));
-      in_part = λ _. (
-        command,
-        exchange,
-        tried_said input (s.given ++ raw ∷ []) (replied + 1) s.talk.said (command_item command ∷ []) (said_more s.given s.talk.said (command_item command ∷ []) raw command s.said refl (kept_decides kept raw front ∙ is))
-            (length-append s.given (raw ∷ []) ∙ ap (λ n. n + 1) s.count) begun,
-      );
-    }
+pub asks_in_part : (first last parted : Talker) (input before between after : Option (List ℕ)) (replied : ℕ) (given : List (List ℕ)) (line : List ℕ) → Asked first last before between replied given
+    → IsNext input given line → AsksLine last parted replied line between after (Ok false) → AsksAll first parted input before after (record { commands = replied + 1; replied = replied })
+asks_in_part first last parted input before between after replied given line s (raw, front, begun) (command, is, exchange, printed) = record {
+  talk = s.talk;
+  replied = last;
+  asks = s.talks;
+  said = first_said input given replied s.talk.said s.said s.count (fewer_begin input given raw begun);
+  heard = ap length s.heard ∙ s.printed.number;
+  text = heard_text before after s.printed.replies s.talk.heard _ s.heard (part_text before between after replied s.printed.replies s.printed.text printed);
+  to_end = λ same. absurd (omega (arith, same));
+  in_part = λ _. (
+    command,
+    exchange,
+    tried_said input (given ++ raw ∷ []) (replied + 1) s.talk.said (command_item command ∷ []) (said_more given s.talk.said (command_item command ∷ []) raw command s.said refl (kept_decides line raw front ∙ is))
+        (length-append given (raw ∷ []) ∙ ap (λ n. n + 1) s.count) begun,
+  );
+}
 
 -- of the same client, and over the same queue
 pub converses_as : (first other : Talker) (queue queue' : Option QueueView) (input before after : Option (List ℕ)) (result : Result ScriptEnd RunFault) → first ≡ other → queue ≡ queue'

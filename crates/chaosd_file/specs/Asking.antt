@@ -1,21 +1,37 @@
--- What a run over a script has done so far.
-use Rattle.std.specs.Prelude.{◌≡◌, ℕ, List, All, length, Option}
-use Rattle.chaosd_file.specs.declared.lines.LineReader.{LineReader}
+-- What a run over a script has done so far, and what it does with a line.
+use Rattle.std.specs.Prelude.{◌≡◌, ℕ, ◌+◌, Bool, true, false, List, All, length, Option, Some, None, Result, Ok, Err}
+use Rattle.std.specs.Io.KnownBytes.{Appends}
+use Rattle.chaosd_engines.specs.declared.fault.RunFault.{RunFault}
+use Rattle.chaosd_engines.specs.declared.fault.RunFault.TheVariants.{ReadFault, WriteFault, InputTooLong, NoMemory, BadScript, LinkFault, ClockFault}
+use Rattle.chaosd_file.specs.Command.{command_of}
 use Rattle.chaosd_file.specs.Conversation.{commands_said}
-use Rattle.chaosd_file.specs.Printed.{PrintsReplies}
-use Rattle.chaosd_file.specs.Reader.{Gives}
+use Rattle.chaosd_file.specs.Exchange.{Exchanges}
+use Rattle.chaosd_file.specs.Printed.{PrintsReplies, reply_line, no_reply_line}
 use Rattle.chaosd_file.specs.Script.{IsCommand}
 use Rattle.chaosd_file.specs.Talk.{Talker, Talk, Talks}
 
 -- Each line that was given stands for a command that got a reply, and the replies were printed. `last`: the client after `first`,
 -- whose connection wrote these commands and read these replies.
-pub record Asked (first last : Talker) (input rest before after : Option (List ℕ)) (replied : ℕ) (lines : LineReader) : Type 0 where
-  pub given : List (List ℕ)
+pub record Asked (first last : Talker) (before after : Option (List ℕ)) (replied : ℕ) (given : List (List ℕ)) : Type 0 where
   pub count : length given ≡ replied
   pub commands : All IsCommand given
-  pub gives : Gives input rest given lines
   pub printed : PrintsReplies replied before after
   pub talk : Talk
   pub talks : Talks first talk last
   pub said : talk.said ≡ commands_said given
   pub heard : talk.heard ≡ printed.replies
+
+-- The line stands for a command, and its reply was printed; or that it got none was. Or it stands for none, and nothing was printed;
+-- or there was a fault of a turn or of the writer.
+abbrev pub AsksLine : Talker → Talker → ℕ → List ℕ → Option (List ℕ) → Option (List ℕ) → Result Bool RunFault → Type 0
+AsksLine first last replied line before after (Ok true) =
+    (command : List ℕ) × (reply : List ℕ) × (command_of line ≡ Some command) × Exchanges first command (Some reply) last × Appends before after (reply_line reply)
+AsksLine first last replied line before after (Ok false) =
+    (command : List ℕ) × (command_of line ≡ Some command) × Exchanges first command None last × Appends before after no_reply_line
+AsksLine first last replied line before after (Err (BadScript number)) = (command_of line ≡ None) × (number ≡ replied + 1) × (after ≡ before)
+AsksLine first last replied line before after (Err WriteFault) = Unit {0}
+AsksLine first last replied line before after (Err LinkFault) = Unit {0}
+AsksLine first last replied line before after (Err ClockFault) = Unit {0}
+AsksLine first last replied line before after (Err NoMemory) = ⊥
+AsksLine first last replied line before after (Err ReadFault) = ⊥
+AsksLine first last replied line before after (Err InputTooLong) = ⊥

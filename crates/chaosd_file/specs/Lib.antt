@@ -7,6 +7,5 @@ pub mod Exchange
 pub mod Printed
 pub mod Script
 pub mod Conversation
-pub mod Reader
 pub mod Service
 pub mod Asking

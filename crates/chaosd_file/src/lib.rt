@@ -1,9 +1,9 @@
 //! The FILE engines of the program `chaosd`: `loop`, `ask` and `serve`.
 //!
 //! They work on readers, writers, links, a store and a clock that their callers hand in. `command` reads a line of a script,
-//! `lines` cuts an input into lines, `replies` prints, `client` is the end that asks, `server` the host that answers, `turns` is
-//! what a client takes turns with, `script` runs a script, and `loop_run`, `ask_run` and `serve_run` are the engines. `patience`,
-//! `why` and `text` have what a user is told of a run besides.
+//! `replies` prints, `client` is the end that asks, `server` the host that answers, `turns` is what a client takes turns with,
+//! `script` runs a script, and `loop_run`, `ask_run` and `serve_run` are the engines. `patience`, `why` and `text` have what a
+//! user is told of a run besides.
 #![tactic(auto)]
 
 mod ask_run;
@@ -12,7 +12,6 @@ mod clock;
 mod command;
 mod end;
 mod limits;
-mod lines;
 mod loop_run;
 mod patience;
 mod replies;

@@ -47,6 +47,7 @@ pub fn print_reply<W: Write>(
 pub fn print_none<W: Write>(out: &mut WriteBuffer, writer: &mut W) -> Result<(), RunFault>
     requires { out.old ≡ [] }
     ensures text { OnOk result (Appends (W.contents writer.old) (W.contents writer.new) no_reply_line) }
+    ensures empty { OnOk result (out.new ≡ []) }
     ensures faults { IfErr result (λ fault. fault ≡ RunFault.WriteFault) }
 {
     written(put_line(out, "no reply"))?;

@@ -1,5 +1,7 @@
 //! The run over a script.
-ghost use Rattle.std.specs.Prelude.{◌≡◌, ◌<◌, ◌≤◌, Err, IfOk, OnOk};
+ghost use Rattle.std.specs.Prelude.{◌≡◌, ◌<◌, ◌≤◌, [], Err, IfOk, OnOk};
+ghost use Rattle.chaosd_engines.specs.declared.limits.TheConstants.{INPUT_LIMIT};
+ghost use Rattle.chaosd_file.specs.Asking.{AsksLine};
 ghost use Rattle.chaosd_file.specs.Conversation.{AsksAll, Converses};
 ghost use Rattle.chaosd_file.specs.Exchange.{talker_of};
 ghost use Rattle.chaosd_file.specs.Script.{Runs};
@@ -7,11 +9,10 @@ ghost use Rattle.chaosd_file.specs.Script.{Runs};
 use crate::client::Client;
 use crate::command::command_of;
 use crate::end::ScriptEnd;
-use crate::lines::{KeptLine, LineReader};
 use crate::replies::{print_none, print_reply};
 use crate::turns::Turns;
 use crate::why::{Why, bad_line};
-use chaosd_engines::{RunFault, WriteBuffer};
+use chaosd_engines::{INPUT_LIMIT, KEPT_LEN, LineReader, RunFault, WriteBuffer};
 use std::io::{Read, Write};
 
 /// Asks each command of a script, and closes the connection however that ends, but for a fault of a link or of the clock: no turn
@@ -54,24 +55,30 @@ fn ask_all<T: Turns, R: Read, W: Write>(
     ensures well { OnOk result (T.failures turns.new ≤ T.failures turns.old) }
     ensures talk { IfOk result (λ end. AsksAll (talker_of client.old (T.queue turns.old)) (talker_of client.new (T.queue turns.new)) (R.remaining reader.old) (W.contents writer.old) (W.contents writer.new) end) }
 {
-    let mut lines = LineReader::new();
-    let mut line = KeptLine::new();
+    let mut lines: LineReader<KEPT_LEN> = LineReader::new(INPUT_LIMIT);
     let mut out = WriteBuffer::new();
     let mut replied = 0;
-    'lines: while lines.next(reader, &mut line)? {
-        let Some(command) = command_of(line.as_slice()) else {
-            *why = Some(Why::BadLine(bad_line(line.as_slice())));
-            return Err(RunFault::BadScript(replied + 1));
-        };
-        let Some(reply) = client.ask(turns, command.as_slice())? else {
-            *why = Some(Why::NoReply(client.no_reply()));
-            print_none(&mut out, writer)?;
+    'reads: loop {
+        'lines: while lines.cut() {
+            if !ask_line(client, turns, lines.line(), replied, &mut out, writer, why)? {
+                return Ok(ScriptEnd {
+                    commands: replied + 1,
+                    replied,
+                });
+            }
+            replied += 1;
+        }
+        if !lines.refill(reader)? {
+            break 'reads;
+        }
+    }
+    if let Some(line) = lines.last() {
+        if !ask_line(client, turns, line, replied, &mut out, writer, why)? {
             return Ok(ScriptEnd {
                 commands: replied + 1,
                 replied,
             });
-        };
-        print_reply(&mut out, writer, reply.as_slice())?;
+        }
         replied += 1;
     }
     client.end(turns)?;
@@ -79,4 +86,35 @@ fn ask_all<T: Turns, R: Read, W: Write>(
         commands: replied,
         replied,
     })
+}
+
+/// Asks the command that a line stands for and prints its reply, and says whether it got one.
+fn ask_line<T: Turns, W: Write>(
+    client: &mut Client,
+    turns: &mut T,
+    line: &[u8],
+    replied: u64,
+    out: &mut WriteBuffer,
+    writer: &mut W,
+    why: &mut Option<Why>,
+) -> Result<bool, RunFault>
+    requires few { replied ≤ INPUT_LIMIT }
+    requires empty { out.old ≡ [] }
+    ensures asks { AsksLine (talker_of client.old (T.queue turns.old)) (talker_of client.new (T.queue turns.new)) replied line.now (W.contents writer.old) (W.contents writer.new) result }
+    ensures empty { OnOk result (out.new ≡ []) }
+    ensures same_links { T.links turns.new ≡ T.links turns.old }
+    ensures failed { result ≡ Err RunFault.LinkFault → 0 < T.failures turns.new }
+    ensures well { OnOk result (T.failures turns.new ≤ T.failures turns.old) }
+{
+    let Some(command) = command_of(line) else {
+        *why = Some(Why::BadLine(bad_line(line)));
+        return Err(RunFault::BadScript(replied + 1));
+    };
+    let Some(reply) = client.ask(turns, command.as_slice())? else {
+        *why = Some(Why::NoReply(client.no_reply()));
+        print_none(out, writer)?;
+        return Ok(false);
+    };
+    print_reply(out, writer, reply.as_slice())?;
+    Ok(true)
 }

@@ -1,0 +1,16 @@
+use Rattle.std.proofs.Common.{◌∙◌, sym, ap, subst}
+use Rattle.std.specs.Prelude.{None, option_map}
+use Rattle.chaosd_file.specs.Exchange.{talker_of, Exchanges}
+use Rattle.chaosd_file.specs.Talk.{Talker}
+use Rattle.chaosd_file.proofs.script.ask_line.Goals as goal
+
+pub returns-in_default-2-clause-asks : goal.returns-in_default-2-clause-asks
+returns-in_default-2-clause-asks g c =
+    let exchange = rw (c.in_default-2.is, c.as_slice.ensures.value) at c.in_ok-reply.ensures.talk in (
+      c.in-Some.command.items,
+      sym c.command_of.ensures ∙ ap (option_map (λ v. v.items)) c.in-Some.is,
+      subst
+          (λ (parted : Talker). Exchanges (talker_of c.args.client.now (g.T.Turns.queue c.args.turns.now)) c.in-Some.command.items None parted)
+          (sym (c.no_reply.ensures (g.T.Turns.queue c.ask.new.turns))) exchange,
+      c.in_ok-print_none.ensures.text,
+    )
