@@ -74,7 +74,7 @@ def demo_twice(checks):
     def deliver():
         nonlocal script, delivered
         while copies := run(["filelab"], script).out.count(b"copy ") - delivered:
-            script += b"".join(2 * b"deliver %d\n" % (delivered + n) for n in range(copies))
+            script += b"".join(2 * (b"deliver %d\n" % (delivered + n)) for n in range(copies))
             delivered += copies
 
     deliver()
