@@ -1,13 +1,12 @@
 -- What a line is reported as, and one line more.
-use Rattle.std.proofs.Common.{◌≡◌, ℕ, zero, suc, ◌+◌, ◌-◌, ◌<◌, ◌≤◌, Bool, true, false, cond, eqb, ltb, List, [], ◌∷◌, ◌++◌, length, take, take_all, min, refl, sym, ap, ◌∙◌, subst, arith, append_assoc, length-take, length-append}
-use Rattle.std.specs.Prelude.{Option, None, Some, Result, Ok, Err, OnOk, IsOk, ◌↔◌}
+use Rattle.std.proofs.Common.{◌≡◌, ℕ, zero, suc, ◌+◌, ◌<◌, ◌≤◌, Bool, true, false, cond, eqb, ltb, List, [], ◌∷◌, ◌++◌, length, take, take_all, refl, sym, ap, ◌∙◌, subst, arith, append_assoc, length-take, length-append}
+use Rattle.std.specs.Prelude.{Option, None, Some, Result, Ok, Err, OnOk}
 use Rattle.std.specs.Io.BufRead.{strip_last}
 use Rattle.std.specs.Io.KnownBytes.{Appends}
 use Rattle.std.proofs.KnownBytes.{Appends-trans}
 use Rattle.std.proofs.lemmas.Bool.{lt-ltb}
 use Rattle.std.proofs.lemmas.Bool.Decides.{nat_tests}
 use Rattle.std.proofs.lemmas.Grind.{common_steps}
-use Rattle.std.proofs.lemmas.List.{take_min}
 use Rattle.std.proofs.lemmas.List.Sums.{sum_by-append}
 use Rattle.chaos_link.specs.declared.fault.LinkFault.TheVariants.{Short}
 use Rattle.chaosd_engines.specs.declared.limits.TheConstants.{KEPT_LEN, LINE_LIMIT}
@@ -126,20 +125,3 @@ on_ok (Err e) f p q = tt
 pub then_put : {X E : Type 0} (r : Result X E) (old first last all mid new : List ℕ) → mid ≡ old ++ first → OnOk r (new ≡ mid ++ last) → all ≡ first ++ last → OnOk r (new ≡ old ++ all)
 then_put (Ok x) old first last all mid new p q e = q ∙ ap (λ l. l ++ last) p ∙ append_assoc old first last ∙ ap (λ l. old ++ l) (sym e)
 then_put (Err x) old first last all mid new p q e = tt
-
-front_append : (n : ℕ) (xs ys : List ℕ) → length xs ≤ n → take n (xs ++ ys) ≡ xs ++ take (n - length xs) ys
-front_append n [] ys le = ap (λ k. take k ys) (omega arith)
-front_append zero (x ∷ xs) ys le = absurd (omega arith)
-front_append (suc n) (x ∷ xs) ys le =
-    let same : n - length xs ≡ suc n - length (x ∷ xs) = omega arith in
-    ap (λ l. x ∷ l) (front_append n xs ys (omega arith) ∙ ap (λ k. xs ++ take k ys) same)
-
-no_ok : (X E : Type 0) (e : E) → IsOk {T = X} {E = E} (Err e) → ⊥
-no_ok X E e h = cc
-
--- what is kept of a line with one more piece
-pub keeps_front : {X E : Type 0} (r : Result X E) (kept : ℕ) (old piece new : List ℕ) (room count : ℕ) → room + length old ≡ kept → count ≡ min (length piece) room
-    → IsOk r ↔ (length old + length (take count piece) ≤ kept) → OnOk r (new ≡ old ++ take count piece) → new ≡ take kept (old ++ piece)
-keeps_front (Ok x) kept old piece new room count e m fits items =
-    items ∙ ap (λ n. old ++ take n piece) (omega arith) ∙ ap (λ l. old ++ l) (take_min (kept - length old) piece) ∙ sym (front_append kept old piece (omega arith))
-keeps_front {X} {E} (Err x) kept old piece new room count e m fits items = absurd (no_ok X E x (fits.1 (omega (arith, length-take count piece))))
