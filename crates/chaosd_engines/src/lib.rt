@@ -21,7 +21,10 @@ pub use buffer::{NotWritten, WriteBuffer};
 pub use escapes::{Data, data_of, law_read_back, put_text};
 pub use fault::{RunFault, written};
 pub use input::read_chunk;
-pub use limits::{BUFFER_LEN, CHUNK_LEN, INPUT_LIMIT, KEPT_LEN, LINE_LIMIT, law_limits};
+pub use limits::{
+    BUFFER_LEN, CHUNK_LEN, INPUT_LIMIT, KEPT_LEN, LINE_LIMIT, SHOW_KEPT_LEN, SHOW_LINE_LIMIT,
+    law_limits,
+};
 pub use lines::without_return;
 pub use reader::LineReader;
 pub use show::{Tally, law_report, run_show};
