@@ -58,6 +58,13 @@ abbrev pub AreLongest : List (List PacketView) → Type 0
 AreLongest [] = Unit {0}
 AreLongest (load ∷ loads) = EndsBefore load loads × AreLongest loads
 
+-- The loads are the packets in order, each fits a datagram, has one destination and is the longest front of what is left.
+pub record AreLoadsOf (ps : List PacketView) (loads : List (List PacketView)) : Type 0 where
+  pub whole : packets_of loads ≡ ps
+  pub fit : All (λ load. fit_together load ≡ true) loads
+  pub one : All HasOneDestination loads
+  pub longest : AreLongest loads
+
 -- ---- A load in a buffer
 
 -- each of the packets is spelled by its words

@@ -2,7 +2,7 @@
 ghost use Rattle.std.specs.Prelude.{◌≡◌, ◌≤◌, ◌++◌, ◌∷◌, [], ℕ, List, All, Ok, true, length, take, slice_index};
 ghost use Rattle.chaos_packet.specs.Packet.{PacketView};
 ghost use Rattle.chaos_link.specs.Bundle.{datagram_of_all, fit_together};
-ghost use Rattle.chaos_link.specs.Loads.{AreLongest, HasOneDestination, IsBuilt, IsSmall, joined, joins, loads_of, packets_of};
+ghost use Rattle.chaos_link.specs.Loads.{AreLoadsOf, AreLongest, HasOneDestination, IsBuilt, IsSmall, joined, joins, loads_of, packets_of};
 ghost use Rattle.chaos_link.specs.Packets.{Carries2, packets_read};
 
 use crate::bundle::bytes_of;
@@ -133,4 +133,7 @@ pub fn law_loads()
 
     // Each is the longest front of what is left: the next one's first packet goes elsewhere, or doesn't fit.
     ensures longest { (ps : List PacketView) → AreLongest (loads_of ps) }
+
+    // No other loads are all of that.
+    ensures only { (ps : List PacketView) (loads : List (List PacketView)) → AreLoadsOf ps loads → loads ≡ loads_of ps }
 {}

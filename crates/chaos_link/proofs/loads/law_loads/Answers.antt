@@ -1,4 +1,4 @@
-use Rattle.chaos_link.proofs.Cut.{each_fits, each_longest, each_one, whole}
+use Rattle.chaos_link.proofs.Cut.{each_fits, each_longest, each_one, only, whole}
 use Rattle.chaos_link.proofs.loads.law_loads.Goals as goal
 
 pub returns-clause-whole : goal.returns-clause-whole
@@ -12,3 +12,6 @@ returns-clause-one c = each_one
 
 pub returns-clause-longest : goal.returns-clause-longest
 returns-clause-longest c = each_longest
+
+pub returns-clause-only : goal.returns-clause-only
+returns-clause-only c = only
