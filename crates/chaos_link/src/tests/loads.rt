@@ -1,5 +1,6 @@
 //! Packets that wait, cut into datagrams of version 2.
 use crate::*;
+use arrayvec::ArrayVec;
 use chaos_packet::{MAX_DATA, Packet};
 use std::test::Fail;
 
@@ -12,11 +13,11 @@ const LOAD: [u8; 38] = [
 
 /// A packet to this address, with so many data bytes, each of them this one.
 fn packet_to(address: u16, count: usize, byte: u8) -> Packet {
+    let mut body = ArrayVec::from([byte; MAX_DATA]);
+    body.truncate(count);
     let mut packet = Packet::default();
     packet.dst = address;
-    for _ in 0..count {
-        let _fits = packet.body.try_push(byte);
-    }
+    packet.body = body;
     packet
 }
 
