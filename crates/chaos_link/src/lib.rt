@@ -6,12 +6,14 @@
 #![tactic(auto)]
 
 mod bundle;
+mod carriage;
 mod datagram;
 mod encode;
 mod fault;
 mod fuse;
 mod limits;
 mod link;
+mod loads;
 mod mem;
 mod packets;
 mod pairs;
@@ -21,6 +23,7 @@ mod tests;
 mod udp;
 
 pub use bundle::{fits, to_datagram2, write_datagram2};
+pub use carriage::Carriage;
 pub use datagram::{from_datagram, law_carries};
 pub use encode::{to_datagram, write_datagram};
 pub use fault::{LinkFault, PeerFault};
@@ -29,7 +32,8 @@ pub use limits::{
     LINK_ROOM, MARK_BYTES, MAX_BUNDLE, MAX_DATAGRAM, MAX_PACKETS, MAX_PEERS, MAX_WAIT, law_limits,
 };
 pub use link::{Link, Received, Sent};
+pub use loads::{Load, law_loads};
 pub use mem::MemLink;
-pub use packets::{Packets, law_carries2, open_datagram, read_datagram};
+pub use packets::{Packets, is_version_two, law_carries2, open_datagram, read_datagram};
 pub use peers::{Peer, Peers};
 pub use udp::UdpLink;
