@@ -47,6 +47,7 @@ $(DIALOGUES): $(SOURCES)
 
 pictures:
 	@tools/ladder --pictures docs/pictures
+	@tools/layers > docs/pictures/layers.svg.new && mv docs/pictures/layers.svg.new docs/pictures/layers.svg
 
 bench: $(PROGRAM_BENCHES:%=bench-%) $(BENCHES:%=bench-%)
 

@@ -2,12 +2,18 @@
 // packet's words read in place, and one fixed buffer of text. It takes no memory.
 use std::io::{self, ErrorKind, Read, Write};
 
-const LINE_LIMIT: usize = 4_096;
+const LINE_LIMIT: usize = 8_192;
 const CHUNK: usize = 16_384;
 const TEXT: usize = 16_384;
 
-/// No report has more bytes, with the empty line in front of it.
-const ROOM: usize = 2_048;
+/// No report has more bytes, with the empty line in front of it; nor has that of a short line more than the second.
+const ROOM: usize = 8_192;
+const SHORT_ROOM: usize = 2_048;
+const SHORT_LINE: usize = 1_080;
+
+/// The most packets of a datagram, and its most bytes.
+const MAX_PACKETS: u8 = 8;
+const MAX_BYTES: usize = 2_020;
 
 /// The value of each byte as a hexadecimal digit, and what is none.
 const NO_DIGIT: u8 = 0xFF;
@@ -94,10 +100,23 @@ enum Fault {
     Short,
     BadMark,
     BadVersion,
-    PacketShort,
+    Packet(PacketFault),
+    Trailing,
+    BadNumber,
+    TooLong,
+    PacketAt(u8, PacketFault),
+}
+
+enum PacketFault {
+    Short,
     BadCount,
     Truncated,
-    Trailing,
+}
+
+/// The packets of a datagram without a fault.
+enum Datagram<'a> {
+    One(&'a [u8]),
+    Several(u8, &'a [u8]),
 }
 
 struct Packet {
@@ -132,46 +151,77 @@ fn hex(line: &[u8], bytes: &mut [u8; LINE_LIMIT / 2]) -> Option<usize> {
     Some(count)
 }
 
-fn word(bytes: &[u8], at: usize) -> u16 {
-    u16::from_be_bytes([bytes[4 + 2 * at], bytes[5 + 2 * at]])
+fn word(words: &[u8], at: usize) -> u16 {
+    u16::from_be_bytes([words[2 * at], words[2 * at + 1]])
 }
 
-fn decode(bytes: &[u8]) -> Result<Packet, Fault> {
-    if bytes.len() < 4 {
-        return Err(Fault::Short);
+fn count(words: &[u8]) -> usize {
+    usize::from(word(words, 1) % 4096)
+}
+
+/// How many bytes the packet takes at the front of the words.
+fn packet_len(words: &[u8]) -> Result<usize, PacketFault> {
+    if words.len() < 16 {
+        return Err(PacketFault::Short);
     }
-    if bytes[..2] != [0x43, 0x48] {
+    let count = count(words);
+    if count > 488 {
+        return Err(PacketFault::BadCount);
+    }
+    let used = 16 + 2 * count.div_ceil(2);
+    if words.len() < used {
+        return Err(PacketFault::Truncated);
+    }
+    Ok(used)
+}
+
+fn open(bytes: &[u8]) -> Result<Datagram<'_>, Fault> {
+    let [first, second, version, number, words @ ..] = bytes else {
+        return Err(Fault::Short);
+    };
+    if [*first, *second] != [0x43, 0x48] {
         return Err(Fault::BadMark);
     }
-    if bytes[2..4] != [1, 0] {
-        return Err(Fault::BadVersion);
+    match (*version, *number) {
+        (1, 0) => {
+            let used = packet_len(words).map_err(Fault::Packet)?;
+            if words.len() > used {
+                return Err(Fault::Trailing);
+            }
+            Ok(Datagram::One(words))
+        }
+        (2, 1..=MAX_PACKETS) => {
+            if bytes.len() > MAX_BYTES {
+                return Err(Fault::TooLong);
+            }
+            let mut rest = words;
+            for k in 1..=*number {
+                let used = packet_len(rest).map_err(|fault| Fault::PacketAt(k, fault))?;
+                rest = &rest[used..];
+            }
+            if !rest.is_empty() {
+                return Err(Fault::Trailing);
+            }
+            Ok(Datagram::Several(*number, words))
+        }
+        (2, _) => Err(Fault::BadNumber),
+        _ => Err(Fault::BadVersion),
     }
-    let words = (bytes.len() - 4) / 2;
-    if words < 8 {
-        return Err(Fault::PacketShort);
-    }
-    let count = usize::from(word(bytes, 1) % 4096);
-    if count > 488 {
-        return Err(Fault::BadCount);
-    }
-    let used = 8 + count.div_ceil(2);
-    if words < used {
-        return Err(Fault::Truncated);
-    }
-    if bytes.len() > 4 + 2 * used {
-        return Err(Fault::Trailing);
-    }
+}
+
+/// The packet at the front of words that were looked through.
+fn decode(words: &[u8]) -> Packet {
     let mut body = [0; 488];
-    for (pair, swapped) in body.chunks_exact_mut(2).zip(bytes[20..].chunks_exact(2)) {
+    for (pair, swapped) in body.chunks_exact_mut(2).zip(words[16..].chunks_exact(2)) {
         pair.copy_from_slice(&[swapped[1], swapped[0]]);
     }
-    Ok(Packet {
-        op: bytes[4],
-        fwd: bytes[6] >> 4,
-        words: [2, 3, 4, 5, 6, 7].map(|at| word(bytes, at)),
+    Packet {
+        op: words[0],
+        fwd: words[2] >> 4,
+        words: [2, 3, 4, 5, 6, 7].map(|at| word(words, at)),
         body,
-        count,
-    })
+        count: count(words),
+    }
 }
 
 fn name(op: u8) -> &'static [u8] {
@@ -229,16 +279,47 @@ fn print(text: &mut Text, p: &Packet) {
     }
 }
 
-fn fault(f: Fault) -> &'static [u8] {
+fn packet_fault(f: PacketFault) -> &'static [u8] {
     match f {
-        Fault::Line => b"fault 0 Line\n",
-        Fault::Short => b"fault 1 Short\n",
-        Fault::BadMark => b"fault 2 BadMark\n",
-        Fault::BadVersion => b"fault 3 BadVersion\n",
-        Fault::PacketShort => b"fault 4 Packet 1 Short\n",
-        Fault::BadCount => b"fault 4 Packet 2 BadCount\n",
-        Fault::Truncated => b"fault 4 Packet 3 Truncated\n",
-        Fault::Trailing => b"fault 5 Trailing\n",
+        PacketFault::Short => b"1 Short\n",
+        PacketFault::BadCount => b"2 BadCount\n",
+        PacketFault::Truncated => b"3 Truncated\n",
+    }
+}
+
+fn print_fault(text: &mut Text, f: Fault) {
+    match f {
+        Fault::Line => text.put(b"fault 0 Line\n"),
+        Fault::Short => text.put(b"fault 1 Short\n"),
+        Fault::BadMark => text.put(b"fault 2 BadMark\n"),
+        Fault::BadVersion => text.put(b"fault 3 BadVersion\n"),
+        Fault::Packet(fault) => {
+            text.put(b"fault 4 Packet ");
+            text.put(packet_fault(fault));
+        }
+        Fault::Trailing => text.put(b"fault 5 Trailing\n"),
+        Fault::BadNumber => text.put(b"fault 6 BadNumber\n"),
+        Fault::TooLong => text.put(b"fault 7 TooLong\n"),
+        Fault::PacketAt(k, fault) => {
+            text.put(b"fault 8 PacketAt ");
+            text.decimal(u16::from(k));
+            text.put(b" ");
+            text.put(packet_fault(fault));
+        }
+    }
+}
+
+fn print_several(text: &mut Text, number: u8, words: &[u8]) {
+    text.put(b"carriage 2 packets ");
+    text.decimal(u16::from(number));
+    text.put(b"\n");
+    let mut rest = words;
+    for _ in 0..number {
+        let used = 16 + 2 * count(rest).div_ceil(2);
+        let (front, behind) = rest.split_at(used);
+        text.put(b"\n");
+        print(text, &decode(front));
+        rest = behind;
     }
 }
 
@@ -251,24 +332,25 @@ struct Reporter {
 
 impl Reporter {
     fn report(&mut self, line: &[u8]) -> io::Result<()> {
-        if TEXT - self.text.len < ROOM {
-            self.text.hand_on()?;
+        let Reporter { text, bytes, is_first } = self;
+        let room = if line.len() > SHORT_LINE { ROOM } else { SHORT_ROOM };
+        if TEXT - text.len < room {
+            text.hand_on()?;
         }
-        if !self.is_first {
-            self.text.put(b"\n");
+        if !*is_first {
+            text.put(b"\n");
         }
-        self.is_first = false;
+        *is_first = false;
         let line = line.strip_suffix(b"\r").unwrap_or(line);
         let read = if line.len() > LINE_LIMIT {
             Err(Fault::Line)
         } else {
-            hex(line, &mut self.bytes)
-                .ok_or(Fault::Line)
-                .and_then(|count| decode(&self.bytes[..count]))
+            hex(line, bytes).ok_or(Fault::Line).and_then(|count| open(&bytes[..count]))
         };
         match read {
-            Ok(packet) => print(&mut self.text, &packet),
-            Err(f) => self.text.put(fault(f)),
+            Ok(Datagram::One(words)) => print(text, &decode(words)),
+            Ok(Datagram::Several(number, words)) => print_several(text, number, words),
+            Err(f) => print_fault(text, f),
         }
         Ok(())
     }

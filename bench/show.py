@@ -13,7 +13,8 @@ import time
 HERE = pathlib.Path(__file__).parent
 LIMIT = 1_048_576
 STATUS = "43 48 01 00 07 00 00 04 01 01 02 01 01 02 03 05 00 00 00 10 00 12 00 0D"
-HEADER = "43480100800001E8010102010102030500050010"
+PACKET = "800001E8010102010102030500050010" + "".join(f"{n % 256:02X}" for n in range(488))
+LETTER = "80000001010102010102030500050010" + "0041"
 
 
 def filled(line):
@@ -23,8 +24,10 @@ def filled(line):
 
 INPUTS = {
     "short lines": filled(STATUS),
-    "long lines": filled(HEADER + "".join(f"{n % 256:02X}" for n in range(488))),
+    "long lines": filled("43480100" + PACKET),
     "empty lines": filled(""),
+    "four long packets a line": filled("43480204" + 4 * PACKET),
+    "eight short packets a line": filled("43480208" + 8 * LETTER),
 }
 
 

@@ -301,15 +301,16 @@ HARMS = [
     lambda dice, good: good + dice.randbytes(dice.randrange(1, 5)),
     lambda dice, good: with_bytes(good, dice.randrange(2), [dice.randrange(256)]),
     lambda dice, good: with_bytes(good, 2, [dice.choice([0, 1, 3, 255]), dice.randrange(3)]),
+    lambda dice, good: with_bytes(good, 3, [dice.randrange(12)]),
     lambda dice, good: with_bytes(good, 6, struct.pack(">H", dice.randrange(489, 65_536))),
     lambda dice, good: dice.randbytes(dice.randrange(1, 40)),
 ]
 
 
-def made_up(both_versions):
-    """The datagrams, half of them harmed. None is empty: UDP hands an empty one to no dissector."""
+def made_up():
+    """The datagrams, a fifth of them of version 2 and half of them harmed. None is empty: UDP hands an empty one to no dissector."""
     dice = random.Random(SEED)
-    goods = [several(dice) if both_versions and dice.random() < 0.2 else MARK_1 + random_words(dice) for _ in range(COUNT)]
+    goods = [several(dice) if dice.random() < 0.2 else MARK_1 + random_words(dice) for _ in range(COUNT)]
     return [dice.choice(HARMS)(dice, good) if dice.random() < 0.5 else good for good in goods]
 
 
@@ -352,21 +353,19 @@ def shown(datagrams):
 
 def both_ways(checks, tshark):
     """The same datagrams, field by field."""
-    both_versions = b"BadVersion" not in run(["show"], b"43480200").out
-    datagrams = made_up(both_versions)
+    datagrams = made_up()
     seen = [(CLIENT_PORT, SERVER_PORT, each) for each in datagrams]
     names = ["chaosnet.fault", "chaosnet.packets", "_ws.col.Info", *(f"chaosnet.{name}" for name in FIELDS)]
     rows = tshark.fields(seen, names, "-d", f"udp.port=={SERVER_PORT},chaosnet")
     wanted = list(shown(datagrams))
-    faults = {report for report in wanted if report.startswith("fault")}
-    problems = [] if len(faults) >= 7 and sum(report in faults for report in wanted) > COUNT / 4 else [f"only {faults}"]
+    faults = [report.split()[1] for report in wanted if report.startswith("fault")]
+    problems = [] if set(faults) == set("12345678") and len(faults) > COUNT / 4 else [f"{len(faults)}, only {set(faults)}"]
     checks.check(f"among {COUNT} datagrams each fault stands", problems)
+    checks.check("and several of version 2 that are read", [] if sum(report.startswith("carriage 2") for report in wanted) > COUNT / 20 else ["too few"])
     checks.check(f"{COUNT} datagrams are read by tshark and by `show` alike", differences(list(reports_of(rows)), wanted))
     checks.check("nothing stops the dissector", differences(tshark.frames(seen, "_ws.lua.error", "-d", f"udp.port=={SERVER_PORT},chaosnet"), []))
     piped = tshark.run(seen, "-T", "fields", "-e", "udp.payload")
     checks.check("`show` reads what tshark prints of udp.payload", differences(piped.split(), [each.hex() for each in datagrams]))
-    if not both_versions:
-        print("(the program has no version 2 of the carriage, so that none of the datagrams is of it)")
 
 
 def several_packets(checks, tshark):
@@ -389,6 +388,9 @@ def several_packets(checks, tshark):
     seen = [(CLIENT_PORT, SERVER_PORT, MARK_2 + rest) for rest, _, _ in rows]
     table = tshark.fields(seen, ["chaosnet.fault", "chaosnet.op"])
     checks.check("datagrams of version 2, typed", differences(table, [[fault, ops] for _, fault, ops in rows]))
+    reports = list(shown([payload for _, _, payload in seen]))
+    fronts = [fault or f"carriage 2 packets {len(ops.split(','))}" for _, fault, ops in rows]
+    checks.check("and `show` says so too", differences([report.partition("\n")[0] for report in reports], fronts))
 
 
 # docs/PROTOCOL.md.

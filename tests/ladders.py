@@ -1,5 +1,5 @@
 #!/usr/bin/env python3
-"""Tests tools/ladder: draws the pictures of the documents again, and counts what stands in each.
+"""Tests tools/ladder and tools/layers: draws the pictures of the documents again, and counts what stands in each ladder.
 
     make && tests/ladders.py [PROGRAM]
 
@@ -21,8 +21,9 @@ from program import DONE, Checks, run  # noqa: E402
 
 ROOT = program.HERE.parent
 LADDER = ROOT / "tools/ladder"
+LAYERS = ROOT / "tools/layers"
 PICTURES = ROOT / "docs/pictures"
-DOCUMENTS = [ROOT / "docs/LABORATORY.md", ROOT / "docs/PROTOCOL.md"]
+DOCUMENTS = [ROOT / "docs/LABORATORY.md", ROOT / "docs/PROTOCOL.md", ROOT / "README.md"]
 LOGIN = ROOT / "examples/login"
 SCRIPTS = sorted(path for path in ROOT.glob("examples/*lab/*") if path.suffix != ".txt")
 
@@ -49,13 +50,16 @@ def documented(checks):
         ended = drawn("--pictures", folder)
         checks.check("the tool draws all pictures", [ended.stderr] * bool(ended.returncode or ended.stderr))
         made = {path.name: path.read_text() for path in pathlib.Path(folder).iterdir()}
+    layers = subprocess.run([LAYERS], capture_output=True, text=True, timeout=program.PATIENCE)
+    checks.check("the layers are drawn as crates.txt has them", [layers.stderr] * bool(layers.returncode or layers.stderr))
     there = {path.name for path in PICTURES.iterdir()}
     checks.check("there is a picture of each script", [] if len(made) == len(SCRIPTS) + 1 else [f"{sorted(made)} of {len(SCRIPTS)} scripts"])
+    made["layers.svg"] = layers.stdout
     checks.check("no others are there", [f"{name}" for name in sorted(there ^ set(made))])
     for name in sorted(there & set(made)):
         same = (PICTURES / name).read_text() == made[name]
         checks.check(f"{name} is drawn as it is there", [] if same else ["another is drawn: `make pictures`"])
-    shown = {name for document in DOCUMENTS for name in re.findall(r"\]\(pictures/([\w.]+)\)", document.read_text())}
+    shown = {name for document in DOCUMENTS for name in re.findall(r"\]\((?:docs/)?pictures/([\w.]+)\)", document.read_text())}
     checks.check("documents show pictures that are there", sorted(shown - there))
     checks.check("each picture stands in a document", sorted(there - shown))
 

@@ -30,7 +30,8 @@ SHORT_REPORT = b"fault 1 Short\n"
 DONE, FAULT, BAD_LINE, REFUSED = 0, 1, 2, 3
 
 INPUT_LIMIT = 1_048_576
-LINE_LIMIT = 4_096
+# The most bytes of a line of a script, and of one of `show`.
+LINE_LIMIT, SHOW_LINE_LIMIT = 4_096, 8_192
 
 # No check waits for longer, in seconds.
 PATIENCE = 20
@@ -110,9 +111,9 @@ def reports(checks):
         ("a datagram that is cut is refused, status 3", STATUS[:-3], REFUSED, b"fault 4 Packet 3 Truncated\n"),
         ("what follows a refusal is reported, status 3", b"\n" + STATUS, REFUSED, SHORT_REPORT + b"\n" + STATUS_REPORT),
         ("what goes before a refusal is reported, status 3", STATUS + b"\n\n", REFUSED, STATUS_REPORT + b"\n" + SHORT_REPORT),
-        ("a line of 4,096 bytes and a carriage return is read", STATUS.rjust(LINE_LIMIT) + b"\r\n", DONE, STATUS_REPORT),
+        ("a line of 8,192 bytes and a carriage return is read", STATUS.rjust(SHOW_LINE_LIMIT) + b"\r\n", DONE, STATUS_REPORT),
         ("a line of 40,000 bytes is refused, status 3", STATUS.rjust(40_000), REFUSED, b"fault 0 Line\n"),
-        ("a line of 4,097 bytes is refused, status 3", STATUS.rjust(LINE_LIMIT + 1) + b"\n", REFUSED, b"fault 0 Line\n"),
+        ("a line of 8,193 bytes is refused, status 3", STATUS.rjust(SHOW_LINE_LIMIT + 1) + b"\n", REFUSED, b"fault 0 Line\n"),
     ]:
         checks.check(name, run(["show"], given).problems(status, out, b""))
 
@@ -140,7 +141,15 @@ def forms(checks):
         (b"42480100", b"2 BadMark"),
         (b"43490100", b"2 BadMark"),
         (b"43480101", b"3 BadVersion"),
-        (b"43480200", b"3 BadVersion"),
+        (b"43480300", b"3 BadVersion"),
+        (b"434802", b"1 Short"),
+        (b"42480200", b"2 BadMark"),
+        (b"43480200", b"6 BadNumber"),
+        (b"43480209" + b"00" * 2_017, b"6 BadNumber"),
+        (b"43480201" + b"00" * 2_017, b"7 TooLong"),
+        (b"43480201", b"8 PacketAt 1 1 Short"),
+        (b"43480202" + STATUS[12:-3], b"8 PacketAt 1 3 Truncated"),
+        (b"43480201" + STATUS[12:] + b"00", b"5 Trailing"),
         (b"43480100", b"4 Packet 1 Short"),
         (b"43480100 0700 0004 0101 0201 0102 0305 0000 00", b"4 Packet 1 Short"),
         (count_489, b"4 Packet 2 BadCount"),
@@ -155,6 +164,34 @@ def forms(checks):
     given = b"".join(line + b"\n" for line, _ in refused)
     wanted = b"\n".join(b"fault " + fault + b"\n" for _, fault in refused)
     checks.check("all these refusals in one input", run(["show"], given).problems(REFUSED, wanted, b""))
+
+
+def several(checks):
+    """Datagrams of version 2: each is one report of its packets, or one refusal."""
+    two = STATUS[12:] + DATA[11:]
+    both = b"carriage 2 packets 2\n\n" + STATUS_REPORT + b"\n" + DATA_REPORT
+    one = b"43480201" + DATA[11:]
+    lone = b"carriage 2 packets 1\n\n" + DATA_REPORT
+    mixed = b"\n".join([STATUS_REPORT, lone, SHORT_REPORT, lone])
+    for name, given, status, out in [
+        ("two packets of a datagram are one report", b"43 48 02 02 " + two, DONE, both),
+        ("one packet of version 2 has the first line too", one, DONE, lone),
+        ("with the number 3 the third packet is short", b"43 48 02 03 " + two, REFUSED, b"fault 8 PacketAt 3 1 Short\n"),
+        ("with the number 1 something is left", b"43 48 02 01 " + two, REFUSED, b"fault 5 Trailing\n"),
+        ("with the number 0 it is refused", b"43 48 02 00 " + two, REFUSED, b"fault 6 BadNumber\n"),
+        ("with the number 9 it is refused", b"43 48 02 09 " + two, REFUSED, b"fault 6 BadNumber\n"),
+        ("there is no version 3", b"43 48 03 00", REFUSED, b"fault 3 BadVersion\n"),
+        ("reports of both versions have an empty line between", STATUS + b"\n" + one + b"\n\n" + one, REFUSED, mixed),
+    ]:
+        checks.check(name, run(["show"], given + b"\n").problems(status, out, b""))
+    greatest = b" 80 00 F1 E8" + b" FF" * 12 + b" AA" * 488
+    told = b"op 200 DAT\nfwd 15 count 488\nto 177777 177777\nfrom 177777 177777\nnum 65535 ack 65535\ndata" + b" AA" * 488 + b"\n"
+    four = b"43 48 02 04" + greatest * 4
+    text = b"\n".join([b"carriage 2 packets 4\n"] + [told] * 4)
+    checks.check("four of the greatest packets are read", run(["show"], four).problems(DONE, text, b""))
+    checks.check("100 such datagrams", run(["show"], b"\n".join([four] * 100)).problems(DONE, b"\n".join([text] * 100), b""))
+    ended = run(["show"], four + b" 00")
+    checks.check("with a byte more it is too long", ended.problems(REFUSED, b"fault 7 TooLong\n", b""))
 
 
 def names(checks):
@@ -303,7 +340,7 @@ def main():
     if not PROGRAM.is_file():
         sys.exit(f"{PROGRAM} isn't there: run make first")
     checks = Checks()
-    for group in [reports, forms, names, longest_reports, limits, lines, writers, readers, typed_lines]:
+    for group in [reports, forms, several, names, longest_reports, limits, lines, writers, readers, typed_lines]:
         group(checks)
     print(f"{checks.count - checks.failed} passed, {checks.failed} failed")
     sys.exit(1 if checks.failed else 0)

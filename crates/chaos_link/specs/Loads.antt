@@ -1,9 +1,11 @@
 -- How packets that wait are cut into datagrams of version 2.
-use Rattle.std.specs.Prelude.{◌≡◌, ℕ, ◌+◌, List, [], ◌∷◌, ◌++◌, ◌≤◌, length, take, map, All, Bool, true, false, ◌==◌, ◌&&◌, if◌then◌else◌}
+use Rattle.std.specs.Prelude.{◌≡◌, ℕ, ◌+◌, ◌≤◌, List, [], ◌∷◌, ◌++◌, length, take, drop, map, All, slice_index, Bool, true, false, ◌==◌, ◌&&◌, if◌then◌else◌}
 use Rattle.chaos_packet.specs.Packet.{PacketView}
 use Rattle.chaos_packet.specs.Words.{Spells, spelling_of}
 use Rattle.chaos_packet.specs.declared.limits.TheConstants.{MAX_DATA}
 use Rattle.chaos_link.specs.Bundle.{bytes_for, datagram_of_all, fit_together}
+use Rattle.chaos_link.specs.Datagram.{words_of}
+use Rattle.chaos_link.specs.Packets.{packets_at}
 use Rattle.chaos_link.specs.declared.limits.TheConstants.{MARK_BYTES}
 
 -- A load is the packets of one datagram, all to one destination. A packet joins one that is begun, where it goes to the same
@@ -56,6 +58,13 @@ abbrev pub AreLongest : List (List PacketView) → Type 0
 AreLongest [] = Unit {0}
 AreLongest (load ∷ loads) = EndsBefore load loads × AreLongest loads
 
+-- The loads are the packets in order, each fits a datagram, has one destination and is the longest front of what is left.
+pub record AreLoadsOf (ps : List PacketView) (loads : List (List PacketView)) : Type 0 where
+  pub whole : packets_of loads ≡ ps
+  pub fit : All (λ load. fit_together load ≡ true) loads
+  pub one : All HasOneDestination loads
+  pub longest : AreLongest loads
+
 -- ---- A load in a buffer
 
 -- each of the packets is spelled by its words
@@ -70,3 +79,7 @@ pub record IsBuilt (load : List PacketView) (to end : ℕ) (bytes : List ℕ) : 
   pub spelled : EachSpelled load
   pub size : end ≡ MARK_BYTES + bytes_for load
   pub front : take end bytes ≡ datagram_of_all load
+
+-- the packets of the datagram that ends there
+abbrev pub load_in : ℕ → List ℕ → List PacketView
+load_in end bytes = packets_at (slice_index bytes 3) (words_of (drop MARK_BYTES (take end bytes)))

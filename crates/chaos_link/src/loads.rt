@@ -2,13 +2,13 @@
 ghost use Rattle.std.specs.Prelude.{◌≡◌, ◌≤◌, ◌++◌, ◌∷◌, [], ℕ, List, All, Ok, true, length, take, slice_index};
 ghost use Rattle.chaos_packet.specs.Packet.{PacketView};
 ghost use Rattle.chaos_link.specs.Bundle.{datagram_of_all, fit_together};
-ghost use Rattle.chaos_link.specs.Loads.{AreLongest, HasOneDestination, IsSmall, joined, joins, loads_of, packets_of};
+ghost use Rattle.chaos_link.specs.Loads.{AreLoadsOf, AreLongest, HasOneDestination, IsBuilt, IsSmall, joined, joins, loads_of, packets_of};
 ghost use Rattle.chaos_link.specs.Packets.{Carries2, packets_read};
 
 use crate::bundle::bytes_of;
 use crate::datagram::MARK;
 use crate::encode::put_packet;
-use crate::limits::{MARK_BYTES, MAX_BUNDLE, MAX_DATAGRAM, MAX_PACKETS};
+use crate::limits::{MARK_BYTES, MAX_BUNDLE, MAX_PACKETS};
 use crate::packets::VERSION_TWO;
 use chaos_packet::Packet;
 use std::marker::Model;
@@ -32,17 +32,15 @@ pub struct Load {
 }
 
 impl Model for Load {
-    ghost use Rattle.std.specs.Prelude.{List, drop, slice_index, take};
+    ghost use Rattle.std.specs.Prelude.{List};
     ghost use Rattle.chaos_packet.specs.Packet.{PacketView};
-    ghost use Rattle.chaos_link.specs.Datagram.{words_of};
-    ghost use Rattle.chaos_link.specs.Loads.{IsBuilt};
-    ghost use Rattle.chaos_link.specs.Packets.{packets_at};
+    ghost use Rattle.chaos_link.specs.Loads.{IsBuilt, load_in};
 
     ghost Value = { List PacketView };
 
-    ghost view = { λ s. packets_at (slice_index s.bytes 3) (words_of (drop 4 (take s.end s.bytes))) };
+    ghost view = { λ s. load_in s.end s.bytes };
 
-    ghost invariant = { λ s. IsBuilt (packets_at (slice_index s.bytes 3) (words_of (drop 4 (take s.end s.bytes)))) s.to s.end s.bytes };
+    ghost invariant = { λ s. IsBuilt (load_in s.end s.bytes) s.to s.end s.bytes };
 }
 
 impl Load {
@@ -73,13 +71,22 @@ impl Load {
         ensures told { result ≡ joins self.old packet.now }
         ensures load { self.new ≡ joined self.old packet.now }
     {
-        let over = self.end + bytes_of(packet) > MAX_BUNDLE;
-        if packet.dst != self.to || usize::from(self.bytes[NUMBER]) == MAX_PACKETS || over {
+        if !self.joins(packet) {
             return false;
         }
         self.bytes[NUMBER] += 1;
         self.end = put_packet(packet, self.end, &mut self.bytes);
         true
+    }
+
+    /// Whether a packet joins the load, as [`Load::join`] says.
+    fn joins(&self, packet: &Packet) -> bool
+        ensures { result ≡ joins self.now packet.now }
+    {
+        if packet.dst != self.to || usize::from(self.bytes[NUMBER]) == MAX_PACKETS {
+            return false;
+        }
+        self.end + bytes_of(packet) <= MAX_BUNDLE
     }
 
     /// The Chaosnet address that all packets of the load go to.
@@ -107,7 +114,7 @@ impl Load {
 
 /// Puts the datagram of version 2 of one packet in front, and says where it ends.
 fn put_first(packet: &Packet, buffer: &mut [u8; MAX_BUNDLE]) -> usize
-    ensures fits { result ≤ MAX_DATAGRAM }
+    ensures { IsBuilt (packet.now ∷ []) packet.now.dst result buffer.new }
 {
     buffer[..MARK_BYTES].copy_from_slice(&[MARK[0], MARK[1], VERSION_TWO, 1]);
     put_packet(packet, MARK_BYTES, buffer)
@@ -126,4 +133,7 @@ pub fn law_loads()
 
     // Each is the longest front of what is left: the next one's first packet goes elsewhere, or doesn't fit.
     ensures longest { (ps : List PacketView) → AreLongest (loads_of ps) }
+
+    // No other loads are all of that.
+    ensures only { (ps : List PacketView) (loads : List (List PacketView)) → AreLoadsOf ps loads → loads ≡ loads_of ps }
 {}

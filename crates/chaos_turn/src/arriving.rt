@@ -84,7 +84,7 @@ fn greet_all<L: Link>(
 ) -> bool
     requires room { TURN_ROOM ≤ out.old.cap }
     requires empty { out.old.packets ≡ [] }
-    ensures { DoesPhase carriage (over_packets (greet start now) packets host.old) (station host.old (L.queue link.old) out.old) (station host.new (L.queue link.new) out.new) result }
+    ensures { DoesPhase carriage (over_packets (greet start now) packets.entry host.old) (station host.old (L.queue link.old) out.old) (station host.new (L.queue link.new) out.new) result }
 {
     let mut sent = false;
     'packets: while let Some(packet) = packets.next() {
@@ -105,7 +105,7 @@ pub fn arrive_at_server<L: Link>(
 ) -> bool
     requires room { TURN_ROOM ≤ out.old.cap }
     requires empty { out.old.packets ≡ [] }
-    ensures { DoesPhase carriage (arrive_at_server came start now host.old) (station host.old (L.queue link.old) out.old) (station host.new (L.queue link.new) out.new) result }
+    ensures { DoesPhase carriage (arrive_at_server came.entry start now host.old) (station host.old (L.queue link.old) out.old) (station host.new (L.queue link.new) out.new) result }
 {
     match came {
         Some(Ok(packets)) => greet_all(host, packets, link, start, now, out, carriage),
@@ -145,8 +145,8 @@ fn deliver_all<L: Link>(
 ) -> bool
     requires room { TURN_ROOM ≤ out.old.cap }
     requires empty { out.old.packets ≡ [] }
-    ensures phase { DoesPhase carriage (over_packets (deliver_effect now) packets host.old) (station host.old (L.queue link.old) out.old) (station host.new (L.queue link.new) out.new) result }
-    ensures told { told.new ≡ told_after told.old packets now host.old }
+    ensures phase { DoesPhase carriage (over_packets (deliver_effect now) packets.entry host.old) (station host.old (L.queue link.old) out.old) (station host.new (L.queue link.new) out.new) result }
+    ensures told { told.new ≡ told_after told.old packets.entry now host.old }
 {
     let mut sent = false;
     'packets: while let Some(packet) = packets.next() {
@@ -167,8 +167,8 @@ pub fn arrive_at_client<L: Link>(
 ) -> bool
     requires room { TURN_ROOM ≤ out.old.cap }
     requires empty { out.old.packets ≡ [] }
-    ensures phase { DoesPhase carriage (arrive_at_client came now host.old) (station host.old (L.queue link.old) out.old) (station host.new (L.queue link.new) out.new) result }
-    ensures told { told.new ≡ told_at_client came now host.old }
+    ensures phase { DoesPhase carriage (arrive_at_client came.entry now host.old) (station host.old (L.queue link.old) out.old) (station host.new (L.queue link.new) out.new) result }
+    ensures told { told.new ≡ told_at_client came.entry now host.old }
 {
     *told = None;
     match came {

@@ -28,8 +28,8 @@ fn take_client_turn<L: Link>(
 ) -> bool
     requires room { TURN_ROOM ≤ out.old.cap }
     requires empty { out.old.packets ≡ [] }
-    ensures told { told.new ≡ told_at_client came now host.old }
-    ensures phases { DoesPhase carriage (client_phases came now host.old) (station host.old (L.queue link.old) out.old) (station host.new (L.queue link.new) out.new) result }
+    ensures told { told.new ≡ told_at_client came.entry now host.old }
+    ensures phases { DoesPhase carriage (client_phases came.entry now host.old) (station host.old (L.queue link.old) out.old) (station host.new (L.queue link.new) out.new) result }
 {
     let arrived = arrive_at_client(host, came, link, now, out, told, carriage);
     let ticked = tick_slots(host, link, now, out, carriage);

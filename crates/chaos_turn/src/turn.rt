@@ -36,7 +36,7 @@ fn take_turn<S: Store, L: Link>(
     requires alike { length sessions.old ≡ length host.old.slots }
     requires room { TURN_ROOM ≤ out.old.cap }
     requires empty { out.old.packets ≡ [] }
-    ensures { ServerDoes carriage (IsTurn (change S.contents S.may_give S.count) came start now)
+    ensures { ServerDoes carriage (IsTurn (change S.contents S.may_give S.count) came.entry start now)
         (station (server host.old sessions.old store.old) (L.queue link.old) out.old)
         (station (server host.new sessions.new store.new) (L.queue link.new) out.new) result }
 {

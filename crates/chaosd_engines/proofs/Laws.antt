@@ -1,17 +1,19 @@
 -- What a line that is reported as a packet stands for.
-use Rattle.std.proofs.Common.{◌≡◌, ℕ, ◌+◌, ◌*◌, ◌<◌, ◌≤◌, Bool, true, false, cond, ltb, List, [], ◌∷◌, length, All, refl, ap, ◌∙◌, subst, arith}
+use Rattle.std.proofs.Common.{◌≡◌, ℕ, ◌+◌, ◌*◌, ◌<◌, ◌≤◌, Bool, true, false, cond, ltb, List, [], ◌∷◌, length, All, refl, sym, ap, ◌∙◌, subst, arith, inl, inr}
 use Rattle.std.specs.Prelude.{Option, None, Some, Result, Ok, Err}
 use Rattle.std.specs.Io.BufRead.{strip_last}
 use Rattle.std.proofs.lemmas.Bool.Decides.{nat_tests}
 use Rattle.std.proofs.lemmas.List.Elements.{All-nil, All-cons}
 use Rattle.chaos_packet.specs.Packet.{PacketView}
 use Rattle.chaos_link.specs.declared.fault.LinkFault.{LinkFault}
-use Rattle.chaos_link.specs.Datagram.{Carries, datagram_read, IsDecidedByCarries}
-use Rattle.chaosd_engines.specs.declared.limits.TheConstants.{LINE_LIMIT}
+use Rattle.chaos_link.specs.Datagram.{Carries, fault_of, read_by, datagram_read, IsDecidedByCarries}
+use Rattle.chaos_link.specs.Packets.{Carries2, CarriesAll, is_two, fault_of_all, read_all_by, packets_read, IsDecidedByCarriesAll}
+use Rattle.chaosd_engines.specs.declared.limits.TheConstants.{SHOW_LINE_LIMIT}
 use Rattle.chaosd_engines.specs.Hex.{is_blank, hex_value, with_pair, hex_bytes}
 use Rattle.chaosd_engines.proofs.Digits.{digit_within}
-use Rattle.chaosd_engines.specs.Entry.Entry.{Unreadable, Read}
-use Rattle.chaosd_engines.specs.Entry.{entry_of, entry_of_text, entry_of_bytes, entry_of_datagram, IsReportedAsCarried}
+use Rattle.chaosd_engines.proofs.Versions.{entry_by, fault_by, carried_one, carried_two, refused_at}
+use Rattle.chaosd_engines.specs.Entry.Entry.{Unreadable, Refused, Read, ReadSeveral}
+use Rattle.chaosd_engines.specs.Entry.{Entry, entry_of, entry_of_bytes, entry_of_one, entry_of_several, entry_of_datagram, Writes, IsReportedAsCarried, IsReportedAsCarried2, IsRefusedByFault}
 
 -- ---- what is written in hexadecimal is bytes
 
@@ -42,31 +44,102 @@ bytes_within (a ∷ []) bytes e = lone_within (is_blank a) bytes e
 bytes_within (a ∷ b ∷ bs) bytes e =
     next_within (is_blank a) a b (hex_bytes (b ∷ bs)) (hex_bytes bs) bytes (bytes_within (b ∷ bs)) (bytes_within bs) e
 
+-- ---- what a line writes
+
+bytes_from : (e : Entry) (P : List ℕ → Type 0) (text : List ℕ) → (Unreadable ≡ e → ⊥) → ((bytes : List ℕ) → All (λ b. b < 256) bytes → entry_of_datagram bytes ≡ e → P bytes)
+    → length text ≤ SHOW_LINE_LIMIT → (found : Option (List ℕ)) → hex_bytes text ≡ found → entry_of_bytes found ≡ e
+    → (bytes : List ℕ) × ((length text ≤ SHOW_LINE_LIMIT) × (hex_bytes text ≡ Some bytes)) × P bytes
+bytes_from e P text other p short None is h = absurd (other h)
+bytes_from e P text other p short (Some bytes) is h = (bytes, (short, is), p bytes (bytes_within text bytes is) h)
+
+text_from : (e : Entry) (P : List ℕ → Type 0) (text : List ℕ) (long : Bool) → (Unreadable ≡ e → ⊥) → ((bytes : List ℕ) → All (λ b. b < 256) bytes → entry_of_datagram bytes ≡ e → P bytes)
+    → ltb SHOW_LINE_LIMIT (length text) ≡ long → cond long Unreadable (entry_of_bytes (hex_bytes text)) ≡ e
+    → (bytes : List ℕ) × ((length text ≤ SHOW_LINE_LIMIT) × (hex_bytes text ≡ Some bytes)) × P bytes
+text_from e P text true other p is h = absurd (other h)
+text_from e P text false other p is h = bytes_from e P text other p (grind (arith, nat_tests)) (hex_bytes text) refl h
+
+line_from : (e : Entry) (P : List ℕ → Type 0) (raw : List ℕ) → (Unreadable ≡ e → ⊥) → ((bytes : List ℕ) → All (λ b. b < 256) bytes → entry_of_datagram bytes ≡ e → P bytes)
+    → entry_of raw ≡ e → (bytes : List ℕ) × Writes raw bytes × P bytes
+unfolding entry_of
+line_from e P raw other p h = text_from e P (strip_last 13 raw) (ltb SHOW_LINE_LIMIT (length (strip_last 13 raw))) other p refl h
+
+line_back : (raw bytes : List ℕ) → Writes raw bytes → entry_of raw ≡ entry_of_datagram bytes
+unfolding entry_of
+line_back raw bytes (short, is) =
+    let text = strip_last 13 raw in
+    let test : ltb SHOW_LINE_LIMIT (length text) ≡ false = grind (arith, nat_tests) in
+    ap (λ b. cond b Unreadable (entry_of_bytes (hex_bytes text))) test ∙ ap entry_of_bytes is
+
+written_within : (raw bytes : List ℕ) → Writes raw bytes → All (λ b. b < 256) bytes
+written_within raw bytes (short, is) = bytes_within (strip_last 13 raw) bytes is
+
+-- ---- by the version
+
+one_read : (p : PacketView) (r : Result PacketView LinkFault) → entry_of_one r ≡ Read p → r ≡ Ok p
+one_read p (Ok q) h = let same : q ≡ p = cc in ap Ok same
+one_read p (Err f) h = absurd (cc)
+
+several_read : (ps : List PacketView) (r : Result (List PacketView) LinkFault) → entry_of_several r ≡ ReadSeveral ps → r ≡ Ok ps
+several_read ps (Ok qs) h = let same : qs ≡ ps = cc in ap Ok same
+several_read ps (Err f) h = absurd (cc)
+
+none_of_several : (p : PacketView) (r : Result (List PacketView) LinkFault) → entry_of_several r ≡ Read p → ⊥
+none_of_several p (Ok qs) h = cc
+none_of_several p (Err f) h = cc
+
+several_of_one : (ps : List PacketView) (r : Result PacketView LinkFault) → entry_of_one r ≡ ReadSeveral ps → ⊥
+several_of_one ps (Ok q) h = cc
+several_of_one ps (Err f) h = cc
+
+one_refused : (bs : List ℕ) (f : LinkFault) (o : Option LinkFault) → entry_of_one (read_by bs o) ≡ Refused f → o ≡ Some f
+one_refused bs f (Some g) h = let same : g ≡ f = cc in ap Some same
+one_refused bs f None h = absurd (cc)
+
+several_refused : (bs : List ℕ) (f : LinkFault) (o : Option LinkFault) → entry_of_several (read_all_by bs o) ≡ Refused f → o ≡ Some f
+several_refused bs f (Some g) h = let same : g ≡ f = cc in ap Some same
+several_refused bs f None h = absurd (cc)
+
 -- ---- a packet
 
-carried_from : IsDecidedByCarries → (p : PacketView) (bytes : List ℕ) → All (λ b. b < 256) bytes → (read : Result PacketView LinkFault) → datagram_read bytes ≡ read → entry_of_datagram read ≡ Read p → Carries p bytes
-carried_from law p bytes within (Ok q) is e = let same : q ≡ p = cc in (law p bytes within).0 (is ∙ ap Ok same)
-carried_from law p bytes within (Err f) is e = absurd (cc)
-
-bytes_from : IsDecidedByCarries → (p : PacketView) (text : List ℕ) → length text ≤ LINE_LIMIT → (found : Option (List ℕ)) → hex_bytes text ≡ found → entry_of_bytes found ≡ Read p
-    → (bytes : List ℕ) × (length text ≤ LINE_LIMIT) × (hex_bytes text ≡ Some bytes) × Carries p bytes
-bytes_from law p text short None is e = absurd (cc)
-bytes_from law p text short (Some bytes) is e = (bytes, short, is, carried_from law p bytes (bytes_within text bytes is) (datagram_read bytes) refl e)
-
-text_from : IsDecidedByCarries → (p : PacketView) (text : List ℕ) (long : Bool) → ltb LINE_LIMIT (length text) ≡ long → cond long Unreadable (entry_of_bytes (hex_bytes text)) ≡ Read p
-    → (bytes : List ℕ) × (length text ≤ LINE_LIMIT) × (hex_bytes text ≡ Some bytes) × Carries p bytes
-text_from law p text true is e = absurd (cc)
-text_from law p text false is e = bytes_from law p text (grind (arith, nat_tests)) (hex_bytes text) refl e
-
-text_back : IsDecidedByCarries → (p : PacketView) (text bytes : List ℕ) → length text ≤ LINE_LIMIT → hex_bytes text ≡ Some bytes → Carries p bytes → entry_of_text text ≡ Read p
-text_back law p text bytes short is carried =
-    let test : ltb LINE_LIMIT (length text) ≡ false = grind (arith, nat_tests) in
-    ap (λ b. cond b Unreadable (entry_of_bytes (hex_bytes text))) test ∙ ap entry_of_bytes is ∙ ap entry_of_datagram ((law p bytes (bytes_within text bytes is)).1 carried)
+carried_from : IsDecidedByCarries → (p : PacketView) (bs : List ℕ) → All (λ b. b < 256) bs → (two : Bool) → is_two bs ≡ two → entry_of_datagram bs ≡ Read p → Carries p bs
+carried_from law p bs within true is e = absurd (none_of_several p (packets_read bs) (sym (entry_by bs true is) ∙ e))
+carried_from law p bs within false is e = (law p bs within).0 (one_read p (datagram_read bs) (sym (entry_by bs false is) ∙ e))
 
 -- a line is reported as a packet exactly where its bytes carry it
 pub reported_as_carried : IsDecidedByCarries → IsReportedAsCarried
-unfolding entry_of
 reported_as_carried law p raw = (
-  λ e. text_from law p (strip_last 13 raw) (ltb LINE_LIMIT (length (strip_last 13 raw))) refl e,
-  λ (bytes, short, is, carried). text_back law p (strip_last 13 raw) bytes short is carried,
+  λ e. line_from (Read p) (Carries p) raw (λ h. cc) (λ bytes within h. carried_from law p bytes within (is_two bytes) refl h) e,
+  λ (bytes, writes, carried).
+      line_back raw bytes writes ∙ entry_by bytes false (carried_one p bytes carried) ∙ ap entry_of_one ((law p bytes (written_within raw bytes writes)).1 carried),
+)
+
+-- ---- several
+
+by_two : (ps : List PacketView) (bs : List ℕ) → is_two bs ≡ true → CarriesAll ps bs → Carries2 ps bs
+by_two ps bs is (inl (p, same, carried)) = let one = carried_one p bs carried in absurd (let clash : true ≡ false = sym is ∙ one in cc)
+by_two ps bs is (inr carried) = carried
+
+carried_from2 : IsDecidedByCarriesAll → (ps : List PacketView) (bs : List ℕ) → All (λ b. b < 256) bs → (two : Bool) → is_two bs ≡ two → entry_of_datagram bs ≡ ReadSeveral ps → Carries2 ps bs
+carried_from2 law ps bs within true is e = by_two ps bs is ((law ps bs within).0 (several_read ps (packets_read bs) (sym (entry_by bs true is) ∙ e)))
+carried_from2 law ps bs within false is e = absurd (several_of_one ps (datagram_read bs) (sym (entry_by bs false is) ∙ e))
+
+-- it is reported as several exactly where its bytes carry them by version 2
+pub reported_as_carried2 : IsDecidedByCarriesAll → IsReportedAsCarried2
+reported_as_carried2 law ps raw = (
+  λ e. line_from (ReadSeveral ps) (Carries2 ps) raw (λ h. cc) (λ bytes within h. carried_from2 law ps bytes within (is_two bytes) refl h) e,
+  λ (bytes, writes, carried).
+      line_back raw bytes writes ∙ entry_by bytes true (carried_two ps bytes carried) ∙ ap entry_of_several ((law ps bytes (written_within raw bytes writes)).1 (inr carried)),
+)
+
+-- ---- a refusal
+
+fault_from : (f : LinkFault) (bs : List ℕ) (two : Bool) → is_two bs ≡ two → entry_of_datagram bs ≡ Refused f → fault_of_all bs ≡ Some f
+fault_from f bs true is e = several_refused bs f (fault_of_all bs) (sym (entry_by bs true is) ∙ e)
+fault_from f bs false is e = fault_by bs false is ∙ one_refused bs f (fault_of bs) (sym (entry_by bs false is) ∙ e)
+
+-- it is reported as refused exactly by the first fault of its bytes
+pub refused_by_fault : IsRefusedByFault
+refused_by_fault f raw = (
+  λ e. line_from (Refused f) (λ bytes. fault_of_all bytes ≡ Some f) raw (λ h. cc) (λ bytes within h. fault_from f bytes (is_two bytes) refl h) e,
+  λ (bytes, writes, fault). line_back raw bytes writes ∙ refused_at bytes f fault,
 )

@@ -4,6 +4,7 @@ pub mod TextBytes
 pub mod ReadBack
 pub mod Pairs
 pub mod Steps
+pub mod Versions
 pub mod Cutting
 pub mod Runs
 pub mod Laws

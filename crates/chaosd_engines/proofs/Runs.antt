@@ -1,11 +1,9 @@
 -- A run: what was handed on and shown, and what is told at the end.
-use Rattle.std.proofs.Common.{◌≡◌, ℕ, ◌+◌, ◌<◌, ◌≤◌, true, false, eqb, List, [], ◌∷◌, ◌++◌, length, take, min, sym, ap, ◌∙◌, subst, arith, append-nil, length-take, length-append}
+use Rattle.std.proofs.Common.{◌≡◌, ℕ, ◌<◌, ◌≤◌, true, eqb, List, [], ◌∷◌, ◌++◌, length, take, sym, ap, ◌∙◌, subst, append-nil}
 use Rattle.std.specs.Prelude.{Option, None, Some, Result, Ok, Err, OnOk, IsOk, IfSome, MatchResult}
-use Rattle.std.specs.Io.KnownBytes.{Appends, Keeps, Consumes, IsAtEnd}
-use Rattle.std.proofs.KnownBytes.{Appends-kept, Consumes-trans}
-use Rattle.std.proofs.Math.Seq.{take-append-add}
-use Rattle.std.proofs.lemmas.List.{take-append-le, take-take}
-use Rattle.chaosd_engines.specs.declared.limits.TheConstants.{INPUT_LIMIT, KEPT_LEN}
+use Rattle.std.specs.Io.KnownBytes.{Appends, Keeps, Consumes}
+use Rattle.std.proofs.KnownBytes.{Appends-kept}
+use Rattle.chaosd_engines.specs.declared.limits.TheConstants.{INPUT_LIMIT, SHOW_KEPT_LEN}
 use Rattle.chaosd_engines.specs.declared.fault.RunFault.{RunFault}
 use Rattle.chaosd_engines.specs.declared.fault.RunFault.TheVariants.{WriteFault}
 use Rattle.chaosd_engines.specs.declared.show.tally.Tally.{Tally}
@@ -35,30 +33,30 @@ handed (Some x) (Some y) waiting text none p = sym (append-nil y) ∙ ap (λ l. 
 
 -- ---- what was shown
 
-pub nothing_shown : (input before : Option (List ℕ)) (waiting : List ℕ) (tally : Tally) (lines : LinesView) → waiting ≡ [] → tally ≡ tally_of [] → Gives KEPT_LEN INPUT_LIMIT input input [] lines
+pub nothing_shown : (input before : Option (List ℕ)) (waiting : List ℕ) (tally : Tally) (lines : LinesView) → waiting ≡ [] → tally ≡ tally_of [] → Gives SHOW_KEPT_LEN INPUT_LIMIT input input [] lines
     → Shows input input before (written_of before waiting) tally lines
 nothing_shown input before waiting tally lines waits count gives = record { given = []; gives = gives; text = nothing_waits before waiting waits; count = count }
 
 -- more came, or the end did
 pub shown_of : (input rest rest' before written : Option (List ℕ)) (tally : Tally) (lines lines' : LinesView) → (s : Shows input rest before written tally lines)
-    → Gives KEPT_LEN INPUT_LIMIT input rest' s.given lines' → Shows input rest' before written tally lines'
+    → Gives SHOW_KEPT_LEN INPUT_LIMIT input rest' s.given lines' → Shows input rest' before written tally lines'
 shown_of input rest rest' before written tally lines lines' s gives = record { given = s.given; gives = gives; text = s.text; count = s.count }
 
 -- one line more
 pub more_shown : (input rest before written written' : Option (List ℕ)) (tally tally' : Tally) (lines lines' : LinesView) (line : List ℕ) → (s : Shows input rest before written tally lines)
-    → GivesNext KEPT_LEN INPUT_LIMIT input rest s.given lines' true → line ≡ lines'.line → Appends written written' (gap (eqb tally.reports 0) ++ line_report line) → tally' ≡ counted tally line
+    → GivesNext SHOW_KEPT_LEN INPUT_LIMIT input rest s.given lines' true → line ≡ lines'.line → Appends written written' (gap (eqb tally.reports 0) ++ line_report line) → tally' ≡ counted tally line
     → Shows input rest before written' tally' lines'
 more_shown input rest before written written' tally tally' lines lines' line s (raw, front, gives) e more next =
-    let reported = line_more before written written' tally tally' s.given raw line (ap (take KEPT_LEN) e ∙ front) s.text s.count more next in
+    let reported = line_more before written written' tally tally' s.given raw line (ap (take SHOW_KEPT_LEN) e ∙ front) s.text s.count more next in
     record { given = s.given ++ raw ∷ []; gives = gives; text = reported.0; count = reported.1 }
 
 -- the end of the input
 pub all_shown : (input rest before written : Option (List ℕ)) (tally : Tally) (lines : LinesView) → (s : Shows input rest before written tally lines)
-    → GivesLast KEPT_LEN INPUT_LIMIT input rest s.given None → ShowsAll input rest before written tally
+    → GivesLast SHOW_KEPT_LEN INPUT_LIMIT input rest s.given None → ShowsAll input rest before written tally
 all_shown input rest before written tally lines s done = record { given = s.given; done = done; text = s.text; count = s.count }
 
 pub last_shown : (input rest before written written' : Option (List ℕ)) (tally tally' : Tally) (lines : LinesView) (line : List ℕ) → (s : Shows input rest before written tally lines)
-    → GivesLast KEPT_LEN INPUT_LIMIT input rest s.given (Some line) → Appends written written' (gap (eqb tally.reports 0) ++ line_report line) → tally' ≡ counted tally line
+    → GivesLast SHOW_KEPT_LEN INPUT_LIMIT input rest s.given (Some line) → Appends written written' (gap (eqb tally.reports 0) ++ line_report line) → tally' ≡ counted tally line
     → ShowsAll input rest before written' tally'
 last_shown input rest before written written' tally tally' lines line s (raw, front, done) more next =
     let reported = line_more before written written' tally tally' s.given raw line front s.text s.count more next in

@@ -1,16 +1,15 @@
 -- What a line is reported as, and one line more.
-use Rattle.std.proofs.Common.{◌≡◌, ℕ, zero, suc, ◌+◌, ◌-◌, ◌<◌, ◌≤◌, Bool, true, false, cond, eqb, ltb, List, [], ◌∷◌, ◌++◌, length, take, take_all, min, refl, sym, ap, ◌∙◌, subst, arith, append_assoc, length-take, length-append}
-use Rattle.std.specs.Prelude.{Option, None, Some, Result, Ok, Err, OnOk, IsOk, ◌↔◌}
+use Rattle.std.proofs.Common.{◌≡◌, ℕ, zero, suc, ◌+◌, ◌<◌, ◌≤◌, Bool, true, false, cond, eqb, ltb, List, [], ◌∷◌, ◌++◌, length, take, take_all, refl, sym, ap, ◌∙◌, subst, arith, append_assoc, length-take, length-append}
+use Rattle.std.specs.Prelude.{Option, None, Some, Result, Ok, Err, OnOk}
 use Rattle.std.specs.Io.BufRead.{strip_last}
 use Rattle.std.specs.Io.KnownBytes.{Appends}
 use Rattle.std.proofs.KnownBytes.{Appends-trans}
 use Rattle.std.proofs.lemmas.Bool.{lt-ltb}
 use Rattle.std.proofs.lemmas.Bool.Decides.{nat_tests}
 use Rattle.std.proofs.lemmas.Grind.{common_steps}
-use Rattle.std.proofs.lemmas.List.{take_min}
 use Rattle.std.proofs.lemmas.List.Sums.{sum_by-append}
 use Rattle.chaos_link.specs.declared.fault.LinkFault.TheVariants.{Short}
-use Rattle.chaosd_engines.specs.declared.limits.TheConstants.{KEPT_LEN, LINE_LIMIT}
+use Rattle.chaosd_engines.specs.declared.limits.TheConstants.{SHOW_KEPT_LEN, SHOW_LINE_LIMIT}
 use Rattle.chaosd_engines.specs.declared.show.tally.Tally.{Tally}
 use Rattle.chaosd_engines.specs.Buffer.{written_of}
 use Rattle.chaosd_engines.specs.Lines.{all_but_last, without_empty_last}
@@ -30,25 +29,25 @@ pub length-strip_last : (b : ℕ) (xs : List ℕ) → length xs ≤ length (stri
 length-strip_last b xs = grind (arith, common_steps)
 
 -- a line of as many bytes as are kept is too long, whatever its last byte
-long_entry : (raw : List ℕ) → KEPT_LEN ≤ length raw → entry_of raw ≡ Unreadable
+long_entry : (raw : List ℕ) → SHOW_KEPT_LEN ≤ length raw → entry_of raw ≡ Unreadable
 unfolding entry_of
 long_entry raw long =
-    let test : ltb LINE_LIMIT (length (strip_last 13 raw)) ≡ true = lt-ltb LINE_LIMIT _ (omega (arith, length-strip_last 13 raw)) in
+    let test : ltb SHOW_LINE_LIMIT (length (strip_last 13 raw)) ≡ true = lt-ltb SHOW_LINE_LIMIT _ (omega (arith, length-strip_last 13 raw)) in
     ap (λ b. cond b Unreadable (entry_of_bytes (hex_bytes (strip_last 13 raw)))) test
 
-front_decides : (f g : List ℕ) (is_short : Bool) → ltb (length f) KEPT_LEN ≡ is_short → take KEPT_LEN f ≡ take KEPT_LEN g → entry_of f ≡ entry_of g
+front_decides : (f g : List ℕ) (is_short : Bool) → ltb (length f) SHOW_KEPT_LEN ≡ is_short → take SHOW_KEPT_LEN f ≡ take SHOW_KEPT_LEN g → entry_of f ≡ entry_of g
 front_decides f g true short e =
-    let len : length (take KEPT_LEN f) ≡ length (take KEPT_LEN g) = ap length e in
-    let few : length f < KEPT_LEN = grind (arith, nat_tests) in
-    ap entry_of (sym (take_all KEPT_LEN f (omega arith)) ∙ e ∙ take_all KEPT_LEN g (omega (arith, length-take KEPT_LEN f, length-take KEPT_LEN g)))
+    let len : length (take SHOW_KEPT_LEN f) ≡ length (take SHOW_KEPT_LEN g) = ap length e in
+    let few : length f < SHOW_KEPT_LEN = grind (arith, nat_tests) in
+    ap entry_of (sym (take_all SHOW_KEPT_LEN f (omega arith)) ∙ e ∙ take_all SHOW_KEPT_LEN g (omega (arith, length-take SHOW_KEPT_LEN f, length-take SHOW_KEPT_LEN g)))
 front_decides f g false long e =
-    let len : length (take KEPT_LEN f) ≡ length (take KEPT_LEN g) = ap length e in
-    let many : KEPT_LEN ≤ length f = grind (arith, nat_tests) in
-    long_entry f many ∙ sym (long_entry g (omega (arith, length-take KEPT_LEN f, length-take KEPT_LEN g)))
+    let len : length (take SHOW_KEPT_LEN f) ≡ length (take SHOW_KEPT_LEN g) = ap length e in
+    let many : SHOW_KEPT_LEN ≤ length f = grind (arith, nat_tests) in
+    long_entry f many ∙ sym (long_entry g (omega (arith, length-take SHOW_KEPT_LEN f, length-take SHOW_KEPT_LEN g)))
 
 -- so what is kept of a line decides what it is
-same_front : (f g : List ℕ) → take KEPT_LEN f ≡ take KEPT_LEN g → entry_of f ≡ entry_of g
-same_front f g e = front_decides f g (ltb (length f) KEPT_LEN) refl e
+same_front : (f g : List ℕ) → take SHOW_KEPT_LEN f ≡ take SHOW_KEPT_LEN g → entry_of f ≡ entry_of g
+same_front f g e = front_decides f g (ltb (length f) SHOW_KEPT_LEN) refl e
 
 -- an empty line is the empty datagram
 pub empty_text : (text : List ℕ) → eqb (length text) 0 ≡ true → entry_of_text text ≡ Refused Short
@@ -96,7 +95,7 @@ abbrev counted_entry : Tally → Entry → Tally
 counted_entry tally entry = record { reports = tally.reports + 1; refused = tally.refused + cond (is_refusal entry) 1 0 }
 
 -- the report of one line more, which is what another one is that begins alike
-pub line_more : (before written written' : Option (List ℕ)) (tally tally' : Tally) (lines : List (List ℕ)) (line raw : List ℕ) → take KEPT_LEN raw ≡ take KEPT_LEN line
+pub line_more : (before written written' : Option (List ℕ)) (tally tally' : Tally) (lines : List (List ℕ)) (line raw : List ℕ) → take SHOW_KEPT_LEN raw ≡ take SHOW_KEPT_LEN line
     → Appends before written (reports_of lines) → tally ≡ tally_of lines
     → Appends written written' (gap (eqb tally.reports 0) ++ line_report raw) → tally' ≡ counted tally raw
     → Appends before written' (reports_of (lines ++ line ∷ [])) × (tally' ≡ tally_of (lines ++ line ∷ []))
@@ -126,20 +125,3 @@ on_ok (Err e) f p q = tt
 pub then_put : {X E : Type 0} (r : Result X E) (old first last all mid new : List ℕ) → mid ≡ old ++ first → OnOk r (new ≡ mid ++ last) → all ≡ first ++ last → OnOk r (new ≡ old ++ all)
 then_put (Ok x) old first last all mid new p q e = q ∙ ap (λ l. l ++ last) p ∙ append_assoc old first last ∙ ap (λ l. old ++ l) (sym e)
 then_put (Err x) old first last all mid new p q e = tt
-
-front_append : (n : ℕ) (xs ys : List ℕ) → length xs ≤ n → take n (xs ++ ys) ≡ xs ++ take (n - length xs) ys
-front_append n [] ys le = ap (λ k. take k ys) (omega arith)
-front_append zero (x ∷ xs) ys le = absurd (omega arith)
-front_append (suc n) (x ∷ xs) ys le =
-    let same : n - length xs ≡ suc n - length (x ∷ xs) = omega arith in
-    ap (λ l. x ∷ l) (front_append n xs ys (omega arith) ∙ ap (λ k. xs ++ take k ys) same)
-
-no_ok : (X E : Type 0) (e : E) → IsOk {T = X} {E = E} (Err e) → ⊥
-no_ok X E e h = cc
-
--- what is kept of a line with one more piece
-pub keeps_front : {X E : Type 0} (r : Result X E) (kept : ℕ) (old piece new : List ℕ) (room count : ℕ) → room + length old ≡ kept → count ≡ min (length piece) room
-    → IsOk r ↔ (length old + length (take count piece) ≤ kept) → OnOk r (new ≡ old ++ take count piece) → new ≡ take kept (old ++ piece)
-keeps_front (Ok x) kept old piece new room count e m fits items =
-    items ∙ ap (λ n. old ++ take n piece) (omega arith) ∙ ap (λ l. old ++ l) (take_min (kept - length old) piece) ∙ sym (front_append kept old piece (omega arith))
-keeps_front {X} {E} (Err x) kept old piece new room count e m fits items = absurd (no_ok X E x (fits.1 (omega (arith, length-take count piece))))

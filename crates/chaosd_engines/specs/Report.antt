@@ -1,4 +1,4 @@
--- The report of a packet, as text.
+-- The reports of a packet and of several, as text.
 use Rattle.std.specs.Prelude.{ℕ, ◌+◌, ◌/◌, ◌%◌, List, [], ◌∷◌, ◌++◌, length, Option, Some, None, codes, nat_lt, ◌==◌, if◌then◌else◌}
 use Rattle.std.specs.Fmt.{decimal}
 use Rattle.std.specs.List.{flat_map}
@@ -62,3 +62,15 @@ packet_text p = op_line p.op
     ++ (end_line (codes "from") p.src p.src_index
     ++ (pair_line (codes "num") p.num (codes "ack") p.ack
     ++ body_text (status_of p) p.body))))
+
+-- the carriage's version, and how many packets there are
+unfoldable pub carriage_line : ℕ → List ℕ
+carriage_line number = line (codes "carriage 2 packets " ++ decimal number)
+
+-- for each packet an empty line, and then its lines
+abbrev pub packets_text : List PacketView → List ℕ
+packets_text packets = flat_map (λ p. 10 ∷ packet_text p) packets
+
+-- the lines of the packets of a datagram of version 2
+unfoldable pub several_text : List PacketView → List ℕ
+several_text packets = carriage_line (length packets) ++ packets_text packets

@@ -1,7 +1,7 @@
 -- What a run of `show` has done with an input.
 use Rattle.std.specs.Prelude.{◌≡◌, ℕ, List, Option}
 use Rattle.std.specs.Io.KnownBytes.{Appends}
-use Rattle.chaosd_engines.specs.declared.limits.TheConstants.{INPUT_LIMIT, KEPT_LEN}
+use Rattle.chaosd_engines.specs.declared.limits.TheConstants.{INPUT_LIMIT, SHOW_KEPT_LEN}
 use Rattle.chaosd_engines.specs.declared.show.tally.Tally.{Tally}
 use Rattle.chaosd_engines.specs.Reader.{LinesView, Gives, Done}
 use Rattle.chaosd_engines.specs.Show.{reports_of, tally_of}
@@ -9,7 +9,7 @@ use Rattle.chaosd_engines.specs.Show.{reports_of, tally_of}
 -- The lines that were given were reported and counted.
 pub record Shows (input rest before written : Option (List ℕ)) (tally : Tally) (lines : LinesView) : Type 0 where
   pub given : List (List ℕ)
-  pub gives : Gives KEPT_LEN INPUT_LIMIT input rest given lines
+  pub gives : Gives SHOW_KEPT_LEN INPUT_LIMIT input rest given lines
   pub text : Appends before written (reports_of given)
   pub count : tally ≡ tally_of given
 

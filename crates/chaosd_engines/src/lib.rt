@@ -21,8 +21,11 @@ pub use buffer::{NotWritten, WriteBuffer};
 pub use escapes::{Data, data_of, law_read_back, put_text};
 pub use fault::{RunFault, written};
 pub use input::read_chunk;
-pub use limits::{BUFFER_LEN, CHUNK_LEN, INPUT_LIMIT, KEPT_LEN, LINE_LIMIT, law_limits};
-pub use lines::{cut_line, keep, without_return};
+pub use limits::{
+    BUFFER_LEN, CHUNK_LEN, INPUT_LIMIT, KEPT_LEN, LINE_LIMIT, SHOW_KEPT_LEN, SHOW_LINE_LIMIT,
+    law_limits,
+};
+pub use lines::without_return;
 pub use reader::LineReader;
 pub use show::{Tally, law_report, run_show};
 pub use status::{BAD_SCRIPT, DONE, FAULT, NO_MEMORY, REFUSED, fault_status, show_status};

@@ -1,16 +1,23 @@
 //! The sizes that the engines keep to, each with its unit.
 ghost use Rattle.std.specs.Prelude.{◌≡◌};
-ghost use Rattle.chaosd_engines.specs.declared.limits.TheConstants.{INPUT_LIMIT, LINE_LIMIT, KEPT_LEN, BUFFER_LEN, CHUNK_LEN, INTERRUPTIONS};
+ghost use Rattle.chaosd_engines.specs.declared.limits.TheConstants.{INPUT_LIMIT, LINE_LIMIT, KEPT_LEN, SHOW_LINE_LIMIT, SHOW_KEPT_LEN, BUFFER_LEN, CHUNK_LEN, INTERRUPTIONS};
 
 /// The most bytes of an input.
 pub const INPUT_LIMIT: usize = 1_048_576;
 
-/// The most bytes of a line, without the byte that ends it and a carriage return before that.
+/// The most bytes of a line of a script, without the byte that ends it and a carriage return before that.
 pub const LINE_LIMIT: usize = 4_096;
 
 /// How many bytes of a line are kept that began in an earlier chunk: as many as a line may have, a carriage return, and
 /// one more, which shows that it is too long.
 pub const KEPT_LEN: usize = LINE_LIMIT + 2;
+
+/// The most bytes of a line of `show`, counted likewise: the greatest datagram, of 2,020 bytes, fits with a blank behind each
+/// pair of digits.
+pub const SHOW_LINE_LIMIT: usize = 8_192;
+
+/// How many bytes of such a line are kept, likewise.
+pub const SHOW_KEPT_LEN: usize = SHOW_LINE_LIMIT + 2;
 
 /// How many bytes a write buffer collects before it hands them on.
 pub const BUFFER_LEN: usize = 16_384;
@@ -26,6 +33,8 @@ pub fn law_limits()
     ensures input { INPUT_LIMIT ≡ 1048576 }
     ensures line { LINE_LIMIT ≡ 4096 }
     ensures kept { KEPT_LEN ≡ 4098 }
+    ensures show_line { SHOW_LINE_LIMIT ≡ 8192 }
+    ensures show_kept { SHOW_KEPT_LEN ≡ 8194 }
     ensures buffer { BUFFER_LEN ≡ 16384 }
     ensures chunk { CHUNK_LEN ≡ 16384 }
     ensures interruptions { INTERRUPTIONS ≡ 2000000 }

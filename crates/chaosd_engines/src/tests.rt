@@ -1,6 +1,7 @@
 //! What no clause says: texts from outside, success, and readers and writers that fail. What the program alone shows as
 //! well, as names and limits, stands in tests/program.py.
 mod fakes;
+mod several;
 
 use super::*;
 use fakes::{FuseReader, FuseWriter, Watched, Watching};

@@ -1,17 +1,17 @@
 //! The report of a line.
-ghost use Rattle.std.specs.Prelude.{◌≡◌, ◌≤◌, ◌++◌, length, OnOk, IfOk};
-ghost use Rattle.chaos_link.specs.Datagram.{datagram_read};
+ghost use Rattle.std.specs.Prelude.{◌≡◌, ◌≤◌, ◌++◌, length, OnOk, IfOk, Some};
+ghost use Rattle.chaos_link.specs.Datagram.{fault_of};
 ghost use Rattle.chaosd_engines.specs.Entry.{fault_text, packet_fault_text, entry_of, entry_of_datagram, entry_of_text, entry_text, is_refusal};
 ghost use Rattle.chaosd_engines.specs.Report.{line};
 ghost use Rattle.chaosd_engines.specs.Show.{gap, line_report};
 
 use crate::buffer::{NotWritten, WriteBuffer};
-use crate::limits::LINE_LIMIT;
+use crate::limits::SHOW_LINE_LIMIT;
 use crate::lines::without_return;
 use crate::show::hex::{MOST_BYTES, read_hex};
-use crate::show::report::put_packet;
+use crate::show::report::{put_packet, put_several};
 use crate::texts::{put_decimal, put_line};
-use chaos_link::{LinkFault, from_datagram};
+use chaos_link::{LinkFault, from_datagram, open_datagram};
 use chaos_packet::PacketFault;
 
 /// Writes the report of a line behind an empty line, or behind nothing where it is the first, and says whether it is a
@@ -60,7 +60,7 @@ fn put_text(
     ensures text { OnOk result (out.new ≡ out.old ++ entry_text (entry_of_text text.now)) }
     ensures refused { IfOk result (λ refused. refused ≡ is_refusal (entry_of_text text.now)) }
 {
-    if text.len() > LINE_LIMIT {
+    if text.len() > SHOW_LINE_LIMIT {
         out.put(b"fault 0 Line\n")?;
         return Ok(true);
     }
@@ -74,12 +74,32 @@ fn put_text(
 /// Writes the report of a datagram, and says whether it is a refusal.
 #[tactic(auto, unfolding(crate::specs::Entry::entry_text))]
 fn put_datagram(out: &mut WriteBuffer, bytes: &[u8]) -> Result<bool, NotWritten>
-    ensures text { OnOk result (out.new ≡ out.old ++ entry_text (entry_of_datagram (datagram_read bytes.now))) }
-    ensures refused { IfOk result (λ refused. refused ≡ is_refusal (entry_of_datagram (datagram_read bytes.now))) }
+    ensures text { OnOk result (out.new ≡ out.old ++ entry_text (entry_of_datagram bytes.now)) }
+    ensures refused { IfOk result (λ refused. refused ≡ is_refusal (entry_of_datagram bytes.now)) }
 {
     match from_datagram(bytes) {
         Ok(packet) => {
             put_packet(out, &packet)?;
+            Ok(false)
+        }
+        Err(LinkFault::BadVersion) => put_of_another_version(out, bytes),
+        Err(fault) => {
+            put_fault(out, fault)?;
+            Ok(true)
+        }
+    }
+}
+
+/// Writes the report of a datagram that isn't of version 1, and says whether it is a refusal.
+#[tactic(auto, unfolding(crate::specs::Entry::entry_text))]
+fn put_of_another_version(out: &mut WriteBuffer, bytes: &[u8]) -> Result<bool, NotWritten>
+    requires { fault_of bytes.now ≡ Some LinkFault.BadVersion }
+    ensures text { OnOk result (out.new ≡ out.old ++ entry_text (entry_of_datagram bytes.now)) }
+    ensures refused { IfOk result (λ refused. refused ≡ is_refusal (entry_of_datagram bytes.now)) }
+{
+    match open_datagram(bytes) {
+        Ok(packets) => {
+            put_several(out, bytes[3], packets)?;
             Ok(false)
         }
         Err(fault) => {

@@ -2,10 +2,10 @@
 ghost use Rattle.std.specs.Prelude.{◌≡◌, ◌≤◌, length, take, option_map, IfSome};
 ghost use Rattle.chaosd_engines.specs.Hex.{is_blank, hex_value, hex_bytes};
 
-use crate::limits::LINE_LIMIT;
+use crate::limits::SHOW_LINE_LIMIT;
 
 /// The most bytes that a line stands for.
-pub const MOST_BYTES: usize = LINE_LIMIT / 2;
+pub const MOST_BYTES: usize = SHOW_LINE_LIMIT / 2;
 
 /// What stands in the table for a byte that is no digit.
 const NO_DIGIT: u8 = 255;
@@ -48,7 +48,7 @@ fn is_blank(b: u8) -> bool
 /// digits with blanks between them. The cost is that of one look at each byte of the line.
 #[tactic(auto, using(crate::proofs::Digits::digit_is_no_blank, crate::proofs::Pairs::hex_bytes_blank, crate::proofs::Pairs::hex_bytes_pair, crate::proofs::Pairs::hex_bytes_odd, crate::proofs::Pairs::hex_bytes_end))]
 pub fn read_hex(line: &[u8], bytes: &mut [u8; MOST_BYTES]) -> Option<usize>
-    requires { length line.now ≤ LINE_LIMIT }
+    requires { length line.now ≤ SHOW_LINE_LIMIT }
     ensures within { IfSome result (λ count. count ≤ MOST_BYTES) }
     ensures value { option_map (λ count. take count bytes.new) result ≡ hex_bytes line.now }
 {

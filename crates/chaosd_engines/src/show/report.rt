@@ -1,11 +1,48 @@
-//! The report of a packet.
-ghost use Rattle.std.specs.Prelude.{◌≡◌, ◌<◌, ◌++◌, OnOk};
+//! The report of a packet, and of several.
+ghost use Rattle.std.specs.Prelude.{◌≡◌, ◌<◌, ◌++◌, length, OnOk};
 ghost use Rattle.chaos_packet.specs.Packet.{status_of};
-ghost use Rattle.chaosd_engines.specs.Report.{octal_six, hex_digit, op_line, count_line, end_line, pair_line, data_line, body_text, packet_text};
+ghost use Rattle.chaosd_engines.specs.Report.{octal_six, hex_digit, op_line, count_line, end_line, pair_line, data_line, body_text, packet_text, carriage_line, packets_text, several_text};
 
 use crate::buffer::{NotWritten, WriteBuffer};
 use crate::texts::{put_decimal, put_octal_three};
+use chaos_link::Packets;
 use chaos_packet::{Opcode, Packet};
+
+/// Writes the lines of the packets of a datagram of version 2, which are so many. Each is written as it is taken out of the
+/// datagram, so the cost is that of their data bytes; nothing is allocated.
+#[tactic(auto, unfolding(crate::specs::Report::several_text))]
+pub fn put_several(
+    out: &mut WriteBuffer,
+    number: u8,
+    packets: Packets<'_>,
+) -> Result<(), NotWritten>
+    requires { number ≡ length packets }
+    ensures { OnOk result (out.new ≡ out.old ++ several_text packets.entry) }
+{
+    put_carriage(out, number)?;
+    put_packets(out, packets)
+}
+
+/// The carriage's version, and how many packets there are.
+#[tactic(auto, unfolding(crate::specs::Report::carriage_line))]
+fn put_carriage(out: &mut WriteBuffer, number: u8) -> Result<(), NotWritten>
+    ensures { OnOk result (out.new ≡ out.old ++ carriage_line number) }
+{
+    out.put(b"carriage 2 packets ")?;
+    put_decimal(out, usize::from(number))?;
+    out.put(b"\n")
+}
+
+/// Behind an empty line each packet.
+fn put_packets(out: &mut WriteBuffer, mut packets: Packets<'_>) -> Result<(), NotWritten>
+    ensures { OnOk result (out.new ≡ out.old ++ packets_text packets.entry) }
+{
+    while let Some(packet) = packets.next() {
+        out.put(b"\n")?;
+        put_packet(out, &packet)?;
+    }
+    Ok(())
+}
 
 /// Writes the lines of a packet. The cost is that of its data bytes; nothing is allocated.
 #[tactic(auto, unfolding(crate::specs::Report::packet_text))]

@@ -9,8 +9,15 @@ use crate::show::hex::MOST_BYTES;
 use crate::show::tally::Tally;
 use std::io::Write;
 
-/// No report has more bytes, with the empty line in front of it: that of a packet with all its data has 1,554.
-const REPORT_ROOM: usize = 2_048;
+/// No report has more bytes, with the empty line in front of it: those of n bytes have at most 426 + 3n, and no datagram that is
+/// read has more than 2,020.
+const REPORT_ROOM: usize = 8_192;
+
+/// Nor has that of a short line more, which stands for 540 bytes at most: a greatest packet's has 1,554.
+const SHORT_REPORT_ROOM: usize = 2_048;
+
+/// How many bytes a short line has at most. A greatest packet takes 1,016, without blanks.
+const SHORT_LINE: usize = 1_080;
 
 /// The reports that wait to be written, and the count of all so far.
 #[derive(Drop)]
@@ -52,13 +59,18 @@ impl Reporter {
         }
     }
 
-    /// Hands on the reports that wait where another might not fit behind them.
+    /// Hands on the reports that wait where that of a line of so many bytes might not fit behind them.
     #[inline]
-    fn make_room<W: Write>(&mut self, writer: &mut W) -> Result<(), NotWritten>
+    fn make_room<W: Write>(&mut self, writer: &mut W, line_len: usize) -> Result<(), NotWritten>
         ensures kept { Keeps (written_of (W.contents writer.old) self.old.out) (written_of (W.contents writer.new) self.new.out) }
         ensures tally { self.new.tally ≡ self.old.tally }
     {
-        if self.out.room() < REPORT_ROOM {
+        let needed = if line_len > SHORT_LINE {
+            REPORT_ROOM
+        } else {
+            SHORT_REPORT_ROOM
+        };
+        if self.out.room() < needed {
             self.hand_on(writer)?;
         }
         Ok(())
@@ -71,7 +83,7 @@ impl Reporter {
             (gap (self.old.tally.reports == 0) ++ line_report raw.now)) }
         ensures tally { OnOk result (self.new.tally ≡ counted self.old.tally raw.now) }
     {
-        self.make_room(writer)?;
+        self.make_room(writer, raw.len())?;
         let refused = put_report(
             &mut self.out,
             self.tally.reports == 0,

@@ -9,7 +9,7 @@ ghost use Rattle.chaosd_engines.specs.Show.{report_of, reports_of, ReportsRead, 
 
 use crate::buffer::NotWritten;
 use crate::fault::{RunFault, written};
-use crate::limits::{INPUT_LIMIT, KEPT_LEN};
+use crate::limits::{INPUT_LIMIT, SHOW_KEPT_LEN};
 use crate::reader::LineReader;
 use crate::show::reporter::Reporter;
 use crate::show::tally::Tally;
@@ -39,7 +39,7 @@ pub fn run_show<R: Read, W: Write>(reader: &mut R, writer: &mut W) -> Result<Tal
     ensures unread { result ≡ Err RunFault.ReadFault
         → ReportsRead (R.remaining reader.old) (R.remaining reader.new) (W.contents writer.old) (W.contents writer.new) }
 {
-    let mut lines: LineReader<KEPT_LEN> = LineReader::new(INPUT_LIMIT);
+    let mut lines: LineReader<SHOW_KEPT_LEN> = LineReader::new(INPUT_LIMIT);
     let mut reporter = Reporter::new();
     'reads: loop {
         written(report_ended(&mut reporter, &mut lines, writer))?;
@@ -56,7 +56,7 @@ pub fn run_show<R: Read, W: Write>(reader: &mut R, writer: &mut W) -> Result<Tal
 /// Reports the lines that end in what came.
 fn report_ended<W: Write>(
     reporter: &mut Reporter,
-    lines: &mut LineReader<KEPT_LEN>,
+    lines: &mut LineReader<SHOW_KEPT_LEN>,
     writer: &mut W,
 ) -> Result<(), NotWritten>
     requires { reporter.old.tally.reports + left_of lines.old ≤ INPUT_LIMIT }
@@ -76,7 +76,7 @@ fn report_ended<W: Write>(
 /// Reports what stands after the last end of a line, where that isn't empty.
 fn report_last<W: Write>(
     reporter: &mut Reporter,
-    lines: &LineReader<KEPT_LEN>,
+    lines: &LineReader<SHOW_KEPT_LEN>,
     writer: &mut W,
 ) -> Result<(), NotWritten>
     requires room { reporter.old.tally.reports ≤ INPUT_LIMIT }

@@ -1,4 +1,4 @@
-use Rattle.std.proofs.Common.{◌≡◌, ◌∙◌, ◌++◌, ap, codes}
+use Rattle.std.proofs.Common.{codes}
 use Rattle.std.specs.Fmt.{decimal}
 use Rattle.chaosd_engines.specs.Entry.{packet_fault_text}
 use Rattle.chaosd_engines.proofs.Faults.{behind_number}

@@ -1,7 +1,7 @@
 use Rattle.std.proofs.Common.{ap, ◌∙◌, arith, ◌≡◌}
 use Rattle.std.specs.Prelude.{Err}
 use Rattle.std.specs.Io.KnownBytes.{Appends}
-use Rattle.chaosd_engines.specs.declared.limits.TheConstants.{KEPT_LEN, INPUT_LIMIT}
+use Rattle.chaosd_engines.specs.declared.limits.TheConstants.{SHOW_KEPT_LEN, INPUT_LIMIT}
 use Rattle.chaosd_engines.specs.declared.fault.RunFault.TheVariants.{InputTooLong, ReadFault}
 use Rattle.chaosd_engines.specs.Reader.{GivesMore}
 use Rattle.chaosd_engines.specs.Show.{reports_of, tally_of}
@@ -20,7 +20,7 @@ returns-in_err-refill-clause-too_long g c is =
     let s = shown_kept _ _ _ _ _ _ _ _ c.hand_on.ensures.kept c.hand_on.ensures.tally (went_well _ _ _ c.written.ensures c.in_ok-written.was c.report_ended.ensures.shown _ _ _ c.reads.invariant.1) in
     past_shown _ _ _ s.given (handed _ _ _ _ (went_well _ _ _ c.written-in-reads.ensures c.in_ok-written-2.was c.hand_on.ensures.empty) s.text)
     (told c.from_residual-in_err-refill.result c.in_err-refill.field-0.0 InputTooLong
-    (λ f. GivesMore KEPT_LEN INPUT_LIMIT (g.R.Read.remaining c.args.reader.now) (g.R.Read.remaining c.refill.new.reader) s.given c.refill.new.self (Err f))
+    (λ f. GivesMore SHOW_KEPT_LEN INPUT_LIMIT (g.R.Read.remaining c.args.reader.now) (g.R.Read.remaining c.refill.new.reader) s.given c.refill.new.self (Err f))
     c.from_residual-in_err-refill.ensures.1 is (c.in_err-refill.ensures.given _ _ s.given s.gives))
 
 pub returns-in_err-refill-clause-unread : goal.returns-in_err-refill-clause-unread
@@ -28,7 +28,7 @@ returns-in_err-refill-clause-unread g c is =
     let s = shown_kept _ _ _ _ _ _ _ _ c.hand_on.ensures.kept c.hand_on.ensures.tally (went_well _ _ _ c.written.ensures c.in_ok-written.was c.report_ended.ensures.shown _ _ _ c.reads.invariant.1) in
     unread_shown _ _ _ _ s.given (handed _ _ _ _ (went_well _ _ _ c.written-in-reads.ensures c.in_ok-written-2.was c.hand_on.ensures.empty) s.text)
     (told c.from_residual-in_err-refill.result c.in_err-refill.field-0.0 ReadFault
-    (λ f. GivesMore KEPT_LEN INPUT_LIMIT (g.R.Read.remaining c.args.reader.now) (g.R.Read.remaining c.refill.new.reader) s.given c.refill.new.self (Err f))
+    (λ f. GivesMore SHOW_KEPT_LEN INPUT_LIMIT (g.R.Read.remaining c.args.reader.now) (g.R.Read.remaining c.refill.new.reader) s.given c.refill.new.self (Err f))
     c.from_residual-in_err-refill.ensures.1 is (c.in_err-refill.ensures.given _ _ s.given s.gives))
 
 pub reads-preserved : goal.reads-preserved
