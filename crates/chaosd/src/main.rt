@@ -33,7 +33,7 @@ where
         Line::Show => run_show_line(rt),
         Line::Lab => run_lab_line(rt),
         Line::FileLab => run_filelab_line(rt),
-        Line::Loop => run_loop_line(rt),
+        Line::Loop(carriage) => run_loop_line(rt, carriage),
         Line::Ask(ask) => run_ask_line(rt, ask),
         Line::Serve(serve) => run_serve_line(rt, serve),
     }
