@@ -9,6 +9,7 @@
 #   make bench-show         `chaosd show` alone; likewise bench-lab and bench-loop of the program, and bench-codec, bench-links,
 #                           bench-window, bench-host, bench-file and bench-turn of the libraries
 #   make pictures           draws the pictures of the documents again (python3)
+#   make dist               packs the program, its manual page, examples, dissector and licences into a tar file in out/
 #   make install PREFIX=DIR puts the program into DIR/bin, and its manual page into DIR/share/man/man1
 
 PREFIX ?= /usr/local
@@ -20,7 +21,7 @@ DIALOGUES := crates/random_dialogues/out/random_dialogues
 SEED ?= $(shell date +%s)
 PACKETS ?= 1000000
 
-.PHONY: all demo check wrong-bodies dialogues pictures bench $(PROGRAM_BENCHES:%=bench-%) $(BENCHES:%=bench-%) install clean
+.PHONY: all demo check wrong-bodies dialogues pictures bench $(PROGRAM_BENCHES:%=bench-%) $(BENCHES:%=bench-%) dist install clean
 
 all: bin/chaosd
 
@@ -56,6 +57,9 @@ $(PROGRAM_BENCHES:%=bench-%): bench-%: bin/chaosd
 
 $(BENCHES:%=bench-%): bench-%:
 	@RT=$(RT) python3 bench/beside.py $*
+
+dist: bin/chaosd
+	@tools/dist bin/chaosd out
 
 install: bin/chaosd
 	install -d $(DESTDIR)$(PREFIX)/bin
