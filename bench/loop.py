@@ -1,5 +1,6 @@
 #!/usr/bin/env python3
-"""Times `chaosd loop`, `serve` and `ask` beside plain Rust programs that do the same, and looks at the memory of `serve`.
+"""Times `chaosd loop`, `serve` and `ask` beside plain Rust programs that do the same, looks at the memory of `serve`, and times
+both carriages, where one packet goes out in a turn and where several do.
 
     make bench-loop, or bench/loop.py [PROGRAM]
 
@@ -182,6 +183,47 @@ def bench_memory(programs, folder):
     )
 
 
+def datagrams():
+    """How many UDP datagrams this machine has received so far."""
+    names, values = [line.split() for line in pathlib.Path("/proc/net/snmp").read_text().splitlines() if line.startswith("Udp:")]
+    return int(values[names.index("InDatagrams")])
+
+
+def least(command, script, out):
+    """The least seconds of some runs of the command, and how many datagrams the last of them took."""
+    best, count = None, 0
+    for _ in range(RUNS):
+        before = datagrams()
+        spent, _ = run(command, script, out)
+        best, count = min(best or spent, spent), datagrams() - before
+    return best, count
+
+
+def bench_carriages(programs, folder):
+    """Both versions of the carriage: in lock step one packet goes out in a turn, and where a file is put there are 13."""
+    program, shared = programs["chaosd"], pathlib.Path(folder) / "both"
+    shared.mkdir()
+    script, file = pathlib.Path(folder) / "lock_step", pathlib.Path(folder) / "FILE"
+    script.write_bytes(files_script(8, 250)[0])
+    file.write_bytes(bytes(0x21 + n % 50 for n in range(FILE_LIMIT)))
+    for version in ["1", "2"]:
+        spent, count = least([program, "loop", "--carriage", version], script, f"{folder}/output")
+        print(f"carriage {version}: loop, in lock step: {spent * 1000:.1f} ms, {count} datagrams")
+    for version in ["1", "2"]:
+        port, client = free_ports(2)
+        words = [program, "serve", "--carriage", version, "401", f"127.0.0.1:{port}", shared, f"402=127.0.0.1:{client}"]
+        server = subprocess.Popen(words, stderr=subprocess.PIPE)
+        try:
+            server.stderr.readline()
+            own = ["--quiet", "--carriage", version, "402", f"127.0.0.1:{client}", f"401=127.0.0.1:{port}"]
+            for name, command in [("put", ["put", *own, file]), ("get", ["get", "--output", f"{folder}/got", *own, "FILE"])]:
+                spent, count = least([program, *command], os.devnull, f"{folder}/output")
+                print(f"carriage {version}: {name}, 1 MiB, 13 commands in flight: {spent * 1000:.1f} ms, {count} datagrams")
+        finally:
+            server.send_signal(signal.SIGTERM)
+            server.communicate()
+
+
 def main():
     program = pathlib.Path(sys.argv[1]).resolve() if len(sys.argv) > 1 else PROGRAM
     if not program.is_file():
@@ -191,7 +233,7 @@ def main():
         words = ["rustc", "--edition=2021", "-O", "-C", "target-cpu=x86-64-v2", "-o", plain, HERE / "plain_loop.rs"]
         subprocess.run(words, check=True)
         programs = {"chaosd": program, "plain": plain}
-        for bench in [bench_loop, bench_ask, bench_memory]:
+        for bench in [bench_loop, bench_ask, bench_carriages, bench_memory]:
             bench(programs, folder)
 
 
