@@ -5,8 +5,8 @@ use super::turns::{Station, asks, asks_at, made, received, request, serves};
 use crate::TurnEnd;
 use chaos_host::HostDelivered;
 use chaos_link::{Carriage, LINK_ROOM, Link, MemLink, Received, fits, read_datagram, to_datagram2};
-use chaos_packet::{Opcode, PktNum};
-use std::alloc::{AllocGlobal, Global};
+use chaos_packet::{Opcode, Packet, PktNum};
+use std::alloc::AllocGlobal;
 use std::process::Abort;
 use std::test::Fail;
 
@@ -20,12 +20,11 @@ fn next_size(link: &mut impl Link) -> Option<usize> {
     Some(packets.len())
 }
 
-/// A link that holds one datagram, with two requests for FILE.
-fn two_requests(rt: &(impl Abort + AllocGlobal)) -> Result<MemLink, Fail> {
+/// A link that holds one datagram of version 2, with these packets.
+fn holding(rt: &(impl Abort + AllocGlobal), packets: &[Packet]) -> Result<MemLink, Fail> {
     let mut link = MemLink::new(rt.alloc(), 8)?;
-    let packets = [request(1), request(2)];
-    assert!(rt; fits(&packets));
-    let _ = link.send(0o401, to_datagram2(&packets).as_slice());
+    assert!(rt; fits(packets));
+    let _ = link.send(0o401, to_datagram2(packets).as_slice());
     Ok(link)
 }
 
@@ -33,7 +32,7 @@ fn two_requests(rt: &(impl Abort + AllocGlobal)) -> Result<MemLink, Fail> {
 fn both_packets_of_a_datagram_are_delivered(rt: HostRuntime) -> Result<(), Fail> {
     let mut server = made(rt.alloc(), 0o401)?;
     server.host.listen(b"FILE")?;
-    let mut link = two_requests(&rt)?;
+    let mut link = holding(&rt, &[request(1), request(2)])?;
     assert_eq!(rt; serves(&rt, &mut server, &mut link), TurnEnd::Worked);
     let first = received(&mut link).ok_or("an OPN")?;
     assert_eq!(rt; (first.op, first.dst_index), (Opcode::OPN, 1));
@@ -47,12 +46,12 @@ fn both_packets_of_a_datagram_are_delivered(rt: HostRuntime) -> Result<(), Fail>
 fn client_is_told_of_the_last_packet(rt: HostRuntime) -> Result<(), Fail> {
     let mut client = made(rt.alloc(), 0o401)?;
     client.host.listen(b"FILE")?;
-    let mut link = two_requests(&rt)?;
+    let mut stranger = request(2);
+    stranger.op = Opcode::DATA;
+    let mut link = holding(&rt, &[request(1), stranger])?;
     assert_eq!(rt; asks(&rt, &mut client, &mut link), TurnEnd::Worked);
-    let Some(HostDelivered::Requested(id)) = client.told else {
-        return Err("a request".into());
-    };
-    assert_eq!(rt; Some(id), client.host.id_of(1));
+    assert!(rt; client.host.id_of(0).is_some());
+    assert!(rt; matches!(&client.told, Some(HostDelivered::NoConnection)));
     Ok(())
 }
 
