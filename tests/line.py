@@ -43,6 +43,8 @@ HELP = {
         "  loop     A FILE script from standard input, put by one host to another in this process, to its replies\n",
         "  serve    The files of a folder, served to other hosts\n",
         "  ask      A FILE script from standard input, put to another host, to its replies\n",
+        "  get      Files of another host, into local files of their names\n",
+        "  put      Local files, to another host under their names\n",
         "  3  something was refused, or no reply came\n",
     ],
     "help show": ["Usage: chaosd show\n"],
@@ -51,6 +53,8 @@ HELP = {
     "help loop": ["Usage: chaosd loop\n"],
     "help serve": ["Usage: chaosd serve [OPTIONS] <ADDRESS> <UDP> <FOLDER> [PEER]...\n"],
     "help ask": ["Usage: chaosd ask <ADDRESS> <UDP> <TO> [PEER]...\n"],
+    "help get": ["Usage: chaosd get [OPTIONS] <ADDRESS> <UDP> <SERVER> <PATH>...\n"],
+    "help put": ["Usage: chaosd put [OPTIONS] <ADDRESS> <UDP> <SERVER> <LOCAL>...\n"],
     "serve --help": [
         "  <ADDRESS>  Chaosnet address of this host: 1 to 6 octal digits, from 1 to 177777\n",
         "  <UDP>      UDP address that this host receives at: a.b.c.d:port in decimal, the port from 1 to 65535\n",

@@ -9,7 +9,7 @@ use Rattle.chaos_link.specs.Datagram.{wire, words_of, Carries, fault_of, read_by
 use Rattle.chaos_link.specs.Packets.{Carries2, CarriesAll, packets_at, packets_len, packets_fault, fault_behind, fault_of_two, is_two, fault_of_all, number_of, read_all_by, packets_read}
 use Rattle.chaos_link.specs.declared.fault.LinkFault.{LinkFault}
 use Rattle.chaos_link.specs.declared.fault.LinkFault.TheVariants.{Trailing, BadNumber, TooLong}
-use Rattle.chaos_link.proofs.Carriage.{read_carried, carried_read, at_least, front_four}
+use Rattle.chaos_link.proofs.Carried.{read_carried, carried_read, at_least, front_four}
 use Rattle.chaos_link.proofs.Several.{all_read, all_spelled, length_within, length-packets_at}
 use Rattle.chaos_link.proofs.Words.{length-words_of, words_of-wire, wire-words_of, length-wire}
 

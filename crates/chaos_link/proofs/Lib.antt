@@ -1,6 +1,6 @@
 pub mod Bundled
 pub mod Canon
-pub mod Carriage
+pub mod Carried
 pub mod Either
 pub mod Made
 pub mod Several

@@ -6,6 +6,7 @@
 #![tactic(auto)]
 
 mod bundle;
+mod carriage;
 mod datagram;
 mod encode;
 mod fault;
@@ -21,6 +22,7 @@ mod tests;
 mod udp;
 
 pub use bundle::{fits, to_datagram2, write_datagram2};
+pub use carriage::Carriage;
 pub use datagram::{from_datagram, law_carries};
 pub use encode::{to_datagram, write_datagram};
 pub use fault::{LinkFault, PeerFault};

@@ -1,5 +1,5 @@
 use Rattle.std.proofs.Common.{◌∙◌, arith}
-use Rattle.chaos_link.proofs.Carriage.{read_carried, carried_read, none_carried}
+use Rattle.chaos_link.proofs.Carried.{read_carried, carried_read, none_carried}
 use Rattle.chaos_link.proofs.Made.{read_as}
 use Rattle.chaos_link.proofs.datagram.from_datagram.Goals as goal
 

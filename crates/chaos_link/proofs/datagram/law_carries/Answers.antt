@@ -1,5 +1,5 @@
 use Rattle.std.proofs.Common.{Ok, sym}
-use Rattle.chaos_link.proofs.Carriage.{read_carried, carried_read, all_below}
+use Rattle.chaos_link.proofs.Carried.{read_carried, carried_read, all_below}
 use Rattle.chaos_link.proofs.datagram.law_carries.Goals as goal
 
 pub returns : goal.returns

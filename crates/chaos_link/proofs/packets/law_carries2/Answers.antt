@@ -1,5 +1,5 @@
 use Rattle.std.proofs.Common.{Ok, sym}
-use Rattle.chaos_link.proofs.Carriage.{all_below}
+use Rattle.chaos_link.proofs.Carried.{all_below}
 use Rattle.chaos_link.proofs.Either.{read_carried_all, carried_read_all, one_list}
 use Rattle.chaos_link.proofs.packets.law_carries2.Goals as goal
 
