@@ -1,5 +1,5 @@
 -- Packets put one behind the other.
-use Rattle.std.proofs.Common.{◌≡◌, ℕ, zero, suc, ◌+◌, ◌*◌, ◌/◌, ◌%◌, ◌<◌, ◌≤◌, ◌↔◌, Bool, true, false, List, [], ◌∷◌, ◌++◌, length, take, drop, refl, arith, ap, ◌∙◌, sym, Some, slice_get, append_assoc, append-nil, length-append, length-drop}
+use Rattle.std.proofs.Common.{◌≡◌, ℕ, zero, suc, ◌+◌, ◌*◌, ◌/◌, ◌%◌, ◌≤◌, ◌↔◌, Bool, true, List, [], ◌∷◌, ◌++◌, length, take, drop, refl, arith, ap, ◌∙◌, sym, Some, slice_get, append_assoc, append-nil, length-append, length-drop}
 use Rattle.std.proofs.lemmas.List.{take_more, take_at, drop_at, take_all, length-take-le}
 use Rattle.std.proofs.lemmas.Option.{slice_get_within, get_or_from_slice_get}
 use Rattle.std.proofs.lemmas.Bool.Decides.{nat_tests}
@@ -9,31 +9,27 @@ use Rattle.chaos_packet.proofs.Packing.{length-packed}
 use Rattle.chaos_link.specs.Datagram.{wire}
 use Rattle.chaos_link.specs.Packets.{Carries2, SpellsAll}
 use Rattle.chaos_link.specs.Bundle.{bytes_for, fit_together, spelling_of_all, datagram_of_all}
+use Rattle.chaos_link.specs.Loads.{EachSpelled}
 use Rattle.chaos_link.proofs.Words.{length-wire}
-
--- each of the packets is spelled by its words
-abbrev pub EachSpelled : List PacketView → Type 0
-EachSpelled [] = Unit {0}
-EachSpelled (p ∷ ps) = Spells p (spelling_of p) × EachSpelled ps
 
 -- ---- one packet more
 
-wire-append : (ws vs : List ℕ) → wire (ws ++ vs) ≡ wire ws ++ wire vs
+pub wire-append : (ws vs : List ℕ) → wire (ws ++ vs) ≡ wire ws ++ wire vs
 wire-append [] vs = refl
 wire-append (w ∷ ws) vs = ap (λ bs. w / 256 ∷ w % 256 ∷ bs) (wire-append ws vs)
 
 one_more : (ps : List PacketView) (i : ℕ) (p : PacketView) → slice_get ps i ≡ Some p → take (i + 1) ps ≡ take i ps ++ p ∷ []
 one_more ps i p at = take_more ps i p (slice_get_within ps i p at) ∙ ap (λ q. take i ps ++ q ∷ []) (get_or_from_slice_get ps i p p at)
 
-bytes_behind : (ps : List PacketView) (p : PacketView) → bytes_for (ps ++ p ∷ []) ≡ bytes_for ps + 2 * (8 + words_for (length p.body))
+pub bytes_behind : (ps : List PacketView) (p : PacketView) → bytes_for (ps ++ p ∷ []) ≡ bytes_for ps + 2 * (8 + words_for (length p.body))
 bytes_behind [] p = omega arith
 bytes_behind (q ∷ ps) p = omega (arith, bytes_behind ps p)
 
-spelling_behind : (ps : List PacketView) (p : PacketView) → spelling_of_all (ps ++ p ∷ []) ≡ spelling_of_all ps ++ spelling_of p
+pub spelling_behind : (ps : List PacketView) (p : PacketView) → spelling_of_all (ps ++ p ∷ []) ≡ spelling_of_all ps ++ spelling_of p
 spelling_behind [] p = append-nil (spelling_of p)
 spelling_behind (q ∷ ps) p = ap (λ ws. spelling_of q ++ ws) (spelling_behind ps p) ∙ sym (append_assoc (spelling_of q) (spelling_of_all ps) (spelling_of p))
 
-each_behind : (ps : List PacketView) (p : PacketView) → EachSpelled ps → Spells p (spelling_of p) → EachSpelled (ps ++ p ∷ [])
+pub each_behind : (ps : List PacketView) (p : PacketView) → EachSpelled ps → Spells p (spelling_of p) → EachSpelled (ps ++ p ∷ [])
 each_behind [] p each spelled = (spelled, tt)
 each_behind (q ∷ ps) p each spelled = (each.0, each_behind ps p each.1 spelled)
 

@@ -1,11 +1,11 @@
 -- What either version carries is what is read of it.
-use Rattle.std.proofs.Common.{slice_get, append_assoc, append-nil, ◌≡◌, ℕ, ◌+◌, ◌*◌, ◌<◌, ◌≤◌, Bool, true, false, List, [], ◌∷◌, ◌++◌, length, get_or, take, drop, refl, arith, ap, ap₂, ◌∙◌, sym, subst, cond, not, ◌&&◌, eqb, nat_lt, Option, Some, None, Ok, Err, Result, IfOk, length-drop, inl, inr, ◌⊎◌}
+use Rattle.std.proofs.Common.{slice_get, append_assoc, append-nil, ◌≡◌, ℕ, ◌+◌, ◌*◌, ◌<◌, ◌≤◌, Bool, true, false, List, [], ◌∷◌, ◌++◌, length, get_or, drop, refl, arith, ap, ap₂, ◌∙◌, sym, subst, cond, not, ◌&&◌, nat_lt, Option, Some, None, Ok, Err, Result, IfOk, length-drop, inl, inr}
 use Rattle.std.proofs.lemmas.List.{get_or-drop}
 use Rattle.std.proofs.lemmas.Bool.Decides.{nat_tests}
 use Rattle.std.specs.Prelude.{◌==◌}
 use Rattle.chaos_packet.specs.Packet.{PacketView}
 use Rattle.chaos_packet.specs.Words.{packet_at}
-use Rattle.chaos_link.specs.Datagram.{wire, words_of, Carries, fault_of, read_by, datagram_read}
+use Rattle.chaos_link.specs.Datagram.{wire, words_of, Carries, fault_of, read_by}
 use Rattle.chaos_link.specs.Packets.{Carries2, CarriesAll, packets_at, packets_len, packets_fault, fault_behind, fault_of_two, is_two, fault_of_all, number_of, read_all_by, packets_read}
 use Rattle.chaos_link.specs.declared.fault.LinkFault.{LinkFault}
 use Rattle.chaos_link.specs.declared.fault.LinkFault.TheVariants.{Trailing, BadNumber, TooLong}

@@ -1,6 +1,8 @@
+pub mod Built
 pub mod Bundled
 pub mod Canon
 pub mod Carried
+pub mod Cut
 pub mod Either
 pub mod Made
 pub mod Several

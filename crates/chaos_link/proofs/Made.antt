@@ -5,7 +5,7 @@ use Rattle.std.proofs.lemmas.Bool.Decides.{nat_tests}
 use Rattle.chaos_packet.specs.Packet.{PacketView}
 use Rattle.chaos_packet.specs.Words.{words_for, count_of, words_fault, halves, packet_with, packet_at}
 use Rattle.chaos_packet.specs.declared.fault.PacketFault.TheVariants.{Truncated}
-use Rattle.chaos_link.specs.Datagram.{words_of, datagram_len, fault_of, read_by, datagram_read}
+use Rattle.chaos_link.specs.Datagram.{words_of, fault_of, read_by, datagram_read}
 use Rattle.chaos_link.proofs.Words.{take-words_of, drop-words_of}
 
 -- too few words for the count

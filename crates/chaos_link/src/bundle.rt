@@ -86,7 +86,7 @@ fn bytes_of_all(packets: &[Packet]) -> usize
 }
 
 /// How many bytes a packet takes. Its data are bytes, and no more than a packet has, so words spell it.
-fn bytes_of(packet: &Packet) -> usize
+pub(crate) fn bytes_of(packet: &Packet) -> usize
     ensures bytes { result ≡ 2 * (HEADER_WORDS + words_for (length packet.now.body)) }
     ensures few { result ≤ MAX_DATAGRAM }
     ensures spelled { Spells packet.now (spelling_of packet.now) }

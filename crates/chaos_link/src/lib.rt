@@ -13,6 +13,7 @@ mod fault;
 mod fuse;
 mod limits;
 mod link;
+mod loads;
 mod mem;
 mod packets;
 mod pairs;
@@ -31,7 +32,8 @@ pub use limits::{
     LINK_ROOM, MARK_BYTES, MAX_BUNDLE, MAX_DATAGRAM, MAX_PACKETS, MAX_PEERS, MAX_WAIT, law_limits,
 };
 pub use link::{Link, Received, Sent};
+pub use loads::{Load, law_loads};
 pub use mem::MemLink;
-pub use packets::{Packets, law_carries2, open_datagram, read_datagram};
+pub use packets::{Packets, is_version_two, law_carries2, open_datagram, read_datagram};
 pub use peers::{Peer, Peers};
 pub use udp::UdpLink;

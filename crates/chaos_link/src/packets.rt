@@ -125,8 +125,9 @@ pub fn read_datagram(bytes: &[u8]) -> Result<ArrayVec<Packet, MAX_PACKETS>, Link
     Ok(packets)
 }
 
-/// Whether the mark is there and the third byte is 2.
-fn is_version_two(bytes: &[u8]) -> bool
+/// Whether the mark is there and the third byte is 2, as of a datagram of version 2. Nothing else is looked at: it may have any
+/// fault behind them.
+pub fn is_version_two(bytes: &[u8]) -> bool
     ensures { result ≡ is_two bytes.now }
 {
     bytes.len() >= MARK_BYTES

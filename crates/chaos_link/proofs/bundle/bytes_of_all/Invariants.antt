@@ -1,6 +1,6 @@
 use Rattle.std.proofs.Common.{◌≡◌, ◌*◌, ◌≤◌, take}
 use Rattle.chaos_link.specs.Bundle.{bytes_for}
-use Rattle.chaos_link.proofs.Bundled.{EachSpelled}
+use Rattle.chaos_link.specs.Loads.{EachSpelled}
 use Rattle.chaos_link.proofs.bundle.bytes_of_all.Given as goal
 
 -- So far the bytes of the first packets, each of which its words spell.

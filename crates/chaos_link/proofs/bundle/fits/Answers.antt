@@ -1,6 +1,6 @@
-use Rattle.std.proofs.Common.{◌≡◌, true, ◌∙◌, sym, arith}
+use Rattle.std.proofs.Common.{arith}
 use Rattle.std.proofs.lemmas.Bool.Decides.{nat_tests}
-use Rattle.chaos_link.proofs.Bundled.{fit, fit_where_carried}
+use Rattle.chaos_link.proofs.Bundled.{fit_where_carried}
 use Rattle.chaos_link.proofs.bundle.fits.Goals as goal
 
 pub returns-clause-exact : goal.returns-clause-exact

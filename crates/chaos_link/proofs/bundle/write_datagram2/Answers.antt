@@ -1,10 +1,10 @@
-use Rattle.std.proofs.Common.{rules, ◌≡◌, ◌≤◌, ◌+◌, ◌*◌, ◌/◌, ◌++◌, ◌∙◌, ap, sym, slice_get, Some, length, take, arith}
+use Rattle.std.proofs.Common.{rules, ◌≡◌, ◌+◌, ◌++◌, ◌∙◌, ap, slice_get, Some, length, arith}
 use Rattle.std.proofs.lemmas.Option.{gets}
 use Rattle.std.proofs.lemmas.List.{take_all}
 use Rattle.chaos_packet.specs.Words.{spelling_of}
 use Rattle.chaos_link.specs.Datagram.{wire}
 use Rattle.chaos_link.specs.Packets.{mark_of}
-use Rattle.chaos_link.specs.Bundle.{bytes_for, spelling_of_all}
+use Rattle.chaos_link.specs.Bundle.{spelling_of_all}
 use Rattle.chaos_link.proofs.Bundled.{bytes_more, bytes_within, each_more, wire_more, all_spelled_in_turn, fit, carried_together}
 use Rattle.chaos_link.proofs.Either.{read_two}
 use Rattle.chaos_link.proofs.bundle.write_datagram2.Goals as goal

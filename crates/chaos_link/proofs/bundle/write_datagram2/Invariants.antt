@@ -2,7 +2,7 @@ use Rattle.std.proofs.Common.{◌≡◌, ◌+◌, ◌++◌, length, take}
 use Rattle.chaos_link.specs.Datagram.{wire}
 use Rattle.chaos_link.specs.Packets.{mark_of}
 use Rattle.chaos_link.specs.Bundle.{bytes_for, spelling_of_all}
-use Rattle.chaos_link.proofs.Bundled.{EachSpelled}
+use Rattle.chaos_link.specs.Loads.{EachSpelled}
 use Rattle.chaos_link.proofs.bundle.write_datagram2.Given as goal
 
 -- So far the mark and the first packets, each of which its words spell.

@@ -1,4 +1,4 @@
-use Rattle.std.proofs.Common.{◌≡◌, ◌<◌, ◌≤◌, ◌++◌, ◌∙◌, ℕ, length, get_or, take, rules, ap, append_assoc}
+use Rattle.std.proofs.Common.{◌≡◌, ◌<◌, ◌++◌, ◌∙◌, ℕ, get_or, take, rules, append_assoc}
 use Rattle.chaos_packet.specs.Words.{header_of, packed}
 use Rattle.chaos_packet.proofs.Packing.{spelling_spells, spelling_zero}
 use Rattle.chaos_link.specs.Datagram.{wire}

@@ -1,6 +1,4 @@
-use Rattle.std.proofs.Common.{◌≡◌, ◌++◌, ◌∙◌, take, rules, ap, sym}
-use Rattle.chaos_packet.specs.Words.{spelling_of}
-use Rattle.chaos_link.specs.Datagram.{mark, wire}
+use Rattle.std.proofs.Common.{◌∙◌, rules, sym}
 use Rattle.chaos_link.proofs.Carried.{read_carried}
 use Rattle.chaos_link.proofs.Canon.{carried_spelling, canonical_spelling, canonical_only}
 use Rattle.chaos_link.proofs.encode.write_datagram.Goals as goal

@@ -1,4 +1,4 @@
-use Rattle.std.proofs.Common.{◌≡◌, ℕ, ◌+◌, ◌-◌, ◌*◌, ◌/◌, ◌<◌, ◌∙◌, ap, sym, arith, drop, refl}
+use Rattle.std.proofs.Common.{◌≡◌, ◌+◌, ◌-◌, ◌*◌, ◌/◌, ◌<◌, ◌∙◌, ap, sym, arith, drop, refl}
 use Rattle.chaos_link.specs.Datagram.{words_of}
 use Rattle.chaos_link.specs.Packets.{packets_len, packets_fault}
 use Rattle.chaos_link.proofs.Several.{fault_goes_on, len_goes_on, fault_here}

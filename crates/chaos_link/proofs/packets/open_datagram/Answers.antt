@@ -1,8 +1,4 @@
-use Rattle.std.proofs.Common.{◌≡◌, ◌∙◌, ◌∷◌, [], ℕ, List, drop, ap, ap₂, sym, arith, Ok}
-use Rattle.chaos_packet.specs.Packet.{PacketView}
-use Rattle.chaos_packet.specs.Words.{packet_at}
-use Rattle.chaos_link.specs.Datagram.{words_of}
-use Rattle.chaos_link.specs.Packets.{packets_at}
+use Rattle.std.proofs.Common.{◌∙◌, sym, arith, Ok}
 use Rattle.chaos_link.proofs.Either.{one_at_fault, two_at_fault, opened_one, opened_two, none_carried_all, carried_read_all, read_carried_all}
 use Rattle.chaos_link.proofs.packets.open_datagram.Goals as goal
 

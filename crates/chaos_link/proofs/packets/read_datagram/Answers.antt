@@ -1,6 +1,6 @@
-use Rattle.std.proofs.Common.{◌≡◌, ◌+◌, ◌≤◌, ◌++◌, ◌∷◌, [], ◌∙◌, ℕ, List, length, drop, slice_get, ap, ap₂, sym, arith, Ok, None, length-drop, length-append}
+use Rattle.std.proofs.Common.{◌≡◌, ◌+◌, ◌≤◌, ◌++◌, ◌∷◌, [], ◌∙◌, List, length, drop, slice_get, ap, ap₂, sym, arith, Ok, None, length-drop, length-append}
 use Rattle.chaos_packet.specs.Packet.{PacketView}
-use Rattle.chaos_link.proofs.Either.{carried_read_all, read_carried_all, none_carried_as, few_carried, all_taken, one_taken, none_taken, same_lists, ok}
+use Rattle.chaos_link.proofs.Either.{carried_read_all, read_carried_all, none_carried_as, all_taken, one_taken, none_taken, same_lists, ok}
 use Rattle.chaos_link.proofs.packets.read_datagram.Goals.{in-Some, in_default}
 use Rattle.chaos_link.proofs.packets.read_datagram.Goals as goal
 

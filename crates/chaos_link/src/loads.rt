@@ -1,0 +1,139 @@
+//! Packets that wait, cut into datagrams of version 2.
+ghost use Rattle.std.specs.Prelude.{◌≡◌, ◌≤◌, ◌++◌, ◌∷◌, [], ℕ, List, All, Ok, true, length, take, slice_index};
+ghost use Rattle.chaos_packet.specs.Packet.{PacketView};
+ghost use Rattle.chaos_link.specs.Bundle.{datagram_of_all, fit_together};
+ghost use Rattle.chaos_link.specs.Loads.{AreLoadsOf, AreLongest, HasOneDestination, IsBuilt, IsSmall, joined, joins, loads_of, packets_of};
+ghost use Rattle.chaos_link.specs.Packets.{Carries2, packets_read};
+
+use crate::bundle::bytes_of;
+use crate::datagram::MARK;
+use crate::encode::put_packet;
+use crate::limits::{MARK_BYTES, MAX_BUNDLE, MAX_PACKETS};
+use crate::packets::VERSION_TWO;
+use chaos_packet::Packet;
+use std::marker::Model;
+
+/// The place of the number of packets in a datagram of version 2.
+const NUMBER: usize = 3;
+
+/// A datagram of version 2 that is built packet by packet, all of them to one destination. A contract sees its packets, of which
+/// there is one at least.
+///
+/// So packets that wait one behind the other are sent in as few datagrams as that order allows: each joins the load before it
+/// ([`Load::join`]), else that one is sent and the packet begins the next ([`Load::begin`]). It has room of its own for 2,020
+/// bytes, and takes no memory.
+#[derive(Drop)]
+pub struct Load {
+    bytes: [u8; MAX_BUNDLE],
+    /// How many bytes the datagram has so far.
+    end: usize,
+    /// Where the packets go.
+    to: u16,
+}
+
+impl Model for Load {
+    ghost use Rattle.std.specs.Prelude.{List};
+    ghost use Rattle.chaos_packet.specs.Packet.{PacketView};
+    ghost use Rattle.chaos_link.specs.Loads.{IsBuilt, load_in};
+
+    ghost Value = { List PacketView };
+
+    ghost view = { λ s. load_in s.end s.bytes };
+
+    ghost invariant = { λ s. IsBuilt (load_in s.end s.bytes) s.to s.end s.bytes };
+}
+
+impl Load {
+    /// A load of this packet.
+    pub fn of(packet: &Packet) -> Self
+        ensures { result ≡ packet.now ∷ [] }
+    {
+        let mut bytes = [0; MAX_BUNDLE];
+        let end = put_first(packet, &mut bytes);
+        Load {
+            bytes,
+            end,
+            to: packet.dst,
+        }
+    }
+
+    /// Begins a load anew, with this packet in place of those that it had.
+    pub fn begin(&mut self, packet: &Packet)
+        ensures { self.new ≡ packet.now ∷ [] }
+    {
+        self.end = put_first(packet, &mut self.bytes);
+        self.to = packet.dst;
+    }
+
+    /// Takes a packet in, behind the others, where it joins them: where it goes to their destination, and one datagram can carry
+    /// all. Says whether it does; else nothing changes. No data byte is looked at to tell; it is copied once, by whole words.
+    pub fn join(&mut self, packet: &Packet) -> bool
+        ensures told { result ≡ joins self.old packet.now }
+        ensures load { self.new ≡ joined self.old packet.now }
+    {
+        if !self.joins(packet) {
+            return false;
+        }
+        self.bytes[NUMBER] += 1;
+        self.end = put_packet(packet, self.end, &mut self.bytes);
+        true
+    }
+
+    /// Whether a packet joins the load, as [`Load::join`] says.
+    fn joins(&self, packet: &Packet) -> bool
+        ensures { result ≡ joins self.now packet.now }
+    {
+        if packet.dst != self.to || usize::from(self.bytes[NUMBER]) == MAX_PACKETS {
+            return false;
+        }
+        self.end + bytes_of(packet) <= MAX_BUNDLE
+    }
+
+    /// The Chaosnet address that all packets of the load go to.
+    pub fn destination(&self) -> u16
+        ensures { All (λ p. p.dst ≡ result) self.now }
+    {
+        self.to
+    }
+
+    /// The datagram of the load. Its free halves are zero.
+    pub fn datagram(&self) -> &[u8]
+        // A link takes it, and it carries the packets.
+        ensures fits { length result.now ≤ MAX_BUNDLE }
+        ensures carried { Carries2 self.now result.now }
+
+        // What is read of it is the packets.
+        ensures read { packets_read result.now ≡ Ok self.now }
+
+        // For callers that compute: the datagram is a function of the packets.
+        ensures exact { result.now ≡ datagram_of_all self.now }
+    {
+        &self.bytes[..self.end]
+    }
+}
+
+/// Puts the datagram of version 2 of one packet in front, and says where it ends.
+fn put_first(packet: &Packet, buffer: &mut [u8; MAX_BUNDLE]) -> usize
+    ensures { IsBuilt (packet.now ∷ []) packet.now.dst result buffer.new }
+{
+    buffer[..MARK_BYTES].copy_from_slice(&[MARK[0], MARK[1], VERSION_TWO, 1]);
+    put_packet(packet, MARK_BYTES, buffer)
+}
+
+/// The law of the loads of packets that wait.
+pub fn law_loads()
+    // In order, and put together, they are the packets.
+    ensures whole { (ps : List PacketView) → packets_of (loads_of ps) ≡ ps }
+
+    // One datagram can carry each, where no packet has more data than packets have.
+    ensures fit { (ps : List PacketView) → All IsSmall ps → All (λ load. fit_together load ≡ true) (loads_of ps) }
+
+    // Each has one destination.
+    ensures one { (ps : List PacketView) → All HasOneDestination (loads_of ps) }
+
+    // Each is the longest front of what is left: the next one's first packet goes elsewhere, or doesn't fit.
+    ensures longest { (ps : List PacketView) → AreLongest (loads_of ps) }
+
+    // No other loads are all of that.
+    ensures only { (ps : List PacketView) (loads : List (List PacketView)) → AreLoadsOf ps loads → loads ≡ loads_of ps }
+{}
