@@ -1,5 +1,7 @@
+pub mod Loaded
 pub mod Phase
 pub mod Queue
 pub mod Receipt
 pub mod Relation
+pub mod Several
 pub mod Whole

@@ -4,7 +4,9 @@ use crate::{Sessions, TURN_ROOM, TurnEnd, client_turn, run_turn};
 use chaos_conn::ConnConfig;
 use chaos_file::MemStore;
 use chaos_host::{Host, HostDelivered};
-use chaos_link::{FuseLink, LINK_ROOM, Link, MemLink, Received, from_datagram, to_datagram};
+use chaos_link::{
+    Carriage, FuseLink, LINK_ROOM, Link, MemLink, Received, from_datagram, to_datagram,
+};
 use chaos_packet::{Item, Opcode, Outbox, Packet, PktNum};
 use std::alloc::{AllocGlobal, Global};
 use std::process::Abort;
@@ -18,6 +20,7 @@ pub struct Station {
     pub store: MemStore,
     pub out: Outbox,
     pub told: Option<HostDelivered>,
+    pub carriage: Carriage,
 }
 
 /// A host with this address and two slots.
@@ -28,6 +31,7 @@ pub fn made(alloc: Global, address: u16) -> Result<Station, Fail> {
         store: MemStore::new(alloc),
         out: Outbox::new(alloc, TURN_ROOM + 4)?,
         told: None,
+        carriage: Carriage::One,
     })
 }
 
@@ -58,6 +62,7 @@ fn serves_at<L: Link>(
         PktNum(9),
         now,
         &mut station.out,
+        station.carriage,
     )
 }
 
@@ -70,6 +75,7 @@ pub fn asks<L: Link>(rt: &impl Abort, station: &mut Station, link: &mut L) -> Tu
         0,
         &mut station.out,
         &mut station.told,
+        station.carriage,
     )
 }
 
