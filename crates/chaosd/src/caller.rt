@@ -40,6 +40,7 @@ impl<'a, C: Clock> Caller<'a, C> {
             copying.address,
             copying.server.address,
             copying.window,
+            copying.carriage,
         )?;
         Ok(Caller {
             call,

@@ -38,7 +38,7 @@ where
         Line::Show => run_show_line(rt),
         Line::Lab => run_lab_line(rt),
         Line::FileLab => run_filelab_line(rt),
-        Line::Loop => run_loop_line(rt),
+        Line::Loop(carriage) => run_loop_line(rt, carriage),
         Line::Ask(ask) => run_ask_line(rt, ask),
         Line::Serve(serve) => run_serve_line(rt, serve),
         Line::Get(get) => run_get_line(rt, get, is_terminal),

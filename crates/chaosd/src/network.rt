@@ -2,7 +2,7 @@
 use crate::noting::Noting;
 use crate::told::{tell_end, tell_script, tell_unopened};
 use chaos_file::DirStore;
-use chaos_link::{Peer, Peers, UdpLink};
+use chaos_link::{Carriage, Peer, Peers, UdpLink};
 use chaosd_engines::RunFault;
 use chaosd_file::{
     LOOP_CLIENT, LOOP_SERVER, NOBODY, ScriptEnd, Why, run_ask, run_loop, run_serve, script_status,
@@ -93,7 +93,10 @@ fn asked_host<R: Eprint>(rt: &R, to: u16, peers: &Peers) -> u16 {
 }
 
 /// Runs `loop` from standard input to standard output.
-pub(crate) fn run_loop_line<R: AllocGlobal + Eprint + Input + Net + Print>(rt: &R) -> u8 {
+pub(crate) fn run_loop_line<R: AllocGlobal + Eprint + Input + Net + Print>(
+    rt: &R,
+    carriage: Carriage,
+) -> u8 {
     if !has_input(rt) {
         return end_script(rt, &Err(RunFault::ReadFault), &None);
     }
@@ -109,6 +112,7 @@ pub(crate) fn run_loop_line<R: AllocGlobal + Eprint + Input + Net + Print>(rt: &
         &mut near,
         &mut far,
         &mut why,
+        carriage,
     );
     end_script(rt, &end, &why)
 }
@@ -119,6 +123,7 @@ pub(crate) fn run_ask_line<R: AllocGlobal + Clock + Eprint + Input + Net + Print
     line: Ask,
 ) -> u8 {
     let Ask {
+        carriage,
         address,
         socket,
         to,
@@ -142,6 +147,7 @@ pub(crate) fn run_ask_line<R: AllocGlobal + Clock + Eprint + Input + Net + Print
         address,
         to,
         &mut why,
+        carriage,
     );
     match &why {
         // That the host is no peer was told.
@@ -157,6 +163,7 @@ pub(crate) fn run_serve_line<R: AllocGlobal + Clock + Eprint + Files<File = File
 ) -> u8 {
     let Serve {
         turns,
+        carriage,
         address,
         socket,
         folder,
@@ -178,6 +185,7 @@ pub(crate) fn run_serve_line<R: AllocGlobal + Clock + Eprint + Files<File = File
         &mut store,
         address,
         u64::from(turns),
+        carriage,
     );
     tell_end(rt, &end);
     if end.is_ok() {
