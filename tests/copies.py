@@ -86,8 +86,8 @@ def sizes_both_ways(checks):
 
 def windows(checks):
     """Every window carries files whole, and none starves: an end that waits to send again takes half a second more for each file."""
-    names = [f"F{n}" for n in range(16)]
-    content = mixed_content(60_000)
+    names = [f"F{n}" for n in range(32)]
+    content = mixed_content(9_000)
     with serving() as server, folder() as here:
         for window in ["1", "2", "13", "14", "39", "40", "64"]:
             for subcommand, source, target in [("get", server.folder, here), ("put", here, server.folder)]:
@@ -97,7 +97,7 @@ def windows(checks):
                 begun = time.monotonic()
                 problems = copied(server, subcommand, *names, options=["--window", window], cwd=here).problems(DONE, b"", b"")
                 spent = time.monotonic() - begun
-                problems += [f"it took {spent:.2f} s"] if spent > len(names) / 2 else []
+                problems += [f"it took {spent:.2f} s"] if spent > len(names) / 3 else []
                 for name in names:
                     problems += stored_problems(target / name, content)
                 checks.check(f"{subcommand} --window {window}", problems)
@@ -373,6 +373,32 @@ def terminals(checks):
             checks.check(f"get {' '.join(options)} on a terminal", problems)
 
 
+def slow_network(checks):
+    """On a terminal it is shown how far a file has come."""
+
+    def slow(is_clients, text):
+        time.sleep(0.01)
+        return text
+
+    content = mixed_content(40 * 448)
+    with between(slow) as (server, line), folder() as here:
+        (here / "UP").write_bytes(content)
+        for subcommand, seen in [("put", server.folder / "UP"), ("get", here / "UP")]:
+            near, far = pty.openpty()
+            process = started([subcommand, *line, "UP"], cwd=here, stderr=far)
+            os.close(far)
+            shown = b""
+            with contextlib.suppress(OSError):
+                while more := os.read(near, 4_096):
+                    shown += more
+            os.close(near)
+            problems = [] if process.wait(timeout=LONG) == DONE else [f"status {process.returncode}"]
+            told = re.findall(rb"\rUP (\d+) of 17920 bytes, (\d+)%, \d+ kB/s\x1b\[K", shown)
+            problems += [] if told and all(int(part) * 100 // 17_920 == int(share) for part, share in told) else [f"{shown!r}"]
+            problems += [] if shown.endswith(b"\r\x1b[KUP 17920 bytes\r\n") else [f"it ends with {shown[-40:]!r}"]
+            checks.check(f"{subcommand} on a terminal shows how far it has come", problems + stored_problems(seen, content))
+
+
 def small_stacks(checks):
     """A copy needs little of the stack."""
     limited = lambda: resource.setrlimit(resource.RLIMIT_STACK, (131_072, 131_072))
@@ -471,7 +497,7 @@ def bad_lines(checks):
 
 
 GROUPS = [bad_lines, sizes_both_ways, windows, many_files, streams, texts, local_faults, full_disks, killed_in_the_middle]
-GROUPS += [interrupted, silences, terminals, small_stacks, two_puts, sixteen_clients, losing_network]
+GROUPS += [interrupted, silences, terminals, slow_network, small_stacks, two_puts, sixteen_clients, losing_network]
 
 
 def main():

@@ -23,4 +23,4 @@ weight status = if status == 4 then 3 else (if status == 1 then 2 else (if statu
 
 -- of two statuses the one that weighs more
 abbrev pub worse_status : ℕ → ℕ → ℕ
-worse_status run last = if weight run < weight last then last else run
+worse_status run last = if nat_lt (weight run) (weight last) then last else run

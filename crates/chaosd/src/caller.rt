@@ -2,6 +2,7 @@
 ghost use Rattle.std.specs.Prelude.{◌≡◌, ◌≤◌, ◌<◌, [], length};
 ghost use Rattle.chaos_file.specs.declared.limits.TheConstants.{MAX_FILE, MAX_NAME, MAX_PATH};
 
+use crate::progress::{Viewer, Watched};
 use chaos_link::UdpLink;
 use chaosd_call::Call;
 use chaosd_copy::{CopyEnd, get_file, log_in, put_file};
@@ -58,8 +59,13 @@ impl<'a, C: Clock> Caller<'a, C> {
         log_in(&mut self.call, self.login.as_bytes())
     }
 
-    /// Gets a file.
-    pub(crate) fn get(&mut self, path: &[u8], bytes: &mut Vec<u8>) -> Result<CopyEnd, RunFault>
+    /// Gets a file, and tells a viewer how far it has come.
+    pub(crate) fn get<R: Eprint>(
+        &mut self,
+        viewer: Viewer<'_, R>,
+        path: &[u8],
+        bytes: &mut Vec<u8>,
+    ) -> Result<CopyEnd, RunFault>
         requires path { length path.now ≤ MAX_PATH }
         requires empty { bytes.old.items ≡ [] }
     {
@@ -67,13 +73,21 @@ impl<'a, C: Clock> Caller<'a, C> {
             CopyEnd::Done => {}
             end => return Ok(end),
         }
-        let end = get_file(&mut self.call, FIRST, path, bytes)?;
+        let mut watched = Watched::new(viewer, &mut self.call, None);
+        let end = get_file(&mut watched, FIRST, path, bytes);
+        watched.end();
+        let end = end?;
         self.is_in = matches!(end, CopyEnd::Done);
         Ok(end)
     }
 
-    /// Puts a file.
-    pub(crate) fn put(&mut self, path: &[u8], bytes: &[u8]) -> Result<CopyEnd, RunFault>
+    /// Puts a file, and tells a viewer how far it has come.
+    pub(crate) fn put<R: Eprint>(
+        &mut self,
+        viewer: Viewer<'_, R>,
+        path: &[u8],
+        bytes: &[u8],
+    ) -> Result<CopyEnd, RunFault>
         requires path { length path.now ≤ MAX_PATH }
         requires fits { length bytes.now ≤ MAX_FILE }
     {
@@ -81,7 +95,10 @@ impl<'a, C: Clock> Caller<'a, C> {
             CopyEnd::Done => {}
             end => return Ok(end),
         }
-        let end = put_file(&mut self.call, FIRST, path, bytes)?;
+        let mut watched = Watched::new(viewer, &mut self.call, Some(bytes.len()));
+        let end = put_file(&mut watched, FIRST, path, bytes);
+        watched.end();
+        let end = end?;
         self.is_in = matches!(end, CopyEnd::Done);
         Ok(end)
     }

@@ -8,6 +8,7 @@ use crate::copied::{
     tell_too_long, tell_whole, worse,
 };
 use crate::network::{has_input, link_to_server};
+use crate::progress::Viewer;
 use crate::told::tell_unopened;
 use chaos_file::MAX_PATH;
 use chaosd_copy::{Charset, CopyEnd, read_whole, write_whole};
@@ -27,10 +28,21 @@ const STREAM: &str = "-";
 #[derive(Clone, Copy)]
 struct Way {
     is_text: bool,
-    /// Whether a line is told of a file that was copied.
+    /// Whether a user is told of a file that is copied, and that it was.
     is_told: bool,
     /// What local files that are being written are marked by: the port of the run's own socket, which no other run has.
     mark: u16,
+}
+
+impl Way {
+    /// Whom to tell how far a file has come.
+    fn viewer<'a, R: Eprint>(self, rt: &'a R, name: &'a str) -> Viewer<'a, R> {
+        Viewer {
+            rt,
+            name,
+            is_told: self.is_told,
+        }
+    }
 }
 
 /// How the files of this line are copied.
@@ -86,7 +98,7 @@ where
         return tell_too_long(rt, path);
     }
     let mut bytes = Vec::new(rt.alloc());
-    match caller.get(name, &mut bytes) {
+    match caller.get(way.viewer(rt, path), name, &mut bytes) {
         Ok(CopyEnd::Done) => end_get(rt, path, local, way, bytes.as_mut_slice()),
         Ok(end) => tell_end_of(rt, path, &end, &caller.no_reply()),
         Err(fault) => tell_fault_of(rt, path, fault),
@@ -166,7 +178,7 @@ where
     if let Err(lost) = as_sent(bytes.as_mut_slice(), way.is_text) {
         return tell_lost(rt, local, lost);
     }
-    match caller.put(path, bytes.as_slice()) {
+    match caller.put(way.viewer(rt, local), path, bytes.as_slice()) {
         Ok(CopyEnd::Done) => tell_whole(rt, local, bytes.len(), way.is_told),
         Ok(end) => tell_end_of(rt, local, &end, &caller.no_reply()),
         Err(fault) => tell_fault_of(rt, local, fault),

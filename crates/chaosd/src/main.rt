@@ -9,6 +9,7 @@ mod copied;
 mod copies;
 mod network;
 mod noting;
+mod progress;
 mod runs;
 mod status;
 mod told;
