@@ -44,7 +44,9 @@ fn last_number(bytes: &[u8]) -> usize {
     let mut number: usize = 0;
     for byte in bytes {
         number = match *byte {
-            b'0'..=b'9' => number.saturating_mul(10).saturating_add(usize::from(*byte - b'0')),
+            b'0'..=b'9' => number
+                .saturating_mul(10)
+                .saturating_add(usize::from(*byte - b'0')),
             _ => 0,
         };
     }
@@ -105,7 +107,9 @@ impl<'a, R: Eprint, T: Talk> Watched<'a, R, T> {
         // bytes in a millisecond are thousands in a second
         let rate = part as u64 / now.saturating_sub(self.progress.since).max(1);
         let name = self.viewer.name;
-        let _ = eprint!(self.viewer.rt; "\r{name} {part} of {whole} bytes, {hundredths}%, {rate} kB/s\x1b[K");
+        let _ = eprint!(self.viewer.rt;
+            "\r{name} {part} of {whole} bytes, {hundredths}%, {rate} kB/s\x1b[K"
+        );
     }
 
     /// Takes away what the user was told.
