@@ -299,6 +299,7 @@ HARMS = [
     lambda dice, good: good[: dice.randrange(1, len(good))],
     lambda dice, good: good[: dice.randrange(1, 24)],
     lambda dice, good: good + dice.randbytes(dice.randrange(1, 5)),
+    lambda dice, good: good.ljust(dice.randrange(2_015, 2_026), b"x"),
     lambda dice, good: with_bytes(good, dice.randrange(2), [dice.randrange(256)]),
     lambda dice, good: with_bytes(good, 2, [dice.choice([0, 1, 3, 255]), dice.randrange(3)]),
     lambda dice, good: with_bytes(good, 3, [dice.randrange(12)]),

@@ -5,3 +5,4 @@ pub mod KeptSteps
 pub mod RepliesLaw
 pub mod Chains
 pub mod Exactly
+pub mod Passing

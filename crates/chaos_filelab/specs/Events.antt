@@ -1,5 +1,5 @@
 -- The events of a laboratory whose B serves FILE.
-use Rattle.std.specs.Prelude.{◌≡◌, ◌≢◌, ℕ, ◌<◌, Bool, true, false, List, [], ◌∷◌, length, take, Result, Ok, Err, ◌⊎◌}
+use Rattle.std.specs.Prelude.{◌≡◌, ◌≢◌, ℕ, Bool, true, false, List, [], ◌∷◌, take, Option, Some, None, slice_get, Result, Ok, Err, ◌⊎◌, ⊤}
 use Rattle.std.specs.Bool.{MatchBool}
 use Rattle.chaos_serve.specs.Work.{work_of}
 use Rattle.chaos_serve.specs.declared.served.Served.{Served}
@@ -7,7 +7,7 @@ use Rattle.chaos_lab.specs.declared.side.Side.TheVariants.{B}
 use Rattle.chaos_lab.specs.declared.event.Stepped.{Stepped}
 use Rattle.chaos_lab.specs.declared.fault.LabFault.{LabFault}
 use Rattle.chaos_lab.specs.declared.fault.LabFault.TheVariants as fault
-use Rattle.chaos_lab.specs.Laboratory.{Happening, Happens}
+use Rattle.chaos_lab.specs.Laboratory.{Happening, Happens, check}
 use Rattle.chaos_lab.specs.Laboratory.Happening.{WriteBy, ReadBy}
 use Rattle.chaos_lab.specs.Turn.{Turn}
 use Rattle.chaos_lab.specs.Turns.{TurnHappens}
@@ -78,6 +78,16 @@ abbrev pub Runs : FileLabView → List FileHappening → FileLabView → Type 0
 Runs old [] new = new ≡ old
 Runs old (event ∷ events) new = (mid : FileLabView) × Passes old event mid × Runs mid events new
 
--- the first events of these, at whose next one there was no memory
-abbrev pub StopsWithin : FileLabView → List FileHappening → FileLabView → Type 0
-StopsWithin old events new = (done : ℕ) × (done < length events) × Runs old (take done events) new
+-- it has passed the checks that come before all else: it isn't B's server's, and what the laboratory checks. Nothing is checked before
+-- a serve
+abbrev pub HasPassed : FileLabView → FileHappening → Type 0
+HasPassed l (At event) = (is_by_server event ≡ false) × (check l.lab event ≡ None)
+HasPassed l Serve = ⊤
+
+-- Events stopped for want of memory: so many of them happened or were refused. The next one had passed its checks.
+pub record Stops (old : FileLabView) (events : List FileHappening) (new : FileLabView) : Type 0 where
+  pub done : ℕ
+  pub event : FileHappening
+  pub next : slice_get events done ≡ Some event
+  pub passed : HasPassed new event
+  pub after : Runs old (take done events) new

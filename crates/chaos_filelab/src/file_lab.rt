@@ -7,7 +7,7 @@ ghost use Rattle.chaos_lab.specs.Inside.{happening_of};
 ghost use Rattle.chaos_lab.specs.Laboratory.{lab_end, start_for};
 ghost use Rattle.chaos_lab.specs.Tied.{HasMachine};
 ghost use Rattle.chaos_filelab.specs.View.{FileLabView, commands_of, replies_to_a, wrote_mem};
-ghost use Rattle.chaos_filelab.specs.Events.{At, Serve, FileHappens, LabHappens, ServeHappens, Passes, Runs, StopsWithin, file_event, is_by_server};
+ghost use Rattle.chaos_filelab.specs.Events.{At, Serve, FileHappens, LabHappens, ServeHappens, HasPassed, Passes, Runs, Stops, file_event, is_by_server};
 ghost use Rattle.chaos_filelab.specs.Bodies.{is_mem, told_want};
 ghost use Rattle.chaos_filelab.specs.Exact.{IsExact};
 ghost use Rattle.chaos_filelab.specs.Law.{RepliesBegin};
@@ -102,10 +102,10 @@ impl FileLab {
     }
 
     /// Lets events happen, one after the other. A refused event changes nothing, and the next one follows. Where there is no
-    /// memory for the histories it stops, with all as after the events before that one.
+    /// memory for the histories it stops, with all as after the events before that one, which had passed its checks.
     pub fn run(&mut self, alloc: Global, events: &[FileEvent<'_>]) -> Result<(), AllocError>
         ensures all { OnOk result (Runs self.old (map file_event events.now) self.new) }
-        ensures no_memory { OnErr result (StopsWithin self.old (map file_event events.now) self.new) }
+        ensures no_memory { OnErr result (Stops self.old (map file_event events.now) self.new) }
     {
         for event in events {
             self.attempt(alloc, event)?;
@@ -117,6 +117,7 @@ impl FileLab {
     fn attempt(&mut self, alloc: Global, event: &FileEvent<'_>) -> Result<(), AllocError>
         ensures ok { OnOk result (Passes self.old (file_event event.now) self.new) }
         ensures err { OnErr result (self.new ≡ self.old) }
+        ensures passed { OnErr result (HasPassed self.old (file_event event.now)) }
     {
         match self.step(alloc, event) {
             Ok(_) => Ok(()),

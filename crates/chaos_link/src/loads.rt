@@ -91,7 +91,9 @@ impl Load {
 
     /// The Chaosnet address that all packets of the load go to.
     pub fn destination(&self) -> u16
-        ensures { All (λ p. p.dst ≡ result) self.now }
+        // Each goes there, and there is one at least.
+        ensures all { All (λ p. p.dst ≡ result) self.now }
+        ensures some { 1 ≤ length self.now }
     {
         self.to
     }

@@ -2,6 +2,7 @@
 mod bundles;
 mod datagrams;
 mod fuse;
+mod loads;
 mod memory;
 mod peers;
 mod sockets;

@@ -5,7 +5,8 @@ use Rattle.std.specs.Io.KnownBytes.{Appends}
 use Rattle.std.proofs.lemmas.Bool.Decides.{nat_tests}
 use Rattle.std.proofs.lemmas.Option.{slice_get_within}
 use Rattle.chaos_lab.specs.declared.fault.LabFault.TheVariants as why
-use Rattle.chaosd_engines.specs.Lines.{lines_of}
+use Rattle.chaosd_engines.specs.declared.limits.TheConstants.{INPUT_LIMIT}
+use Rattle.chaosd_engines.specs.Lines.{lines_of, IsMet}
 use Rattle.chaosd_script.specs.Script.{text_of, play_of}
 use Rattle.chaosd_script.specs.Player.{IsWantText, Wants}
 use Rattle.chaosd_lab.specs.Answers.{refusal_text}
@@ -19,8 +20,8 @@ want_is (suc n) line text is =
 
 pub lab_wants : (known before written : Option (List ℕ)) → IfSome known (Wants lab_script before written)
     → IfSome known (λ input. (n : ℕ) × (n < length (lines_of input)) × (play_of lab_script (take (n + 1) (lines_of input)) ≢ None)
-    × Appends before written (text_of (play_of lab_script (take n (lines_of input))) ++ want_text n))
+    × IsMet INPUT_LIMIT (n + 1) input × Appends before written (text_of (play_of lab_script (take n (lines_of input))) ++ want_text n))
 lab_wants None before written w = tt
 lab_wants (Some input) before written w =
     let (n, line, at, good, met, text, is, wrote) = w in
-    (n, slice_get_within (lines_of input) n line at, good, subst (λ t. Appends before written (text_of (play_of lab_script (take n (lines_of input))) ++ t)) (want_is n line text is) wrote)
+    (n, slice_get_within (lines_of input) n line at, good, met, subst (λ t. Appends before written (text_of (play_of lab_script (take n (lines_of input))) ++ t)) (want_is n line text is) wrote)

@@ -48,8 +48,10 @@ pub fn run_lab<R: Read, W: Write>(
     // Where the reader failed, no line that ended in what it had given is of no form, and those were played, and no more.
     ensures unread { result ≡ Err RunFault.ReadFault → PlaysRead lab_script (R.remaining reader.old) (R.remaining reader.new) (W.contents writer.old) (W.contents writer.new) }
 
-    // At want of memory the lines before were played, and an event that met it is told; the line is of the form of its place.
+    // At want of memory the lines before were played, and an event that met it is told; the line is of the form of its place, and it
+    // ends within the limit or the input does.
     ensures no_memory { result ≡ Err RunFault.NoMemory → IfSome (R.remaining reader.old) (λ input. (n : ℕ) × (n < length (lines_of input)) × (play_of lab_script (take (n + 1) (lines_of input)) ≢ None)
+        × IsMet INPUT_LIMIT (n + 1) input
         × Appends (W.contents writer.old) (W.contents writer.new) (text_of (play_of lab_script (take n (lines_of input))) ++ want_text n)) }
 {
     run_script::<LabStage, R, W>(alloc, reader, writer)
