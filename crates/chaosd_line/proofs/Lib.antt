@@ -1,3 +1,4 @@
+pub mod Copied
 pub mod Named
 pub mod NoReading
 pub mod OneLine

@@ -1,5 +1,5 @@
 -- The values of `get` and `put`.
-use Rattle.std.specs.Prelude.{◌≡◌, ◌==◌, ◌&&◌, ◌||◌, ◌++◌, ◌∷◌, ⊤, ℕ, Bool, true, not, List, [], Option, None, Some, is_some, Result, MatchResult, if◌then◌else◌, codes, length, map, option_map, unwrap_or}
+use Rattle.std.specs.Prelude.{◌≡◌, ◌==◌, ◌&&◌, ◌||◌, ◌++◌, ◌∷◌, ⊤, Bool, true, not, List, [], Option, None, Some, is_some, Result, MatchResult, if◌then◌else◌, codes, length, map, option_map, unwrap_or}
 use Rattle.std.specs.List.{list_all, list_any}
 use Rattle.std.specs.Option.{IsSomeAnd}
 use Rattle.std.specs.Str.{bytes_eq}
@@ -13,7 +13,7 @@ use Rattle.chaosd_line.specs.declared.unread.Unread.{Unread}
 use Rattle.chaosd_line.specs.declared.unread.Unread.TheVariants.{Bad, NoMemory}
 
 -- what stands behind the last slash (47)
-pub last_from : Text → Text → Text
+abbrev pub last_from : Text → Text → Text
 last_from name [] = name
 last_from name (b ∷ bytes) = last_from (if b == 47 then [] else name ++ b ∷ []) bytes
 

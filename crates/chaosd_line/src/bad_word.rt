@@ -41,8 +41,12 @@ pub(crate) const PATHS_FORM: &str =
 pub(crate) const LOCALS_FORM: &str =
     "files whose last names are paths of FILE, each once; name one by --as";
 
-/// What is wanted beside a name for a single file.
-pub(crate) const ONE_FORM: &str = "one file alone beside this name, which is a path of FILE";
+/// What is wanted of the local file that a single file is got into.
+pub(crate) const OUTPUT_FORM: &str = "one PATH alone";
+
+/// What is wanted of the name that a single file is put under.
+pub(crate) const AS_FORM: &str =
+    "a path of FILE (1 to 64 letters, digits, dots, hyphens and underscores, no dot in front), and one LOCAL alone";
 
 /// A word that is not of the form that its place wants. Its text names all three.
 #[derive(Clone, Copy, Debug, Error)]

@@ -6,9 +6,10 @@ ghost use Rattle.chaosd_line.specs.Files.{IfBad, IsGet, IsGetOf, IsPut, IsPutOf,
 ghost use Rattle.chaosd_line.specs.Values.{IsFlag, IsLogin, IsPeer, IsWindow, Reads};
 
 use crate::bad_word::{
-    BadWord, FLAG_FORM, LOCALS_FORM, LOGIN_FORM, ONE_FORM, PATHS_FORM, PEER_FORM, WINDOW_FORM,
+    AS_FORM, BadWord, FLAG_FORM, LOCALS_FORM, LOGIN_FORM, OUTPUT_FORM, PATHS_FORM, PEER_FORM,
+    WINDOW_FORM,
 };
-use crate::files::{are_locals, are_paths};
+use crate::files::{are_locals, are_paths, bad_local, bad_path};
 use crate::given::{given, given_address, given_carriage, given_socket};
 use crate::line::{Copying, Get, Put};
 use crate::names::{is_path, is_user};
@@ -16,7 +17,7 @@ use crate::unread::Unread;
 use crate::values::{flag_of, peer_of, window_of};
 use chaos_link::Peer;
 use clap::ArgMatches;
-use std::alloc::Global;
+use std::alloc::{AllocError, Global};
 
 /// The user's name.
 fn given_login<'a>(matches: &ArgMatches<'a>) -> Result<&'a str, BadWord<'a>>
@@ -111,31 +112,12 @@ fn optional<'a>(matches: &ArgMatches<'a>, place: &str) -> Option<&'a str>
 }
 
 /// The words at a place, kept.
-fn kept<'a>(alloc: Global, words: &[&'a str]) -> Result<Vec<&'a str>, Unread<'a>>
-    ensures ok { IfOk result (λ v. map (λ t. t.now) v.items ≡ map (λ t. t.now) words.now) }
+fn kept<'a>(alloc: Global, words: &[&'a str]) -> Result<Vec<&'a str>, AllocError>
+    ensures { IfOk result (λ v. map (λ t. t.now) v.items ≡ map (λ t. t.now) words.now) }
 {
     let mut kept = Vec::new(alloc);
-    match kept.extend_from_slice(words) {
-        Ok(()) => Ok(kept),
-        Err(_) => Err(Unread::NoMemory),
-    }
-}
-
-/// The first of the words that stand together in a mistake.
-fn first_word<'a>(words: &[&'a str]) -> &'a str {
-    match words {
-        [first, ..] => first,
-        [] => "",
-    }
-}
-
-/// A mistake in these words.
-fn bad_files<'a>(words: &[&'a str], place: &'a str, form: &'a str) -> BadWord<'a> {
-    BadWord {
-        text: first_word(words),
-        place,
-        form,
-    }
+    kept.extend_from_slice(words)?;
+    Ok(kept)
 }
 
 /// What `get` is asked for with these words.
@@ -149,17 +131,30 @@ fn get_with<'a>(
     ensures err { IfErr result (λ e. IfBad e (are_paths (map (λ t. t.now) words.now) && fits_one (option_map (λ t. t.now) output.entry) (map (λ t. t.now) words.now) ≡ false)) }
 {
     if !are_paths(words) {
-        return Err(Unread::Bad(bad_files(words, "PATH", PATHS_FORM)));
+        return Err(Unread::Bad(BadWord {
+            text: bad_path(words),
+            place: "PATH",
+            form: PATHS_FORM,
+        }));
     }
-    if output.is_some() && words.len() != 1 {
-        return Err(Unread::Bad(bad_files(words, "--output", ONE_FORM)));
+    match output {
+        Some(text) if words.len() != 1 => {
+            return Err(Unread::Bad(BadWord {
+                text,
+                place: "--output",
+                form: OUTPUT_FORM,
+            }));
+        }
+        _ => {}
     }
-    let paths = kept(alloc, words)?;
-    Ok(Get {
-        copying,
-        output,
-        paths,
-    })
+    match kept(alloc, words) {
+        Ok(paths) => Ok(Get {
+            copying,
+            output,
+            paths,
+        }),
+        Err(_) => Err(Unread::NoMemory),
+    }
 }
 
 /// What the values of `get` ask for.
@@ -184,6 +179,22 @@ fn are_named(path: Option<&str>, locals: &[&str]) -> bool
     }
 }
 
+/// What is wrong with local files that have no such names.
+fn bad_names<'a>(path: Option<&'a str>, locals: &[&'a str]) -> BadWord<'a> {
+    match path {
+        Some(text) => BadWord {
+            text,
+            place: "--as",
+            form: AS_FORM,
+        },
+        None => BadWord {
+            text: bad_local(locals),
+            place: "LOCAL",
+            form: LOCALS_FORM,
+        },
+    }
+}
+
 /// What `put` is asked for with these words.
 fn put_with<'a>(
     alloc: Global,
@@ -195,19 +206,16 @@ fn put_with<'a>(
     ensures err { IfErr result (λ e. IfBad e (are_named (option_map (λ t. t.now) path.entry) (map (λ t. t.now) words.now) ≡ false)) }
 {
     if !are_named(path, words) {
-        let form = if path.is_some() {
-            ONE_FORM
-        } else {
-            LOCALS_FORM
-        };
-        return Err(Unread::Bad(bad_files(words, "LOCAL", form)));
+        return Err(Unread::Bad(bad_names(path, words)));
     }
-    let locals = kept(alloc, words)?;
-    Ok(Put {
-        copying,
-        path,
-        locals,
-    })
+    match kept(alloc, words) {
+        Ok(locals) => Ok(Put {
+            copying,
+            path,
+            locals,
+        }),
+        Err(_) => Err(Unread::NoMemory),
+    }
 }
 
 /// What the values of `put` ask for.

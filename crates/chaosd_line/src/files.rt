@@ -30,7 +30,7 @@ fn is_own_name(text: &str) -> bool
 
 /// Whether a last name is that of one of these texts.
 fn is_among(name: &[u8], texts: &[&str]) -> bool
-    ensures { result ≡ list_any (λ t. bytes_eq (last_of t) name.now) (map (λ t. t.now) texts.now) }
+    ensures { result ≡ list_any (λ t. bytes_eq (last_of t.now) name.now) texts.now }
 {
     texts.iter().any(|t| last_name(t.as_bytes()) == name)
 }
@@ -47,16 +47,51 @@ fn are_distinct(texts: &[&str]) -> bool
     true
 }
 
+/// Whether each text is a path of FILE.
+fn all_paths(texts: &[&str]) -> bool
+    ensures { result ≡ list_all (λ t. is_path t.now) texts.now }
+{
+    texts.iter().all(|t| is_path(t.as_bytes()))
+}
+
 /// Whether the texts are paths of FILE, each once.
 pub(crate) fn are_paths(texts: &[&str]) -> bool
     ensures { result ≡ are_paths (map (λ t. t.now) texts.now) }
 {
-    texts.iter().all(|t| is_path(t.as_bytes())) && are_distinct(texts)
+    all_paths(texts) && are_distinct(texts)
+}
+
+/// Whether the last name of each local file is a path of FILE, and no sign for standard input.
+fn all_own_names(texts: &[&str]) -> bool
+    ensures { result ≡ list_all (λ t. is_own_name t.now) texts.now }
+{
+    texts.iter().all(|t| is_own_name(t))
 }
 
 /// Whether the texts are local files whose last names are paths of FILE, each once.
 pub(crate) fn are_locals(texts: &[&str]) -> bool
     ensures { result ≡ are_locals (map (λ t. t.now) texts.now) }
 {
-    texts.iter().all(|t| is_own_name(t)) && are_distinct(texts)
+    all_own_names(texts) && are_distinct(texts)
+}
+
+/// The first text that is no path, or that stands there again, to be named in a mistake.
+pub(crate) fn bad_path<'a>(texts: &[&'a str]) -> &'a str {
+    for i in 0..texts.len() {
+        let name = texts[i].as_bytes();
+        if !is_path(name) || is_among(last_name(name), &texts[i + 1..]) {
+            return texts[i];
+        }
+    }
+    ""
+}
+
+/// The first local file whose last name is no path, or is that of a later one.
+pub(crate) fn bad_local<'a>(texts: &[&'a str]) -> &'a str {
+    for i in 0..texts.len() {
+        if !is_own_name(texts[i]) || is_among(last_name(texts[i].as_bytes()), &texts[i + 1..]) {
+            return texts[i];
+        }
+    }
+    ""
 }

@@ -7,5 +7,5 @@ use Rattle.chaosd_line.proofs.command.with_default.Goals as goal
 
 pub returns-clause-app : goal.returns-clause-app
 returns-clause-app c =
-    let rule_is : rule_of c.help-option.result ≡ with_default c.args.id.entry.now c.args.value.entry.now = search rules in
+    let rule_is : rule_of c.help-option.result ≡ with_default c.args.id.now c.args.value.now = search rules in
     IfOk-weaker c.arg.result _ _ (λ r h. h.shape (search rules) ∙ ap (λ r. with_rule (app_of c.args.command) r) rule_is) c.arg.ensures

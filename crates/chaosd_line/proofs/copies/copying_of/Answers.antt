@@ -2,9 +2,14 @@
 use Rattle.std.proofs.lemmas.Result.{err_from_is_err_and}
 use Rattle.chaosd_line.proofs.copies.copying_of.Goals as goal
 
+pub returns-in_err-carriage : goal.returns-in_err-carriage
+returns-in_err-carriage c =
+    let p = err_from_is_err_and c.from_residual.result c.from_residual.ensures.1 in
+    rw p.1 (λ copying h. c.in_err-carriage.ensures copying.carriage h.carriage)
+
 pub returns-in_err-login : goal.returns-in_err-login
 returns-in_err-login c =
-    let p = err_from_is_err_and c.from_residual.result c.from_residual.ensures.1 in
+    let p = err_from_is_err_and c.from_residual-in_err-login.result c.from_residual-in_err-login.ensures.1 in
     rw p.1 (λ copying h. c.in_err-login.ensures copying.login h.login)
 
 pub returns-in_err-window : goal.returns-in_err-window
