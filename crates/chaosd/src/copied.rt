@@ -1,6 +1,6 @@
 //! What a user is told of each file, and the status of a run.
 ghost use Rattle.std.specs.Prelude.{◌≡◌, ◌⊎◌, false, true};
-ghost use Rattle.chaosd.specs.Status.{worse_status};
+ghost use Rattle.chaosd.specs.Status.{weight, worse_status};
 
 use chaos_file::{MAX_FILE, MAX_PATH, Reply};
 use chaosd_copy::CopyEnd;
@@ -40,7 +40,9 @@ impl Copied {
 }
 
 /// The statuses in their order: want of memory, what failed here, what was refused, and all well.
-fn weight(status: u8) -> u8 {
+fn weight(status: u8) -> u8
+    ensures { result ≡ weight status }
+{
     match status {
         NO_MEMORY => 3,
         FAULT => 2,
