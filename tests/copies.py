@@ -312,8 +312,8 @@ def silences(checks):
     with folder() as here:
         begun = time.monotonic()
         seen = ended(["get", *line, "A", "B"], cwd=here)
-        problems = told_problems(seen, rb"chaosd: A: no connection opened in 1\d{4} ms\nchaosd: B: not tried\n")
-        problems += [] if 9 < time.monotonic() - begun < 30 else ["it did not wait ten seconds"]
+        problems = told_problems(seen, rb"chaosd: A: no connection opened in \d{5} ms\nchaosd: B: not tried\n")
+        problems += [] if 9 < time.monotonic() - begun else ["it did not wait ten seconds"]
         checks.check("get of nobody: told after ten seconds, the next is not tried", problems)
         turned_away(checks, here, server, line)
         (here / "UP").write_bytes(mixed_content(1_000))
@@ -326,7 +326,7 @@ def silences(checks):
 
         with between(deaf) as (far, words):
             seen = ended(["put", *words, "UP", "MORE"], cwd=here)
-            unknown = rb"chaosd: UP: whether it was put isn't known, since its CLOSE got no reply: no reply came in 1\d{4} ms\n"
+            unknown = rb"chaosd: UP: whether it was put isn't known, since its CLOSE got no reply: no reply came in \d{5} ms\n"
             problems = told_problems(seen, unknown + rb"chaosd: MORE: not tried\n")
             checks.check("put without a reply to its CLOSE: that it isn't known is told", problems)
         with between(lambda _, text: text.replace(b" WRITE 448", b" WRITE 449")) as (far, words):
