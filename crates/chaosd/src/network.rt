@@ -21,6 +21,16 @@ fn link_at<R: Net>(rt: &R, socket: SocketAddrV4, peers: Peers) -> io::Result<Udp
     Ok(UdpLink::new(socket, peers))
 }
 
+/// A link over a socket at this UDP address, to one server.
+pub(crate) fn link_to_server<R: Net>(
+    rt: &R,
+    socket: SocketAddrV4,
+    server: Peer,
+) -> io::Result<UdpLink> {
+    let socket = UdpSocket::bind(rt, SocketAddr::V4(socket))?;
+    Ok(link_to(socket, server))
+}
+
 /// A socket of this machine alone, at a port that the system chooses, and its UDP address.
 fn own_socket<R: Net>(rt: &R) -> io::Result<(UdpSocket, SocketAddrV4)> {
     let any_port = SocketAddrV4::new(Ipv4Addr::LOCALHOST, 0);
@@ -63,7 +73,7 @@ fn store_at<'a, R: AllocGlobal + Files<File = File>>(
 }
 
 /// Whether standard input can be read. It is asked before a socket is opened, which would take the place of one that is closed.
-fn has_input<R: Input>(rt: &R) -> bool {
+pub(crate) fn has_input<R: Input>(rt: &R) -> bool {
     rt.reader().read(&mut []).is_ok()
 }
 

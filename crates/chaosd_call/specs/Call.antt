@@ -4,6 +4,7 @@ use Rattle.std.specs.Result.{result_ok}
 use Rattle.chaos_packet.specs.Opcode.{op_data}
 use Rattle.chaos_packet.specs.Outbox.{OutboxView, room_of, with_put}
 use Rattle.chaos_link.specs.Link.{QueueView}
+use Rattle.chaos_link.specs.declared.carriage.Carriage.{Carriage}
 use Rattle.chaos_conn.specs.Act.{Close, Read, Write}
 use Rattle.chaos_conn.specs.Config.{ConfigView, checked_config, config_view, usual_config}
 use Rattle.chaos_conn.specs.declared.fault.ConfigFault.{ConfigFault}
@@ -47,9 +48,9 @@ Says command now taken c d = Acts 2 false (is_wrote (write_of command now c).ans
 abbrev pub Hears : Option (List ℕ) → Caller → Caller → Type 0
 Hears got c d = Acts 1 None (data_read (read_of c).answer) got (read_of c) c d
 
--- A client's turn was taken at some moment, over the link.
-abbrev pub TurnsBy : Option QueueView → Option QueueView → Caller → Caller → Type 0
-TurnsBy before after c d = (d.id ≡ c.id) × ((now : ℕ) × TakesTurn now c.host d.host before after c.out d.out)
+-- A client's turn was taken at some moment, over the link and by this carriage.
+abbrev pub TurnsBy : Carriage → Option QueueView → Option QueueView → Caller → Caller → Type 0
+TurnsBy carriage before after c d = (d.id ≡ c.id) × ((now : ℕ) × TakesTurn carriage now c.host d.host before after c.out d.out)
 
 -- ---- a call's beginning and end
 
@@ -73,12 +74,12 @@ abbrev pub closed : ℕ → HostView → OutboxView → Caller
 closed id host out = if nat_lt 0 (room_of out) then caller (close_of id host).view None (with_put out (close_of id host).packets) else caller host None out
 
 -- The connection was closed and a turn was taken, where there was one, and else nothing was done.
-abbrev pub HangsUpBy : Option ℕ → Option QueueView → Option QueueView → Caller → Caller → Type 0
-HangsUpBy None before after c d = d ≡ c
-HangsUpBy (Some id) before after c d = TurnsBy before after (closed id c.host c.out) d
+abbrev pub HangsUpBy : Option ℕ → Carriage → Option QueueView → Option QueueView → Caller → Caller → Type 0
+HangsUpBy None carriage before after c d = d ≡ c
+HangsUpBy (Some id) carriage before after c d = TurnsBy carriage before after (closed id c.host c.out) d
 
-abbrev pub HangsUp : Option QueueView → Option QueueView → Caller → Caller → Type 0
-HangsUp before after c d = HangsUpBy c.id before after c d
+abbrev pub HangsUp : Carriage → Option QueueView → Option QueueView → Caller → Caller → Type 0
+HangsUp carriage before after c d = HangsUpBy c.id carriage before after c d
 
 abbrev pub connect_of : ℕ → ℕ → ℕ → HostView → HostActed ConnectAnswer
 connect_of to start now host = host_connect host to (codes "FILE") start now
@@ -90,5 +91,5 @@ asked to start now host out = if nat_lt 0 (room_of out)
     else caller host None out
 
 -- The caller hung up, and then asked for a connection that begins with some number.
-abbrev pub Connects : ℕ → Option QueueView → Option QueueView → Caller → Caller → Type 0
-Connects to before after c d = (b : Caller) × (start : ℕ) × (now : ℕ) × HangsUp before after c b × (d ≡ asked to start now b.host b.out)
+abbrev pub Connects : ℕ → Carriage → Option QueueView → Option QueueView → Caller → Caller → Type 0
+Connects to carriage before after c d = (b : Caller) × (start : ℕ) × (now : ℕ) × HangsUp carriage before after c b × (d ≡ asked to start now b.host b.out)

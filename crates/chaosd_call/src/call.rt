@@ -13,7 +13,7 @@ ghost use Rattle.chaosd_call.specs.Call.{Connects, HangsUp, Hears, Says, TurnsBy
 use chaos_conn::{ConnConfig, ReadEnd};
 use chaos_file::Reply;
 use chaos_host::{CallFault, ConnId, Host};
-use chaos_link::Link;
+use chaos_link::{Carriage, Link};
 use chaos_packet::{Opcode, Outbox, PktNum};
 use chaos_serve::CONTACT;
 use chaos_turn::{TURN_ROOM, TurnEnd, client_turn};
@@ -36,6 +36,8 @@ pub struct Call<'a, C: Clock, L: Link> {
     out: Outbox,
     to: u16,
     id: Option<ConnId>,
+    /// How packets are sent.
+    carriage: Carriage,
     /// Since when a reply is waited for, and why none came.
     patience: Patience,
     ghost room: { out.cap ≡ TURN_ROOM },
@@ -44,7 +46,7 @@ pub struct Call<'a, C: Clock, L: Link> {
 impl<'a, C: Clock, L: Link> Call<'a, C, L> {
     /// The host `me`, which will ask the host `to` for connections, one at a time, and has none yet. Both windows have `window` packets,
     /// from 1 to 64; any other number stands for the usual 13. So as many commands are in flight as the lesser of this and the server's
-    /// window allows.
+    /// window allows. What it sends goes out by the carriage; datagrams of both versions are read.
     ///
     /// The engines hear all that is there before they say more, and each command tells what was read: so a server never has more to
     /// answer than it has room for replies, whatever the two windows are.
@@ -58,11 +60,12 @@ impl<'a, C: Clock, L: Link> Call<'a, C, L> {
         me: u16,
         to: u16,
         window: u16,
+        carriage: Carriage,
     ) -> Result<Self, RunFault>
         requires { 0 < me }
         ensures faults { IfErr result (λ fault. (fault ≡ RunFault.ClockFault) ⊎ (fault ≡ RunFault.NoMemory)) }
         ensures made { (millis : ℕ) × IfOk result (λ call. caller call.host call.id call.out ≡ new_caller me to window (millis % 256)) }
-        ensures server { IfOk result (λ call. call.to ≡ to) }
+        ensures server { IfOk result (λ call. (call.to ≡ to) × (call.carriage ≡ carriage)) }
     {
         let beginning = Beginning::new(clock)?;
         let Ok(mut host) = Host::new(alloc, me, 1, config_of(window)) else {
@@ -81,6 +84,7 @@ impl<'a, C: Clock, L: Link> Call<'a, C, L> {
             out,
             to,
             id: None,
+            carriage,
             patience: Patience::new(),
         })
     }
@@ -91,7 +95,7 @@ impl<'a, C: Clock, L: Link> Call<'a, C, L> {
     /// `ClockFault`, and what `hang_up` gives.
     pub fn connect(&mut self) -> Result<(), RunFault>
         ensures faults { IfErr result (λ fault. (fault ≡ RunFault.ClockFault) ⊎ (fault ≡ RunFault.LinkFault)) }
-        ensures well { OnOk result (Connects self.old.to (L.queue self.old.link.now) (L.queue self.new.link.now)
+        ensures well { OnOk result (Connects self.old.to self.old.carriage (L.queue self.old.link.now) (L.queue self.new.link.now)
             (caller self.old.host self.old.id self.old.out) (caller self.new.host self.new.id self.new.out)) }
     {
         self.hang_up()?;
@@ -110,9 +114,9 @@ impl<'a, C: Clock, L: Link> Call<'a, C, L> {
     /// `LinkFault` and `ClockFault`.
     pub fn hang_up(&mut self) -> Result<(), RunFault>
         ensures faults { IfErr result (λ fault. (fault ≡ RunFault.ClockFault) ⊎ (fault ≡ RunFault.LinkFault)) }
-        ensures well { OnOk result (HangsUp (L.queue self.old.link.now) (L.queue self.new.link.now)
+        ensures well { OnOk result (HangsUp self.old.carriage (L.queue self.old.link.now) (L.queue self.new.link.now)
             (caller self.old.host self.old.id self.old.out) (caller self.new.host self.new.id self.new.out)) }
-        ensures same_server { self.new.to ≡ self.old.to }
+        ensures same_server { (self.new.to ≡ self.old.to) × (self.new.carriage ≡ self.old.carriage) }
         ensures gone { OnOk result (self.new.id ≡ None) }
     {
         let Some(id) = self.id else {
@@ -133,9 +137,9 @@ impl<'a, C: Clock, L: Link> Call<'a, C, L> {
     fn take_turn(&mut self) -> Result<(), RunFault>
         ensures faults { IfErr result (λ fault. (fault ≡ RunFault.ClockFault) ⊎ (fault ≡ RunFault.LinkFault)) }
         ensures failed { result ≡ Err RunFault.LinkFault → Rose (L.count self.old.link.now) (L.count self.new.link.now) }
-        ensures well { OnOk result (TurnsBy (L.queue self.old.link.now) (L.queue self.new.link.now)
+        ensures well { OnOk result (TurnsBy self.old.carriage (L.queue self.old.link.now) (L.queue self.new.link.now)
             (caller self.old.host self.old.id self.old.out) (caller self.new.host self.new.id self.new.out)) }
-        ensures same_server { self.new.to ≡ self.old.to }
+        ensures same_server { (self.new.to ≡ self.old.to) × (self.new.carriage ≡ self.old.carriage) }
     {
         self.now = self.beginning.moment(self.clock)?;
         let mut told = None;
@@ -145,6 +149,7 @@ impl<'a, C: Clock, L: Link> Call<'a, C, L> {
             self.now,
             &mut self.out,
             &mut told,
+            self.carriage,
         );
         self.patience.note(self.now, told);
         match end {
@@ -251,7 +256,7 @@ impl<C: Clock, L: Link> Talk for Call<'_, C, L> {
     fn turn(&mut self) -> Result<(), RunFault>
         ensures faults { IfErr result (λ fault. (fault ≡ RunFault.ClockFault) ⊎ (fault ≡ RunFault.LinkFault)) }
         ensures failed { result ≡ Err RunFault.LinkFault → Rose (L.count self.old.link.now) (L.count self.new.link.now) }
-        ensures well { OnOk result (TurnsBy (L.queue self.old.link.now) (L.queue self.new.link.now)
+        ensures well { OnOk result (TurnsBy self.old.carriage (L.queue self.old.link.now) (L.queue self.new.link.now)
             (caller self.old.host self.old.id self.old.out) (caller self.new.host self.new.id self.new.out)) }
     {
         self.take_turn()
