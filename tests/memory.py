@@ -25,7 +25,7 @@ TESTS = [
     ("chaos_file_tests", "tests::memory::want_of_memory_changes_no_folder", 4),
     ("chaos_lab_tests", "tests::memory::want_of_memory_changes_nothing", 1),
     ("chaos_filelab_tests", "tests::memory::want_of_memory_is_told", 4),
-    ("chaosd_lab", "tests::faults::want_of_memory_is_told", 11),
+    ("chaosd_lab_tests", "tests::faults::want_of_memory_is_told", 11),
     ("chaosd_file_tests", "tests::memory::loop_tells_want_of_memory", 40),
     ("chaosd_file_tests", "tests::memory::serve_tells_want_of_memory", 30),
 ]

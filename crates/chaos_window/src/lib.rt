@@ -9,8 +9,6 @@ mod limits;
 mod receive;
 mod send;
 mod slots;
-#[cfg(test)]
-mod tests;
 
 pub use arrival::Arrived;
 pub use limits::{MAX_WINDOW, law_limits};

@@ -15,8 +15,6 @@ mod parse;
 mod run;
 mod start;
 mod status;
-#[cfg(test)]
-mod tests;
 
 pub use answers::{put_copies, put_named, put_refusal, put_stepped, put_stored};
 pub use command::Command;

@@ -3,8 +3,8 @@ ghost use Rattle.std.specs.Prelude.{◌≡◌, ◌≤◌, [], length, replicate,
 ghost use Rattle.std.specs.List.{prefix_len};
 
 use crate::tests::receives::Receives;
-use crate::{Arrived, MAX_WINDOW};
 use chaos_packet::{Item, Opcode, PktNum};
+use chaos_window::{Arrived, MAX_WINDOW};
 use std::alloc::{AllocError, Global};
 use std::marker::Model;
 

@@ -3,8 +3,8 @@ ghost use Rattle.std.specs.Prelude.{◌≡◌, ◌≤◌, length, is_some, IfOk}
 ghost use Rattle.std.specs.Option.{option_copied};
 ghost use Rattle.chaos_window.specs.Receive.{ReceiveView, item_at, clear_receive, started_receive, arrival_of, after_arrival, after_advance, after_announcement, receipt_of, held_count};
 
-use crate::{Arrived, MAX_WINDOW, RecvWindow};
 use chaos_packet::{Item, MAX_DATA, Opcode, PktNum};
+use chaos_window::{Arrived, MAX_WINDOW, RecvWindow};
 use std::alloc::{AllocError, Global};
 
 /// The calls of a receive window, under the clauses that `RecvWindow` has.

@@ -1,9 +1,9 @@
 //! A send window as one would first write it: a Vec of the items kept, which move when the first ones go.
 ghost use Rattle.std.specs.Prelude.{◌≡◌, ◌≤◌, drop, vec_len, vec_capacity};
 
-use crate::Full;
 use crate::tests::sends::Sends;
 use chaos_packet::{Item, Opcode, PktNum};
+use chaos_window::Full;
 use std::alloc::{AllocError, Global};
 use std::marker::Model;
 

@@ -3,8 +3,8 @@ ghost use Rattle.std.specs.Prelude.{◌≡◌, ◌<◌, ◌≤◌, length, slice
 ghost use Rattle.std.specs.Option.{option_copied};
 ghost use Rattle.chaos_window.specs.Send.{SendView, outstanding_of, next_of, clear_send, started_send, after_push, after_receipt, after_acknowledgement, after_window};
 
-use crate::{Full, MAX_WINDOW, SendWindow};
 use chaos_packet::{Item, MAX_DATA, Opcode, PktNum};
+use chaos_window::{Full, MAX_WINDOW, SendWindow};
 use std::alloc::{AllocError, Global};
 
 /// The calls of a send window, under the clauses that `SendWindow` has.

@@ -2,8 +2,8 @@
 mod fakes;
 mod faults;
 
-use crate::{lab_status, run_lab};
 use chaosd_engines::{BAD_SCRIPT, DONE, REFUSED, RunFault};
+use chaosd_lab::{lab_status, run_lab};
 use fakes::FuseReader;
 use std::io::ErrorKind;
 use std::process::Abort;

@@ -1,8 +1,8 @@
 //! What a send window answers, call after call.
 use crate::tests::plain_send::PlainSend;
 use crate::tests::sends::Sends;
-use crate::{Full, SendWindow};
 use chaos_packet::{Opcode, PktNum};
+use chaos_window::{Full, SendWindow};
 use std::alloc::Global;
 use std::process::Abort;
 use std::test::Fail;

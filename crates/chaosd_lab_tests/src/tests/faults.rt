@@ -1,9 +1,9 @@
 //! Readers and writers that fail, limits, and want of memory.
 use super::fakes::{FuseReader, FuseWriter};
 use super::{LOST, LOST_TEXT};
-use crate::{lab_status, run_lab};
 use arrayvec::ArrayVec;
 use chaosd_engines::{FAULT, INPUT_LIMIT, NO_MEMORY, RunFault};
+use chaosd_lab::{lab_status, run_lab};
 use std::alloc::Global;
 use std::io::ErrorKind;
 use std::process::Abort;

@@ -1,8 +1,8 @@
 //! What a receive window answers, call after call.
 use crate::tests::plain_receive::PlainReceive;
 use crate::tests::receives::Receives;
-use crate::{Arrived, RecvWindow};
 use chaos_packet::{Item, Opcode, PktNum};
+use chaos_window::{Arrived, RecvWindow};
 use std::alloc::Global;
 use std::process::Abort;
 use std::test::Fail;

@@ -1,0 +1,8 @@
+//! The engine `lab`, as tests: scripts with the text that they print, and what comes of bad lines, of readers and writers that fail, of
+//! limits and of want of memory.
+//!
+//! They stand in a crate of their own: a crate with tests is proved twice.
+#![tactic(auto)]
+
+#[cfg(test)]
+mod tests;
