@@ -1,6 +1,7 @@
 pub mod Loaded
 pub mod Phase
 pub mod Queue
+pub mod Readback
 pub mod Receipt
 pub mod Relation
 pub mod Several

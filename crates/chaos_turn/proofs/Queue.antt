@@ -4,7 +4,7 @@ use Rattle.std.proofs.lemmas.List.{append-nil}
 use Rattle.chaos_packet.specs.Packet.{PacketView}
 use Rattle.chaos_packet.specs.Outbox.{OutboxView, without_oldest}
 use Rattle.chaos_link.specs.declared.carriage.Carriage.{Carriage}
-use Rattle.chaos_link.specs.declared.carriage.Carriage.TheVariants.{One, Two}
+use Rattle.chaos_link.specs.declared.carriage.Carriage.TheVariants.{One}
 use Rattle.chaos_link.specs.Datagram.{datagram_of}
 use Rattle.chaos_link.specs.Link.{QueueView, SendsInto, with_datagram}
 use Rattle.chaos_link.specs.declared.link.Sent.{Sent}

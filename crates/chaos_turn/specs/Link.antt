@@ -1,12 +1,14 @@
 -- Packets sent into a link, where it is a queue.
-use Rattle.std.specs.Prelude.{◌≡◌, ℕ, Bool, true, false, List, [], ◌∷◌, ◌++◌, drop, map, Option, Some, IfSome}
+use Rattle.std.specs.Prelude.{◌≡◌, ℕ, Bool, true, false, List, [], ◌∷◌, ◌++◌, drop, map, All, Option, Some, IfSome, Result, Ok, Err}
 use Rattle.chaos_packet.specs.Packet.{PacketView}
 use Rattle.chaos_link.specs.declared.carriage.Carriage.{Carriage}
 use Rattle.chaos_link.specs.declared.carriage.Carriage.TheVariants.{One, Two}
 use Rattle.chaos_link.specs.Bundle.{datagram_of_all}
 use Rattle.chaos_link.specs.Datagram.{datagram_of}
 use Rattle.chaos_link.specs.Link.{QueueView, with_datagram}
-use Rattle.chaos_link.specs.Loads.{loads_of}
+use Rattle.chaos_link.specs.Loads.{EachSpelled, loads_of, packets_of}
+use Rattle.chaos_link.specs.Packets.{packets_read}
+use Rattle.chaos_link.specs.declared.fault.LinkFault.{LinkFault}
 
 -- the datagrams that packets go out in, in order: each as its canonical one, or each load of them as one of version 2
 abbrev pub datagrams_of : Carriage → List PacketView → List (List ℕ)
@@ -41,3 +43,16 @@ without_first queue = record queue { datagrams = drop 1 queue.datagrams }
 abbrev pub SendsOneByOne : Type 0
 SendsOneByOne = (queue : QueueView) (xs ys : List PacketView)
     → sent_into (sent_into queue (datagrams_of One xs)) (datagrams_of One ys) ≡ sent_into queue (datagrams_of One (xs ++ ys))
+
+-- what is read of datagrams, in order: the packets of each, and none of one that carries none
+abbrev pub packets_in : Result (List PacketView) LinkFault → List PacketView
+packets_in (Ok packets) = packets
+packets_in (Err fault) = []
+
+abbrev pub read_all : List (List ℕ) → List PacketView
+read_all [] = []
+read_all (d ∷ ds) = packets_in (packets_read d) ++ read_all ds
+
+-- The law that of the datagrams of either carriage the packets are read that went out, in their order, where words spell each.
+abbrev pub IsReadBack : Type 0
+IsReadBack = (carriage : Carriage) (lots : List (List PacketView)) → All EachSpelled lots → read_all (sent_by carriage lots) ≡ packets_of lots

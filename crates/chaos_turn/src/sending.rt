@@ -2,7 +2,7 @@
 ghost use Rattle.std.specs.Prelude.{◌≡◌, [], ◌∷◌};
 ghost use Rattle.chaos_packet.specs.Outbox.{OutboxView};
 ghost use Rattle.chaos_link.specs.Bundle.{datagram_of_all};
-ghost use Rattle.chaos_turn.specs.Link.{Sends, SendsOneByOne, datagrams_of, has_packets, sent_by};
+ghost use Rattle.chaos_turn.specs.Link.{IsReadBack, Sends, SendsOneByOne, datagrams_of, has_packets, sent_by};
 
 use chaos_link::{Carriage, Link, Load, MAX_DATAGRAM, write_datagram};
 use chaos_packet::{Outbox, Packet};
@@ -74,4 +74,10 @@ fn send_load<L: Link>(link: &mut L, load: &Load)
 #[tactic(auto, using(crate::proofs::Queue::sends_one_by_one))]
 pub fn law_sends_one()
     ensures { SendsOneByOne }
+{}
+
+/// The law that of the datagrams that lots of packets go out in, by either carriage, those packets are read, in their order.
+#[tactic(auto, using(crate::proofs::Readback::read_back))]
+pub fn law_read_back()
+    ensures { IsReadBack }
 {}
