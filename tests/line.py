@@ -37,11 +37,11 @@ BAD_PEERS = [
 CARRIAGE_FORM = "1 or 2"
 WINDOW_FORM = "a decimal number without leading zeros, from 1 to 64"
 LOGIN_FORM = "1 to 16 letters and digits"
-PATHS_FORM = (
-    "paths of FILE (1 to 64 letters, digits, dots, hyphens and underscores, no dot in front), each once"
-)
+PATH_FORM = "(1 to 64 letters, digits, dots, hyphens and underscores, no dot in front)"
+PATHS_FORM = f"paths of FILE {PATH_FORM}, each once"
+AS_FORM = f"a path of FILE {PATH_FORM}, and one LOCAL alone"
 LOCALS_FORM = "files whose last names are paths of FILE, each once; name one by --as"
-ONE_FORM = "one file alone beside this name, which is a path of FILE"
+OUTPUT_FORM = "one PATH alone"
 
 BAD_CARRIAGES = ["", "0", "3", "01", "02", "+1", "1 ", " 2", "one", "12"]
 BAD_WINDOWS = ["", "0", "00", "01", "65", "+1", "x", "1x", " 1", "1.5", "0x1", "65536", "65600"]
@@ -76,7 +76,7 @@ HELP = {
         "  <UDP>      UDP address that this host receives at: a.b.c.d:port in decimal, the port from 1 to 65535\n",
         "  <FOLDER>   Folder whose files are served\n",
         "  [PEER]...  Another host, as ADDRESS=UDP in the forms above: at most 32, each Chaosnet address once\n",
-        "--turns <N>  Turns after which the server ends, 0 to 1000000000; one that waits takes some 10 ms [default: 1000000000]\n",
+        "--turns <N>     Turns after which the server ends, 0 to 1000000000; one that waits takes some 10 ms [default: 1000000000]\n",
         "  chaosd serve 401 127.0.0.1:9001 files 402=127.0.0.1:9002\n",
     ],
     "ask --help": ["  <TO>       Chaosnet address of the host to ask, in the form of ADDRESS\n"],
@@ -155,13 +155,15 @@ def copies_out_of_form(checks):
             is_told(checks, [command, "--login", text, *ADDRESSES, "A"], text, "--login", LOGIN_FORM)
     for text in BAD_PATHS:
         is_told(checks, ["get", *ADDRESSES, text], text, "PATH", PATHS_FORM)
-        is_told(checks, ["put", "--as", text, *ADDRESSES, "A"], "A", "LOCAL", ONE_FORM)
-    is_told(checks, ["get", *ADDRESSES, "A", "B", "A"], "A", "PATH", PATHS_FORM)
-    is_told(checks, ["get", "--output", "x", *ADDRESSES, "A", "B"], "A", "--output", ONE_FORM)
+        is_told(checks, ["get", *ADDRESSES, "A", text, "B"], text, "PATH", PATHS_FORM)
+        is_told(checks, ["put", "--as", text, *ADDRESSES, "A"], text, "--as", AS_FORM)
+    is_told(checks, ["get", *ADDRESSES, "B", "A", "C", "A"], "A", "PATH", PATHS_FORM)
+    is_told(checks, ["get", "--output", "x", *ADDRESSES, "A", "B"], "x", "--output", OUTPUT_FORM)
     for text in ["", "-", "a b", "d/", "d/.A", "d/a b", "d/" + "A" * 65]:
         is_told(checks, ["put", *ADDRESSES, text], text, "LOCAL", LOCALS_FORM)
-    is_told(checks, ["put", *ADDRESSES, "a/X", "b/X"], "a/X", "LOCAL", LOCALS_FORM)
-    is_told(checks, ["put", "--as", "X", *ADDRESSES, "A", "B"], "A", "LOCAL", ONE_FORM)
+        is_told(checks, ["put", *ADDRESSES, "A", text, "B"], text, "LOCAL", LOCALS_FORM)
+    is_told(checks, ["put", *ADDRESSES, "a/Y", "a/X", "b/X"], "a/X", "LOCAL", LOCALS_FORM)
+    is_told(checks, ["put", "--as", "X", *ADDRESSES, "A", "B"], "X", "--as", AS_FORM)
 
 
 def carriages_out_of_form(checks):

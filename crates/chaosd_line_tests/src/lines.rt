@@ -228,7 +228,7 @@ fn turns_between_peers_and_a_folder_with_a_dash(rt: HostRuntime) -> Result<(), F
 #[test]
 fn bad_lines(rt: HostRuntime) {
     let alloc = rt.alloc();
-    let lines: [(&str, &[&str]); 50] = [
+    let lines: [(&str, &[&str]); 20] = [
         ("no word", &[]),
         ("an empty word", &[""]),
         ("an unknown subcommand", &["nonsense"]),
@@ -267,6 +267,20 @@ fn bad_lines(rt: HostRuntime) {
         ("no word of ask", &["ask"]),
         ("nobody to ask", &["ask", "402", "127.0.0.1:1"]),
         ("a negative address", &["ask", "402", "127.0.0.1:1", "-1"]),
+    ];
+    for (what, words) in lines {
+        assert_eq!(rt;
+            read_line(alloc, words).err(),
+            Some(LineFault::BadLine),
+            "{what}"
+        );
+    }
+}
+
+#[test]
+fn bad_carriages(rt: HostRuntime) {
+    let alloc = rt.alloc();
+    let lines: [(&str, &[&str]); 8] = [
         ("a carriage of show", &["show", "--carriage", "1"]),
         ("no carriage", &["loop", "--carriage"]),
         ("carriage 0", &["loop", "--carriage", "0"]),
@@ -302,6 +316,20 @@ fn bad_lines(rt: HostRuntime) {
                 "A",
             ],
         ),
+    ];
+    for (what, words) in lines {
+        assert_eq!(rt;
+            read_line(alloc, words).err(),
+            Some(LineFault::BadLine),
+            "{what}"
+        );
+    }
+}
+
+#[test]
+fn bad_gets(rt: HostRuntime) {
+    let alloc = rt.alloc();
+    let lines: [(&str, &[&str]); 12] = [
         ("no word of get", &["get"]),
         ("no path", &["get", "402", "127.0.0.1:1", "401=127.0.0.1:2"]),
         (
@@ -370,18 +398,6 @@ fn bad_lines(rt: HostRuntime) {
             ],
         ),
         (
-            "window 65",
-            &[
-                "put",
-                "--window",
-                "65",
-                "402",
-                "127.0.0.1:1",
-                "401=127.0.0.1:2",
-                "A",
-            ],
-        ),
-        (
             "a login of 17 letters",
             &[
                 "get",
@@ -394,11 +410,36 @@ fn bad_lines(rt: HostRuntime) {
             ],
         ),
         (
-            "a login with a dot",
+            "a text with a value",
+            &[
+                "get",
+                "--text=true",
+                "402",
+                "127.0.0.1:1",
+                "401=127.0.0.1:2",
+                "A",
+            ],
+        ),
+    ];
+    for (what, words) in lines {
+        assert_eq!(rt;
+            read_line(alloc, words).err(),
+            Some(LineFault::BadLine),
+            "{what}"
+        );
+    }
+}
+
+#[test]
+fn bad_puts(rt: HostRuntime) {
+    let alloc = rt.alloc();
+    let lines: [(&str, &[&str]); 10] = [
+        (
+            "window 65",
             &[
                 "put",
-                "--login",
-                "A.B",
+                "--window",
+                "65",
                 "402",
                 "127.0.0.1:1",
                 "401=127.0.0.1:2",
@@ -406,10 +447,11 @@ fn bad_lines(rt: HostRuntime) {
             ],
         ),
         (
-            "a text with a value",
+            "a login with a dot",
             &[
-                "get",
-                "--text=true",
+                "put",
+                "--login",
+                "A.B",
                 "402",
                 "127.0.0.1:1",
                 "401=127.0.0.1:2",
