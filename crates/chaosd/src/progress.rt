@@ -96,7 +96,9 @@ impl<'a, R: Eprint, T: Talk> Watched<'a, R, T> {
     }
 
     /// Tells the user how far the file has come, in place of what was told before.
-    fn tell(&mut self) {
+    fn tell(&mut self)
+        ensures { T.talked self.new.inner.now ≡ T.talked self.old.inner.now }
+    {
         let now = self.inner.moment();
         if !self.viewer.is_told || now.saturating_sub(self.progress.told) < PACE {
             return;
