@@ -15,19 +15,19 @@ use Rattle.chaosd_engines.specs.declared.fault.RunFault.TheVariants.{ReadFault, 
 use Rattle.chaosd_engines.specs.declared.limits.TheConstants.{INPUT_LIMIT, KEPT_LEN, LINE_LIMIT}
 use Rattle.chaosd_engines.specs.Escapes.{data_of}
 use Rattle.chaosd_engines.specs.Lines.{all_but_last, is_newline, pieces_of, without_empty_last, ended_lines, lines_of}
+use Rattle.chaosd_engines.specs.Reader.{LinesView, Gives, Done, GivesMore, GivesNext, GivesLast}
+use Rattle.chaosd_engines.proofs.Steps.{length-strip_last}
 use Rattle.chaosd_file.specs.Command.{command_of}
 use Rattle.chaosd_file.specs.Fault.{IsTurnFault}
 use Rattle.chaosd_file.specs.Printed.{ending_of, reply_line, replies_text, no_reply_line, PrintsReplies}
-use Rattle.chaosd_engines.specs.Reader.{LinesView, Gives, Done, GivesMore, GivesNext, GivesLast}
 use Rattle.chaosd_file.specs.Script.{IsCommand, IsFirstBad, BeginWithCommands, AreCommands, lines_within, Ran, Runs}
-use Rattle.chaosd_file.specs.Asking.{Asked, AsksLine}
+use Rattle.chaosd_file.specs.Asking.{Asked, AskedAll, AsksLine}
 use Rattle.chaosd_file.specs.Conversation.{AsksAll, Converses, commands_said, item_for}
 use Rattle.chaos_link.specs.Link.{QueueView}
 use Rattle.chaosd_file.specs.Exchange.{SaysFarewell, command_item}
 use Rattle.chaosd_file.specs.Talk.{Talker, and_later, silence}
 use Rattle.chaosd_file.specs.declared.end.ScriptEnd.{ScriptEnd}
 use Rattle.chaos_packet.specs.Item.{ItemView}
-use Rattle.chaosd_engines.proofs.Steps.{length-strip_last}
 use Rattle.chaosd_file.proofs.Talking.{talks_none, talks_on}
 
 -- ---- what is kept of a line decides what it stands for
@@ -150,10 +150,6 @@ asked_more first mid last before between after replied given line raw front s (c
   said = said_more given s.talk.said talk.said raw command s.said said (kept_decides line raw front ∙ is);
   heard = ap (λ l. s.talk.heard ++ l) heard ∙ ap (λ l. l ++ reply ∷ []) s.heard;
 }
-
--- Each line of the input stands for a command that got a reply.
-abbrev pub AskedAll : Talker → Talker → Option (List ℕ) → Option (List ℕ) → Option (List ℕ) → Option (List ℕ) → ℕ → Type 0
-AskedAll first last input rest before after replied = (given : List (List ℕ)) × Asked first last before after replied given × Done INPUT_LIMIT input rest given
 
 pub last_asked : (first mid last : Talker) (input rest before between after : Option (List ℕ)) (replied : ℕ) (given : List (List ℕ)) (line : List ℕ) → Asked first mid before between replied given
     → GivesLast KEPT_LEN INPUT_LIMIT input rest given (Some line) → AsksLine mid last replied line between after (Ok true) → AskedAll first last input rest before after (replied + 1)

@@ -1,8 +1,10 @@
--- What a run over a script has done so far, and what it does with a line.
+-- What a run over a script has done so far, and what becomes of a line.
 use Rattle.std.specs.Prelude.{◌≡◌, ℕ, ◌+◌, Bool, true, false, List, All, length, Option, Some, None, Result, Ok, Err}
 use Rattle.std.specs.Io.KnownBytes.{Appends}
 use Rattle.chaosd_engines.specs.declared.fault.RunFault.{RunFault}
 use Rattle.chaosd_engines.specs.declared.fault.RunFault.TheVariants.{ReadFault, WriteFault, InputTooLong, NoMemory, BadScript, LinkFault, ClockFault}
+use Rattle.chaosd_engines.specs.declared.limits.TheConstants.{INPUT_LIMIT, KEPT_LEN}
+use Rattle.chaosd_engines.specs.Reader.{LinesView, Gives, Done}
 use Rattle.chaosd_file.specs.Command.{command_of}
 use Rattle.chaosd_file.specs.Conversation.{commands_said}
 use Rattle.chaosd_file.specs.Exchange.{Exchanges}
@@ -20,6 +22,14 @@ pub record Asked (first last : Talker) (before after : Option (List ℕ)) (repli
   pub talks : Talks first talk last
   pub said : talk.said ≡ commands_said given
   pub heard : talk.heard ≡ printed.replies
+
+-- So it is with the lines that the reader gave of an input.
+abbrev pub AskedGiven : Talker → Talker → Option (List ℕ) → Option (List ℕ) → Option (List ℕ) → Option (List ℕ) → ℕ → LinesView → Type 0
+AskedGiven first last input rest before after replied lines = (given : List (List ℕ)) × Asked first last before after replied given × Gives KEPT_LEN INPUT_LIMIT input rest given lines
+
+-- So it is with all lines of an input.
+abbrev pub AskedAll : Talker → Talker → Option (List ℕ) → Option (List ℕ) → Option (List ℕ) → Option (List ℕ) → ℕ → Type 0
+AskedAll first last input rest before after replied = (given : List (List ℕ)) × Asked first last before after replied given × Done INPUT_LIMIT input rest given
 
 -- The line stands for a command, and its reply was printed; or that it got none was. Or it stands for none, and nothing was printed;
 -- or there was a fault of a turn or of the writer.

@@ -1,7 +1,7 @@
-use Rattle.std.proofs.Common.{◌≡◌, ◌≤◌, ◌+◌, [], ℕ, List, length}
-use Rattle.chaosd_engines.specs.declared.limits.TheConstants.{INPUT_LIMIT, KEPT_LEN}
-use Rattle.chaosd_engines.specs.Reader.{left_of, Gives}
-use Rattle.chaosd_file.specs.Asking.{Asked}
+use Rattle.std.proofs.Common.{◌≡◌, ◌≤◌, ◌+◌, [], length}
+use Rattle.chaosd_engines.specs.declared.limits.TheConstants.{INPUT_LIMIT}
+use Rattle.chaosd_engines.specs.Reader.{left_of}
+use Rattle.chaosd_file.specs.Asking.{AskedGiven}
 use Rattle.chaosd_file.specs.Exchange.{talker_of}
 use Rattle.chaosd_file.proofs.script.ask_all.Given as goal
 
@@ -9,13 +9,11 @@ use Rattle.chaosd_file.proofs.script.ask_all.Given as goal
 abbrev pub invariant-lines : goal.invariant-lines
 invariant-lines g l = record {
   few : l.replied + left_of l.lines ≤ INPUT_LIMIT;
-  room : l.lines.room ≡ l.initial.lines.room;
   empty : l.out ≡ [];
   same_links : g.T.Turns.links l.turns ≡ g.T.Turns.links l.fn.turns;
+  room : l.lines.room ≡ l.initial.lines.room;
   well : g.T.Turns.failures l.turns ≤ g.T.Turns.failures l.fn.turns;
-  asked : (given : List (List ℕ))
-      × Asked (talker_of l.fn.client (g.T.Turns.queue l.fn.turns)) (talker_of l.client (g.T.Turns.queue l.turns)) (g.W.Write.contents l.fn.writer) (g.W.Write.contents l.writer) l.replied given
-      × Gives KEPT_LEN INPUT_LIMIT (g.R.Read.remaining l.fn.reader) (g.R.Read.remaining l.reader) given l.lines;
+  asked : AskedGiven (talker_of l.fn.client (g.T.Turns.queue l.fn.turns)) (talker_of l.client (g.T.Turns.queue l.turns)) (g.R.Read.remaining l.fn.reader) (g.R.Read.remaining l.reader) (g.W.Write.contents l.fn.writer) (g.W.Write.contents l.writer) l.replied l.lines;
 }
 
 -- fewer bytes wait
@@ -29,9 +27,7 @@ invariant-reads g l = record {
   empty : l.out ≡ [];
   same_links : g.T.Turns.links l.turns ≡ g.T.Turns.links l.fn.turns;
   well : g.T.Turns.failures l.turns ≤ g.T.Turns.failures l.fn.turns;
-  asked : (given : List (List ℕ))
-      × Asked (talker_of l.fn.client (g.T.Turns.queue l.fn.turns)) (talker_of l.client (g.T.Turns.queue l.turns)) (g.W.Write.contents l.fn.writer) (g.W.Write.contents l.writer) l.replied given
-      × Gives KEPT_LEN INPUT_LIMIT (g.R.Read.remaining l.fn.reader) (g.R.Read.remaining l.reader) given l.lines;
+  asked : AskedGiven (talker_of l.fn.client (g.T.Turns.queue l.fn.turns)) (talker_of l.client (g.T.Turns.queue l.turns)) (g.R.Read.remaining l.fn.reader) (g.R.Read.remaining l.reader) (g.W.Write.contents l.fn.writer) (g.W.Write.contents l.writer) l.replied l.lines;
 }
 
 -- fewer bytes may come
