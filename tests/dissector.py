@@ -344,12 +344,14 @@ def reports_of(rows):
 
 
 def shown(datagrams):
-    """The report of each datagram, by `show`. One of several packets begins with their number."""
-    out = run(["show"], "\n".join(payload.hex() for payload in datagrams).encode()).out.decode()
-    blocks = iter(out.removesuffix("\n").split("\n\n"))
-    for block in blocks:
-        several = re.fullmatch(r"carriage 2 packets (\d)", block)
-        yield "\n\n".join([block] + [next(blocks) for _ in range(int(several[1]) if several else 0)])
+    """The report of each datagram, by `show`, in several runs, since an input has a limit. One of several packets begins with their
+    number."""
+    for at in range(0, len(datagrams), 200):
+        ended = run(["show"], "\n".join(payload.hex() for payload in datagrams[at : at + 200]).encode())
+        blocks = iter(ended.out.decode().removesuffix("\n").split("\n\n"))
+        for block in blocks:
+            several = re.fullmatch(r"carriage 2 packets (\d)", block)
+            yield "\n\n".join([block] + [next(blocks) for _ in range(int(several[1]) if several else 0)])
 
 
 def both_ways(checks, tshark):
