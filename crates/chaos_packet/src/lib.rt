@@ -12,8 +12,6 @@ mod opcode;
 mod outbox;
 mod packet;
 mod reading;
-#[cfg(test)]
-mod tests;
 mod writing;
 
 pub use fault::PacketFault;

@@ -1,7 +1,9 @@
 mod queues;
 
-use super::*;
 use arrayvec::ArrayVec;
+use chaos_packet::{
+    Item, MAX_WORDS, Opcode, Outbox, Packet, PacketFault, PktNum, from_words, to_words,
+};
 use std::test::Fail;
 
 /// A status packet with receipt 18 and window 13.

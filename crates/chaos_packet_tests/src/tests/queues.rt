@@ -3,7 +3,7 @@ ghost use Rattle.std.specs.Prelude.{◌≡◌, ◌+◌, ◌<◌, length, [], ◌
 ghost use Rattle.chaos_packet.specs.Outbox.{OutboxView, room_of, with_put, without_oldest};
 
 use super::LETTER;
-use crate::{Outbox, Packet, PktNum, from_words};
+use chaos_packet::{Outbox, Packet, PktNum, from_words};
 use std::alloc::{AllocError, Global};
 use std::marker::Model;
 use std::test::Fail;
