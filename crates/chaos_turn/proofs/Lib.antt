@@ -1,5 +1,8 @@
+pub mod Loaded
 pub mod Phase
 pub mod Queue
+pub mod Readback
 pub mod Receipt
 pub mod Relation
+pub mod Several
 pub mod Whole

@@ -1,5 +1,5 @@
 -- What serving does, told of a slot, and of slots one after the other.
-use Rattle.std.proofs.Common.{◌≡◌, ℕ, suc, Bool, true, false, if◌then◌else◌, List, [], ◌++◌, Option, Some, None, slice_set, length, refl, ap, sym, ◌∙◌, subst}
+use Rattle.std.proofs.Common.{◌≡◌, ℕ, suc, Bool, true, false, if◌then◌else◌, List, [], ◌∷◌, ◌++◌, Option, Some, None, slice_set, length, refl, ap, sym, ◌∙◌, subst}
 use Rattle.std.proofs.lemmas.List.{length-set}
 use Rattle.chaos_packet.specs.Packet.{PacketView}
 use Rattle.chaos_packet.specs.Outbox.{OutboxView}
@@ -16,7 +16,8 @@ use Rattle.chaos_serve.specs.Host.{DoesWorkInSlot, ServesOne, in_slot}
 use Rattle.chaos_serve.specs.Serve.{DoesWork}
 use Rattle.chaos_serve.specs.Work.{Work, NotOpen, Nothing, Full, LastItem, Command, work_of}
 use Rattle.chaos_serve.specs.declared.served.Served.{Served}
-use Rattle.chaos_turn.specs.Link.{Sends, datagrams_of, has_datagrams}
+use Rattle.chaos_link.specs.declared.carriage.Carriage.{Carriage}
+use Rattle.chaos_turn.specs.Link.{Sends, has_packets, sent_by}
 use Rattle.chaos_turn.specs.Serve.{DoesKept, IsServedAt, ServerDoes, ServesPlace, ServesSlot, ServesSlots, SessionServes, serving_after}
 use Rattle.chaos_turn.specs.Sessions.{Serving, serving_at, serving_of}
 use Rattle.chaos_turn.specs.Station.{Server, Station, server, station}
@@ -86,29 +87,29 @@ become_so store now id serving P Q h f done = (
 
 module _ {S : Type 0} (changes : S → S → StoreChange) where
   -- a slot was served by its session, and what was put out went into the link
-  pub slot_so : (here left : Serving) (sessions kept : List Serving) (store store' : S) (place id now : ℕ) (old new : HostView) (before mid rest : OutboxView) (queue after : Option QueueView) (sent : Bool)
+  pub slot_so : (carriage : Carriage) (here left : Serving) (sessions kept : List Serving) (store store' : S) (place id now : ℕ) (old new : HostView) (before mid rest : OutboxView) (queue after : Option QueueView) (sent : Bool)
       → id_at old place ≡ Some id → here ≡ serving_at sessions place → kept ≡ slice_set sessions place left → before.packets ≡ []
-      → Sends queue (datagrams_of mid.packets) after → rest ≡ record { packets = []; cap = mid.cap } → sent ≡ has_datagrams (datagrams_of mid.packets)
+      → Sends queue (sent_by carriage (mid.packets ∷ [])) after → rest ≡ record { packets = []; cap = mid.cap } → sent ≡ has_packets (mid.packets ∷ [])
       → SessionServes (changes store store') now id (serving_of id here) (λ s acted. DoesKept s left old acted new before mid) old
-      → ServerDoes (ServesSlot changes now place) (station (server old sessions store) queue before) (station (server new kept store') after rest) sent
-  slot_so here left sessions kept store store' place id now old new before mid rest queue after sent e e' set empty sends over told done =
+      → ServerDoes carriage (ServesSlot changes now place) (station (server old sessions store) queue before) (station (server new kept store') after rest) sent
+  slot_so carriage here left sessions kept store store' place id now old new before mid rest queue after sent e e' set empty sends over told done =
       let change = changes store store' in
       let found = found_so change now id (serving_of id here) (λ s acted. DoesKept s left old acted new before mid) old done in
       let d = found.3 in
       let acted = found.1 in
       let packets : mid.packets ≡ acted.packets = ap (λ (o : OutboxView). o.packets) d.does.packets ∙ put_into_empty before acted.packets empty in
-      let is : Serving → HostActed Served → Type 0 = IsServedAt place (server old sessions store) (server new kept store') (datagrams_of mid.packets) in
+      let is : Serving → HostActed Served → Type 0 = IsServedAt place (server old sessions store) (server new kept store') (mid.packets ∷ []) in
       let one : SessionServes change now id (serving_of id here) is old
       = become_so change now id (serving_of id here) (λ l a. (found.0 ≡ l) × (acted ≡ a)) is old
       (λ l a same. record {
         host = d.does.view ∙ ap (λ (x : HostActed Served). x.view) same.1;
         sessions = set ∙ ap (slice_set sessions place) (d.kept ∙ same.0);
-        out = ap datagrams_of (packets ∙ ap (λ (x : HostActed Served). x.packets) same.1);
+        out = ap (λ (ps : List PacketView). ps ∷ []) (packets ∙ ap (λ (x : HostActed Served). x.packets) same.1);
       }) found.2 in
       let there : SessionServes change now id (serving_of id (serving_at sessions place)) is old = subst (λ (x : Serving). SessionServes change now id (serving_of id x) is old) e' one in
       record {
-        datagrams = datagrams_of mid.packets;
-        done = subst (λ (o : Option ℕ). ServesPlace changes now place o (server old sessions store) (server new kept store') (datagrams_of mid.packets)) (sym e) there;
+        lots = mid.packets ∷ [];
+        done = subst (λ (o : Option ℕ). ServesPlace changes now place o (server old sessions store) (server new kept store') (mid.packets ∷ [])) (sym e) there;
         sends = sends;
         outbox = over ∙ (ap (λ (o : OutboxView). record { packets = []; cap = o.cap }) d.does.packets ∙ ap (λ (ps : List PacketView). record { packets = ps; cap = before.cap }) (sym empty));
         told = told;
@@ -118,21 +119,21 @@ module _ {S : Type 0} (changes : S → S → StoreChange) where
       }
 
   -- the first slots were served, and then the next
-  pub slots_so : (a b c : Station (Server S)) (place now : ℕ) (sent more all : Bool)
-      → ServerDoes (ServesSlots changes now place) a b sent → ServerDoes (ServesSlot changes now place) b c more
-      → all ≡ (if more then true else sent) → ServerDoes (ServesSlots changes now (suc place)) a c all
-  slots_so a b c place now sent more all one two e =
+  pub slots_so : (carriage : Carriage) (a b c : Station (Server S)) (place now : ℕ) (sent more all : Bool)
+      → ServerDoes carriage (ServesSlots changes now place) a b sent → ServerDoes carriage (ServesSlot changes now place) b c more
+      → all ≡ (if more then true else sent) → ServerDoes carriage (ServesSlots changes now (suc place)) a c all
+  slots_so carriage a b c place now sent more all one two e =
       record {
-        datagrams = one.datagrams ++ two.datagrams;
-        done = (b.node, one.datagrams, two.datagrams, one.done, two.done, refl);
-        sends = sends_both a.queue b.queue c.queue one.datagrams two.datagrams one.sends two.sends;
+        lots = one.lots ++ two.lots;
+        done = (b.node, one.lots, two.lots, one.done, two.done, refl);
+        sends = sends_both carriage a.queue b.queue c.queue one.lots two.lots one.sends two.sends;
         outbox = two.outbox ∙ one.outbox;
-        told = e ∙ (ap (λ (x : Bool). if x then true else sent) two.told ∙ (ap (λ (x : Bool). if has_datagrams two.datagrams then true else x) one.told ∙ sym (has_both one.datagrams two.datagrams)));
+        told = e ∙ (ap (λ (x : Bool). if x then true else sent) two.told ∙ (ap (λ (x : Bool). if has_packets two.lots then true else x) one.told ∙ sym (has_both one.lots two.lots)));
         config = two.config ∙ one.config;
         size = two.size ∙ one.size;
         count = two.count ∙ one.count;
       }
 
   -- no slot was served yet
-  pub slots_none : (a : Station (Server S)) (now : ℕ) → ServerDoes (ServesSlots changes now 0) a a false
-  slots_none a now = record { datagrams = []; done = (refl, refl); sends = sends_nothing a.queue; outbox = refl; told = refl; config = refl; size = refl; count = refl }
+  pub slots_none : (carriage : Carriage) (a : Station (Server S)) (now : ℕ) → ServerDoes carriage (ServesSlots changes now 0) a a false
+  slots_none carriage a now = record { lots = []; done = (refl, refl); sends = sends_nothing a.queue; outbox = refl; told = refl; config = refl; size = refl; count = refl }

@@ -1,13 +1,24 @@
--- Datagrams sent into a link, where it is a queue.
-use Rattle.std.specs.Prelude.{◌≡◌, ℕ, Bool, true, false, List, [], ◌∷◌, ◌++◌, drop, Option, Some, IfSome}
+-- Packets sent into a link, where it is a queue.
+use Rattle.std.specs.Prelude.{◌≡◌, ℕ, Bool, true, false, List, [], ◌∷◌, ◌++◌, drop, map, All, Option, Some, IfSome, Result, Ok, Err}
 use Rattle.chaos_packet.specs.Packet.{PacketView}
+use Rattle.chaos_link.specs.declared.carriage.Carriage.{Carriage}
+use Rattle.chaos_link.specs.declared.carriage.Carriage.TheVariants.{One, Two}
+use Rattle.chaos_link.specs.Bundle.{datagram_of_all}
 use Rattle.chaos_link.specs.Datagram.{datagram_of}
 use Rattle.chaos_link.specs.Link.{QueueView, with_datagram}
+use Rattle.chaos_link.specs.Loads.{EachSpelled, loads_of, packets_of}
+use Rattle.chaos_link.specs.Packets.{packets_read}
+use Rattle.chaos_link.specs.declared.fault.LinkFault.{LinkFault}
 
--- the datagrams as which packets that wait go out, in order: each as its canonical one
-abbrev pub datagrams_of : List PacketView → List (List ℕ)
-datagrams_of [] = []
-datagrams_of (p ∷ ps) = datagram_of p ∷ datagrams_of ps
+-- the datagrams that packets go out in, in order: each as its canonical one, or each load of them as one of version 2
+abbrev pub datagrams_of : Carriage → List PacketView → List (List ℕ)
+datagrams_of One packets = map datagram_of packets
+datagrams_of Two packets = map datagram_of_all (loads_of packets)
+
+-- the datagrams that lots of packets go out in, lot by lot; a lot is what goes out at once
+abbrev pub sent_by : Carriage → List (List PacketView) → List (List ℕ)
+sent_by carriage [] = []
+sent_by carriage (lot ∷ lots) = datagrams_of carriage lot ++ sent_by carriage lots
 
 -- datagrams sent in order; one that finds the queue full is lost
 abbrev pub sent_into : QueueView → List (List ℕ) → QueueView
@@ -18,16 +29,30 @@ sent_into queue (d ∷ ds) = sent_into (with_datagram d queue) ds
 abbrev pub Sends : Option QueueView → List (List ℕ) → Option QueueView → Type 0
 Sends before datagrams after = IfSome before (λ queue. after ≡ Some (sent_into queue datagrams))
 
--- there is a datagram among these
-abbrev pub has_datagrams : List (List ℕ) → Bool
-has_datagrams [] = false
-has_datagrams (d ∷ ds) = true
+-- there is a packet in one of these lots
+abbrev pub has_packets : List (List PacketView) → Bool
+has_packets [] = false
+has_packets ([] ∷ lots) = has_packets lots
+has_packets ((p ∷ ps) ∷ lots) = true
 
 -- what stays where the oldest datagram is received
 abbrev pub without_first : QueueView → QueueView
 without_first queue = record queue { datagrams = drop 1 queue.datagrams }
 
--- The law that packets sent in two lots are sent as one.
+-- The law that packets sent singly in two lots are sent as one.
 abbrev pub SendsOneByOne : Type 0
 SendsOneByOne = (queue : QueueView) (xs ys : List PacketView)
-    → sent_into (sent_into queue (datagrams_of xs)) (datagrams_of ys) ≡ sent_into queue (datagrams_of (xs ++ ys))
+    → sent_into (sent_into queue (datagrams_of One xs)) (datagrams_of One ys) ≡ sent_into queue (datagrams_of One (xs ++ ys))
+
+-- what is read of datagrams, in order: the packets of each, and none of one that carries none
+abbrev pub packets_in : Result (List PacketView) LinkFault → List PacketView
+packets_in (Ok packets) = packets
+packets_in (Err fault) = []
+
+abbrev pub read_all : List (List ℕ) → List PacketView
+read_all [] = []
+read_all (d ∷ ds) = packets_in (packets_read d) ++ read_all ds
+
+-- The law that of the datagrams of either carriage the packets are read that went out, in their order, where words spell each.
+abbrev pub IsReadBack : Type 0
+IsReadBack = (carriage : Carriage) (lots : List (List PacketView)) → All EachSpelled lots → read_all (sent_by carriage lots) ≡ packets_of lots

@@ -1,38 +1,45 @@
 -- Phases of a turn, one after the other.
-use Rattle.std.specs.Prelude.{◌≡◌, zero, suc, ℕ, Bool, List, [], ◌++◌, length}
+use Rattle.std.specs.Prelude.{◌≡◌, zero, suc, ℕ, Bool, List, [], ◌∷◌, ◌++◌, length}
+use Rattle.chaos_packet.specs.Packet.{PacketView}
 use Rattle.chaos_host.specs.View.{HostView}
 use Rattle.chaos_host.specs.Acted.{HostActed}
-use Rattle.chaos_turn.specs.Link.{Sends, datagrams_of, has_datagrams}
+use Rattle.chaos_link.specs.declared.carriage.Carriage.{Carriage}
+use Rattle.chaos_turn.specs.Link.{Sends, has_packets, sent_by}
 use Rattle.chaos_turn.specs.Station.{Station}
 
--- what a phase makes of a host, and the datagrams that go out
+-- what a phase makes of a host, and the packets that go out, lot by lot
 pub record Effect : Type 0 where
   pub host : HostView
-  pub datagrams : List (List ℕ)
+  pub lots : List (List PacketView)
 
 abbrev pub no_effect_on : HostView → Effect
-no_effect_on h = record { host = h; datagrams = [] }
+no_effect_on h = record { host = h; lots = [] }
 
 module _ {A : Type 0} where
   -- of a call on the host: what it puts out is sent at once
   abbrev pub effect_of : HostActed A → Effect
-  effect_of acted = record { host = acted.view; datagrams = datagrams_of acted.packets }
+  effect_of acted = record { host = acted.view; lots = acted.packets ∷ [] }
 
 -- one phase, and another after it
 abbrev pub and_then : Effect → (HostView → Effect) → Effect
-and_then first next = record { host = (next first.host).host; datagrams = first.datagrams ++ (next first.host).datagrams }
+and_then first next = record { host = (next first.host).host; lots = first.lots ++ (next first.host).lots }
 
 -- a phase over the first so many slots, in rising order
 abbrev pub over_slots : (ℕ → HostView → Effect) → ℕ → HostView → Effect
 over_slots phase zero h = no_effect_on h
 over_slots phase (suc n) h = and_then (over_slots phase n h) (phase n)
 
--- A phase had this effect on a host at its link: its datagrams went into the link, and it told whether there were any. The outbox
--- is as it was; so are the configuration and the number of slots.
-pub record DoesPhase (effect : Effect) (before after : Station HostView) (sent : Bool) : Type 0 where
+-- a phase over packets, in order
+abbrev pub over_packets : (PacketView → HostView → Effect) → List PacketView → HostView → Effect
+over_packets phase [] h = no_effect_on h
+over_packets phase (p ∷ ps) h = and_then (phase p h) (over_packets phase ps)
+
+-- A phase had this effect on a host at its link: its packets went into the link by this carriage, and it told whether there were
+-- any. The outbox is as it was; so are the configuration and the number of slots.
+pub record DoesPhase (carriage : Carriage) (effect : Effect) (before after : Station HostView) (sent : Bool) : Type 0 where
   pub host : after.node ≡ effect.host
-  pub sends : Sends before.queue effect.datagrams after.queue
+  pub sends : Sends before.queue (sent_by carriage effect.lots) after.queue
   pub outbox : after.outbox ≡ before.outbox
-  pub told : sent ≡ has_datagrams effect.datagrams
+  pub told : sent ≡ has_packets effect.lots
   pub config : after.node.config ≡ before.node.config
   pub size : length after.node.slots ≡ length before.node.slots

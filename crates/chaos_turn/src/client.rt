@@ -13,33 +13,34 @@ use crate::receiving::receive;
 use crate::sending::send_all;
 use crate::ticking::tick_slots;
 use chaos_host::{Host, HostDelivered};
-use chaos_link::{Link, LinkFault};
-use chaos_packet::{Outbox, Packet};
+use chaos_link::{Carriage, LINK_ROOM, Link, LinkFault, Packets};
+use chaos_packet::Outbox;
 
 /// Makes a turn of what came. Says whether packets went out.
 fn take_client_turn<L: Link>(
     host: &mut Host,
-    came: &Option<Result<Packet, LinkFault>>,
+    came: Option<Result<Packets<'_>, LinkFault>>,
     link: &mut L,
     now: u64,
     out: &mut Outbox,
     told: &mut Option<HostDelivered>,
+    carriage: Carriage,
 ) -> bool
     requires room { TURN_ROOM ≤ out.old.cap }
     requires empty { out.old.packets ≡ [] }
-    ensures told { told.new ≡ told_at_client came.now now host.old }
-    ensures phases { DoesPhase (client_phases came.now now host.old) (station host.old (L.queue link.old) out.old) (station host.new (L.queue link.new) out.new) result }
+    ensures told { told.new ≡ told_at_client came.entry now host.old }
+    ensures phases { DoesPhase carriage (client_phases came.entry now host.old) (station host.old (L.queue link.old) out.old) (station host.new (L.queue link.new) out.new) result }
 {
-    let arrived = arrive_at_client(host, came, link, now, out, told);
-    let ticked = tick_slots(host, link, now, out);
+    let arrived = arrive_at_client(host, came, link, now, out, told, carriage);
+    let ticked = tick_slots(host, link, now, out, carriage);
     any_of(ticked, arrived, false)
 }
 
-/// One turn of a client: it sends what waits, receives at most one datagram, delivers its packet, and ticks each slot. What
-/// the host puts out is sent after each of its calls. It accepts no request and serves nothing.
+/// One turn of a client: it sends what waits, receives at most one datagram, delivers its packets in order, and ticks each
+/// slot. What the host puts out is sent after each of its calls. It accepts no request and serves nothing.
 ///
-/// It leaves in `told` what became of the packet that came, as [`Host::deliver`] answered it, and `None` where no datagram
-/// came or it carried no packet. So a client learns with which text its request was refused.
+/// It leaves in `told` what became of the last packet of the datagram, as [`Host::deliver`] answered it, and `None` where no
+/// datagram came or it carried no packet. So a client learns with which text its request was refused.
 ///
 /// What it answers and asks for is as at [`run_turn`](crate::run_turn); it walks over the slots once, and takes no memory.
 pub fn client_turn<L: Link>(
@@ -48,20 +49,19 @@ pub fn client_turn<L: Link>(
     now: u64,
     out: &mut Outbox,
     told: &mut Option<HostDelivered>,
+    carriage: Carriage,
 ) -> TurnEnd
     requires room { TURN_ROOM ≤ out.old.cap }
     ensures fault { (result ≡ TurnEnd.LinkFault) ↔ Rose (L.count link.old) (L.count link.new) }
-    ensures turn { RunsClientTurn now (station host.old (L.queue link.old) out.old) (station host.new (L.queue link.new) out.new) result told.new }
+    ensures turn { RunsClientTurn carriage now (station host.old (L.queue link.old) out.old) (station host.new (L.queue link.new) out.new) result told.new }
     // All was sent.
     ensures outbox { out.new ≡ record { packets = []; cap = out.old.cap } }
 {
     let before = link.failures();
-    let waited = send_all(link, out);
-    let came = receive(link);
-    let sent = take_client_turn(host, &came, link, now, out, told);
-    end_of(
-        before,
-        link.failures(),
-        any_of(waited, came.is_some(), sent),
-    )
+    let waited = send_all(link, out, carriage);
+    let mut buffer = [0; LINK_ROOM];
+    let came = receive(link, &mut buffer);
+    let some = came.is_some();
+    let sent = take_client_turn(host, came, link, now, out, told, carriage);
+    end_of(before, link.failures(), any_of(some, waited, sent))
 }

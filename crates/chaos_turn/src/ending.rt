@@ -10,7 +10,7 @@ use crate::sending::send_all;
 use crate::sessions::Sessions;
 use crate::ticking::tick_slots;
 use chaos_host::Host;
-use chaos_link::Link;
+use chaos_link::{Carriage, Link};
 use chaos_packet::Outbox;
 
 /// Closes the connection in a slot with an empty text, where its EOF was served and its peer read all. Says whether packets
@@ -22,11 +22,12 @@ fn close_slot<L: Link>(
     place: usize,
     link: &mut L,
     out: &mut Outbox,
+    carriage: Carriage,
 ) -> bool
     requires within { place < length sessions.now }
     requires room { TURN_ROOM ≤ out.old.cap }
     requires empty { out.old.packets ≡ [] }
-    ensures { DoesPhase (close_at sessions.now place host.old) (station host.old (L.queue link.old) out.old) (station host.new (L.queue link.new) out.new) result }
+    ensures { DoesPhase carriage (close_at sessions.now place host.old) (station host.old (L.queue link.old) out.old) (station host.new (L.queue link.new) out.new) result }
 {
     let Some(id) = host.id_of(place) else {
         return false;
@@ -35,7 +36,7 @@ fn close_slot<L: Link>(
         return false;
     }
     let _ = host.close(id, b"", out);
-    send_all(link, out)
+    send_all(link, out, carriage)
 }
 
 /// Closes each connection that was served to its EOF and is drained, in the slots' rising order.
@@ -45,43 +46,55 @@ pub fn close_slots<L: Link>(
     sessions: &Sessions,
     link: &mut L,
     out: &mut Outbox,
+    carriage: Carriage,
 ) -> bool
     requires alike { length sessions.now ≡ length host.old.slots }
     requires room { TURN_ROOM ≤ out.old.cap }
     requires empty { out.old.packets ≡ [] }
-    ensures { DoesPhase (over_slots (close_at sessions.now) (length host.old.slots) host.old) (station host.old (L.queue link.old) out.old) (station host.new (L.queue link.new) out.new) result }
+    ensures { DoesPhase carriage (over_slots (close_at sessions.now) (length host.old.slots) host.old) (station host.old (L.queue link.old) out.old) (station host.new (L.queue link.new) out.new) result }
 {
     let mut sent = false;
     for place in 0..host.conns() {
-        sent = close_slot(host, sessions, place, link, out) || sent;
+        sent = close_slot(host, sessions, place, link, out, carriage) || sent;
     }
     sent
 }
 
 /// Releases the connection in a slot, where it has ended.
 #[tactic(auto, using(crate::proofs::Phase::put_into_empty))]
-fn release_slot<L: Link>(host: &mut Host, place: usize, link: &mut L, out: &mut Outbox) -> bool
+fn release_slot<L: Link>(
+    host: &mut Host,
+    place: usize,
+    link: &mut L,
+    out: &mut Outbox,
+    carriage: Carriage,
+) -> bool
     requires room { TURN_ROOM ≤ out.old.cap }
     requires empty { out.old.packets ≡ [] }
-    ensures { DoesPhase (release_at place host.old) (station host.old (L.queue link.old) out.old) (station host.new (L.queue link.new) out.new) result }
+    ensures { DoesPhase carriage (release_at place host.old) (station host.old (L.queue link.old) out.old) (station host.new (L.queue link.new) out.new) result }
 {
     let Some(id) = host.id_of(place) else {
         return false;
     };
     let _ = host.release(id, out);
-    send_all(link, out)
+    send_all(link, out, carriage)
 }
 
 /// Releases each connection that has ended, in the slots' rising order.
 #[tactic(auto, using(crate::proofs::Queue::sends_both, crate::proofs::Queue::has_both))]
-pub fn release_slots<L: Link>(host: &mut Host, link: &mut L, out: &mut Outbox) -> bool
+pub fn release_slots<L: Link>(
+    host: &mut Host,
+    link: &mut L,
+    out: &mut Outbox,
+    carriage: Carriage,
+) -> bool
     requires room { TURN_ROOM ≤ out.old.cap }
     requires empty { out.old.packets ≡ [] }
-    ensures { DoesPhase (over_slots release_at (length host.old.slots) host.old) (station host.old (L.queue link.old) out.old) (station host.new (L.queue link.new) out.new) result }
+    ensures { DoesPhase carriage (over_slots release_at (length host.old.slots) host.old) (station host.old (L.queue link.old) out.old) (station host.new (L.queue link.new) out.new) result }
 {
     let mut sent = false;
     for place in 0..host.conns() {
-        sent = release_slot(host, place, link, out) || sent;
+        sent = release_slot(host, place, link, out, carriage) || sent;
     }
     sent
 }
@@ -94,14 +107,15 @@ pub fn end_slots<L: Link>(
     link: &mut L,
     now: u64,
     out: &mut Outbox,
+    carriage: Carriage,
 ) -> bool
     requires alike { length sessions.now ≡ length host.old.slots }
     requires room { TURN_ROOM ≤ out.old.cap }
     requires empty { out.old.packets ≡ [] }
-    ensures { DoesPhase (end_phases sessions.now now host.old) (station host.old (L.queue link.old) out.old) (station host.new (L.queue link.new) out.new) result }
+    ensures { DoesPhase carriage (end_phases sessions.now now host.old) (station host.old (L.queue link.old) out.old) (station host.new (L.queue link.new) out.new) result }
 {
-    let closed = close_slots(host, sessions, link, out);
-    let released = release_slots(host, link, out);
-    let ticked = tick_slots(host, link, now, out);
+    let closed = close_slots(host, sessions, link, out, carriage);
+    let released = release_slots(host, link, out, carriage);
+    let ticked = tick_slots(host, link, now, out, carriage);
     any_of(ticked, released, closed)
 }

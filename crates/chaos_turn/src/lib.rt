@@ -22,6 +22,6 @@ mod turn;
 pub use client::client_turn;
 pub use end::TurnEnd;
 pub use limits::TURN_ROOM;
-pub use sending::law_sends;
+pub use sending::{law_read_back, law_sends_one};
 pub use sessions::Sessions;
 pub use turn::run_turn;

@@ -2,16 +2,18 @@
 ghost use Rattle.std.specs.Prelude.{◌≡◌, Some, IfSome};
 ghost use Rattle.chaos_turn.specs.Arrive.{Receives};
 
-use chaos_link::{LINK_ROOM, Link, LinkFault, Received, from_datagram};
-use chaos_packet::Packet;
+use chaos_link::{LINK_ROOM, Link, LinkFault, Packets, Received, open_datagram};
 
-/// Receives at most one datagram, and answers the packet that it carries, or why it carries none.
-pub fn receive<L: Link>(link: &mut L) -> Option<Result<Packet, LinkFault>>
+/// Receives at most one datagram into the buffer, and answers the packets that it carries, of either version, which lie there,
+/// or why it carries none.
+pub fn receive<'a, L: Link>(
+    link: &mut L,
+    buffer: &'a mut [u8; LINK_ROOM],
+) -> Option<Result<Packets<'a>, LinkFault>>
     ensures { IfSome (L.queue link.old) (Receives result (L.queue link.new)) }
 {
-    let mut buffer = [0; LINK_ROOM];
-    match link.receive(&mut buffer) {
-        Received::Got(count) => Some(from_datagram(&buffer[..count])),
+    match link.receive(buffer) {
+        Received::Got(count) => Some(open_datagram(&buffer[..count])),
         _ => None,
     }
 }

@@ -11,7 +11,7 @@ use crate::sending::send_all;
 use crate::sessions::{Kept, Sessions};
 use chaos_file::Store;
 use chaos_host::{ConnId, Host};
-use chaos_link::Link;
+use chaos_link::{Carriage, Link};
 use chaos_packet::Outbox;
 use chaos_serve::serve_one;
 use std::alloc::Global;
@@ -46,11 +46,12 @@ fn serve_slot<S: Store, L: Link>(
     link: &mut L,
     now: u64,
     out: &mut Outbox,
+    carriage: Carriage,
 ) -> bool
     requires within { place < length sessions.old }
     requires room { TURN_ROOM ≤ out.old.cap }
     requires empty { out.old.packets ≡ [] }
-    ensures { ServerDoes (ServesSlot (change S.contents S.may_give S.count) now place)
+    ensures { ServerDoes carriage (ServesSlot (change S.contents S.may_give S.count) now place)
         (station (server host.old sessions.old store.old) (L.queue link.old) out.old)
         (station (server host.new sessions.new store.new) (L.queue link.new) out.new) result }
 {
@@ -59,7 +60,7 @@ fn serve_slot<S: Store, L: Link>(
     };
     let kept = &mut sessions.kept[place];
     serve_kept(alloc, host, id, kept, store, now, out);
-    send_all(link, out)
+    send_all(link, out, carriage)
 }
 
 /// Serves each slot once, in rising order. Says whether packets went out.
@@ -71,17 +72,20 @@ pub fn serve_slots<S: Store, L: Link>(
     link: &mut L,
     now: u64,
     out: &mut Outbox,
+    carriage: Carriage,
 ) -> bool
     requires alike { length sessions.old ≡ length host.old.slots }
     requires room { TURN_ROOM ≤ out.old.cap }
     requires empty { out.old.packets ≡ [] }
-    ensures { ServerDoes (ServesSlots (change S.contents S.may_give S.count) now (length host.old.slots))
+    ensures { ServerDoes carriage (ServesSlots (change S.contents S.may_give S.count) now (length host.old.slots))
         (station (server host.old sessions.old store.old) (L.queue link.old) out.old)
         (station (server host.new sessions.new store.new) (L.queue link.new) out.new) result }
 {
     let mut sent = false;
     for place in 0..host.conns() {
-        sent = serve_slot(alloc, host, sessions, store, place, link, now, out) || sent;
+        sent = serve_slot(
+            alloc, host, sessions, store, place, link, now, out, carriage,
+        ) || sent;
     }
     sent
 }

@@ -7,7 +7,7 @@ ghost use Rattle.chaos_turn.specs.Station.{station};
 use crate::limits::TURN_ROOM;
 use crate::sending::send_all;
 use chaos_host::Host;
-use chaos_link::Link;
+use chaos_link::{Carriage, Link};
 use chaos_packet::Outbox;
 
 /// Ticks the connection in a slot, and says whether packets went out.
@@ -18,28 +18,35 @@ fn tick_slot<L: Link>(
     link: &mut L,
     now: u64,
     out: &mut Outbox,
+    carriage: Carriage,
 ) -> bool
     requires window { host.old.config.send_cap ≤ TURN_ROOM }
     requires room { TURN_ROOM ≤ out.old.cap }
     requires empty { out.old.packets ≡ [] }
-    ensures { DoesPhase (tick_at now place host.old) (station host.old (L.queue link.old) out.old) (station host.new (L.queue link.new) out.new) result }
+    ensures { DoesPhase carriage (tick_at now place host.old) (station host.old (L.queue link.old) out.old) (station host.new (L.queue link.new) out.new) result }
 {
     let _ = host.tick(place, now, out);
-    send_all(link, out)
+    send_all(link, out, carriage)
 }
 
 /// Ticks the connection in each slot, in rising order, and says whether packets went out.
 #[tactic(auto, using(crate::proofs::Queue::sends_both, crate::proofs::Queue::has_both))]
-pub fn tick_slots<L: Link>(host: &mut Host, link: &mut L, now: u64, out: &mut Outbox) -> bool
+pub fn tick_slots<L: Link>(
+    host: &mut Host,
+    link: &mut L,
+    now: u64,
+    out: &mut Outbox,
+    carriage: Carriage,
+) -> bool
     requires room { TURN_ROOM ≤ out.old.cap }
     requires empty { out.old.packets ≡ [] }
-    ensures { DoesPhase (over_slots (tick_at now) (length host.old.slots) host.old) (station host.old (L.queue link.old) out.old) (station host.new (L.queue link.new) out.new) result }
+    ensures { DoesPhase carriage (over_slots (tick_at now) (length host.old.slots) host.old) (station host.old (L.queue link.old) out.old) (station host.new (L.queue link.new) out.new) result }
 {
     // A configuration has a send window of at most 64 packets, so that the outbox has room for a tick.
     let _window = host.config().send_cap();
     let mut sent = false;
     for place in 0..host.conns() {
-        sent = tick_slot(host, place, link, now, out) || sent;
+        sent = tick_slot(host, place, link, now, out, carriage) || sent;
     }
     sent
 }

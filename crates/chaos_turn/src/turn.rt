@@ -16,8 +16,8 @@ use crate::serving::serve_slots;
 use crate::sessions::Sessions;
 use chaos_file::Store;
 use chaos_host::Host;
-use chaos_link::{Link, LinkFault};
-use chaos_packet::{Outbox, Packet, PktNum};
+use chaos_link::{Carriage, LINK_ROOM, Link, LinkFault, Packets};
+use chaos_packet::{Outbox, PktNum};
 use std::alloc::Global;
 
 /// Makes a turn of what came. Says whether packets went out.
@@ -26,36 +26,41 @@ fn take_turn<S: Store, L: Link>(
     host: &mut Host,
     sessions: &mut Sessions,
     store: &mut S,
-    came: &Option<Result<Packet, LinkFault>>,
+    came: Option<Result<Packets<'_>, LinkFault>>,
     link: &mut L,
     start: PktNum,
     now: u64,
     out: &mut Outbox,
+    carriage: Carriage,
 ) -> bool
     requires alike { length sessions.old ≡ length host.old.slots }
     requires room { TURN_ROOM ≤ out.old.cap }
     requires empty { out.old.packets ≡ [] }
-    ensures { ServerDoes (IsTurn (change S.contents S.may_give S.count) came.now start now)
+    ensures { ServerDoes carriage (IsTurn (change S.contents S.may_give S.count) came.entry start now)
         (station (server host.old sessions.old store.old) (L.queue link.old) out.old)
         (station (server host.new sessions.new store.new) (L.queue link.new) out.new) result }
 {
-    let arrived = arrive_at_server(host, came, link, start, now, out);
-    let served = serve_slots(alloc, host, sessions, store, link, now, out);
-    let ended = end_slots(host, sessions, link, now, out);
+    let arrived = arrive_at_server(host, came, link, start, now, out, carriage);
+    let served = serve_slots(alloc, host, sessions, store, link, now, out, carriage);
+    let ended = end_slots(host, sessions, link, now, out, carriage);
     any_of(arrived, served, ended)
 }
 
 /// One turn of a server of FILE: it sends what waits, receives at most one datagram, and does what is due at the moment
 /// `now`. What the host puts out is sent after each of its calls. In this order:
 ///
-/// 1. The packet of the datagram is delivered. A datagram that carries none is dropped.
-/// 2. Where it was a new request for contact FILE, the request is accepted; what its connection writes is numbered from
-///    `start` on.
+/// 1. Each packet of the datagram, which may be of either version, is delivered in order. A datagram that carries none is
+///    dropped.
+/// 2. Where one was a new request for contact FILE, the request is accepted before the next packet is delivered; what its
+///    connection writes is numbered from `start` on.
 /// 3. Each slot in use is served once, in rising order, by its own session. It is a new session where another connection
 ///    was in the slot before.
 /// 4. Each connection whose EOF was served and whose peer read all is closed with an empty text.
 /// 5. Each ended connection is released.
 /// 6. Each slot is ticked.
+///
+/// By `carriage` packets that are sent at once go each in a datagram of version 1, or several to one host in a datagram of
+/// version 2.
 ///
 /// `LinkFault` exactly where the link's count of failures rose in the turn, or stands at its greatest; a packet whose send
 /// failed is lost, and the turn goes on to its end. Else `Worked` where a datagram came or a packet was sent, else `Idle`.
@@ -71,12 +76,13 @@ pub fn run_turn<S: Store, L: Link>(
     start: PktNum,
     now: u64,
     out: &mut Outbox,
+    carriage: Carriage,
 ) -> TurnEnd
     requires alike { length sessions.old ≡ length host.old.slots }
     requires room { TURN_ROOM ≤ out.old.cap }
     ensures fault { (result ≡ TurnEnd.LinkFault) ↔ Rose (L.count link.old) (L.count link.new) }
     // The turn is the definition; over a queue its packets went out in order.
-    ensures turn { RunsTurn (change S.contents S.may_give S.count) start now
+    ensures turn { RunsTurn (change S.contents S.may_give S.count) carriage start now
         (station (server host.old sessions.old store.old) (L.queue link.old) out.old)
         (station (server host.new sessions.new store.new) (L.queue link.new) out.new) result }
     // All was sent.
@@ -85,12 +91,12 @@ pub fn run_turn<S: Store, L: Link>(
     ensures alike { length sessions.new ≡ length host.new.slots }
 {
     let before = link.failures();
-    let waited = send_all(link, out);
-    let came = receive(link);
-    let sent = take_turn(alloc, host, sessions, store, &came, link, start, now, out);
-    end_of(
-        before,
-        link.failures(),
-        any_of(waited, came.is_some(), sent),
-    )
+    let waited = send_all(link, out, carriage);
+    let mut buffer = [0; LINK_ROOM];
+    let came = receive(link, &mut buffer);
+    let some = came.is_some();
+    let sent = take_turn(
+        alloc, host, sessions, store, came, link, start, now, out, carriage,
+    );
+    end_of(before, link.failures(), any_of(some, waited, sent))
 }

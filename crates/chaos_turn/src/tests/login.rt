@@ -4,13 +4,14 @@ use super::turns::{Station, asks, made, serves};
 use crate::TurnEnd;
 use chaos_conn::{Delivered, State};
 use chaos_host::{ConnId, HostDelivered};
+use chaos_link::Carriage;
 use chaos_packet::{Opcode, PktNum};
 use std::alloc::AllocGlobal;
 use std::process::Abort;
 use std::test::Fail;
 
 /// Turns of both hosts, until nothing more comes.
-fn carry(
+pub fn carry(
     rt: &(impl Abort + AllocGlobal),
     client: &mut Station,
     server: &mut Station,
@@ -26,28 +27,53 @@ fn carry(
 }
 
 /// The client writes an item.
-fn writes(rt: &impl Abort, client: &mut Station, id: ConnId, op: Opcode, bytes: &[u8]) {
+pub fn writes(rt: &impl Abort, client: &mut Station, id: ConnId, op: Opcode, bytes: &[u8]) {
     assert!(rt; client.out.room() > 0);
     assert!(rt; client.host.write(id, op, bytes, 0, &mut client.out).is_ok());
 }
 
-#[test]
-fn login_is_answered(rt: HostRuntime) -> Result<(), Fail> {
-    let mut client = made(rt.alloc(), 0o402)?;
-    let mut server = made(rt.alloc(), 0o401)?;
-    let mut link = Crossing::new(rt.alloc())?;
+/// The client asks for FILE, and its connection is opened.
+pub fn opens(
+    rt: &(impl Abort + AllocGlobal),
+    client: &mut Station,
+    server: &mut Station,
+    link: &mut Crossing,
+) -> Result<ConnId, Fail> {
     server.host.listen(b"FILE")?;
     assert!(rt; client.out.room() > 0);
     let id = client
         .host
         .connect(0o401, b"FILE", PktNum(5), 0, &mut client.out)?;
-    carry(&rt, &mut client, &mut server, &mut link);
+    carry(rt, client, server, link);
     assert_eq!(rt; client.host.state(id), Ok(State::Open));
-    writes(&rt, &mut client, id, Opcode::DATA, b"T1  LOGIN LISPM");
-    carry(&rt, &mut client, &mut server, &mut link);
+    Ok(id)
+}
+
+/// A login, where the client and the server send by these carriages.
+fn logs_in(
+    rt: &(impl Abort + AllocGlobal),
+    client_by: Carriage,
+    server_by: Carriage,
+) -> Result<(), Fail> {
+    let mut client = made(rt.alloc(), 0o402)?;
+    let mut server = made(rt.alloc(), 0o401)?;
+    client.carriage = client_by;
+    server.carriage = server_by;
+    let mut link = Crossing::new(rt.alloc())?;
+    let id = opens(rt, &mut client, &mut server, &mut link)?;
+    writes(rt, &mut client, id, Opcode::DATA, b"T1  LOGIN LISPM");
+    carry(rt, &mut client, &mut server, &mut link);
     let reply = client.host.front(id)?.ok_or("a reply")?;
     assert_eq!(rt; reply.bytes(), b"T1  LOGIN LISPM".as_slice());
     Ok(())
+}
+
+#[test]
+fn login_is_answered_by_each_carriage(rt: HostRuntime) -> Result<(), Fail> {
+    logs_in(&rt, Carriage::One, Carriage::One)?;
+    logs_in(&rt, Carriage::One, Carriage::Two)?;
+    logs_in(&rt, Carriage::Two, Carriage::One)?;
+    logs_in(&rt, Carriage::Two, Carriage::Two)
 }
 
 /// The text of the CLS that came, where one did.

@@ -4,7 +4,9 @@ use crate::{Sessions, TURN_ROOM, TurnEnd, client_turn, run_turn};
 use chaos_conn::ConnConfig;
 use chaos_file::MemStore;
 use chaos_host::{Host, HostDelivered};
-use chaos_link::{FuseLink, LINK_ROOM, Link, MemLink, Received, from_datagram, to_datagram};
+use chaos_link::{
+    Carriage, FuseLink, LINK_ROOM, Link, MemLink, Received, from_datagram, to_datagram,
+};
 use chaos_packet::{Item, Opcode, Outbox, Packet, PktNum};
 use std::alloc::{AllocGlobal, Global};
 use std::process::Abort;
@@ -18,9 +20,10 @@ pub struct Station {
     pub store: MemStore,
     pub out: Outbox,
     pub told: Option<HostDelivered>,
+    pub carriage: Carriage,
 }
 
-/// A host with this address and two slots.
+/// A host with this address and two slots, which sends by carriage 1.
 pub fn made(alloc: Global, address: u16) -> Result<Station, Fail> {
     Ok(Station {
         host: Host::new(alloc, address, 2, ConnConfig::usual())?,
@@ -28,6 +31,7 @@ pub fn made(alloc: Global, address: u16) -> Result<Station, Fail> {
         store: MemStore::new(alloc),
         out: Outbox::new(alloc, TURN_ROOM + 4)?,
         told: None,
+        carriage: Carriage::One,
     })
 }
 
@@ -58,38 +62,45 @@ fn serves_at<L: Link>(
         PktNum(9),
         now,
         &mut station.out,
+        station.carriage,
     )
 }
 
 /// A turn of a client at moment 0.
 pub fn asks<L: Link>(rt: &impl Abort, station: &mut Station, link: &mut L) -> TurnEnd {
+    asks_at(rt, station, link, 0)
+}
+
+/// A turn of a client at this moment.
+pub fn asks_at<L: Link>(rt: &impl Abort, station: &mut Station, link: &mut L, now: u64) -> TurnEnd {
     assert!(rt; station.out.room() >= TURN_ROOM);
     client_turn(
         &mut station.host,
         link,
-        0,
+        now,
         &mut station.out,
         &mut station.told,
+        station.carriage,
     )
 }
 
-/// A request for a contact, with number 5.
-fn request() -> Packet {
+/// A request for a contact, with number 5, of a peer's connection with this index.
+pub fn request(index: u16) -> Packet {
     Packet {
         op: Opcode::RFC,
         fwd: 0,
         dst: 0o401,
         dst_index: 0,
         src: 0o402,
-        src_index: 1,
+        src_index: index,
         num: PktNum(5),
         ack: PktNum(0),
         body: Item::new(Opcode::RFC, b"FILE").body,
     }
 }
 
-/// The packet of the oldest datagram.
-fn received(link: &mut impl Link) -> Option<Packet> {
+/// The packet of the oldest datagram, where it is of version 1.
+pub fn received(link: &mut impl Link) -> Option<Packet> {
     let mut buffer = [0; LINK_ROOM];
     match link.receive(&mut buffer) {
         Received::Got(count) => from_datagram(&buffer[..count]).ok(),
@@ -102,7 +113,7 @@ fn asked(alloc: Global) -> Result<(Station, MemLink), Fail> {
     let mut server = made(alloc, 0o401)?;
     server.host.listen(b"FILE")?;
     let mut link = MemLink::new(alloc, 8)?;
-    let _ = link.send(0o401, to_datagram(&request()).as_slice());
+    let _ = link.send(0o401, to_datagram(&request(1)).as_slice());
     Ok((server, link))
 }
 
@@ -146,7 +157,7 @@ fn client_accepts_nothing(rt: HostRuntime) -> Result<(), Fail> {
     let mut client = made(rt.alloc(), 0o401)?;
     client.host.listen(b"FILE")?;
     let mut link = MemLink::new(rt.alloc(), 8)?;
-    let _ = link.send(0o401, to_datagram(&request()).as_slice());
+    let _ = link.send(0o401, to_datagram(&request(1)).as_slice());
     assert_eq!(rt; asks(&rt, &mut client, &mut link), TurnEnd::Worked);
     assert!(rt; received(&mut link).is_none());
     Ok(())

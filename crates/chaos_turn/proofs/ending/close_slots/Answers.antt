@@ -9,7 +9,7 @@ use Rattle.chaos_turn.proofs.ending.close_slots.Goals.{then-close_slot, else-clo
 pub loop-place-preserved : goal.loop-place-preserved
 loop-place-preserved g c =
     let link = g.L.Link.queue in
-    rw (add-one c.loop-place.place) (one_after (station c.args.host.now (link c.args.link.now) c.args.out.now) (station c.loop-place.host (link c.loop-place.link) c.loop-place.out)
+    rw (add-one c.loop-place.place) (one_after c.args.carriage (station c.args.host.now (link c.args.link.now) c.args.out.now) (station c.loop-place.host (link c.loop-place.link) c.loop-place.out)
     (station c.close_slot.new.host (link c.close_slot.new.link) c.close_slot.new.out)
     (over_slots (close_at c.args.sessions.now) c.loop-place.place c.args.host.now) (close_at c.args.sessions.now c.loop-place.place)
     c.loop-place.sent c.close_slot.result c.if-close_slot.sent c.loop-place.invariant c.close_slot.ensures

@@ -10,7 +10,7 @@ returns g c =
     let done = c.serve_kept in
     let here = c.index_mut-kept.result.now in
     let read = c.index_mut-kept.ensures.value ∙ ap (λ (xs : List Serving). get_or xs c.args.place here) c.sessions.view_is in
-    slot_so (change g.S.Store.contents g.S.Store.may_give g.S.Store.count) here done.new.kept
+    slot_so (change g.S.Store.contents g.S.Store.may_give g.S.Store.count) c.args.carriage here done.new.kept
     c.args.sessions.now _ c.args.store.now done.new.store c.args.place c.in-Some.id c.args.now c.args.host.now done.new.host c.args.out.now done.new.out c.send_all.new.out
     (g.L.Link.queue c.args.link.now) (g.L.Link.queue c.send_all.new.link) c.send_all.result
     (sym c.id_of.ensures ∙ c.in-Some.is) (get_or_read c.args.sessions.now c.args.place here c.requires.within read new_serving)

@@ -1,6 +1,6 @@
 use Rattle.std.proofs.Common.{◌∙◌}
 use Rattle.chaos_turn.proofs.Queue.{all_empty, all_sends, all_told, none_sent, one_less, one_more_sent}
-use Rattle.chaos_turn.proofs.sending.send_all.Goals as goal
+use Rattle.chaos_turn.proofs.sending.send_singly.Goals as goal
 
 pub packets-init : goal.packets-init
 packets-init g c = none_sent (g.L.Link.queue c.args.link.now) c.args.out.now

@@ -1,6 +1,6 @@
 use Rattle.std.proofs.Common.{length}
 use Rattle.chaos_turn.proofs.Queue.{SentSoFar}
-use Rattle.chaos_turn.proofs.sending.send_all.Given as goal
+use Rattle.chaos_turn.proofs.sending.send_singly.Given as goal
 
 abbrev pub invariant-packets : goal.invariant-packets
 invariant-packets g l = SentSoFar (g.L.Link.queue l.fn.link) (g.L.Link.queue l.link) l.fn.out l.out l.sent

@@ -1,0 +1,22 @@
+use Rattle.std.proofs.Common.{◌∙◌, sym}
+use Rattle.chaos_turn.specs.Arrive.{greet}
+use Rattle.chaos_turn.specs.Station.{station}
+use Rattle.chaos_turn.proofs.Several.{either_false, either_true, none_taken, one_more_taken}
+use Rattle.chaos_turn.proofs.arriving.greet_all.Goals as goal
+
+pub packets-init : goal.packets-init
+packets-init g c = none_taken c.args.carriage (greet c.args.start c.args.now) c.args.packets (station c.args.host.now (g.L.Link.queue c.args.link.now) c.args.out.now)
+
+pub packets-preserved-then-greet : goal.packets-preserved-then-greet
+packets-preserved-then-greet g c =
+    let link = g.L.Link.queue in
+    rw c.next.ensures.rest (one_more_taken c.args.carriage (greet c.args.start c.args.now) c.args.packets c.packets.packets c.in-Some.packet
+    (station c.args.host.now (link c.args.link.now) c.args.out.now) (station c.packets.host (link c.packets.link) c.packets.out) (station c.greet.new.host (link c.greet.new.link) c.greet.new.out)
+    c.packets.sent c.greet.result c.greet.result c.packets.invariant (sym c.next.ensures.packet ∙ c.in-Some.is) c.greet.ensures (either_true c.greet.result c.packets.sent c.if-greet.true))
+
+pub packets-preserved : goal.packets-preserved
+packets-preserved g c =
+    let link = g.L.Link.queue in
+    rw c.next.ensures.rest (one_more_taken c.args.carriage (greet c.args.start c.args.now) c.args.packets c.packets.packets c.in-Some.packet
+    (station c.args.host.now (link c.args.link.now) c.args.out.now) (station c.packets.host (link c.packets.link) c.packets.out) (station c.greet.new.host (link c.greet.new.link) c.greet.new.out)
+    c.packets.sent c.greet.result c.packets.sent c.packets.invariant (sym c.next.ensures.packet ∙ c.in-Some.is) c.greet.ensures (either_false c.greet.result c.packets.sent c.if-greet.false))

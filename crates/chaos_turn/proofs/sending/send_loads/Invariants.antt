@@ -1,0 +1,9 @@
+use Rattle.std.proofs.Common.{length}
+use Rattle.chaos_turn.proofs.Loaded.{LoadedSoFar}
+use Rattle.chaos_turn.proofs.sending.send_loads.Given as goal
+
+abbrev pub invariant-packets : goal.invariant-packets
+invariant-packets g l = LoadedSoFar (g.L.Link.queue l.fn.link) (g.L.Link.queue l.link) l.fn.out l.out l.load
+
+abbrev pub decreases-packets : goal.decreases-packets
+decreases-packets g l = length l.out.packets
