@@ -10,6 +10,7 @@ use Rattle.chaosd_file.specs.Exchange.{newly_said, hearing, command_item, eof_it
 use Rattle.chaosd_file.specs.declared.limits.TheConstants.{COMMAND_TURNS, END_TURNS}
 use Rattle.chaos_packet.specs.Outbox.{OutboxView}
 use Rattle.chaos_link.specs.Link.{QueueView}
+use Rattle.chaos_link.specs.declared.carriage.Carriage.{Carriage}
 use Rattle.chaos_host.specs.View.{HostView, Makes}
 use Rattle.chaos_host.specs.declared.fault.MakeFault.{MakeFault}
 
@@ -58,10 +59,10 @@ talks_same first last talk other e t = subst (λ k. Talks first k last) e t
 -- ---- the steps of a client
 
 -- two clients that differ in nothing
-pub same_talker : (host host' : HostView) (to start : ℕ) (is_called : Bool) (id id' : Option ℕ) (out out' : OutboxView) (queue : Option QueueView) → host ≡ host' → id ≡ id' → out ≡ out'
-    → (let first : Talker = record { host = host; to = to; start = start; is_called = is_called; id = id; out = out; queue = queue } in
-    let second : Talker = record { host = host'; to = to; start = start; is_called = is_called; id = id'; out = out'; queue = queue } in first ≡ second)
-same_talker host host' to start is_called id id' out out' queue p q r = rw (p, q, r)
+pub same_talker : (host host' : HostView) (to start : ℕ) (carriage : Carriage) (is_called : Bool) (id id' : Option ℕ) (out out' : OutboxView) (queue : Option QueueView) → host ≡ host' → id ≡ id' → out ≡ out'
+    → (let first : Talker = record { host = host; to = to; start = start; carriage = carriage; is_called = is_called; id = id; out = out; queue = queue } in
+    let second : Talker = record { host = host'; to = to; start = start; carriage = carriage; is_called = is_called; id = id'; out = out'; queue = queue } in first ≡ second)
+same_talker host host' to start carriage is_called id id' out out' queue p q r = rw (p, q, r)
 
 -- it asked for its connection
 pub talks_calling : (c d : Talker) (now : ℕ) → Does c (Calls now) d → Talks c silence d

@@ -12,7 +12,7 @@ use Rattle.chaosd_file.specs.Talk.{Talker, Talk, Talks, silence, after_call, aft
 
 -- what a client is, over the queue that its link is
 abbrev pub talker_of : Client → Option QueueView → Talker
-talker_of c queue = record { host = c.host; to = c.to; start = c.start; is_called = c.is_called; id = c.id; out = c.out; queue = queue }
+talker_of c queue = record { host = c.host; to = c.to; start = c.start; carriage = c.carriage; is_called = c.is_called; id = c.id; out = c.out; queue = queue }
 
 abbrev pub command_item : List ℕ → ItemView
 command_item bytes = record { op = op_data; body = bytes }
@@ -62,7 +62,7 @@ SaysFarewell first last = (talk : Talk) × Talks first talk last × IsFarewell t
 -- All that waits was sent in a turn, or nothing waits.
 abbrev pub SendsOn : Talker → Talker → Type 0
 SendsOn first last = ((first.out.packets ≡ []) × (last ≡ first))
-    ⊎ ((now : ℕ) × (last ≡ after_turn first last.host last.queue) × TakesTurn now first.host last.host first.queue last.queue first.out last.out)
+    ⊎ ((now : ℕ) × (last ≡ after_turn first last.host last.queue) × TakesTurn first.carriage now first.host last.host first.queue last.queue first.out last.out)
 
 abbrev pub HangsUpBy : Talker → Talker → Option ℕ → Type 0
 HangsUpBy first last None = last ≡ first

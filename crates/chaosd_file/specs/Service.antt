@@ -1,6 +1,7 @@
 -- A service, turn after turn.
 use Rattle.std.specs.Prelude.{◌≡◌, zero, suc, ℕ, [], codes, replicate, Option}
 use Rattle.chaos_link.specs.Link.{QueueView}
+use Rattle.chaos_link.specs.declared.carriage.Carriage.{Carriage}
 use Rattle.chaos_file.specs.Store.{StoreChange}
 use Rattle.chaos_conn.specs.Config.{usual_config}
 use Rattle.chaos_host.specs.Listening.{after_listen, listen_fault}
@@ -26,13 +27,13 @@ module _ {S : Type 0} where
   abbrev pub new_service : ℕ → S → Option QueueView → Station (Server S)
   new_service address store queue = station (server (listening_host address) (replicate SERVER_CONNS new_serving) store) queue (record { packets = []; cap = TURN_ROOM })
 
-module _ {S : Type 0} (changes : S → S → StoreChange) where
+module _ {S : Type 0} (changes : S → S → StoreChange) (carriage : Carriage) where
   -- One turn, at some moment; a new connection numbers what it writes from some number on.
   pub record ServesTurn (before after : Station (Server S)) : Type 0 where
     pub start : ℕ
     pub now : ℕ
     pub end : TurnEnd
-    pub turn : RunsTurn changes start now before after end
+    pub turn : RunsTurn changes carriage start now before after end
 
   -- So many turns, one after another.
   abbrev pub ServesTurns : ℕ → Station (Server S) → Station (Server S) → Type 0

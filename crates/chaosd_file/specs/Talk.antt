@@ -4,6 +4,7 @@ use Rattle.std.specs.Result.{result_ok}
 use Rattle.chaos_packet.specs.Item.{ItemView}
 use Rattle.chaos_packet.specs.Outbox.{OutboxView, with_put}
 use Rattle.chaos_link.specs.Link.{QueueView}
+use Rattle.chaos_link.specs.declared.carriage.Carriage.{Carriage}
 use Rattle.chaos_conn.specs.Act.{Read, Write}
 use Rattle.chaos_conn.specs.Config.{usual_config}
 use Rattle.chaos_host.specs.Acted.{HostActed}
@@ -17,23 +18,25 @@ use Rattle.chaos_turn.specs.declared.end.TurnEnd.{TurnEnd}
 use Rattle.chaos_turn.specs.declared.limits.TheConstants.{TURN_ROOM}
 use Rattle.chaosd_file.specs.Client.{call_by, is_wrote, data_read, after_passing}
 
--- A client: its host, whom it asks and from which number on, whether it has asked, its connection, what waits to be sent, and
--- the queue that its link is.
+-- A client: its host, whom it asks and from which number on, how its packets are carried, whether it has asked, its connection,
+-- what waits to be sent, and the queue that its link is.
 pub record Talker : Type 0 where
   pub host : HostView
   pub to : ℕ
   pub start : ℕ
+  pub carriage : Carriage
   pub is_called : Bool
   pub id : Option ℕ
   pub out : OutboxView
   pub queue : Option QueueView
 
 -- a client that has not asked yet, and has passed so many indices over
-abbrev pub new_talker : ℕ → ℕ → ℕ → ℕ → Option QueueView → Talker
-new_talker me to start count queue = record {
+abbrev pub new_talker : Carriage → ℕ → ℕ → ℕ → ℕ → Option QueueView → Talker
+new_talker carriage me to start count queue = record {
   host = after_passing to count (new_host me 1 usual_config);
   to = to;
   start = start;
+  carriage = carriage;
   is_called = false;
   id = None;
   out = record { packets = []; cap = TURN_ROOM };
@@ -76,8 +79,8 @@ module _ {A : Type 0} where
   after_call c acted = record c { host = acted.view; out = with_put c.out acted.packets }
 
 -- A turn of a client's host, in which this became of the packet that came.
-abbrev pub TakesTurn : ℕ → HostView → HostView → Option QueueView → Option QueueView → OutboxView → OutboxView → Type 0
-TakesTurn now old new before after waiting left = (end : TurnEnd) × (told : Option HostDelivered) × RunsClientTurn now (station old before waiting) (station new after left) end told
+abbrev pub TakesTurn : Carriage → ℕ → HostView → HostView → Option QueueView → Option QueueView → OutboxView → OutboxView → Type 0
+TakesTurn carriage now old new before after waiting left = (end : TurnEnd) × (told : Option HostDelivered) × RunsClientTurn carriage now (station old before waiting) (station new after left) end told
 
 -- what a turn makes of a client
 abbrev pub after_turn : Talker → HostView → Option QueueView → Talker
@@ -88,7 +91,7 @@ abbrev pub Does : Talker → Step → Talker → Type 0
 Does c (Calls now) d = (c.is_called ≡ false) × (d ≡ record (after_call c (connect_of now c)) { is_called = true; id = result_ok (connect_of now c).answer })
 Does c (Writes item now taken) d = (taken ≡ is_wrote (write_of item now c).answer) × (d ≡ after_call c (write_of item now c))
 Does c (Reads got) d = (got ≡ data_read (read_of c).answer) × (d ≡ after_call c (read_of c))
-Does c (Turns now) d = (d ≡ after_turn c d.host d.queue) × TakesTurn now c.host d.host c.queue d.queue c.out d.out
+Does c (Turns now) d = (d ≡ after_turn c d.host d.queue) × TakesTurn c.carriage now c.host d.host c.queue d.queue c.out d.out
 
 -- A client took these steps, the last one first.
 abbrev pub Goes : Talker → List Step → Talker → Type 0

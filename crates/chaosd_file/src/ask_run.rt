@@ -15,7 +15,7 @@ use crate::script::run_script;
 use crate::turns::Turns;
 use crate::why::Why;
 use chaos_host::{Host, HostDelivered};
-use chaos_link::Link;
+use chaos_link::{Carriage, Link};
 use chaos_packet::Outbox;
 use chaos_turn::{TurnEnd, client_turn};
 use chaosd_engines::RunFault;
@@ -50,8 +50,9 @@ impl<C: Clock, L: Link> Turns for Timed<'_, C, L> {
         now: u64,
         out: &mut Outbox,
         told: &mut Option<HostDelivered>,
+        carriage: Carriage,
     ) -> Result<(), RunFault> {
-        match client_turn(host, self.link, now, out, told) {
+        match client_turn(host, self.link, now, out, told, carriage) {
             TurnEnd::LinkFault => Err(RunFault::LinkFault),
             _ => Ok(()),
         }
@@ -63,7 +64,7 @@ impl<C: Clock, L: Link> Turns for Timed<'_, C, L> {
 /// It does what [`crate::run_loop`] does, but a turn is one of the client alone, and the clock tells the moments: milliseconds since
 /// the run began. The connection begins with the number that the low 16 bits of the clock's milliseconds since 1970 tell. Its
 /// index is one that a run before it from the same address is unlikely to have had: as many indices as the low 8 bits tell are
-/// passed over.
+/// passed over. What it sends goes out by the carriage; datagrams of both versions are read.
 ///
 /// In `why` it leaves what is wrong with a bad line, and why a command got no reply, in words for a user; no clause speaks of it.
 ///
@@ -78,6 +79,7 @@ pub fn run_ask<C: Clock, R: Read, W: Write, L: Link>(
     me: u16,
     to: u16,
     why: &mut Option<Why>,
+    carriage: Carriage,
 ) -> Result<ScriptEnd, RunFault>
     requires { 0 < me }
     // It ends well only where the link's count of failures didn't rise.
@@ -90,7 +92,7 @@ pub fn run_ask<C: Clock, R: Read, W: Write, L: Link>(
     ensures text { IfOk result (λ end. PrintsScript end (W.contents writer.old) (W.contents writer.new)) }
     // What its connection wrote are the commands of these lines, in order, and then an EOF, and what was printed are the data that it
     // read, in order.
-    ensures talk { (millis : ℕ) × IfOk result (λ end. Converses (new_talker me to (millis % 65536) (millis % 256) (L.queue link.old)) (L.queue link.new) (R.remaining reader.old) (W.contents writer.old) (W.contents writer.new) end) }
+    ensures talk { (millis : ℕ) × IfOk result (λ end. Converses (new_talker carriage me to (millis % 65536) (millis % 256) (L.queue link.old)) (L.queue link.new) (R.remaining reader.old) (W.contents writer.old) (W.contents writer.new) end) }
     // The commands are the first lines; where each got a reply they are all lines, and the input was read to its end.
     ensures tried { IfOk result (λ end. IfSome (R.remaining reader.old) (λ input. BeginWithCommands end.commands (lines_within input))) }
     ensures whole { IfOk result (λ end. end.replied ≡ end.commands
@@ -110,7 +112,14 @@ pub fn run_ask<C: Clock, R: Read, W: Write, L: Link>(
         → RepliesRead (R.remaining reader.old) (R.remaining reader.new) (W.contents writer.old) (W.contents writer.new) }
 {
     let beginning = Beginning::new(clock)?;
-    let mut client = Client::new(alloc, me, to, beginning.number(0), beginning.low_bits())?;
+    let mut client = Client::new(
+        alloc,
+        me,
+        to,
+        beginning.number(0),
+        beginning.low_bits(),
+        carriage,
+    )?;
     let mut turns = Timed {
         clock,
         link,

@@ -14,6 +14,7 @@ use crate::patience::{NoReply, Patience};
 use crate::turns::Turns;
 use chaos_conn::{ConnConfig, ReadEnd};
 use chaos_host::{CallFault, ConnId, Host};
+use chaos_link::Carriage;
 use chaos_packet::{Opcode, Outbox, PktNum};
 use chaos_serve::CONTACT;
 use chaos_turn::TURN_ROOM;
@@ -29,6 +30,8 @@ pub struct Client {
     to: u16,
     /// The number that the connection begins with.
     start: PktNum,
+    /// How its packets are carried.
+    carriage: Carriage,
     /// Whether the connection was asked for.
     is_called: bool,
     id: Option<ConnId>,
@@ -43,13 +46,21 @@ impl Client {
     ghost use Rattle.chaosd_file.specs.Talk.{Talks, new_talker, silence};
     ghost use Rattle.chaosd_file.specs.Exchange.{talker_of, Exchanges, SaysFarewell, HangsUp, WritesOnce, WritesAndTurns, hearing};
 
-    /// A host with this address, which will ask the server at `to`. Its connection begins with the number `start`.
+    /// A host with this address, which will ask the server at `to`. Its connection begins with the number `start`, and its
+    /// packets go out by the carriage.
     ///
     /// So many indices are used up before: each by a connection that is asked for and given up at once, whose request isn't sent.
-    pub fn new(alloc: Global, me: u16, to: u16, start: PktNum, passed: u8) -> Result<Self, RunFault>
+    pub fn new(
+        alloc: Global,
+        me: u16,
+        to: u16,
+        start: PktNum,
+        passed: u8,
+        carriage: Carriage,
+    ) -> Result<Self, RunFault>
         requires { 0 < me }
         ensures faults { IfErr result (λ fault. fault ≡ RunFault.NoMemory) }
-        ensures made { (queue : Option QueueView) → IfOk result (λ client. talker_of client queue ≡ new_talker me to start passed queue) }
+        ensures made { (queue : Option QueueView) → IfOk result (λ client. talker_of client queue ≡ new_talker carriage me to start passed queue) }
     {
         let Ok(mut host) = Host::new(alloc, me, 1, ConnConfig::usual()) else {
             return Err(RunFault::NoMemory);
@@ -63,6 +74,7 @@ impl Client {
             out,
             to,
             start,
+            carriage,
             is_called: false,
             id: None,
             patience: Patience::new(),
@@ -153,7 +165,7 @@ impl Client {
             return Ok(());
         }
         let mut told = None;
-        turns.turn(&mut self.host, now, &mut self.out, &mut told)
+        turns.turn(&mut self.host, now, &mut self.out, &mut told, self.carriage)
     }
 
     /// One turn, before which the item is written where it isn't yet and there is room. Says whether it is written.
@@ -175,7 +187,7 @@ impl Client {
         let is_written = is_written
             || write(&mut self.host, self.id, op, bytes, now, &mut self.out);
         let mut told = None;
-        turns.turn(&mut self.host, now, &mut self.out, &mut told)?;
+        turns.turn(&mut self.host, now, &mut self.out, &mut told, self.carriage)?;
         self.patience.note(now, told);
         Ok(is_written)
     }

@@ -17,7 +17,7 @@ use crate::turns::Turns;
 use crate::why::Why;
 use chaos_file::MemStore;
 use chaos_host::{Host, HostDelivered};
-use chaos_link::Link;
+use chaos_link::{Carriage, Link};
 use chaos_packet::Outbox;
 use chaos_turn::{TurnEnd, client_turn};
 use chaosd_engines::RunFault;
@@ -55,12 +55,18 @@ impl<A: Link, B: Link> Turns for Both<'_, A, B> {
         now: u64,
         out: &mut Outbox,
         told: &mut Option<HostDelivered>,
+        carriage: Carriage,
     ) -> Result<(), RunFault> {
         self.turns = self.turns.saturating_add(1);
-        let asked = client_turn(host, self.near, now, out, told);
-        let served = self
-            .server
-            .turn(self.alloc, self.store, self.far, LOOP_SERVER_START, now);
+        let asked = client_turn(host, self.near, now, out, told, carriage);
+        let served = self.server.turn(
+            self.alloc,
+            self.store,
+            self.far,
+            LOOP_SERVER_START,
+            now,
+            carriage,
+        );
         if asked == TurnEnd::LinkFault || served == TurnEnd::LinkFault {
             Err(RunFault::LinkFault)
         } else {
@@ -78,7 +84,7 @@ impl<A: Link, B: Link> Turns for Both<'_, A, B> {
 /// one of the server, and moments are turns times 10 milliseconds. Where a command gets no reply, also since the connection ended,
 /// `no reply` is printed and the run ends. Behind the last command an EOF is sent, which waits 100 turns at most to be
 /// acknowledged. The connection is then closed, also after a fault of the script, the reader or the writer. A script without
-/// lines asks for no connection.
+/// lines asks for no connection. What both ends send goes out by the carriage; datagrams of both versions are read.
 ///
 /// The first fault is the answer. The cost is a look at each byte and the turns, of which a command mostly takes two; the hosts take
 /// their memory first, and later only the server's files take some.
@@ -96,6 +102,7 @@ pub fn run_loop<R: Read, W: Write, A: Link, B: Link>(
     link_a: &mut A,
     link_b: &mut B,
     why: &mut Option<Why>,
+    carriage: Carriage,
 ) -> Result<ScriptEnd, RunFault>
     // It ends well only where the links' counts of failures, together, didn't rise.
     ensures well { OnOk result (A.count link_a.new + B.count link_b.new ≤ A.count link_a.old + B.count link_b.old) }
@@ -107,7 +114,7 @@ pub fn run_loop<R: Read, W: Write, A: Link, B: Link>(
     ensures text { IfOk result (λ end. PrintsScript end (W.contents writer.old) (W.contents writer.new)) }
     // What its connection wrote are the commands of these lines, in order, and then an EOF, and what was printed are the data that it
     // read, in order.
-    ensures talk { IfOk result (λ end. Converses (new_talker LOOP_CLIENT LOOP_SERVER 65534 0 (A.queue link_a.old)) (A.queue link_a.new) (R.remaining reader.old) (W.contents writer.old) (W.contents writer.new) end) }
+    ensures talk { IfOk result (λ end. Converses (new_talker carriage LOOP_CLIENT LOOP_SERVER 65534 0 (A.queue link_a.old)) (A.queue link_a.new) (R.remaining reader.old) (W.contents writer.old) (W.contents writer.new) end) }
     // The commands are the first lines; where each got a reply they are all lines, and the input was read to its end.
     ensures tried { IfOk result (λ end. IfSome (R.remaining reader.old) (λ input. BeginWithCommands end.commands (lines_within input))) }
     ensures whole { IfOk result (λ end. end.replied ≡ end.commands
@@ -137,6 +144,7 @@ pub fn run_loop<R: Read, W: Write, A: Link, B: Link>(
         &mut server,
         &mut store,
         why,
+        carriage,
     )
 }
 
@@ -150,13 +158,21 @@ fn run_between<R: Read, W: Write, A: Link, B: Link>(
     server: &mut Server,
     store: &mut MemStore,
     why: &mut Option<Why>,
+    carriage: Carriage,
 ) -> Result<ScriptEnd, RunFault>
     ensures runs { Runs (R.remaining reader.old) (R.remaining reader.new) (W.contents writer.old) (W.contents writer.new) result }
-    ensures talk { IfOk result (λ end. Converses (new_talker LOOP_CLIENT LOOP_SERVER 65534 0 (A.queue near.old)) (A.queue near.new) (R.remaining reader.old) (W.contents writer.old) (W.contents writer.new) end) }
+    ensures talk { IfOk result (λ end. Converses (new_talker carriage LOOP_CLIENT LOOP_SERVER 65534 0 (A.queue near.old)) (A.queue near.new) (R.remaining reader.old) (W.contents writer.old) (W.contents writer.new) end) }
     ensures failed { result ≡ Err RunFault.LinkFault → 0 < A.count near.new + B.count far.new }
     ensures well { OnOk result (A.count near.new + B.count far.new ≤ A.count near.old + B.count far.old) }
 {
-    let mut client = Client::new(alloc, LOOP_CLIENT, LOOP_SERVER, LOOP_CLIENT_START, 0)?;
+    let mut client = Client::new(
+        alloc,
+        LOOP_CLIENT,
+        LOOP_SERVER,
+        LOOP_CLIENT_START,
+        0,
+        carriage,
+    )?;
     let mut turns = Both {
         alloc,
         near,

@@ -7,7 +7,7 @@ ghost use Rattle.chaosd_file.specs.Service.{Serves};
 use crate::clock::Beginning;
 use crate::server::Server;
 use chaos_file::Store;
-use chaos_link::Link;
+use chaos_link::{Carriage, Link};
 use chaos_turn::TurnEnd;
 use chaosd_engines::RunFault;
 use std::alloc::Global;
@@ -18,7 +18,7 @@ use std::time::Clock;
 ///
 /// Moments are milliseconds since the run began, by the clock; a connection begins with the number that the low 16 bits of the
 /// clock's milliseconds since 1970 tell then. A command in which the store fails is answered so, and the service goes on. A turn
-/// waits only as the link does. The host takes its memory first, and later only files take some.
+/// waits only as the link does; what it sends goes out by the carriage, and datagrams of both versions are read. The host takes its memory first, and later only files take some.
 ///
 /// # Errors
 /// [`RunFault`]: 4 where there is no memory for the host, 6 where the link failed, after the turn in which it did, 7 where the clock
@@ -30,11 +30,12 @@ pub fn run_serve<C: Clock, L: Link, S: Store>(
     store: &mut S,
     me: u16,
     turns: u64,
+    carriage: Carriage,
 ) -> Result<(), RunFault>
     requires { 0 < me }
     ensures faults { IfErr result IsServiceFault }
     // Where it ends well it made all its turns.
-    ensures turns { OnOk result (Serves (change S.contents S.may_give S.count) turns me store.old store.new (L.queue link.old) (L.queue link.new)) }
+    ensures turns { OnOk result (Serves (change S.contents S.may_give S.count) carriage turns me store.old store.new (L.queue link.old) (L.queue link.new)) }
     // It ends well only where the link's count of failures didn't rise, and by LinkFault only where failures were counted.
     ensures well { OnOk result (L.count link.new ≤ L.count link.old) }
     ensures failed { result ≡ Err RunFault.LinkFault → 0 < L.count link.new }
@@ -43,7 +44,7 @@ pub fn run_serve<C: Clock, L: Link, S: Store>(
     let mut server = Server::new(alloc, me)?;
     for turn in 0..turns {
         let now = beginning.moment(clock)?;
-        let end = server.turn(alloc, store, link, beginning.number(now), now);
+        let end = server.turn(alloc, store, link, beginning.number(now), now, carriage);
         if end == TurnEnd::LinkFault {
             return Err(RunFault::LinkFault);
         }

@@ -6,7 +6,7 @@ use crate::limits::SERVER_CONNS;
 use chaos_conn::ConnConfig;
 use chaos_file::Store;
 use chaos_host::Host;
-use chaos_link::Link;
+use chaos_link::{Carriage, Link};
 use chaos_packet::{Outbox, PktNum};
 use chaos_serve::CONTACT;
 use chaos_turn::{Sessions, TURN_ROOM, TurnEnd, run_turn};
@@ -55,7 +55,7 @@ impl Server {
         })
     }
 
-    /// One turn. A new connection numbers what it writes from `start` on.
+    /// One turn, whose packets go out by the carriage. A new connection numbers what it writes from `start` on.
     pub fn turn<S: Store, L: Link>(
         &mut self,
         alloc: Global,
@@ -63,9 +63,10 @@ impl Server {
         link: &mut L,
         start: PktNum,
         now: u64,
+        carriage: Carriage,
     ) -> TurnEnd
         ensures fault { (result ≡ TurnEnd.LinkFault) ↔ Rose (L.count link.old) (L.count link.new) }
-        ensures serves { ServesTurn (change S.contents S.may_give S.count) (service_of self.old store.old (L.queue link.old)) (service_of self.new store.new (L.queue link.new)) }
+        ensures serves { ServesTurn (change S.contents S.may_give S.count) carriage (service_of self.old store.old (L.queue link.old)) (service_of self.new store.new (L.queue link.new)) }
     {
         run_turn(
             alloc,
@@ -76,6 +77,7 @@ impl Server {
             start,
             now,
             &mut self.out,
+            carriage,
         )
     }
 }

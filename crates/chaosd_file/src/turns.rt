@@ -6,6 +6,7 @@ ghost use Rattle.chaosd_file.specs.Fault.{IsTurnFault};
 ghost use Rattle.chaosd_file.specs.Talk.{TakesTurn};
 
 use chaos_host::{Host, HostDelivered};
+use chaos_link::Carriage;
 use chaos_packet::Outbox;
 use chaos_turn::TURN_ROOM;
 use chaosd_engines::RunFault;
@@ -28,8 +29,8 @@ pub trait Turns {
     fn now(&self) -> Result<u64, RunFault>
         ensures { IfErr result (λ fault. fault ≡ RunFault.ClockFault) };
 
-    /// One turn, of the client's host and of all that takes part. What waits in the outbox is sent, and what became of the packet
-    /// that came is left in `told`.
+    /// One turn, of the client's host and of all that takes part. What waits in the outbox is sent by this carriage, and what became
+    /// of the last packet that came is left in `told`.
     ///
     /// # Errors
     /// `LinkFault` where a link failed in the turn, which went on to its end.
@@ -39,9 +40,10 @@ pub trait Turns {
         now: u64,
         out: &mut Outbox,
         told: &mut Option<HostDelivered>,
+        carriage: Carriage,
     ) -> Result<(), RunFault>
         requires { TURN_ROOM ≤ out.old.cap }
-        ensures turned { TakesTurn now host.old host.new (queue self.old) (queue self.new) out.old out.new }
+        ensures turned { TakesTurn carriage now host.old host.new (queue self.old) (queue self.new) out.old out.new }
         ensures sent { out.new ≡ record { packets = []; cap = out.old.cap } }
         ensures same_links { links self.new ≡ links self.old }
         // It ends well only where no link's count rose.

@@ -2,7 +2,7 @@
 use super::fakes::{Screen, Stopped, Typist};
 use super::links::{Answering, Away, Watched, linked, received};
 use super::scripts::{FILE_REPLIES, FILE_SCRIPT, all, logins};
-use chaos_link::MemLink;
+use chaos_link::{Carriage, MemLink};
 use chaos_packet::{Opcode, PktNum};
 use chaosd_engines::{REFUSED, RunFault};
 use chaosd_file::{ScriptEnd, run_ask, run_loop, script_status};
@@ -30,6 +30,7 @@ fn loop_without_a_way_ends_without_reply(rt: HostRuntime) -> Result<(), Fail> {
         &mut near,
         &mut far,
         &mut None,
+        Carriage::One,
     );
     assert_eq!(rt; end, NONE);
     assert_eq!(rt; out.as_slice(), b"no reply\n".as_slice());
@@ -51,6 +52,7 @@ fn ask_without_a_peer_ends_without_reply(rt: HostRuntime) -> Result<(), Fail> {
         0o401,
         0o402,
         &mut None,
+        Carriage::One,
     );
     assert_eq!(rt; end, NONE);
     assert_eq!(rt; out.as_slice(), b"no reply\n".as_slice());
@@ -74,6 +76,7 @@ fn ask_passes_indices_over(rt: HostRuntime) -> Result<(), Fail> {
         0o401,
         0o402,
         &mut None,
+        Carriage::One,
     );
     assert_eq!(rt; end, NONE);
     let rfc = received(&mut link.sent).ok_or("a request")?;
@@ -97,6 +100,7 @@ fn connection_is_closed_after_a_bad_line(rt: HostRuntime) -> Result<(), Fail> {
         &mut near,
         &mut far,
         &mut None,
+        Carriage::One,
     );
     assert_eq!(rt; end, Err(RunFault::BadScript(2)));
     assert_eq!(rt; Opcode(near.last), Opcode::CLS);
@@ -117,6 +121,7 @@ fn thousand_commands_are_quick(rt: HostRuntime) -> Result<(), Fail> {
         &mut near,
         &mut far,
         &mut None,
+        Carriage::One,
     );
     let spent = start.elapsed(&rt)?.as_millis();
     assert_eq!(rt; end, all(1_000));
@@ -146,6 +151,7 @@ fn each_reply_is_seen_before_the_next_line(rt: HostRuntime) -> Result<(), Fail> 
         &mut near,
         &mut far,
         &mut None,
+        Carriage::One,
     );
     assert_eq!(rt; end, all(5));
     assert_eq!(rt; (typist.reads, typist.missing), (6, 0));
@@ -168,6 +174,7 @@ fn asks(
         0o401,
         0o402,
         &mut None,
+        Carriage::One,
     )
 }
 

@@ -3,7 +3,7 @@ use super::fakes::{FuseReader, FuseWriter, Stopped};
 use super::links::linked;
 use super::scripts::{FILE_REPLIES, FILE_SCRIPT, all};
 use chaos_file::MemStore;
-use chaos_link::{FuseLink, MemLink};
+use chaos_link::{Carriage, FuseLink, MemLink};
 use chaosd_engines::{FAULT, RunFault};
 use chaosd_file::{run_ask, run_loop, run_serve, script_status, serve_status};
 use std::alloc::AllocGlobal;
@@ -27,6 +27,7 @@ fn reader_fails(rt: HostRuntime) -> Result<(), Fail> {
             &mut near,
             &mut far,
             &mut None,
+            Carriage::One,
         );
         assert!(rt; FILE_REPLIES.starts_with(out.as_slice()), "{left}");
         let wanted = if left < 18 {
@@ -53,6 +54,7 @@ fn writer_fails(rt: HostRuntime) -> Result<(), Fail> {
                 &mut near,
                 &mut far,
                 &mut None,
+                Carriage::One,
             );
             let taken = writer.taken.as_slice();
             assert!(rt; FILE_REPLIES.starts_with(taken), "{most} {left}");
@@ -81,6 +83,7 @@ fn link_fails(rt: HostRuntime) -> Result<(), Fail> {
             &mut near,
             &mut far,
             &mut None,
+            Carriage::One,
         );
         assert!(rt; FILE_REPLIES.starts_with(out.as_slice()), "{call}");
         if end == all(7) {
@@ -107,11 +110,20 @@ fn clock_fails(rt: HostRuntime) -> Result<(), Fail> {
             0o401,
             0o402,
             &mut None,
+            Carriage::One,
         );
         assert_eq!(rt; end, Err(RunFault::ClockFault), "{left}");
         let mut store = MemStore::new(rt.alloc());
         let clock = Stopped::new(0, left);
-        let served = run_serve(&clock, rt.alloc(), &mut link, &mut store, 0o401, 10);
+        let served = run_serve(
+            &clock,
+            rt.alloc(),
+            &mut link,
+            &mut store,
+            0o401,
+            10,
+            Carriage::One,
+        );
         assert_eq!(rt; served, Err(RunFault::ClockFault), "{left}");
         assert_eq!(rt; serve_status(&served), FAULT);
     }

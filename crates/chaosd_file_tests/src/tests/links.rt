@@ -5,7 +5,9 @@ ghost use Rattle.chaos_turn.specs.declared.limits.TheConstants.{TURN_ROOM};
 use chaos_conn::ConnConfig;
 use chaos_file::MemStore;
 use chaos_host::Host;
-use chaos_link::{LINK_ROOM, Link, MemLink, Peer, Peers, Received, Sent, UdpLink, from_datagram};
+use chaos_link::{
+    Carriage, LINK_ROOM, Link, MemLink, Peer, Peers, Received, Sent, UdpLink, from_datagram,
+};
 use chaos_packet::{Outbox, Packet, PktNum};
 use chaos_serve::CONTACT;
 use chaos_turn::{Sessions, TURN_ROOM, run_turn};
@@ -187,6 +189,7 @@ impl Link for Answering {
             start,
             0,
             &mut self.out,
+            Carriage::One,
         );
         self.crossing.sends.receive(buffer)
     }

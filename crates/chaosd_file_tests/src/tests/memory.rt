@@ -2,7 +2,7 @@
 use super::links::linked;
 use super::scripts::{FILE_REPLIES, FILE_SCRIPT, all};
 use chaos_file::MemStore;
-use chaos_link::MemLink;
+use chaos_link::{Carriage, MemLink};
 use chaosd_engines::{NO_MEMORY, RunFault};
 use chaosd_file::{run_loop, run_serve, script_status, serve_status};
 use std::alloc::{AllocGlobal, Global};
@@ -46,6 +46,7 @@ fn loop_tells_want_of_memory(rt: HostRuntime) -> Result<(), Fail> {
         &mut near,
         &mut far,
         &mut None,
+        Carriage::One,
     );
     if end == all(7) {
         if out.others > 0 {
@@ -64,7 +65,15 @@ fn loop_tells_want_of_memory(rt: HostRuntime) -> Result<(), Fail> {
 fn serve_tells_want_of_memory(rt: HostRuntime) -> Result<(), Fail> {
     let mut link = MemLink::new(rt.alloc(), 1)?;
     let mut store = MemStore::new(rt.alloc());
-    let end = run_serve(&rt, rt.alloc(), &mut link, &mut store, 0o401, 1);
+    let end = run_serve(
+        &rt,
+        rt.alloc(),
+        &mut link,
+        &mut store,
+        0o401,
+        1,
+        Carriage::One,
+    );
     if end.is_err() {
         println!(rt; "met")?;
         assert_eq!(rt; end, Err(RunFault::NoMemory));

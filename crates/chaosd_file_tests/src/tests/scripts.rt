@@ -1,5 +1,6 @@
 //! Scripts and what they print.
 use super::links::linked;
+use chaos_link::Carriage;
 use chaosd_engines::{BAD_SCRIPT, DONE, RunFault};
 use chaosd_file::{ScriptEnd, run_loop, script_status};
 use std::alloc::AllocGlobal;
@@ -23,12 +24,24 @@ pub fn all(count: u64) -> Result<ScriptEnd, RunFault> {
     })
 }
 
-/// The script prints this text over two sockets, and ends so.
+/// The script prints this text over two sockets, and ends so, under both carriages.
 fn prints(
     rt: &(impl Abort + AllocGlobal + Net),
     script: &[u8],
     text: &[u8],
     wanted: Result<ScriptEnd, RunFault>,
+) -> Result<(), Fail> {
+    prints_by(rt, script, text, wanted, Carriage::One)?;
+    prints_by(rt, script, text, wanted, Carriage::Two)
+}
+
+/// The script prints this text over two sockets under this carriage, and ends so.
+fn prints_by(
+    rt: &(impl Abort + AllocGlobal + Net),
+    script: &[u8],
+    text: &[u8],
+    wanted: Result<ScriptEnd, RunFault>,
+    carriage: Carriage,
 ) -> Result<(), Fail> {
     let (mut near, mut far) = linked(rt)?;
     let mut out = Vec::new(rt.alloc());
@@ -39,6 +52,7 @@ fn prints(
         &mut near,
         &mut far,
         &mut None,
+        carriage,
     );
     assert_eq!(rt; out.as_slice(), text);
     assert_eq!(rt; end, wanted);

@@ -3,7 +3,7 @@ use super::fakes::{Moving, Stopped};
 use super::links::received;
 use super::puppet::{Part, Puppet};
 use chaos_file::MemStore;
-use chaos_link::{Link, MemLink, to_datagram};
+use chaos_link::{Carriage, Link, MemLink, to_datagram};
 use chaos_packet::{Item, Opcode, Packet, PktNum};
 use chaosd_engines::{DONE, RunFault};
 use chaosd_file::{run_serve, serve_status};
@@ -31,7 +31,15 @@ fn request() -> Packet {
 fn ten_turns_without_peers(rt: HostRuntime) -> Result<(), Fail> {
     let mut link = MemLink::new(rt.alloc(), 8)?;
     let mut store = MemStore::new(rt.alloc());
-    let end = run_serve(&rt, rt.alloc(), &mut link, &mut store, 0o401, 10);
+    let end = run_serve(
+        &rt,
+        rt.alloc(),
+        &mut link,
+        &mut store,
+        0o401,
+        10,
+        Carriage::One,
+    );
     assert_eq!(rt; end, Ok(()));
     assert_eq!(rt; serve_status(&end), DONE);
     Ok(())
@@ -44,7 +52,15 @@ fn request_is_accepted(rt: HostRuntime) -> Result<(), Fail> {
     let mut store = MemStore::new(rt.alloc());
     let _ = link.send(0o401, to_datagram(&request()).as_slice());
     let clock = Stopped::new(3 * 65_536 + 77, u64::MAX);
-    let end = run_serve(&clock, rt.alloc(), &mut link, &mut store, 0o401, 1);
+    let end = run_serve(
+        &clock,
+        rt.alloc(),
+        &mut link,
+        &mut store,
+        0o401,
+        1,
+        Carriage::One,
+    );
     assert_eq!(rt; end, Ok(()));
     let opn = received(&mut link).ok_or("an OPN")?;
     assert_eq!(rt;
@@ -68,7 +84,15 @@ fn number_goes_with_the_clock(rt: HostRuntime) -> Result<(), Fail> {
         step: 7,
         looks: Cell::new(0),
     };
-    let end = run_serve(&clock, rt.alloc(), &mut link, &mut store, 0o401, 3);
+    let end = run_serve(
+        &clock,
+        rt.alloc(),
+        &mut link,
+        &mut store,
+        0o401,
+        3,
+        Carriage::One,
+    );
     assert_eq!(rt; end, Ok(()));
     assert_eq!(rt; clock.looks.get(), 4);
     let opn = received(&mut link).ok_or("an OPN")?;
@@ -85,7 +109,15 @@ fn all_turns_are_made(rt: HostRuntime) -> Result<(), Fail> {
     };
     let mut link = Puppet::new(rt.alloc(), part)?;
     let mut store = MemStore::new(rt.alloc());
-    let end = run_serve(&rt, rt.alloc(), &mut link, &mut store, 0o401, 1_000);
+    let end = run_serve(
+        &rt,
+        rt.alloc(),
+        &mut link,
+        &mut store,
+        0o401,
+        1_000,
+        Carriage::One,
+    );
     assert_eq!(rt; end, Ok(()));
     assert_eq!(rt; link.log.receives, 1_000);
     Ok(())

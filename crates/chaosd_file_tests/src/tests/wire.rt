@@ -3,6 +3,7 @@ use super::fakes::Stopped;
 use super::links::linked;
 use super::puppet::{Part, Puppet};
 use super::scripts::all;
+use chaos_link::Carriage;
 use chaos_packet::{Opcode, PktNum};
 use chaosd_engines::RunFault;
 use chaosd_file::{BadLine, ScriptEnd, Why, run_ask, run_loop};
@@ -43,6 +44,7 @@ fn asks(
         0o401,
         0o402,
         why,
+        Carriage::One,
     );
     Ok((end, link))
 }
@@ -146,6 +148,7 @@ fn loop_asks_again_each_fifty_turns(rt: HostRuntime) -> Result<(), Fail> {
         &mut near,
         &mut far,
         &mut why,
+        Carriage::One,
     );
     assert_eq!(rt; end.map(|end| end.replied), Ok(0));
     assert_eq!(rt; (near.log.receives, far.log.receives), (1_000, 1_000));
@@ -179,6 +182,7 @@ fn bad_line_is_explained(rt: HostRuntime) -> Result<(), Fail> {
             &mut near,
             &mut far,
             &mut why,
+            Carriage::One,
         );
         assert_eq!(rt; end, Err(RunFault::BadScript(1)));
         assert_eq!(rt; why, Some(Why::BadLine(wanted)));
@@ -204,6 +208,7 @@ fn first_fault_is_the_answer(rt: HostRuntime) -> Result<(), Fail> {
         &mut near,
         &mut far,
         &mut None,
+        Carriage::One,
     );
     assert_eq!(rt; end, Err(RunFault::BadScript(1)));
     assert!(rt; reader.len() > 1_048_576, "{}", reader.len());

@@ -7,5 +7,5 @@ use Rattle.chaosd_file.proofs.serve_run.run_serve.Given as goal
 abbrev pub invariant-loop-turn : goal.invariant-loop-turn
 invariant-loop-turn g l = record {
   well : g.L.Link.count l.link ≤ g.L.Link.count l.fn.link;
-  made : ServesTurns (change g.S.Store.contents g.S.Store.may_give g.S.Store.count) l.turn (new_service l.me l.fn.store (g.L.Link.queue l.fn.link)) (service_of l.server l.store (g.L.Link.queue l.link));
+  made : ServesTurns (change g.S.Store.contents g.S.Store.may_give g.S.Store.count) l.carriage l.turn (new_service l.me l.fn.store (g.L.Link.queue l.fn.link)) (service_of l.server l.store (g.L.Link.queue l.link));
 }

@@ -7,4 +7,4 @@ pub returns-clause-talk : goal.returns-clause-talk
 returns-clause-talk c queue =
     let does = c.read-read.ensures in
     talks_read _ _ c.in_ok-id.id _ c.in_ok-id.was (c.data_of.ensures ∙ ap data_read does.answers)
-    (same_talker _ _ c.args.self.now.to c.args.self.now.start c.args.self.now.is_called _ _ _ _ queue does.view refl does.packets)
+    (same_talker _ _ c.args.self.now.to c.args.self.now.start c.args.self.now.carriage c.args.self.now.is_called _ _ _ _ queue does.view refl does.packets)

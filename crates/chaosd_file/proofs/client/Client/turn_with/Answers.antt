@@ -16,15 +16,15 @@ returns-clause-talk g c =
           let turned = rw w.self-is at c.turn.ensures.turned in
           let sent = rw w.self-is at c.turn.ensures.sent in
           rw (w.is_written-is ∙ w.if-is_written.true) (talks_turning _ first _ item c.args.is_written _ c.in_ok-now.now (talks_written first item c.args.is_written w.if-is_written.true)
-          (same_talker _ _ old.to old.start old.is_called _ _ _ _ (g.T.Turns.queue c.turn.new.self) refl refl sent, turned))
+          (same_talker _ _ old.to old.start old.carriage old.is_called _ _ _ _ (g.T.Turns.queue c.turn.new.self) refl refl sent, turned))
           )
       | else-is_written w ↦ (
           let turned = rw w.self-is at c.turn.ensures.turned in
           let sent = rw w.self-is at c.turn.ensures.sent in
           let wrote = w.write-is_written.ensures in
-          let mid : Talker = record { host = w.write-is_written.new.host; to = old.to; start = old.start; is_called = old.is_called; id = old.id; out = w.write-is_written.new.out; queue = g.T.Turns.queue c.args.turns.now } in
+          let mid : Talker = record { host = w.write-is_written.new.host; to = old.to; start = old.start; carriage = old.carriage; is_called = old.is_called; id = old.id; out = w.write-is_written.new.out; queue = g.T.Turns.queue c.args.turns.now } in
           rw (w.is_written-is, w.if-is_written.false) (talks_turning _ mid _ item _ w.write-is_written.result c.in_ok-now.now
-          (talks_writing first mid item c.in_ok-now.now _ (wrote.told, same_talker _ _ old.to old.start old.is_called _ _ _ _ (g.T.Turns.queue c.args.turns.now) wrote.host refl wrote.out))
-          (same_talker _ _ old.to old.start old.is_called _ _ _ _ (g.T.Turns.queue c.turn.new.self) refl refl sent, turned))
+          (talks_writing first mid item c.in_ok-now.now _ (wrote.told, same_talker _ _ old.to old.start old.carriage old.is_called _ _ _ _ (g.T.Turns.queue c.args.turns.now) wrote.host refl wrote.out))
+          (same_talker _ _ old.to old.start old.carriage old.is_called _ _ _ _ (g.T.Turns.queue c.turn.new.self) refl refl sent, turned))
           )
     ]
