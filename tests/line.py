@@ -34,6 +34,20 @@ BAD_PEERS = [
     "0000402=127.0.0.1:1", "402=127.0.0.1:0", "402==127.0.0.1:1", "402 =127.0.0.1:1", "402=403=127.0.0.1:1",
 ]
 
+CARRIAGE_FORM = "1 or 2"
+WINDOW_FORM = "a decimal number without leading zeros, from 1 to 64"
+LOGIN_FORM = "1 to 16 letters and digits"
+PATH_FORM = "(1 to 64 letters, digits, dots, hyphens and underscores, no dot in front)"
+PATHS_FORM = f"paths of FILE {PATH_FORM}, each once"
+AS_FORM = f"a path of FILE {PATH_FORM}, and one LOCAL alone"
+LOCALS_FORM = "files whose last names are paths of FILE, each once; name one by --as"
+OUTPUT_FORM = "one PATH alone"
+
+BAD_CARRIAGES = ["", "0", "3", "01", "02", "+1", "1 ", " 2", "one", "12"]
+BAD_WINDOWS = ["", "0", "00", "01", "65", "+1", "x", "1x", " 1", "1.5", "0x1", "65536", "65600"]
+BAD_LOGINS = ["", "A.B", "A B", "ABCDEFGHIJKLMNOPQ", "č"]
+BAD_PATHS = ["", ".", ".A", "..", "A/B", "/A", "A B", "A*", "č", "A" * 65]
+
 HELP = {
     "--help": [
         "Usage: chaosd <COMMAND>\n",
@@ -43,24 +57,46 @@ HELP = {
         "  loop     A FILE script from standard input, put by one host to another in this process, to its replies\n",
         "  serve    The files of a folder, served to other hosts\n",
         "  ask      A FILE script from standard input, put to another host, to its replies\n",
+        "  get      Files of another host, into local files of their names\n",
+        "  put      Local files, to another host under their names\n",
+        "  0  done, or help or the version was shown\n",
         "  3  something was refused, or no reply came\n",
+        "  -V, --version  Print version\n",
     ],
     "help show": ["Usage: chaosd show\n"],
     "help lab": ["Usage: chaosd lab\n"],
     "help filelab": ["Usage: chaosd filelab\n"],
-    "help loop": ["Usage: chaosd loop\n"],
+    "help loop": ["Usage: chaosd loop [OPTIONS]\n"],
     "help serve": ["Usage: chaosd serve [OPTIONS] <ADDRESS> <UDP> <FOLDER> [PEER]...\n"],
-    "help ask": ["Usage: chaosd ask <ADDRESS> <UDP> <TO> [PEER]...\n"],
+    "help ask": ["Usage: chaosd ask [OPTIONS] <ADDRESS> <UDP> <TO> [PEER]...\n"],
+    "help get": ["Usage: chaosd get [OPTIONS] <ADDRESS> <UDP> <SERVER> <PATH>...\n"],
+    "help put": ["Usage: chaosd put [OPTIONS] <ADDRESS> <UDP> <SERVER> <LOCAL>...\n"],
     "serve --help": [
         "  <ADDRESS>  Chaosnet address of this host: 1 to 6 octal digits, from 1 to 177777\n",
         "  <UDP>      UDP address that this host receives at: a.b.c.d:port in decimal, the port from 1 to 65535\n",
         "  <FOLDER>   Folder whose files are served\n",
         "  [PEER]...  Another host, as ADDRESS=UDP in the forms above: at most 32, each Chaosnet address once\n",
-        "--turns <N>  Turns after which the server ends, 0 to 1000000000; one that waits takes some 10 ms [default: 1000000000]\n",
+        "--turns <N>     Turns after which the server ends, 0 to 1000000000; one that waits takes some 10 ms [default: 1000000000]\n",
         "  chaosd serve 401 127.0.0.1:9001 files 402=127.0.0.1:9002\n",
     ],
     "ask --help": ["  <TO>       Chaosnet address of the host to ask, in the form of ADDRESS\n"],
+    "loop --help": [
+        "--carriage <N>  Version of the datagrams that packets are sent in: 1 has one packet, 2 has several [default: 1]\n",
+    ],
+    "get --help": [
+        "  <SERVER>   Host that has or takes the files, as ADDRESS=UDP in the forms above\n",
+        "  <PATH>...  Server's files: 1 to 64 letters, digits, dots, hyphens and underscores, no dot in front\n",
+        "--login <NAME>    User's name: 1 to 16 letters and digits [default: CHAOSD]\n",
+        "--window <N>      Commands in flight, 1 to 64, as far as the server's own window allows [default: 64]\n",
+        "--output <LOCAL>  Local file of the one path; - is standard output\n",
+    ],
+    "put --help": [
+        "  <LOCAL>...  Local files; - is standard input, and wants --as\n",
+        "--as <PATH>     Path of the one local file at the server\n",
+    ],
     "ask nonsense -h": ["Usage: chaosd ask"],
+    "--version": ["chaosd 0.1.0\n"],
+    "-V": ["chaosd 0.1.0\n"],
 }
 
 
@@ -101,6 +137,48 @@ def peers_out_of_form(checks):
     is_told(checks, ["serve", "401", "127.0.0.1:9001", "d", *many], "41=127.0.0.1:9002", "PEER", "at most 32 peers")
 
 
+ADDRESSES = ["402", "127.0.0.1:9002", "401=127.0.0.1:9001"]
+
+
+def copies_out_of_form(checks):
+    """Likewise the words of `get` and `put`."""
+    for command in ["get", "put"]:
+        for text in BAD_ADDRESSES:
+            is_told(checks, [command, text, *ADDRESSES[1:], "A"], text, "ADDRESS", ADDRESS_FORM)
+        for text in BAD_SOCKETS:
+            is_told(checks, [command, "402", text, ADDRESSES[2], "A"], text, "UDP", SOCKET_FORM)
+        for text in BAD_PEERS:
+            is_told(checks, [command, *ADDRESSES[:2], text, "A"], text, "SERVER", PEER_FORM)
+        for text in BAD_WINDOWS:
+            is_told(checks, [command, "--window", text, *ADDRESSES, "A"], text, "--window", WINDOW_FORM)
+        for text in BAD_LOGINS:
+            is_told(checks, [command, "--login", text, *ADDRESSES, "A"], text, "--login", LOGIN_FORM)
+    for text in BAD_PATHS:
+        is_told(checks, ["get", *ADDRESSES, text], text, "PATH", PATHS_FORM)
+        is_told(checks, ["get", *ADDRESSES, "A", text, "B"], text, "PATH", PATHS_FORM)
+        is_told(checks, ["put", "--as", text, *ADDRESSES, "A"], text, "--as", AS_FORM)
+    is_told(checks, ["get", *ADDRESSES, "B", "A", "C", "A"], "A", "PATH", PATHS_FORM)
+    is_told(checks, ["get", "--output", "x", *ADDRESSES, "A", "B"], "x", "--output", OUTPUT_FORM)
+    for text in ["", "-", "a b", "d/", "d/.A", "d/a b", "d/" + "A" * 65]:
+        is_told(checks, ["put", *ADDRESSES, text], text, "LOCAL", LOCALS_FORM)
+        is_told(checks, ["put", *ADDRESSES, "A", text, "B"], text, "LOCAL", LOCALS_FORM)
+    is_told(checks, ["put", *ADDRESSES, "a/Y", "a/X", "b/X"], "a/X", "LOCAL", LOCALS_FORM)
+    is_told(checks, ["put", "--as", "X", *ADDRESSES, "A", "B"], "X", "--as", AS_FORM)
+
+
+def carriages_out_of_form(checks):
+    """Likewise the carriage, of each command that has one."""
+    for text in BAD_CARRIAGES:
+        for words in [
+            ["loop"],
+            ["serve", "401", "127.0.0.1:1", "d"],
+            ["ask", "402", "127.0.0.1:1", "401"],
+            ["get", *ADDRESSES, "A"],
+            ["put", *ADDRESSES, "A"],
+        ]:
+            is_told(checks, [words[0], "--carriage", text, *words[1:]], text, "--carriage", CARRIAGE_FORM)
+
+
 def mistakes(checks):
     """The first bad word is told with the usage of its subcommand; what clap finds is told in its words."""
     wanted = (
@@ -112,6 +190,9 @@ def mistakes(checks):
     for words, piece in [
         (["nonsense"], b"unrecognized subcommand 'nonsense'"),
         (["serve", "401", "127.0.0.1:1"], b"  <FOLDER>\n"),
+        (["get", *ADDRESSES], b"  <PATH>...\n"),
+        (["put", *ADDRESSES], b"  <LOCAL>...\n"),
+        (["get", "--version"], b"unexpected argument '--version' found"),
     ]:
         checks.check(f"`chaosd {' '.join(words)}`: a mistake is told", run(words).problems(BAD_LINE, b"", [piece]))
 
@@ -129,7 +210,7 @@ def main():
     if not program.PROGRAM.is_file():
         sys.exit(f"{program.PROGRAM} isn't there: run make first")
     checks = Checks()
-    for group in [words_out_of_form, peers_out_of_form, mistakes, helps]:
+    for group in [words_out_of_form, peers_out_of_form, copies_out_of_form, carriages_out_of_form, mistakes, helps]:
         group(checks)
     print(f"{checks.count - checks.failed} passed, {checks.failed} failed")
     sys.exit(1 if checks.failed else 0)

@@ -1,3 +1,5 @@
+pub mod Copied
+pub mod Named
 pub mod NoReading
 pub mod OneLine
 pub mod PeerLists

@@ -1,5 +1,6 @@
 -- The command that `chaosd` takes.
 use Rattle.std.specs.Prelude.{true, Some, [], ◌∷◌, codes}
+use Rattle.clap.specs.declared.builder.action.ArgAction.TheVariants.{SetTrue}
 use Rattle.clap.specs.Lexer.{usize_max}
 use Rattle.clap.specs.Words.{App, Rule, Text, new_app, new_rule, with_rule, with_subcommand}
 
@@ -7,13 +8,21 @@ use Rattle.clap.specs.Words.{App, Rule, Text, new_app, new_rule, with_rule, with
 abbrev pub needed : Text → Rule
 needed id = record (new_rule id) { required = true }
 
+-- an option with a value that stands where it isn't given
+abbrev pub with_default : Text → Text → Rule
+with_default id value = record (new_rule id) {
+  long = Some id;
+  value_names = 1;
+  defaults = value ∷ [];
+}
+
 -- `--turns N`
 abbrev pub turns_option : Rule
-turns_option = record (new_rule (codes "turns")) {
-  long = Some (codes "turns");
-  value_names = 1;
-  defaults = codes "1000000000" ∷ [];
-}
+turns_option = with_default (codes "turns") (codes "1000000000")
+
+-- `--carriage N`
+abbrev pub carriage_option : Rule
+carriage_option = with_default (codes "carriage") (codes "1")
 
 -- the peers, of which any number may be given
 abbrev pub peer_words : Rule
@@ -21,29 +30,81 @@ peer_words = record (new_rule (codes "PEER")) {
   range = Some (record { start_inclusive = 0; end_inclusive = usize_max });
 }
 
--- serve [--turns N] ADDRESS UDP FOLDER PEER...
+-- loop [--carriage N]
+abbrev pub loop_command : App
+loop_command = with_rule (new_app (codes "loop")) carriage_option
+
+-- serve [--turns N] [--carriage N] ADDRESS UDP FOLDER PEER...
 abbrev pub serve_command : App
 serve_command = with_rule
     (with_rule
     (with_rule
-    (with_rule (with_rule (new_app (codes "serve")) turns_option) (needed (codes "ADDRESS")))
+    (with_rule (with_rule (with_rule (new_app (codes "serve")) turns_option) carriage_option) (needed (codes "ADDRESS")))
     (needed (codes "UDP")))
     (needed (codes "FOLDER")))
     peer_words
 
--- ask ADDRESS UDP TO PEER...
+-- ask [--carriage N] ADDRESS UDP TO PEER...
 abbrev pub ask_command : App
 ask_command = with_rule
     (with_rule
-    (with_rule (with_rule (new_app (codes "ask")) (needed (codes "ADDRESS")))
+    (with_rule (with_rule (with_rule (new_app (codes "ask")) carriage_option) (needed (codes "ADDRESS")))
     (needed (codes "UDP")))
     (needed (codes "TO")))
     peer_words
 
--- a subcommand has to be given, and no program's name stands in front of the words
+-- an option that need not be given
+abbrev pub optional : Text → Rule
+optional id = record (new_rule id) {
+  long = Some id;
+  value_names = 1;
+}
+
+-- a flag
+abbrev pub flag : Text → Rule
+flag id = record (new_rule id) {
+  long = Some id;
+  action = Some SetTrue;
+}
+
+-- words of which there is one at least
+abbrev pub file_words : Text → Rule
+file_words id = record (new_rule id) {
+  range = Some (record { start_inclusive = 1; end_inclusive = usize_max });
+  required = true;
+}
+
+-- [--carriage N] [--login NAME] [--window N] [--text] [--quiet]
+abbrev pub copy_options : App → App
+copy_options app = with_rule
+    (with_rule
+    (with_rule
+    (with_rule (with_rule app carriage_option) (with_default (codes "login") (codes "CHAOSD")))
+    (with_default (codes "window") (codes "64")))
+    (flag (codes "text")))
+    (flag (codes "quiet"))
+
+-- ADDRESS UDP SERVER
+abbrev pub with_addresses : App → App
+with_addresses app =
+    with_rule (with_rule (with_rule app (needed (codes "ADDRESS"))) (needed (codes "UDP"))) (needed (codes "SERVER"))
+
+-- get [--output LOCAL] with these, and PATH...
+abbrev pub get_command : App
+get_command = with_rule
+    (with_addresses (with_rule (copy_options (new_app (codes "get"))) (optional (codes "output"))))
+    (file_words (codes "PATH"))
+
+-- put [--as PATH] with these, and LOCAL...
+abbrev pub put_command : App
+put_command = with_rule
+    (with_addresses (with_rule (copy_options (new_app (codes "put"))) (optional (codes "as"))))
+    (file_words (codes "LOCAL"))
+
+-- a subcommand has to be given, no program's name stands in front of the words, and there is a version to be shown
 abbrev pub bare_chaosd : App
 bare_chaosd = let app = new_app (codes "chaosd") in
-    record app { top = record app.top { no_binary_name = true; subcommand_required = true } }
+    record app { top = record app.top { no_binary_name = true; subcommand_required = true; has_version = true } }
 
 -- the command with its subcommands
 abbrev pub chaosd : App
@@ -51,9 +112,13 @@ chaosd = with_subcommand
     (with_subcommand
     (with_subcommand
     (with_subcommand
+    (with_subcommand
+    (with_subcommand
     (with_subcommand (with_subcommand bare_chaosd (new_app (codes "show")).top)
     (new_app (codes "lab")).top)
     (new_app (codes "filelab")).top)
-    (new_app (codes "loop")).top)
+    loop_command.top)
     serve_command.top)
-    ask_command.top
+    ask_command.top)
+    get_command.top)
+    put_command.top

@@ -4,7 +4,7 @@ use Rattle.clap.specs.Values.{kind_of}
 use Rattle.clap.specs.Words.{IsAmong, Text, fault_of}
 use Rattle.clap.specs.declared.error.Error.{Error}
 use Rattle.clap.specs.declared.error.kind.ErrorKind.{ErrorKind}
-use Rattle.clap.specs.declared.error.kind.ErrorKind.TheVariants.{DisplayHelp, OutOfMemory, ValueValidation}
+use Rattle.clap.specs.declared.error.kind.ErrorKind.TheVariants.{DisplayHelp, DisplayVersion, OutOfMemory, ValueValidation}
 use Rattle.chaosd_line.specs.CommandLine.{chaosd}
 use Rattle.chaosd_line.specs.Lines.{IsLineOf}
 use Rattle.chaosd_line.specs.declared.fault.LineFault.{LineFault}
@@ -17,9 +17,10 @@ line_status Help = 0
 line_status BadLine = 2
 line_status NoMemory = 4
 
--- the fault that a kind of clap's errors stands for
+-- the fault that a kind of clap's errors stands for: the version is shown as help is
 abbrev pub fault_of_kind : ErrorKind → LineFault
 fault_of_kind DisplayHelp = Help
+fault_of_kind DisplayVersion = Help
 fault_of_kind OutOfMemory = NoMemory
 fault_of_kind _ = BadLine
 

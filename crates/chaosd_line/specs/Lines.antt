@@ -1,17 +1,22 @@
 -- The line that the words ask for, by the subcommand and the values that clap gives.
-use Rattle.std.specs.Prelude.{◌≡◌, List, [], Option, Some, codes, unwrap_or}
+use Rattle.std.specs.Prelude.{◌≡◌, List, [], Option, Some, codes, map, option_map, unwrap_or}
 use Rattle.std.specs.Option.{IsSomeAnd}
 use Rattle.clap.specs.Words.{Row, Text, all_of, first_of, subcommand_of}
 use Rattle.chaosd_line.specs.CommandLine.{chaosd}
-use Rattle.chaosd_line.specs.Values.{ArePeers, IsAddress, IsSocket, IsTurns}
+use Rattle.chaosd_line.specs.Files.{IsGet, IsPut}
+use Rattle.chaosd_line.specs.Values.{ArePeers, IsAddress, IsCarriage, IsSocket, IsTurns}
 use Rattle.chaosd_line.specs.declared.line.Line.{Line}
 use Rattle.chaosd_line.specs.declared.line.Line.TheVariants as line
 use Rattle.chaosd_line.specs.declared.line.Serve.{Serve}
 use Rattle.chaosd_line.specs.declared.line.Ask.{Ask}
+use Rattle.chaosd_line.specs.declared.line.Copying.{Copying}
+use Rattle.chaosd_line.specs.declared.line.Get.{Get}
+use Rattle.chaosd_line.specs.declared.line.Put.{Put}
 
 -- the values of `serve`
 pub record IsServe (rows : List Row) (serve : Serve) : Type 0 where
   pub turns : IsSomeAnd (first_of (codes "turns") rows) (λ text. IsTurns text serve.turns)
+  pub carriage : IsSomeAnd (first_of (codes "carriage") rows) (λ text. IsCarriage text serve.carriage)
   pub address : IsSomeAnd (first_of (codes "ADDRESS") rows) (λ text. IsAddress text serve.address)
   pub socket : IsSomeAnd (first_of (codes "UDP") rows) (λ text. IsSocket text serve.socket)
   pub folder : first_of (codes "FOLDER") rows ≡ Some serve.folder.now
@@ -19,6 +24,7 @@ pub record IsServe (rows : List Row) (serve : Serve) : Type 0 where
 
 -- the values of `ask`
 pub record IsAsk (rows : List Row) (ask : Ask) : Type 0 where
+  pub carriage : IsSomeAnd (first_of (codes "carriage") rows) (λ text. IsCarriage text ask.carriage)
   pub address : IsSomeAnd (first_of (codes "ADDRESS") rows) (λ text. IsAddress text ask.address)
   pub socket : IsSomeAnd (first_of (codes "UDP") rows) (λ text. IsSocket text ask.socket)
   pub to : IsSomeAnd (first_of (codes "TO") rows) (λ text. IsAddress text ask.to)
@@ -29,9 +35,11 @@ abbrev pub IsLine : Text → List Row → Line → Type 0
 IsLine name rows line.Show = name ≡ codes "show"
 IsLine name rows line.Lab = name ≡ codes "lab"
 IsLine name rows line.FileLab = name ≡ codes "filelab"
-IsLine name rows line.Loop = name ≡ codes "loop"
+IsLine name rows (line.Loop carriage) = (name ≡ codes "loop") × IsSomeAnd (first_of (codes "carriage") rows) (λ text. IsCarriage text carriage)
 IsLine name rows (line.Serve serve) = (name ≡ codes "serve") × IsServe rows serve
 IsLine name rows (line.Ask ask) = (name ≡ codes "ask") × IsAsk rows ask
+IsLine name rows (line.Get get) = (name ≡ codes "get") × IsGet rows get
+IsLine name rows (line.Put put) = (name ≡ codes "put") × IsPut rows put
 
 abbrev pub AsksFor : Option (Text × List Row) → Line → Type 0
 AsksFor found asked = IsSomeAnd found (λ f. IsLine f.0 f.1 asked)
@@ -43,6 +51,7 @@ IsLineOf words asked = AsksFor (subcommand_of chaosd words) asked
 -- the same values of `serve`, wherever the text of the folder lies
 pub record IsSameServe (s t : Serve) : Type 0 where
   pub turns : s.turns ≡ t.turns
+  pub carriage : s.carriage ≡ t.carriage
   pub address : s.address ≡ t.address
   pub socket : s.socket ≡ t.socket
   pub folder : s.folder.now ≡ t.folder.now
@@ -50,14 +59,40 @@ pub record IsSameServe (s t : Serve) : Type 0 where
 
 -- the same values of `ask`
 pub record IsSameAsk (s t : Ask) : Type 0 where
+  pub carriage : s.carriage ≡ t.carriage
   pub address : s.address ≡ t.address
   pub socket : s.socket ≡ t.socket
   pub to : s.to ≡ t.to
   pub peers : s.peers ≡ t.peers
 
+-- the same values that `get` and `put` have in common
+pub record IsSameCopying (s t : Copying) : Type 0 where
+  pub carriage : s.carriage ≡ t.carriage
+  pub login : s.login.now ≡ t.login.now
+  pub window : s.window ≡ t.window
+  pub is_text : s.is_text ≡ t.is_text
+  pub is_quiet : s.is_quiet ≡ t.is_quiet
+  pub address : s.address ≡ t.address
+  pub socket : s.socket ≡ t.socket
+  pub server : s.server ≡ t.server
+
+-- the same values of `get`, wherever the texts lie
+pub record IsSameGet (s t : Get) : Type 0 where
+  pub copying : IsSameCopying s.copying t.copying
+  pub output : option_map (λ u. u.now) s.output ≡ option_map (λ u. u.now) t.output
+  pub paths : map (λ u. u.now) s.paths.items ≡ map (λ u. u.now) t.paths.items
+
+-- the same values of `put`
+pub record IsSamePut (s t : Put) : Type 0 where
+  pub copying : IsSameCopying s.copying t.copying
+  pub path : option_map (λ u. u.now) s.path ≡ option_map (λ u. u.now) t.path
+  pub locals : map (λ u. u.now) s.locals.items ≡ map (λ u. u.now) t.locals.items
+
 abbrev pub IsSame : Line → Line → Type 0
 IsSame (line.Serve s) other = (t : Serve) × (other ≡ line.Serve t) × IsSameServe s t
 IsSame (line.Ask s) other = (t : Ask) × (other ≡ line.Ask t) × IsSameAsk s t
+IsSame (line.Get s) other = (t : Get) × (other ≡ line.Get t) × IsSameGet s t
+IsSame (line.Put s) other = (t : Put) × (other ≡ line.Put t) × IsSamePut s t
 IsSame one other = other ≡ one
 
 -- no words ask for two lines

@@ -1,13 +1,18 @@
 -- The forms of the words of a line, each beside the value that it stands for.
-use Rattle.std.specs.Prelude.{◌≡◌, ◌≢◌, ◌⊎◌, ◌≤◌, ◌<◌, ◌==◌, ◌++◌, ◌∷◌, ℕ, List, [], length, slice_index, Option, MatchOption, Result, MatchResult}
+use Rattle.std.specs.Prelude.{◌≡◌, ◌≢◌, ◌⊎◌, ◌≤◌, ◌<◌, ◌==◌, ◌++◌, ◌∷◌, ℕ, Bool, true, false, codes, List, [], length, slice_index, Option, MatchOption, Result, MatchResult}
 use Rattle.std.specs.List.{AllPairs, AllZip, after_first, before_first, position_or_len}
 use Rattle.std.specs.Net.Grammar.{IsSocketV4Text}
 use Rattle.std.specs.Net.Socket.{v4_port}
 use Rattle.std.specs.Str.Parse.{IsNumeral, digits_value}
 use Rattle.std.specs.declared.net.socket_addr.SocketAddrV4.{SocketAddrV4}
+use Rattle.std.specs.Borrow.{Bor}
 use Rattle.clap.specs.Words.{Text}
+use Rattle.chaos_file.specs.Names.{is_name}
+use Rattle.chaos_file.specs.declared.limits.TheConstants.{MAX_NAME}
 use Rattle.chaos_link.specs.declared.limits.TheConstants.{MAX_PEERS}
 use Rattle.chaos_link.specs.Peers.{IsKnown}
+use Rattle.chaos_link.specs.declared.carriage.Carriage.{Carriage}
+use Rattle.chaos_link.specs.declared.carriage.Carriage.TheVariants.{One, Two}
 use Rattle.chaos_link.specs.declared.peers.Peer.{Peer}
 
 -- the answer is the value of which P holds, and there is none only where P holds of nothing
@@ -31,6 +36,25 @@ IsPadded text = (1 < length text) × (slice_index text 0 ≡ 48)
 abbrev pub IsTurns : Text → ℕ → Type 0
 IsTurns text n =
     IsNumeral 10 text × ¬ (IsPadded text) × (n ≡ digits_value 10 text) × (n ≤ 1000000000)
+
+-- decimal digits without leading zeros that write a number from 1 to 64
+abbrev pub IsWindow : Text → ℕ → Type 0
+IsWindow text n =
+    IsNumeral 10 text × ¬ (IsPadded text) × (n ≡ digits_value 10 text) × (1 ≤ n) × (n ≤ 64)
+
+-- the version of the datagrams
+abbrev pub IsCarriage : Text → Carriage → Type 0
+IsCarriage text One = text ≡ codes "1"
+IsCarriage text Two = text ≡ codes "2"
+
+-- what clap says of a flag
+abbrev pub IsFlag : Text → Bool → Type 0
+IsFlag text true = text ≡ codes "true"
+IsFlag text false = text ≡ codes "false"
+
+-- a user's name, wherever its text lies
+abbrev pub IsLogin : Text → Bor Text → Type 0
+IsLogin text login = (login.now ≡ text) × (is_name 1 MAX_NAME text ≡ true)
 
 -- what stands behind the first colon
 abbrev pub port_of : Text → Text

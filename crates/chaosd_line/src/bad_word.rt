@@ -8,6 +8,9 @@ pub(crate) const ADDRESS_FORM: &str = "1 to 6 octal digits, from 1 to 177777";
 /// What is wanted of a number of turns.
 pub(crate) const TURNS_FORM: &str = "a decimal number without leading zeros, at most 1000000000";
 
+/// What is wanted of a carriage.
+pub(crate) const CARRIAGE_FORM: &str = "1 or 2";
+
 /// What is wanted of a socket.
 pub(crate) const SOCKET_FORM: &str =
     "a.b.c.d:port in decimal without leading zeros, the port from 1 to 65535";
@@ -20,6 +23,30 @@ pub(crate) const PEERS_FORM: &str = "at most 32 peers";
 
 /// What is wanted of a peer's address.
 pub(crate) const ONCE_FORM: &str = "each Chaosnet address once";
+
+/// What is wanted of a user's name.
+pub(crate) const LOGIN_FORM: &str = "1 to 16 letters and digits";
+
+/// What is wanted of a window.
+pub(crate) const WINDOW_FORM: &str = "a decimal number without leading zeros, from 1 to 64";
+
+/// What is wanted of a flag, which no words can fail.
+pub(crate) const FLAG_FORM: &str = "no value";
+
+/// What is wanted of the paths of the server's files.
+pub(crate) const PATHS_FORM: &str =
+    "paths of FILE (1 to 64 letters, digits, dots, hyphens and underscores, no dot in front), each once";
+
+/// What is wanted of local files that are put under their own names.
+pub(crate) const LOCALS_FORM: &str =
+    "files whose last names are paths of FILE, each once; name one by --as";
+
+/// What is wanted of the local file that a single file is got into.
+pub(crate) const OUTPUT_FORM: &str = "one PATH alone";
+
+/// What is wanted of the name that a single file is put under.
+pub(crate) const AS_FORM: &str =
+    "a path of FILE (1 to 64 letters, digits, dots, hyphens and underscores, no dot in front), and one LOCAL alone";
 
 /// A word that is not of the form that its place wants. Its text names all three.
 #[derive(Clone, Copy, Debug, Error)]

@@ -5,7 +5,7 @@ ghost use Rattle.chaosd_line.specs.Fault.{fault_of_kind, line_status};
 use clap::error::ErrorKind;
 use thiserror::Error;
 
-/// The status of a program that did what it was asked, or showed help.
+/// The status of a program that did what it was asked, or showed help or its version.
 const DONE: u8 = 0;
 
 /// The status of a program that could not make sense of its command line.
@@ -20,8 +20,8 @@ pub enum LineFault {
     /// The words are no line of the program.
     #[error("the command line is not understood; try --help")]
     BadLine = 1,
-    /// The words ask for help, which is shown in place of a run.
-    #[error("help was asked for")]
+    /// The words ask for help or for the version, which is shown in place of a run.
+    #[error("help or the version was asked for")]
     Help = 2,
     /// Memory ran out while the words were read.
     #[error("out of memory while reading the command line")]
@@ -29,7 +29,7 @@ pub enum LineFault {
 }
 
 impl LineFault {
-    /// The exit status of a program that ends by this fault: 0 where help was shown, 2 for a bad
+    /// The exit status of a program that ends by this fault: 0 where help or the version was shown, 2 for a bad
     /// line, 4 for want of memory.
     pub fn status(self) -> u8
         ensures { result ≡ line_status self }
@@ -45,11 +45,12 @@ impl LineFault {
 impl From<ErrorKind> for LineFault {
     ghost from_gives = { λ kind fault. fault ≡ fault_of_kind kind };
 
-    /// The fault that clap's kind of error stands for: every kind but help and want of memory is
-    /// a bad line.
+    /// The fault that clap's kind of error stands for: every kind but help, the version and want of
+    /// memory is a bad line.
     fn from(kind: ErrorKind) -> LineFault {
         match kind {
             ErrorKind::DisplayHelp => LineFault::Help,
+            ErrorKind::DisplayVersion => LineFault::Help,
             ErrorKind::OutOfMemory => LineFault::NoMemory,
             _ => LineFault::BadLine,
         }

@@ -2,19 +2,23 @@
 ghost use Rattle.std.specs.Prelude.{◌≡◌, [], MatchResult, None, Some, codes, unwrap_or};
 ghost use Rattle.std.specs.Option.{IsSomeAnd};
 ghost use Rattle.clap.specs.Words.{all_of, first_of, found_of, rows_of, subcommand_rows_of};
+ghost use Rattle.chaosd_line.specs.Files.{GivesFiles};
 ghost use Rattle.chaosd_line.specs.Lines.{AsksFor, IsAsk, IsServe};
-ghost use Rattle.chaosd_line.specs.Values.{ArePeers, IsAddress, IsSocket, IsTurns, Reads};
+ghost use Rattle.chaosd_line.specs.Values.{ArePeers, IsAddress, IsCarriage, IsSocket, IsTurns, Reads};
 
-use crate::bad_word::{ADDRESS_FORM, BadWord, SOCKET_FORM, TURNS_FORM};
+use crate::bad_word::{ADDRESS_FORM, BadWord, CARRIAGE_FORM, SOCKET_FORM, TURNS_FORM};
+use crate::copies::{get_of, put_of};
 use crate::line::{Ask, Line, Serve};
 use crate::peers::peers_of;
-use crate::values::{address_of, socket_of, turns_of};
-use chaos_link::Peers;
+use crate::unread::Unread;
+use crate::values::{address_of, carriage_of, socket_of, turns_of};
+use chaos_link::{Carriage, Peers};
 use clap::ArgMatches;
+use std::alloc::Global;
 use std::net::SocketAddrV4;
 
 /// The word at a place. That there is one is clap's care: it takes no line without.
-fn given<'a>(matches: &ArgMatches<'a>, place: &'a str) -> Result<&'a str, BadWord<'a>>
+pub(crate) fn given<'a>(matches: &ArgMatches<'a>, place: &'a str) -> Result<&'a str, BadWord<'a>>
     ensures { MatchResult result (λ text. first_of place.entry.now (rows_of (found_of matches.now)) ≡ Some text.now)
         (λ _. first_of place.entry.now (rows_of (found_of matches.now)) ≡ None) }
 {
@@ -29,7 +33,10 @@ fn given<'a>(matches: &ArgMatches<'a>, place: &'a str) -> Result<&'a str, BadWor
 }
 
 /// The Chaosnet address at a place.
-fn given_address<'a>(matches: &ArgMatches<'a>, place: &'a str) -> Result<u16, BadWord<'a>>
+pub(crate) fn given_address<'a>(
+    matches: &ArgMatches<'a>,
+    place: &'a str,
+) -> Result<u16, BadWord<'a>>
     ensures { Reads (λ n. IsSomeAnd (first_of place.entry.now (rows_of (found_of matches.now))) (λ t. IsAddress t n)) result }
 {
     let text = given(matches, place)?;
@@ -58,8 +65,23 @@ fn given_turns<'a>(matches: &ArgMatches<'a>) -> Result<u32, BadWord<'a>>
     }
 }
 
+/// How packets are sent.
+pub(crate) fn given_carriage<'a>(matches: &ArgMatches<'a>) -> Result<Carriage, BadWord<'a>>
+    ensures { Reads (λ c. IsSomeAnd (first_of (codes "carriage") (rows_of (found_of matches.now))) (λ t. IsCarriage t c)) result }
+{
+    let text = given(matches, "carriage")?;
+    match carriage_of(text) {
+        Some(carriage) => Ok(carriage),
+        None => Err(BadWord {
+            text,
+            place: "--carriage",
+            form: CARRIAGE_FORM,
+        }),
+    }
+}
+
 /// The UDP address of the host's own socket.
-fn given_socket<'a>(matches: &ArgMatches<'a>) -> Result<SocketAddrV4, BadWord<'a>>
+pub(crate) fn given_socket<'a>(matches: &ArgMatches<'a>) -> Result<SocketAddrV4, BadWord<'a>>
     ensures { Reads (λ s. IsSomeAnd (first_of (codes "UDP") (rows_of (found_of matches.now))) (λ t. IsSocket t s)) result }
 {
     let text = given(matches, "UDP")?;
@@ -88,12 +110,14 @@ fn serve_of<'a>(matches: &ArgMatches<'a>) -> Result<Serve<'a>, BadWord<'a>>
     ensures { Reads (IsServe (rows_of (found_of matches.now))) result }
 {
     let turns = given_turns(matches)?;
+    let carriage = given_carriage(matches)?;
     let address = given_address(matches, "ADDRESS")?;
     let socket = given_socket(matches)?;
     let folder = given(matches, "FOLDER")?;
     let peers = given_peers(matches)?;
     Ok(Serve {
         turns,
+        carriage,
         address,
         socket,
         folder,
@@ -105,11 +129,13 @@ fn serve_of<'a>(matches: &ArgMatches<'a>) -> Result<Serve<'a>, BadWord<'a>>
 fn ask_of<'a>(matches: &ArgMatches<'a>) -> Result<Ask, BadWord<'a>>
     ensures { Reads (IsAsk (rows_of (found_of matches.now))) result }
 {
+    let carriage = given_carriage(matches)?;
     let address = given_address(matches, "ADDRESS")?;
     let socket = given_socket(matches)?;
     let to = given_address(matches, "TO")?;
     let peers = given_peers(matches)?;
     Ok(Ask {
+        carriage,
         address,
         socket,
         to,
@@ -118,20 +144,22 @@ fn ask_of<'a>(matches: &ArgMatches<'a>) -> Result<Ask, BadWord<'a>>
 }
 
 /// What a subcommand and its values ask for. That it is one of these is clap's care.
-pub(crate) fn line_of<'a>(matches: &ArgMatches<'a>) -> Result<Line<'a>, BadWord<'a>>
-    ensures { Reads (AsksFor (subcommand_rows_of matches.now)) result }
+pub(crate) fn line_of<'a>(alloc: Global, matches: &ArgMatches<'a>) -> Result<Line<'a>, Unread<'a>>
+    ensures { GivesFiles (AsksFor (subcommand_rows_of matches.now)) result }
 {
     match matches.subcommand() {
         Some(("show", _)) => Ok(Line::Show),
         Some(("lab", _)) => Ok(Line::Lab),
         Some(("filelab", _)) => Ok(Line::FileLab),
-        Some(("loop", _)) => Ok(Line::Loop),
+        Some(("loop", values)) => Ok(Line::Loop(given_carriage(values)?)),
         Some(("serve", values)) => Ok(Line::Serve(serve_of(values)?)),
         Some(("ask", values)) => Ok(Line::Ask(ask_of(values)?)),
-        _ => Err(BadWord {
+        Some(("get", values)) => Ok(Line::Get(get_of(alloc, values)?)),
+        Some(("put", values)) => Ok(Line::Put(put_of(alloc, values)?)),
+        _ => Err(Unread::Bad(BadWord {
             text: "",
             place: "COMMAND",
             form: "a subcommand",
-        }),
+        })),
     }
 }

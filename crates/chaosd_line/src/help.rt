@@ -1,12 +1,15 @@
 //! The words of help.
 
+/// What the program's version is.
+pub(crate) const VERSION: &str = "0.1.0";
+
 /// What the program's help begins with.
 pub(crate) const ABOUT: &str = "A Chaosnet host, after MIT AI Memo 628";
 
 /// What the program's help ends with.
 pub(crate) const STATUSES: &str = "\
 Exit status:
-  0  done, or help was shown
+  0  done, or help or the version was shown
   1  reading, writing, a socket, the clock or the store failed
   2  the command line or the script is not understood
   3  something was refused, or no reply came
@@ -35,9 +38,50 @@ pub(crate) const SERVE: &str = "The files of a folder, served to other hosts";
 pub(crate) const ASK: &str =
     "A FILE script from standard input, put to another host, to its replies";
 
+/// What the help says of `get`.
+pub(crate) const GET: &str = "Files of another host, into local files of their names";
+
+/// What the help says of `put`.
+pub(crate) const PUT: &str = "Local files, to another host under their names";
+
+/// The user's name.
+pub(crate) const LOGIN: &str = "User's name: 1 to 16 letters and digits";
+
+/// The packets of the windows.
+pub(crate) const WINDOW: &str =
+    "Commands in flight, 1 to 64, as far as the server's own window allows";
+
+/// Texts.
+pub(crate) const TEXT: &str =
+    "A text file: newline, tab, backspace and page are those of a Lisp machine at the server";
+
+/// Nothing told.
+pub(crate) const QUIET: &str = "Nothing is told but of files that were not copied";
+
+/// The local file of `get`.
+pub(crate) const OUTPUT: &str = "Local file of the one path; - is standard output";
+
+/// The server's file of `put`.
+pub(crate) const AS: &str = "Path of the one local file at the server";
+
+/// The server.
+pub(crate) const SERVER: &str =
+    "Host that has or takes the files, as ADDRESS=UDP in the forms above";
+
+/// The server's files.
+pub(crate) const PATH: &str =
+    "Server's files: 1 to 64 letters, digits, dots, hyphens and underscores, no dot in front";
+
+/// The local files.
+pub(crate) const LOCAL: &str = "Local files; - is standard input, and wants --as";
+
 /// The turns to serve.
 pub(crate) const TURNS: &str =
     "Turns after which the server ends, 0 to 1000000000; one that waits takes some 10 ms";
+
+/// The version of the datagrams.
+pub(crate) const CARRIAGE: &str =
+    "Version of the datagrams that packets are sent in: 1 has one packet, 2 has several";
 
 /// The host's own address.
 pub(crate) const ADDRESS: &str =
@@ -70,3 +114,17 @@ Example:
   chaosd ask 402 127.0.0.1:9002 401 401=127.0.0.1:9001 < script
 
   Host 402 puts the commands of `script` to host 401.";
+
+/// What the help of `get` ends with.
+pub(crate) const GET_EXAMPLE: &str = "\
+Example:
+  chaosd get 402 127.0.0.1:9002 401=127.0.0.1:9001 A.LISP B.LISP
+
+  Host 402 gets two files of host 401 into this folder.";
+
+/// What the help of `put` ends with.
+pub(crate) const PUT_EXAMPLE: &str = "\
+Example:
+  chaosd put 402 127.0.0.1:9002 401=127.0.0.1:9001 src/A.LISP src/B.LISP
+
+  Host 402 puts two files to host 401, as A.LISP and B.LISP.";

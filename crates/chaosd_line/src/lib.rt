@@ -10,16 +10,21 @@
 
 mod bad_word;
 mod command;
+mod copies;
 mod fault;
+mod files;
 mod given;
 mod help;
 mod law;
 mod line;
+mod names;
 mod parse;
 mod peers;
+mod unread;
 mod values;
 
 pub use fault::LineFault;
+pub use files::last_name;
 pub use law::law_one_line;
-pub use line::{Ask, Line, Serve};
+pub use line::{Ask, Copying, Get, Line, Put, Serve};
 pub use parse::{parse_line, read_line};

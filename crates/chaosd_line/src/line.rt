@@ -1,10 +1,11 @@
 //! What a command line asks for.
-ghost use Rattle.std.specs.Prelude.{◌<◌};
+ghost use Rattle.std.specs.Prelude.{◌<◌, ◌≤◌, length};
+ghost use Rattle.chaos_file.specs.declared.limits.TheConstants.{MAX_NAME};
 
-use chaos_link::Peers;
+use chaos_link::{Carriage, Peer, Peers};
 use std::net::SocketAddrV4;
 
-/// What a command line asks for: a subcommand, with its values. The folder is lent from the words.
+/// What a command line asks for: a subcommand, with its values. Texts are lent from the words.
 #[derive(Drop)]
 pub enum Line<'a> {
     /// `chaosd show`: hexadecimal lines from standard input, one datagram a line, to reports.
@@ -13,12 +14,16 @@ pub enum Line<'a> {
     Lab,
     /// `chaosd filelab`: a script of a client of FILE and its server from standard input, to what each line did.
     FileLab,
-    /// `chaosd loop`: a FILE script from standard input between two hosts in one process.
-    Loop,
+    /// `chaosd loop`: a FILE script from standard input between two hosts in one process, which send packets so.
+    Loop(Carriage),
     /// `chaosd serve`: the FILE service of a folder, to other hosts.
     Serve(Serve<'a>),
     /// `chaosd ask`: a FILE script from standard input, put to another host.
     Ask(Ask),
+    /// `chaosd get`: files of another host, into local ones.
+    Get(Get<'a>),
+    /// `chaosd put`: local files, to another host.
+    Put(Put<'a>),
 }
 
 /// What to serve, and to whom.
@@ -26,6 +31,8 @@ pub enum Line<'a> {
 pub struct Serve<'a> {
     /// The turns after which the server ends, at most 1,000,000,000.
     pub turns: u32,
+    /// How it sends packets.
+    pub carriage: Carriage,
     /// Its Chaosnet address, which is not 0.
     pub address: u16,
     /// The UDP address that it receives at, whose port is not 0.
@@ -40,6 +47,8 @@ pub struct Serve<'a> {
 /// Whom to ask, and as whom.
 #[derive(Drop)]
 pub struct Ask {
+    /// How it sends packets.
+    pub carriage: Carriage,
     /// The client's own Chaosnet address, which is not 0.
     pub address: u16,
     /// The UDP address that it receives at, whose port is not 0.
@@ -49,4 +58,49 @@ pub struct Ask {
     /// Where it sends to.
     pub peers: Peers,
     ghost named: { 0 < address },
+}
+
+/// As whom a copy is made, from or to which server, and how.
+#[derive(Drop)]
+pub struct Copying<'a> {
+    /// How it sends packets.
+    pub carriage: Carriage,
+    /// The user's name, 1 to 16 letters and digits.
+    pub login: &'a str,
+    /// The packets that each of its two windows has, 1 to 64.
+    pub window: u16,
+    /// Whether a text is put into the character set of the Lisp machines, or back from it.
+    pub is_text: bool,
+    /// Whether nothing but mistakes is told.
+    pub is_quiet: bool,
+    /// Its own Chaosnet address, which is not 0.
+    pub address: u16,
+    /// The UDP address that it receives at, whose port is not 0.
+    pub socket: SocketAddrV4,
+    /// The server.
+    pub server: Peer,
+    ghost named: { 0 < address },
+    ghost login_fits: { length login.now ≤ MAX_NAME },
+}
+
+/// Which files to get.
+#[derive(Drop)]
+pub struct Get<'a> {
+    /// What it has in common with `put`.
+    pub copying: Copying<'a>,
+    /// The local file in place of one of the path's name, where there is one file; `-` is standard output.
+    pub output: Option<&'a str>,
+    /// The server's files, each once: legal paths of FILE.
+    pub paths: Vec<&'a str>,
+}
+
+/// Which files to put.
+#[derive(Drop)]
+pub struct Put<'a> {
+    /// What it has in common with `get`.
+    pub copying: Copying<'a>,
+    /// The server's file in place of one of the local file's last name, where there is one file.
+    pub path: Option<&'a str>,
+    /// The local files, whose last names are legal paths of FILE, each once, where `path` is none; `-` is standard input.
+    pub locals: Vec<&'a str>,
 }

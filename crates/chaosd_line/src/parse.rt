@@ -12,6 +12,7 @@ use crate::command::{command, command_of};
 use crate::fault::LineFault;
 use crate::given::line_of;
 use crate::line::Line;
+use crate::unread::Unread;
 use clap::error::ErrorKind;
 use clap::{ArgMatches, Command, Error};
 use std::alloc::{AllocError, Global};
@@ -56,9 +57,10 @@ pub fn parse_line<'a, S: AsStr>(alloc: Global, words: &'a [S]) -> Result<Line<'a
 {
     let mut command = command(alloc)?;
     let matches = matches_of(&mut command, words)?;
-    match line_of(&matches) {
+    match line_of(alloc, &matches) {
         Ok(asked) => Ok(asked),
-        Err(bad) => Err(error_of(alloc, &bad, matches.subcommand_name())?),
+        Err(Unread::Bad(bad)) => Err(error_of(alloc, &bad, matches.subcommand_name())?),
+        Err(Unread::NoMemory) => Err(Error::from(AllocError)),
     }
 }
 

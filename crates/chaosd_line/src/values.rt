@@ -1,8 +1,8 @@
 //! The forms of words, and the values that they stand for.
 ghost use Rattle.std.specs.Prelude.{◌≡◌, ◌↔◌, IsTrue, MatchOption};
-ghost use Rattle.chaosd_line.specs.Values.{Finds, HasSides, IsAddress, IsPadded, IsPeer, IsSocket, IsTurns, left_of, port_of, right_of};
+ghost use Rattle.chaosd_line.specs.Values.{Finds, HasSides, IsAddress, IsCarriage, IsFlag, IsPadded, IsPeer, IsSocket, IsTurns, IsWindow, left_of, port_of, right_of};
 
-use chaos_link::Peer;
+use chaos_link::{Carriage, Peer};
 use std::net::SocketAddrV4;
 
 /// The most digits of an address.
@@ -10,6 +10,9 @@ const ADDRESS_DIGITS: usize = 6;
 
 /// The most turns that may be asked for.
 const MAX_TURNS: u32 = 1_000_000_000;
+
+/// The most packets of a window.
+const MAX_WINDOW: u16 = 64;
 
 /// Whether a number is written with a zero too many in front.
 fn is_padded(text: &str) -> bool
@@ -43,6 +46,42 @@ pub(crate) fn turns_of(text: &str) -> Option<u32>
     }
     match text.parse::<u32>() {
         Ok(turns) if turns <= MAX_TURNS => Some(turns),
+        _ => None,
+    }
+}
+
+/// The number of packets of a window that decimal digits without leading zeros write.
+pub(crate) fn window_of(text: &str) -> Option<u16>
+    ensures { Finds (IsWindow text.now) result }
+{
+    let bytes = text.as_bytes();
+    if bytes.is_empty() || bytes[0] == b'+' || is_padded(text) {
+        return None;
+    }
+    match text.parse::<u16>() {
+        Ok(window) if window >= 1 && window <= MAX_WINDOW => Some(window),
+        _ => None,
+    }
+}
+
+/// How packets are sent, by the version of the datagrams that they are sent in.
+pub(crate) fn carriage_of(text: &str) -> Option<Carriage>
+    ensures { Finds (IsCarriage text.now) result }
+{
+    match text {
+        "1" => Some(Carriage::One),
+        "2" => Some(Carriage::Two),
+        _ => None,
+    }
+}
+
+/// What clap says of a flag.
+pub(crate) fn flag_of(text: &str) -> Option<bool>
+    ensures { Finds (IsFlag text.now) result }
+{
+    match text {
+        "true" => Some(true),
+        "false" => Some(false),
         _ => None,
     }
 }

@@ -1,22 +1,45 @@
 //! Lines that are read, and lines that are not.
 use crate::local;
-use chaosd_line::{Ask, Line, LineFault, Serve, parse_line, read_line};
+use chaos_link::{Carriage, Peer};
+use chaosd_line::{Ask, Get, Line, LineFault, Put, Serve, parse_line, read_line};
 use std::net::{Ipv4Addr, SocketAddrV4};
 use std::test::Fail;
 
 /// What these words serve.
 fn serve_of<'a>(rt: &HostRuntime, words: &'a [&'a str]) -> Result<Serve<'a>, Fail> {
-    match read_line(rt.alloc(), words) {
-        Ok(Line::Serve(serve)) => Ok(serve),
+    match read_line(rt.alloc(), words)? {
+        Line::Serve(serve) => Ok(serve),
+        Line::Get(_get) => Err(Fail::from("a line of get")),
+        Line::Put(_put) => Err(Fail::from("a line of put")),
         _ => Err(Fail::from("no line of serve")),
     }
 }
 
 /// What these words ask.
 fn ask_of(rt: &HostRuntime, words: &[&str]) -> Result<Ask, Fail> {
-    match read_line(rt.alloc(), words) {
-        Ok(Line::Ask(ask)) => Ok(ask),
+    match read_line(rt.alloc(), words)? {
+        Line::Ask(ask) => Ok(ask),
+        Line::Get(_get) => Err(Fail::from("a line of get")),
+        Line::Put(_put) => Err(Fail::from("a line of put")),
         _ => Err(Fail::from("no line of ask")),
+    }
+}
+
+/// What these words get.
+fn get_of<'a>(rt: &HostRuntime, words: &'a [&'a str]) -> Result<Get<'a>, Fail> {
+    match read_line(rt.alloc(), words)? {
+        Line::Get(get) => Ok(get),
+        Line::Put(_put) => Err(Fail::from("a line of put")),
+        _ => Err(Fail::from("no line of get")),
+    }
+}
+
+/// What these words put.
+fn put_of<'a>(rt: &HostRuntime, words: &'a [&'a str]) -> Result<Put<'a>, Fail> {
+    match read_line(rt.alloc(), words)? {
+        Line::Put(put) => Ok(put),
+        Line::Get(_get) => Err(Fail::from("a line of get")),
+        _ => Err(Fail::from("no line of put")),
     }
 }
 
@@ -27,7 +50,13 @@ fn plain_subcommands_are_lines(rt: HostRuntime) {
     assert!(rt; matches!(read_line(alloc, &["show"]), Ok(Line::Show)));
     assert!(rt; matches!(read_line(alloc, &["lab"]), Ok(Line::Lab)));
     assert!(rt; matches!(read_line(alloc, &["filelab"]), Ok(Line::FileLab)));
-    assert!(rt; matches!(read_line(alloc, &["loop"]), Ok(Line::Loop)));
+    assert!(rt; matches!(read_line(alloc, &["loop"]), Ok(Line::Loop(Carriage::One))));
+    assert!(rt;
+        matches!(
+            read_line(alloc, &["loop", "--carriage", "2"]),
+            Ok(Line::Loop(Carriage::Two))
+        )
+    );
 }
 
 #[test]
@@ -36,6 +65,8 @@ fn serve_with_all_its_values(rt: HostRuntime) -> Result<(), Fail> {
         "serve",
         "--turns",
         "10",
+        "--carriage",
+        "2",
         "401",
         "127.0.0.1:9001",
         "d",
@@ -43,6 +74,7 @@ fn serve_with_all_its_values(rt: HostRuntime) -> Result<(), Fail> {
     ];
     let serve = serve_of(&rt, &words)?;
     assert_eq!(rt; (serve.turns, serve.address, serve.folder), (10, 257, "d"));
+    assert_eq!(rt; serve.carriage, Carriage::Two);
     assert_eq!(rt; serve.socket, local(9001));
     assert_eq!(rt; serve.peers.find(258), Some(local(9002)));
     assert_eq!(rt; serve.peers.find(257), None);
@@ -51,8 +83,16 @@ fn serve_with_all_its_values(rt: HostRuntime) -> Result<(), Fail> {
 
 #[test]
 fn ask_with_all_its_values(rt: HostRuntime) -> Result<(), Fail> {
-    let words = ["ask", "402", "127.0.0.1:9002", "401", "401=127.0.0.1:9001"];
+    let words = [
+        "ask",
+        "--carriage=2",
+        "402",
+        "127.0.0.1:9002",
+        "401",
+        "401=127.0.0.1:9001",
+    ];
     let ask = ask_of(&rt, &words)?;
+    assert_eq!(rt; ask.carriage, Carriage::Two);
     assert_eq!(rt; (ask.address, ask.to), (258, 257));
     assert_eq!(rt; ask.socket, local(9002));
     assert_eq!(rt; ask.peers.find(257), Some(local(9001)));
@@ -67,6 +107,85 @@ fn no_turns_and_no_peers(rt: HostRuntime) -> Result<(), Fail> {
         (1_000_000_000, 1, "")
     );
     assert_eq!(rt; serve.socket, SocketAddrV4::new(Ipv4Addr::UNSPECIFIED, 1));
+    assert_eq!(rt; serve.carriage, Carriage::One);
+    Ok(())
+}
+
+#[test]
+fn get_with_all_its_values(rt: HostRuntime) -> Result<(), Fail> {
+    let words = [
+        "get",
+        "--login",
+        "LISPM1",
+        "--window",
+        "13",
+        "--carriage",
+        "2",
+        "--text",
+        "--quiet",
+        "--output",
+        "-",
+        "402",
+        "127.0.0.1:9002",
+        "401=127.0.0.1:9001",
+        "A.LISP",
+    ];
+    let get = get_of(&rt, &words)?;
+    let copying = &get.copying;
+    assert_eq!(rt; (copying.login, copying.window), ("LISPM1", 13));
+    assert_eq!(rt; copying.carriage, Carriage::Two);
+    assert!(rt; copying.is_text && copying.is_quiet);
+    assert_eq!(rt; (copying.address, copying.socket), (258, local(9002)));
+    let server = Peer {
+        address: 257,
+        socket: local(9001),
+    };
+    assert_eq!(rt; copying.server, server);
+    assert_eq!(rt; get.output, Some("-"));
+    assert_eq!(rt; get.paths.as_slice(), ["A.LISP"].as_slice());
+    Ok(())
+}
+
+#[test]
+fn put_with_no_option_and_several_files(rt: HostRuntime) -> Result<(), Fail> {
+    let words = [
+        "put",
+        "402",
+        "127.0.0.1:9002",
+        "401=127.0.0.1:9001",
+        "src/A.LISP",
+        "./B-1_2.LISP",
+        "C",
+    ];
+    let put = put_of(&rt, &words)?;
+    let copying = &put.copying;
+    assert_eq!(rt; (copying.login, copying.window), ("CHAOSD", 64));
+    assert_eq!(rt; copying.carriage, Carriage::One);
+    assert!(rt; !copying.is_text && !copying.is_quiet);
+    assert_eq!(rt; put.path, None);
+    assert_eq!(rt;
+        put.locals.as_slice(),
+        ["src/A.LISP", "./B-1_2.LISP", "C"].as_slice()
+    );
+    Ok(())
+}
+
+#[test]
+fn put_under_another_name(rt: HostRuntime) -> Result<(), Fail> {
+    let words = [
+        "put",
+        "--as",
+        "A.LISP",
+        "--window=1",
+        "402",
+        "127.0.0.1:9002",
+        "401=127.0.0.1:9001",
+        "-",
+    ];
+    let put = put_of(&rt, &words)?;
+    assert_eq!(rt; put.copying.window, 1);
+    assert_eq!(rt; put.path, Some("A.LISP"));
+    assert_eq!(rt; put.locals.as_slice(), ["-"].as_slice());
     Ok(())
 }
 
@@ -156,6 +275,266 @@ fn bad_lines(rt: HostRuntime) {
             "{what}"
         );
     }
+}
+
+#[test]
+fn bad_carriages(rt: HostRuntime) {
+    let alloc = rt.alloc();
+    let lines: [(&str, &[&str]); 8] = [
+        ("a carriage of show", &["show", "--carriage", "1"]),
+        ("no carriage", &["loop", "--carriage"]),
+        ("carriage 0", &["loop", "--carriage", "0"]),
+        ("carriage 3", &["loop", "--carriage", "3"]),
+        (
+            "carriage 3 of serve",
+            &["serve", "--carriage", "3", "401", "127.0.0.1:1", "d"],
+        ),
+        (
+            "carriage 02 of ask",
+            &["ask", "--carriage", "02", "402", "127.0.0.1:1", "401"],
+        ),
+        (
+            "an empty carriage of get",
+            &[
+                "get",
+                "--carriage=",
+                "402",
+                "127.0.0.1:1",
+                "401=127.0.0.1:2",
+                "A",
+            ],
+        ),
+        (
+            "carriage +2 of put",
+            &[
+                "put",
+                "--carriage",
+                "+2",
+                "402",
+                "127.0.0.1:1",
+                "401=127.0.0.1:2",
+                "A",
+            ],
+        ),
+    ];
+    for (what, words) in lines {
+        assert_eq!(rt;
+            read_line(alloc, words).err(),
+            Some(LineFault::BadLine),
+            "{what}"
+        );
+    }
+}
+
+#[test]
+fn bad_gets(rt: HostRuntime) {
+    let alloc = rt.alloc();
+    let lines: [(&str, &[&str]); 12] = [
+        ("no word of get", &["get"]),
+        ("no path", &["get", "402", "127.0.0.1:1", "401=127.0.0.1:2"]),
+        (
+            "a server that is no peer",
+            &["get", "402", "127.0.0.1:1", "401", "A"],
+        ),
+        (
+            "a path with a slash",
+            &["get", "402", "127.0.0.1:1", "401=127.0.0.1:2", "../A"],
+        ),
+        (
+            "a path with a dot in front",
+            &["get", "402", "127.0.0.1:1", "401=127.0.0.1:2", ".A"],
+        ),
+        (
+            "an empty path",
+            &["get", "402", "127.0.0.1:1", "401=127.0.0.1:2", ""],
+        ),
+        (
+            "a path twice",
+            &[
+                "get",
+                "402",
+                "127.0.0.1:1",
+                "401=127.0.0.1:2",
+                "A",
+                "B",
+                "A",
+            ],
+        ),
+        (
+            "an output for two files",
+            &[
+                "get",
+                "--output",
+                "x",
+                "402",
+                "127.0.0.1:1",
+                "401=127.0.0.1:2",
+                "A",
+                "B",
+            ],
+        ),
+        (
+            "a name of put's file behind get",
+            &[
+                "get",
+                "--as",
+                "A",
+                "402",
+                "127.0.0.1:1",
+                "401=127.0.0.1:2",
+                "A",
+            ],
+        ),
+        (
+            "window 0",
+            &[
+                "get",
+                "--window",
+                "0",
+                "402",
+                "127.0.0.1:1",
+                "401=127.0.0.1:2",
+                "A",
+            ],
+        ),
+        (
+            "a login of 17 letters",
+            &[
+                "get",
+                "--login",
+                "ABCDEFGHIJKLMNOPQ",
+                "402",
+                "127.0.0.1:1",
+                "401=127.0.0.1:2",
+                "A",
+            ],
+        ),
+        (
+            "a text with a value",
+            &[
+                "get",
+                "--text=true",
+                "402",
+                "127.0.0.1:1",
+                "401=127.0.0.1:2",
+                "A",
+            ],
+        ),
+    ];
+    for (what, words) in lines {
+        assert_eq!(rt;
+            read_line(alloc, words).err(),
+            Some(LineFault::BadLine),
+            "{what}"
+        );
+    }
+}
+
+#[test]
+fn bad_puts(rt: HostRuntime) {
+    let alloc = rt.alloc();
+    let lines: [(&str, &[&str]); 10] = [
+        (
+            "window 65",
+            &[
+                "put",
+                "--window",
+                "65",
+                "402",
+                "127.0.0.1:1",
+                "401=127.0.0.1:2",
+                "A",
+            ],
+        ),
+        (
+            "a login with a dot",
+            &[
+                "put",
+                "--login",
+                "A.B",
+                "402",
+                "127.0.0.1:1",
+                "401=127.0.0.1:2",
+                "A",
+            ],
+        ),
+        ("no word of put", &["put"]),
+        (
+            "no local file",
+            &["put", "402", "127.0.0.1:1", "401=127.0.0.1:2"],
+        ),
+        (
+            "a local file whose name is no path",
+            &["put", "402", "127.0.0.1:1", "401=127.0.0.1:2", "a b"],
+        ),
+        (
+            "a local file with no last name",
+            &["put", "402", "127.0.0.1:1", "401=127.0.0.1:2", "d/"],
+        ),
+        (
+            "two local files of one last name",
+            &["put", "402", "127.0.0.1:1", "401=127.0.0.1:2", "a/X", "b/X"],
+        ),
+        (
+            "standard input with no name",
+            &["put", "402", "127.0.0.1:1", "401=127.0.0.1:2", "-"],
+        ),
+        (
+            "a name for two files",
+            &[
+                "put",
+                "--as",
+                "X",
+                "402",
+                "127.0.0.1:1",
+                "401=127.0.0.1:2",
+                "A",
+                "B",
+            ],
+        ),
+        (
+            "a name with a slash",
+            &[
+                "put",
+                "--as",
+                "d/X",
+                "402",
+                "127.0.0.1:1",
+                "401=127.0.0.1:2",
+                "A",
+            ],
+        ),
+    ];
+    for (what, words) in lines {
+        assert_eq!(rt;
+            read_line(alloc, words).err(),
+            Some(LineFault::BadLine),
+            "{what}"
+        );
+    }
+}
+
+#[test]
+fn help_and_the_version_are_shown(rt: HostRuntime) {
+    let alloc = rt.alloc();
+    assert_eq!(rt; read_line(alloc, &["--help"]).err(), Some(LineFault::Help));
+    assert_eq!(rt;
+        read_line(alloc, &["help", "get"]).err(),
+        Some(LineFault::Help)
+    );
+    assert_eq!(rt;
+        read_line(alloc, &["put", "-h"]).err(),
+        Some(LineFault::Help)
+    );
+    assert_eq!(rt;
+        read_line(alloc, &["--version"]).err(),
+        Some(LineFault::Help)
+    );
+    assert_eq!(rt; read_line(alloc, &["-V"]).err(), Some(LineFault::Help));
+    assert_eq!(rt;
+        read_line(alloc, &["get", "--version"]).err(),
+        Some(LineFault::BadLine)
+    );
 }
 
 #[test]

@@ -2,9 +2,14 @@
 use Rattle.std.proofs.lemmas.Result.{err_from_is_err_and}
 use Rattle.chaosd_line.proofs.given.ask_of.Goals as goal
 
+pub returns-in_err-carriage : goal.returns-in_err-carriage
+returns-in_err-carriage c =
+    let p = err_from_is_err_and c.from_residual.result c.from_residual.ensures.1 in
+    rw p.1 (λ ask h. c.in_err-carriage.ensures ask.carriage h.carriage)
+
 pub returns-in_err-address : goal.returns-in_err-address
 returns-in_err-address c =
-    let p = err_from_is_err_and c.from_residual.result c.from_residual.ensures.1 in
+    let p = err_from_is_err_and c.from_residual-in_err-address.result c.from_residual-in_err-address.ensures.1 in
     rw p.1 (λ ask h. c.in_err-address.ensures ask.address h.address)
 
 pub returns-in_err-socket : goal.returns-in_err-socket

@@ -7,6 +7,11 @@ returns-in_err-turns c =
     let p = err_from_is_err_and c.from_residual.result c.from_residual.ensures.1 in
     rw p.1 (λ serve h. c.in_err-turns.ensures serve.turns h.turns)
 
+pub returns-in_err-carriage : goal.returns-in_err-carriage
+returns-in_err-carriage c =
+    let p = err_from_is_err_and c.from_residual-in_err-carriage.result c.from_residual-in_err-carriage.ensures.1 in
+    rw p.1 (λ serve h. c.in_err-carriage.ensures serve.carriage h.carriage)
+
 pub returns-in_err-address : goal.returns-in_err-address
 returns-in_err-address c =
     let p = err_from_is_err_and c.from_residual-in_err-address.result c.from_residual-in_err-address.ensures.1 in

@@ -1,0 +1,97 @@
+//! The files of a line, of which some are the server's and some are local.
+ghost use Rattle.std.specs.Prelude.{◌≡◌, map};
+ghost use Rattle.std.specs.List.{list_all, list_any};
+ghost use Rattle.std.specs.Str.{bytes_eq};
+ghost use Rattle.chaos_file.specs.Names.{is_path};
+ghost use Rattle.chaosd_line.specs.Files.{last_of, is_own_name, are_distinct, are_paths, are_locals};
+
+use crate::names::is_path;
+
+/// What stands behind a text's last slash, and the whole where it has none.
+pub fn last_name(text: &[u8]) -> &[u8]
+    ensures { result.now ≡ last_of text.now }
+{
+    let mut start = 0;
+    for i in 0..text.len() {
+        if text[i] == b'/' {
+            start = i + 1;
+        }
+    }
+    &text[start..]
+}
+
+/// Whether a local file's last name is a path, and no sign for standard input.
+fn is_own_name(text: &str) -> bool
+    ensures { result ≡ is_own_name text.now }
+{
+    let name = last_name(text.as_bytes());
+    is_path(name) && name != b"-".as_slice()
+}
+
+/// Whether a last name is that of one of these texts.
+fn is_among(name: &[u8], texts: &[&str]) -> bool
+    ensures { result ≡ list_any (λ t. bytes_eq (last_of t.now) name.now) texts.now }
+{
+    texts.iter().any(|t| last_name(t.as_bytes()) == name)
+}
+
+/// Whether no two texts have one last name.
+fn are_distinct(texts: &[&str]) -> bool
+    ensures { result ≡ are_distinct (map (λ t. t.now) texts.now) }
+{
+    for i in 0..texts.len() {
+        if is_among(last_name(texts[i].as_bytes()), &texts[i + 1..]) {
+            return false;
+        }
+    }
+    true
+}
+
+/// Whether each text is a path of FILE.
+fn all_paths(texts: &[&str]) -> bool
+    ensures { result ≡ list_all (λ t. is_path t.now) texts.now }
+{
+    texts.iter().all(|t| is_path(t.as_bytes()))
+}
+
+/// Whether the texts are paths of FILE, each once.
+pub(crate) fn are_paths(texts: &[&str]) -> bool
+    ensures { result ≡ are_paths (map (λ t. t.now) texts.now) }
+{
+    all_paths(texts) && are_distinct(texts)
+}
+
+/// Whether the last name of each local file is a path of FILE, and no sign for standard input.
+fn all_own_names(texts: &[&str]) -> bool
+    ensures { result ≡ list_all (λ t. is_own_name t.now) texts.now }
+{
+    texts.iter().all(|t| is_own_name(t))
+}
+
+/// Whether the texts are local files whose last names are paths of FILE, each once.
+pub(crate) fn are_locals(texts: &[&str]) -> bool
+    ensures { result ≡ are_locals (map (λ t. t.now) texts.now) }
+{
+    all_own_names(texts) && are_distinct(texts)
+}
+
+/// The first text that is no path, or that stands there again, to be named in a mistake.
+pub(crate) fn bad_path<'a>(texts: &[&'a str]) -> &'a str {
+    for i in 0..texts.len() {
+        let name = texts[i].as_bytes();
+        if !is_path(name) || is_among(last_name(name), &texts[i + 1..]) {
+            return texts[i];
+        }
+    }
+    ""
+}
+
+/// The first local file whose last name is no path, or is that of a later one.
+pub(crate) fn bad_local<'a>(texts: &[&'a str]) -> &'a str {
+    for i in 0..texts.len() {
+        if !is_own_name(texts[i]) || is_among(last_name(texts[i].as_bytes()), &texts[i + 1..]) {
+            return texts[i];
+        }
+    }
+    ""
+}
