@@ -42,11 +42,11 @@ pub upto_same : {A : Type 0} (f g : ℕ → A) (k : ℕ) → ((i : ℕ) → i < 
 upto_same f g zero h = refl
 upto_same f g (suc k) h = ap (λ l. l ++ f k ∷ []) (upto_same f g k (λ i l. h i (omega arith))) ∙ ap (λ x. upto g k ++ x ∷ []) (h k (omega arith))
 
-next_tid : (first i : ℕ) → first + 1 + i ≡ first + (1 + i)
+pub next_tid : (first i : ℕ) → first + 1 + i ≡ first + (1 + i)
 next_tid first i = omega arith
 
 -- a talk by other words for the same commands and replies
-since_same : (a b : Option Talked) (xs ys rs qs : List (List ℕ)) → xs ≡ ys → rs ≡ qs → Since a b xs rs → Since a b ys qs
+pub since_same : (a b : Option Talked) (xs ys rs qs : List (List ℕ)) → xs ≡ ys → rs ≡ qs → Since a b xs rs → Since a b ys qs
 since_same a b xs ys rs qs e f h = subst (λ l. Since a b ys l) f (subst (λ l. Since a b l rs) e h)
 
 -- one command and its reply, by another number that is the same

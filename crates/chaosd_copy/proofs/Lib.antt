@@ -11,3 +11,5 @@ pub mod Got
 pub mod Named
 pub mod Texts
 pub mod Memory
+pub mod Begun
+pub mod LocalFiles

@@ -1,6 +1,6 @@
 -- What was said and heard, step after step.
 use Rattle.std.proofs.Common.{◌≡◌, ℕ, suc, ◌+◌, ◌<◌, ◌≤◌, Bool, true, false, List, [], ◌∷◌, ◌++◌, Option, Some, None, refl, ap, ◌∙◌, sym, subst, arith}
-use Rattle.std.specs.Prelude.{option_map, Result, Ok, Err, IfOk, IfSome}
+use Rattle.std.specs.Prelude.{option_map, Result, Ok, Err, IfOk, OnErr, IfSome}
 use Rattle.chaosd_copy.specs.Row.{heard_in}
 use Rattle.std.proofs.lemmas.List.{append_assoc, append-nil}
 use Rattle.chaosd_copy.specs.Copy.{upto}
@@ -99,3 +99,7 @@ pub heard_at : (a b : Option Talked) (cs : List (List ℕ)) (g : ℕ → List �
     → Since a b cs (upto g (i + 1))
 heard_at a b cs g i o x e f h =
     subst (λ rs. Since a b cs rs) (ap (λ p. upto g i ++ heard_in p) e ∙ ap (λ y. upto g i ++ y ∷ []) f ∙ sym (upto_more g i)) h
+
+pub on_err : {T F : Type 0} (r : Result T F) (P : Type 0) → P → OnErr r P
+on_err (Ok x) P h = tt
+on_err (Err x) P h = h

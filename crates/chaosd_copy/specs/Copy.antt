@@ -48,6 +48,17 @@ put_commands tid handle path bytes =
     ∷ (upto (λ i. spelling_of (tid (1 + i)) handle (Write (chunk bytes i))) (chunk_count (length bytes))
     ++ spelling_of (tid (1 + chunk_count (length bytes))) handle Close ∷ [])
 
+-- OPEN WRITE and so many of the WRITEs: a put that isn't closed
+abbrev pub put_front : Tids → List ℕ → List ℕ → List ℕ → ℕ → List (List ℕ)
+put_front tid handle path bytes k =
+    spelling_of (tid 0) handle (OpenWrite path) ∷ upto (λ i. spelling_of (tid (1 + i)) handle (Write (chunk bytes i))) k
+
+-- the replies to OPEN and to all WRITEs
+abbrev pub put_front_replies : Tids → List ℕ → List ℕ → List (List ℕ)
+put_front_replies tid handle bytes =
+    reply_of (tid 0) handle (Opened 0)
+    ∷ upto (λ i. reply_of (tid (1 + i)) handle (Wrote (min (MAX_CHUNK * (1 + i)) (length bytes)))) (chunk_count (length bytes))
+
 -- each WRITE is answered by the bytes written so far, and CLOSE by all
 abbrev pub put_replies : Tids → List ℕ → List ℕ → List (List ℕ)
 put_replies tid handle bytes =
@@ -61,6 +72,10 @@ get_commands tid handle path n =
     spelling_of (tid 0) handle (OpenRead path)
     ∷ (upto (λ i. spelling_of (tid (1 + i)) handle Read) (1 + chunk_count n)
     ++ spelling_of (tid (2 + chunk_count n)) handle Close ∷ [])
+
+-- OPEN READ and so many READs
+abbrev pub get_front : Tids → List ℕ → List ℕ → ℕ → List (List ℕ)
+get_front tid handle path k = spelling_of (tid 0) handle (OpenRead path) ∷ upto (λ i. spelling_of (tid (1 + i)) handle Read) k
 
 -- OPEN is answered by the file's length, each READ by a piece but the last, which finds nothing and is answered EOF
 abbrev pub get_replies : Tids → List ℕ → List ℕ → List (List ℕ)

@@ -1,14 +1,15 @@
 -- How a copy ended, and what was said and heard in it.
-use Rattle.std.specs.Prelude.{ℕ, ◌+◌, ◌*◌, List, [], length, min, Result, Ok, Err}
+use Rattle.std.specs.Prelude.{◌≤◌, ◌⊎◌, ℕ, ◌+◌, ◌*◌, List, [], ◌++◌, length, min, Option, Result, Ok, Err}
 use Rattle.std.specs.Fmt.{decimal}
-use Rattle.chaos_file.specs.declared.limits.TheConstants.{MAX_CHUNK}
+use Rattle.chaos_file.specs.declared.limits.TheConstants.{MAX_CHUNK, MAX_FILE}
 use Rattle.chaos_file.specs.Command.{Login, Read, Write}
 use Rattle.chaos_file.specs.Spelling.{spelling_of}
 use Rattle.chaos_file.specs.Answer.{LoggedIn, Wrote, read_answer}
 use Rattle.chaosd_engines.specs.declared.fault.RunFault.{RunFault}
 use Rattle.chaosd_copy.specs.declared.end.CopyEnd.{CopyEnd}
 use Rattle.chaosd_copy.specs.declared.end.CopyEnd.TheVariants as e
-use Rattle.chaosd_copy.specs.Copy.{Tids, chunk, reply_of}
+use Rattle.chaosd_copy.specs.Copy.{Tids, chunk, chunk_count, reply_of, put_front, put_front_replies, put_commands, get_front, get_commands}
+use Rattle.chaosd_copy.specs.Talk.{Talked, Since}
 use Rattle.chaosd_copy.specs.Row.{file_handle}
 
 -- the file was not copied
@@ -55,3 +56,21 @@ read_said first i = spelling_of (decimal (first + i)) file_handle Read
 
 abbrev pub read_heard : ℕ → List ℕ → ℕ → List ℕ
 read_heard first bytes i = reply_of (decimal (first + i)) file_handle (read_answer (chunk bytes i))
+
+-- ---- what was said, however a copy ended
+
+-- Of a put nothing was said since then; or OPEN and some of the WRITEs, which change no file; or all of it, CLOSE too, and then OPEN and
+-- each WRITE were answered as they should be.
+abbrev pub PutBegun : Option Talked → Option Talked → Tids → List ℕ → List ℕ → List ℕ → Type 0
+PutBegun start now tid handle path bytes =
+    ((replies : List (List ℕ)) × Since start now [] replies)
+    ⊎ (((writes : ℕ) × (writes ≤ chunk_count (length bytes)) × (replies : List (List ℕ)) × Since start now (put_front tid handle path bytes writes) replies)
+    ⊎ ((last : List (List ℕ)) × Since start now (put_commands tid handle path bytes) (put_front_replies tid handle bytes ++ last)))
+
+-- Of a get nothing was said since then; or OPEN and some READs, no more than a file of FILE needs; or all that gets a file of some such
+-- length.
+abbrev pub GetBegun : Option Talked → Option Talked → Tids → List ℕ → List ℕ → Type 0
+GetBegun start now tid handle path =
+    ((replies : List (List ℕ)) × Since start now [] replies)
+    ⊎ (((len : ℕ) × (len ≤ MAX_FILE) × (reads : ℕ) × (reads ≤ 1 + chunk_count len) × (replies : List (List ℕ)) × Since start now (get_front tid handle path reads) replies)
+    ⊎ ((len : ℕ) × (len ≤ MAX_FILE) × (replies : List (List ℕ)) × Since start now (get_commands tid handle path len) replies))

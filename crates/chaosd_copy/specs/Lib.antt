@@ -4,3 +4,4 @@ pub mod Row
 pub mod Ends
 pub mod Text
 pub mod Memory
+pub mod Local

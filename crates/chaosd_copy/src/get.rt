@@ -6,8 +6,8 @@ ghost use Rattle.chaos_file.specs.Answer.{Given};
 ghost use Rattle.chaosd_copy.specs.declared.limits.TheConstants.{MAX_FIRST};
 ghost use Rattle.chaosd_copy.specs.Copy.{upto, chunk_count, reply_of, get_commands, get_replies};
 ghost use Rattle.chaosd_copy.specs.Row.{file_handle};
-ghost use Rattle.chaosd_copy.specs.Talk.{Since};
-ghost use Rattle.chaosd_copy.specs.Ends.{IfDone, tids_from, read_said, read_heard};
+ghost use Rattle.chaosd_copy.specs.Talk.{Since, SaidUpTo};
+ghost use Rattle.chaosd_copy.specs.Ends.{IfDone, GetBegun, tids_from, read_said, read_heard};
 
 use crate::end::CopyEnd;
 use crate::errand::Errand;
@@ -95,7 +95,8 @@ fn read_all<T: Talk>(
     requires first { first ≤ MAX_FIRST + 1 }
     requires fits { len ≤ MAX_FILE }
     requires empty { bytes.old.items ≡ [] }
-    ensures { IfDone result ((length bytes.new.items ≡ len) × Since (T.talked talk.old) (T.talked talk.new)
+    ensures said { SaidUpTo (T.talked talk.old) (T.talked talk.new) (read_said first) (1 + chunk_count len) }
+    ensures done { IfDone result ((length bytes.new.items ≡ len) × Since (T.talked talk.old) (T.talked talk.new)
         (upto (read_said first) (1 + chunk_count len)) (upto (read_heard first bytes.new.items) (1 + chunk_count len))) }
 {
     let count = chunk_count(len);
@@ -134,8 +135,10 @@ pub fn get_file<T: Talk>(
     requires first { first ≤ MAX_FIRST }
     requires path { length path.now ≤ MAX_PATH }
     requires empty { bytes.old.items ≡ [] }
-    ensures { IfDone result (Since (T.talked talk.old) (T.talked talk.new)
+    ensures done { IfDone result (Since (T.talked talk.old) (T.talked talk.new)
         (get_commands (tids_from first) file_handle path.now (length bytes.new.items)) (get_replies (tids_from first) file_handle bytes.new.items)) }
+    // However it ended, what was said begins the commands that get a file of some length.
+    ensures begun { GetBegun (T.talked talk.old) (T.talked talk.new) (tids_from first) file_handle path.now }
 {
     let opened = ask_one(talk, Errand::OpenRead(path), first)?;
     let Some(len) = opened_length(&opened, first) else {

@@ -2,17 +2,15 @@
 ghost use Rattle.std.specs.Prelude.{◌≡◌, ◌≤◌, ◌+◌, ◌∷◌, [], ℕ, true, List, Some, length};
 ghost use Rattle.std.specs.List.{flat_map};
 ghost use Rattle.std.specs.FinMap as map;
-ghost use Rattle.chaos_file.specs.Command.{OpenWrite, Write};
 ghost use Rattle.chaos_file.specs.declared.limits.TheConstants.{MAX_FILE, MAX_NAME};
 ghost use Rattle.chaos_file.specs.Names.{is_name, is_path};
 ghost use Rattle.chaos_file.specs.Session.{new_session};
 ghost use Rattle.chaos_file.specs.Replies.{files_after, replies_from};
-ghost use Rattle.chaos_file.specs.Spelling.{spelling_of};
 ghost use Rattle.chaos_file.specs.Store.{Files};
 ghost use Rattle.chaosd_copy.specs.declared.limits.TheConstants.{MAX_FIRST};
 ghost use Rattle.chaosd_copy.specs.Row.{file_handle};
 ghost use Rattle.chaosd_copy.specs.Ends.{tids_from, login_command, login_reply};
-ghost use Rattle.chaosd_copy.specs.Copy.{Tids, CanCopy, Does, upto, chunk, chunk_count, logged_in, put_commands, put_replies, get_commands, get_replies};
+ghost use Rattle.chaosd_copy.specs.Copy.{Tids, CanCopy, Does, upto, chunk, chunk_count, logged_in, put_front, put_commands, put_replies, get_commands, get_replies};
 
 /// A new session's LOGIN gives the user's name, and changes no file.
 pub fn law_login()
@@ -43,8 +41,7 @@ pub fn law_pieces()
 pub fn law_put_broken()
     ensures { (m : Files) (tid : Tids) (name handle path bytes : List ℕ) (k : ℕ) → CanCopy tid (2 + chunk_count (length bytes)) handle path bytes →
         k ≤ chunk_count (length bytes) →
-        files_after m (logged_in name) (spelling_of (tid 0) handle (OpenWrite path)
-        ∷ upto (λ i. spelling_of (tid (1 + i)) handle (Write (chunk bytes i))) k) ≡ m }
+        files_after m (logged_in name) (put_front tid handle path bytes k) ≡ m }
 {}
 
 /// Where the commands that get a file were answered as a file of these bytes is, the server's file at the path has these bytes: the

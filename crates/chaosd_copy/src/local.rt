@@ -1,6 +1,7 @@
 //! Local files, read and written whole.
-ghost use Rattle.std.specs.Prelude.{◌≤◌, length, IfOk, IfSome};
+ghost use Rattle.std.specs.Prelude.{◌≡◌, ◌≤◌, ◌<◌, None, length, IfOk, IfSome};
 ghost use Rattle.chaos_file.specs.declared.limits.TheConstants.{MAX_FILE};
+ghost use Rattle.chaosd_copy.specs.Local.{IsLastName};
 
 use chaos_file::MAX_FILE;
 use std::alloc::Global;
@@ -16,7 +17,11 @@ use std::{fs, io};
 pub fn read_whole<F: Read>(alloc: Global, from: F) -> io::Result<Option<Vec<u8>>>
 where
     F: Drop,
-    ensures { IfOk result (λ o. IfSome o (λ v. length v.items ≤ MAX_FILE)) }
+    ensures fits { IfOk result (λ o. IfSome o (λ v. length v.items ≤ MAX_FILE)) }
+    // What is answered is all that the reader had left.
+    ensures whole { IfOk result (λ o. IfSome o (λ v. IfSome (F.remaining from) (λ input. v.items ≡ input))) }
+    // There is too much for a file only where there is.
+    ensures much { IfOk result (λ o. o ≡ None → IfSome (F.remaining from) (λ input. MAX_FILE < length input)) }
 {
     let mut bytes = Vec::new(alloc);
     from.take((MAX_FILE as u64).saturating_add(1))
@@ -36,12 +41,15 @@ fn folder_of(path: &str) -> &str {
     }
 }
 
-/// What stands behind a path's last slash.
-pub fn last_name(path: &str) -> &str {
-    match path.rsplit_once('/') {
-        Some((_, name)) => name,
-        None => path,
+/// What stands behind a path's last slash, or all of it where there is none. The cost is a look at each byte.
+pub fn last_name(path: &str) -> &str
+    ensures { IsLastName path.now result.now }
+{
+    let mut name = path;
+    while let Some((_, behind)) = name.split_once('/') {
+        name = behind;
     }
+    name
 }
 
 /// The name beside a file's under which it is written: hidden, and with a mark of who writes it.

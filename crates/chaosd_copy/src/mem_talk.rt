@@ -1,5 +1,5 @@
 //! A talk with a FILE server in memory.
-ghost use Rattle.std.specs.Prelude.{◌≡◌, ◌≤◌, length, take, map, option_map, Some, Err};
+ghost use Rattle.std.specs.Prelude.{◌≡◌, ◌≤◌, [], length, take, map, option_map, Some, Err};
 ghost use Rattle.std.specs.FinMap as fin;
 ghost use Rattle.chaos_file.specs.declared.error.FileError.TheVariants.{NoMemory};
 ghost use Rattle.chaos_file.specs.declared.limits.TheConstants.{MAX_REPLY};
@@ -76,7 +76,9 @@ fn kept(command: &[u8]) -> Reply
 
 impl MemTalk {
     /// A server without files, and nothing said yet. It takes no memory.
-    pub fn new(alloc: Global) -> Self {
+    pub fn new(alloc: Global) -> Self
+        ensures { ⟦<MemTalk as Talk>⟧.talked result ≡ Some (record { said = []; heard = [] }) }
+    {
         MemTalk {
             alloc,
             store: MemStore::new(alloc),

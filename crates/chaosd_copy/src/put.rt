@@ -4,8 +4,8 @@ ghost use Rattle.chaos_file.specs.declared.limits.TheConstants.{MAX_FILE, MAX_PA
 ghost use Rattle.chaosd_copy.specs.declared.limits.TheConstants.{MAX_FIRST};
 ghost use Rattle.chaosd_copy.specs.Copy.{upto, chunk_count, put_commands, put_replies};
 ghost use Rattle.chaosd_copy.specs.Row.{file_handle};
-ghost use Rattle.chaosd_copy.specs.Talk.{Since};
-ghost use Rattle.chaosd_copy.specs.Ends.{IfDone, tids_from, write_said, write_heard};
+ghost use Rattle.chaosd_copy.specs.Talk.{Since, SaidUpTo};
+ghost use Rattle.chaosd_copy.specs.Ends.{IfDone, PutBegun, tids_from, write_said, write_heard};
 
 use crate::end::CopyEnd;
 use crate::errand::Errand;
@@ -29,7 +29,8 @@ pub fn chunk_count(length: usize) -> usize
 fn write_all<T: Talk>(talk: &mut T, first: u32, bytes: &[u8]) -> Result<CopyEnd, RunFault>
     requires first { first ≤ MAX_FIRST + 1 }
     requires fits { length bytes.now ≤ MAX_FILE }
-    ensures { IfDone result (Since (T.talked talk.old) (T.talked talk.new)
+    ensures said { SaidUpTo (T.talked talk.old) (T.talked talk.new) (write_said first bytes.now) (chunk_count (length bytes.now)) }
+    ensures done { IfDone result (Since (T.talked talk.old) (T.talked talk.new)
         (upto (write_said first bytes.now) (chunk_count (length bytes.now))) (upto (write_heard first bytes.now) (chunk_count (length bytes.now)))) }
 {
     let count = chunk_count(bytes.len());
@@ -71,8 +72,10 @@ pub fn put_file<T: Talk>(
     requires first { first ≤ MAX_FIRST }
     requires path { length path.now ≤ MAX_PATH }
     requires fits { length bytes.now ≤ MAX_FILE }
-    ensures { IfDone result (Since (T.talked talk.old) (T.talked talk.new)
+    ensures done { IfDone result (Since (T.talked talk.old) (T.talked talk.new)
         (put_commands (tids_from first) file_handle path.now bytes.now) (put_replies (tids_from first) file_handle bytes.now)) }
+    // However it ended, what was said begins those commands, and CLOSE was said only where all before it was answered as it should be.
+    ensures begun { PutBegun (T.talked talk.old) (T.talked talk.new) (tids_from first) file_handle path.now bytes.now }
 {
     let opened = ask_one(talk, Errand::OpenWrite(path), first)?;
     let wanted = counted(first, HANDLE, b"OPEN ", 0);

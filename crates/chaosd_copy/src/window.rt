@@ -1,7 +1,7 @@
 //! Commands that are said before the replies to those before them came.
-ghost use Rattle.std.specs.Prelude.{◌≡◌, ◌≤◌, ◌<◌, ◌+◌, ◌++◌, ◌∷◌, [], ℕ, true, List, Option, Some, option_map, length, IfOk, IfSome};
+ghost use Rattle.std.specs.Prelude.{◌≡◌, ◌≤◌, ◌<◌, ◌+◌, ◌++◌, ◌∷◌, [], ℕ, true, List, Option, Some, option_map, length, IfOk, OnErr, IfSome};
 ghost use Rattle.chaosd_copy.specs.Copy.{upto};
-ghost use Rattle.chaosd_copy.specs.Talk.{Talked, Since, after_hear};
+ghost use Rattle.chaosd_copy.specs.Talk.{Talked, Since, SaidOrNot, after_hear};
 ghost use Rattle.chaosd_copy.specs.Row.{ErrandFits, errand_command, row_command, heard_in};
 ghost use Rattle.chaosd_copy.specs.declared.limits.TheConstants.{MAX_FIRST};
 ghost use Rattle.chaos_file.specs.declared.limits.TheConstants.{MAX_NAME};
@@ -74,6 +74,9 @@ pub fn next_reply<T: Talk>(
     ensures asked { IfOk result (λ r. IfSome r (λ _. place < said.new)) }
     ensures talk { (start : Option Talked) (replies : List (List ℕ)) → Since start (T.talked talk.old) (upto (row_command row.now) said.old) replies
         → IfOk result (λ r. Since start (T.talked talk.new) (upto (row_command row.now) said.new) (replies ++ heard_in (option_map (λ v. v.items) r))) }
+    // Where a turn fails, what was said before it was, and nothing more was heard.
+    ensures fault { (start : Option Talked) (replies : List (List ℕ)) → Since start (T.talked talk.old) (upto (row_command row.now) said.old) replies
+        → OnErr result (Since start (T.talked talk.new) (upto (row_command row.now) said.new) replies) }
 {
     let since = talk.moment();
     for turns in 0..u32::MAX {
@@ -97,8 +100,9 @@ pub fn ask_one<T: Talk>(
 ) -> Result<Option<Reply>, RunFault>
     requires tid { tid ≤ MAX_FIRST + 9000 }
     requires fits { ErrandFits errand }
-    ensures { IfOk result (λ r. IfSome r (λ reply. Since (T.talked talk.old) (T.talked talk.new)
+    ensures heard { IfOk result (λ r. IfSome r (λ reply. Since (T.talked talk.old) (T.talked talk.new)
         (errand_command errand.entry 0 tid ∷ []) (reply.items ∷ []))) }
+    ensures said { SaidOrNot (T.talked talk.old) (T.talked talk.new) (errand_command errand.entry 0 tid) }
 {
     let row = Row {
         first: tid,
@@ -144,7 +148,9 @@ pub fn settled(reply: Option<Reply>, wanted: &Reply, tid: u32, handle: &[u8]) ->
 /// Those of the talk's turns.
 pub fn log_in<T: Talk>(talk: &mut T, name: &[u8]) -> Result<CopyEnd, RunFault>
     requires { length name.now ≤ MAX_NAME }
-    ensures { IfDone result (Since (T.talked talk.old) (T.talked talk.new) (login_command name.now ∷ []) (login_reply name.now ∷ [])) }
+    ensures done { IfDone result (Since (T.talked talk.old) (T.talked talk.new) (login_command name.now ∷ []) (login_reply name.now ∷ [])) }
+    // However it ended, nothing but the LOGIN was said.
+    ensures begun { SaidOrNot (T.talked talk.old) (T.talked talk.new) (login_command name.now) }
 {
     let reply = ask_one(talk, Errand::Login(name), 0)?;
     let wanted = spelled(0, b"", b"LOGIN ", name);

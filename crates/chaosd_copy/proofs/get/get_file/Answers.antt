@@ -1,31 +1,72 @@
-use Rattle.std.proofs.Common.{ap, sym, subst, ◌∙◌, ◌+◌, [], ◌∷◌}
+use Rattle.std.proofs.Common.{rules, ◌≤◌, ap, sym, subst, ◌∙◌, ◌+◌, [], ◌∷◌}
 use Rattle.std.specs.Fmt.{decimal}
+use Rattle.chaos_file.specs.declared.limits.TheConstants.{MAX_FILE}
 use Rattle.chaos_file.specs.Answer.{Opened, Closed}
 use Rattle.chaos_file.specs.Command.{OpenRead, Close}
 use Rattle.chaos_file.specs.Spelling.{spelling_of}
 use Rattle.chaosd_copy.specs.Copy.{upto, reply_of, chunk_count}
-use Rattle.chaosd_copy.specs.Talk.{Since}
+use Rattle.chaosd_copy.specs.Talk.{Since, SaidOrNot}
 use Rattle.chaosd_copy.specs.Row.{file_handle}
 use Rattle.chaosd_copy.specs.Ends.{read_said, read_heard}
 use Rattle.chaosd_copy.proofs.Joined.{copied_then, when_copied, get_joined}
 use Rattle.chaosd_copy.proofs.Talks.{wanted_heard}
+use Rattle.chaosd_copy.proofs.Begun.{get_reading, get_closing}
 use Rattle.chaosd_copy.proofs.get.get_file.Goals as goal
 
-pub returns : goal.returns
-returns g c =
+pub returns-clause-done : goal.returns-clause-done
+returns-clause-done g c =
     let a = g.T.Talk.talked c.args.talk.now in
     let b = g.T.Talk.talked c.ask_one.new.talk in
     let m = g.T.Talk.talked c.read_all.new.talk in
     let d = g.T.Talk.talked c.ask_one-2.new.talk in
     let xs = c.read_all.new.bytes.items in
-    let p = when_copied _ _ c.in-Done-2.is c.in_ok-end.ensures in
+    let p = when_copied _ _ c.in-Done-2.is c.in_ok-end.ensures.done in
     copied_then _ _ _ (λ e. get_joined a b m d c.args.first c.args.path.now xs
     (wanted_heard (λ v. v.items) (λ x. Since a b (spelling_of (decimal c.args.first) file_handle (OpenRead c.args.path.now) ∷ []) (x ∷ []))
-    c.in_ok-opened.opened _ _ c.in-Done.ensures (c.counted-wanted.ensures ∙ ap (λ n. reply_of (decimal c.args.first) file_handle (Opened n)) (sym p.0)) c.in_ok-opened.ensures)
+    c.in_ok-opened.opened _ _ c.in-Done.ensures (c.counted-wanted.ensures ∙ ap (λ n. reply_of (decimal c.args.first) file_handle (Opened n)) (sym p.0)) c.in_ok-opened.ensures.heard)
     (subst (λ n. Since b m (upto (read_said (c.args.first + 1)) (1 + chunk_count n)) (upto (read_heard (c.args.first + 1) xs) (1 + chunk_count n))) (sym p.0) p.1)
     (subst (λ n. Since m d (spelling_of (decimal (c.args.first + 2 + chunk_count n)) file_handle Close ∷ []) (reply_of (decimal (c.args.first + 2 + chunk_count n)) file_handle (Closed n) ∷ []))
     (sym p.0)
     (subst (λ n. Since m d (spelling_of (decimal (c.args.first + 2 + n)) file_handle Close ∷ []) (reply_of (decimal (c.args.first + 2 + n)) file_handle (Closed c.in-Some.len) ∷ []))
     c.chunk_count.ensures.value
     (wanted_heard (λ v. v.items) (λ x. Since m d (spelling_of (decimal (c.args.first + 2 + c.chunk_count.result)) file_handle Close ∷ []) (x ∷ []))
-    c.in_ok-closed.closed _ _ e c.counted-all.ensures c.in_ok-closed.ensures)))) c.settled-2.ensures
+    c.in_ok-closed.closed _ _ e c.counted-all.ensures c.in_ok-closed.ensures.heard)))) c.settled-2.ensures
+
+pub returns-in_err-end-clause-begun : goal.returns-in_err-end-clause-begun
+returns-in_err-end-clause-begun g c =
+    let fits : c.in-Some.len ≤ MAX_FILE = search rules in
+    get_reading _ _ _ c.args.first c.in-Some.len c.args.path.now _ fits
+    (wanted_heard (λ v. v.items) (λ x. Since (g.T.Talk.talked c.args.talk.now) (g.T.Talk.talked c.ask_one.new.talk) (spelling_of (decimal c.args.first) file_handle (OpenRead c.args.path.now) ∷ []) (x ∷ []))
+    c.in_ok-opened.opened _ _ c.in-Done.ensures c.counted-wanted.ensures c.in_ok-opened.ensures.heard)
+    c.read_all.ensures.said
+
+pub returns-in_default-2 : goal.returns-in_default-2
+returns-in_default-2 g c =
+    let fits : c.in-Some.len ≤ MAX_FILE = search rules in
+    record {
+      done = search rules;
+      begun = get_reading _ _ _ c.args.first c.in-Some.len c.args.path.now _ fits
+          (wanted_heard (λ v. v.items) (λ x. Since (g.T.Talk.talked c.args.talk.now) (g.T.Talk.talked c.ask_one.new.talk) (spelling_of (decimal c.args.first) file_handle (OpenRead c.args.path.now) ∷ []) (x ∷ []))
+          c.in_ok-opened.opened _ _ c.in-Done.ensures c.counted-wanted.ensures c.in_ok-opened.ensures.heard)
+          c.read_all.ensures.said;
+    }
+
+pub returns-in_err-closed-clause-begun : goal.returns-in_err-closed-clause-begun
+returns-in_err-closed-clause-begun g c =
+    let fits : c.in-Some.len ≤ MAX_FILE = search rules in
+    get_closing _ _ _ _ c.args.first c.in-Some.len c.args.path.now _ _ fits
+    (wanted_heard (λ v. v.items) (λ x. Since (g.T.Talk.talked c.args.talk.now) (g.T.Talk.talked c.ask_one.new.talk) (spelling_of (decimal c.args.first) file_handle (OpenRead c.args.path.now) ∷ []) (x ∷ []))
+    c.in_ok-opened.opened _ _ c.in-Done.ensures c.counted-wanted.ensures c.in_ok-opened.ensures.heard)
+    (when_copied _ _ c.in-Done-2.is c.in_ok-end.ensures.done).1
+    (subst (λ n. SaidOrNot (g.T.Talk.talked c.read_all.new.talk) (g.T.Talk.talked c.ask_one-2.new.talk) (spelling_of (decimal (c.args.first + 2 + n)) file_handle Close))
+    c.chunk_count.ensures.value c.ask_one-2.ensures.said)
+
+pub returns-clause-begun : goal.returns-clause-begun
+returns-clause-begun g c =
+    let fits : c.in-Some.len ≤ MAX_FILE = search rules in
+    get_closing _ _ _ _ c.args.first c.in-Some.len c.args.path.now _ _ fits
+    (wanted_heard (λ v. v.items) (λ x. Since (g.T.Talk.talked c.args.talk.now) (g.T.Talk.talked c.ask_one.new.talk) (spelling_of (decimal c.args.first) file_handle (OpenRead c.args.path.now) ∷ []) (x ∷ []))
+    c.in_ok-opened.opened _ _ c.in-Done.ensures c.counted-wanted.ensures c.in_ok-opened.ensures.heard)
+    (when_copied _ _ c.in-Done-2.is c.in_ok-end.ensures.done).1
+    (subst (λ n. SaidOrNot (g.T.Talk.talked c.read_all.new.talk) (g.T.Talk.talked c.ask_one-2.new.talk) (spelling_of (decimal (c.args.first + 2 + n)) file_handle Close))
+    c.chunk_count.ensures.value c.ask_one-2.ensures.said)

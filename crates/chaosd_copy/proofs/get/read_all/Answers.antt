@@ -10,6 +10,7 @@ use Rattle.chaosd_copy.specs.Ends.{read_said, read_heard}
 use Rattle.chaosd_copy.proofs.Talks.{wanted_asked}
 use Rattle.chaosd_copy.proofs.Joined.{when_copied, from_copied}
 use Rattle.chaosd_copy.proofs.Growing.{grows, ends}
+use Rattle.chaosd_copy.proofs.Begun.{said_up_to}
 use Rattle.chaosd_copy.proofs.get.read_all.Goals as goal
 
 pub loop-i-preserved : goal.loop-i-preserved
@@ -26,8 +27,8 @@ loop-i-preserved g c =
           (grows _ _ (upto (read_said c.args.first) c.next_reply.new.said) c.args.first c.loop-i.i c.loop-i.bytes.items p.0 _ old (omega arith) (omega arith) p.3 (c.in_ok-reply.ensures.talk _ _ c.loop-i.invariant.talk));
     }
 
-pub returns : goal.returns
-returns g c =
+pub returns-clause-done : goal.returns-clause-done
+returns-clause-done g c =
     let n : c.loop-i.i ≡ c.chunk_count-count.result = search rules in
     let k : c.chunk_count-count.result ≡ chunk_count c.args.len = c.chunk_count-count.ensures.value in
     let all : min (MAX_CHUNK * c.loop-i.i) c.args.len ≡ c.args.len = omega arith in
@@ -46,3 +47,30 @@ returns g c =
           (e ∙ ap Some (c.spelled-wanted.ensures ∙ ap (λ m. reply_of (decimal (c.args.first + m)) file_handle AtEnd) (sym n)))
           (c.in_ok-last.ensures.talk _ _ c.loop-i.invariant.talk))),
     ))
+
+pub returns-in_err-reply-clause-said : goal.returns-in_err-reply-clause-said
+returns-in_err-reply-clause-said g c =
+    said_up_to _ _ (read_said c.args.first) c.next_reply.new.said (1 + c.chunk_count-count.result) _ _ c.next_reply.ensures.within (ap (λ n. 1 + n) c.chunk_count-count.ensures.value)
+    (c.in_err-reply.ensures.fault _ _ c.loop-i.invariant.talk)
+
+pub returns-in_err-end-clause-said : goal.returns-in_err-end-clause-said
+returns-in_err-end-clause-said g c =
+    said_up_to _ _ (read_said c.args.first) c.next_reply.new.said (1 + c.chunk_count-count.result) _ _ c.next_reply.ensures.within (ap (λ n. 1 + n) c.chunk_count-count.ensures.value)
+    (c.in_ok-reply.ensures.talk _ _ c.loop-i.invariant.talk)
+
+pub returns-in_default : goal.returns-in_default
+returns-in_default g c = record {
+  said = said_up_to _ _ (read_said c.args.first) c.next_reply.new.said (1 + c.chunk_count-count.result) _ _ c.next_reply.ensures.within (ap (λ n. 1 + n) c.chunk_count-count.ensures.value)
+      (c.in_ok-reply.ensures.talk _ _ c.loop-i.invariant.talk);
+  done = search rules;
+}
+
+pub returns-in_err-last-clause-said : goal.returns-in_err-last-clause-said
+returns-in_err-last-clause-said g c =
+    said_up_to _ _ (read_said c.args.first) c.next_reply-2.new.said (1 + c.chunk_count-count.result) _ _ c.next_reply-2.ensures.within (ap (λ n. 1 + n) c.chunk_count-count.ensures.value)
+    (c.in_err-last.ensures.fault _ _ c.loop-i.invariant.talk)
+
+pub returns-clause-said : goal.returns-clause-said
+returns-clause-said g c =
+    said_up_to _ _ (read_said c.args.first) c.next_reply-2.new.said (1 + c.chunk_count-count.result) _ _ c.next_reply-2.ensures.within (ap (λ n. 1 + n) c.chunk_count-count.ensures.value)
+    (c.in_ok-last.ensures.talk _ _ c.loop-i.invariant.talk)

@@ -1,10 +1,11 @@
-use Rattle.std.proofs.Common.{arith, ap, ◌∙◌, ◌+◌, ◌<◌}
+use Rattle.std.proofs.Common.{arith, rules, ap, ◌∙◌, ◌+◌, ◌<◌}
 use Rattle.std.specs.Fmt.{decimal}
 use Rattle.chaos_file.specs.Answer.{Wrote}
 use Rattle.chaosd_copy.specs.Copy.{reply_of}
 use Rattle.chaosd_copy.specs.Row.{file_handle}
-use Rattle.chaosd_copy.specs.Ends.{write_heard}
+use Rattle.chaosd_copy.specs.Ends.{write_said, write_heard}
 use Rattle.chaosd_copy.proofs.Talks.{heard_at, wanted_asked}
+use Rattle.chaosd_copy.proofs.Begun.{said_up_to}
 use Rattle.chaosd_copy.proofs.put.write_all.Goals as goal
 
 pub loop-i-preserved : goal.loop-i-preserved
@@ -15,3 +16,19 @@ loop-i-preserved g c = record {
       (c.counted-wanted.ensures ∙ ap (λ n. reply_of (decimal (c.args.first + c.loop-i.i)) file_handle (Wrote n)) c.min.ensures)
       (c.in_ok-reply.ensures.talk _ _ c.loop-i.invariant.talk);
 }
+
+pub returns-in_err-reply-clause-said : goal.returns-in_err-reply-clause-said
+returns-in_err-reply-clause-said g c =
+    said_up_to _ _ (write_said c.args.first c.args.bytes.now) c.next_reply.new.said c.chunk_count-count.result _ _ c.next_reply.ensures.within c.chunk_count-count.ensures.value
+    (c.in_err-reply.ensures.fault _ _ c.loop-i.invariant.talk)
+
+pub returns-in_default : goal.returns-in_default
+returns-in_default g c = record {
+  said = said_up_to _ _ (write_said c.args.first c.args.bytes.now) c.next_reply.new.said c.chunk_count-count.result _ _ c.next_reply.ensures.within c.chunk_count-count.ensures.value
+      (c.in_ok-reply.ensures.talk _ _ c.loop-i.invariant.talk);
+  done = search rules;
+}
+
+pub returns-clause-said : goal.returns-clause-said
+returns-clause-said g c =
+    said_up_to _ _ (write_said c.args.first c.args.bytes.now) c.loop-i.said c.chunk_count-count.result _ _ c.loop-i.invariant.said c.chunk_count-count.ensures.value c.loop-i.invariant.talk

@@ -1,11 +1,20 @@
 use Rattle.std.proofs.Common.{arith, ap, [], ◌+◌, ◌≡◌}
 use Rattle.chaosd_copy.specs.Row.{errand_command}
 use Rattle.chaosd_copy.proofs.Talks.{asked_one, since_none}
+use Rattle.chaosd_copy.proofs.Begun.{asked_or_not}
 use Rattle.chaosd_copy.proofs.window.ask_one.Goals as goal
 
-pub returns : goal.returns
-returns g c =
+pub returns-clause-heard : goal.returns-clause-heard
+returns-clause-heard g c =
     let e : c.args.tid + 0 ≡ c.args.tid = omega arith in
     asked_one (λ v. v.items) _ _ _ _ (errand_command c.args.errand 0 c.args.tid) c.next_reply.result (ap (errand_command c.args.errand 0) e)
     c.next_reply.ensures.asked c.next_reply.ensures.within
     (c.next_reply.ensures.talk (g.T.Talk.talked c.args.talk.now) [] (since_none _))
+
+pub returns-clause-said : goal.returns-clause-said
+returns-clause-said g c =
+    let e : c.args.tid + 0 ≡ c.args.tid = omega arith in
+    asked_or_not (λ v. v.items) _ _ _ _ (errand_command c.args.errand 0 c.args.tid) c.next_reply.result (ap (errand_command c.args.errand 0) e)
+    c.next_reply.ensures.within
+    (c.next_reply.ensures.talk (g.T.Talk.talked c.args.talk.now) [] (since_none _))
+    (c.next_reply.ensures.fault (g.T.Talk.talked c.args.talk.now) [] (since_none _))

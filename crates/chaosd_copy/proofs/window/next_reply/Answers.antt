@@ -1,5 +1,5 @@
 use Rattle.std.proofs.Common.{rules, ◌∙◌, ◌≡◌, None}
-use Rattle.chaosd_copy.proofs.Talks.{heard_next, heard_none, nothing_more}
+use Rattle.chaosd_copy.proofs.Talks.{heard_next, heard_none, nothing_more, on_err}
 use Rattle.chaosd_copy.proofs.window.next_reply.Goals as goal
 
 pub returns-in-Some-clause-talk : goal.returns-in-Some-clause-talk
@@ -21,3 +21,9 @@ loop-turns-preserved g c =
 
 pub returns-clause-talk : goal.returns-clause-talk
 returns-clause-talk g c = λ start replies h. nothing_more start _ _ replies (c.loop-turns.invariant.1 start replies h)
+
+pub returns-in_err-turn-clause-fault : goal.returns-in_err-turn-clause-fault
+returns-in_err-turn-clause-fault g c = λ start replies h.
+    let none : c.hear_asked.result ≡ None = search rules in
+    on_err c.from_residual.result _ (c.turn.ensures ∙ c.say_on.ensures.talk start replies
+    (heard_none (λ v. v.items) start _ _ _ replies c.hear_asked.result (c.loop-turns.invariant.1 start replies h) c.hear_asked.ensures.talk none))
