@@ -24,10 +24,13 @@ mod turns;
 mod why;
 
 pub use ask_run::run_ask;
+pub use client::pass_indices;
+pub use clock::Beginning;
 pub use end::ScriptEnd;
 pub use limits::{LOOP_CLIENT, LOOP_SERVER, NOBODY};
 pub use loop_run::run_loop;
-pub use patience::NoReply;
+pub use patience::{NoReply, Patience};
 pub use serve_run::run_serve;
 pub use status::{script_status, serve_status};
+pub use text::Shown;
 pub use why::{BadLine, Why};

@@ -1,0 +1,280 @@
+//! A call to a FILE server over a link.
+ghost use Rattle.std.specs.Prelude.{◌≡◌, ◌<◌, ◌⊎◌, ◌%◌, ℕ, None, Err, option_map, IfErr, IfOk, OnOk};
+ghost use Rattle.chaos_packet.specs.Count.{Rose};
+ghost use Rattle.chaos_packet.specs.Opcode.{op_data};
+ghost use Rattle.chaos_packet.specs.Outbox.{room_of, with_put};
+ghost use Rattle.chaos_conn.specs.Act.{Gave, Read, Write};
+ghost use Rattle.chaos_host.specs.Calls.{plain_reply_of};
+ghost use Rattle.chaos_turn.specs.declared.limits.TheConstants.{TURN_ROOM};
+ghost use Rattle.chaosd_copy.specs.Talk.{after_hear, after_say};
+ghost use Rattle.chaosd_file.specs.Client.{call_by, data_read, is_over, is_wrote};
+ghost use Rattle.chaosd_call.specs.Call.{Connects, HangsUp, Hears, Says, TurnsBy, asked, caller, closed, config_for, new_caller};
+
+use chaos_conn::{ConnConfig, ReadEnd};
+use chaos_file::Reply;
+use chaos_host::{CallFault, ConnId, Host};
+use chaos_link::{Carriage, Link};
+use chaos_packet::{Opcode, Outbox, PktNum};
+use chaos_serve::CONTACT;
+use chaos_turn::{TURN_ROOM, TurnEnd, client_turn};
+use chaosd_copy::Talk;
+use chaosd_engines::RunFault;
+use chaosd_file::{Beginning, NoReply, Patience, pass_indices};
+use std::alloc::Global;
+use std::time::Clock;
+
+/// A connection to a FILE server, over a link and by a clock. It tells nothing of what was said and heard, since a network can't be known:
+/// what it does at a link is what `Host` and `client_turn` say.
+#[derive(Drop)]
+pub struct Call<'a, C: Clock, L: Link> {
+    clock: &'a C,
+    link: &'a mut L,
+    beginning: Beginning,
+    /// The moment of the last turn.
+    now: u64,
+    host: Host,
+    out: Outbox,
+    to: u16,
+    id: Option<ConnId>,
+    /// How packets are sent.
+    carriage: Carriage,
+    /// Since when a reply is waited for, and why none came.
+    patience: Patience,
+    ghost room: { out.cap ≡ TURN_ROOM },
+}
+
+impl<'a, C: Clock, L: Link> Call<'a, C, L> {
+    /// The host `me`, which will ask the host `to` for connections, one at a time, and has none yet. Both windows have `window` packets,
+    /// from 1 to 64; any other number stands for the usual 13. So as many commands are in flight as the lesser of this and the server's
+    /// window allows. What it sends goes out by the carriage; datagrams of both versions are read.
+    ///
+    /// The engines hear all that is there before they say more, and each command tells what was read: so a server never has more to
+    /// answer than it has room for replies, whatever the two windows are.
+    ///
+    /// # Errors
+    /// `ClockFault` and `NoMemory`.
+    pub fn new(
+        clock: &'a C,
+        alloc: Global,
+        link: &'a mut L,
+        me: u16,
+        to: u16,
+        window: u16,
+        carriage: Carriage,
+    ) -> Result<Self, RunFault>
+        requires { 0 < me }
+        ensures faults { IfErr result (λ fault. (fault ≡ RunFault.ClockFault) ⊎ (fault ≡ RunFault.NoMemory)) }
+        ensures made { (millis : ℕ) × IfOk result (λ call. caller call.host call.id call.out ≡ new_caller me to window (millis % 256)) }
+        ensures server { IfOk result (λ call. (call.to ≡ to) × (call.carriage ≡ carriage)) }
+    {
+        let beginning = Beginning::new(clock)?;
+        let Ok(mut host) = Host::new(alloc, me, 1, config_of(window)) else {
+            return Err(RunFault::NoMemory);
+        };
+        let Ok(mut out) = Outbox::new(alloc, TURN_ROOM) else {
+            return Err(RunFault::NoMemory);
+        };
+        pass_indices(&mut host, to, beginning.low_bits(), &mut out);
+        Ok(Call {
+            clock,
+            link,
+            beginning,
+            now: 0,
+            host,
+            out,
+            to,
+            id: None,
+            carriage,
+            patience: Patience::new(),
+        })
+    }
+
+    /// Asks for a connection, in place of one that there was. It is open once the server has answered, within turns.
+    ///
+    /// # Errors
+    /// `ClockFault`, and what `hang_up` gives.
+    pub fn connect(&mut self) -> Result<(), RunFault>
+        ensures faults { IfErr result (λ fault. (fault ≡ RunFault.ClockFault) ⊎ (fault ≡ RunFault.LinkFault)) }
+        ensures well { OnOk result (Connects self.old.to self.old.carriage (L.queue self.old.link.now) (L.queue self.new.link.now)
+            (caller self.old.host self.old.id self.old.out) (caller self.new.host self.new.id self.new.out)) }
+    {
+        self.hang_up()?;
+        self.now = self.beginning.moment(self.clock)?;
+        self.patience = Patience::new();
+        self.patience.begin(self.now);
+        let start = self.beginning.number(self.now);
+        self.id = ask_for(&mut self.host, self.to, start, self.now, &mut self.out);
+        Ok(())
+    }
+
+    /// Closes the connection with an empty text, where there is one, and sends what waits in one more turn. The server then forgets the
+    /// session, and what its handles had written.
+    ///
+    /// # Errors
+    /// `LinkFault` and `ClockFault`.
+    pub fn hang_up(&mut self) -> Result<(), RunFault>
+        ensures faults { IfErr result (λ fault. (fault ≡ RunFault.ClockFault) ⊎ (fault ≡ RunFault.LinkFault)) }
+        ensures well { OnOk result (HangsUp self.old.carriage (L.queue self.old.link.now) (L.queue self.new.link.now)
+            (caller self.old.host self.old.id self.old.out) (caller self.new.host self.new.id self.new.out)) }
+        ensures same_server { (self.new.to ≡ self.old.to) × (self.new.carriage ≡ self.old.carriage) }
+        ensures gone { OnOk result (self.new.id ≡ None) }
+    {
+        let Some(id) = self.id else {
+            return Ok(());
+        };
+        self.id = None;
+        close(&mut self.host, id, &mut self.out);
+        self.take_turn()
+    }
+
+    /// Why no reply came, as far as is known: how long one was waited for since the last, or what the server sent that ended the
+    /// connection. What it sent is told once.
+    pub fn no_reply(&mut self) -> NoReply {
+        self.patience.no_reply()
+    }
+
+    /// One turn at this moment. The place where a turn is taken.
+    fn take_turn(&mut self) -> Result<(), RunFault>
+        ensures faults { IfErr result (λ fault. (fault ≡ RunFault.ClockFault) ⊎ (fault ≡ RunFault.LinkFault)) }
+        ensures failed { result ≡ Err RunFault.LinkFault → Rose (L.count self.old.link.now) (L.count self.new.link.now) }
+        ensures well { OnOk result (TurnsBy self.old.carriage (L.queue self.old.link.now) (L.queue self.new.link.now)
+            (caller self.old.host self.old.id self.old.out) (caller self.new.host self.new.id self.new.out)) }
+        ensures same_server { (self.new.to ≡ self.old.to) × (self.new.carriage ≡ self.old.carriage) }
+    {
+        self.now = self.beginning.moment(self.clock)?;
+        let mut told = None;
+        let end = client_turn(
+            &mut self.host,
+            self.link,
+            self.now,
+            &mut self.out,
+            &mut told,
+            self.carriage,
+        );
+        self.patience.note(self.now, told);
+        match end {
+            TurnEnd::LinkFault => Err(RunFault::LinkFault),
+            _ => Ok(()),
+        }
+    }
+}
+
+/// The usual configuration, with windows of so many packets.
+fn config_of(window: u16) -> ConnConfig
+    ensures { result ≡ config_for window }
+{
+    match ConnConfig::new(window, window, 500, 10_000, 90_000) {
+        Ok(config) => config,
+        Err(_) => ConnConfig::usual(),
+    }
+}
+
+/// Asks for a connection, where there is room for its RFC.
+fn ask_for(host: &mut Host, to: u16, start: PktNum, now: u64, out: &mut Outbox) -> Option<ConnId>
+    ensures { caller host.new result out.new ≡ asked to start now host.old out.old }
+{
+    if out.room() == 0 {
+        return None;
+    }
+    host.connect(to, CONTACT, start, now, out).ok()
+}
+
+/// Closes a connection with an empty text, where there is room for its CLS.
+fn close(host: &mut Host, id: ConnId, out: &mut Outbox)
+    ensures { caller host.new None out.new ≡ closed id host.old out.old }
+{
+    if out.room() > 0 {
+        let _ = host.close(id, b"", out);
+    }
+}
+
+/// Writes a command, and says whether the connection took it.
+fn write(host: &mut Host, id: Option<ConnId>, command: &[u8], now: u64, out: &mut Outbox) -> bool
+    requires { 0 < room_of out.old }
+    ensures host { host.new ≡ (call_by host.old (Write op_data command.now now) id).view }
+    ensures out { out.new ≡ with_put out.old (call_by host.old (Write op_data command.now now) id).packets }
+    ensures told { result ≡ is_wrote (call_by host.old (Write op_data command.now now) id).answer }
+{
+    match id {
+        Some(id) => host.write(id, Opcode::DATA, command, now, out).is_ok(),
+        None => false,
+    }
+}
+
+/// The bytes of an item that was read, where it is data.
+fn data_of(read: Result<ReadEnd, CallFault>) -> Option<Reply>
+    ensures { option_map (λ v. v.items) result ≡ data_read (plain_reply_of Gave read) }
+{
+    match read {
+        Ok(ReadEnd::Item(item)) if item.op.is_data() => Some(item.body),
+        _ => None,
+    }
+}
+
+/// Reads what the server sent, where it is data.
+fn read(host: &mut Host, id: Option<ConnId>, out: &mut Outbox) -> Option<Reply>
+    requires { 0 < room_of out.old }
+    ensures host { host.new ≡ (call_by host.old Read id).view }
+    ensures out { out.new ≡ with_put out.old (call_by host.old Read id).packets }
+    ensures told { option_map (λ v. v.items) result ≡ data_read (call_by host.old Read id).answer }
+{
+    match id {
+        Some(id) => data_of(host.read(id, out)),
+        None => None,
+    }
+}
+
+impl<C: Clock, L: Link> Talk for Call<'_, C, L> {
+    ghost talked = { λ _. None };
+
+    fn say(&mut self, command: &[u8]) -> bool
+        ensures talk { after_say result command.now None ≡ None }
+        ensures said { Says command.now self.old.now result
+            (caller self.old.host self.old.id self.old.out) (caller self.new.host self.new.id self.new.out) }
+    {
+        if self.out.room() < 2 {
+            return false;
+        }
+        write(&mut self.host, self.id, command, self.now, &mut self.out)
+    }
+
+    fn hear(&mut self) -> Option<Reply>
+        ensures talk { after_hear (option_map (λ v. v.items) result) None ≡ None }
+        ensures heard { Hears (option_map (λ v. v.items) result)
+            (caller self.old.host self.old.id self.old.out) (caller self.new.host self.new.id self.new.out) }
+    {
+        if self.out.room() == 0 {
+            return None;
+        }
+        let reply = read(&mut self.host, self.id, &mut self.out);
+        if reply.is_some() {
+            self.patience.begin(self.now);
+        }
+        reply
+    }
+
+    fn turn(&mut self) -> Result<(), RunFault>
+        ensures faults { IfErr result (λ fault. (fault ≡ RunFault.ClockFault) ⊎ (fault ≡ RunFault.LinkFault)) }
+        ensures failed { result ≡ Err RunFault.LinkFault → Rose (L.count self.old.link.now) (L.count self.new.link.now) }
+        ensures well { OnOk result (TurnsBy self.old.carriage (L.queue self.old.link.now) (L.queue self.new.link.now)
+            (caller self.old.host self.old.id self.old.out) (caller self.new.host self.new.id self.new.out)) }
+    {
+        self.take_turn()
+    }
+
+    fn moment(&self) -> u64 {
+        self.now
+    }
+
+    fn is_over(&self) -> bool
+        ensures { result ≡ is_over self.entry.now.host self.entry.now.id }
+    {
+        let Some(id) = self.id else {
+            return true;
+        };
+        match self.host.state(id) {
+            Ok(state) => state.is_ended(),
+            Err(_) => true,
+        }
+    }
+}
