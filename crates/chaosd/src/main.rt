@@ -1,16 +1,21 @@
 //! `chaosd`: a thin main over the command line (`chaosd_line`) and the engines (`chaosd_engines`, `chaosd_lab`,
-//! `chaosd_filelab`, `chaosd_file`).
+//! `chaosd_filelab`, `chaosd_file`, `chaosd_copy` over `chaosd_call`).
 //! It hands the words to the one, opens the folder and the sockets that they name, hands these with standard input and output to
 //! the others, and ends with their status.
 #![tactic(auto)]
 
+mod caller;
+mod copied;
+mod copies;
 mod network;
 mod noting;
+mod progress;
 mod runs;
 mod status;
 mod told;
 mod words;
 
+use crate::copies::{run_get_line, run_put_line};
 use crate::network::{run_ask_line, run_loop_line, run_serve_line};
 use crate::runs::{run_filelab_line, run_lab_line, run_show_line};
 use crate::status::refused_status;
@@ -19,13 +24,14 @@ use chaosd_engines::RunFault;
 use chaosd_line::{Line, LineFault, parse_line};
 use clap::Error;
 use std::fs::{File, Files};
+use std::io::IsTerminal;
 use std::net::Net;
 use std::process::ExitCode;
 use std::rt::Env;
 use std::time::Clock;
 
-/// Does what the line asks for. The answer is the exit status.
-fn run_line<R>(rt: &R, line: Line<'_>) -> u8
+/// Does what the line asks for. Where standard error is a terminal, more is told on it. The answer is the exit status.
+fn run_line<R>(rt: &R, line: Line<'_>, is_terminal: bool) -> u8
 where
     R: AllocGlobal + Clock + Eprint + Files<File = File> + Input + Net + Print,
 {
@@ -33,9 +39,11 @@ where
         Line::Show => run_show_line(rt),
         Line::Lab => run_lab_line(rt),
         Line::FileLab => run_filelab_line(rt),
-        Line::Loop => run_loop_line(rt),
+        Line::Loop(carriage) => run_loop_line(rt, carriage),
         Line::Ask(ask) => run_ask_line(rt, ask),
         Line::Serve(serve) => run_serve_line(rt, serve),
+        Line::Get(get) => run_get_line(rt, get, is_terminal),
+        Line::Put(put) => run_put_line(rt, put, is_terminal),
     }
 }
 
@@ -50,7 +58,7 @@ fn refuse<R: Print + Eprint>(rt: &R, error: &Error) -> u8 {
 }
 
 /// Reads the command line and does what it asks for. The answer is the exit status.
-fn run<R>(rt: &R) -> u8
+fn run<R>(rt: &R, is_terminal: bool) -> u8
 where
     R: AllocGlobal + Clock + Env + Eprint + Files<File = File> + Input + Net + Print,
 {
@@ -62,12 +70,12 @@ where
         }
     };
     match parse_line(rt.alloc(), words.as_slice()) {
-        Ok(line) => run_line(rt, line),
+        Ok(line) => run_line(rt, line, is_terminal),
         Err(error) => refuse(rt, &error),
     }
 }
 
 /// The program.
 fn main(rt: HostRuntime) -> ExitCode {
-    ExitCode::from(run(&rt))
+    ExitCode::from(run(&rt, rt.stderr().is_terminal()))
 }

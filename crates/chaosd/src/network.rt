@@ -2,7 +2,7 @@
 use crate::noting::Noting;
 use crate::told::{tell_end, tell_script, tell_unopened};
 use chaos_file::DirStore;
-use chaos_link::{Peer, Peers, UdpLink};
+use chaos_link::{Carriage, Peer, Peers, UdpLink};
 use chaosd_engines::RunFault;
 use chaosd_file::{
     LOOP_CLIENT, LOOP_SERVER, NOBODY, ScriptEnd, Why, run_ask, run_loop, run_serve, script_status,
@@ -19,6 +19,16 @@ use std::time::Clock;
 fn link_at<R: Net>(rt: &R, socket: SocketAddrV4, peers: Peers) -> io::Result<UdpLink> {
     let socket = UdpSocket::bind(rt, SocketAddr::V4(socket))?;
     Ok(UdpLink::new(socket, peers))
+}
+
+/// A link over a socket at this UDP address, to one server.
+pub(crate) fn link_to_server<R: Net>(
+    rt: &R,
+    socket: SocketAddrV4,
+    server: Peer,
+) -> io::Result<UdpLink> {
+    let socket = UdpSocket::bind(rt, SocketAddr::V4(socket))?;
+    Ok(link_to(socket, server))
 }
 
 /// A socket of this machine alone, at a port that the system chooses, and its UDP address.
@@ -63,7 +73,7 @@ fn store_at<'a, R: AllocGlobal + Files<File = File>>(
 }
 
 /// Whether standard input can be read. It is asked before a socket is opened, which would take the place of one that is closed.
-fn has_input<R: Input>(rt: &R) -> bool {
+pub(crate) fn has_input<R: Input>(rt: &R) -> bool {
     rt.reader().read(&mut []).is_ok()
 }
 
@@ -83,7 +93,10 @@ fn asked_host<R: Eprint>(rt: &R, to: u16, peers: &Peers) -> u16 {
 }
 
 /// Runs `loop` from standard input to standard output.
-pub(crate) fn run_loop_line<R: AllocGlobal + Eprint + Input + Net + Print>(rt: &R) -> u8 {
+pub(crate) fn run_loop_line<R: AllocGlobal + Eprint + Input + Net + Print>(
+    rt: &R,
+    carriage: Carriage,
+) -> u8 {
     if !has_input(rt) {
         return end_script(rt, &Err(RunFault::ReadFault), &None);
     }
@@ -99,6 +112,7 @@ pub(crate) fn run_loop_line<R: AllocGlobal + Eprint + Input + Net + Print>(rt: &
         &mut near,
         &mut far,
         &mut why,
+        carriage,
     );
     end_script(rt, &end, &why)
 }
@@ -109,6 +123,7 @@ pub(crate) fn run_ask_line<R: AllocGlobal + Clock + Eprint + Input + Net + Print
     line: Ask,
 ) -> u8 {
     let Ask {
+        carriage,
         address,
         socket,
         to,
@@ -132,6 +147,7 @@ pub(crate) fn run_ask_line<R: AllocGlobal + Clock + Eprint + Input + Net + Print
         address,
         to,
         &mut why,
+        carriage,
     );
     match &why {
         // That the host is no peer was told.
@@ -147,6 +163,7 @@ pub(crate) fn run_serve_line<R: AllocGlobal + Clock + Eprint + Files<File = File
 ) -> u8 {
     let Serve {
         turns,
+        carriage,
         address,
         socket,
         folder,
@@ -168,6 +185,7 @@ pub(crate) fn run_serve_line<R: AllocGlobal + Clock + Eprint + Files<File = File
         &mut store,
         address,
         u64::from(turns),
+        carriage,
     );
     tell_end(rt, &end);
     if end.is_ok() {
