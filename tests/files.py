@@ -50,6 +50,15 @@ T5 H2 OPEN 3
 T6 H2 READ^(A)
 T7 H2 EOF
 """
+HELLO_REPLIES = b"""T1  LOGIN LISPM
+T2 H1 OPEN 0
+T3 H1 WRITE 39
+T4 H1 CLOSE 39
+T5 H2 OPEN 39
+T6 H2 READ^(DEFUN HELLO () (PRINT "HELLO, WORLD"))
+T7 H2 EOF
+T8 H2 CLOSE 39
+"""
 EMPTY_REPLY = b"  ERROR SYN Bad command syntax.\n"
 NO_REPLY = b"no reply\n"
 
@@ -150,11 +159,11 @@ def line_of(stream, patience=SOON):
 class Serving:
     """`serve` as host 000401 on a folder, with peers from 000402 on."""
 
-    def __init__(self, folder, peers=1):
+    def __init__(self, folder, peers=1, options=()):
         self.folder = pathlib.Path(folder)
         self.port, *self.peers = free_ports(1 + peers)
         words = [f"{CLIENT + n:o}={at(port)}" for n, port in enumerate(self.peers)]
-        self.process = started(["serve", "401", at(self.port), folder, *words], stderr=subprocess.PIPE, stdout=subprocess.PIPE)
+        self.process = started(["serve", *options, "401", at(self.port), folder, *words], stderr=subprocess.PIPE, stdout=subprocess.PIPE)
         self.told = [b"401", at(self.port).encode(), str(folder).encode()]
         self.said = b""
         while self.untold() and (line := line_of(self.process.stderr)):
@@ -164,9 +173,9 @@ class Serving:
         """What it has to say when it listens, and did not."""
         return [piece for piece in self.told if piece not in self.said]
 
-    def words(self, peer=0):
+    def words(self, peer=0, options=()):
         """The words of `ask` for that peer."""
-        return ["ask", f"{CLIENT + peer:o}", at(self.peers[peer]), "401", f"401={at(self.port)}"]
+        return ["ask", *options, f"{CLIENT + peer:o}", at(self.peers[peer]), "401", f"401={at(self.port)}"]
 
     def end(self):
         self.process.kill()
@@ -174,10 +183,10 @@ class Serving:
 
 
 @contextlib.contextmanager
-def serving(peers=1):
+def serving(peers=1, options=()):
     """A server on a folder of its own."""
     with tempfile.TemporaryDirectory() as folder:
-        server = Serving(folder, peers)
+        server = Serving(folder, peers, options)
         try:
             yield server
         finally:
@@ -719,10 +728,11 @@ class Waiting:
 
 
 class Lossy(threading.Thread):
-    """A network between a server and a client that loses, repeats and reorders."""
+    """A network between a server and a client that loses, repeats and reorders. It keeps the first four bytes of each datagram."""
 
     def __init__(self, port, ends):
         super().__init__(daemon=True)
+        self.heads = []
         self.socket = socket.socket(socket.AF_INET, socket.SOCK_DGRAM)
         self.socket.bind(("127.0.0.1", port))
         self.other = {ends[0]: ends[1], ends[1]: ends[0]}
@@ -736,6 +746,7 @@ class Lossy(threading.Thread):
                 target = ("127.0.0.1", self.other[port])
                 chance = self.random.randrange(10)
                 self.count += 1
+                self.heads.append(datagram[:4])
                 if chance == 0:
                     self.lost += 1
                 elif chance == 1 and late is None:
@@ -749,16 +760,17 @@ class Lossy(threading.Thread):
 
 
 class Losing:
-    """A file that is put and got over a network that loses, beside the other checks."""
+    """A file that is put and got by a carriage over a network that loses, beside the other checks."""
 
-    def __init__(self):
+    def __init__(self, version):
+        self.version, options = version, ["--carriage", str(version)]
         self.folder = tempfile.TemporaryDirectory()
         self.content = mixed_content(20 * FILE_DATA + 9)
-        self.server = Serving(self.folder.name)
+        self.server = Serving(self.folder.name, options=options)
         (client,) = free_ports(1)
         self.network = Lossy(self.server.peers[0], (self.server.port, client))
         self.network.start()
-        words = ["ask", "402", at(client), "401", f"401={at(self.server.peers[0])}"]
+        words = ["ask", *options, "402", at(client), "401", f"401={at(self.server.peers[0])}"]
         pipes = {"stdin": subprocess.PIPE, "stdout": subprocess.PIPE, "stderr": subprocess.PIPE}
         self.process = started(words, **pipes)
         put, self.put_replies = put_script(b"FILE", self.content)
@@ -781,11 +793,25 @@ class Losing:
         self.server.end()
         self.folder.cleanup()
         problems += [] if self.network.lost > 5 else [f"of {self.network.count} datagrams {self.network.lost} were lost"]
-        checks.check("a file comes whole over a network that loses, repeats and reorders", problems)
+        others = [head for head in self.network.heads if head[:3] != bytes([0x43, 0x48, self.version])]
+        problems += [f"datagrams began with {others[:3]}"] if others else []
+        checks.check(f"a file comes whole over a network that loses, repeats and reorders, by carriage {self.version}", problems)
+
+
+def carriages(checks):
+    """The FILE session of the demo is the same by both carriages, and where server and client send by different ones."""
+    script = (program.HERE.parent / "examples/hello.file").read_bytes()
+    for version in ["1", "2"]:
+        problems = run(["loop", "--carriage", version], script).problems(DONE, HELLO_REPLIES, b"")
+        checks.check(f"loop --carriage {version}: the session of the demo", problems)
+        with serving(options=["--carriage", version]) as server:
+            for client in ["1", "2"]:
+                problems = run(server.words(options=["--carriage", client]), script).problems(DONE, HELLO_REPLIES, b"")
+                checks.check(f"serve --carriage {version}, ask --carriage {client}: the session of the demo", problems)
 
 
 GROUPS = [loop_rows, loop_lines, loop_bad_lines, loop_limits, streams, command_lines, good_lines, no_peers, openings, files_both_ways]
-GROUPS += [typed_commands, four_clients, vanished_clients, store_faults, another_program, signals]
+GROUPS += [carriages, typed_commands, four_clients, vanished_clients, store_faults, another_program, signals]
 
 
 def main():
@@ -794,8 +820,8 @@ def main():
     if not program.PROGRAM.is_file():
         sys.exit(f"{program.PROGRAM} isn't there: run make first")
     checks = Checks()
-    waiting, losing = Waiting(), Losing()
-    for group in [*GROUPS, losing.check, waiting.check]:
+    waiting, losing = Waiting(), [Losing(version) for version in [1, 2]]
+    for group in [*GROUPS, *[each.check for each in losing], waiting.check]:
         try:
             group(checks)
         except (OSError, subprocess.SubprocessError, struct.error, IndexError) as error:

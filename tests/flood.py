@@ -27,6 +27,8 @@ RFC, OPN, CLS, STS, LOS, DATA = 0o1, 0o2, 0o3, 0o7, 0o11, 0o200
 FLOOD = 65_536
 # datagrams that may wait at the server's socket: fewer than the system has room for
 BURST = 100
+# packets that a datagram of version 2 may have
+BUNDLE = 8
 # the growth of the server's memory that is still flat, in KiB: less than 4 bytes for each datagram
 FLAT = 256
 CONNECTIONS = 16
@@ -63,6 +65,16 @@ def datagram(op, to, source, num=0, ack=0, data=b""):
     """A packet from one end to another, each an address and an index, as a datagram."""
     words = (op << 8, len(data), *to, *source, num & 65_535, ack & 65_535)
     return b"\x43\x48\x01\x00" + struct.pack(">8H", *words) + turned(data)
+
+
+def bundle(datagrams):
+    """The packets of these datagrams in one of version 2."""
+    return bytes([0x43, 0x48, 2, len(datagrams)]) + b"".join(each[4:] for each in datagrams)
+
+
+def bundles(datagrams):
+    """The packets of all these, in turn, as many to a datagram as one may have."""
+    return [bundle(datagrams[at : at + BUNDLE]) for at in range(0, len(datagrams), BUNDLE)]
 
 
 def packet(received):
@@ -153,14 +165,14 @@ class Service:
             return []
         return [f"ask: status {process.returncode}", repr(out), repr(err)]
 
-    def flood(self, datagrams):
+    def flood(self, datagrams, burst=BURST):
         """Sends all of these. Behind each burst goes a question, and its answer is waited for, so that the server has taken
         what went before. Gives what is wrong, and how many packets of each opcode came back."""
         came = {}
         question = datagram(DATA, (SERVER, 0), (FLOODER, 0o177777))
         try:
-            for at in range(0, len(datagrams), BURST):
-                for each in [*datagrams[at : at + BURST], question]:
+            for at in range(0, len(datagrams), burst):
+                for each in [*datagrams[at : at + burst], question]:
                     self.flooder.send(each)
                 while (answer := self.received())[-1] != (LOS, 0o177777):
                     came[answer[0]] = came.get(answer[0], 0) + 1
@@ -189,12 +201,12 @@ def strange_indices():
 
 
 def random_bytes(seed):
-    """Datagrams of any bytes, mostly short, and of the carriage's first bytes and then any."""
+    """Datagrams of any bytes, mostly short, and of the first bytes of either version of the carriage and then any."""
     chance = random.Random(seed)
     made = []
     for at in range(FLOOD):
         length = 2_100 if at % 4_096 == 0 else chance.randrange(64)
-        begin = b"\x43\x48\x01\x00" if at % 2 else b""
+        begin = [b"", b"\x43\x48\x01\x00", b"", bytes([0x43, 0x48, 2, chance.randrange(10)])][at % 4]
         made.append(begin + chance.randbytes(length))
     # none is for the server by chance, or it would be answered
     return [each for each in made if each[8:10] != struct.pack(">H", SERVER)]
@@ -205,16 +217,16 @@ def requests(contact, address):
     return [datagram(RFC, (SERVER, 0), (address, index), index, 0, contact) for index in range(FLOOD)]
 
 
-def flooded(checks, name, datagrams, wanted):
+def flooded(checks, name, datagrams, wanted, burst=BURST):
     """Floods a server; a client asks before, meanwhile and after. So many packets of each opcode have to come back."""
     with Service() as service:
         # a second client finds all touched that a service touches once
         checks.check(f"{name}: a client is answered before", service.answered() + service.answered())
         before = service.memory()
         half = len(datagrams) // 2
-        problems, came = service.flood(datagrams[:half])
+        problems, came = service.flood(datagrams[:half], burst)
         process = service.ask()
-        more, second = service.flood(datagrams[half:])
+        more, second = service.flood(datagrams[half:], burst)
         checks.check(f"{name}: a client is answered meanwhile", service.answered(process))
         came = {op: came.get(op, 0) + second.get(op, 0) for op in {*came, *second}}
         more += [] if came == wanted else [f"came back: {came}"]
@@ -232,6 +244,10 @@ def floods(checks):
     flooded(checks, f"65,536 datagrams of random bytes, seed {seed}", random_bytes(seed), {})
     flooded(checks, "65,536 requests of strangers", requests(b"NONE", STRANGER), {})
     flooded(checks, "65,536 requests of a peer", requests(b"NONE", FLOODER), {CLS: FLOOD})
+    # each packet of a datagram is answered, and the answers to a burst have to find room here
+    few = BURST // BUNDLE
+    flooded(checks, "65,536 strange indices, 8 to a datagram", bundles(strange_indices()), {LOS: FLOOD}, few)
+    flooded(checks, "65,536 requests of strangers, 8 to a datagram", bundles(requests(b"NONE", STRANGER)), {})
 
 
 def open_connection(service):
