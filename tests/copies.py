@@ -8,6 +8,7 @@ the count at the end. The status is 0 where all checks held, and else 1.
 """
 
 import contextlib
+import itertools
 import os
 import pathlib
 import pty
@@ -457,17 +458,35 @@ def losing_network(checks):
         line = ["402", at(client), f"401={at(server.peers[0])}"]
         (here / "UP").write_bytes(content)
         (kept / "DOWN").write_bytes(content)
-        for subcommand, name, seen in [("put", "UP", kept / "UP"), ("get", "DOWN", here / "DOWN")]:
-            process = started([subcommand, *line, name], cwd=here, stderr=subprocess.PIPE)
+        copies = [("put", "UP", kept / "UP"), ("get", "DOWN", here / "DOWN")]
+        for version, (subcommand, name, seen) in itertools.product([1, 2], copies):
+            seen.unlink(missing_ok=True)
+            network.heads.clear()
+            process = started([subcommand, "--carriage", str(version), *line, name], cwd=here, stderr=subprocess.PIPE)
             try:
                 err = process.communicate(timeout=2 * LONG)[1]
                 problems = [f"status {process.returncode}, {err!r}"] if process.returncode else stored_problems(seen, content)
             except subprocess.TimeoutExpired:
                 process.kill()
                 problems = ["it goes on"]
-            checks.check(f"{subcommand} over a network that loses, repeats and reorders", problems)
+            several = max((head[3] for head in network.heads if head[2] == 2), default=0)
+            problems += [] if (several > 1) == (version == 2) else [f"at most {several} packets went out in a datagram of version 2"]
+            checks.check(f"{subcommand} --carriage {version} over a network that loses, repeats and reorders", problems)
         network.socket.close()
         server.end()
+
+
+def carriages(checks):
+    """Files come whole also where server and client send by different carriages."""
+    content = mixed_content(100_000)
+    for version, own in itertools.product(["1", "2"], repeat=2):
+        with serving(options=["--carriage", version]) as server, folder() as here:
+            (here / "UP").write_bytes(content)
+            (server.folder / "DOWN").write_bytes(content)
+            problems = copied(server, "put", "UP", options=["--carriage", own], cwd=here).problems(DONE, b"", b"")
+            problems += copied(server, "get", "DOWN", options=["--carriage", own], cwd=here).problems(DONE, b"", b"")
+            problems += stored_problems(server.folder / "UP", content) + stored_problems(here / "DOWN", content)
+            checks.check(f"serve --carriage {version}, put and get --carriage {own}", problems)
 
 
 # Command lines.
@@ -497,7 +516,7 @@ def bad_lines(checks):
 
 
 GROUPS = [bad_lines, sizes_both_ways, windows, many_files, streams, texts, local_faults, full_disks, killed_in_the_middle]
-GROUPS += [interrupted, silences, terminals, slow_network, small_stacks, two_puts, sixteen_clients, losing_network]
+GROUPS += [interrupted, silences, terminals, slow_network, small_stacks, two_puts, sixteen_clients, carriages, losing_network]
 
 
 def main():
