@@ -1,5 +1,8 @@
-//! FILE over UDP in plain Rust: `loop`, `serve` and `ask` as chaosd has them, with the same packets in the same turns.
+//! FILE over UDP in plain Rust: `loop`, `serve`, `ask`, `get` and `put` as chaosd has them, the first three with the same packets in the
+//! same turns.
 //! `plain_loop --trace loop` tells each datagram on standard error as it is sent.
+#[path = "plain_loop/copy.rs"]
+mod copy;
 #[path = "plain_loop/file.rs"]
 mod file;
 #[path = "plain_loop/host.rs"]
@@ -7,6 +10,7 @@ mod host;
 #[path = "plain_loop/turn.rs"]
 mod turn;
 
+use copy::{write_whole, Caller};
 use file::{DirStore, MemStore, NL};
 use host::{Item, State, DATA, EOF, MOST_DATA};
 use std::collections::HashMap;
@@ -265,6 +269,33 @@ fn ask(address: u16, socket: SocketAddrV4, to: u16, peers: HashMap<u16, SocketAd
     talk(&mut client, to, (chance as u8, chance as u16), &mut Alone(Instant::now()))
 }
 
+/// One file is put, or got into the folder at hand.
+fn copy_file(
+    is_put: bool,
+    address: u16,
+    socket: SocketAddrV4,
+    peers: HashMap<u16, SocketAddrV4>,
+    name: &str,
+) -> Result<bool, Fault> {
+    let bytes = if is_put { fs::read(name)? } else { Vec::new() };
+    let bound = UdpSocket::bind(socket).map_err(|fault| Fault::Other(format!("{socket}: {fault}")))?;
+    let to = peers.keys().copied().next().unwrap_or_default();
+    let mut client = Client::new(address, Link::new(bound, peers, None));
+    let (chance, mut turns) = (clock(), Alone(Instant::now()));
+    client.connect(chance as u8, to, chance as u16, turns.now());
+    let mut caller = Caller { client: &mut client, turns: &mut turns };
+    caller.log_in()?;
+    let path = name.rsplit('/').next().unwrap_or(name);
+    if is_put {
+        caller.put(path, &bytes)?;
+    } else {
+        write_whole(path, &caller.get(path)?)?;
+    }
+    client.close();
+    turns.turn(&mut client)?;
+    Ok(true)
+}
+
 fn address_of(word: &str) -> Option<u16> {
     let is_octal = (1..=6).contains(&word.len()) && word.bytes().all(|b| (b'0'..=b'7').contains(&b));
     u16::from_str_radix(word, 8).ok().filter(|&address| is_octal && address > 0)
@@ -315,6 +346,10 @@ fn run(words: &[&str]) -> Result<bool, Fault> {
         ["ask", rest @ ..] => {
             let (address, socket) = (wanted(rest, 0, address_of)?, wanted(rest, 1, socket_of)?);
             ask(address, socket, wanted(rest, 2, address_of)?, peers_of(&rest[3..])?)
+        }
+        [way @ ("get" | "put"), rest @ ..] if rest.len() == 4 => {
+            let (address, socket) = (wanted(rest, 0, address_of)?, wanted(rest, 1, socket_of)?);
+            copy_file(*way == "put", address, socket, peers_of(&rest[2..3])?, rest[3])
         }
         _ => Err(Fault::Line(format!("no such line: '{}'", words.join(" ")))),
     }
