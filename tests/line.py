@@ -155,7 +155,7 @@ def copies_out_of_form(checks):
             is_told(checks, [command, "--login", text, *ADDRESSES, "A"], text, "--login", LOGIN_FORM)
     for text in BAD_PATHS:
         is_told(checks, ["get", *ADDRESSES, text], text, "PATH", PATHS_FORM)
-        is_told(checks, ["get", *ADDRESSES, "C", text, "B"], text, "PATH", PATHS_FORM)
+        is_told(checks, ["get", *ADDRESSES, "A", text, "B"], text, "PATH", PATHS_FORM)
         is_told(checks, ["put", "--as", text, *ADDRESSES, "A"], text, "--as", AS_FORM)
     is_told(checks, ["get", *ADDRESSES, "B", "A", "C", "A"], "A", "PATH", PATHS_FORM)
     is_told(checks, ["get", "--output", "x", *ADDRESSES, "A", "B"], "x", "--output", OUTPUT_FORM)

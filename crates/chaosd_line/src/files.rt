@@ -75,23 +75,32 @@ pub(crate) fn are_locals(texts: &[&str]) -> bool
     all_own_names(texts) && are_distinct(texts)
 }
 
-/// The first text that is no path, or that stands there again, to be named in a mistake.
-pub(crate) fn bad_path<'a>(texts: &[&'a str]) -> &'a str {
+/// The first text whose last name is that of a later one.
+fn repeated<'a>(texts: &[&'a str]) -> &'a str {
     for i in 0..texts.len() {
-        let name = texts[i].as_bytes();
-        if !is_path(name) || is_among(last_name(name), &texts[i + 1..]) {
+        if is_among(last_name(texts[i].as_bytes()), &texts[i + 1..]) {
             return texts[i];
         }
     }
     ""
 }
 
-/// The first local file whose last name is no path, or is that of a later one.
-pub(crate) fn bad_local<'a>(texts: &[&'a str]) -> &'a str {
+/// The first text that is no path, else the first that stands there again, to be named in a mistake.
+pub(crate) fn bad_path<'a>(texts: &[&'a str]) -> &'a str {
     for i in 0..texts.len() {
-        if !is_own_name(texts[i]) || is_among(last_name(texts[i].as_bytes()), &texts[i + 1..]) {
+        if !is_path(texts[i].as_bytes()) {
             return texts[i];
         }
     }
-    ""
+    repeated(texts)
+}
+
+/// The first local file whose last name is no path, else the first whose last name is that of a later one.
+pub(crate) fn bad_local<'a>(texts: &[&'a str]) -> &'a str {
+    for i in 0..texts.len() {
+        if !is_own_name(texts[i]) {
+            return texts[i];
+        }
+    }
+    repeated(texts)
 }
