@@ -20,7 +20,7 @@ CRATES = HERE.parent / "crates"
 
 # a crate, one of its tests, and how many refusals it is to meet at least and go on after
 TESTS = [
-    ("chaos_dialogues", "tests::memory::host_is_made_with_memory", 7),
+    ("chaos_host_tests", "tests::memory::host_is_made_with_memory", 7),
     ("chaos_file_tests", "tests::memory::want_of_memory_changes_nothing", 8),
     ("chaos_file_tests", "tests::memory::want_of_memory_changes_no_folder", 4),
     ("chaos_lab_tests", "tests::memory::want_of_memory_changes_nothing", 1),

@@ -9,7 +9,6 @@ mod host_calls;
 mod host_opcodes;
 mod host_requests;
 mod host_rows;
-mod memory;
 mod opcodes;
 mod opening;
 mod outbox;

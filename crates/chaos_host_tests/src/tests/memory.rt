@@ -1,8 +1,9 @@
 //! Want of memory, where one allocation is refused: `rt try --test --fail-alloc N`.
-use super::packets::HERE;
 use chaos_conn::ConnConfig;
 use chaos_host::{Host, MakeFault};
 use std::test::Fail;
+
+const HERE: u16 = 0o401;
 
 /// A host that isn't made for want of memory keeps nothing: made again, it is as new.
 #[test]
