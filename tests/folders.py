@@ -1,5 +1,5 @@
 #!/usr/bin/env python3
-"""Shows what a folder's store makes of what std can't make, by a proved test of chaos_file_tests that plays the rows it is given:
+"""Shows what a folder's store makes of what std can't make, by a proved test of world_tests that plays the rows it is given:
 entries that are no file, what may not be read or written, a disk that takes no more and is full, one that fails, and a folder that
 is another's.
 
@@ -22,7 +22,7 @@ import sys
 import tempfile
 
 HERE = pathlib.Path(__file__).resolve().parent
-PROGRAM = HERE.parent / "crates/chaos_file_tests/out/chaos_file_tests_tests"
+PROGRAM = HERE.parent / "crates/world_tests/out/world_tests_tests"
 TEST = "tests::folders::dialogue_over_a_folder_made_outside"
 PATIENCE = 10
 NOBODY = 65534

@@ -3,7 +3,7 @@
 
     rt ci && tests/memory.py [PROGRAM]
 
-It needs what the gate leaves of the crates' tests, PROGRAM (crates/chaosd/out/chaosd by default), and cc. A test below goes on
+It needs what the gate leaves of world_tests, PROGRAM (crates/chaosd/out/chaosd by default), and cc. A test below goes on
 after a refusal and looks at what it left; where its own preparations are refused, it ends with that fault. The program ends with
 status 4 and says so, and what it wrote is a beginning of what it writes with ample memory; a FILE command that finds no memory
 is answered so, and its session goes on. At the end of each run all memory is given back. The last line is 'N passed, M failed'.
@@ -17,17 +17,15 @@ import tempfile
 
 HERE = pathlib.Path(__file__).resolve().parent
 CRATES = HERE.parent / "crates"
+TEST_PROGRAM = CRATES / "world_tests/out/world_tests_tests"
 
-# a crate, one of its tests, and how many refusals it is to meet at least and go on after
+# a test of world_tests, and how many refusals it is to meet at least and go on after
 TESTS = [
-    ("chaos_host_tests", "tests::memory::host_is_made_with_memory", 7),
-    ("chaos_file_tests", "tests::memory::want_of_memory_changes_nothing", 8),
-    ("chaos_file_tests", "tests::memory::want_of_memory_changes_no_folder", 4),
-    ("chaos_lab_tests", "tests::memory::want_of_memory_changes_nothing", 1),
-    ("chaos_filelab_tests", "tests::memory::want_of_memory_is_told", 4),
-    ("chaosd_lab_tests", "tests::faults::want_of_memory_is_told", 11),
-    ("chaosd_file_tests", "tests::memory::loop_tells_want_of_memory", 40),
-    ("chaosd_file_tests", "tests::memory::serve_tells_want_of_memory", 30),
+    ("tests::host::host_is_made_with_memory", 7),
+    ("tests::files::want_of_memory_changes_nothing", 8),
+    ("tests::files::want_of_memory_changes_no_folder", 4),
+    ("tests::laboratory::want_of_memory_changes_nothing", 1),
+    ("tests::sessions::want_of_memory_is_told", 4),
 ]
 # a name, the words of the program, and what it is given
 DATA_BEFORE_THE_OPN = b"ends 2 2 2 2 65534\ndeliver 0\naccept 100\nwrite b 200 X\ndeliver 2\ndeliver 1\ndeliver 2\nread a\n"
@@ -70,15 +68,14 @@ def problem_of(status, out, err):
     return None
 
 
-def try_each(crate, test, least, library):
+def try_each(test, least, library):
     """Refuses each allocation in turn. Gives a line for a person, and whether all went well."""
-    program = CRATES / crate / "out" / f"{crate}_tests"
-    if not program.is_file():
-        return f"{crate}: {program} isn't there: run the gate first", False
+    if not TEST_PROGRAM.is_file():
+        return f"{test}: {TEST_PROGRAM} isn't there: run the gate first", False
     met = 0
     with tempfile.TemporaryDirectory() as folder:
         for place in range(1, MOST):
-            status, out, err = run(program, test, folder, library, place)
+            status, out, err = run(TEST_PROGRAM, test, folder, library, place)
             problem = problem_of(status, out, err)
             if problem:
                 return f"{test}, allocation {place}: {problem}", False

@@ -1,4 +1,0 @@
-mod memory;
-mod play;
-mod rows;
-mod sessions;

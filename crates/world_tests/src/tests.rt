@@ -1,0 +1,5 @@
+mod files;
+mod folders;
+mod host;
+mod laboratory;
+mod sessions;
