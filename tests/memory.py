@@ -11,6 +11,7 @@ is answered so, and its session goes on. At the end of each run all memory is gi
 
 import os
 import pathlib
+import socket
 import subprocess
 import sys
 import tempfile
@@ -27,7 +28,8 @@ TESTS = [
     ("tests::laboratory::want_of_memory_changes_nothing", 1),
     ("tests::sessions::want_of_memory_is_told", 4),
 ]
-# a name, the words of the program, and what it is given
+# a name, the words of the program, and what it is given; FOLDER is a new folder of each run, and UDP a place where nobody listens
+FOLDER, UDP = "FOLDER", "UDP"
 DATA_BEFORE_THE_OPN = b"ends 2 2 2 2 65534\ndeliver 0\naccept 100\nwrite b 200 X\ndeliver 2\ndeliver 1\ndeliver 2\nread a\n"
 LOST_ITEM = (
     b"ends 2 2 2 2 65534\ndeliver 0\naccept 100\ndeliver 1\nwrite a 200 A\nwrite a 200 B\ndeliver 4\nread b\ntick a 500\n"
@@ -43,6 +45,7 @@ RUNS = [
     ("lab, an item that is lost", ["lab"], LOST_ITEM),
     ("loop", ["loop"], SESSION),
     ("a line of serve, and a folder that isn't there", SERVE, b""),
+    ("serve, for a turn", ["serve", "--turns", "1", "401", UDP, FOLDER, "402=127.0.0.1:9"], b""),
     ("a bad line", ["serve", "0", "127.0.0.1:1", "."], b""),
     ("help", ["ask", "--help"], b""),
 ]
@@ -86,10 +89,19 @@ def try_each(test, least, library):
     return f"{test}: still refused at allocation {MOST}", False
 
 
+def free_place():
+    """A port of this machine that nobody has."""
+    with socket.socket(socket.AF_INET, socket.SOCK_DGRAM) as it:
+        it.bind(("127.0.0.1", 0))
+        return f"127.0.0.1:{it.getsockname()[1]}"
+
+
 def run_program(program, words, given, library, place):
     """Runs the program with one allocation refused (none at place 0), and gives the status and both outputs."""
     env = {**os.environ, "LD_PRELOAD": str(library), "FAIL_AT": str(place)}
-    ended = subprocess.run([program, *words], input=given, env=env, capture_output=True, timeout=PATIENCE)
+    with tempfile.TemporaryDirectory() as folder:
+        words = [{FOLDER: folder, UDP: free_place()}.get(it, it) for it in words]
+        ended = subprocess.run([program, *words], input=given, env=env, capture_output=True, timeout=PATIENCE)
     return ended.returncode, ended.stdout, ended.stderr
 
 
