@@ -178,6 +178,18 @@ class Definitions:
         types = {named(word) for word in re.findall(r"\b[A-Z]\w*", f"{function.head} {function.owner or ''}")} - {None}
         return self.cited(clause.text, uses, named) | types
 
+    def fields(self, function, clause):
+        """The fields of the record that a clause says to hold: `Name ..` within its braces. None where it says something else."""
+        file = function.place[0]
+        crate = file.relative_to(self.sources.folder).parts[0]
+        head = NAME.match(clause.text.partition("{")[2].lstrip())
+        for key in self.cited(head.group(), *self.of_file(crate, file)) if head else ():
+            module = self.module(key[0], key[1]) if key[1] != "src" else None
+            text = module.texts.get(key[2], (0, ""))[1] if module else ""
+            if re.match(r"\s*pub record", text):
+                return re.findall(r"^\s+pub ([\w']+)\s*:", text, re.M)
+        return []
+
     def below(self, keys):
         """These definitions and all that they stand on, each by its name."""
         reached, left = {}, list(keys)
