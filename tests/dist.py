@@ -115,6 +115,19 @@ def shells(checks, top):
     checks.check("and copy the file there and back", wrong)
 
 
+def unit(checks, top):
+    """The unit for systemd starts `serve` in words that it understands, and again whenever it ends."""
+    text = (top / "examples/chaosd.service").read_text()
+    set_to = dict(re.findall(r"^(\w+)=(.*)$", text, re.M))
+    wanted = {"Restart": "always", "StartLimitIntervalSec": "0"}
+    checks.check("the unit starts it again, for ever", [name for name, word in wanted.items() if set_to.get(name) != word])
+    _, serve, address, _, _, *peers = shlex.split(set_to["ExecStart"])
+    (served := top / "served").mkdir()
+    words = [top / "bin/chaosd", serve, "--turns", "0", address, at(free_ports(1)[0]), served, *peers]
+    ended = subprocess.run(words, capture_output=True, text=True, timeout=program.PATIENCE)
+    checks.check("in words that it understands, and its turns end well", [] if ended.returncode == 0 else [ended.stderr])
+
+
 def version(checks, top, packed):
     """The program tells the version that the tar file bears."""
     told = subprocess.run([top / "bin/chaosd", "--version"], capture_output=True, text=True, timeout=program.PATIENCE)
@@ -150,6 +163,7 @@ def main():
         links(checks, top)
         shells(checks, top)
         works(checks, top)
+        unit(checks, top)
         version(checks, top, packed)
         refusals(checks, folder)
     print(f"{checks.count - checks.failed} passed, {checks.failed} failed")
