@@ -9,7 +9,7 @@
 #   make bench-show         `chaosd show` alone; likewise bench-lab, bench-loop, bench-copy and bench-stack (gdb), and bench-codec,
 #                           bench-links, bench-window, bench-host, bench-file and bench-turn of the libraries
 #   make pictures           draws the pictures of the documents again (python3)
-#   make dist               packs the program, its manual page, examples, dissector and licences into a tar file in out/
+#   make dist               packs the program, its manual page, the documents, examples, dissector and licences into a tar file in out/
 #   make install PREFIX=DIR puts the program into DIR/bin, and its manual page into DIR/share/man/man1
 
 PREFIX ?= /usr/local

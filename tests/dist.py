@@ -7,8 +7,11 @@ PROGRAM is bin/chaosd by default. One line is printed for each check, and the co
 held, and else 1.
 """
 
+import os
 import pathlib
+import pty
 import re
+import shlex
 import subprocess
 import sys
 import tarfile
@@ -22,7 +25,7 @@ from program import Checks  # noqa: E402
 ROOT = program.HERE.parent
 NAMES = {
     "bin/chaosd", "share/man/man1/chaosd.1", "wireshark/chaosnet.lua", "README.md", "CHANGELOG.md", "LICENSE-APACHE", "LICENSE-MIT",
-    "examples/hello.file", "examples/chaosd.service", "examples/lab/opening.lab",
+    "examples/hello.file", "examples/chaosd.service", "examples/lab/opening.lab", "docs/PROTOCOL.md",
 }  # fmt: skip
 
 
@@ -42,10 +45,16 @@ def contents(checks, tar, packed):
     checks.check("files alone, of no user and no time", wrong)
 
 
+def links(checks, top):
+    """Each page and picture that the README links to is there."""
+    linked = re.findall(r"\]\(([^):#]+)", (top / "README.md").read_text())
+    checks.check("what the README links to is there", [f"no {name}" for name in linked if not (top / name).is_file()])
+
+
 def works(checks, top):
-    """The demo of two shells, where it was unpacked."""
+    """A script of FILE between a server and a client, where it was unpacked."""
     ports = free_ports(2)
-    chaosd, folder = top / "bin/chaosd", top / "files"
+    chaosd, folder = top / "bin/chaosd", top / "more files"
     folder.mkdir()
     server = subprocess.Popen([chaosd, "serve", "401", at(ports[0]), folder, f"402={at(ports[1])}"], stderr=subprocess.PIPE)
     try:
@@ -61,6 +70,62 @@ def works(checks, top):
     checks.check("unpacked elsewhere, it serves and asks", problems)
     kept = [path.name for path in folder.iterdir() if path.stat().st_size == 39]
     checks.check("the server keeps the file", [] if len(kept) == 1 else [str(list(folder.iterdir()))])
+
+
+def shells_of(readme, ports):
+    """The lines that the README has the user type in two shells, each with what is printed then; with these ports for its own."""
+    said = readme.partition("\n## Moving files\n")[2].partition("\n## ")[0]
+    for number, port in zip((9001, 9002), ports):
+        said = said.replace(f":{number}", f":{port}")
+    blocks = re.findall(r"^```text\n(.*?)^```$", said, re.M | re.S)
+    return [[tuple(typed.split("\n", 1)) for typed in re.split(r"^\$ ", block, flags=re.M)[1:]] for block in blocks]
+
+
+def typed(top, words, printed):
+    """Runs what is typed in a shell, and says where its terminal shows something else at the end, or its status isn't 0."""
+    near, far = pty.openpty()
+    try:
+        ended = subprocess.run(words, cwd=top, stdin=subprocess.DEVNULL, stdout=far, stderr=far, timeout=program.PATIENCE)
+        os.write(far, b"\0")
+        seen = b""
+        while not seen.endswith(b"\0"):
+            seen += os.read(near, 4096)
+    finally:
+        os.close(near)
+        os.close(far)
+    seen = seen[:-1].decode().replace("\r\n", "\n")
+    return [] if ended.returncode == 0 and seen.endswith(printed) and bool(seen) == bool(printed) else [f"{words} ends with {ended.returncode}, and prints {seen!r}"]
+
+
+def shells(checks, top):
+    """The README's two shells, line by line, where it was unpacked."""
+    server, client = shells_of((top / "README.md").read_text(), free_ports(2))
+    *before, (serve, _) = server
+    problems = [problem for line, printed in before for problem in typed(top, shlex.split(line), printed)]
+    serving = subprocess.Popen(shlex.split(serve), cwd=top, stderr=subprocess.PIPE)
+    try:
+        line_of(serving.stderr)
+        problems += [problem for line, printed in client for problem in typed(top, shlex.split(line), printed)]
+    finally:
+        serving.kill()
+        serving.communicate()
+    checks.check("the README's two shells print there what it says", problems if len(client) == 2 else [f"{len(client)} lines"])
+    hello = (top / "examples/hello.file").read_bytes()
+    wrong = [str(path) for path in (top / "files/hello.file", top / "copy") if not path.is_file() or path.read_bytes() != hello]
+    checks.check("and copy the file there and back", wrong)
+
+
+def unit(checks, top):
+    """The unit for systemd starts `serve` in words that it understands, and again whenever it ends."""
+    text = (top / "examples/chaosd.service").read_text()
+    set_to = dict(re.findall(r"^(\w+)=(.*)$", text, re.M))
+    wanted = {"Restart": "always", "StartLimitIntervalSec": "0"}
+    checks.check("the unit starts it again, for ever", [name for name, word in wanted.items() if set_to.get(name) != word])
+    _, serve, address, _, _, *peers = shlex.split(set_to["ExecStart"])
+    (served := top / "served").mkdir()
+    words = [top / "bin/chaosd", serve, "--turns", "0", address, at(free_ports(1)[0]), served, *peers]
+    ended = subprocess.run(words, capture_output=True, text=True, timeout=program.PATIENCE)
+    checks.check("in words that it understands, and its turns end well", [] if ended.returncode == 0 else [ended.stderr])
 
 
 def version(checks, top, packed):
@@ -95,7 +160,10 @@ def main():
             contents(checks, tar, packed)
             tar.extractall(folder / "else where")
         top = folder / "else where" / packed.name.removesuffix(".tar.gz")
+        links(checks, top)
+        shells(checks, top)
         works(checks, top)
+        unit(checks, top)
         version(checks, top, packed)
         refusals(checks, folder)
     print(f"{checks.count - checks.failed} passed, {checks.failed} failed")
