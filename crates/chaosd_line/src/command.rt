@@ -2,7 +2,7 @@
 ghost use Rattle.std.specs.Prelude.{◌≡◌, IfOk, false};
 ghost use Rattle.clap.specs.Words.{app_of, new_app, rule_of, with_rule, with_subcommand};
 ghost use Rattle.clap.specs.declared.builder.command.Command.TheViews.{out-Command};
-ghost use Rattle.chaosd_line.specs.CommandLine.{ask_command, bare_chaosd, carriage_option, chaosd, copy_options, file_words, flag, get_command, loop_command, needed, optional, peer_words, put_command, serve_command, with_addresses, with_default};
+ghost use Rattle.chaosd_line.specs.CommandLine.{ask_command, bare_chaosd, carriage_option, chaosd, copy_options, file_words, flag, get_command, loop_command, needed, optional, peer_words, put_command, serve_command, serve_options, with_addresses, with_default};
 
 use crate::help;
 use clap::{Arg, ArgAction, Command};
@@ -69,6 +69,18 @@ fn looped<'a>(alloc: Global) -> Result<Command<'a>, AllocError>
     with_carriage(alloc, Command::new(alloc, "loop").about(help::LOOP))
 }
 
+/// Adds the options of `serve`.
+fn with_serve_options<'a>(alloc: Global, command: Command<'a>) -> Result<Command<'a>, AllocError>
+    requires { (out-Command command).has_globals ≡ false }
+    ensures app { IfOk result (λ c. app_of c ≡ serve_options (app_of command.entry)) }
+    ensures local { IfOk result (λ c. (out-Command c).has_globals ≡ false) }
+{
+    let timed = with_default(alloc, command, "turns", "N", "1000000000", help::TURNS)?;
+    let carried = with_carriage(alloc, timed)?;
+    let wide = with_default(alloc, carried, "window", "N", "13", help::SERVE_WINDOW)?;
+    with_flag(alloc, wide, "quiet", help::SERVE_QUIET)
+}
+
 /// The subcommand `serve`.
 fn serve<'a>(alloc: Global) -> Result<Command<'a>, AllocError>
     ensures app { IfOk result (λ c. app_of c ≡ serve_command) }
@@ -77,9 +89,8 @@ fn serve<'a>(alloc: Global) -> Result<Command<'a>, AllocError>
     let named = Command::new(alloc, "serve")
         .about(help::SERVE)
         .after_help(help::SERVE_EXAMPLE);
-    let timed = with_default(alloc, named, "turns", "N", "1000000000", help::TURNS)?;
-    let carried = with_carriage(alloc, timed)?;
-    let own = with_needed(alloc, carried, "ADDRESS", help::ADDRESS)?;
+    let optioned = with_serve_options(alloc, named)?;
+    let own = with_needed(alloc, optioned, "ADDRESS", help::ADDRESS)?;
     let bound = with_needed(alloc, own, "UDP", help::UDP)?;
     let full = with_needed(alloc, bound, "FOLDER", help::FOLDER)?;
     with_peers(alloc, full)
