@@ -68,7 +68,7 @@ class Definitions:
     def __init__(self, sources):
         self.sources = sources
         self.known = set(sources.names())
-        self.modules, self.found, self.used = {}, {}, {}
+        self.modules, self.found, self.files = {}, {}, {}
 
     def module(self, crate, name):
         """A file of specs/, or None where there is none."""
@@ -77,26 +77,31 @@ class Definitions:
             self.modules[crate, name] = Module(file) if file.is_file() else None
         return self.modules[crate, name]
 
+    def used(self, path):
+        """What a `use` line's path leads to: a module, or one definition, of a type of the sources or of a datum; None of the kit's."""
+        crate, _, rest = path.partition(".specs.")
+        first, *inner = rest.split(".")
+        if crate not in self.known or not rest:
+            return None
+        if first != "declared":
+            return (crate, first, *inner[:1])
+        # `declared.FILE.TYPE`, with `.TheVariants` and the like behind it; constants stand by themselves
+        types = [part for part in inner if not part.startswith("The")]
+        return (crate, "src") if "TheConstants" in inner else (crate, "src", types[-1])
+
     def uses(self, text):
         """What the `use` lines of a text bring in: names with their definitions, and short names of modules."""
         names, short = {}, {}
         for path, braces, alias in USE.findall(text):
-            crate, _, rest = path.partition(".specs.")
-            parts = rest.split(".")
-            if crate not in self.known or not rest:
+            key = self.used(path)
+            if key is None:
                 continue
-            is_declared = parts[0] == "declared"
-            # of a type or a datum with variants the whole; else each name by itself
-            parts = [part for part in parts if not part.startswith("The")] if is_declared else parts
-            constants = is_declared and "TheConstants" in path
-            whole = (crate, "src", parts[-1]) if is_declared and not constants else (crate, parts[0], parts[1]) if not is_declared and len(parts) > 1 else None
-            module = (crate, "src" if is_declared else parts[0])
             for word in braces.split(","):
                 name, _, other = word.strip().partition(" as ")
                 if name:
-                    names[other.strip() or name] = whole or (*module, name)
+                    names[other.strip() or name] = (*key, name)[:3]
             if alias:
-                short[alias] = whole or module
+                short[alias] = key
         return names, short
 
     def cited(self, text, uses, own):
@@ -135,10 +140,10 @@ class Definitions:
 
     def of_file(self, crate, file):
         """What a source file's `use` lines bring in, and which types its names are."""
-        if file not in self.used:
+        if file not in self.files:
             text = file.read_text()
-            self.used[file] = self.uses(text), self.type_named(crate, text)
-        return self.used[file]
+            self.files[file] = self.uses(text), self.type_named(crate, text)
+        return self.files[file]
 
     def of_specs(self, crate, name, key):
         module = self.module(crate, name)
