@@ -14,6 +14,7 @@ import pathlib
 import pty
 import re
 import resource
+import shutil
 import signal
 import socket
 import struct
@@ -30,6 +31,7 @@ from files import CLIENT, FILE_LIMIT, LONG, SERVER, Lossy, Serving, at, free_por
 from program import BAD_LINE, DONE, FAULT, REFUSED, Checks, Ended, run  # noqa: E402
 
 SIZES = [0, 1, 447, 448, 449, 100_000, FILE_LIMIT]
+NOBODY = 65534
 NO_FILE = b"chaosd: %s: FNF No such file.\n"
 
 
@@ -127,11 +129,15 @@ def streams(checks):
         checks.check("put -", problems + stored_problems(server.folder / "IN", content))
         ended = copied(server, "get", "IN", options=["--output", "-"], cwd=here)
         checks.check("get --output -", ended.problems(DONE, content, b""))
-        closed = os.open("/dev/full", os.O_WRONLY)
-        ended = copied(server, "get", "IN", options=["--output", "-"], cwd=here, stdout=closed)
-        os.close(closed)
-        problems = [] if ended.status == FAULT and ended.err else [f"status {ended.status}, {ended.err!r}"]
-        checks.check("get to an output that takes nothing: status 1", problems)
+        full = os.open("/dev/full", os.O_WRONLY)
+        reader, unread = os.pipe()
+        os.close(reader)
+        for name, place in [("an output that takes nothing", full), ("a pipe that nobody reads", unread)]:
+            ended = copied(server, "get", "IN", options=["--output", "-"], cwd=here, stdout=place)
+            os.close(place)
+            checks.check(f"get to {name}: told, status 1", ended.problems(FAULT, b"", [b"chaosd: can't write -: "]))
+        ended = run([*words(server, "get", "--output", "-"), "IN"], closed=[1])
+        checks.check("get with standard output closed: told, status 1", ended.problems(FAULT, None, [b"chaosd: can't write -: "]))
         ended = run([*words(server, "put", "--as", "IN"), "-"], stdin=subprocess.DEVNULL, closed=[0])
         problems = ended.problems(FAULT, b"", [b"chaosd: -: "]) + stored_problems(server.folder / "IN", content)
         checks.check("put - with standard input closed: told, status 1, and nothing is put", problems)
@@ -192,6 +198,7 @@ def local_faults(checks):
 
 def full_disks(checks):
     """A disk that takes no more, at each side: a limit on a file's size stands for it."""
+
     def limited():
         signal.signal(signal.SIGXFSZ, signal.SIG_IGN)
         resource.setrlimit(resource.RLIMIT_FSIZE, (10_000, 10_000))
@@ -200,12 +207,81 @@ def full_disks(checks):
     with serving() as server, folder() as here:
         (server.folder / "F").write_bytes(content)
         (here / "F").write_bytes(b"old")
-        process = subprocess.run(
-            [program.PROGRAM, *words(server, "get"), "F"], cwd=here, capture_output=True, preexec_fn=limited, timeout=LONG
-        )
-        problems = [] if process.returncode == FAULT else [f"status {process.returncode}"]
+        ended = copied(server, "get", "F", cwd=here, prepare=limited)
+        problems = ended.problems(FAULT, b"", [b"chaosd: can't write F: "])
         problems += stored_problems(here / "F", b"old") + left_problems(here)
-        checks.check("get to a full disk: the old file stays", problems)
+        checks.check("get to a full disk: told, status 1, and the old file stays", problems)
+    with serving(prepare=limited) as server, folder() as here:
+        (server.folder / "F").write_bytes(b"old")
+        (here / "F").write_bytes(content)
+        (here / "G").write_bytes(b"more")
+        ended = copied(server, "put", "F", "G", cwd=here)
+        problems = ended.problems(REFUSED, b"", b"chaosd: F: STF Store fault.\n")
+        problems += stored_problems(server.folder / "F", b"old") + stored_problems(server.folder / "G", b"more")
+        checks.check("put to a full disk: the server's code and text, status 3, the old file stays, and the next is put", problems)
+
+
+def forbidden(checks):
+    """A folder in which this user may write nothing, at each side. Where this is the superuser, who may write anywhere, nobody takes
+    his place."""
+
+    def as_nobody():
+        if os.getuid() == 0:
+            os.setgid(NOBODY)
+            os.setuid(NOBODY)
+
+    def for_all(place, mode):
+        if os.getuid() == 0:
+            os.chown(place, NOBODY, NOBODY)
+        place.chmod(mode)
+
+    own = program.PROGRAM
+    with folder() as room:
+        for_all(room, 0o755)
+        program.PROGRAM = pathlib.Path(shutil.copy(own, room))
+        for_all(program.PROGRAM, 0o755)
+        for place in ["kept", "here"]:
+            (room / place).mkdir()
+            for_all(room / place, 0o700)
+        server, here = Serving(room / "kept", prepare=as_nobody), room / "here"
+        try:
+            for name in ["kept/F", "here/UP"]:
+                (room / name).write_bytes(b"new")
+                for_all(room / name, 0o600)
+            for_all(here, 0o500)
+            ended = copied(server, "get", "F", cwd=here, prepare=as_nobody)
+            problems = ended.problems(FAULT, b"", [b"chaosd: can't write F: "]) + left_problems(here)
+            checks.check("get into a folder without permission: told, status 1", problems)
+            for_all(server.folder, 0o500)
+            ended = copied(server, "put", "UP", options=["--as", "F"], cwd=here, prepare=as_nobody)
+            problems = ended.problems(REFUSED, b"", b"chaosd: UP: STF Store fault.\n")
+            checks.check("put into a folder without permission: the server's code and text, status 3", problems)
+        finally:
+            server.end()
+            program.PROGRAM = own
+            for place in [here, server.folder]:
+                for_all(place, 0o700)
+
+
+def changed_under_way(checks):
+    """A file that grows or shrinks at the server while it is got, after its OPEN was answered: it comes as it was then."""
+    old = mixed_content(40 * 448)
+    for name, new in [("grows", old * 2), ("shrinks", old[:500])]:
+        places = []
+
+        def change(is_clients, text):
+            if is_clients and text.endswith(b" READ") and places:
+                places.pop().write_bytes(new)
+            return text
+
+        with between(change) as (server, line), folder() as here:
+            (server.folder / "F").write_bytes(old)
+            places.append(server.folder / "F")
+            seen = ended(["get", *line, "F"], cwd=here)
+            problems = seen.problems(DONE, b"", b"") + stored_problems(here / "F", old) + (["it wasn't changed"] if places else [])
+            checks.check(f"get of a file that {name} under way", problems)
+            problems = ended(["get", *line, "F"], cwd=here).problems(DONE, b"", b"") + stored_problems(here / "F", new)
+            checks.check(f"and the next get of the one that {name}", problems)
 
 
 def killed(process, after):
@@ -218,23 +294,24 @@ def killed(process, after):
 def killed_in_the_middle(checks):
     """A client or a server that is killed while a file travels leaves no file that is half one."""
     content = mixed_content(FILE_LIMIT)
-    for name, victim in [("the client of a put", "client"), ("the server of a get", "server")]:
+    for subcommand, victim in [("put", "client"), ("get", "client"), ("put", "server"), ("get", "server")]:
         with folder() as kept, folder() as here:
             server = Serving(kept)
-            (kept / "F").write_bytes(content if victim == "server" else b"old")
-            (here / "F").write_bytes(b"old" if victim == "server" else content)
-            subcommand = "get" if victim == "server" else "put"
+            source, target = (here, kept) if subcommand == "put" else (kept, here)
+            (source / "F").write_bytes(content)
+            (target / "F").write_bytes(b"old")
             pipes = {"stdout": subprocess.PIPE, "stderr": subprocess.PIPE, "cwd": here}
             process = started([*words(server, subcommand, "--window", "1"), "F"], **pipes)
             killed(process if victim == "client" else server.process, 0.02)
+            problems = []
             if victim == "server":
-                with contextlib.suppress(subprocess.TimeoutExpired):
-                    process.communicate(timeout=LONG)
-            else:
-                server.end()
-            seen = (here if victim == "server" else kept) / "F"
-            problems = [] if seen.read_bytes() in (b"old", content) else [f"{seen.name} has {seen.stat().st_size} bytes"]
-            checks.check(f"{name} is killed: old or whole", problems)
+                err = process.communicate(timeout=LONG)[1]
+                is_told = process.returncode == REFUSED and err.startswith(b"chaosd: F: ")
+                problems += [] if is_told or process.returncode == DONE else [f"status {process.returncode}, {err!r}"]
+            server.end()
+            seen = target / "F"
+            problems += [] if seen.read_bytes() in (b"old", content) else [f"{seen.name} has {seen.stat().st_size} bytes"]
+            checks.check(f"the {victim} of a {subcommand} is killed: old or whole", problems)
 
 
 def interrupted(checks):
@@ -515,8 +592,8 @@ def bad_lines(checks):
         checks.check(f"{bad[0]} with {name}: status 2", problems)
 
 
-GROUPS = [bad_lines, sizes_both_ways, windows, many_files, streams, texts, local_faults, full_disks, killed_in_the_middle]
-GROUPS += [interrupted, silences, terminals, slow_network, small_stacks, two_puts, sixteen_clients, carriages, losing_network]
+GROUPS = [bad_lines, sizes_both_ways, windows, many_files, streams, texts, local_faults, full_disks, forbidden, killed_in_the_middle]
+GROUPS += [interrupted, changed_under_way, silences, terminals, slow_network, small_stacks, two_puts, sixteen_clients, carriages, losing_network]
 
 
 def main():

@@ -136,11 +136,14 @@ def at(port):
     return f"127.0.0.1:{port}"
 
 
-def started(words, **streams):
-    """The program, started on the words. Signals end it as they do by default."""
-    return subprocess.Popen(
-        [program.PROGRAM, *words], preexec_fn=lambda: signal.signal(signal.SIGINT, signal.SIG_DFL), **streams
-    )
+def started(words, prepare=lambda: None, **streams):
+    """The program, started on the words, by a process that was prepared so. Signals end it as they do by default."""
+
+    def begin():
+        signal.signal(signal.SIGINT, signal.SIG_DFL)
+        prepare()
+
+    return subprocess.Popen([program.PROGRAM, *words], preexec_fn=begin, **streams)
 
 
 def line_of(stream, patience=SOON):
@@ -159,11 +162,12 @@ def line_of(stream, patience=SOON):
 class Serving:
     """`serve` as host 000401 on a folder, with peers from 000402 on."""
 
-    def __init__(self, folder, peers=1, options=()):
+    def __init__(self, folder, peers=1, options=(), prepare=lambda: None):
         self.folder = pathlib.Path(folder)
         self.port, *self.peers = free_ports(1 + peers)
         words = [f"{CLIENT + n:o}={at(port)}" for n, port in enumerate(self.peers)]
-        self.process = started(["serve", *options, "401", at(self.port), folder, *words], stderr=subprocess.PIPE, stdout=subprocess.PIPE)
+        line = ["serve", *options, "401", at(self.port), folder, *words]
+        self.process = started(line, prepare, stderr=subprocess.PIPE, stdout=subprocess.PIPE)
         self.told = [b"401", at(self.port).encode(), str(folder).encode()]
         self.said = b""
         while self.untold() and (line := line_of(self.process.stderr)):
@@ -183,10 +187,10 @@ class Serving:
 
 
 @contextlib.contextmanager
-def serving(peers=1, options=()):
+def serving(peers=1, options=(), prepare=lambda: None):
     """A server on a folder of its own."""
     with tempfile.TemporaryDirectory() as folder:
-        server = Serving(folder, peers, options)
+        server = Serving(folder, peers, options, prepare)
         try:
             yield server
         finally:

@@ -77,6 +77,8 @@ HELP = {
         "  <FOLDER>   Folder whose files are served\n",
         "  [PEER]...  Another host, as ADDRESS=UDP in the forms above: at most 32, each Chaosnet address once\n",
         "--turns <N>     Turns after which the server ends, 0 to 1000000000; one that waits takes some 10 ms [default: 1000000000]\n",
+        "--window <N>    Packets of each window of a connection, 1 to 64: so many commands may be in flight [default: 13]\n",
+        "--quiet         Nothing is told but what fails\n",
         "  chaosd serve 401 127.0.0.1:9001 files 402=127.0.0.1:9002\n",
     ],
     "ask --help": ["  <TO>       Chaosnet address of the host to ask, in the form of ADDRESS\n"],
@@ -121,6 +123,8 @@ def words_out_of_form(checks):
         is_told(checks, ["ask", "402", text, "401"], text, "UDP", SOCKET_FORM)
     for text in BAD_TURNS:
         is_told(checks, ["serve", "--turns", text, "401", "127.0.0.1:1", "d"], text, "--turns", TURNS_FORM)
+    for text in BAD_WINDOWS:
+        is_told(checks, ["serve", "--window", text, "401", "127.0.0.1:1", "d"], text, "--window", WINDOW_FORM)
 
 
 def peers_out_of_form(checks):

@@ -57,9 +57,20 @@ one_carriage t Two One h k = absurd (let e : slice_index (codes "2") 0 ≡ slice
 same_some : (s t : Text) → Some s ≡ Some t → s ≡ t
 same_some s t e = cc
 
+one_window : (t : Text) (m n : ℕ) → IsWindow t m → IsWindow t n → m ≡ n
+one_window t m n h k = h.2 ∙ sym k.2
+
+one_flag : (t : Text) (a b : Bool) → IsFlag t a → IsFlag t b → a ≡ b
+one_flag t true true h k = refl
+one_flag t false false h k = refl
+one_flag t true false h k = absurd (let e : slice_index (codes "true") 0 ≡ slice_index (codes "false") 0 = ap (λ u. slice_index u 0) (sym h ∙ k) in omega (arith, e))
+one_flag t false true h k = absurd (let e : slice_index (codes "false") 0 ≡ slice_index (codes "true") 0 = ap (λ u. slice_index u 0) (sym h ∙ k) in omega (arith, e))
+
 same_serve : (rows : List Row) (s t : Serve) → IsServe rows s → IsServe rows t → IsSameServe s t
 same_serve rows s t h k = record {
   carriage = one_value IsCarriage one_carriage _ _ _ h.carriage k.carriage;
+  window = one_value IsWindow one_window _ _ _ h.window k.window;
+  is_quiet = one_value IsFlag one_flag _ _ _ h.is_quiet k.is_quiet;
   turns = one_value IsTurns one_turns _ _ _ h.turns k.turns;
   address = one_value IsAddress one_address _ _ _ h.address k.address;
   socket = one_value IsSocket one_socket _ _ _ h.socket k.socket;
@@ -75,15 +86,6 @@ same_ask rows s t h k = record {
   to = one_value IsAddress one_address _ _ _ h.to k.to;
   peers = one_list _ _ _ h.peers.0 k.peers.0;
 }
-
-one_window : (t : Text) (m n : ℕ) → IsWindow t m → IsWindow t n → m ≡ n
-one_window t m n h k = h.2 ∙ sym k.2
-
-one_flag : (t : Text) (a b : Bool) → IsFlag t a → IsFlag t b → a ≡ b
-one_flag t true true h k = refl
-one_flag t false false h k = refl
-one_flag t true false h k = absurd (let e : slice_index (codes "true") 0 ≡ slice_index (codes "false") 0 = ap (λ u. slice_index u 0) (sym h ∙ k) in omega (arith, e))
-one_flag t false true h k = absurd (let e : slice_index (codes "false") 0 ≡ slice_index (codes "true") 0 = ap (λ u. slice_index u 0) (sym h ∙ k) in omega (arith, e))
 
 one_login : (o : Option Text) (a b : Bor Text) → IsSomeAnd o (λ t. IsLogin t a) → IsSomeAnd o (λ t. IsLogin t b) → a.now ≡ b.now
 one_login None a b h k = absurd h

@@ -24,6 +24,10 @@ turns_option = with_default (codes "turns") (codes "1000000000")
 abbrev pub carriage_option : Rule
 carriage_option = with_default (codes "carriage") (codes "1")
 
+-- `--window N`, of `serve`
+abbrev pub window_option : Rule
+window_option = with_default (codes "window") (codes "13")
+
 -- the peers, of which any number may be given
 abbrev pub peer_words : Rule
 peer_words = record (new_rule (codes "PEER")) {
@@ -33,16 +37,6 @@ peer_words = record (new_rule (codes "PEER")) {
 -- loop [--carriage N]
 abbrev pub loop_command : App
 loop_command = with_rule (new_app (codes "loop")) carriage_option
-
--- serve [--turns N] [--carriage N] ADDRESS UDP FOLDER PEER...
-abbrev pub serve_command : App
-serve_command = with_rule
-    (with_rule
-    (with_rule
-    (with_rule (with_rule (with_rule (new_app (codes "serve")) turns_option) carriage_option) (needed (codes "ADDRESS")))
-    (needed (codes "UDP")))
-    (needed (codes "FOLDER")))
-    peer_words
 
 -- ask [--carriage N] ADDRESS UDP TO PEER...
 abbrev pub ask_command : App
@@ -66,6 +60,18 @@ flag id = record (new_rule id) {
   long = Some id;
   action = Some SetTrue;
 }
+
+-- [--turns N] [--carriage N] [--window N] [--quiet]
+abbrev pub serve_options : App → App
+serve_options app = with_rule (with_rule (with_rule (with_rule app turns_option) carriage_option) window_option) (flag (codes "quiet"))
+
+-- serve [--turns N] [--carriage N] [--window N] [--quiet] ADDRESS UDP FOLDER PEER...
+abbrev pub serve_command : App
+serve_command = with_rule
+    (with_rule
+    (with_rule (with_rule (serve_options (new_app (codes "serve"))) (needed (codes "ADDRESS"))) (needed (codes "UDP")))
+    (needed (codes "FOLDER")))
+    peer_words
 
 -- words of which there is one at least
 abbrev pub file_words : Text → Rule

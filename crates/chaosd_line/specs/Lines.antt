@@ -4,7 +4,7 @@ use Rattle.std.specs.Option.{IsSomeAnd}
 use Rattle.clap.specs.Words.{Row, Text, all_of, first_of, subcommand_of}
 use Rattle.chaosd_line.specs.CommandLine.{chaosd}
 use Rattle.chaosd_line.specs.Files.{IsGet, IsPut}
-use Rattle.chaosd_line.specs.Values.{ArePeers, IsAddress, IsCarriage, IsSocket, IsTurns}
+use Rattle.chaosd_line.specs.Values.{ArePeers, IsAddress, IsCarriage, IsFlag, IsSocket, IsTurns, IsWindow}
 use Rattle.chaosd_line.specs.declared.line.Line.{Line}
 use Rattle.chaosd_line.specs.declared.line.Line.TheVariants as line
 use Rattle.chaosd_line.specs.declared.line.Serve.{Serve}
@@ -17,6 +17,8 @@ use Rattle.chaosd_line.specs.declared.line.Put.{Put}
 pub record IsServe (rows : List Row) (serve : Serve) : Type 0 where
   pub turns : IsSomeAnd (first_of (codes "turns") rows) (λ text. IsTurns text serve.turns)
   pub carriage : IsSomeAnd (first_of (codes "carriage") rows) (λ text. IsCarriage text serve.carriage)
+  pub window : IsSomeAnd (first_of (codes "window") rows) (λ text. IsWindow text serve.window)
+  pub is_quiet : IsSomeAnd (first_of (codes "quiet") rows) (λ text. IsFlag text serve.is_quiet)
   pub address : IsSomeAnd (first_of (codes "ADDRESS") rows) (λ text. IsAddress text serve.address)
   pub socket : IsSomeAnd (first_of (codes "UDP") rows) (λ text. IsSocket text serve.socket)
   pub folder : first_of (codes "FOLDER") rows ≡ Some serve.folder.now
@@ -52,6 +54,8 @@ IsLineOf words asked = AsksFor (subcommand_of chaosd words) asked
 pub record IsSameServe (s t : Serve) : Type 0 where
   pub turns : s.turns ≡ t.turns
   pub carriage : s.carriage ≡ t.carriage
+  pub window : s.window ≡ t.window
+  pub is_quiet : s.is_quiet ≡ t.is_quiet
   pub address : s.address ≡ t.address
   pub socket : s.socket ≡ t.socket
   pub folder : s.folder.now ≡ t.folder.now

@@ -13,13 +13,21 @@ use std::alloc::{AllocError, Global};
 /// A subcommand.
 #[derive(Clone, Copy)]
 enum Sub {
+    /// `show`
     Show,
+    /// `lab`
     Lab,
+    /// `filelab`
     FileLab,
+    /// `loop`
     Loop,
+    /// `serve`
     Serve,
+    /// `ask`
     Ask,
+    /// `get`
     Get,
+    /// `put`
     Put,
 }
 
@@ -64,6 +72,8 @@ fn serve<'a>(alloc: Global) -> Result<Command<'a>, AllocError>
     let words = [
         Word("turns", Wanted::Default("N", "1000000000"), help::TURNS),
         Word("carriage", Wanted::Default("N", "1"), help::CARRIAGE),
+        Word("window", Wanted::Default("N", "13"), help::SERVE_WINDOW),
+        Word("quiet", Wanted::Flag, help::SERVE_QUIET),
         Word("ADDRESS", Wanted::Needed, help::ADDRESS),
         Word("UDP", Wanted::Needed, help::UDP),
         Word("FOLDER", Wanted::Needed, help::FOLDER),

@@ -36,7 +36,7 @@ fn given_login<'a>(matches: &ArgMatches<'a>) -> Result<&'a str, BadWord<'a>>
 }
 
 /// The packets of a window.
-fn given_window<'a>(matches: &ArgMatches<'a>) -> Result<u16, BadWord<'a>>
+pub(crate) fn given_window<'a>(matches: &ArgMatches<'a>) -> Result<u16, BadWord<'a>>
     ensures { Reads (λ n. IsSomeAnd (first_of (codes "window") (rows_of (found_of matches.now))) (λ t. IsWindow t n)) result }
 {
     let text = given(matches, "window")?;
@@ -51,7 +51,7 @@ fn given_window<'a>(matches: &ArgMatches<'a>) -> Result<u16, BadWord<'a>>
 }
 
 /// Whether a flag stands among the words.
-fn given_flag<'a>(matches: &ArgMatches<'a>, place: &'a str) -> Result<bool, BadWord<'a>>
+pub(crate) fn given_flag<'a>(matches: &ArgMatches<'a>, place: &'a str) -> Result<bool, BadWord<'a>>
     ensures { Reads (λ b. IsSomeAnd (first_of place.entry.now (rows_of (found_of matches.now))) (λ t. IsFlag t b)) result }
 {
     let text = given(matches, place)?;

@@ -7,7 +7,7 @@ ghost use Rattle.chaosd_line.specs.Lines.{AsksFor, IsAsk, IsServe};
 ghost use Rattle.chaosd_line.specs.Values.{ArePeers, IsAddress, IsCarriage, IsSocket, IsTurns, Reads};
 
 use crate::bad_word::{ADDRESS_FORM, BadWord, CARRIAGE_FORM, SOCKET_FORM, TURNS_FORM};
-use crate::copies::{get_of, put_of};
+use crate::copies::{get_of, given_flag, given_window, put_of};
 use crate::line::{Ask, Line, Serve};
 use crate::peers::peers_of;
 use crate::unread::Unread;
@@ -111,6 +111,8 @@ fn serve_of<'a>(matches: &ArgMatches<'a>) -> Result<Serve<'a>, BadWord<'a>>
 {
     let turns = given_turns(matches)?;
     let carriage = given_carriage(matches)?;
+    let window = given_window(matches)?;
+    let is_quiet = given_flag(matches, "quiet")?;
     let address = given_address(matches, "ADDRESS")?;
     let socket = given_socket(matches)?;
     let folder = given(matches, "FOLDER")?;
@@ -118,6 +120,8 @@ fn serve_of<'a>(matches: &ArgMatches<'a>) -> Result<Serve<'a>, BadWord<'a>>
     Ok(Serve {
         turns,
         carriage,
+        window,
+        is_quiet,
         address,
         socket,
         folder,

@@ -51,6 +51,13 @@ pub(crate) const LOGIN: &str = "User's name: 1 to 16 letters and digits";
 pub(crate) const WINDOW: &str =
     "Commands in flight, 1 to 64, as far as the server's own window allows";
 
+/// The packets of a server's windows.
+pub(crate) const SERVE_WINDOW: &str =
+    "Packets of each window of a connection, 1 to 64: so many commands may be in flight";
+
+/// Nothing told by a server.
+pub(crate) const SERVE_QUIET: &str = "Nothing is told but what fails";
+
 /// Texts.
 pub(crate) const TEXT: &str =
     "A text file: newline, tab, backspace and page are those of a Lisp machine at the server";

@@ -33,6 +33,10 @@ pub struct Serve<'a> {
     pub turns: u32,
     /// How it sends packets.
     pub carriage: Carriage,
+    /// The packets that each of the two windows of its connections has, 1 to 64.
+    pub window: u16,
+    /// Whether nothing but what fails is told.
+    pub is_quiet: bool,
     /// Its Chaosnet address, which is not 0.
     pub address: u16,
     /// The UDP address that it receives at, whose port is not 0.

@@ -7,5 +7,5 @@ use Rattle.chaosd_line.proofs.command.command.Goals as goal
 pub loop-sub-preserved : goal.loop-sub-preserved
 loop-sub-preserved c =
     let added = c.in_ok-full.ensures.shape c.in_ok-nested.ensures.local
-        ∙ ap (λ a. with_subcommand (app_of c.loop-sub.full) a.top) c.in_ok-nested.ensures.app in
+    ∙ ap (λ a. with_subcommand (app_of c.loop-sub.full) a.top) c.in_ok-nested.ensures.app in
     subs_step _ c.loop-sub.sub-index _ _ _ _ c.loop-sub-test.true c.loop-sub.invariant added

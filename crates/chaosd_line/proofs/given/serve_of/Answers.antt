@@ -12,6 +12,16 @@ returns-in_err-carriage c =
     let p = err_from_is_err_and c.from_residual-in_err-carriage.result c.from_residual-in_err-carriage.ensures.1 in
     rw p.1 (λ serve h. c.in_err-carriage.ensures serve.carriage h.carriage)
 
+pub returns-in_err-window : goal.returns-in_err-window
+returns-in_err-window c =
+    let p = err_from_is_err_and c.from_residual-in_err-window.result c.from_residual-in_err-window.ensures.1 in
+    rw p.1 (λ serve h. c.in_err-window.ensures serve.window h.window)
+
+pub returns-in_err-is_quiet : goal.returns-in_err-is_quiet
+returns-in_err-is_quiet c =
+    let p = err_from_is_err_and c.from_residual-in_err-is_quiet.result c.from_residual-in_err-is_quiet.ensures.1 in
+    rw p.1 (λ serve h. c.in_err-is_quiet.ensures serve.is_quiet h.is_quiet)
+
 pub returns-in_err-address : goal.returns-in_err-address
 returns-in_err-address c =
     let p = err_from_is_err_and c.from_residual-in_err-address.result c.from_residual-in_err-address.ensures.1 in
