@@ -3,4 +3,5 @@ pub mod Named
 pub mod NoReading
 pub mod OneLine
 pub mod PeerLists
+pub mod Planned
 mod Simple

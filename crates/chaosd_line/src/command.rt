@@ -1,64 +1,51 @@
 //! The command that clap reads the words by.
-ghost use Rattle.std.specs.Prelude.{◌≡◌, IfOk, false};
-ghost use Rattle.clap.specs.Words.{app_of, new_app, rule_of, with_rule, with_subcommand};
+ghost use Rattle.std.specs.Prelude.{◌≡◌, IfOk, false, map};
+ghost use Rattle.clap.specs.Words.{app_of};
 ghost use Rattle.clap.specs.declared.builder.command.Command.TheViews.{out-Command};
-ghost use Rattle.chaosd_line.specs.CommandLine.{ask_command, bare_chaosd, carriage_option, chaosd, copy_options, file_words, flag, get_command, loop_command, needed, optional, peer_words, put_command, serve_command, serve_options, with_addresses, with_default};
+ghost use Rattle.chaosd_line.specs.CommandLine.{ask_command, bare_chaosd, chaosd, get_command, loop_command, put_command, serve_command};
+ghost use Rattle.chaosd_line.specs.Plan.{app_of_sub, copying_rules, rule_of_word, with_rules};
 
 use crate::help;
-use clap::{Arg, ArgAction, Command};
+use crate::word::{Wanted, Word, arg_of};
+use clap::Command;
 use std::alloc::{AllocError, Global};
 
-/// Adds a word that has to be given.
-fn with_needed<'a>(
+/// A subcommand.
+#[derive(Clone, Copy)]
+enum Sub {
+    /// `show`
+    Show,
+    /// `lab`
+    Lab,
+    /// `filelab`
+    FileLab,
+    /// `loop`
+    Loop,
+    /// `serve`
+    Serve,
+    /// `ask`
+    Ask,
+    /// `get`
+    Get,
+    /// `put`
+    Put,
+}
+
+/// Adds words, one after another.
+fn with_words<'a>(
     alloc: Global,
     command: Command<'a>,
-    id: &'a str,
-    about: &'a str,
+    words: &[Word<'a>],
 ) -> Result<Command<'a>, AllocError>
     requires { (out-Command command).has_globals ≡ false }
-    ensures app { IfOk result (λ c. app_of c ≡ with_rule (app_of command.entry) (needed id.entry.now)) }
+    ensures app { IfOk result (λ c. app_of c ≡ with_rules (app_of command.entry) (map rule_of_word words.now)) }
     ensures local { IfOk result (λ c. (out-Command c).has_globals ≡ false) }
 {
-    command.arg(Arg::new(alloc, id).required(true).help(about))
-}
-
-/// Adds the peers, of which there may be none.
-fn with_peers<'a>(alloc: Global, command: Command<'a>) -> Result<Command<'a>, AllocError>
-    requires { (out-Command command).has_globals ≡ false }
-    ensures app { IfOk result (λ c. app_of c ≡ with_rule (app_of command.entry) peer_words) }
-    ensures local { IfOk result (λ c. (out-Command c).has_globals ≡ false) }
-{
-    command.arg(Arg::new(alloc, "PEER").num_args(0..).help(help::PEER))
-}
-
-/// Adds an option with a value that stands where it isn't given.
-fn with_default<'a>(
-    alloc: Global,
-    command: Command<'a>,
-    id: &'a str,
-    name: &'a str,
-    value: &'a str,
-    about: &'a str,
-) -> Result<Command<'a>, AllocError>
-    requires { (out-Command command).has_globals ≡ false }
-    ensures app { IfOk result (λ c. app_of c ≡ with_rule (app_of command.entry) (with_default id.entry.now value.entry.now)) }
-    ensures local { IfOk result (λ c. (out-Command c).has_globals ≡ false) }
-{
-    let option = Arg::new(alloc, id)
-        .long(id)
-        .value_name(name)
-        .default_value(value)
-        .help(about);
-    command.arg(option)
-}
-
-/// Adds how packets are sent.
-fn with_carriage<'a>(alloc: Global, command: Command<'a>) -> Result<Command<'a>, AllocError>
-    requires { (out-Command command).has_globals ≡ false }
-    ensures app { IfOk result (λ c. app_of c ≡ with_rule (app_of command.entry) carriage_option) }
-    ensures local { IfOk result (λ c. (out-Command c).has_globals ≡ false) }
-{
-    with_default(alloc, command, "carriage", "N", "1", help::CARRIAGE)
+    let mut full = command;
+    for word in words {
+        full = full.arg(arg_of(alloc, *word))?;
+    }
+    Ok(full)
 }
 
 /// The subcommand `loop`.
@@ -66,19 +53,12 @@ fn looped<'a>(alloc: Global) -> Result<Command<'a>, AllocError>
     ensures app { IfOk result (λ c. app_of c ≡ loop_command) }
     ensures local { IfOk result (λ c. (out-Command c).has_globals ≡ false) }
 {
-    with_carriage(alloc, Command::new(alloc, "loop").about(help::LOOP))
-}
-
-/// Adds the options of `serve`.
-fn with_serve_options<'a>(alloc: Global, command: Command<'a>) -> Result<Command<'a>, AllocError>
-    requires { (out-Command command).has_globals ≡ false }
-    ensures app { IfOk result (λ c. app_of c ≡ serve_options (app_of command.entry)) }
-    ensures local { IfOk result (λ c. (out-Command c).has_globals ≡ false) }
-{
-    let timed = with_default(alloc, command, "turns", "N", "1000000000", help::TURNS)?;
-    let carried = with_carriage(alloc, timed)?;
-    let wide = with_default(alloc, carried, "window", "N", "13", help::SERVE_WINDOW)?;
-    with_flag(alloc, wide, "quiet", help::SERVE_QUIET)
+    let named = Command::new(alloc, "loop").about(help::LOOP);
+    with_words(
+        alloc,
+        named,
+        &[Word("carriage", Wanted::Default("N", "1"), help::CARRIAGE)],
+    )
 }
 
 /// The subcommand `serve`.
@@ -89,11 +69,17 @@ fn serve<'a>(alloc: Global) -> Result<Command<'a>, AllocError>
     let named = Command::new(alloc, "serve")
         .about(help::SERVE)
         .after_help(help::SERVE_EXAMPLE);
-    let optioned = with_serve_options(alloc, named)?;
-    let own = with_needed(alloc, optioned, "ADDRESS", help::ADDRESS)?;
-    let bound = with_needed(alloc, own, "UDP", help::UDP)?;
-    let full = with_needed(alloc, bound, "FOLDER", help::FOLDER)?;
-    with_peers(alloc, full)
+    let words = [
+        Word("turns", Wanted::Default("N", "1000000000"), help::TURNS),
+        Word("carriage", Wanted::Default("N", "1"), help::CARRIAGE),
+        Word("window", Wanted::Default("N", "13"), help::SERVE_WINDOW),
+        Word("quiet", Wanted::Flag, help::SERVE_QUIET),
+        Word("ADDRESS", Wanted::Needed, help::ADDRESS),
+        Word("UDP", Wanted::Needed, help::UDP),
+        Word("FOLDER", Wanted::Needed, help::FOLDER),
+        Word("PEER", Wanted::Any, help::PEER),
+    ];
+    with_words(alloc, named, &words)
 }
 
 /// The subcommand `ask`.
@@ -104,83 +90,40 @@ fn ask<'a>(alloc: Global) -> Result<Command<'a>, AllocError>
     let named = Command::new(alloc, "ask")
         .about(help::ASK)
         .after_help(help::ASK_EXAMPLE);
-    let carried = with_carriage(alloc, named)?;
-    let own = with_needed(alloc, carried, "ADDRESS", help::ADDRESS)?;
-    let bound = with_needed(alloc, own, "UDP", help::UDP)?;
-    let full = with_needed(alloc, bound, "TO", help::TO)?;
-    with_peers(alloc, full)
+    let words = [
+        Word("carriage", Wanted::Default("N", "1"), help::CARRIAGE),
+        Word("ADDRESS", Wanted::Needed, help::ADDRESS),
+        Word("UDP", Wanted::Needed, help::UDP),
+        Word("TO", Wanted::Needed, help::TO),
+        Word("PEER", Wanted::Any, help::PEER),
+    ];
+    with_words(alloc, named, &words)
 }
 
-/// Adds an option that need not be given.
-fn with_optional<'a>(
+/// Adds the words of a copy: an option of its own, and its files, beside those that `get` and `put` have in common.
+fn with_copying<'a>(
     alloc: Global,
     command: Command<'a>,
-    id: &'a str,
-    name: &'a str,
-    about: &'a str,
+    own: Word<'a>,
+    files: Word<'a>,
 ) -> Result<Command<'a>, AllocError>
     requires { (out-Command command).has_globals ≡ false }
-    ensures app { IfOk result (λ c. app_of c ≡ with_rule (app_of command.entry) (optional id.entry.now)) }
+    ensures app { IfOk result (λ c. app_of c ≡ with_rules (app_of command.entry) (copying_rules (rule_of_word own.entry) (rule_of_word files.entry))) }
     ensures local { IfOk result (λ c. (out-Command c).has_globals ≡ false) }
 {
-    command.arg(Arg::new(alloc, id).long(id).value_name(name).help(about))
-}
-
-/// Adds a flag.
-fn with_flag<'a>(
-    alloc: Global,
-    command: Command<'a>,
-    id: &'a str,
-    about: &'a str,
-) -> Result<Command<'a>, AllocError>
-    requires { (out-Command command).has_globals ≡ false }
-    ensures app { IfOk result (λ c. app_of c ≡ with_rule (app_of command.entry) (flag id.entry.now)) }
-    ensures local { IfOk result (λ c. (out-Command c).has_globals ≡ false) }
-{
-    command.arg(
-        Arg::new(alloc, id)
-            .long(id)
-            .action(ArgAction::SetTrue)
-            .help(about),
-    )
-}
-
-/// Adds the files, of which there is one at least.
-fn with_files<'a>(
-    alloc: Global,
-    command: Command<'a>,
-    id: &'a str,
-    about: &'a str,
-) -> Result<Command<'a>, AllocError>
-    requires { (out-Command command).has_globals ≡ false }
-    ensures app { IfOk result (λ c. app_of c ≡ with_rule (app_of command.entry) (file_words id.entry.now)) }
-    ensures local { IfOk result (λ c. (out-Command c).has_globals ≡ false) }
-{
-    command.arg(Arg::new(alloc, id).num_args(1..).required(true).help(about))
-}
-
-/// Adds the options that `get` and `put` have in common.
-fn with_copy_options<'a>(alloc: Global, command: Command<'a>) -> Result<Command<'a>, AllocError>
-    requires { (out-Command command).has_globals ≡ false }
-    ensures app { IfOk result (λ c. app_of c ≡ copy_options (app_of command.entry)) }
-    ensures local { IfOk result (λ c. (out-Command c).has_globals ≡ false) }
-{
-    let carried = with_carriage(alloc, command)?;
-    let named = with_default(alloc, carried, "login", "NAME", "CHAOSD", help::LOGIN)?;
-    let wide = with_default(alloc, named, "window", "N", "64", help::WINDOW)?;
-    let texts = with_flag(alloc, wide, "text", help::TEXT)?;
-    with_flag(alloc, texts, "quiet", help::QUIET)
-}
-
-/// Adds the words that `get` and `put` have in common.
-fn with_addresses<'a>(alloc: Global, command: Command<'a>) -> Result<Command<'a>, AllocError>
-    requires { (out-Command command).has_globals ≡ false }
-    ensures app { IfOk result (λ c. app_of c ≡ with_addresses (app_of command.entry)) }
-    ensures local { IfOk result (λ c. (out-Command c).has_globals ≡ false) }
-{
-    let own = with_needed(alloc, command, "ADDRESS", help::ADDRESS)?;
-    let bound = with_needed(alloc, own, "UDP", help::UDP)?;
-    with_needed(alloc, bound, "SERVER", help::SERVER)
+    let words = [
+        Word("carriage", Wanted::Default("N", "1"), help::CARRIAGE),
+        Word("login", Wanted::Default("NAME", "CHAOSD"), help::LOGIN),
+        Word("window", Wanted::Default("N", "64"), help::WINDOW),
+        Word("text", Wanted::Flag, help::TEXT),
+        Word("quiet", Wanted::Flag, help::QUIET),
+        own,
+        Word("ADDRESS", Wanted::Needed, help::ADDRESS),
+        Word("UDP", Wanted::Needed, help::UDP),
+        Word("SERVER", Wanted::Needed, help::SERVER),
+        files,
+    ];
+    with_words(alloc, command, &words)
 }
 
 /// The subcommand `get`.
@@ -191,10 +134,9 @@ fn get<'a>(alloc: Global) -> Result<Command<'a>, AllocError>
     let named = Command::new(alloc, "get")
         .about(help::GET)
         .after_help(help::GET_EXAMPLE);
-    let optioned = with_copy_options(alloc, named)?;
-    let placed = with_optional(alloc, optioned, "output", "LOCAL", help::OUTPUT)?;
-    let addressed = with_addresses(alloc, placed)?;
-    with_files(alloc, addressed, "PATH", help::PATH)
+    let output = Word("output", Wanted::Optional("LOCAL"), help::OUTPUT);
+    let paths = Word("PATH", Wanted::Several, help::PATH);
+    with_copying(alloc, named, output, paths)
 }
 
 /// The subcommand `put`.
@@ -205,10 +147,26 @@ fn put<'a>(alloc: Global) -> Result<Command<'a>, AllocError>
     let named = Command::new(alloc, "put")
         .about(help::PUT)
         .after_help(help::PUT_EXAMPLE);
-    let optioned = with_copy_options(alloc, named)?;
-    let placed = with_optional(alloc, optioned, "as", "PATH", help::AS)?;
-    let addressed = with_addresses(alloc, placed)?;
-    with_files(alloc, addressed, "LOCAL", help::LOCAL)
+    let path = Word("as", Wanted::Optional("PATH"), help::AS);
+    let locals = Word("LOCAL", Wanted::Several, help::LOCAL);
+    with_copying(alloc, named, path, locals)
+}
+
+/// A subcommand, with its words and its help.
+fn subcommand<'a>(alloc: Global, sub: Sub) -> Result<Command<'a>, AllocError>
+    ensures app { IfOk result (λ c. app_of c ≡ app_of_sub sub) }
+    ensures local { IfOk result (λ c. (out-Command c).has_globals ≡ false) }
+{
+    match sub {
+        Sub::Show => Ok(Command::new(alloc, "show").about(help::SHOW)),
+        Sub::Lab => Ok(Command::new(alloc, "lab").about(help::LAB)),
+        Sub::FileLab => Ok(Command::new(alloc, "filelab").about(help::FILELAB)),
+        Sub::Loop => looped(alloc),
+        Sub::Serve => serve(alloc),
+        Sub::Ask => ask(alloc),
+        Sub::Get => get(alloc),
+        Sub::Put => put(alloc),
+    }
 }
 
 /// The program's own command, with its help text and no subcommand.
@@ -224,81 +182,45 @@ fn bare<'a>(alloc: Global) -> Result<Command<'a>, AllocError>
         .bin_name("chaosd")
 }
 
-/// Adds a subcommand that takes no words of its own, with what its help says.
-fn with_plain<'a>(
-    alloc: Global,
-    command: Command<'a>,
-    name: &'a str,
-    about: &'a str,
-) -> Result<Command<'a>, AllocError>
-    ensures { IfOk result (λ c. app_of c
-        ≡ with_subcommand (app_of command.entry) (new_app name.entry.now).top) }
-{
-    command.subcommand(Command::new(alloc, name).about(about))
-}
-
-/// Adds `loop`.
-fn with_loop<'a>(alloc: Global, command: Command<'a>) -> Result<Command<'a>, AllocError>
-    ensures { IfOk result (λ c. app_of c ≡ with_subcommand (app_of command.entry) loop_command.top) }
-{
-    let nested = looped(alloc)?;
-    command.subcommand(nested)
-}
-
-/// Adds `serve`.
-fn with_serve<'a>(alloc: Global, command: Command<'a>) -> Result<Command<'a>, AllocError>
-    ensures { IfOk result (λ c. app_of c ≡ with_subcommand (app_of command.entry) serve_command.top) }
-{
-    let nested = serve(alloc)?;
-    command.subcommand(nested)
-}
-
-/// Adds `ask`.
-fn with_ask<'a>(alloc: Global, command: Command<'a>) -> Result<Command<'a>, AllocError>
-    ensures { IfOk result (λ c. app_of c ≡ with_subcommand (app_of command.entry) ask_command.top) }
-{
-    let nested = ask(alloc)?;
-    command.subcommand(nested)
-}
-
-/// Adds `get`.
-fn with_get<'a>(alloc: Global, command: Command<'a>) -> Result<Command<'a>, AllocError>
-    ensures { IfOk result (λ c. app_of c ≡ with_subcommand (app_of command.entry) get_command.top) }
-{
-    let nested = get(alloc)?;
-    command.subcommand(nested)
-}
-
-/// Adds `put`.
-fn with_put<'a>(alloc: Global, command: Command<'a>) -> Result<Command<'a>, AllocError>
-    ensures { IfOk result (λ c. app_of c ≡ with_subcommand (app_of command.entry) put_command.top) }
-{
-    let nested = put(alloc)?;
-    command.subcommand(nested)
-}
-
 /// The command with all its subcommands and the texts of its help.
 pub(crate) fn command<'a>(alloc: Global) -> Result<Command<'a>, AllocError>
     ensures { IfOk result (λ c. app_of c ≡ chaosd) }
 {
-    let showing = with_plain(alloc, bare(alloc)?, "show", help::SHOW)?;
-    let trying = with_plain(alloc, showing, "lab", help::LAB)?;
-    let filing = with_plain(alloc, trying, "filelab", help::FILELAB)?;
-    let looping = with_loop(alloc, filing)?;
-    let serving = with_serve(alloc, looping)?;
-    let asking = with_ask(alloc, serving)?;
-    let getting = with_get(alloc, asking)?;
-    with_put(alloc, getting)
+    let subs = [
+        Sub::Show,
+        Sub::Lab,
+        Sub::FileLab,
+        Sub::Loop,
+        Sub::Serve,
+        Sub::Ask,
+        Sub::Get,
+        Sub::Put,
+    ];
+    let top = bare(alloc)?;
+    let mut full = top;
+    for sub in &subs {
+        let nested = subcommand(alloc, *sub)?;
+        full = full.subcommand(nested)?;
+    }
+    Ok(full)
+}
+
+/// The subcommand of a name that takes words of its own, and what its usage calls it.
+fn sub_of(name: Option<&str>) -> Option<(Sub, &'static str)> {
+    match name {
+        Some("loop") => Some((Sub::Loop, "chaosd loop")),
+        Some("serve") => Some((Sub::Serve, "chaosd serve")),
+        Some("ask") => Some((Sub::Ask, "chaosd ask")),
+        Some("get") => Some((Sub::Get, "chaosd get")),
+        Some("put") => Some((Sub::Put, "chaosd put")),
+        _ => None,
+    }
 }
 
 /// The command whose usage helps with a bad word: the subcommand of this name, or else the whole.
 pub(crate) fn command_of<'a>(alloc: Global, name: Option<&str>) -> Result<Command<'a>, AllocError> {
-    match name {
-        Some("loop") => looped(alloc)?.bin_name("chaosd loop"),
-        Some("serve") => serve(alloc)?.bin_name("chaosd serve"),
-        Some("ask") => ask(alloc)?.bin_name("chaosd ask"),
-        Some("get") => get(alloc)?.bin_name("chaosd get"),
-        Some("put") => put(alloc)?.bin_name("chaosd put"),
-        _ => command(alloc),
+    match sub_of(name) {
+        Some((sub, shown)) => subcommand(alloc, sub)?.bin_name(shown),
+        None => command(alloc),
     }
 }

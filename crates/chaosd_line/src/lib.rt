@@ -22,6 +22,7 @@ mod parse;
 mod peers;
 mod unread;
 mod values;
+mod word;
 
 pub use fault::LineFault;
 pub use files::last_name;

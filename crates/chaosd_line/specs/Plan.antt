@@ -1,0 +1,51 @@
+-- The words of the subcommands, and the rules that clap reads them by.
+use Rattle.std.specs.Prelude.{◌≡◌, ◌++◌, ◌∷◌, List, [], Some, codes}
+use Rattle.clap.specs.Lexer.{usize_max}
+use Rattle.clap.specs.Words.{App, Rule, Text, new_app, new_rule, with_subcommand}
+use Rattle.chaosd_line.specs.CommandLine.{ask_command, bare_chaosd, carriage_option, file_words, flag, get_command, loop_command, needed, optional, put_command, serve_command, with_default}
+use Rattle.chaosd_line.specs.declared.command.Sub.{Sub}
+use Rattle.chaosd_line.specs.declared.command.Sub.TheVariants as sub
+use Rattle.chaosd_line.specs.declared.word.Wanted.{Wanted}
+use Rattle.chaosd_line.specs.declared.word.Wanted.TheVariants as wanted
+use Rattle.chaosd_line.specs.declared.word.Word.{Word}
+
+-- words of which there may be any number
+abbrev pub any_words : Text → Rule
+any_words id = record (new_rule id) {
+  range = Some (record { start_inclusive = 0; end_inclusive = usize_max });
+}
+
+abbrev pub rule_wanted : Text → Wanted → Rule
+rule_wanted id wanted.Needed = needed id
+rule_wanted id wanted.Any = any_words id
+rule_wanted id wanted.Several = file_words id
+rule_wanted id (wanted.Default name value) = with_default id value.now
+rule_wanted id (wanted.Optional name) = optional id
+rule_wanted id wanted.Flag = flag id
+
+abbrev pub rule_of_word : Word → Rule
+rule_of_word word = rule_wanted word.0.now word.1
+
+-- these rules, behind those that stand there
+abbrev pub with_rules : App → List Rule → App
+with_rules app rules = record app { top = record app.top { rules = app.top.rules ++ rules } }
+
+-- the rules of a copy, with its own option and its files
+abbrev pub copying_rules : Rule → Rule → List Rule
+copying_rules own files = carriage_option ∷ with_default (codes "login") (codes "CHAOSD") ∷ with_default (codes "window") (codes "64")
+    ∷ flag (codes "text") ∷ flag (codes "quiet") ∷ own ∷ needed (codes "ADDRESS") ∷ needed (codes "UDP") ∷ needed (codes "SERVER") ∷ files ∷ []
+
+abbrev pub app_of_sub : Sub → App
+app_of_sub sub.Show = new_app (codes "show")
+app_of_sub sub.Lab = new_app (codes "lab")
+app_of_sub sub.FileLab = new_app (codes "filelab")
+app_of_sub sub.Loop = loop_command
+app_of_sub sub.Serve = serve_command
+app_of_sub sub.Ask = ask_command
+app_of_sub sub.Get = get_command
+app_of_sub sub.Put = put_command
+
+-- these subcommands, one after another
+abbrev pub with_subs : App → List Sub → App
+with_subs app [] = app
+with_subs app (s ∷ subs) = with_subs (with_subcommand app (app_of_sub s).top) subs
