@@ -4,6 +4,7 @@ pub mod Arriving
 pub mod Calls
 pub mod Config
 pub mod Inside
+pub mod NextDue
 pub mod Opening
 pub mod Sending
 pub mod State

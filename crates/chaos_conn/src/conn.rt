@@ -20,7 +20,7 @@ use std::marker::Model;
 ///   passes over it. [`Conn::announce`] changes the window that the peer may fill. [`Conn::close`] gives the connection up,
 ///   in any state, and makes the value ready for another.
 /// - Packets from the network: [`Conn::deliver`].
-/// - The tick: [`Conn::tick`], called now and then, sends what is due.
+/// - The tick: [`Conn::tick`], called now and then, sends what is due; [`Conn::next_due`] says when something is.
 /// - Looks, which change nothing: [`Conn::state`], [`Conn::config`], [`Conn::peer`], [`Conn::asked`],
 ///   [`Conn::announced`], [`Conn::can_write`], [`Conn::drained`] and [`Conn::stored`].
 ///

@@ -6,6 +6,7 @@ pub mod Inside
 pub mod Law
 pub mod Lending
 pub mod Listening
+pub mod NextDue
 pub mod Route
 pub mod Slot
 pub mod Stored

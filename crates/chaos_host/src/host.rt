@@ -24,7 +24,8 @@ use std::marker::Model;
 ///   [`Host::front`] lends it and [`Host::read_done`] passes over it. [`Host::announce`] changes the window that the peer
 ///   may fill. [`Host::close`] gives it up. `answer`, `reject` and `close` free its slot.
 /// - Packets from the network: [`Host::deliver`], which finds the connection, or takes a new request.
-/// - The tick: [`Host::tick`], called now and then for each slot, sends what is due there.
+/// - The tick: [`Host::tick`], called now and then for each slot, sends what is due there; [`Host::next_due`] says when
+///   something is.
 /// - Looks, which change nothing: [`Host::state`], [`Host::announced`], [`Host::can_write`] and [`Host::drained`] of a
 ///   connection; [`Host::id_of`], [`Host::stored`], [`Host::config`] and [`Host::conns`] of the table.
 ///

@@ -17,6 +17,7 @@ mod law;
 mod limits;
 mod listeners;
 mod looks;
+mod next_due;
 mod replies;
 mod route;
 mod slot;
