@@ -1,19 +1,14 @@
 -- What a tick of a slot finds due, and what is due in some slot.
-use Rattle.std.proofs.Common.{◌≡◌, ℕ, ◌<◌, ◌^◌, zero, suc, Bool, true, false, ◌&&◌, if◌then◌else◌, List, [], ◌∷◌, slice_get, Option, Some, None, refl, sym, ◌∙◌}
+use Rattle.std.proofs.Common.{◌≡◌, ℕ, zero, suc, Bool, true, false, ◌&&◌, List, [], ◌∷◌, slice_get, Option, Some, None, refl, sym, ◌∙◌}
 use Rattle.std.specs.List.{list_all}
 use Rattle.std.proofs.lemmas.Bool.{and_parts}
-use Rattle.chaos_conn.specs.Act.{Tick}
 use Rattle.chaos_conn.specs.State.{is_inactive}
-use Rattle.chaos_conn.specs.Time.{act_tick}
 use Rattle.chaos_conn.specs.View.{ConnView}
-use Rattle.chaos_conn.specs.declared.answers.Ticked.TheVariants.{Quiet}
 use Rattle.chaos_conn.specs.declared.state.State.{State}
 use Rattle.chaos_conn.specs.declared.state.State.TheVariants as st
 use Rattle.chaos_conn.specs.NextDue.{is_quiet, is_quiet_at, is_before}
 use Rattle.chaos_host.specs.declared.slot.Slot.{Slot}
-use Rattle.chaos_host.specs.Acted.{no_effect, on_slot}
-use Rattle.chaos_host.specs.NextDue.{TellsDue, IsNextDue}
-use Rattle.chaos_host.specs.Slot.{is_used}
+use Rattle.chaos_host.specs.NextDue.{TellsDue}
 use Rattle.chaos_host.specs.Tick.{tick_slot, host_tick}
 use Rattle.chaos_host.specs.View.{HostView}
 

@@ -12,3 +12,4 @@ pub mod Slot
 pub mod Stored
 pub mod Tick
 pub mod View
+pub mod Waiting

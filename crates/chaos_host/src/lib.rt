@@ -24,6 +24,7 @@ mod slot;
 mod slots;
 mod stored;
 mod tick;
+mod waiting;
 
 pub use answers::HostDelivered;
 pub use fault::{CallFault, ConnectFault, ListenFault, MakeFault};
