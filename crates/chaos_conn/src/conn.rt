@@ -20,8 +20,8 @@ use std::marker::Model;
 ///   passes over it. [`Conn::announce`] changes the window that the peer may fill. [`Conn::close`] gives the connection up,
 ///   in any state, and makes the value ready for another.
 /// - Packets from the network: [`Conn::deliver`].
-/// - The tick: [`Conn::tick`], called now and then, sends what is due.
-/// - Looks, which change nothing: [`Conn::state`], [`Conn::config`], [`Conn::peer`], [`Conn::asked`],
+/// - The tick: [`Conn::tick`], called now and then, sends what is due; [`Conn::next_due`] says when something is.
+/// - Looks, which change nothing: [`Conn::state`], [`Conn::config`], [`Conn::peer`], [`Conn::heard`], [`Conn::asked`],
 ///   [`Conn::announced`], [`Conn::can_write`], [`Conn::drained`] and [`Conn::stored`].
 ///
 /// The order: `new`; then `request`, or `take_request` and a reply; then packets, ticks, writes and reads as they come;

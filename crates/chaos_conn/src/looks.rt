@@ -39,6 +39,13 @@ impl Conn {
         }
     }
 
+    /// The moment when the peer was last heard.
+    pub fn heard(&self) -> u64
+        ensures { result ≡ self.now.heard }
+    {
+        self.heard
+    }
+
     /// Whether this end made the request itself.
     pub fn asked(&self) -> bool
         ensures { result ≡ self.now.asked }

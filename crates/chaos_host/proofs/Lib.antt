@@ -1,5 +1,6 @@
 pub mod InUse
 pub mod Indices
+pub mod NextDue
 pub mod Pending
 pub mod Places
 pub mod Requests

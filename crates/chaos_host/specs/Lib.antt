@@ -7,8 +7,10 @@ pub mod Inside
 pub mod Law
 pub mod Lending
 pub mod Listening
+pub mod NextDue
 pub mod Route
 pub mod Slot
 pub mod Stored
 pub mod Tick
 pub mod View
+pub mod Waiting

@@ -24,9 +24,10 @@ use std::marker::Model;
 ///   [`Host::front`] lends it and [`Host::read_done`] passes over it. [`Host::announce`] changes the window that the peer
 ///   may fill. [`Host::close`] gives it up. `answer`, `reject` and `close` free its slot.
 /// - Packets from the network: [`Host::deliver`], which finds the connection, or takes a new request.
-/// - The tick: [`Host::tick`], called now and then for each slot, sends what is due there.
-/// - Looks, which change nothing: [`Host::state`], [`Host::announced`], [`Host::can_write`] and [`Host::drained`] of a
-///   connection; [`Host::id_of`], [`Host::stored`], [`Host::config`] and [`Host::conns`] of the table.
+/// - The tick: [`Host::tick`], called now and then for each slot, sends what is due there; [`Host::next_due`] says when
+///   something is.
+/// - Looks, which change nothing: [`Host::state`], [`Host::announced`], [`Host::can_write`], [`Host::drained`] and
+///   [`Host::heard`] of a connection, [`Host::contact`] and [`Host::arguments`] of a request that it holds; [`Host::id_of`], [`Host::stored`], [`Host::config`] and [`Host::conns`] of the table.
 ///
 /// The order: `new`; then `listen` for each contact; then packets, ticks and the user's calls as they come. An index is told
 /// by `connect`, and by `deliver` with a new request. It names its connection until the slot is freed, and no call on it

@@ -17,12 +17,14 @@ mod law;
 mod limits;
 mod listeners;
 mod looks;
+mod next_due;
 mod replies;
 mod route;
 mod slot;
 mod slots;
 mod stored;
 mod tick;
+mod waiting;
 
 pub use answers::{HostDelivered, HostDisposition};
 pub use fault::{CallFault, ConnectFault, ListenFault, MakeFault};

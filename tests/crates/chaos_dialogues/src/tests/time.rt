@@ -39,6 +39,26 @@ fn silent_peer_is_probed_and_then_down(rt: HostRuntime) -> Result<(), Fail> {
 }
 
 #[test]
+fn next_moment_is_told(rt: HostRuntime) -> Result<(), Fail> {
+    let mut side = open(&rt, rt.alloc(), ConnConfig::usual(), 7, 100)?;
+    assert_eq!(&rt; side.conn.next_due(), Some(10_000));
+    side.at(1_000);
+    side.writes(&rt, Opcode::DATA, b"A", Ok(8));
+    side.sends(&rt, Opcode::DATA, 8, 100, b"A");
+    assert_eq!(&rt; side.conn.next_due(), Some(1_500));
+    side.ticks(&rt, 10_000, Ticked::Resent(1));
+    side.sends(&rt, Opcode::DATA, 8, 100, b"A");
+    assert_eq!(&rt; side.conn.next_due(), Some(0));
+    side.ticks(&rt, 0, Ticked::Probed);
+    side.sends(&rt, Opcode::SNS, 0, 100, b"");
+    assert_eq!(&rt; side.conn.next_due(), Some(10_500));
+    side.ticks(&rt, 90_000, Ticked::Down);
+    assert_eq!(&rt; side.conn.next_due(), None);
+    side.gives_all_back(&rt);
+    Ok(())
+}
+
+#[test]
 fn request_is_sent_again_without_an_acknowledgement(rt: HostRuntime) -> Result<(), Fail> {
     let mut side = rfc_sent(&rt, rt.alloc(), ConnConfig::usual(), 7)?;
     side.ticks(&rt, 500, Ticked::Resent(1));
