@@ -17,9 +17,9 @@ use crate::turns::Turns;
 use crate::why::Why;
 use chaos_file::MemStore;
 use chaos_host::{Host, HostDelivered};
-use chaos_link::{Carriage, Link};
+use chaos_link::{Carriage, LINK_ROOM, Link};
 use chaos_packet::Outbox;
-use chaos_turn::{TurnEnd, client_turn};
+use chaos_turn::{TURN_ROOM, TurnEnd, client_turn};
 use chaosd_engines::RunFault;
 use std::alloc::Global;
 use std::io::{Read, Write};
@@ -33,6 +33,10 @@ struct Both<'a, A: Link, B: Link> {
     server: &'a mut Server,
     store: &'a mut MemStore,
     turns: u64,
+    /// Where the client receives datagrams.
+    buffer: [u8; LINK_ROOM],
+    /// Whether the last turn of both brought nothing.
+    is_idle: bool,
 }
 
 impl<A: Link, B: Link> Turns for Both<'_, A, B> {
@@ -48,7 +52,8 @@ impl<A: Link, B: Link> Turns for Both<'_, A, B> {
         Ok(self.turns.saturating_mul(LOOP_TURN))
     }
 
-    /// A turn of the client, and then one of the server.
+    /// A turn of the client, and then one of the server. While one acts, the other can't: so both poll, but the client waits for
+    /// what is still on its way where the turn before brought nothing and nothing is to be sent.
     fn turn(
         &mut self,
         host: &mut Host,
@@ -56,9 +61,20 @@ impl<A: Link, B: Link> Turns for Both<'_, A, B> {
         out: &mut Outbox,
         told: &mut Option<HostDelivered>,
         carriage: Carriage,
+        may_wait: bool,
     ) -> Result<(), RunFault> {
         self.turns = self.turns.saturating_add(1);
-        let asked = client_turn(host, self.near, now, out, told, carriage);
+        let may_wait = may_wait && self.is_idle && out.room() >= TURN_ROOM;
+        let asked = client_turn(
+            host,
+            self.near,
+            now,
+            out,
+            told,
+            carriage,
+            &mut self.buffer,
+            may_wait,
+        );
         let served = self.server.turn(
             self.alloc,
             self.store,
@@ -66,7 +82,9 @@ impl<A: Link, B: Link> Turns for Both<'_, A, B> {
             LOOP_SERVER_START,
             now,
             carriage,
+            false,
         );
+        self.is_idle = asked == TurnEnd::Idle && served == TurnEnd::Idle;
         if asked == TurnEnd::LinkFault || served == TurnEnd::LinkFault {
             Err(RunFault::LinkFault)
         } else {
@@ -180,6 +198,8 @@ fn run_between<R: Read, W: Write, A: Link, B: Link>(
         server,
         store,
         turns: 0,
+        buffer: [0; LINK_ROOM],
+        is_idle: false,
     };
     run_script(&mut client, &mut turns, reader, writer, why)
 }
