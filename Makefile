@@ -6,8 +6,8 @@
 #   make wrong-bodies       the wrong bodies that the gate leaves out, for before a release (about an hour)
 #   make dialogues          random dialogues between two hosts, a million packets from a seed of the clock's; SEED=.. PACKETS=..
 #   make bench              times everything beside the same in plain Rust (rustc and python3)
-#   make bench-show         `chaosd show` alone; likewise bench-lab, bench-loop, bench-copy and bench-stack (gdb), and bench-codec,
-#                           bench-links, bench-window, bench-host, bench-file and bench-turn of the libraries
+#   make bench-show         `chaosd show` alone; likewise bench-lab, bench-loop, bench-calls (strace), bench-copy and bench-stack
+#                           (gdb), and bench-codec, bench-links, bench-window, bench-host, bench-file and bench-turn of the libraries
 #   make pictures           draws the pictures of the documents again (python3)
 #   make dist               packs the program, its manual page, the documents, examples, dissector and licences into a tar file in out/
 #   make install PREFIX=DIR puts the program into DIR/bin, and its manual page into DIR/share/man/man1
@@ -16,7 +16,7 @@ PREFIX ?= /usr/local
 RT ?= rt
 SOURCES := crates.txt HANDLES $(shell find crates \( -name out -o -name must-fail -o -name wrong-bodies \) -prune -o -type f -print)
 BENCHES := codec links window host file turn
-PROGRAM_BENCHES := show lab loop copy stack
+PROGRAM_BENCHES := show lab loop calls copy stack
 DIALOGUES := crates/random_dialogues/out/random_dialogues
 SEED ?= $(shell date +%s)
 PACKETS ?= 1000000

@@ -79,7 +79,7 @@ impl<L: Link> Link for FuseLink<L> {
         self.inner.send(to_address, bytes)
     }
 
-    fn receive(&mut self, buffer: &mut [u8; LINK_ROOM]) -> Received
+    fn receive(&mut self, buffer: &mut [u8; LINK_ROOM], may_wait: bool) -> Received
         ensures failed { result ≡ Received.Failed → Rose (count_with L.count self.old) (count_with L.count self.new) }
         ensures within { IsWithin LINK_ROOM result }
         ensures queued { IfSome (queue_with L.queue self.old) (ReceivesFrom buffer.old buffer.new result (queue_with L.queue self.new)) }
@@ -92,7 +92,7 @@ impl<L: Link> Link for FuseLink<L> {
         if self.blows() {
             return Received::Failed;
         }
-        self.inner.receive(buffer)
+        self.inner.receive(buffer, may_wait)
     }
 
     fn failures(&self) -> u64 {

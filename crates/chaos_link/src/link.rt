@@ -42,8 +42,9 @@ pub trait Link {
         ensures failed { result ≡ Sent.Failed → Rose (count self.old) (count self.new) }
         ensures queued { IfSome (queue self.old) (SendsInto bytes.now result (queue self.new)) };
 
-    /// Receives at most one datagram into the front of the buffer.
-    fn receive(&mut self, buffer: &mut [u8; LINK_ROOM]) -> Received
+    /// Receives at most one datagram into the front of the buffer. Where none is there it may wait for one, for as long as
+    /// the link says, where `may_wait` allows it; else it tells at once that none is.
+    fn receive(&mut self, buffer: &mut [u8; LINK_ROOM], may_wait: bool) -> Received
         // A failure is counted.
         ensures failed { result ≡ Received.Failed → Rose (count self.old) (count self.new) }
         ensures within { IsWithin LINK_ROOM result }

@@ -58,8 +58,8 @@ impl Link for MemLink {
         Sent::Sent
     }
 
-    /// Takes the oldest datagram out. The buffer behind it stays as it was.
-    fn receive(&mut self, buffer: &mut [u8; LINK_ROOM]) -> Received {
+    /// Takes the oldest datagram out, and never waits. The buffer behind it stays as it was.
+    fn receive(&mut self, buffer: &mut [u8; LINK_ROOM], _may_wait: bool) -> Received {
         match self.ring.pop_front() {
             Some(datagram) => {
                 let count = datagram.len();

@@ -1,5 +1,5 @@
 //! A link over a UDP socket.
-ghost use Rattle.std.specs.Prelude.{◌≡◌, ◌≢◌, ◌↔◌, ◌≤◌, length, Some, None, false, not, OnOk, OnErr};
+ghost use Rattle.std.specs.Prelude.{◌≡◌, ◌≢◌, ◌↔◌, ◌≤◌, length, Some, None, OnOk, OnErr};
 ghost use Rattle.chaos_packet.specs.Count.{Rose, with_failure};
 ghost use Rattle.chaos_link.specs.Link.{IsWithin};
 ghost use Rattle.chaos_link.specs.Peers.{socket_of};
@@ -15,10 +15,10 @@ use std::net::{SocketAddr, SocketAddrV4, UdpSocket};
 use std::time::Duration;
 
 /// A link over a UDP socket: datagrams go to the sockets of its peers, and come from anybody. A contract sees the peers,
-/// the failures and when a receive waits; of what the socket carries it says nothing.
+/// the failures and whether the last receive waited; of what the socket carries it says nothing.
 ///
-/// A receive waits at most 10 milliseconds for a datagram (the system may round that up), and only where nothing was sent
-/// on the link since the receive before it. Else it polls, so whoever sends in each turn never waits.
+/// A receive that may wait does so for at most 10 milliseconds (the system may round that up), where no datagram is there;
+/// any other polls. To change from one to the other is a call of the system, so who always waits, or never, makes none.
 ///
 /// The socket is to be bound and not connected. A datagram is lost, and no failure, where the system has no room to send
 /// it, can't reach its address or doesn't allow it, or tells that a socket is gone: a network may lose any, and one peer
@@ -28,8 +28,6 @@ pub struct UdpLink {
     socket: UdpSocket,
     peers: Peers,
     failures: u64,
-    /// Whether a datagram was sent since the receive before.
-    sent: bool,
     /// Whether the socket's receives wait, once a receive has set that.
     waits: Option<bool>,
 }
@@ -39,19 +37,18 @@ impl Model for UdpLink {
 
     ghost Value = { UdpView };
 
-    ghost view = { λ link. record { peers = link.peers; failures = link.failures; sent = link.sent; waits = link.waits } };
+    ghost view = { λ link. record { peers = link.peers; failures = link.failures; waits = link.waits } };
 }
 
 impl UdpLink {
-    /// A link over this socket to these peers. Its first receive waits.
+    /// A link over this socket to these peers. It touches nothing.
     pub fn new(socket: UdpSocket, peers: Peers) -> Self
-        ensures { result ≡ record { peers = peers; failures = 0; sent = false; waits = None } }
+        ensures { result ≡ record { peers = peers; failures = 0; waits = None } }
     {
         UdpLink {
             socket,
             peers,
             failures: 0,
-            sent: false,
             waits: None,
         }
     }
@@ -70,17 +67,14 @@ impl Link for UdpLink {
         ensures queued { Unit {0} }
         // An address is unknown exactly where no peer has it.
         ensures unknown { (result ≡ Sent.Unknown) ↔ (socket_of to_address self.old.peers ≡ None) }
-        // A datagram that was sent lets the next receive poll, and a failure is counted; nothing else changes.
+        // A failure is counted; nothing else changes.
         ensures link { self.new ≡ after_send result self.old }
     {
         let Some(peer) = self.peers.find(to_address) else {
             return Sent::Unknown;
         };
         match send_to(&self.socket, bytes, peer) {
-            Ok(()) => {
-                self.sent = true;
-                Sent::Sent
-            }
+            Ok(()) => Sent::Sent,
             Err(_) => {
                 count_failure(&mut self.failures);
                 Sent::Failed
@@ -90,20 +84,17 @@ impl Link for UdpLink {
 
     /// Receives a datagram, from whomever it comes. One of more than 2,048 bytes is cut to its first 2,048, which are too
     /// many for any packet, so that it is refused as a datagram.
-    fn receive(&mut self, buffer: &mut [u8; LINK_ROOM]) -> Received
+    fn receive(&mut self, buffer: &mut [u8; LINK_ROOM], may_wait: bool) -> Received
         ensures failed { result ≡ Received.Failed → Rose self.old.failures self.new.failures }
         ensures within { IsWithin LINK_ROOM result }
         ensures queued { Unit {0} }
         ensures peers { self.new.peers ≡ self.old.peers }
         // A failure is counted, and nothing else is.
         ensures counted { self.new.failures ≡ failures_after result self.old.failures }
-        ensures sent { self.new.sent ≡ false }
-        // It waits exactly where nothing was sent since the receive before it.
-        ensures waits { result ≢ Received.Failed → self.new.waits ≡ Some (not self.old.sent) }
+        // It waits exactly where it may.
+        ensures waits { result ≢ Received.Failed → self.new.waits ≡ Some may_wait }
     {
-        let waits = !self.sent;
-        self.sent = false;
-        let received = match set_wait(&self.socket, &mut self.waits, waits) {
+        let received = match set_wait(&self.socket, &mut self.waits, may_wait) {
             Ok(()) => receive_from(&self.socket, buffer),
             Err(_) => Received::Failed,
         };
@@ -182,7 +173,9 @@ fn set_wait(socket: &UdpSocket, set: &mut Option<bool>, waits: bool) -> io::Resu
         return Ok(());
     }
     if set.is_none() {
-        socket.set_read_timeout(Some(Duration::from_millis(MAX_WAIT)))?;
+        let wait = Some(Duration::from_millis(MAX_WAIT));
+        socket.set_read_timeout(wait)?;
+        socket.set_write_timeout(wait)?;
     }
     socket.set_nonblocking(!waits)?;
     *set = Some(waits);

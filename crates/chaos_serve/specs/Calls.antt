@@ -1,5 +1,5 @@
 -- The calls on a host by which it serves a connection.
-use Rattle.std.specs.Prelude.{ℕ, List, ◌++◌, Option, Some, None, option_map}
+use Rattle.std.specs.Prelude.{ℕ, Bool, true, false, List, ◌++◌, Option, Some, None, option_map}
 use Rattle.chaos_packet.specs.Opcode.{op_data}
 use Rattle.chaos_conn.specs.Act.{FinishRead, Write}
 use Rattle.chaos_file.specs.Session.{SessionView}
@@ -30,6 +30,15 @@ after_eof_at h id = record { view = (host_call h id FinishRead).view; packets = 
 -- what is to be done at the connection with an own index, where there is one
 abbrev pub work_at : HostView → ℕ → Option Work
 work_at h id = option_map (λ slot. work_of slot.conn) (named_slot h.slots id)
+
+-- there is something to serve
+abbrev pub is_served : Option Work → Bool
+is_served (Some LastItem) = true
+is_served (Some (Command body)) = true
+is_served _ = false
+
+abbrev pub can_serve : HostView → ℕ → Bool
+can_serve h id = is_served (work_at h id)
 
 -- what serving does, told by those calls
 abbrev pub DoesWorkByCalls : StoreChange → SessionView → SessionView → (HostActed Served → Type 0) → HostView → ℕ → ℕ → Option Work → Type 0

@@ -1,12 +1,14 @@
 //! FILE over connections: each data item that a peer wrote is a command, which is carried out once and answered by one
 //! reply.
 //!
-//! [`serve_conn`] serves an end of a connection, and [`serve_one`] one of a host's connections. Both touch no socket and no
+//! [`serve_conn`] serves an end of a connection, and [`serve_one`] one of a host's connections; [`can_serve`] says whether it
+//! would serve anything. They touch no socket and no
 //! clock, and take no memory but what [`chaos_file::Session::apply`] takes.
 #![tactic(auto)]
 
 mod conn;
 mod contact;
+mod due;
 mod host;
 mod law;
 mod served;
@@ -16,6 +18,7 @@ mod tests;
 
 pub use conn::serve_conn;
 pub use contact::CONTACT;
+pub use due::can_serve;
 pub use host::serve_one;
 pub use law::law_reply_taken;
 pub use served::Served;

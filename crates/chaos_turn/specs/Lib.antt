@@ -7,3 +7,4 @@ pub mod Sessions
 pub mod Slots
 pub mod Station
 pub mod Turn
+pub mod Waiting

@@ -50,6 +50,8 @@ pub fn client_turn<L: Link>(
     out: &mut Outbox,
     told: &mut Option<HostDelivered>,
     carriage: Carriage,
+    buffer: &mut [u8; LINK_ROOM],
+    may_wait: bool,
 ) -> TurnEnd
     requires room { TURN_ROOM ≤ out.old.cap }
     ensures fault { (result ≡ TurnEnd.LinkFault) ↔ Rose (L.count link.old) (L.count link.new) }
@@ -59,8 +61,7 @@ pub fn client_turn<L: Link>(
 {
     let before = link.failures();
     let waited = send_all(link, out, carriage);
-    let mut buffer = [0; LINK_ROOM];
-    let came = receive(link, &mut buffer);
+    let came = receive(link, buffer, may_wait);
     let some = came.is_some();
     let sent = take_client_turn(host, came, link, now, out, told, carriage);
     end_of(before, link.failures(), any_of(some, waited, sent))

@@ -1,7 +1,8 @@
 //! One turn of a FILE server and of a client: what came is delivered, what is due is done, and what a host puts out goes
 //! into a link.
 //!
-//! A turn reads no clock (the moment is handed in) and waits only as its link does. [`Sessions::new`] takes memory for the
+//! A turn reads no clock (the moment is handed in), and waits for a datagram only where its caller lets it, as its link does:
+//! [`can_serve_any`] says whether a server is to. [`Sessions::new`] takes memory for the
 //! sessions; a turn takes none but what [`chaos_file::Session::apply`] takes.
 #![tactic(auto)]
 
@@ -18,6 +19,7 @@ mod sessions;
 mod tests;
 mod ticking;
 mod turn;
+mod waiting;
 
 pub use client::client_turn;
 pub use end::TurnEnd;
@@ -25,3 +27,4 @@ pub use limits::TURN_ROOM;
 pub use sending::{law_read_back, law_sends_one};
 pub use sessions::Sessions;
 pub use turn::run_turn;
+pub use waiting::can_serve_any;

@@ -4,15 +4,16 @@ ghost use Rattle.chaos_turn.specs.Arrive.{Receives};
 
 use chaos_link::{LINK_ROOM, Link, LinkFault, Packets, Received, open_datagram};
 
-/// Receives at most one datagram into the buffer, and answers the packets that it carries, of either version, which lie there,
+/// Receives at most one datagram into the buffer, for which it may wait or not, and answers the packets that it carries, of either version, which lie there,
 /// or why it carries none.
 pub fn receive<'a, L: Link>(
     link: &mut L,
     buffer: &'a mut [u8; LINK_ROOM],
+    may_wait: bool,
 ) -> Option<Result<Packets<'a>, LinkFault>>
     ensures { IfSome (L.queue link.old) (Receives result (L.queue link.new)) }
 {
-    match link.receive(buffer) {
+    match link.receive(buffer, may_wait) {
         Received::Got(count) => Some(open_datagram(&buffer[..count])),
         _ => None,
     }

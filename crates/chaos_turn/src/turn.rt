@@ -62,6 +62,10 @@ fn take_turn<S: Store, L: Link>(
 /// By `carriage` packets that are sent at once go each in a datagram of version 1, or several to one host in a datagram of
 /// version 2.
 ///
+/// The datagram is received into `buffer`, whatever that holds: a caller keeps it from turn to turn. Where none is there the
+/// turn waits for one as the link does, where `may_wait` allows it. A caller that leaves items in front, see
+/// [`can_serve_any`](crate::can_serve_any), isn't to let the next turn wait.
+///
 /// `LinkFault` exactly where the link's count of failures rose in the turn, or stands at its greatest; a packet whose send
 /// failed is lost, and the turn goes on to its end. Else `Worked` where a datagram came or a packet was sent, else `Idle`.
 ///
@@ -77,6 +81,8 @@ pub fn run_turn<S: Store, L: Link>(
     now: u64,
     out: &mut Outbox,
     carriage: Carriage,
+    buffer: &mut [u8; LINK_ROOM],
+    may_wait: bool,
 ) -> TurnEnd
     requires alike { length sessions.old ≡ length host.old.slots }
     requires room { TURN_ROOM ≤ out.old.cap }
@@ -92,8 +98,7 @@ pub fn run_turn<S: Store, L: Link>(
 {
     let before = link.failures();
     let waited = send_all(link, out, carriage);
-    let mut buffer = [0; LINK_ROOM];
-    let came = receive(link, &mut buffer);
+    let came = receive(link, buffer, may_wait);
     let some = came.is_some();
     let sent = take_turn(
         alloc, host, sessions, store, came, link, start, now, out, carriage,

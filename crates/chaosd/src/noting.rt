@@ -47,8 +47,8 @@ impl<R: Eprint> Link for Noting<'_, R> {
         sent
     }
 
-    fn receive(&mut self, buffer: &mut [u8; LINK_ROOM]) -> Received {
-        self.inner.receive(buffer)
+    fn receive(&mut self, buffer: &mut [u8; LINK_ROOM], may_wait: bool) -> Received {
+        self.inner.receive(buffer, may_wait)
     }
 
     fn failures(&self) -> u64 {

@@ -13,7 +13,7 @@ ghost use Rattle.chaosd_call.specs.Call.{Connects, HangsUp, Hears, Says, TurnsBy
 use chaos_conn::{ConnConfig, ReadEnd};
 use chaos_file::Reply;
 use chaos_host::{CallFault, ConnId, Host};
-use chaos_link::{Carriage, Link};
+use chaos_link::{Carriage, LINK_ROOM, Link};
 use chaos_packet::{Opcode, Outbox, PktNum};
 use chaos_serve::CONTACT;
 use chaos_turn::{TURN_ROOM, TurnEnd, client_turn};
@@ -40,6 +40,8 @@ pub struct Call<'a, C: Clock, L: Link> {
     carriage: Carriage,
     /// Since when a reply is waited for, and why none came.
     patience: Patience,
+    /// Where datagrams are received.
+    buffer: [u8; LINK_ROOM],
     ghost room: { out.cap ≡ TURN_ROOM },
 }
 
@@ -86,6 +88,7 @@ impl<'a, C: Clock, L: Link> Call<'a, C, L> {
             id: None,
             carriage,
             patience: Patience::new(),
+            buffer: [0; LINK_ROOM],
         })
     }
 
@@ -124,7 +127,8 @@ impl<'a, C: Clock, L: Link> Call<'a, C, L> {
         };
         self.id = None;
         close(&mut self.host, id, &mut self.out);
-        self.take_turn()
+        // Nothing is waited for.
+        self.take_turn(false)
     }
 
     /// Why no reply came, as far as is known: how long one was waited for since the last, or what the server sent that ended the
@@ -133,8 +137,8 @@ impl<'a, C: Clock, L: Link> Call<'a, C, L> {
         self.patience.no_reply()
     }
 
-    /// One turn at this moment. The place where a turn is taken.
-    fn take_turn(&mut self) -> Result<(), RunFault>
+    /// One turn at this moment, which may wait for a datagram or not. The place where a turn is taken.
+    fn take_turn(&mut self, may_wait: bool) -> Result<(), RunFault>
         ensures faults { IfErr result (λ fault. (fault ≡ RunFault.ClockFault) ⊎ (fault ≡ RunFault.LinkFault)) }
         ensures failed { result ≡ Err RunFault.LinkFault → Rose (L.count self.old.link.now) (L.count self.new.link.now) }
         ensures well { OnOk result (TurnsBy self.old.carriage (L.queue self.old.link.now) (L.queue self.new.link.now)
@@ -150,6 +154,8 @@ impl<'a, C: Clock, L: Link> Call<'a, C, L> {
             &mut self.out,
             &mut told,
             self.carriage,
+            &mut self.buffer,
+            may_wait,
         );
         self.patience.note(self.now, told);
         match end {
@@ -259,7 +265,7 @@ impl<C: Clock, L: Link> Talk for Call<'_, C, L> {
         ensures well { OnOk result (TurnsBy self.old.carriage (L.queue self.old.link.now) (L.queue self.new.link.now)
             (caller self.old.host self.old.id self.old.out) (caller self.new.host self.new.id self.new.out)) }
     {
-        self.take_turn()
+        self.take_turn(true)
     }
 
     fn moment(&self) -> u64 {

@@ -15,7 +15,7 @@ use crate::script::run_script;
 use crate::turns::Turns;
 use crate::why::Why;
 use chaos_host::{Host, HostDelivered};
-use chaos_link::{Carriage, Link};
+use chaos_link::{Carriage, LINK_ROOM, Link};
 use chaos_packet::Outbox;
 use chaos_turn::{TurnEnd, client_turn};
 use chaosd_engines::RunFault;
@@ -29,6 +29,8 @@ struct Timed<'a, C: Clock, L: Link> {
     clock: &'a C,
     link: &'a mut L,
     beginning: Beginning,
+    /// Where datagrams are received.
+    buffer: [u8; LINK_ROOM],
 }
 
 impl<C: Clock, L: Link> Turns for Timed<'_, C, L> {
@@ -51,8 +53,10 @@ impl<C: Clock, L: Link> Turns for Timed<'_, C, L> {
         out: &mut Outbox,
         told: &mut Option<HostDelivered>,
         carriage: Carriage,
+        may_wait: bool,
     ) -> Result<(), RunFault> {
-        match client_turn(host, self.link, now, out, told, carriage) {
+        let buffer = &mut self.buffer;
+        match client_turn(host, self.link, now, out, told, carriage, buffer, may_wait) {
             TurnEnd::LinkFault => Err(RunFault::LinkFault),
             _ => Ok(()),
         }
@@ -124,6 +128,7 @@ pub fn run_ask<C: Clock, R: Read, W: Write, L: Link>(
         clock,
         link,
         beginning,
+        buffer: [0; LINK_ROOM],
     };
     run_script(&mut client, &mut turns, reader, writer, why)
 }

@@ -165,7 +165,15 @@ impl Client {
             return Ok(());
         }
         let mut told = None;
-        turns.turn(&mut self.host, now, &mut self.out, &mut told, self.carriage)
+        // Nothing is waited for.
+        turns.turn(
+            &mut self.host,
+            now,
+            &mut self.out,
+            &mut told,
+            self.carriage,
+            false,
+        )
     }
 
     /// One turn, before which the item is written where it isn't yet and there is room. Says whether it is written.
@@ -187,7 +195,14 @@ impl Client {
         let is_written = is_written
             || write(&mut self.host, self.id, op, bytes, now, &mut self.out);
         let mut told = None;
-        turns.turn(&mut self.host, now, &mut self.out, &mut told, self.carriage)?;
+        turns.turn(
+            &mut self.host,
+            now,
+            &mut self.out,
+            &mut told,
+            self.carriage,
+            true,
+        )?;
         self.patience.note(now, told);
         Ok(is_written)
     }

@@ -18,9 +18,9 @@ use crate::why::Why;
 use chaos_conn::ConnConfig;
 use chaos_file::MemStore;
 use chaos_host::{Host, HostDelivered};
-use chaos_link::{Carriage, Link};
+use chaos_link::{Carriage, LINK_ROOM, Link};
 use chaos_packet::Outbox;
-use chaos_turn::{TurnEnd, client_turn};
+use chaos_turn::{TURN_ROOM, TurnEnd, client_turn};
 use chaosd_engines::RunFault;
 use std::alloc::Global;
 use std::io::{Read, Write};
@@ -34,6 +34,10 @@ struct Both<'a, A: Link, B: Link> {
     server: &'a mut Server,
     store: &'a mut MemStore,
     turns: u64,
+    /// Where the client receives datagrams.
+    buffer: [u8; LINK_ROOM],
+    /// Whether the last turn of both brought nothing.
+    is_idle: bool,
 }
 
 impl<A: Link, B: Link> Turns for Both<'_, A, B> {
@@ -49,7 +53,8 @@ impl<A: Link, B: Link> Turns for Both<'_, A, B> {
         Ok(self.turns.saturating_mul(LOOP_TURN))
     }
 
-    /// A turn of the client, and then one of the server.
+    /// A turn of the client, and then one of the server. While one acts, the other can't: so both poll, but the client waits for
+    /// what is still on its way where the turn before brought nothing and nothing is to be sent.
     fn turn(
         &mut self,
         host: &mut Host,
@@ -57,9 +62,20 @@ impl<A: Link, B: Link> Turns for Both<'_, A, B> {
         out: &mut Outbox,
         told: &mut Option<HostDelivered>,
         carriage: Carriage,
+        may_wait: bool,
     ) -> Result<(), RunFault> {
         self.turns = self.turns.saturating_add(1);
-        let asked = client_turn(host, self.near, now, out, told, carriage);
+        let may_wait = may_wait && self.is_idle && out.room() >= TURN_ROOM;
+        let asked = client_turn(
+            host,
+            self.near,
+            now,
+            out,
+            told,
+            carriage,
+            &mut self.buffer,
+            may_wait,
+        );
         let served = self.server.turn(
             self.alloc,
             self.store,
@@ -67,7 +83,9 @@ impl<A: Link, B: Link> Turns for Both<'_, A, B> {
             LOOP_SERVER_START,
             now,
             carriage,
+            false,
         );
+        self.is_idle = asked == TurnEnd::Idle && served == TurnEnd::Idle;
         if asked == TurnEnd::LinkFault || served == TurnEnd::LinkFault {
             Err(RunFault::LinkFault)
         } else {
@@ -80,7 +98,7 @@ impl<A: Link, B: Link> Turns for Both<'_, A, B> {
 /// which keeps its files in memory. What is sent over one link is to be received from the other.
 ///
 /// Each line of the script is a command. It is sent where the one before it got its reply, and its reply is printed and handed on to
-/// the writer before another line is read, so that somebody who types commands sees each reply at once. A command waits for its
+/// the writer before more of the script is read, so that somebody who types commands sees each reply at once. A command waits for its
 /// reply, and before that for the connection to open and to have room, 1,000 turns at most; a turn is one of the client and then
 /// one of the server, and moments are turns times 10 milliseconds. Where a command gets no reply, also since the connection ended,
 /// `no reply` is printed and the run ends. Behind the last command an EOF is sent, which waits 100 turns at most to be
@@ -181,6 +199,8 @@ fn run_between<R: Read, W: Write, A: Link, B: Link>(
         server,
         store,
         turns: 0,
+        buffer: [0; LINK_ROOM],
+        is_idle: false,
     };
     run_script(&mut client, &mut turns, reader, writer, why)
 }

@@ -16,8 +16,11 @@ fn put_reply(out: &mut WriteBuffer, reply: &[u8]) -> Result<(), NotWritten>
     out.put(b"\n")
 }
 
+/// No reply's line has more bytes: 488, each as an escape, and the byte that ends it.
+const REPLY_ROOM: usize = 2_048;
+
 /// Prints what waits.
-fn hand_on<W: Write>(out: &mut WriteBuffer, writer: &mut W) -> Result<(), RunFault>
+pub fn hand_on<W: Write>(out: &mut WriteBuffer, writer: &mut W) -> Result<(), RunFault>
     ensures kept { Keeps (written_of (W.contents writer.old) out.old) (written_of (W.contents writer.new) out.new) }
     ensures empty { OnOk result (out.new ≡ []) }
     ensures faults { IfErr result (λ fault. fault ≡ RunFault.WriteFault) }
@@ -28,28 +31,35 @@ fn hand_on<W: Write>(out: &mut WriteBuffer, writer: &mut W) -> Result<(), RunFau
     }
 }
 
-/// Prints a reply as a line.
+/// Prints what waits where a line might not fit behind it.
+fn make_room<W: Write>(out: &mut WriteBuffer, writer: &mut W) -> Result<(), RunFault>
+    ensures kept { Keeps (written_of (W.contents writer.old) out.old) (written_of (W.contents writer.new) out.new) }
+    ensures faults { IfErr result (λ fault. fault ≡ RunFault.WriteFault) }
+{
+    if out.room() < REPLY_ROOM {
+        hand_on(out, writer)?;
+    }
+    Ok(())
+}
+
+/// Puts a reply as a line behind what waits to be printed.
 pub fn print_reply<W: Write>(
     out: &mut WriteBuffer,
     writer: &mut W,
     reply: &[u8],
 ) -> Result<(), RunFault>
-    requires { out.old ≡ [] }
-    ensures text { OnOk result (Appends (W.contents writer.old) (W.contents writer.new) (reply_line reply.now)) }
-    ensures empty { OnOk result (out.new ≡ []) }
+    ensures text { OnOk result (Appends (written_of (W.contents writer.old) out.old) (written_of (W.contents writer.new) out.new) (reply_line reply.now)) }
     ensures faults { IfErr result (λ fault. fault ≡ RunFault.WriteFault) }
 {
-    written(put_reply(out, reply))?;
-    hand_on(out, writer)
+    make_room(out, writer)?;
+    written(put_reply(out, reply))
 }
 
-/// Prints that a command got no reply.
+/// Puts behind what waits that a command got no reply.
 pub fn print_none<W: Write>(out: &mut WriteBuffer, writer: &mut W) -> Result<(), RunFault>
-    requires { out.old ≡ [] }
-    ensures text { OnOk result (Appends (W.contents writer.old) (W.contents writer.new) no_reply_line) }
-    ensures empty { OnOk result (out.new ≡ []) }
+    ensures text { OnOk result (Appends (written_of (W.contents writer.old) out.old) (written_of (W.contents writer.new) out.new) no_reply_line) }
     ensures faults { IfErr result (λ fault. fault ≡ RunFault.WriteFault) }
 {
-    written(put_line(out, "no reply"))?;
-    hand_on(out, writer)
+    make_room(out, writer)?;
+    written(put_line(out, "no reply"))
 }

@@ -1,5 +1,6 @@
 //! The run over a script.
-ghost use Rattle.std.specs.Prelude.{◌≡◌, ◌<◌, ◌≤◌, [], Err, IfOk, OnOk};
+ghost use Rattle.std.specs.Prelude.{◌≡◌, ◌<◌, ◌≤◌, Err, IfOk, OnOk};
+ghost use Rattle.chaosd_engines.specs.Buffer.{written_of};
 ghost use Rattle.chaosd_engines.specs.declared.limits.TheConstants.{INPUT_LIMIT};
 ghost use Rattle.chaosd_file.specs.Asking.{AsksLine};
 ghost use Rattle.chaosd_file.specs.Conversation.{AsksAll, Converses};
@@ -9,14 +10,15 @@ ghost use Rattle.chaosd_file.specs.Script.{Runs};
 use crate::client::Client;
 use crate::command::command_of;
 use crate::end::ScriptEnd;
-use crate::replies::{print_none, print_reply};
+use crate::replies::{hand_on, print_none, print_reply};
 use crate::turns::Turns;
 use crate::why::{Why, bad_line};
 use chaosd_engines::{INPUT_LIMIT, KEPT_LEN, LineReader, RunFault, WriteBuffer};
 use std::io::{Read, Write};
 
 /// Asks each command of a script, and closes the connection however that ends, but for a fault of a link or of the clock: no turn
-/// is taken after those. The first fault is the answer. What is wrong with a bad line, and why no reply came, is left in `why`.
+/// is taken after those. The first fault is the answer. Replies wait until the reader is asked for more, or to the end: somebody who
+/// types sees each at once, and a script that is there takes a call of the writer for many. What is wrong with a bad line, and why no reply came, is left in `why`.
 pub fn run_script<T: Turns, R: Read, W: Write>(
     client: &mut Client,
     turns: &mut T,
@@ -41,7 +43,8 @@ pub fn run_script<T: Turns, R: Read, W: Write>(
     end
 }
 
-/// Asks each command in turn and prints its reply, until one gets none. Behind the last an EOF is sent.
+/// Asks each command in turn and prints its reply, until one gets none. Behind the last an EOF is sent. What waits to be printed is
+/// handed on however that ends.
 fn ask_all<T: Turns, R: Read, W: Write>(
     client: &mut Client,
     turns: &mut T,
@@ -55,12 +58,37 @@ fn ask_all<T: Turns, R: Read, W: Write>(
     ensures well { OnOk result (T.failures turns.new ≤ T.failures turns.old) }
     ensures talk { IfOk result (λ end. AsksAll (talker_of client.old (T.queue turns.old)) (talker_of client.new (T.queue turns.new)) (R.remaining reader.old) (W.contents writer.old) (W.contents writer.new) end) }
 {
-    let mut lines: LineReader<KEPT_LEN> = LineReader::new(INPUT_LIMIT);
     let mut out = WriteBuffer::new();
+    let end = ask_lines(client, turns, reader, &mut out, writer, why);
+    if let Err(RunFault::LinkFault | RunFault::ClockFault) = end {
+        let _later = hand_on(&mut out, writer);
+        return end;
+    }
+    hand_on(&mut out, writer)?;
+    end
+}
+
+/// Asks each command in turn, and puts its reply behind what waits to be printed, which is handed on before each read.
+fn ask_lines<T: Turns, R: Read, W: Write>(
+    client: &mut Client,
+    turns: &mut T,
+    reader: &mut R,
+    out: &mut WriteBuffer,
+    writer: &mut W,
+    why: &mut Option<Why>,
+) -> Result<ScriptEnd, RunFault>
+    ensures runs { Runs (R.remaining reader.old) (R.remaining reader.new) (written_of (W.contents writer.old) out.old) (written_of (W.contents writer.new) out.new) result }
+    ensures same_links { T.links turns.new ≡ T.links turns.old }
+    ensures failed { result ≡ Err RunFault.LinkFault → 0 < T.failures turns.new }
+    ensures well { OnOk result (T.failures turns.new ≤ T.failures turns.old) }
+    ensures talk { IfOk result (λ end. AsksAll (talker_of client.old (T.queue turns.old)) (talker_of client.new (T.queue turns.new)) (R.remaining reader.old)
+        (written_of (W.contents writer.old) out.old) (written_of (W.contents writer.new) out.new) end) }
+{
+    let mut lines: LineReader<KEPT_LEN> = LineReader::new(INPUT_LIMIT);
     let mut replied = 0;
     'reads: loop {
         'lines: while lines.cut() {
-            if !ask_line(client, turns, lines.line(), replied, &mut out, writer, why)? {
+            if !ask_line(client, turns, lines.line(), replied, out, writer, why)? {
                 return Ok(ScriptEnd {
                     commands: replied + 1,
                     replied,
@@ -68,12 +96,13 @@ fn ask_all<T: Turns, R: Read, W: Write>(
             }
             replied += 1;
         }
+        hand_on(out, writer)?;
         if !lines.refill(reader)? {
             break 'reads;
         }
     }
     if let Some(line) = lines.last() {
-        if !ask_line(client, turns, line, replied, &mut out, writer, why)? {
+        if !ask_line(client, turns, line, replied, out, writer, why)? {
             return Ok(ScriptEnd {
                 commands: replied + 1,
                 replied,
@@ -99,9 +128,8 @@ fn ask_line<T: Turns, W: Write>(
     why: &mut Option<Why>,
 ) -> Result<bool, RunFault>
     requires few { replied ≤ INPUT_LIMIT }
-    requires empty { out.old ≡ [] }
-    ensures asks { AsksLine (talker_of client.old (T.queue turns.old)) (talker_of client.new (T.queue turns.new)) replied line.now (W.contents writer.old) (W.contents writer.new) result }
-    ensures empty { OnOk result (out.new ≡ []) }
+    ensures asks { AsksLine (talker_of client.old (T.queue turns.old)) (talker_of client.new (T.queue turns.new)) replied line.now
+        (written_of (W.contents writer.old) out.old) (written_of (W.contents writer.new) out.new) result }
     ensures same_links { T.links turns.new ≡ T.links turns.old }
     ensures failed { result ≡ Err RunFault.LinkFault → 0 < T.failures turns.new }
     ensures well { OnOk result (T.failures turns.new ≤ T.failures turns.old) }

@@ -72,7 +72,15 @@ pub fn run_serve_by<C: Clock, L: Link, S: Store>(
     let mut server = Server::new(alloc, me, config)?;
     for turn in 0..turns {
         let now = beginning.moment(clock)?;
-        let end = server.turn(alloc, store, link, beginning.number(now), now, carriage);
+        let end = server.turn(
+            alloc,
+            store,
+            link,
+            beginning.number(now),
+            now,
+            carriage,
+            true,
+        );
         if end == TurnEnd::LinkFault {
             return Err(RunFault::LinkFault);
         }

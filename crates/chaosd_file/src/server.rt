@@ -6,10 +6,10 @@ use crate::limits::SERVER_CONNS;
 use chaos_conn::ConnConfig;
 use chaos_file::Store;
 use chaos_host::Host;
-use chaos_link::{Carriage, Link};
+use chaos_link::{Carriage, LINK_ROOM, Link};
 use chaos_packet::{Outbox, PktNum};
 use chaos_serve::CONTACT;
-use chaos_turn::{Sessions, TURN_ROOM, TurnEnd, run_turn};
+use chaos_turn::{Sessions, TURN_ROOM, TurnEnd, can_serve_any, run_turn};
 use chaosd_engines::RunFault;
 use std::alloc::Global;
 
@@ -19,6 +19,8 @@ pub struct Server {
     host: Host,
     sessions: Sessions,
     out: Outbox,
+    /// Where datagrams are received.
+    buffer: [u8; LINK_ROOM],
     ghost alike: { length sessions ≡ length host.slots },
     ghost room: { TURN_ROOM ≤ out.cap },
 }
@@ -52,10 +54,12 @@ impl Server {
             host,
             sessions,
             out,
+            buffer: [0; LINK_ROOM],
         })
     }
 
-    /// One turn, whose packets go out by the carriage. A new connection numbers what it writes from `start` on.
+    /// One turn, whose packets go out by the carriage. A new connection numbers what it writes from `start` on. Where nothing in
+    /// front is to be served it may wait for a datagram, where `may_wait` allows it.
     pub fn turn<S: Store, L: Link>(
         &mut self,
         alloc: Global,
@@ -64,10 +68,12 @@ impl Server {
         start: PktNum,
         now: u64,
         carriage: Carriage,
+        may_wait: bool,
     ) -> TurnEnd
         ensures fault { (result ≡ TurnEnd.LinkFault) ↔ Rose (L.count link.old) (L.count link.new) }
         ensures serves { ServesTurn (change S.contents S.may_give S.count) carriage (service_of self.old store.old (L.queue link.old)) (service_of self.new store.new (L.queue link.new)) }
     {
+        let may_wait = may_wait && !can_serve_any(&self.host);
         run_turn(
             alloc,
             &mut self.host,
@@ -78,6 +84,8 @@ impl Server {
             now,
             &mut self.out,
             carriage,
+            &mut self.buffer,
+            may_wait,
         )
     }
 }

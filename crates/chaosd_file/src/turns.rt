@@ -30,7 +30,7 @@ pub trait Turns {
         ensures { IfErr result (λ fault. fault ≡ RunFault.ClockFault) };
 
     /// One turn, of the client's host and of all that takes part. What waits in the outbox is sent by this carriage, and what became
-    /// of the last packet that came is left in `told`.
+    /// of the last packet that came is left in `told`. The client's own turn may wait for a datagram where `may_wait` allows it.
     ///
     /// # Errors
     /// `LinkFault` where a link failed in the turn, which went on to its end.
@@ -41,6 +41,7 @@ pub trait Turns {
         out: &mut Outbox,
         told: &mut Option<HostDelivered>,
         carriage: Carriage,
+        may_wait: bool,
     ) -> Result<(), RunFault>
         requires { TURN_ROOM ≤ out.old.cap }
         ensures turned { TakesTurn carriage now host.old host.new (queue self.old) (queue self.new) out.old out.new }

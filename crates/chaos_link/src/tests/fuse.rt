@@ -13,7 +13,7 @@ fn three_of_each(rt: &impl Abort, link: &mut impl Link) -> ([u8; 3], [bool; 6]) 
         failed[i] = link.send(0o402, &[i as u8 + 1]) == Sent::Failed;
     }
     for i in 0..3usize {
-        match link.receive(&mut buffer) {
+        match link.receive(&mut buffer, true) {
             Received::Got(count) => {
                 assert_eq!(rt; count, 1);
                 came[i] = buffer[0];

@@ -6,7 +6,7 @@ use std::test::Fail;
 /// Receives a datagram of the two bytes `first` and 9.
 fn takes(rt: &impl Abort, link: &mut impl Link, first: u8) {
     let mut buffer = [0; LINK_ROOM];
-    assert_eq!(rt; link.receive(&mut buffer), Received::Got(2));
+    assert_eq!(rt; link.receive(&mut buffer, true), Received::Got(2));
     assert_eq!(rt; (buffer[0], buffer[1]), (first, 9));
 }
 
@@ -18,7 +18,7 @@ fn full_queue_loses_what_comes(rt: HostRuntime) -> Result<(), Fail> {
     }
     takes(&rt, &mut link, 5);
     takes(&rt, &mut link, 6);
-    assert_eq!(rt; link.receive(&mut [0; LINK_ROOM]), Received::Nothing);
+    assert_eq!(rt; link.receive(&mut [0; LINK_ROOM], true), Received::Nothing);
     assert_eq!(rt; link.failures(), 0);
     Ok(())
 }

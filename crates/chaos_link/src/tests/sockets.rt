@@ -44,7 +44,7 @@ fn link_to(socket: UdpSocket, at: SocketAddrV4) -> Result<UdpLink, Fail> {
 /// What comes within a few receives.
 fn receive_soon(link: &mut UdpLink, buffer: &mut [u8; LINK_ROOM]) -> Received {
     for _ in 0..20 {
-        match link.receive(buffer) {
+        match link.receive(buffer, true) {
             Received::Nothing => {}
             other => return other,
         }
@@ -90,7 +90,7 @@ fn datagram_over_the_room_is_no_packet(rt: HostRuntime) -> Result<(), Fail> {
     );
     assert_eq!(rt; buffer[..], long[..LINK_ROOM]);
     assert_eq!(rt; from_datagram(&buffer).err(), Some(LinkFault::Trailing));
-    assert_eq!(rt; link.receive(&mut buffer), Received::Nothing);
+    assert_eq!(rt; link.receive(&mut buffer, true), Received::Nothing);
     Ok(())
 }
 
@@ -98,8 +98,12 @@ fn datagram_over_the_room_is_no_packet(rt: HostRuntime) -> Result<(), Fail> {
 fn loses(rt: &impl Abort, link: &mut UdpLink) {
     for _ in 0..3 {
         assert_eq!(rt; link.send(PEER, &STATUS), Sent::Sent);
-        assert_eq!(rt; link.receive(&mut [0; LINK_ROOM]), Received::Nothing);
-        assert_eq!(rt; link.receive(&mut [0; LINK_ROOM]), Received::Nothing);
+        for may_wait in [false, true] {
+            assert_eq!(rt;
+                link.receive(&mut [0; LINK_ROOM], may_wait),
+                Received::Nothing
+            );
+        }
     }
     assert_eq!(rt; link.failures(), 0);
 }
@@ -138,34 +142,37 @@ fn failures_are_counted(rt: HostRuntime) -> Result<(), Fail> {
     let mut link = link_to(UdpSocket::from(OwnedFd::from(listener)), any())?;
     assert_eq!(rt; link.send(PEER, &STATUS), Sent::Failed);
     assert_eq!(rt; link.failures(), 1);
-    assert_eq!(rt; link.receive(&mut [0; LINK_ROOM]), Received::Failed);
+    assert_eq!(rt; link.receive(&mut [0; LINK_ROOM], true), Received::Failed);
     assert_eq!(rt; link.failures(), 2);
     Ok(())
 }
 
 /// Whether a receive of nothing waits. One that polls may be held up by a busy machine; one that waits is never quick,
 /// and takes no second, far as that is from the 10 milliseconds of a wait.
-fn waits(rt: &(impl Abort + Clock), link: &mut UdpLink) -> Result<bool, Fail> {
+fn waits(rt: &(impl Abort + Clock), link: &mut UdpLink, may_wait: bool) -> Result<bool, Fail> {
     let start = Instant::now(rt)?;
-    assert_eq!(rt; link.receive(&mut [0; LINK_ROOM]), Received::Nothing);
+    assert_eq!(rt;
+        link.receive(&mut [0; LINK_ROOM], may_wait),
+        Received::Nothing
+    );
     let millis = start.elapsed(rt)?.as_millis();
     assert!(rt; millis < 1_000);
     Ok(millis >= 9)
 }
 
 #[test]
-fn receive_waits_only_where_nothing_was_sent(rt: HostRuntime) -> Result<(), Fail> {
+fn receive_waits_only_where_it_may(rt: HostRuntime) -> Result<(), Fail> {
     let (gone, gone_at) = bound(&rt)?;
     drop(gone);
     let (socket, _) = bound(&rt)?;
     let mut link = link_to(socket, gone_at)?;
-    assert!(rt; waits(&rt, &mut link)?);
+    assert!(rt; waits(&rt, &mut link, true)?);
     let mut polled = false;
     for _ in 0..20 {
-        assert_eq!(rt; link.send(PEER, &STATUS), Sent::Sent);
-        polled |= !waits(&rt, &mut link)?;
+        polled |= !waits(&rt, &mut link, false)?;
     }
     assert!(rt; polled);
-    assert!(rt; waits(&rt, &mut link)?);
+    assert_eq!(rt; link.send(PEER, &STATUS), Sent::Sent);
+    assert!(rt; waits(&rt, &mut link, true)? || waits(&rt, &mut link, true)?);
     Ok(())
 }

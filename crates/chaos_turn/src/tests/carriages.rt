@@ -13,7 +13,7 @@ use std::test::Fail;
 /// How many packets the oldest datagram has.
 fn next_size(link: &mut impl Link) -> Option<usize> {
     let mut buffer = [0; LINK_ROOM];
-    let Received::Got(count) = link.receive(&mut buffer) else {
+    let Received::Got(count) = link.receive(&mut buffer, false) else {
         return None;
     };
     let packets = read_datagram(&buffer[..count]).ok()?;

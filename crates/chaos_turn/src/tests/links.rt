@@ -21,7 +21,7 @@ impl Link for Broken {
         Sent::Unknown
     }
 
-    fn receive(&mut self, _buffer: &mut [u8; LINK_ROOM]) -> Received {
+    fn receive(&mut self, _buffer: &mut [u8; LINK_ROOM], _may_wait: bool) -> Received {
         self.failures = u64::MAX;
         Received::Failed
     }
@@ -61,8 +61,8 @@ impl Link for Crossing {
         self.sends.send(to_address, bytes)
     }
 
-    fn receive(&mut self, buffer: &mut [u8; LINK_ROOM]) -> Received {
-        self.receives.receive(buffer)
+    fn receive(&mut self, buffer: &mut [u8; LINK_ROOM], may_wait: bool) -> Received {
+        self.receives.receive(buffer, may_wait)
     }
 
     fn failures(&self) -> u64 {

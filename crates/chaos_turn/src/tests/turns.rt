@@ -21,6 +21,7 @@ pub struct Station {
     pub out: Outbox,
     pub told: Option<HostDelivered>,
     pub carriage: Carriage,
+    pub buffer: [u8; LINK_ROOM],
 }
 
 /// A host with this address and two slots, which sends by carriage 1.
@@ -32,6 +33,7 @@ pub fn made(alloc: Global, address: u16) -> Result<Station, Fail> {
         out: Outbox::new(alloc, TURN_ROOM + 4)?,
         told: None,
         carriage: Carriage::One,
+        buffer: [0; LINK_ROOM],
     })
 }
 
@@ -63,6 +65,8 @@ fn serves_at<L: Link>(
         now,
         &mut station.out,
         station.carriage,
+        &mut station.buffer,
+        false,
     )
 }
 
@@ -81,6 +85,8 @@ pub fn asks_at<L: Link>(rt: &impl Abort, station: &mut Station, link: &mut L, no
         &mut station.out,
         &mut station.told,
         station.carriage,
+        &mut station.buffer,
+        false,
     )
 }
 
@@ -102,7 +108,7 @@ pub fn request(index: u16) -> Packet {
 /// The packet of the oldest datagram, where it is of version 1.
 pub fn received(link: &mut impl Link) -> Option<Packet> {
     let mut buffer = [0; LINK_ROOM];
-    match link.receive(&mut buffer) {
+    match link.receive(&mut buffer, false) {
         Received::Got(count) => from_datagram(&buffer[..count]).ok(),
         _ => None,
     }

@@ -61,7 +61,7 @@ impl Link for Away {
         self.sent.send(to_address, bytes)
     }
 
-    fn receive(&mut self, _buffer: &mut [u8; LINK_ROOM]) -> Received {
+    fn receive(&mut self, _buffer: &mut [u8; LINK_ROOM], _may_wait: bool) -> Received {
         Received::Nothing
     }
 
@@ -73,7 +73,7 @@ impl Link for Away {
 /// The packet of the oldest datagram.
 pub fn received(link: &mut MemLink) -> Option<Packet> {
     let mut buffer = [0; LINK_ROOM];
-    match link.receive(&mut buffer) {
+    match link.receive(&mut buffer, false) {
         Received::Got(count) => from_datagram(&buffer[..count]).ok(),
         _ => None,
     }
@@ -104,8 +104,8 @@ impl Link for Watched {
         self.inner.send(to_address, bytes)
     }
 
-    fn receive(&mut self, buffer: &mut [u8; LINK_ROOM]) -> Received {
-        self.inner.receive(buffer)
+    fn receive(&mut self, buffer: &mut [u8; LINK_ROOM], may_wait: bool) -> Received {
+        self.inner.receive(buffer, may_wait)
     }
 
     fn failures(&self) -> u64 {
@@ -129,8 +129,8 @@ impl Link for Crossing {
         self.sends.send(to_address, bytes)
     }
 
-    fn receive(&mut self, buffer: &mut [u8; LINK_ROOM]) -> Received {
-        self.receives.receive(buffer)
+    fn receive(&mut self, buffer: &mut [u8; LINK_ROOM], may_wait: bool) -> Received {
+        self.receives.receive(buffer, may_wait)
     }
 
     fn failures(&self) -> u64 {
@@ -178,7 +178,7 @@ impl Link for Answering {
         self.crossing.receives.send(to_address, bytes)
     }
 
-    fn receive(&mut self, buffer: &mut [u8; LINK_ROOM]) -> Received {
+    fn receive(&mut self, buffer: &mut [u8; LINK_ROOM], may_wait: bool) -> Received {
         let start = PktNum(65_530);
         let _turn = run_turn(
             self.alloc,
@@ -190,8 +190,10 @@ impl Link for Answering {
             0,
             &mut self.out,
             Carriage::One,
+            buffer,
+            false,
         );
-        self.crossing.sends.receive(buffer)
+        self.crossing.sends.receive(buffer, may_wait)
     }
 
     fn failures(&self) -> u64 {

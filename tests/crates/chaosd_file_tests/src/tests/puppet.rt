@@ -139,9 +139,9 @@ impl Link for Puppet {
         Sent::Sent
     }
 
-    fn receive(&mut self, buffer: &mut [u8; LINK_ROOM]) -> Received {
+    fn receive(&mut self, buffer: &mut [u8; LINK_ROOM], may_wait: bool) -> Received {
         self.log.receives = self.log.receives.saturating_add(1);
-        self.answers.receive(buffer)
+        self.answers.receive(buffer, may_wait)
     }
 
     fn failures(&self) -> u64 {

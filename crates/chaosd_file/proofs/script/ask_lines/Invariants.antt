@@ -1,19 +1,19 @@
-use Rattle.std.proofs.Common.{◌≡◌, ◌≤◌, ◌+◌, [], length}
+use Rattle.std.proofs.Common.{◌≡◌, ◌≤◌, ◌+◌, length}
 use Rattle.chaosd_engines.specs.declared.limits.TheConstants.{INPUT_LIMIT}
+use Rattle.chaosd_engines.specs.Buffer.{written_of}
 use Rattle.chaosd_engines.specs.Reader.{left_of}
 use Rattle.chaosd_file.specs.Asking.{AskedGiven}
 use Rattle.chaosd_file.specs.Exchange.{talker_of}
-use Rattle.chaosd_file.proofs.script.ask_all.Given as goal
+use Rattle.chaosd_file.proofs.script.ask_lines.Given as goal
 
 -- the commands of the lines that were cut off were asked
 abbrev pub invariant-lines : goal.invariant-lines
 invariant-lines g l = record {
   few : l.replied + left_of l.lines ≤ INPUT_LIMIT;
-  empty : l.out ≡ [];
   same_links : g.T.Turns.links l.turns ≡ g.T.Turns.links l.fn.turns;
   room : l.lines.room ≡ l.initial.lines.room;
   well : g.T.Turns.failures l.turns ≤ g.T.Turns.failures l.fn.turns;
-  asked : AskedGiven (talker_of l.fn.client (g.T.Turns.queue l.fn.turns)) (talker_of l.client (g.T.Turns.queue l.turns)) (g.R.Read.remaining l.fn.reader) (g.R.Read.remaining l.reader) (g.W.Write.contents l.fn.writer) (g.W.Write.contents l.writer) l.replied l.lines;
+  asked : AskedGiven (talker_of l.fn.client (g.T.Turns.queue l.fn.turns)) (talker_of l.client (g.T.Turns.queue l.turns)) (g.R.Read.remaining l.fn.reader) (g.R.Read.remaining l.reader) (written_of (g.W.Write.contents l.fn.writer) l.fn.out) (written_of (g.W.Write.contents l.writer) l.out) l.replied l.lines;
 }
 
 -- fewer bytes wait
@@ -24,10 +24,9 @@ decreases-lines g l = length l.lines.waiting
 abbrev pub invariant-reads : goal.invariant-reads
 invariant-reads g l = record {
   few : l.replied + left_of l.lines ≤ INPUT_LIMIT;
-  empty : l.out ≡ [];
   same_links : g.T.Turns.links l.turns ≡ g.T.Turns.links l.fn.turns;
   well : g.T.Turns.failures l.turns ≤ g.T.Turns.failures l.fn.turns;
-  asked : AskedGiven (talker_of l.fn.client (g.T.Turns.queue l.fn.turns)) (talker_of l.client (g.T.Turns.queue l.turns)) (g.R.Read.remaining l.fn.reader) (g.R.Read.remaining l.reader) (g.W.Write.contents l.fn.writer) (g.W.Write.contents l.writer) l.replied l.lines;
+  asked : AskedGiven (talker_of l.fn.client (g.T.Turns.queue l.fn.turns)) (talker_of l.client (g.T.Turns.queue l.turns)) (g.R.Read.remaining l.fn.reader) (g.R.Read.remaining l.reader) (written_of (g.W.Write.contents l.fn.writer) l.fn.out) (written_of (g.W.Write.contents l.writer) l.out) l.replied l.lines;
 }
 
 -- fewer bytes may come

@@ -1,0 +1,105 @@
+-- A run over a script whose last replies were handed on.
+use Rattle.std.proofs.Common.{◌≡◌, ℕ, Bool, true, false, List, [], ◌++◌, ◌∙◌, refl, sym, ap, subst, append-nil}
+use Rattle.std.specs.Prelude.{Option, None, Some, IfSome, IfOk, Result, Ok, Err}
+use Rattle.std.specs.Io.KnownBytes.{Appends, Keeps}
+use Rattle.std.proofs.KnownBytes.{Appends-kept}
+use Rattle.chaosd_engines.specs.Buffer.{written_of}
+use Rattle.chaosd_engines.specs.declared.fault.RunFault.{RunFault}
+use Rattle.chaosd_engines.specs.declared.fault.RunFault.TheVariants.{ReadFault, WriteFault, InputTooLong, NoMemory, BadScript, LinkFault, ClockFault}
+use Rattle.chaosd_file.specs.Asking.{Asked, AskedGiven}
+use Rattle.chaosd_file.specs.Conversation.{AsksAll}
+use Rattle.chaosd_file.specs.Printed.{PrintsReplies}
+use Rattle.chaosd_file.specs.Script.{PrintsRepliesTo, Ran, Runs}
+use Rattle.chaosd_file.specs.Talk.{Talker}
+use Rattle.chaosd_file.specs.declared.end.ScriptEnd.{ScriptEnd}
+use Rattle.chaosd_engines.specs.Reader.{LinesView, Gives, GivesMore}
+
+prints_kept : (count : ℕ) (before between after : Option (List ℕ)) → PrintsReplies count before between → Keeps between after → PrintsReplies count before after
+prints_kept count before between after s kept = record { replies = s.replies; number = s.number; text = Appends-kept before between after _ s.text kept }
+
+prints_to_kept : (lines : List (List ℕ)) (before between after : Option (List ℕ)) → PrintsRepliesTo lines before between → Keeps between after → PrintsRepliesTo lines before after
+prints_to_kept lines before between after (commands, printed) kept = (commands, prints_kept _ before between after printed kept)
+
+asked_kept : (first last : Talker) (before between after : Option (List ℕ)) (replied : ℕ) (given : List (List ℕ)) → Asked first last before between replied given → Keeps between after
+    → Asked first last before after replied given
+unfolding prints_kept
+asked_kept first last before between after replied given s kept = record {
+  count = s.count;
+  commands = s.commands;
+  printed = prints_kept replied before between after s.printed kept;
+  talk = s.talk;
+  talks = s.talks;
+  said = s.said;
+  heard = s.heard;
+}
+
+-- what was asked stays asked where the replies are handed on
+pub given_kept : (first last : Talker) (input rest before between after : Option (List ℕ)) (replied : ℕ) (v : LinesView) → AskedGiven first last input rest before between replied v → Keeps between after
+    → AskedGiven first last input rest before after replied v
+given_kept first last input rest before between after replied v (given, asked, gives) kept = (given, asked_kept first last before between after replied given asked kept, gives)
+
+-- more lines came
+pub some_came : (kept limit : ℕ) (input rest : Option (List ℕ)) (given : List (List ℕ)) (v : LinesView) (more : Bool) → more ≡ true → GivesMore kept limit input rest given v (Ok more)
+    → Gives kept limit input rest given v
+some_came kept limit input rest given v true e gives = gives
+some_came kept limit input rest given v false e gives = absurd (cc)
+
+-- what a writer holds, where nothing waits behind it
+nothing_waits : (between held : Option (List ℕ)) (waiting : List ℕ) → waiting ≡ [] → Keeps between (written_of held waiting) → Keeps between held
+nothing_waits None held waiting none kept = tt
+nothing_waits (Some xs) None waiting none kept = absurd kept
+nothing_waits (Some xs) (Some ys) waiting none kept = sym (append-nil ys) ∙ (ap (λ l. ys ++ l) (sym none) ∙ kept)
+
+too_long_kept : (input before between after : Option (List ℕ)) → Runs input input before between (Err InputTooLong) → Keeps between after → Runs input input before after (Err InputTooLong)
+too_long_kept None before between after h kept = tt
+too_long_kept (Some all) before between after (long, printed) kept = (long, prints_to_kept _ before between after printed kept)
+
+ran_kept : (input rest before between after : Option (List ℕ)) (end : ScriptEnd) → Ran input rest before between end → Keeps between after → Ran input rest before after end
+ran_kept input rest before between after end s kept = record {
+  counts = s.counts;
+  text = record { replies = s.text.replies; number = s.text.number; text = Appends-kept before between after _ s.text.text kept };
+  tried = s.tried;
+  whole = s.whole;
+  ended = s.ended;
+}
+
+runs_kept : (input rest before between after : Option (List ℕ)) (result : Result ScriptEnd RunFault) → Runs input rest before between result → Keeps between after → Runs input rest before after result
+runs_kept input rest before between after (Ok end) s kept = ran_kept input rest before between after end s kept
+runs_kept input rest before between after (Err ReadFault) (read, consumed, printed) kept = (read, consumed, prints_to_kept _ before between after printed kept)
+runs_kept input rest before between after (Err InputTooLong) s kept = too_long_kept input before between after s kept
+runs_kept input rest before between after (Err (BadScript number)) (first, printed) kept = (first, prints_kept _ before between after printed kept)
+runs_kept input rest before between after (Err WriteFault) s kept = tt
+runs_kept input rest before between after (Err NoMemory) s kept = tt
+runs_kept input rest before between after (Err LinkFault) s kept = tt
+runs_kept input rest before between after (Err ClockFault) s kept = tt
+
+-- The run began with nothing that waits, and what waited in the end was handed on.
+begun_with : (before : Option (List ℕ)) → written_of before [] ≡ before
+begun_with None = refl
+begun_with (Some xs) = ap Some (append-nil xs)
+
+pub runs_handed : (input rest before between held : Option (List ℕ)) (begun waiting : List ℕ) (result : Result ScriptEnd RunFault) → begun ≡ [] → Runs input rest (written_of before begun) between result
+    → Keeps between (written_of held waiting) → waiting ≡ [] → Runs input rest before held result
+runs_handed input rest before between held begun waiting result none runs kept empty =
+    let from : written_of before begun ≡ before = ap (written_of before) none ∙ begun_with before in
+    runs_kept input rest before between held result (subst (λ o. Runs input rest o between result) from runs) (nothing_waits between held waiting empty kept)
+
+asks_kept : (first parted : Talker) (input before between after : Option (List ℕ)) (end : ScriptEnd) → AsksAll first parted input before between end → Keeps between after → AsksAll first parted input before after end
+asks_kept first parted input before between after end s kept = record {
+  talk = s.talk;
+  replied = s.replied;
+  asks = s.asks;
+  said = s.said;
+  heard = s.heard;
+  text = Appends-kept before between after _ s.text kept;
+  to_end = s.to_end;
+  in_part = s.in_part;
+}
+
+pub asks_handed : (first parted : Talker) (input before between held : Option (List ℕ)) (begun waiting : List ℕ) (result : Result ScriptEnd RunFault) → begun ≡ []
+    → IfOk result (λ end. AsksAll first parted input (written_of before begun) between end) → Keeps between (written_of held waiting) → waiting ≡ []
+    → IfOk result (λ end. AsksAll first parted input before held end)
+asks_handed first parted input before between held begun waiting (Err fault) none asks kept empty = tt
+asks_handed first parted input before between held begun waiting (Ok end) none asks kept empty =
+    let from : written_of before begun ≡ before = ap (written_of before) none ∙ begun_with before in
+    asks_kept first parted input before between held end (subst (λ o. AsksAll first parted input o between end) from asks) (nothing_waits between held waiting empty kept)
