@@ -7,6 +7,7 @@ mod rows;
 mod sessions;
 mod stores;
 
+use arrayvec::ArrayVec;
 use chaos_file::{
     Command, DirStore, FileBytes, FileError, FuseStore, Got, MAX_CHUNK, MAX_FILE, MemStore, NL,
     Parsed, Removed, Renamed, Session, Store, Stored, Word, parse_command,

@@ -46,7 +46,9 @@ const CHUNKS: usize = 2341;
 fn with_chunk(text: &str, place: usize) -> ArrayVec<u8, 500> {
     let mut bytes = typed(text);
     let count = if place < 2340 { MAX_CHUNK } else { 256 };
-    fill(&mut bytes, b'a' + (place % 26) as u8, count);
+    for _ in 0..count {
+        let _ = bytes.try_push(b'a' + (place % 26) as u8);
+    }
     bytes
 }
 
