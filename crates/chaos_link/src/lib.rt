@@ -18,8 +18,6 @@ mod mem;
 mod packets;
 mod pairs;
 mod peers;
-#[cfg(test)]
-mod tests;
 mod udp;
 
 pub use bundle::{fits, to_datagram2, write_datagram2};

@@ -1,6 +1,6 @@
 //! Datagrams of version 2.
-use crate::*;
 use arrayvec::ArrayVec;
+use chaos_link::*;
 use chaos_packet::{Packet, PacketFault};
 use std::array;
 use std::process::Abort;

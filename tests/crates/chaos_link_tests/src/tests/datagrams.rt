@@ -1,5 +1,5 @@
 //! Packets as datagrams.
-use crate::*;
+use chaos_link::*;
 use chaos_packet::{Packet, PacketFault};
 use std::process::Abort;
 use std::test::Fail;

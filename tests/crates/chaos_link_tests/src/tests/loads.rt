@@ -1,6 +1,6 @@
 //! Packets that wait, cut into datagrams of version 2.
-use crate::*;
 use arrayvec::ArrayVec;
+use chaos_link::*;
 use chaos_packet::{MAX_DATA, Packet};
 use std::test::Fail;
 

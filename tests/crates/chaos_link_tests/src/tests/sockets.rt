@@ -1,7 +1,7 @@
 //! Links over sockets of this machine.
 ghost use Rattle.std.specs.Prelude.{◌≤◌, length};
 
-use crate::*;
+use chaos_link::*;
 use std::net::{Ipv4Addr, Net, SocketAddr, SocketAddrV4, TcpListener, UdpSocket};
 use std::os::fd::OwnedFd;
 use std::process::Abort;

@@ -1,5 +1,5 @@
 //! The queue in memory.
-use crate::*;
+use chaos_link::*;
 use std::process::Abort;
 use std::test::Fail;
 

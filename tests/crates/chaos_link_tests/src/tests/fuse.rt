@@ -1,5 +1,5 @@
 //! A link with a fuse.
-use crate::*;
+use chaos_link::*;
 use std::process::Abort;
 use std::test::Fail;
 

@@ -1,5 +1,5 @@
 //! The table of peers.
-use crate::*;
+use chaos_link::*;
 use std::net::{Ipv4Addr, SocketAddrV4};
 use std::test::Fail;
 
