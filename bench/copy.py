@@ -153,8 +153,8 @@ def bench_delay(programs, folder, content):
 
 
 def bench_tftp(programs, folder, content):
-    """The same file by other programs, as far as they are installed, in turn with `chaosd get`: tftp-hpa with blocks of 512 bytes, atftp
-    with a window of 32. Neither flushes what it wrote to the disk."""
+    """The same file by other programs, as far as they are installed, in turn with `chaosd get`, which has 64 commands in flight:
+    tftp-hpa with blocks of 512 bytes in lock step, atftp with a window of 32 of them. Neither flushes what it wrote to the disk."""
     path = os.environ["PATH"] + ":/usr/sbin"
     server = shutil.which("in.tftpd", path=path)
     clients = {
@@ -167,7 +167,7 @@ def bench_tftp(programs, folder, content):
     (shared / "FILE").write_bytes(content)
     for each in [folder, shared]:
         each.chmod(0o755)
-    pair, here = Pair(programs["chaosd"], f"{folder}/beside"), folder / "beside_here"
+    pair, here = Pair(programs["chaosd"], f"{folder}/beside", options=["--window", "64"]), folder / "beside_here"
     here.mkdir()
     (pair.folder / "FILE").write_bytes(content)
     for name, words in clients.items():

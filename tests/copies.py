@@ -91,7 +91,7 @@ def windows(checks):
     """Every window carries files whole, and none starves: an end that waits to send again takes half a second more for each file."""
     names = [f"F{n}" for n in range(32)]
     content = mixed_content(9_000)
-    for own, others in [("13", ["1", "2", "13", "14", "39", "40", "64"]), ("1", ["1", "64"]), ("64", ["1", "13", "64"])]:
+    for own, others in [("13", ["1", "2", "13", "14", "39", "40", "64"]), ("1", ["1", "64"]), ("2", ["64"]), ("64", ["1", "13", "64"])]:
         with serving(options=["--window", own]) as server, folder() as here:
             for window, (subcommand, source, target) in itertools.product(others, [("get", server.folder, here), ("put", here, server.folder)]):
                 for name in names:

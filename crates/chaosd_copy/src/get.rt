@@ -14,7 +14,7 @@ use crate::errand::Errand;
 use crate::limits::HANDLE;
 use crate::put::chunk_count;
 use crate::talk::Talk;
-use crate::window::{Row, ask_one, next_reply, refusal, settled};
+use crate::window::{NO_LIMIT, Row, ask_one, next_reply, refusal, settled};
 use crate::words::{counted, spelled};
 use chaos_file::{MAX_CHUNK, MAX_FILE, Reply};
 use chaosd_engines::RunFault;
@@ -106,8 +106,9 @@ fn read_all<T: Talk>(
         errand: Errand::Read,
     };
     let mut said = 0;
+    let mut flight = NO_LIMIT;
     for i in 0..count {
-        let reply = next_reply(talk, &row, &mut said, i)?;
+        let reply = next_reply(talk, &row, &mut said, &mut flight, i)?;
         match take_piece(
             reply,
             first + i as u32,
@@ -118,7 +119,7 @@ fn read_all<T: Talk>(
             end => return Ok(end),
         }
     }
-    let last = next_reply(talk, &row, &mut said, count)?;
+    let last = next_reply(talk, &row, &mut said, &mut flight, count)?;
     let tid = first + count as u32;
     let wanted = spelled(tid, HANDLE, b"EOF", b"");
     Ok(settled(last, &wanted, tid, HANDLE))

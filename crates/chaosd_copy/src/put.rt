@@ -11,7 +11,7 @@ use crate::end::CopyEnd;
 use crate::errand::Errand;
 use crate::limits::HANDLE;
 use crate::talk::Talk;
-use crate::window::{Row, ask_one, next_reply, settled};
+use crate::window::{NO_LIMIT, Row, ask_one, next_reply, settled};
 use crate::words::counted;
 use chaos_file::MAX_CHUNK;
 use chaosd_engines::RunFault;
@@ -40,8 +40,9 @@ fn write_all<T: Talk>(talk: &mut T, first: u32, bytes: &[u8]) -> Result<CopyEnd,
         errand: Errand::Write(bytes),
     };
     let mut said = 0;
+    let mut flight = NO_LIMIT;
     for i in 0..count {
-        let reply = next_reply(talk, &row, &mut said, i)?;
+        let reply = next_reply(talk, &row, &mut said, &mut flight, i)?;
         let tid = first + i as u32;
         let wanted = counted(
             tid,

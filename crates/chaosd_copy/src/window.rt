@@ -15,6 +15,9 @@ use crate::words::spelled;
 use chaos_file::Reply;
 use chaosd_engines::RunFault;
 
+/// As many commands without a reply as there is room for.
+pub const NO_LIMIT: usize = usize::MAX;
+
 /// A row of commands, named by numbers from `first` on.
 #[derive(Clone, Copy)]
 pub struct Row<'a> {
@@ -23,9 +26,36 @@ pub struct Row<'a> {
     pub errand: Errand<'a>,
 }
 
-/// Says as many more of the commands as there is room for, and answers how many were said in all.
-fn say_on<T: Talk>(talk: &mut T, row: &Row<'_>, said: usize) -> usize
-    requires said { said ≤ row.now.count }
+/// How many of a row's commands may have been said while the reply at this place is waited for, where so many were and at most so many are
+/// to be without a reply.
+fn most_said(count: usize, place: usize, flight: usize, said: usize) -> usize
+    requires { said ≤ count }
+    ensures from { said ≤ result }
+    ensures within { result ≤ count }
+{
+    let most = place.saturating_add(flight);
+    if most <= said {
+        said
+    } else if most < count {
+        most
+    } else {
+        count
+    }
+}
+
+/// How many commands are to be without a reply at most: as many as there was room for at first.
+fn flight_of(flight: usize, said: usize, place: usize) -> usize {
+    if flight == NO_LIMIT && said > place {
+        said - place
+    } else {
+        flight
+    }
+}
+
+/// Says more of the commands, up to so many and as there is room for, and answers how many were said in all.
+fn say_on<T: Talk>(talk: &mut T, row: &Row<'_>, said: usize, most: usize) -> usize
+    requires said { said ≤ most }
+    requires most { most ≤ row.now.count }
     requires first { row.now.first ≤ MAX_FIRST + 9000 }
     requires count { row.now.count ≤ 9000 }
     requires fits { ErrandFits row.now.errand }
@@ -33,13 +63,13 @@ fn say_on<T: Talk>(talk: &mut T, row: &Row<'_>, said: usize) -> usize
     ensures talk { (start : Option Talked) (replies : List (List ℕ)) → Since start (T.talked talk.old) (upto (row_command row.now) said) replies
         → Since start (T.talked talk.new) (upto (row_command row.now) result) replies }
 {
-    for i in said..row.count {
+    for i in said..most {
         let command = row.errand.command(i, row.first + i as u32);
         if !talk.say(command.as_slice()) {
             return i;
         }
     }
-    row.count
+    most
 }
 
 /// The next reply, where its command was said and it is there.
@@ -57,12 +87,14 @@ fn is_late<T: Talk>(talk: &T, turns: u32, since: u64) -> bool {
 
 /// The next reply, which is that to the command at this place, waited for at least 1,000 turns and 10 seconds.
 ///
-/// Commands are said as soon as there is room for them, but after the replies that are there were heard: so each tells the server that
-/// they were read, and the server never waits for room with all its replies read.
+/// The first commands are said at once, as many as there is room for, and from then on never more are without a reply, even where the
+/// server told that it has read some of them. A command tells which replies were read: so what comes to the server last leaves it room for
+/// the next reply.
 pub fn next_reply<T: Talk>(
     talk: &mut T,
     row: &Row<'_>,
     said: &mut usize,
+    flight: &mut usize,
     place: usize,
 ) -> Result<Option<Reply>, RunFault>
     requires said { said.old ≤ row.now.count }
@@ -86,7 +118,9 @@ pub fn next_reply<T: Talk>(
         if talk.is_over() || is_late(talk, turns, since) {
             return Ok(None);
         }
-        *said = say_on(talk, row, *said);
+        let most = most_said(row.count, place, *flight, *said);
+        *said = say_on(talk, row, *said, most);
+        *flight = flight_of(*flight, *said, place);
         talk.turn()?;
     }
     Ok(None)
@@ -110,7 +144,8 @@ pub fn ask_one<T: Talk>(
         errand,
     };
     let mut said = 0;
-    next_reply(talk, &row, &mut said, 0)
+    let mut flight = NO_LIMIT;
+    next_reply(talk, &row, &mut said, &mut flight, 0)
 }
 
 /// Why a reply isn't the one that was hoped for.

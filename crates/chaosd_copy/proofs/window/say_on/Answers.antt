@@ -18,5 +18,5 @@ loop-i-preserved g c = λ start replies h.
 
 pub returns-clause-talk : goal.returns-clause-talk
 returns-clause-talk g c = λ start replies h.
-    let e : c.loop-i.i ≡ c.args.row.now.count = search rules in
+    let e : c.loop-i.i ≡ c.args.most = search rules in
     subst (λ n. Since start (g.T.Talk.talked c.loop-i.talk) (upto (row_command c.args.row.now) n) replies) e (c.loop-i.invariant start replies h)
