@@ -6,7 +6,7 @@
 PROGRAM is bin/chaosd by default. The plain program is built for the same processors (x86-64-v2). On loopback each figure is the
 least of several runs, taken in turn, with the start of the client and both flushes of the file. Then the same goes through a relay
 that hands each datagram on 20 milliseconds later, once, beside a script of `ask`, which has one command in flight. Where tftp-hpa or
-atftp is installed, its time for the same file on loopback stands beside them.
+atftp is installed, its time for the same file on loopback stands beside that of `chaosd get`.
 """
 
 import contextlib
@@ -75,7 +75,7 @@ class Relay(threading.Thread):
 class Pair:
     """A server on a folder, and the words of its client; between them a relay, where one is wished."""
 
-    def __init__(self, program, folder, relayed=False):
+    def __init__(self, program, folder, relayed=False, options=()):
         self.program = program
         self.folder = pathlib.Path(folder)
         self.folder.mkdir()
@@ -84,7 +84,7 @@ class Pair:
         seen = self.relay.port if relayed else None
         if self.relay:
             self.relay.start()
-        words = [program, "serve", "401", f"127.0.0.1:{server}", folder, f"402=127.0.0.1:{seen or client}"]
+        words = [program, "serve", *options, "401", f"127.0.0.1:{server}", folder, f"402=127.0.0.1:{seen or client}"]
         self.process = subprocess.Popen(words, stderr=subprocess.PIPE)
         self.process.stderr.readline()
         self.own = ["402", f"127.0.0.1:{client}"]
@@ -136,13 +136,15 @@ def bench_loopback(programs, folder, content):
 
 
 def bench_delay(programs, folder, content):
-    for name, program in programs.items():
-        pair, here = Pair(program, f"{folder}/{name}_late", relayed=True), folder / f"{name}_late_here"
+    for name, window in [("chaosd", 13), ("chaosd", 64), ("plain", 13)]:
+        program, options = programs[name], ["--window", "64"] * (window == 64)
+        pair = Pair(program, f"{folder}/{name}_late_{window}", relayed=True, options=options)
+        here = folder / f"{name}_late_here_{window}"
         here.mkdir()
         (here / "FILE").write_bytes(content)
         for way in ["put", "get"]:
-            print(f"{way}, {DELAY * 1000:.0f} ms each way: {name} {pair.copied(way, here):.2f} s")
-        if name == "chaosd":
+            print(f"{way}, {DELAY * 1000:.0f} ms each way, {window} commands in flight: {name} {pair.copied(way, here):.2f} s")
+        if name == "chaosd" and window == 13:
             reads = FILE_LIMIT // FILE_DATA // SHARE
             script = b"T  LOGIN LISPM\nT H OPEN READ^FILE\n" + b"T H READ\n" * reads
             spent = pair.asked(script) * FILE_LIMIT / FILE_DATA / (reads + 2)
@@ -150,8 +152,9 @@ def bench_delay(programs, folder, content):
         pair.end()
 
 
-def bench_tftp(folder, content):
-    """The same file by other programs, as far as they are installed: tftp-hpa with blocks of 512 bytes, atftp with a window of 32."""
+def bench_tftp(programs, folder, content):
+    """The same file by other programs, as far as they are installed, in turn with `chaosd get`: tftp-hpa with blocks of 512 bytes, atftp
+    with a window of 32. Neither flushes what it wrote to the disk."""
     path = os.environ["PATH"] + ":/usr/sbin"
     server = shutil.which("in.tftpd", path=path)
     clients = {
@@ -164,6 +167,9 @@ def bench_tftp(folder, content):
     (shared / "FILE").write_bytes(content)
     for each in [folder, shared]:
         each.chmod(0o755)
+    pair, here = Pair(programs["chaosd"], f"{folder}/beside"), folder / "beside_here"
+    here.mkdir()
+    (pair.folder / "FILE").write_bytes(content)
     for name, words in clients.items():
         own = shutil.which("atftpd", path=path) if name == "atftp" else server
         if not own or not shutil.which(names[name]):
@@ -174,9 +180,11 @@ def bench_tftp(folder, content):
             own, "--foreground", "--address", f"127.0.0.1:{port}", "--user", "root", "--secure", shared]  # fmt: skip
         running = subprocess.Popen(line, stdout=subprocess.DEVNULL, stderr=subprocess.DEVNULL)
         time.sleep(0.5)
-        best = None
+        best, ours = None, None
         try:
             for _ in range(RUNS):
+                spent = pair.copied("get", here)
+                ours = min(ours or spent, spent)
                 got = folder / "got"
                 got.unlink(missing_ok=True)
                 start = time.perf_counter()
@@ -184,12 +192,13 @@ def bench_tftp(folder, content):
                 spent = time.perf_counter() - start
                 assert got.read_bytes() == content, f"{name}: the file differs"
                 best = min(best or spent, spent)
-            print(f"get, loopback: {name} {mega(best)}")
+            print(f"get, loopback: chaosd {mega(ours)}, {name} {mega(best)}, ratio {ours / best:.2f}")
         except (OSError, subprocess.SubprocessError, AssertionError) as fault:
             print(f"    {name} could not be timed: {fault}")
         finally:
             running.terminate()
             running.wait()
+    pair.end()
 
 
 def main():
@@ -202,9 +211,8 @@ def main():
         plain = folder / "plain_loop"
         subprocess.run(["rustc", "--edition=2021", "-O", "-C", "target-cpu=x86-64-v2", "-o", plain, HERE / "plain_loop.rs"], check=True)
         programs = {"chaosd": program, "plain": plain}
-        for bench in [bench_loopback, bench_delay]:
+        for bench in [bench_loopback, bench_delay, bench_tftp]:
             bench(programs, folder, content)
-        bench_tftp(folder, content)
 
 
 if __name__ == "__main__":

@@ -91,9 +91,9 @@ def windows(checks):
     """Every window carries files whole, and none starves: an end that waits to send again takes half a second more for each file."""
     names = [f"F{n}" for n in range(32)]
     content = mixed_content(9_000)
-    with serving() as server, folder() as here:
-        for window in ["1", "2", "13", "14", "39", "40", "64"]:
-            for subcommand, source, target in [("get", server.folder, here), ("put", here, server.folder)]:
+    for own, others in [("13", ["1", "2", "13", "14", "39", "40", "64"]), ("1", ["1", "64"]), ("64", ["1", "13", "64"])]:
+        with serving(options=["--window", own]) as server, folder() as here:
+            for window, (subcommand, source, target) in itertools.product(others, [("get", server.folder, here), ("put", here, server.folder)]):
                 for name in names:
                     (source / name).write_bytes(content)
                     (target / name).unlink(missing_ok=True)
@@ -103,7 +103,7 @@ def windows(checks):
                 problems += [f"it took {spent:.2f} s"] if spent > len(names) / 3 else []
                 for name in names:
                     problems += stored_problems(target / name, content)
-                checks.check(f"{subcommand} --window {window}", problems)
+                checks.check(f"serve --window {own}, {subcommand} --window {window}", problems)
 
 
 def many_files(checks):

@@ -402,6 +402,10 @@ def no_peers(checks):
         wanted = told + b"chaosd: 300 turns are over\n"
         problems = program.Ended(server.returncode, out, said + err).problems(DONE, b"", said + wanted)
         checks.check("serve tells once of a host that is no peer and asks, and at its end that its turns are over", problems)
+        ended = run(["serve", "--quiet", "--turns", "3", "401", at(ports[0]), folder])
+        checks.check("serve --quiet tells nothing where nothing fails", ended.problems(DONE, b"", b""))
+        ended = run(["serve", "--quiet", "--turns", "3", "401", at(ports[0]), f"{folder}/absent"])
+        checks.check("serve --quiet tells what fails", ended.problems(FAULT, b"", [b"chaosd: can't open "]))
 
 
 def openings(checks):

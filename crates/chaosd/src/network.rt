@@ -1,12 +1,13 @@
 //! The runs over sockets: `loop`, `ask` and `serve`.
 use crate::noting::Noting;
-use crate::told::{tell_end, tell_script, tell_unopened};
+use crate::told::{tell_script, tell_served, tell_unopened};
 use chaos_file::DirStore;
 use chaos_link::{Carriage, Peer, Peers, UdpLink};
+use chaosd_call::config_of;
 use chaosd_engines::RunFault;
 use chaosd_file::{
-    LOOP_CLIENT, LOOP_SERVER, NOBODY, ScriptEnd, Why, run_ask, run_loop, run_serve, script_status,
-    serve_status,
+    LOOP_CLIENT, LOOP_SERVER, NOBODY, ScriptEnd, Why, run_ask, run_loop, run_serve_by,
+    script_status, serve_status,
 };
 use chaosd_line::{Ask, Serve};
 use std::fs::{File, Files};
@@ -164,6 +165,8 @@ pub(crate) fn run_serve_line<R: AllocGlobal + Clock + Eprint + Files<File = File
     let Serve {
         turns,
         carriage,
+        window,
+        is_quiet,
         address,
         socket,
         folder,
@@ -177,19 +180,19 @@ pub(crate) fn run_serve_line<R: AllocGlobal + Clock + Eprint + Files<File = File
         Ok(link) => Noting::new(rt, link),
         Err(error) => return tell_unopened(rt, &socket, &error),
     };
-    let _ = eprintln!(rt; "chaosd: host {address:06o} serves {folder} at {socket}");
-    let end = run_serve(
+    if !is_quiet {
+        let _ = eprintln!(rt; "chaosd: host {address:06o} serves {folder} at {socket}");
+    }
+    let end = run_serve_by(
         rt,
         rt.alloc(),
         &mut link,
         &mut store,
         address,
+        config_of(window),
         u64::from(turns),
         carriage,
     );
-    tell_end(rt, &end);
-    if end.is_ok() {
-        let _ = eprintln!(rt; "chaosd: {turns} turns are over");
-    }
+    tell_served(rt, &end, turns, is_quiet);
     serve_status(&end)
 }

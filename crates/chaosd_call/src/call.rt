@@ -159,8 +159,8 @@ impl<'a, C: Clock, L: Link> Call<'a, C, L> {
     }
 }
 
-/// The usual configuration, with windows of so many packets.
-fn config_of(window: u16) -> ConnConfig
+/// The usual configuration, with windows of so many packets, from 1 to 64. Any other number stands for the usual 13.
+pub fn config_of(window: u16) -> ConnConfig
     ensures { result ≡ config_for window }
 {
     match ConnConfig::new(window, window, 500, 10_000, 90_000) {

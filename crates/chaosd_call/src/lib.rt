@@ -3,4 +3,4 @@
 
 mod call;
 
-pub use call::Call;
+pub use call::{Call, config_of};

@@ -30,7 +30,7 @@ pub use end::ScriptEnd;
 pub use limits::{LOOP_CLIENT, LOOP_SERVER, NOBODY};
 pub use loop_run::run_loop;
 pub use patience::{NoReply, Patience};
-pub use serve_run::run_serve;
+pub use serve_run::{run_serve, run_serve_by};
 pub use status::{script_status, serve_status};
 pub use text::Shown;
 pub use why::{BadLine, Why};

@@ -15,6 +15,7 @@ use crate::script::run_script;
 use crate::server::Server;
 use crate::turns::Turns;
 use crate::why::Why;
+use chaos_conn::ConnConfig;
 use chaos_file::MemStore;
 use chaos_host::{Host, HostDelivered};
 use chaos_link::{Carriage, Link};
@@ -133,7 +134,7 @@ pub fn run_loop<R: Read, W: Write, A: Link, B: Link>(
     ensures unread { result ≡ Err RunFault.ReadFault
         → RepliesRead (R.remaining reader.old) (R.remaining reader.new) (W.contents writer.old) (W.contents writer.new) }
 {
-    let mut server = Server::new(alloc, LOOP_SERVER)?;
+    let mut server = Server::new(alloc, LOOP_SERVER, ConnConfig::usual())?;
     let mut store = MemStore::new(alloc);
     run_between(
         alloc,

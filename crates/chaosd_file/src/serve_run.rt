@@ -2,10 +2,11 @@
 ghost use Rattle.std.specs.Prelude.{◌≡◌, ◌<◌, ◌≤◌, Err, IfErr, OnOk};
 ghost use Rattle.chaos_file.specs.Store.{change};
 ghost use Rattle.chaosd_file.specs.Fault.{IsServiceFault};
-ghost use Rattle.chaosd_file.specs.Service.{Serves};
+ghost use Rattle.chaosd_file.specs.Service.{Serves, ServesBy};
 
 use crate::clock::Beginning;
 use crate::server::Server;
+use chaos_conn::ConnConfig;
 use chaos_file::Store;
 use chaos_link::{Carriage, Link};
 use chaos_turn::TurnEnd;
@@ -13,12 +14,13 @@ use chaosd_engines::RunFault;
 use std::alloc::Global;
 use std::time::Clock;
 
-/// Serves FILE on a store, as the host `me`, for so many turns: its host has 16 connections and listens to `FILE`. The address isn't
-/// 0.
+/// Serves FILE on a store, as the host `me`, for so many turns: its host has 16 connections of the usual configuration, and listens to
+/// `FILE`. The address isn't 0.
 ///
 /// Moments are milliseconds since the run began, by the clock; a connection begins with the number that the low 16 bits of the
 /// clock's milliseconds since 1970 tell then. A command in which the store fails is answered so, and the service goes on. A turn
-/// waits only as the link does; what it sends goes out by the carriage, and datagrams of both versions are read. The host takes its memory first, and later only files take some.
+/// waits only as the link does; what it sends goes out by the carriage, and datagrams of both versions are read. The host takes its
+/// memory first, and later only files take some.
 ///
 /// # Errors
 /// [`RunFault`]: 4 where there is no memory for the host, 6 where the link failed, after the turn in which it did, 7 where the clock
@@ -40,8 +42,34 @@ pub fn run_serve<C: Clock, L: Link, S: Store>(
     ensures well { OnOk result (L.count link.new ≤ L.count link.old) }
     ensures failed { result ≡ Err RunFault.LinkFault → 0 < L.count link.new }
 {
+    let config = ConnConfig::usual();
+    run_serve_by(clock, alloc, link, store, me, config, turns, carriage)
+}
+
+/// Serves as [`run_serve`] does, by connections of this configuration: its windows say how many commands of a client may be in flight.
+///
+/// # Errors
+/// Those of [`run_serve`].
+pub fn run_serve_by<C: Clock, L: Link, S: Store>(
+    clock: &C,
+    alloc: Global,
+    link: &mut L,
+    store: &mut S,
+    me: u16,
+    config: ConnConfig,
+    turns: u64,
+    carriage: Carriage,
+) -> Result<(), RunFault>
+    requires { 0 < me }
+    ensures faults { IfErr result IsServiceFault }
+    // Where it ends well it made all its turns.
+    ensures turns { OnOk result (ServesBy (change S.contents S.may_give S.count) carriage config turns me store.old store.new (L.queue link.old) (L.queue link.new)) }
+    // It ends well only where the link's count of failures didn't rise, and by LinkFault only where failures were counted.
+    ensures well { OnOk result (L.count link.new ≤ L.count link.old) }
+    ensures failed { result ≡ Err RunFault.LinkFault → 0 < L.count link.new }
+{
     let beginning = Beginning::new(clock)?;
-    let mut server = Server::new(alloc, me)?;
+    let mut server = Server::new(alloc, me, config)?;
     for turn in 0..turns {
         let now = beginning.moment(clock)?;
         let end = server.turn(alloc, store, link, beginning.number(now), now, carriage);

@@ -30,15 +30,15 @@ impl Server {
     ghost use Rattle.chaos_turn.specs.Sessions.{new_serving};
     ghost use Rattle.chaosd_file.specs.Service.{listening_host, service_of, ServesTurn};
 
-    /// A server with this address.
-    pub fn new(alloc: Global, address: u16) -> Result<Self, RunFault>
+    /// A server with this address, whose connections have this configuration.
+    pub fn new(alloc: Global, address: u16, config: ConnConfig) -> Result<Self, RunFault>
         requires { 0 < address }
         ensures faults { IfErr result (λ fault. fault ≡ RunFault.NoMemory) }
-        ensures host { IfOk result (λ server. server.host ≡ listening_host address) }
+        ensures host { IfOk result (λ server. server.host ≡ listening_host config address) }
         ensures sessions { IfOk result (λ server. server.sessions ≡ replicate SERVER_CONNS new_serving) }
         ensures out { IfOk result (λ server. server.out ≡ record { packets = []; cap = TURN_ROOM }) }
     {
-        let Ok(mut host) = Host::new(alloc, address, SERVER_CONNS, ConnConfig::usual()) else {
+        let Ok(mut host) = Host::new(alloc, address, SERVER_CONNS, config) else {
             return Err(RunFault::NoMemory);
         };
         let _ = host.listen(CONTACT);

@@ -77,7 +77,10 @@ fn serve_with_all_its_values(rt: HostRuntime) -> Result<(), Fail> {
     ];
     let serve = serve_of(&rt, &words)?;
     assert_eq!(rt; (serve.turns, serve.address, serve.folder), (10, 257, "d"));
-    assert_eq!(rt; (serve.carriage, serve.window, serve.is_quiet), (Carriage::Two, 64, true));
+    assert_eq!(rt;
+        (serve.carriage, serve.window, serve.is_quiet),
+        (Carriage::Two, 64, true)
+    );
     assert_eq!(rt; serve.socket, local(9001));
     assert_eq!(rt; serve.peers.find(258), Some(local(9002)));
     assert_eq!(rt; serve.peers.find(257), None);
@@ -110,7 +113,10 @@ fn no_turns_and_no_peers(rt: HostRuntime) -> Result<(), Fail> {
         (1_000_000_000, 1, "")
     );
     assert_eq!(rt; serve.socket, SocketAddrV4::new(Ipv4Addr::UNSPECIFIED, 1));
-    assert_eq!(rt; (serve.carriage, serve.window, serve.is_quiet), (Carriage::One, 13, false));
+    assert_eq!(rt;
+        (serve.carriage, serve.window, serve.is_quiet),
+        (Carriage::One, 13, false)
+    );
     Ok(())
 }
 
