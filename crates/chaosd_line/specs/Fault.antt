@@ -10,6 +10,13 @@ use Rattle.chaosd_line.specs.Lines.{IsLineOf}
 use Rattle.chaosd_line.specs.declared.fault.LineFault.{LineFault}
 use Rattle.chaosd_line.specs.declared.fault.LineFault.TheVariants.{BadLine, Help, NoMemory}
 use Rattle.chaosd_line.specs.declared.line.Line.{Line}
+use Rattle.chaosd_line.specs.declared.unread.Unread.{Unread}
+use Rattle.chaosd_line.specs.declared.unread.Unread.TheVariants as unread
+
+-- the kind of the error by which a user is told why values can't be read
+abbrev pub IsTold : Unread → ErrorKind → Type 0
+IsTold (unread.Bad word) kind = (kind ≡ ValueValidation) ⊎ (kind ≡ OutOfMemory)
+IsTold unread.NoMemory kind = kind ≡ OutOfMemory
 
 -- the exit status of a fault
 abbrev pub line_status : LineFault → ℕ

@@ -1,8 +1,8 @@
 -- The words of the subcommands, and the rules that clap reads them by.
-use Rattle.std.specs.Prelude.{◌≡◌, ◌++◌, ◌∷◌, List, [], Some, codes}
+use Rattle.std.specs.Prelude.{◌++◌, ◌∷◌, List, [], Some, codes}
 use Rattle.clap.specs.Lexer.{usize_max}
 use Rattle.clap.specs.Words.{App, Rule, Text, new_app, new_rule, with_subcommand}
-use Rattle.chaosd_line.specs.CommandLine.{ask_command, bare_chaosd, carriage_option, file_words, flag, get_command, loop_command, needed, optional, put_command, serve_command, with_default}
+use Rattle.chaosd_line.specs.CommandLine.{ask_command, carriage_option, file_words, flag, get_command, loop_command, needed, optional, put_command, serve_command, with_default}
 use Rattle.chaosd_line.specs.declared.command.Sub.{Sub}
 use Rattle.chaosd_line.specs.declared.command.Sub.TheVariants as sub
 use Rattle.chaosd_line.specs.declared.word.Wanted.{Wanted}

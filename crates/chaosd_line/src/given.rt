@@ -3,7 +3,7 @@ ghost use Rattle.std.specs.Prelude.{◌≡◌, [], MatchResult, None, Some, code
 ghost use Rattle.std.specs.Option.{IsSomeAnd};
 ghost use Rattle.clap.specs.Words.{all_of, first_of, found_of, rows_of, subcommand_rows_of};
 ghost use Rattle.chaosd_line.specs.Files.{GivesFiles};
-ghost use Rattle.chaosd_line.specs.Lines.{AsksFor, IsAsk, IsServe};
+ghost use Rattle.chaosd_line.specs.Lines.{AsksFor, IsAsk, IsLine, IsServe};
 ghost use Rattle.chaosd_line.specs.Values.{ArePeers, IsAddress, IsCarriage, IsSocket, IsTurns, Reads};
 
 use crate::bad_word::{ADDRESS_FORM, BadWord, CARRIAGE_FORM, SOCKET_FORM, TURNS_FORM};
@@ -147,6 +147,41 @@ fn ask_of<'a>(matches: &ArgMatches<'a>) -> Result<Ask, BadWord<'a>>
     })
 }
 
+/// The line `loop` of these values.
+fn loop_line<'a>(matches: &ArgMatches<'a>) -> Result<Line<'a>, Unread<'a>>
+    ensures { GivesFiles (IsLine (codes "loop") (rows_of (found_of matches.now))) result }
+{
+    Ok(Line::Loop(given_carriage(matches)?))
+}
+
+/// The line `serve` of these values.
+fn serve_line<'a>(matches: &ArgMatches<'a>) -> Result<Line<'a>, Unread<'a>>
+    ensures { GivesFiles (IsLine (codes "serve") (rows_of (found_of matches.now))) result }
+{
+    Ok(Line::Serve(serve_of(matches)?))
+}
+
+/// The line `ask` of these values.
+fn ask_line<'a>(matches: &ArgMatches<'a>) -> Result<Line<'a>, Unread<'a>>
+    ensures { GivesFiles (IsLine (codes "ask") (rows_of (found_of matches.now))) result }
+{
+    Ok(Line::Ask(ask_of(matches)?))
+}
+
+/// The line `get` of these values.
+fn get_line<'a>(alloc: Global, matches: &ArgMatches<'a>) -> Result<Line<'a>, Unread<'a>>
+    ensures { GivesFiles (IsLine (codes "get") (rows_of (found_of matches.now))) result }
+{
+    Ok(Line::Get(get_of(alloc, matches)?))
+}
+
+/// The line `put` of these values.
+fn put_line<'a>(alloc: Global, matches: &ArgMatches<'a>) -> Result<Line<'a>, Unread<'a>>
+    ensures { GivesFiles (IsLine (codes "put") (rows_of (found_of matches.now))) result }
+{
+    Ok(Line::Put(put_of(alloc, matches)?))
+}
+
 /// What a subcommand and its values ask for. That it is one of these is clap's care.
 pub(crate) fn line_of<'a>(alloc: Global, matches: &ArgMatches<'a>) -> Result<Line<'a>, Unread<'a>>
     ensures { GivesFiles (AsksFor (subcommand_rows_of matches.now)) result }
@@ -155,11 +190,11 @@ pub(crate) fn line_of<'a>(alloc: Global, matches: &ArgMatches<'a>) -> Result<Lin
         Some(("show", _)) => Ok(Line::Show),
         Some(("lab", _)) => Ok(Line::Lab),
         Some(("filelab", _)) => Ok(Line::FileLab),
-        Some(("loop", values)) => Ok(Line::Loop(given_carriage(values)?)),
-        Some(("serve", values)) => Ok(Line::Serve(serve_of(values)?)),
-        Some(("ask", values)) => Ok(Line::Ask(ask_of(values)?)),
-        Some(("get", values)) => Ok(Line::Get(get_of(alloc, values)?)),
-        Some(("put", values)) => Ok(Line::Put(put_of(alloc, values)?)),
+        Some(("loop", values)) => loop_line(values),
+        Some(("serve", values)) => serve_line(values),
+        Some(("ask", values)) => ask_line(values),
+        Some(("get", values)) => get_line(alloc, values),
+        Some(("put", values)) => put_line(alloc, values),
         _ => Err(Unread::Bad(BadWord {
             text: "",
             place: "COMMAND",

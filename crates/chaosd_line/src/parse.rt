@@ -4,7 +4,7 @@ ghost use Rattle.clap.specs.Values.{kind_of};
 ghost use Rattle.clap.specs.Words.{FailsBy, app_of, fault_of, subcommand_of, subcommand_rows_of};
 ghost use Rattle.clap.specs.declared.error.kind.ErrorKind.TheVariants.{ValueValidation};
 ghost use Rattle.chaosd_line.specs.CommandLine.{chaosd};
-ghost use Rattle.chaosd_line.specs.Fault.{FailsFor, RefusesFor};
+ghost use Rattle.chaosd_line.specs.Fault.{FailsFor, IsTold, RefusesFor};
 ghost use Rattle.chaosd_line.specs.Lines.{IsLineOf};
 
 use crate::bad_word::BadWord;
@@ -31,12 +31,35 @@ fn matches_of<'a, S: AsStr>(
     command.try_get_matches_from_mut(words)
 }
 
+/// What clap makes of the words by the program's command.
+fn found<'a, S: AsStr>(alloc: Global, words: &'a [S]) -> Result<ArgMatches<'a>, Error>
+    ensures subcommand { IfOk result (λ matches.
+        subcommand_rows_of matches ≡ subcommand_of chaosd (map S.text words.now)) }
+    ensures kinds { FailsBy (fault_of chaosd (map S.text words.now)) result }
+{
+    let mut command = command(alloc)?;
+    matches_of(&mut command, words)
+}
+
 /// The error that tells the user of a bad word, with the usage of the subcommand that it stands in.
 fn error_of(alloc: Global, bad: &BadWord<'_>, subcommand: Option<&str>) -> Result<Error, AllocError>
     ensures { IfOk result (λ error. kind_of error ≡ ValueValidation) }
 {
     let text = format!(in alloc; "{bad}")?;
     command_of(alloc, subcommand)?.error(ErrorKind::ValueValidation, text.as_str())
+}
+
+/// The error that tells the user why the values of a subcommand can't be read.
+fn told(alloc: Global, unread: Unread<'_>, subcommand: Option<&str>) -> Error
+    ensures { IsTold unread.entry (kind_of result) }
+{
+    match unread {
+        Unread::Bad(bad) => match error_of(alloc, &bad, subcommand) {
+            Ok(error) => error,
+            Err(error) => Error::from(error),
+        },
+        Unread::NoMemory => Error::from(AllocError),
+    }
 }
 
 /// What these words, without the program's name in front, ask for.
@@ -55,12 +78,10 @@ pub fn parse_line<'a, S: AsStr>(alloc: Global, words: &'a [S]) -> Result<Line<'a
     // value that is not of its form.
     ensures kinds { FailsFor (map S.text words.now) result }
 {
-    let mut command = command(alloc)?;
-    let matches = matches_of(&mut command, words)?;
+    let matches = found(alloc, words)?;
     match line_of(alloc, &matches) {
         Ok(asked) => Ok(asked),
-        Err(Unread::Bad(bad)) => Err(error_of(alloc, &bad, matches.subcommand_name())?),
-        Err(Unread::NoMemory) => Err(Error::from(AllocError)),
+        Err(unread) => Err(told(alloc, unread, matches.subcommand_name())),
     }
 }
 
