@@ -69,9 +69,10 @@ def build_proved(name, folder):
 
 
 def build_plain(name, folder):
-    """The plain Rust program."""
+    """The plain Rust program, for the processor that rt builds for."""
     program = f"{folder}/plain_{name}"
-    subprocess.run(["rustc", "--edition=2021", "-O", "-o", program, HERE / f"plain_{name}.rs"], check=True)
+    options = ["--edition=2021", "-C", "opt-level=3", "-C", "target-cpu=x86-64-v2"]
+    subprocess.run(["rustc", *options, "-o", program, HERE / f"plain_{name}.rs"], check=True)
     return program
 
 

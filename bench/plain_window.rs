@@ -1,5 +1,7 @@
-//! The same receive window in plain Rust: a deque of 64 places, each with an item or none.
-use std::collections::VecDeque;
+//! The same receive window in plain Rust, written for speed: a ring of 64 places that keep their memory, each with a bit that says
+//! whether its item is held, so that a body is copied once and nothing else is written.
+//!
+//! It has one window, its greatest, and can neither announce another nor tell a receipt.
 use std::time::Instant;
 
 const WINDOW: u16 = 64;
@@ -13,11 +15,8 @@ struct Item {
 }
 
 impl Item {
-    fn empty(op: u8) -> Self {
-        Item { op, len: 0, body: [0; 488] }
-    }
-
-    fn fill(&mut self, bytes: &[u8]) {
+    fn fill(&mut self, op: u8, bytes: &[u8]) {
+        self.op = op;
         self.body[..bytes.len()].copy_from_slice(bytes);
         self.len = bytes.len() as u16;
     }
@@ -36,22 +35,29 @@ enum Arrived {
 
 struct Window {
     read: u16,
-    slots: VecDeque<Option<Item>>,
+    /// The place of the next item.
+    first: u16,
+    /// Which offsets are held, the first in the lowest bit.
+    held: u64,
+    items: Box<[Item]>,
 }
 
 impl Window {
     fn new() -> Self {
-        Window { read: 0, slots: (0..WINDOW).map(|_| None).collect() }
+        let empty = |_| Item { op: 0, len: 0, body: [0; 488] };
+        Window { read: 0, first: 0, held: 0, items: (0..WINDOW).map(empty).collect() }
     }
 
     fn arrive_lent(&mut self, num: u16, op: u8, bytes: &[u8]) -> Arrived {
         let offset = num.wrapping_sub(self.read);
         if (1..=WINDOW).contains(&offset) {
-            let slot = &mut self.slots[usize::from(offset) - 1];
-            if slot.is_some() {
+            let bit = 1u64 << (offset - 1);
+            if self.held & bit != 0 {
                 return Arrived::Duplicate;
             }
-            slot.insert(Item::empty(op)).fill(bytes);
+            self.held |= bit;
+            let place = (self.first + offset - 1) % WINDOW;
+            self.items[usize::from(place)].fill(op, bytes);
             Arrived::Took
         } else if offset > WINDOW && offset < 32768 {
             Arrived::Outside
@@ -61,15 +67,15 @@ impl Window {
     }
 
     fn front(&self) -> Option<&Item> {
-        self.slots.front()?.as_ref()
+        (self.held & 1 != 0).then(|| &self.items[usize::from(self.first)])
     }
 
     fn discard(&mut self) -> bool {
-        if self.front().is_none() {
+        if self.held & 1 == 0 {
             return false;
         }
-        self.slots.pop_front();
-        self.slots.push_back(None);
+        self.held >>= 1;
+        self.first = (self.first + 1) % WINDOW;
         self.read = self.read.wrapping_add(1);
         true
     }

@@ -3,6 +3,7 @@ pub mod Acted
 pub mod Arriving
 pub mod Calls
 pub mod Config
+pub mod Disposition
 pub mod Inside
 pub mod Opening
 pub mod Sending

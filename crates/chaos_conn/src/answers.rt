@@ -1,4 +1,6 @@
 //! What calls answer.
+ghost use Rattle.std.specs.Prelude.{◌≡◌};
+ghost use Rattle.chaos_conn.specs.Disposition.{with_packet};
 
 use crate::state::State;
 use chaos_packet::{Item, Packet};
@@ -22,6 +24,57 @@ pub enum Why {
     OtherNumber,
     /// Its host has no such connection.
     NoConn,
+}
+
+/// What became of a packet, without the packet.
+#[derive(Clone, Copy, Debug, PartialEq, Eq)]
+pub enum Disposition {
+    /// Its item is held until the user reads it.
+    Took,
+    /// Its item came before.
+    Duplicate,
+    /// Its item is past the window.
+    Outside,
+    /// It opened the connection.
+    Opened,
+    /// It told a status.
+    Status,
+    /// It asked for the status.
+    Probed,
+    /// It is uncontrolled data, kept nowhere.
+    Unc,
+    /// It answers the request, which is thereby ended.
+    Answered,
+    /// It tells where to ask instead, and the request is ended.
+    Forwarded,
+    /// The peer closed the connection, or refused the request.
+    Closed,
+    /// The peer's host doesn't know the connection.
+    Lost,
+    /// Nothing was made of it, and nothing changed.
+    Dropped(Why),
+}
+
+impl Disposition {
+    /// What became of the packet, with a copy of it where it is handed out.
+    pub fn with_packet(self, packet: &Packet) -> Delivered
+        ensures { result ≡ with_packet self packet.now }
+    {
+        match self {
+            Disposition::Took => Delivered::Took,
+            Disposition::Duplicate => Delivered::Duplicate,
+            Disposition::Outside => Delivered::Outside,
+            Disposition::Opened => Delivered::Opened,
+            Disposition::Status => Delivered::Status,
+            Disposition::Probed => Delivered::Probed,
+            Disposition::Unc => Delivered::Unc(packet.copy()),
+            Disposition::Answered => Delivered::Answered(packet.copy()),
+            Disposition::Forwarded => Delivered::Forwarded(packet.copy()),
+            Disposition::Closed => Delivered::Closed(packet.copy()),
+            Disposition::Lost => Delivered::Lost(packet.copy()),
+            Disposition::Dropped(why) => Delivered::Dropped(why),
+        }
+    }
 }
 
 /// What became of a packet that was delivered.

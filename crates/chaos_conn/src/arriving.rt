@@ -6,11 +6,12 @@ ghost use Rattle.chaos_conn.specs.View.{heard_at};
 ghost use Rattle.chaos_conn.specs.Acted.{Acts, ActsQuietly};
 ghost use Rattle.chaos_conn.specs.Arriving.{with_ack, with_status, heard_with_ack, heard_with_status, is_between_hosts, is_between_indices, is_index, may_be_index, after_rfc, after_opn, after_opening, after_ans, after_fwd, after_end, after_cls, after_los, after_item_came, after_data, after_eof, after_second_opn, after_sns, after_sts, after_unc, deliver_in, deliver_asking, deliver_requested, deliver_open};
 ghost use Rattle.chaos_conn.specs.Act.{Deliver, Came, Does};
+ghost use Rattle.chaos_conn.specs.Disposition.{with_packet};
 
-use crate::answers::{Delivered, Why};
+use crate::answers::{Delivered, Disposition, Why};
 use crate::conn::Conn;
 use crate::state::State;
-use chaos_packet::{Kind, MAX_DATA, Opcode, Outbox, Packet, PktNum};
+use chaos_packet::{Kind, MAX_DATA, Outbox, Packet, PktNum};
 use chaos_window::Arrived;
 
 impl Conn {
@@ -27,17 +28,25 @@ impl Conn {
         requires { 0 < room_of out.old }
         ensures { Does self.old (Deliver packet.now now) self.new out.old out.new (Came result) }
     {
+        self.take(packet, now, out).with_packet(packet)
+    }
+
+    /// Takes a packet as `deliver` does, and hands no packet out: the caller has it.
+    pub fn take(&mut self, packet: &Packet, now: u64, out: &mut Outbox) -> Disposition
+        requires { 0 < room_of out.old }
+        ensures { Does self.old (Deliver packet.now now) self.new out.old out.new (Came (with_packet result packet.now)) }
+    {
         if !self.state.is_live() {
-            return Delivered::Dropped(Why::NotOpen);
+            return Disposition::Dropped(Why::NotOpen);
         }
         if !self.is_between_hosts(packet) {
-            return Delivered::Dropped(Why::Stranger);
+            return Disposition::Dropped(Why::Stranger);
         }
         if packet.op.kind().is_rfc() {
             return self.take_rfc_again(packet, now, out);
         }
         if !self.is_between_indices(packet) {
-            return Delivered::Dropped(Why::Stranger);
+            return Disposition::Dropped(Why::Stranger);
         }
         self.deliver_in_state(packet, now, out)
     }
@@ -71,22 +80,22 @@ impl Conn {
     }
 
     /// The table, by the state.
-    fn deliver_in_state(&mut self, packet: &Packet, now: u64, out: &mut Outbox) -> Delivered
+    fn deliver_in_state(&mut self, packet: &Packet, now: u64, out: &mut Outbox) -> Disposition
         requires { 0 < room_of out.old }
-        ensures { Acts self.old (deliver_in self.old.state self.old packet.now now) self.new out.old out.new result }
+        ensures { Acts self.old (deliver_in self.old.state self.old packet.now now) self.new out.old out.new (with_packet result packet.now) }
     {
         match self.state {
             State::RfcSent => self.deliver_asking(packet, now, out),
             State::RfcReceived => self.deliver_requested(packet, now),
             State::Open => self.deliver_open(packet, now, out),
-            _ => Delivered::Dropped(Why::NotOpen),
+            _ => Disposition::Dropped(Why::NotOpen),
         }
     }
 
     /// The rows of RfcSent.
-    fn deliver_asking(&mut self, packet: &Packet, now: u64, out: &mut Outbox) -> Delivered
+    fn deliver_asking(&mut self, packet: &Packet, now: u64, out: &mut Outbox) -> Disposition
         requires { 0 < room_of out.old }
-        ensures { Acts self.old (deliver_asking self.old packet.now now (kind_of packet.now.op)) self.new out.old out.new result }
+        ensures { Acts self.old (deliver_asking self.old packet.now now (kind_of packet.now.op)) self.new out.old out.new (with_packet result packet.now) }
     {
         match packet.op.kind() {
             Kind::Opn => self.take_opn(packet, now, out),
@@ -94,25 +103,25 @@ impl Conn {
             Kind::Fwd => self.take_fwd(packet, now),
             Kind::Cls => self.take_cls(packet, now),
             Kind::Los => self.take_los(packet, now),
-            _ => Delivered::Dropped(Why::NotOpen),
+            _ => Disposition::Dropped(Why::NotOpen),
         }
     }
 
     /// The rows of RfcReceived.
-    fn deliver_requested(&mut self, packet: &Packet, now: u64) -> Delivered
-        ensures { ActsQuietly self.old (deliver_requested self.old packet.now now (kind_of packet.now.op)) self.new result }
+    fn deliver_requested(&mut self, packet: &Packet, now: u64) -> Disposition
+        ensures { ActsQuietly self.old (deliver_requested self.old packet.now now (kind_of packet.now.op)) self.new (with_packet result packet.now) }
     {
         match packet.op.kind() {
             Kind::Cls => self.take_cls(packet, now),
             Kind::Los => self.take_los(packet, now),
-            _ => Delivered::Dropped(Why::NotOpen),
+            _ => Disposition::Dropped(Why::NotOpen),
         }
     }
 
     /// The rows of Open.
-    fn deliver_open(&mut self, packet: &Packet, now: u64, out: &mut Outbox) -> Delivered
+    fn deliver_open(&mut self, packet: &Packet, now: u64, out: &mut Outbox) -> Disposition
         requires { 0 < room_of out.old }
-        ensures { Acts self.old (deliver_open self.old packet.now now (kind_of packet.now.op)) self.new out.old out.new result }
+        ensures { Acts self.old (deliver_open self.old packet.now now (kind_of packet.now.op)) self.new out.old out.new (with_packet result packet.now) }
     {
         match packet.op.kind() {
             Kind::Data => self.take_data(packet, now, out),
@@ -123,43 +132,43 @@ impl Conn {
             Kind::Unc => self.take_unc(packet, now),
             Kind::Cls => self.take_cls(packet, now),
             Kind::Los => self.take_los(packet, now),
-            _ => Delivered::Dropped(Why::BadOp),
+            _ => Disposition::Dropped(Why::BadOp),
         }
     }
 
     /// RFC, the one that the end took, again.
-    fn take_rfc_again(&mut self, packet: &Packet, now: u64, out: &mut Outbox) -> Delivered
+    fn take_rfc_again(&mut self, packet: &Packet, now: u64, out: &mut Outbox) -> Disposition
         requires { 0 < room_of out.old }
-        ensures { Acts self.old (after_rfc self.old packet.now now) self.new out.old out.new result }
+        ensures { Acts self.old (after_rfc self.old packet.now now) self.new out.old out.new (with_packet result packet.now) }
     {
         if self.asked {
-            return Delivered::Dropped(Why::BadOp);
+            return Disposition::Dropped(Why::BadOp);
         }
         if !self.is_peer_index(packet.src_index) {
-            return Delivered::Dropped(Why::Stranger);
+            return Disposition::Dropped(Why::Stranger);
         }
         if packet.num != self.request {
-            return Delivered::Dropped(Why::OtherNumber);
+            return Disposition::Dropped(Why::OtherNumber);
         }
         self.hear(now);
         if self.state == State::Open {
             self.put_sts(out);
         }
-        Delivered::Duplicate
+        Disposition::Duplicate
     }
 
     /// OPN, at the end that asked.
-    fn take_opn(&mut self, packet: &Packet, now: u64, out: &mut Outbox) -> Delivered
+    fn take_opn(&mut self, packet: &Packet, now: u64, out: &mut Outbox) -> Disposition
         requires { 0 < room_of out.old }
-        ensures { Acts self.old (after_opn self.old packet.now now) self.new out.old out.new result }
+        ensures { Acts self.old (after_opn self.old packet.now now) self.new out.old out.new (with_packet result packet.now) }
     {
         let Some(told) = packet.status() else {
-            return Delivered::Dropped(Why::BadStatus);
+            return Disposition::Dropped(Why::BadStatus);
         };
         self.hear_status(packet, now, told);
         self.open_by(packet);
         self.put_sts(out);
-        Delivered::Opened
+        Disposition::Opened
     }
 
     /// Opens by an OPN: its number is read as item 0.
@@ -174,39 +183,39 @@ impl Conn {
     }
 
     /// ANS.
-    fn take_ans(&mut self, packet: &Packet, now: u64) -> Delivered
-        ensures { ActsQuietly self.old (after_ans self.old packet.now now) self.new result }
+    fn take_ans(&mut self, packet: &Packet, now: u64) -> Disposition
+        ensures { ActsQuietly self.old (after_ans self.old packet.now now) self.new (with_packet result packet.now) }
     {
         self.hear(now);
         self.state = State::Answered;
-        Delivered::Answered(packet.copy())
+        Disposition::Answered
     }
 
     /// FWD.
-    fn take_fwd(&mut self, packet: &Packet, now: u64) -> Delivered
-        ensures { ActsQuietly self.old (after_fwd self.old packet.now now) self.new result }
+    fn take_fwd(&mut self, packet: &Packet, now: u64) -> Disposition
+        ensures { ActsQuietly self.old (after_fwd self.old packet.now now) self.new (with_packet result packet.now) }
     {
         self.hear(now);
         self.state = State::Forwarded;
-        Delivered::Forwarded(packet.copy())
+        Disposition::Forwarded
     }
 
     /// CLS.
-    fn take_cls(&mut self, packet: &Packet, now: u64) -> Delivered
-        ensures { ActsQuietly self.old (after_cls self.old packet.now now) self.new result }
+    fn take_cls(&mut self, packet: &Packet, now: u64) -> Disposition
+        ensures { ActsQuietly self.old (after_cls self.old packet.now now) self.new (with_packet result packet.now) }
     {
         self.hear(now);
         self.end_in(State::ClsReceived);
-        Delivered::Closed(packet.copy())
+        Disposition::Closed
     }
 
     /// LOS.
-    fn take_los(&mut self, packet: &Packet, now: u64) -> Delivered
-        ensures { ActsQuietly self.old (after_los self.old packet.now now) self.new result }
+    fn take_los(&mut self, packet: &Packet, now: u64) -> Disposition
+        ensures { ActsQuietly self.old (after_los self.old packet.now now) self.new (with_packet result packet.now) }
     {
         self.hear(now);
         self.end_in(State::LosReceived);
-        Delivered::Lost(packet.copy())
+        Disposition::Lost
     }
 
     /// Ends in a state. A request that was not accepted is dropped.
@@ -220,82 +229,82 @@ impl Conn {
     }
 
     /// Data.
-    fn take_data(&mut self, packet: &Packet, now: u64, out: &mut Outbox) -> Delivered
+    fn take_data(&mut self, packet: &Packet, now: u64, out: &mut Outbox) -> Disposition
         requires { 0 < room_of out.old }
-        ensures { Acts self.old (after_data self.old packet.now now) self.new out.old out.new result }
+        ensures { Acts self.old (after_data self.old packet.now now) self.new out.old out.new (with_packet result packet.now) }
     {
         self.hear_ack(packet, now);
-        self.take_item(packet.num, packet.op, packet.bytes(), out)
+        self.take_item(packet, packet.bytes(), out)
     }
 
     /// EOF, which is held without its data bytes.
-    fn take_eof(&mut self, packet: &Packet, now: u64, out: &mut Outbox) -> Delivered
+    fn take_eof(&mut self, packet: &Packet, now: u64, out: &mut Outbox) -> Disposition
         requires { 0 < room_of out.old }
-        ensures { Acts self.old (after_eof self.old packet.now now) self.new out.old out.new result }
+        ensures { Acts self.old (after_eof self.old packet.now now) self.new out.old out.new (with_packet result packet.now) }
     {
         self.hear_ack(packet, now);
-        self.take_item(packet.num, packet.op, &[], out)
+        self.take_item(packet, &[], out)
     }
 
     /// Holds a copy of an item that came, or tells the status.
-    fn take_item(&mut self, num: PktNum, op: Opcode, bytes: &[u8], out: &mut Outbox) -> Delivered
+    fn take_item(&mut self, packet: &Packet, bytes: &[u8], out: &mut Outbox) -> Disposition
         requires room { 0 < room_of out.old }
         requires fits { length bytes.now ≤ MAX_DATA }
-        ensures { Acts self.old (after_item_came self.old num (record { op = op; body = bytes.now })) self.new out.old out.new result }
+        ensures { Acts self.old (after_item_came self.old packet.now.num (record { op = packet.now.op; body = bytes.now })) self.new out.old out.new (with_packet result packet.now) }
     {
-        match self.recv.arrive_lent(num, op, bytes) {
-            Arrived::Took => Delivered::Took,
+        match self.recv.arrive_lent(packet.num, packet.op, bytes) {
+            Arrived::Took => Disposition::Took,
             Arrived::Duplicate => {
                 self.put_sts(out);
-                Delivered::Duplicate
+                Disposition::Duplicate
             }
             Arrived::Outside => {
                 self.put_sts(out);
-                Delivered::Outside
+                Disposition::Outside
             }
         }
     }
 
     /// OPN, at an open end.
-    fn take_second_opn(&mut self, packet: &Packet, now: u64, out: &mut Outbox) -> Delivered
+    fn take_second_opn(&mut self, packet: &Packet, now: u64, out: &mut Outbox) -> Disposition
         requires { 0 < room_of out.old }
-        ensures { Acts self.old (after_second_opn self.old packet.now now) self.new out.old out.new result }
+        ensures { Acts self.old (after_second_opn self.old packet.now now) self.new out.old out.new (with_packet result packet.now) }
     {
         let Some(told) = packet.status() else {
-            return Delivered::Dropped(Why::BadStatus);
+            return Disposition::Dropped(Why::BadStatus);
         };
         self.hear_status(packet, now, told);
         self.put_sts(out);
-        Delivered::Duplicate
+        Disposition::Duplicate
     }
 
     /// SNS.
-    fn take_sns(&mut self, packet: &Packet, now: u64, out: &mut Outbox) -> Delivered
+    fn take_sns(&mut self, packet: &Packet, now: u64, out: &mut Outbox) -> Disposition
         requires { 0 < room_of out.old }
-        ensures { Acts self.old (after_sns self.old packet.now now) self.new out.old out.new result }
+        ensures { Acts self.old (after_sns self.old packet.now now) self.new out.old out.new (with_packet result packet.now) }
     {
         self.hear_ack(packet, now);
         self.put_sts(out);
-        Delivered::Probed
+        Disposition::Probed
     }
 
     /// STS.
-    fn take_sts(&mut self, packet: &Packet, now: u64) -> Delivered
-        ensures { ActsQuietly self.old (after_sts self.old packet.now now) self.new result }
+    fn take_sts(&mut self, packet: &Packet, now: u64) -> Disposition
+        ensures { ActsQuietly self.old (after_sts self.old packet.now now) self.new (with_packet result packet.now) }
     {
         let Some(told) = packet.status() else {
-            return Delivered::Dropped(Why::BadStatus);
+            return Disposition::Dropped(Why::BadStatus);
         };
         self.hear_status(packet, now, told);
-        Delivered::Status
+        Disposition::Status
     }
 
     /// UNC.
-    fn take_unc(&mut self, packet: &Packet, now: u64) -> Delivered
-        ensures { ActsQuietly self.old (after_unc self.old packet.now now) self.new result }
+    fn take_unc(&mut self, packet: &Packet, now: u64) -> Disposition
+        ensures { ActsQuietly self.old (after_unc self.old packet.now now) self.new (with_packet result packet.now) }
     {
         self.hear(now);
-        Delivered::Unc(packet.copy())
+        Disposition::Unc
     }
 
     /// Hears the peer at a moment.

@@ -19,7 +19,7 @@ mod state;
 mod stored;
 mod time;
 
-pub use answers::{Delivered, ReadDone, ReadEnd, Ticked, Why};
+pub use answers::{Delivered, Disposition, ReadDone, ReadEnd, Ticked, Why};
 pub use config::ConnConfig;
 pub use conn::Conn;
 pub use fault::{ConfigFault, ConnFault};

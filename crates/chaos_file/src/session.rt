@@ -65,12 +65,27 @@ impl Session {
     pub fn apply<S: Store>(&mut self, alloc: Global, store: &mut S, command: &[u8]) -> Reply
         ensures { IsApplied (change S.contents S.may_give S.count store.old store.new) self.old self.new command.now result.items }
     {
-        let parsed = parse_command(command);
         let mut reply = Reply::new();
-        begin(&mut reply, parsed.tid(), parsed.handle());
-        let done = self.act(alloc, store, parsed, &mut reply);
-        end(&mut reply, done);
+        self.apply_into(alloc, store, command, &mut reply);
         reply
+    }
+
+    /// Carries out a command as `apply` does, and writes its reply into a place of the caller's, over what stood there: none is
+    /// moved.
+    pub fn apply_into<S: Store>(
+        &mut self,
+        alloc: Global,
+        store: &mut S,
+        command: &[u8],
+        reply: &mut Reply,
+    )
+        ensures { IsApplied (change S.contents S.may_give S.count store.old store.new) self.old self.new command.now reply.new.items }
+    {
+        reply.clear();
+        let parsed = parse_command(command);
+        begin(reply, parsed.tid(), parsed.handle());
+        let done = self.act(alloc, store, parsed, reply);
+        end(reply, done);
     }
 
     /// Carries out what was read.

@@ -2,6 +2,7 @@ pub mod Acted
 pub mod Calls
 pub mod Connect
 pub mod Deliver
+pub mod Disposition
 pub mod Inside
 pub mod Law
 pub mod Lending

@@ -1,14 +1,16 @@
 //! What arrives.
-ghost use Rattle.std.specs.Prelude.{◌≡◌, ◌≢◌, ℕ, ◌<◌, length, slice_get, Some};
+ghost use Rattle.std.specs.Prelude.{◌≡◌, ◌≢◌, ℕ, ◌<◌, [], ◌∷◌, length, slice_get, Some};
 ghost use Rattle.chaos_conn.specs.declared.state.State.{State};
 ghost use Rattle.chaos_host.specs.declared.answers.HostDelivered.{HostDelivered};
+ghost use Rattle.chaos_host.specs.declared.answers.HostDisposition.{HostDisposition};
+ghost use Rattle.chaos_host.specs.Disposition.{host_with_packet};
 ghost use Rattle.chaos_host.specs.Slot.{named_state};
-ghost use Rattle.chaos_packet.specs.Outbox.{room_of};
+ghost use Rattle.chaos_packet.specs.Outbox.{room_of, with_put};
 ghost use Rattle.chaos_host.specs.Acted.{HostDoes};
 ghost use Rattle.chaos_host.specs.Route.{IsRouted, IsRequest};
-ghost use Rattle.chaos_host.specs.Deliver.{host_deliver, deliver_by, deliver_slot, take_request_slot};
+ghost use Rattle.chaos_host.specs.Deliver.{host_deliver, deliver_by, deliver_slot, take_request_slot, no_server, table_full, los_packet};
 
-use crate::answers::HostDelivered;
+use crate::answers::{HostDelivered, HostDisposition};
 use crate::host::Host;
 use crate::replies::los_packet;
 use crate::route::Route;
@@ -38,36 +40,74 @@ impl Host {
         // A request that is told as taken is held by the connection with that index.
         ensures holds { (id : ℕ) → result ≡ HostDelivered.Requested id → named_state self.new.slots id ≡ Some State.RfcReceived }
     {
+        self.take(packet, now, out).with_packet(packet)
+    }
+
+    /// Takes a packet as `deliver` does, and hands no packet out: the caller has it.
+    pub fn take(&mut self, packet: &Packet, now: u64, out: &mut Outbox) -> HostDisposition
+        requires { 0 < room_of out.old }
+        ensures does { HostDoes self.old 1 (host_deliver self.old packet.now now) self.new out.old out.new (host_with_packet result packet.now) }
+        // A request that is told as taken is held by the connection with that index.
+        ensures holds { (id : ℕ) → result ≡ HostDisposition.Requested id → named_state self.new.slots id ≡ Some State.RfcReceived }
+    {
         let route = self.route(packet);
         self.follow(route, packet, now, out)
     }
 
     /// Takes a packet where its route leads.
-    fn follow(&mut self, route: Route, packet: &Packet, now: u64, out: &mut Outbox) -> HostDelivered
+    fn follow(
+        &mut self,
+        route: Route,
+        packet: &Packet,
+        now: u64,
+        out: &mut Outbox,
+    ) -> HostDisposition
         requires sound { IsRouted self.old packet.now route }
         requires room { 0 < room_of out.old }
-        ensures does { HostDoes self.old 1 (deliver_by self.old packet.now now route) self.new out.old out.new result }
-        ensures holds { (id : ℕ) → result ≡ HostDelivered.Requested id → named_state self.new.slots id ≡ Some State.RfcReceived }
+        ensures does { HostDoes self.old 1 (deliver_by self.old packet.now now route) self.new out.old out.new (host_with_packet result packet.now) }
+        ensures holds { (id : ℕ) → result ≡ HostDisposition.Requested id → named_state self.new.slots id ≡ Some State.RfcReceived }
     {
         match route {
-            Route::NotOurs => HostDelivered::Dropped(Why::NotOurs),
-            Route::NoSource => HostDelivered::Dropped(Why::NoSource),
+            Route::NotOurs => HostDisposition::Dropped(Why::NotOurs),
+            Route::NoSource => HostDisposition::Dropped(Why::NoSource),
             Route::Slot(place) => self.deliver_to(place, packet, now, out),
-            Route::NoServer => {
-                out.put(self.no_server(packet));
-                HostDelivered::NoServer
-            }
-            Route::TableFull => {
-                out.put(self.table_full(packet));
-                HostDelivered::TableFull
-            }
+            Route::NoServer => self.refuse_no_server(packet, out),
+            Route::TableFull => self.refuse_table_full(packet, out),
             Route::Request(place) => self.take_request(place, packet, now, out),
-            Route::SendLos => {
-                out.put(los_packet(packet));
-                HostDelivered::NoConnection
-            }
-            Route::DropSilently => HostDelivered::Dropped(Why::NoConn),
+            Route::SendLos => self.tell_lost(packet, out),
+            Route::DropSilently => HostDisposition::Dropped(Why::NoConn),
         }
+    }
+
+    /// Refuses a request for a contact that nobody listens to. Replies are made in functions of their own, so that the way of a
+    /// packet to its connection has no room for one.
+    fn refuse_no_server(&self, packet: &Packet, out: &mut Outbox) -> HostDisposition
+        requires { 0 < room_of out.old }
+        ensures put { out.new ≡ with_put out.old (no_server self.now packet.now ∷ []) }
+        ensures told { result ≡ HostDisposition.NoServer }
+    {
+        out.put(self.no_server(packet));
+        HostDisposition::NoServer
+    }
+
+    /// Refuses a request for which no slot is free.
+    fn refuse_table_full(&self, packet: &Packet, out: &mut Outbox) -> HostDisposition
+        requires { 0 < room_of out.old }
+        ensures put { out.new ≡ with_put out.old (table_full self.now packet.now ∷ []) }
+        ensures told { result ≡ HostDisposition.TableFull }
+    {
+        out.put(self.table_full(packet));
+        HostDisposition::TableFull
+    }
+
+    /// Tells that there is no such connection.
+    fn tell_lost(&self, packet: &Packet, out: &mut Outbox) -> HostDisposition
+        requires { 0 < room_of out.old }
+        ensures put { out.new ≡ with_put out.old (los_packet packet.now ∷ []) }
+        ensures told { result ≡ HostDisposition.NoConnection }
+    {
+        out.put(los_packet(packet));
+        HostDisposition::NoConnection
     }
 
     /// The connection in a slot gets a packet.
@@ -77,14 +117,14 @@ impl Host {
         packet: &Packet,
         now: u64,
         out: &mut Outbox,
-    ) -> HostDelivered
+    ) -> HostDisposition
         requires within { place < length self.old.slots }
         requires room { 0 < room_of out.old }
-        ensures does { HostDoes self.old 1 (deliver_slot self.old packet.now now place (slice_get self.old.slots place)) self.new out.old out.new result }
-        ensures not_new { (id : ℕ) → result ≢ HostDelivered.Requested id }
+        ensures does { HostDoes self.old 1 (deliver_slot self.old packet.now now place (slice_get self.old.slots place)) self.new out.old out.new (host_with_packet result packet.now) }
+        ensures not_new { (id : ℕ) → result ≢ HostDisposition.Requested id }
     {
         let id = index_at(&self.slots, place);
-        HostDelivered::At(id, self.slots[place].conn.deliver(packet, now, out))
+        HostDisposition::At(id, self.slots[place].conn.take(packet, now, out))
     }
 
     /// The connection in a free slot takes a request.
@@ -94,14 +134,14 @@ impl Host {
         packet: &Packet,
         now: u64,
         out: &mut Outbox,
-    ) -> HostDelivered
+    ) -> HostDisposition
         requires { IsRequest self.old packet.now place }
-        ensures does { HostDoes self.old 1 (take_request_slot self.old packet.now now place (slice_get self.old.slots place)) self.new out.old out.new result }
-        ensures holds { (id : ℕ) → result ≡ HostDelivered.Requested id → named_state self.new.slots id ≡ Some State.RfcReceived }
+        ensures does { HostDoes self.old 1 (take_request_slot self.old packet.now now place (slice_get self.old.slots place)) self.new out.old out.new (host_with_packet result packet.now) }
+        ensures holds { (id : ℕ) → result ≡ HostDisposition.Requested id → named_state self.new.slots id ≡ Some State.RfcReceived }
     {
         let id = index_at(&self.slots, place);
         let me = id.end_at(self.address);
         let _ = self.slots[place].conn.take_request(packet, me, now);
-        HostDelivered::Requested(id)
+        HostDisposition::Requested(id)
     }
 }

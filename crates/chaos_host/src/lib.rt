@@ -24,7 +24,7 @@ mod slots;
 mod stored;
 mod tick;
 
-pub use answers::HostDelivered;
+pub use answers::{HostDelivered, HostDisposition};
 pub use fault::{CallFault, ConnectFault, ListenFault, MakeFault};
 pub use host::Host;
 pub use index::ConnId;

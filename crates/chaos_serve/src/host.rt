@@ -1,15 +1,16 @@
 //! FILE over one of a host's connections.
-ghost use Rattle.std.specs.Prelude.{◌≡◌, ◌≤◌, option_map};
+ghost use Rattle.std.specs.Prelude.{◌≡◌, ◌≤◌, option_map, true, Some};
 ghost use Rattle.chaos_packet.specs.Outbox.{room_of};
 ghost use Rattle.chaos_file.specs.Store.{change};
 ghost use Rattle.chaos_host.specs.Acted.{HostDoes};
 ghost use Rattle.chaos_serve.specs.Calls.{DoesWorkByCalls, after_eof_at, after_reply_at, work_at};
 ghost use Rattle.chaos_serve.specs.Host.{ServesOne};
 ghost use Rattle.chaos_serve.specs.Task.{work_in};
+ghost use Rattle.chaos_serve.specs.Work.{Nothing};
 
 use crate::served::Served;
 use crate::task::{Task, task_by};
-use chaos_file::{Session, Store};
+use chaos_file::{Reply, Session, Store};
 use chaos_host::{ConnId, Host};
 use chaos_packet::{Opcode, Outbox};
 use std::alloc::Global;
@@ -50,8 +51,39 @@ fn finish_at(host: &mut Host, id: ConnId, out: &mut Outbox) -> Served
     Served::Eof
 }
 
-/// Serves the item in front of a connection, by calls of the host.
+/// Whether nothing is in front of a connection that is open.
+fn is_idle(host: &Host, id: ConnId) -> bool
+    ensures { result ≡ true → work_at host.now id ≡ Some Nothing }
+{
+    match task_at(host, id) {
+        Some(Task::Nothing) => true,
+        _ => false,
+    }
+}
+
+/// Serves the item in front of a connection, by calls of the host. One that has none is passed over before there is room for a
+/// reply.
 fn serve_by_calls<S: Store>(
+    alloc: Global,
+    host: &mut Host,
+    id: ConnId,
+    session: &mut Session,
+    store: &mut S,
+    now: u64,
+    out: &mut Outbox,
+) -> Served
+    requires { 2 ≤ room_of out.old }
+    ensures { DoesWorkByCalls (change S.contents S.may_give S.count store.old store.new) session.old session.new
+        (λ acted. HostDoes host.old 2 acted host.new out.old out.new result) host.old id now (work_at host.old id) }
+{
+    if is_idle(host, id) {
+        return Served::Idle;
+    }
+    serve_item(alloc, host, id, session, store, now, out)
+}
+
+/// Does what is to be done at a connection, by calls of the host.
+fn serve_item<S: Store>(
     alloc: Global,
     host: &mut Host,
     id: ConnId,
@@ -73,7 +105,8 @@ fn serve_by_calls<S: Store>(
         Task::Full => Served::NoRoom,
         Task::LastItem => finish_at(host, id, out),
         Task::Command(body) => {
-            let reply = session.apply(alloc, store, body);
+            let mut reply = Reply::new();
+            session.apply_into(alloc, store, body, &mut reply);
             answer_at(host, id, reply.as_slice(), now, out)
         }
     }

@@ -8,6 +8,7 @@ mod arrival;
 mod limits;
 mod receive;
 mod send;
+mod slot;
 mod slots;
 
 pub use arrival::Arrived;

@@ -118,7 +118,7 @@ impl RecvWindow {
     pub fn front(&self) -> Option<&Item>
         ensures { option_copied result ≡ item_at self.now 1 }
     {
-        self.held_at(1)
+        self.slots.first()
     }
 
     /// Reads the next item, where it is held, and hands it out.

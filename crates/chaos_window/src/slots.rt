@@ -1,10 +1,11 @@
 //! The slots of a receive window.
-ghost use Rattle.std.specs.Prelude.{◌≡◌, ◌≤◌, ◌<◌, [], length, replicate, slice_set, count_by, is_some, is_none, if◌then◌else◌, Some, None, IfOk, IfNone, OnSome};
+ghost use Rattle.std.specs.Prelude.{◌≡◌, ◌≤◌, ◌<◌, [], length, replicate, slice_set, count_by, is_some, is_none, if◌then◌else◌, Some, None, IfOk, OnOk, IfNone, OnSome};
 ghost use Rattle.std.specs.List.{prefix_len};
 ghost use Rattle.std.specs.Option.{option_copied};
 ghost use Rattle.chaos_window.specs.Slots.{slot_at, with_item_at, lowered_slots};
 
 use crate::limits::MAX_WINDOW;
+use crate::slot::Slot;
 use chaos_packet::{Item, MAX_DATA, Opcode};
 use circular_buffer::HeapCircularBuffer;
 use std::alloc::{AllocError, Global};
@@ -12,23 +13,27 @@ use std::marker::Model;
 
 /// A number of slots, each with an item or none. A contract sees the slots, the first one at offset 1.
 ///
-/// A ring that is always full, of optional items: `new` takes the memory for an item in each slot, and no later call takes
-/// any. No item moves from one slot to another.
+/// A ring that is always full: `new` takes the memory for an item in each slot, and no later call takes any. A slot that is
+/// read goes behind the others with its memory, so no item moves.
 #[derive(Drop)]
 pub struct Slots {
-    ring: HeapCircularBuffer<Option<Item>>,
+    /// Whether there is an item at offset 1: who asks that of many windows need not look at their rings.
+    has_first: bool,
+    ring: HeapCircularBuffer<Slot>,
 }
 
 impl Model for Slots {
-    ghost use Rattle.std.specs.Prelude.{◌≤◌, ◌≡◌, length, List, Option};
+    ghost use Rattle.std.specs.Prelude.{◌≤◌, ◌≡◌, length, List, Option, is_some};
     ghost use Rattle.chaos_packet.specs.Item.{ItemView};
+    ghost use Rattle.chaos_window.specs.Slots.{slot_at};
     ghost use Rattle.chaos_window.specs.declared.limits.TheConstants.{MAX_WINDOW};
 
     ghost Value = { List (Option ItemView) };
 
     ghost view = { λ s. s.ring.items };
 
-    ghost invariant = { λ s. (1 ≤ s.ring.capacity) × (s.ring.capacity ≤ MAX_WINDOW) × (length s.ring.items ≡ s.ring.capacity) };
+    ghost invariant = { λ s. (1 ≤ s.ring.capacity) × (s.ring.capacity ≤ MAX_WINDOW) × (length s.ring.items ≡ s.ring.capacity)
+        × (s.has_first ≡ is_some (slot_at s.ring.items 1)) };
 }
 
 impl Slots {
@@ -38,8 +43,11 @@ impl Slots {
         ensures { IfOk result (λ slots. slots ≡ replicate cap None) }
     {
         let mut ring = HeapCircularBuffer::with_capacity(alloc, cap as usize)?;
-        add_empty(&mut ring, cap as usize);
-        Ok(Slots { ring })
+        add_empty(alloc, &mut ring, cap as usize)?;
+        Ok(Slots {
+            has_first: false,
+            ring,
+        })
     }
 
     /// How many slots there are.
@@ -57,7 +65,14 @@ impl Slots {
         if offset == 0 {
             return None;
         }
-        self.ring.get(offset as usize - 1)?.as_ref()
+        self.ring.get(offset as usize - 1)?.get()
+    }
+
+    /// Lends the item at offset 1.
+    pub fn first(&self) -> Option<&Item>
+        ensures { option_copied result ≡ slot_at self.now 1 }
+    {
+        if self.has_first { self.get(1) } else { None }
     }
 
     /// Puts an item at an offset.
@@ -66,6 +81,7 @@ impl Slots {
         ensures { self.new ≡ with_item_at self.old offset item }
     {
         set_slot(&mut self.ring, offset as usize - 1, item);
+        self.has_first = has_first(&self.ring);
     }
 
     /// Puts an item with a copy of these bytes at an offset.
@@ -75,6 +91,7 @@ impl Slots {
         ensures { self.new ≡ with_item_at self.old offset (record { op = op; body = bytes.now }) }
     {
         fill_slot(&mut self.ring, offset as usize - 1, op, bytes);
+        self.has_first = has_first(&self.ring);
     }
 
     /// Takes the item at offset 1 out, where there is one, and lowers the offsets of the others by one.
@@ -83,11 +100,13 @@ impl Slots {
         ensures none { IfNone result (self.new ≡ self.old) }
         ensures lowered { OnSome result (self.new ≡ lowered_slots self.old) }
     {
-        if self.get(1).is_none() {
+        if !self.has_first {
             return None;
         }
-        let item = self.ring.pop_front()?;
-        let _ = self.ring.push_back(None);
+        let mut slot = self.ring.pop_front()?;
+        let item = slot.take();
+        let _ = self.ring.push_back(slot);
+        self.has_first = has_first(&self.ring);
         item
     }
 
@@ -97,11 +116,11 @@ impl Slots {
         ensures held { result ≡ is_some (slot_at self.old 1) }
         ensures slots { self.new ≡ (if result then lowered_slots self.old else self.old) }
     {
-        if self.get(1).is_none() {
+        if !self.has_first {
             return false;
         }
-        self.ring.truncate_front(self.ring.len() - 1);
-        let _ = self.ring.push_back(None);
+        lower(&mut self.ring);
+        self.has_first = has_first(&self.ring);
         true
     }
 
@@ -121,61 +140,97 @@ impl Slots {
         ensures count { result ≡ count_by is_some self.now }
         ensures fits { result ≤ length self.now }
     {
-        self.ring.iter().filter(|slot| slot.is_some()).count()
+        self.ring.iter().filter(|slot| slot.is_held()).count()
     }
 
     /// Drops every item.
     pub fn clear(&mut self)
         ensures { self.new ≡ replicate (length self.old) None }
     {
-        let cap = self.ring.capacity();
-        self.ring.clear();
-        add_empty(&mut self.ring, cap);
+        empty_all(&mut self.ring);
+        self.has_first = false;
     }
 }
 
 /// Fills an empty ring with empty slots.
-fn add_empty(slots: &mut HeapCircularBuffer<Option<Item>>, count: usize)
+fn add_empty(
+    alloc: Global,
+    slots: &mut HeapCircularBuffer<Slot>,
+    count: usize,
+) -> Result<(), AllocError>
     requires room { slots.old.capacity ≡ count }
     requires empty { slots.old.items ≡ [] }
-    ensures items { slots.new.items ≡ replicate count None }
+    ensures items { OnOk result (slots.new.items ≡ replicate count None) }
     ensures capacity { slots.new.capacity ≡ count }
 {
     for i in 0..count {
-        let _ = slots.push_back(None);
+        let _ = slots.push_back(Slot::new(alloc)?);
+    }
+    Ok(())
+}
+
+/// Whether there is an item in the first slot.
+fn has_first(slots: &HeapCircularBuffer<Slot>) -> bool
+    ensures { result ≡ is_some (slot_at slots.now.items 1) }
+{
+    match slots.front() {
+        Some(slot) => slot.is_held(),
+        None => false,
     }
 }
 
-/// Puts an item with a copy of these bytes into a slot.
-///
-/// An item is put there empty and gets its bytes where it lies, so that none is moved.
-fn fill_slot(slots: &mut HeapCircularBuffer<Option<Item>>, index: usize, op: Opcode, bytes: &[u8])
+/// Holds an item with a copy of these bytes in a slot.
+fn fill_slot(slots: &mut HeapCircularBuffer<Slot>, index: usize, op: Opcode, bytes: &[u8])
     requires within { index < length slots.old.items }
     requires fits { length bytes.now ≤ MAX_DATA }
     ensures items { slots.new.items ≡ slice_set slots.old.items index (Some (record { op = op; body = bytes.now })) }
     ensures capacity { slots.new.capacity ≡ slots.old.capacity }
 {
     if let Some(slot) = slots.get_mut(index) {
-        let item = slot.insert(Item::new(op, &[]));
-        let _fits = item.body.try_extend_from_slice(bytes);
+        slot.fill(op, bytes);
     }
 }
 
-/// Puts an item into a slot.
-fn set_slot(slots: &mut HeapCircularBuffer<Option<Item>>, index: usize, item: Item)
+/// Holds an item in a slot.
+fn set_slot(slots: &mut HeapCircularBuffer<Slot>, index: usize, item: Item)
     requires { index < length slots.old.items }
     ensures items { slots.new.items ≡ slice_set slots.old.items index (Some item) }
     ensures capacity { slots.new.capacity ≡ slots.old.capacity }
 {
     if let Some(slot) = slots.get_mut(index) {
-        *slot = Some(item);
+        slot.put(item);
+    }
+}
+
+/// Empties the first slot of a full ring, which goes behind the others.
+fn lower(slots: &mut HeapCircularBuffer<Slot>)
+    requires full { length slots.old.items ≡ slots.old.capacity }
+    requires some { 0 < slots.old.capacity }
+    ensures items { slots.new.items ≡ lowered_slots slots.old.items }
+    ensures capacity { slots.new.capacity ≡ slots.old.capacity }
+{
+    if let Some(mut slot) = slots.pop_front() {
+        slot.empty();
+        let _ = slots.push_back(slot);
+    }
+}
+
+/// Empties every slot of a full ring.
+#[tactic(auto, using(crate::proofs::Lowered::lowered))]
+fn empty_all(slots: &mut HeapCircularBuffer<Slot>)
+    requires { length slots.old.items ≡ slots.old.capacity }
+    ensures items { slots.new.items ≡ replicate (length slots.old.items) None }
+    ensures capacity { slots.new.capacity ≡ slots.old.capacity }
+{
+    for i in 0..slots.len() {
+        lower(slots);
     }
 }
 
 /// How many slots from the front on are not empty.
-fn front_len(slots: &HeapCircularBuffer<Option<Item>>) -> usize
+fn front_len(slots: &HeapCircularBuffer<Slot>) -> usize
     ensures count { result ≡ prefix_len is_some slots.now.items }
     ensures fits { result ≤ length slots.now.items }
 {
-    slots.iter().take_while(|slot| slot.is_some()).count()
+    slots.iter().take_while(|slot| slot.is_held()).count()
 }

@@ -2,7 +2,7 @@
 use Rattle.std.proofs.Common.{◌≡◌}
 use Rattle.chaos_file.specs.Views.{parsed_view}
 use Rattle.chaos_file.proofs.Apply.{is_applied, refused_short, front_to}
-use Rattle.chaos_file.proofs.session.Session.apply.Goals as goal
+use Rattle.chaos_file.proofs.session.Session.apply_into.Goals as goal
 
 pub end-requires : goal.end-requires
 end-requires g c = refused_short _ _ _ _ _ _ c.begin.ensures.room c.act-done.result _ c.act-done.ensures
