@@ -97,7 +97,7 @@ impl<A: Link, B: Link> Turns for Both<'_, A, B> {
 /// which keeps its files in memory. What is sent over one link is to be received from the other.
 ///
 /// Each line of the script is a command. It is sent where the one before it got its reply, and its reply is printed and handed on to
-/// the writer before another line is read, so that somebody who types commands sees each reply at once. A command waits for its
+/// the writer before more of the script is read, so that somebody who types commands sees each reply at once. A command waits for its
 /// reply, and before that for the connection to open and to have room, 1,000 turns at most; a turn is one of the client and then
 /// one of the server, and moments are turns times 10 milliseconds. Where a command gets no reply, also since the connection ended,
 /// `no reply` is printed and the run ends. Behind the last command an EOF is sent, which waits 100 turns at most to be
