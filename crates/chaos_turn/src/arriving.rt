@@ -1,23 +1,24 @@
 //! What the datagram that came makes of a host.
 ghost use Rattle.std.specs.Prelude.{◌≡◌, ◌≤◌, [], Some};
 ghost use Rattle.chaos_host.specs.Deliver.{host_deliver};
+ghost use Rattle.chaos_host.specs.Disposition.{host_with_packet};
 ghost use Rattle.chaos_turn.specs.Phase.{DoesPhase, over_packets};
 ghost use Rattle.chaos_turn.specs.Arrive.{accept_by, arrive_at_client, arrive_at_server, deliver_effect, greet, request_in, told_after, told_at_client};
 ghost use Rattle.chaos_turn.specs.Station.{station};
 
 use crate::limits::TURN_ROOM;
 use crate::sending::send_all;
-use chaos_host::{ConnId, Host, HostDelivered};
+use chaos_host::{ConnId, Host, HostDelivered, HostDisposition};
 use chaos_link::{Carriage, Link, LinkFault, Packets};
 use chaos_packet::{Outbox, Packet, PktNum};
 use chaos_serve::CONTACT;
 
 /// The new connection of a request for FILE.
-fn request_in(packet: &Packet, delivered: HostDelivered) -> Option<ConnId>
-    ensures { result ≡ request_in packet.now delivered }
+fn request_in(packet: &Packet, became: HostDisposition) -> Option<ConnId>
+    ensures { result ≡ request_in packet.now (host_with_packet became packet.now) }
 {
-    match delivered {
-        HostDelivered::Requested(id) if packet.contact() == CONTACT => Some(id),
+    match became {
+        HostDisposition::Requested(id) if packet.contact() == CONTACT => Some(id),
         _ => None,
     }
 }
@@ -59,11 +60,11 @@ fn greet<L: Link>(
     requires empty { out.old.packets ≡ [] }
     ensures { DoesPhase carriage (greet start now packet.now host.old) (station host.old (L.queue link.old) out.old) (station host.new (L.queue link.new) out.new) result }
 {
-    let delivered = host.deliver(packet, now, out);
+    let became = host.take(packet, now, out);
     let sent = send_all(link, out, carriage);
     accept(
         host,
-        request_in(packet, delivered),
+        request_in(packet, became),
         link,
         start,
         now,
