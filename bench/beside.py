@@ -4,11 +4,13 @@
 Each bench is two programs that print the same lines, `what operations nanoseconds`, and where they have one what all came to,
 which has to be the same: bench/NAME.rt.in over copies of the crates,
 proved and built by rt (another by RT=..) in a folder of its own, and bench/plain_NAME.rs, built by rustc. Both are run ten times,
-in turn, and each figure is the least. It takes some minutes, most of them for the proofs.
+in turn, and each figure is the least. Where valgrind is there, the instructions of a whole run are counted too, which don't vary
+with what else the machine does. It takes some minutes, most of them for the proofs.
 """
 
 import os
 import pathlib
+import re
 import shutil
 import subprocess
 import sys
@@ -83,6 +85,23 @@ def figures(program):
     return {(what, int(count), *sums): int(spent) / int(count) for what, count, spent, *sums in rows}
 
 
+def instructions(program):
+    """How many instructions a run takes, as valgrind counts them."""
+    count = ["valgrind", "--tool=callgrind", "--callgrind-out-file=/dev/null", program]
+    told = subprocess.run(count, capture_output=True, text=True, check=True).stderr
+    return int(re.search(r"Collected : (\d+)", told).group(1))
+
+
+def count_both(name, programs):
+    """Prints what both programs take in instructions, or that none were counted."""
+    if not shutil.which("valgrind"):
+        print(f"{name}: instructions aren't counted: no valgrind here", flush=True)
+        return
+    ours, plain = (instructions(programs[kind]) for kind in ("chaos", "plain"))
+    both = f"{ours / 1e6:.0f} million instructions, plain Rust {plain / 1e6:.0f} million"
+    print(f"{name}: the whole run: {both}, ratio {ours / plain:.2f}", flush=True)
+
+
 def bench(name):
     """Runs both programs in turn, and prints a line for each figure."""
     with tempfile.TemporaryDirectory() as folder:
@@ -97,6 +116,7 @@ def bench(name):
         for key in keys:
             ours, plain = best["chaos", key], best["plain", key]
             print(f"{name}: {key[0].replace('_', ' ')}: {ours:.1f} ns, plain Rust {plain:.1f} ns, ratio {ours / plain:.2f}", flush=True)
+        count_both(name, programs)
 
 
 def main():
