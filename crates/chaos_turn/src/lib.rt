@@ -15,8 +15,6 @@ mod receiving;
 mod sending;
 mod serving;
 mod sessions;
-#[cfg(test)]
-mod tests;
 mod ticking;
 mod turn;
 mod waiting;

@@ -2,10 +2,10 @@
 use super::links::Crossing;
 use super::login::{opens, writes};
 use super::turns::{Station, asks, asks_at, made, received, request, serves};
-use crate::TurnEnd;
 use chaos_host::HostDelivered;
 use chaos_link::{Carriage, LINK_ROOM, Link, MemLink, Received, fits, read_datagram, to_datagram2};
 use chaos_packet::{Opcode, Packet, PktNum};
+use chaos_turn::TurnEnd;
 use std::alloc::AllocGlobal;
 use std::process::Abort;
 use std::test::Fail;

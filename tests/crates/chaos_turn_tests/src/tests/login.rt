@@ -1,11 +1,11 @@
 //! What a client's host asks of a server's: a command and its reply, and a request that is refused.
 use super::links::Crossing;
 use super::turns::{Station, asks, made, serves};
-use crate::TurnEnd;
 use chaos_conn::{Delivered, State};
 use chaos_host::{ConnId, HostDelivered};
 use chaos_link::Carriage;
 use chaos_packet::{Opcode, PktNum};
+use chaos_turn::TurnEnd;
 use std::alloc::AllocGlobal;
 use std::process::Abort;
 use std::test::Fail;

@@ -1,6 +1,5 @@
 //! Single turns.
 use super::links::Broken;
-use crate::{Sessions, TURN_ROOM, TurnEnd, client_turn, run_turn};
 use chaos_conn::ConnConfig;
 use chaos_file::MemStore;
 use chaos_host::{Host, HostDelivered};
@@ -8,6 +7,7 @@ use chaos_link::{
     Carriage, FuseLink, LINK_ROOM, Link, MemLink, Received, from_datagram, to_datagram,
 };
 use chaos_packet::{Item, Opcode, Outbox, Packet, PktNum};
+use chaos_turn::{Sessions, TURN_ROOM, TurnEnd, client_turn, run_turn};
 use std::alloc::{AllocGlobal, Global};
 use std::process::Abort;
 use std::test::Fail;
