@@ -42,6 +42,10 @@ impl Model for ConnConfig {
 
 impl ConnConfig {
     /// A configuration of these windows and times, or the first of its faults.
+    ///
+    /// Give both windows the same size, at both ends of a connection, or the receive window at most three times what the
+    /// peer sends at most: a reader that sends nothing tells what it read when that is a third of its own window, so a
+    /// sender whose window is smaller than that third waits each time until what it keeps is sent again.
     pub fn new(
         send_cap: u16,
         recv_cap: u16,
