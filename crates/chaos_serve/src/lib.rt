@@ -13,8 +13,6 @@ mod host;
 mod law;
 mod served;
 mod task;
-#[cfg(test)]
-mod tests;
 
 pub use conn::serve_conn;
 pub use contact::CONTACT;

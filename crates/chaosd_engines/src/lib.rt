@@ -13,8 +13,6 @@ mod lines;
 mod reader;
 mod show;
 mod status;
-#[cfg(test)]
-mod tests;
 mod texts;
 
 pub use buffer::{NotWritten, WriteBuffer};

@@ -8,7 +8,5 @@ mod answers;
 mod command;
 mod run;
 mod stage;
-#[cfg(test)]
-mod tests;
 
 pub use run::run_filelab;

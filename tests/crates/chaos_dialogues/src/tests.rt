@@ -1,21 +1,24 @@
-//! Dialogues from named states. `outbox`, `packets`, `side` and `station` are the harness; each other module has the dialogues
-//! of one subject.
+//! Dialogues from named states, as text: a line says who does what, and what is seen of it, in the words of the memo. `scene` plays
+//! them, and no other code is the harness's but `line`, `names`, `packets`, `side` and `station`; each other module has the
+//! dialogues of one subject.
 //!
-//! The calls of the harness assert within themselves and promise nothing: so a dialogue is proved in a second or two,
-//! whatever the calls that it makes promise.
+//! A dialogue is a text, so that a reader needs no code to follow it.
 mod arriving;
 mod floods;
 mod host_calls;
 mod host_opcodes;
 mod host_requests;
 mod host_rows;
+mod line;
+mod names;
 mod opcodes;
 mod opening;
-mod outbox;
 mod packets;
+mod scene;
 mod side;
 mod station;
 mod streams;
 mod time;
 mod user;
 mod windows;
+mod wrong_lines;

@@ -1,151 +1,188 @@
-use super::packets::{PEER, data, packet, status};
-use super::side::{item, open, rfc_sent, windows};
-use chaos_conn::{ConnConfig, Delivered, ReadEnd, State, Ticked, Why};
-use chaos_packet::Opcode;
+//! Packets that come to an end.
+use super::scene::play;
 use std::test::Fail;
 
 #[test]
 fn duplicate_sends_status(rt: HostRuntime) -> Result<(), Fail> {
-    let mut side = open(&rt, rt.alloc(), windows(13, 3)?, 7, 65535)?;
-    for num in [2u16, 0, 1] {
-        side.gets(&rt, &data(num, 7), Delivered::Took);
-    }
-    side.is_quiet(&rt);
-    for ack in [0u16, 1, 2] {
-        side.reads(&rt, item(b'd'));
-        side.sends_status(&rt, 2, ack);
-    }
-    side.gets(&rt, &data(0, 7), Delivered::Duplicate);
-    side.sends_status(&rt, 2, 2);
-    side.reads(&rt, ReadEnd::Nothing);
-    side.is_quiet(&rt);
-    Ok(())
+    play(
+        rt.alloc(),
+        "
+        a has windows 13 and 3
+        a asked with 7
+        a is opened with 65535 ack 7
+        a gets DAT 2 ack 7 \"d\" -> Took
+        a gets DAT 0 ack 7 \"d\" -> Took
+        a gets DAT 1 ack 7 \"d\" -> Took
+        a sends nothing
+        a reads DAT \"d\"
+        a sends STS 0 ack 0 receipt 2 window 3
+        a reads DAT \"d\"
+        a sends STS 0 ack 1 receipt 2 window 3
+        a reads DAT \"d\"
+        a sends STS 0 ack 2 receipt 2 window 3
+        a gets DAT 0 ack 7 \"d\" -> Duplicate
+        a sends STS 0 ack 2 receipt 2 window 3
+        a reads nothing
+        a sends nothing
+        ",
+    )
 }
 
 #[test]
 fn outside_sends_status(rt: HostRuntime) -> Result<(), Fail> {
-    let mut side = open(&rt, rt.alloc(), windows(13, 3)?, 7, 65535)?;
-    side.gets(&rt, &data(3, 7), Delivered::Outside);
-    side.sends_status(&rt, 65535, 65535);
-    side.is_quiet(&rt);
-    side.shows(&rt, State::Open, (0, 0));
-    Ok(())
+    play(
+        rt.alloc(),
+        "
+        a has windows 13 and 3
+        a asked with 7
+        a is opened with 65535 ack 7
+        a gets DAT 3 ack 7 \"d\" -> Outside
+        a sends STS 0 ack 65535 receipt 65535 window 3
+        a sends nothing
+        a is Open with 0 packets and 0 bytes
+        ",
+    )
 }
 
 #[test]
 fn early_item_raises_no_receipt_and_eof_has_no_bytes(rt: HostRuntime) -> Result<(), Fail> {
-    let mut side = open(&rt, rt.alloc(), windows(13, 3)?, 7, 65535)?;
-    side.gets(&rt, &packet(Opcode::EOF, 1, 7, b"ignored"), Delivered::Took);
-    side.shows(&rt, State::Open, (1, 16));
-    side.gets(&rt, &packet(Opcode::SNS, 0, 7, b""), Delivered::Probed);
-    side.sends_status(&rt, 65535, 65535);
-    side.gives_all_back(&rt);
-    Ok(())
+    play(
+        rt.alloc(),
+        "
+        a has windows 13 and 3
+        a asked with 7
+        a is opened with 65535 ack 7
+        a gets EOF 1 ack 7 \"ignored\" -> Took
+        a is Open with 1 packets and 16 bytes
+        a gets SNS 0 ack 7 -> Probed
+        a sends STS 0 ack 65535 receipt 65535 window 3
+        a gives all back
+        ",
+    )
 }
 
 #[test]
 fn opn_without_status_is_dropped_and_a_forward_still_ends_the_attempt(
     rt: HostRuntime,
 ) -> Result<(), Fail> {
-    let mut side = rfc_sent(&rt, rt.alloc(), ConnConfig::usual(), 7)?;
-    let opn = packet(Opcode::OPN, 100, 7, b"xy");
-    side.gets(&rt, &opn, Delivered::Dropped(Why::BadStatus));
-    side.shows(&rt, State::RfcSent, (1, 19));
-    side.is_quiet(&rt);
-    let fwd = packet(Opcode::FWD, 0, 0, b"ELSEWHERE");
-    side.gets(&rt, &fwd, Delivered::Forwarded(fwd.copy()));
-    assert!(rt; side.conn.state().is_ended());
-    side.reads(&rt, ReadEnd::Ended(State::Forwarded));
-    side.gives_all_back(&rt);
-    Ok(())
+    play(
+        rt.alloc(),
+        "
+        a asked with 7
+        a gets OPN 100 ack 7 \"xy\" -> BadStatus
+        a is RfcSent with 1 packets and 19 bytes
+        a sends nothing
+        a gets FWD 0 \"ELSEWHERE\" -> Forwarded
+        a is ended
+        a reads ended Forwarded
+        a gives all back
+        ",
+    )
 }
 
 #[test]
 fn acknowledgement_past_the_last_number_sent_counts_for_nothing(
     rt: HostRuntime,
 ) -> Result<(), Fail> {
-    let mut side = open(&rt, rt.alloc(), ConnConfig::usual(), 5, 100)?;
-    assert!(rt; side.conn.drained());
-    for num in [6u16, 7] {
-        side.writes(&rt, Opcode::DATA, b"d", Ok(num));
-        side.sends(&rt, Opcode::DATA, num, 100, b"d");
-    }
-    side.gets(&rt, &packet(Opcode::SNS, 0, 8, b""), Delivered::Probed);
-    side.sends_status(&rt, 100, 100);
-    side.is_quiet(&rt);
-    side.shows(&rt, State::Open, (2, 34));
-    // Two of 13 are outstanding.
-    side.has_room_for(&rt, 11);
-    side.gives_all_back(&rt);
-    Ok(())
+    // At the end two of 13 are outstanding.
+    play(
+        rt.alloc(),
+        "
+        a asked with 5
+        a is opened with 100 ack 5
+        a is drained
+        a writes DAT \"d\" -> 6
+        a sends DAT 6 ack 100 \"d\"
+        a writes DAT \"d\" -> 7
+        a sends DAT 7 ack 100 \"d\"
+        a gets SNS 0 ack 8 -> Probed
+        a sends STS 0 ack 100 receipt 100 window 13
+        a sends nothing
+        a is Open with 2 packets and 34 bytes
+        a fills with 11
+        a gives all back
+        ",
+    )
 }
 
 #[test]
 fn listen_packet_at_an_open_end_is_dropped(rt: HostRuntime) -> Result<(), Fail> {
-    let mut side = rfc_sent(&rt, rt.alloc(), ConnConfig::usual(), 5)?;
-    side.at(40);
-    side.opens(&rt, 5, 100);
-    side.at(50);
-    let lsn = packet(Opcode::LSN, 0, 0, b"FILE");
-    side.gets(&rt, &lsn, Delivered::Dropped(Why::BadOp));
-    // Its moment counts for nothing: the next call is at 45, and the peer was heard at 40.
-    side.at(45);
-    side.writes(&rt, Opcode::DATA, b"d", Ok(6));
-    side.sends(&rt, Opcode::DATA, 6, 100, b"d");
-    side.ticks(&rt, 544, Ticked::Quiet);
-    side.ticks(&rt, 545, Ticked::Resent(1));
-    side.sends(&rt, Opcode::DATA, 6, 100, b"d");
-    side.ticks(&rt, 90_040, Ticked::Down);
-    side.gives_all_back(&rt);
-    Ok(())
+    // The moment of the LSN counts for nothing: the next call is at 45, and the peer was heard at 40.
+    play(
+        rt.alloc(),
+        "
+        a asked with 5
+        a waits until 40
+        a is opened with 100 ack 5
+        a waits until 50
+        a gets LSN 0 \"FILE\" -> BadOp
+        a waits until 45
+        a writes DAT \"d\" -> 6
+        a sends DAT 6 ack 100 \"d\"
+        a ticks at 544 -> Quiet
+        a ticks at 545 -> Resent 1
+        a sends DAT 6 ack 100 \"d\"
+        a ticks at 90040 -> Down
+        a gives all back
+        ",
+    )
 }
 
 #[test]
 fn second_opn_tells_and_is_told_a_status(rt: HostRuntime) -> Result<(), Fail> {
-    let mut side = open(&rt, rt.alloc(), ConnConfig::usual(), 5, 100)?;
-    side.gets(&rt, &data(101, 5), Delivered::Took);
-    side.reads(&rt, item(b'd'));
-    let opn = status(Opcode::OPN, 100, 5, 5, 1);
-    side.gets(&rt, &opn, Delivered::Duplicate);
-    side.sends_status(&rt, 101, 101);
-    side.is_quiet(&rt);
-    side.has_room_for(&rt, 1);
-    side.gives_all_back(&rt);
-    Ok(())
+    play(
+        rt.alloc(),
+        "
+        a asked with 5
+        a is opened with 100 ack 5
+        a gets DAT 101 ack 5 \"d\" -> Took
+        a reads DAT \"d\"
+        a gets OPN 100 ack 5 receipt 5 window 1 -> Duplicate
+        a sends STS 0 ack 101 receipt 101 window 13
+        a sends nothing
+        a fills with 1
+        a gives all back
+        ",
+    )
 }
 
 #[test]
 fn strangers_and_ended_ends_drop_packets(rt: HostRuntime) -> Result<(), Fail> {
-    let mut side = open(&rt, rt.alloc(), ConnConfig::usual(), 5, 100)?;
-    let mut sense = packet(Opcode::SNS, 0, 5, b"");
-    sense.src_index = PEER.index + 1;
-    side.gets(&rt, &sense, Delivered::Dropped(Why::Stranger));
-    let cls = packet(Opcode::CLS, 0, 0, b"bye");
-    side.at(9);
-    side.gets(&rt, &cls, Delivered::Closed(cls.copy()));
-    side.shows(&rt, State::ClsReceived, (0, 0));
-    side.gets(&rt, &cls, Delivered::Dropped(Why::NotOpen));
-    assert_eq!(rt; side.conn.peer(), Some((PEER.address, Some(PEER.index))));
-    side.is_quiet(&rt);
-    Ok(())
+    play(
+        rt.alloc(),
+        "
+        a asked with 5
+        a is opened with 100 ack 5
+        a gets from 10 SNS 0 ack 5 -> Stranger
+        a waits until 9
+        a gets CLS 0 \"bye\" -> Closed
+        a is ClsReceived with 0 packets and 0 bytes
+        a gets CLS 0 \"bye\" -> NotOpen
+        a has peer 0o402 index 9
+        a sends nothing
+        ",
+    )
 }
 
 #[test]
 fn unknown_connection_is_lost_and_uncontrolled_data_is_handed_out(
     rt: HostRuntime,
 ) -> Result<(), Fail> {
-    let mut side = open(&rt, rt.alloc(), ConnConfig::usual(), 5, 100)?;
-    let unc = packet(Opcode::UNC, 0, 0, b"now");
-    side.at(3);
-    side.gets(&rt, &unc, Delivered::Unc(unc.copy()));
-    side.shows(&rt, State::Open, (0, 0));
-    // It was heard at moment 3.
-    side.ticks(&rt, 10_002, Ticked::Quiet);
-    side.ticks(&rt, 10_003, Ticked::Probed);
-    side.sends(&rt, Opcode::SNS, 0, 100, b"");
-    let los = packet(Opcode::LOS, 0, 0, b"No such connection.");
-    side.gets(&rt, &los, Delivered::Lost(los.copy()));
-    side.shows(&rt, State::LosReceived, (0, 0));
-    side.is_quiet(&rt);
-    Ok(())
+    // The peer was heard at moment 3.
+    play(
+        rt.alloc(),
+        "
+        a asked with 5
+        a is opened with 100 ack 5
+        a waits until 3
+        a gets UNC 0 \"now\" -> Unc
+        a is Open with 0 packets and 0 bytes
+        a ticks at 10002 -> Quiet
+        a ticks at 10003 -> Probed
+        a sends SNS 0 ack 100
+        a gets LOS 0 \"No such connection.\" -> Lost
+        a is LosReceived with 0 packets and 0 bytes
+        a sends nothing
+        ",
+    )
 }

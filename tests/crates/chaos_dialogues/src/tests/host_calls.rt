@@ -1,72 +1,75 @@
-use super::packets::{THERE, between};
-use super::station::{Call, listening};
-use chaos_conn::{ConnFault, Delivered, ReadEnd, State, Ticked};
-use chaos_host::{CallFault, ConnId, ConnectFault, HostDelivered};
-use chaos_packet::{Item, Opcode, PktNum};
+//! Calls of a host's user.
+use super::scene::play;
 use std::test::Fail;
 
 #[test]
 fn request_is_made_opened_and_closed(rt: HostRuntime) -> Result<(), Fail> {
-    let id = ConnId(1);
-    let mut station = listening(rt.alloc(), 2, 13)?;
-    station.connects(&rt, THERE, b"TIME", Ok(id));
-    assert_eq!(rt; station.host.id_of(0), Some(id));
-    station.is_in(&rt, 1, State::RfcSent);
-    station.sends(&rt, Opcode::RFC, 0, 1, b"TIME");
-    let opn = between(Opcode::OPN, 1, 9, 100, &[7, 0, 13, 0]);
-    station.gets(&rt, &opn, HostDelivered::At(id, Delivered::Opened));
-    station.sends(&rt, Opcode::STS, 9, 1, &[100, 0, 13, 0]);
-    assert_eq!(rt; station.host.can_write(id), Ok(true));
-    station.writes(&rt, 1, b"hello", Ok(PktNum(8)));
-    assert_eq!(rt; station.host.drained(id), Ok(false));
-    station.sends(&rt, Opcode::DATA, 9, 1, b"hello");
-    station.does(&rt, 1, Call::Unc(b"hello"), Ok(()));
-    station.sends(&rt, Opcode::UNC, 9, 1, b"hello");
-    station.does(&rt, 1, Call::Announce(5), Ok(()));
-    station.sends(&rt, Opcode::STS, 9, 1, &[100, 0, 5, 0]);
-    let over = CallFault::Refused(ConnFault::BadWindow);
-    station.does(&rt, 1, Call::Announce(14), Err(over));
-    assert_eq!(rt; station.host.announced(id), Ok(5));
-    station.does(&rt, 2, Call::Announce(1), Err(CallFault::NoSuchConnection));
-    station.ticks(&rt, 0, 500, Ticked::Resent(1));
-    station.sends(&rt, Opcode::DATA, 9, 1, b"hello");
-    let data = between(Opcode::DATA, 1, 9, 101, b"A");
-    station.gets(&rt, &data, HostDelivered::At(id, Delivered::Took));
-    let item = Item::new(Opcode::DATA, b"A");
-    assert_eq!(rt; station.host.front(id), Ok(Some(&item)));
-    station.reads(&rt, 1, Ok(ReadEnd::Item(item)));
-    station.does(&rt, 1, Call::Close(b"bye"), Ok(()));
-    station.sends(&rt, Opcode::CLS, 9, 1, b"bye");
-    station.ticks(&rt, 0, 500, Ticked::Quiet);
-    station.ticks(&rt, 2, 500, Ticked::Quiet);
-    station.stores(&rt, 0, 0);
-    station.is_quiet(&rt);
-    Ok(())
+    play(
+        rt.alloc(),
+        "
+        host at 0o401 with 2 connections of 13 -> made
+        host listens to \"FILE\" -> done
+        host asks 0o402 for \"TIME\" -> 1
+        host slot 0 has 1
+        host shows 1 in RfcSent
+        host sends RFC to 0 from 1 \"TIME\"
+        host gets OPN 100 receipt 7 window 13 -> Opened at 1
+        host sends STS to 9 from 1 receipt 100 window 13
+        host can write 1
+        host writes 1 \"hello\" -> 8
+        host has outstanding 1
+        host sends DAT to 9 from 1 \"hello\"
+        host says 1 \"hello\" -> done
+        host sends UNC to 9 from 1 \"hello\"
+        host announces 1 5 -> done
+        host sends STS to 9 from 1 receipt 100 window 5
+        host announces 1 14 -> BadWindow
+        host announced 1 -> 5
+        host announces 2 1 -> NoSuchConnection
+        host ticks 0 at 500 -> Resent 1
+        host sends DAT to 9 from 1 \"hello\"
+        host gets DAT 101 \"A\" -> Took at 1
+        host lends 1 DAT \"A\"
+        host reads 1 DAT \"A\"
+        host closes 1 \"bye\" -> done
+        host sends CLS to 9 from 1 \"bye\"
+        host ticks 0 at 500 -> Quiet
+        host ticks 2 at 500 -> Quiet
+        host stores 0 packets and 0 bytes
+        host sends nothing
+        ",
+    )
 }
 
 #[test]
 fn first_fault_of_a_request_is_told(rt: HostRuntime) -> Result<(), Fail> {
-    let mut station = listening(rt.alloc(), 1, 13)?;
-    station.connects(&rt, 0, &[0; 489], Err(ConnectFault::TooLong));
-    station.connects(&rt, 0, b"TIME", Err(ConnectFault::BadAddress));
-    station.takes(&rt, 1, 1);
-    station.connects(&rt, 0, &[0; 489], Err(ConnectFault::TableFull));
-    station.is_quiet(&rt);
-    Ok(())
+    play(
+        rt.alloc(),
+        "
+        host listens to \"FILE\" -> done
+        host asks 0 for zeros 489 -> TooLong
+        host asks 0 for \"TIME\" -> BadAddress
+        host takes 1 as 1
+        host asks 0 for zeros 489 -> TableFull
+        host sends nothing
+        ",
+    )
 }
 
 #[test]
 fn simple_transaction_is_answered(rt: HostRuntime) -> Result<(), Fail> {
-    let mut station = listening(rt.alloc(), 1, 13)?;
-    station.takes(&rt, 1, 1);
-    let not_open = CallFault::Refused(ConnFault::NotOpen);
-    station.writes(&rt, 1, b"hello", Err(not_open));
-    station.does(&rt, 1, Call::Answer(b"noon"), Ok(()));
-    station.sends(&rt, Opcode::ANS, 1, 1, b"noon");
-    let gone = CallFault::NoSuchConnection;
-    station.does(&rt, 1, Call::Answer(b"noon"), Err(gone));
-    assert!(rt; station.host.id_of(0).is_none());
-    station.stores(&rt, 0, 0);
-    station.is_quiet(&rt);
-    Ok(())
+    play(
+        rt.alloc(),
+        "
+        host listens to \"FILE\" -> done
+        host takes 1 as 1
+        host writes 1 \"hello\" -> NotOpen
+        host answers 1 \"noon\" -> done
+        host sends ANS to 1 from 1 \"noon\"
+        host answers 1 \"noon\" -> NoSuchConnection
+        host slot 0 has nothing
+        host stores 0 packets and 0 bytes
+        host sends nothing
+        ",
+    )
 }

@@ -1,9 +1,6 @@
-use super::outbox::oldest;
-use super::packets::{between, rfc};
-use super::station::listening;
-use chaos_conn::{ConnConfig, Why};
-use chaos_host::{Host, HostDelivered, MakeFault};
-use chaos_packet::{Opcode, Packet, from_words, to_words};
+//! Packets in words that come to a host, and what it answers.
+use super::scene::{Scene, play};
+use chaos_packet::{Packet, from_words, to_words};
 use std::process::Abort;
 use std::test::Fail;
 
@@ -23,22 +20,15 @@ fn is_spelled(rt: &impl Abort, packet: &Packet, bytes: &[u8]) {
 }
 
 #[test]
-fn first_fault_of_a_host_is_told(rt: HostRuntime) {
-    let config = ConnConfig::usual();
-    assert!(rt;
-        matches!(
-            Host::new(rt.alloc(), 0, 0, config),
-            Err(MakeFault::BadAddress)
-        )
-    );
-    for conns in [0usize, 256] {
-        assert!(rt;
-            matches!(
-                Host::new(rt.alloc(), 1, conns, config),
-                Err(MakeFault::BadCount)
-            )
-        );
-    }
+fn first_fault_of_a_host_is_told(rt: HostRuntime) -> Result<(), Fail> {
+    play(
+        rt.alloc(),
+        "
+        host at 0 with 0 connections of 13 -> BadAddress
+        host at 1 with 0 connections of 13 -> BadCount
+        host at 1 with 256 connections of 13 -> BadCount
+        ",
+    )
 }
 
 #[test]
@@ -52,16 +42,23 @@ fn unknown_contact_is_refused(rt: HostRuntime) -> Result<(), Fail> {
         0x68, 0x74, 0x73, 0x69, 0x63, 0x20, 0x6E, 0x6F, 0x61, 0x74, 0x74, 0x63, 0x6E, 0x20, 0x6D,
         0x61, 0x2E, 0x65,
     ];
-    let mut station = listening(rt.alloc(), 1, 13)?;
-    station.gets(&rt, &spelled(&request)?, HostDelivered::NoServer);
-    let packet = oldest(&rt, &mut station.out);
+    let mut scene = Scene::new(rt.alloc())?;
+    scene.kept[0] = spelled(&request)?;
+    scene.plays(
+        "
+        host listens to \"FILE\" -> done
+        host receives copy 0 -> NoServer
+        host keeps copy 0
+        host slot 0 has nothing
+        host sends nothing
+        ",
+        0,
+    )?;
     assert_eq!(rt;
-        packet.bytes(),
+        scene.kept[0].bytes(),
         b"No server for this contact name.".as_slice()
     );
-    is_spelled(&rt, &packet, &refusal);
-    assert!(rt; station.host.id_of(0).is_none());
-    station.is_quiet(&rt);
+    is_spelled(&rt, &scene.kept[0], &refusal);
     Ok(())
 }
 
@@ -70,34 +67,54 @@ fn lost_connection_is_told_between_exchanged_ends(rt: HostRuntime) -> Result<(),
     let data = [
         0x8000, 0x0001, 0x0101, 0x0201, 0x0102, 0x0305, 0x0005, 0x0010, 0x0041,
     ];
-    let mut station = listening(rt.alloc(), 1, 13)?;
-    station.gets(&rt, &spelled(&data)?, HostDelivered::NoConnection);
-    station.sends(&rt, Opcode::LOS, 0o1405, 0o1001, b"No such connection.");
-    station.is_quiet(&rt);
+    let mut scene = Scene::new(rt.alloc())?;
+    scene.kept[0] = spelled(&data)?;
+    scene.plays(
+        "
+        host listens to \"FILE\" -> done
+        host receives copy 0 -> NoConnection
+        host sends LOS to 0o1405 from 0o1001 \"No such connection.\"
+        host sends nothing
+        ",
+        0,
+    )?;
     Ok(())
 }
 
 #[test]
 fn full_table_refuses_a_new_peer(rt: HostRuntime) -> Result<(), Fail> {
-    let mut station = listening(rt.alloc(), 255, 64)?;
+    let mut scene = Scene::new(rt.alloc())?;
+    scene.plays(
+        "
+        host at 0o401 with 255 connections of 64 -> made
+        host listens to \"FILE\" -> done
+        ",
+        0,
+    )?;
     for place in 1..256u16 {
-        station.takes(&rt, place, place);
+        scene.plays("host takes # as #", place)?;
     }
-    station.stores(&rt, 255, 255 * 20);
-    station.gets(&rt, &rfc(256), HostDelivered::TableFull);
-    station.sends(&rt, Opcode::CLS, 256, 0, b"Connection table full.");
-    station.is_quiet(&rt);
-    let each = 2 * station.host.config().send_cap() as usize;
-    let most = station.host.conns() * each;
-    assert_eq!(rt; (most, 504 * most), (32_640, 16_450_560));
+    scene.plays(
+        "
+        host stores 255 packets and 5100 bytes
+        host gets from 256 to 0 RFC 5 \"FILE\" -> TableFull
+        host sends CLS to 256 from 0 \"Connection table full.\"
+        host sends nothing
+        host may store 32640 packets and 16450560 bytes
+        ",
+        0,
+    )?;
     Ok(())
 }
 
 #[test]
 fn close_of_no_connection_is_dropped(rt: HostRuntime) -> Result<(), Fail> {
-    let mut station = listening(rt.alloc(), 1, 13)?;
-    let cls = between(Opcode::CLS, 1, 1, 0, b"");
-    station.gets(&rt, &cls, HostDelivered::Dropped(Why::NoConn));
-    station.is_quiet(&rt);
-    Ok(())
+    play(
+        rt.alloc(),
+        "
+        host listens to \"FILE\" -> done
+        host gets from 1 to 1 CLS 0 -> NoConn
+        host sends nothing
+        ",
+    )
 }

@@ -1,121 +1,113 @@
-use super::outbox::oldest;
-use super::packets::{ME, PEER, packet};
-use super::side::{Call, open_pair, rfc_received, rfc_sent};
-use chaos_conn::{ConfigFault, ConnConfig, ConnFault, Delivered, End, ReadEnd, State, Why};
-use chaos_packet::{Item, Opcode, Packet};
+//! Requests of ends, and what is made of them.
+use super::scene::{PAIR, play, play_after};
 use std::test::Fail;
-
-/// The peer's request with this number.
-fn rfc(number: u16) -> Packet {
-    packet(Opcode::RFC, number, 0, b"LAB")
-}
 
 #[test]
 fn configurations_are_checked(rt: HostRuntime) -> Result<(), Fail> {
-    for cap in [0u16, 65] {
-        assert_eq!(rt;
-            ConnConfig::new(cap, 0, 0, 0, 0),
-            Err(ConfigFault::BadSendCap)
-        );
-        assert_eq!(rt;
-            ConnConfig::new(64, cap, 0, 0, 0),
-            Err(ConfigFault::BadRecvCap)
-        );
-    }
-    assert_eq!(rt; ConnConfig::new(64, 1, 1, 1, 0), Err(ConfigFault::BadTime));
-    let usual = ConnConfig::new(13, 13, 500, 10_000, 90_000)?;
-    assert_eq!(rt; usual, ConnConfig::usual());
-    assert_eq!(rt; (usual.send_cap(), usual.recv_cap()), (13, 13));
-    assert_eq!(rt;
-        (usual.retransmit(), usual.probe(), usual.down()),
-        (500, 10_000, 90_000)
-    );
-    Ok(())
+    play(
+        rt.alloc(),
+        "
+        windows 0 0 times 0 0 0 -> BadSendCap
+        windows 64 0 times 0 0 0 -> BadRecvCap
+        windows 65 0 times 0 0 0 -> BadSendCap
+        windows 64 65 times 0 0 0 -> BadRecvCap
+        windows 64 1 times 1 1 0 -> BadTime
+        windows 13 13 times 500 10000 90000 -> usual
+        ",
+    )
 }
 
 #[test]
 fn request_is_held_until_it_is_accepted(rt: HostRuntime) -> Result<(), Fail> {
-    let mut asker = rfc_sent(&rt, rt.alloc(), ConnConfig::usual(), 65534)?;
-    assert!(rt; asker.conn.asked());
-    let mut taker = rfc_received(&rt, rt.alloc(), 65534)?;
-    assert!(rt; !taker.conn.asked());
-    taker.shows(&rt, State::RfcReceived, (1, 19));
-    taker.reads(&rt, ReadEnd::Nothing);
-    taker.is_quiet(&rt);
-    asker.gives_all_back(&rt);
-    taker.gives_all_back(&rt);
-    assert!(rt; taker.conn.peer().is_none());
-    Ok(())
+    play(
+        rt.alloc(),
+        "
+        a asked with 65534
+        a is asking
+        b was asked with 65534
+        b is unasking
+        b is RfcReceived with 1 packets and 19 bytes
+        b reads nothing
+        b sends nothing
+        a gives all back
+        b gives all back
+        b has no peer
+        ",
+    )
 }
 
 #[test]
 fn pair_opens_writes_reads_and_closes(rt: HostRuntime) -> Result<(), Fail> {
-    let (mut a, mut b) = open_pair(&rt, rt.alloc())?;
-    assert_eq!(rt; a.conn.peer(), Some((PEER.address, Some(PEER.index))));
-    b.writes(&rt, Opcode::DATA, b"hello", Ok(101));
-    assert!(rt; b.conn.can_write());
-    assert!(rt; !b.conn.drained());
-    b.is_heard_by(&rt, &mut a, Delivered::Took);
-    let front = a.conn.front().ok_or("an item in front")?;
-    assert_eq!(rt; front.bytes(), b"hello".as_slice());
-    a.reads(&rt, ReadEnd::Item(Item::new(Opcode::DATA, b"hello")));
-    a.does(&rt, Call::Close(b"bye"), Ok(()));
-    let cls = oldest(&rt, &mut a.out);
-    b.gets(&rt, &cls, Delivered::Closed(cls.copy()));
-    a.is_quiet(&rt);
-    b.gives_all_back(&rt);
-    Ok(())
+    play_after(
+        rt.alloc(),
+        PAIR,
+        "
+        a has peer 0o402 index 9
+        b writes DAT \"hello\" -> 101
+        b is writable
+        b is undrained
+        a hears b -> Took
+        a shows DAT \"hello\"
+        a reads DAT \"hello\"
+        a closes \"bye\" -> done
+        b hears a -> Closed
+        a sends nothing
+        b gives all back
+        ",
+    )
 }
 
 #[test]
 fn request_is_answered_or_rejected(rt: HostRuntime) -> Result<(), Fail> {
-    let mut side = rfc_received(&rt, rt.alloc(), 65534)?;
-    side.does(&rt, Call::Answer(b"noon"), Ok(()));
-    side.sends(&rt, Opcode::ANS, 0, 0, b"noon");
-    side.shows(&rt, State::Inactive, (0, 0));
-    side.does(&rt, Call::Take(&rfc(65534), ME), Ok(()));
-    side.does(&rt, Call::Reject(b"busy"), Ok(()));
-    side.sends(&rt, Opcode::CLS, 0, 0, b"busy");
-    side.does(&rt, Call::Reject(b"busy"), Err(ConnFault::WrongState));
-    side.gives_all_back(&rt);
-    Ok(())
+    play(
+        rt.alloc(),
+        "
+        a was asked with 65534
+        a answers \"noon\" -> done
+        a sends ANS 0 ack 0 \"noon\"
+        a is Inactive with 0 packets and 0 bytes
+        a takes RFC 65534 \"LAB\" at 0o401 -> done
+        a rejects \"busy\" -> done
+        a sends CLS 0 ack 0 \"busy\"
+        a rejects \"busy\" -> WrongState
+        a gives all back
+        ",
+    )
 }
 
 #[test]
 fn repeated_request_is_a_duplicate(rt: HostRuntime) -> Result<(), Fail> {
-    let mut side = rfc_received(&rt, rt.alloc(), 65534)?;
-    let mut again = rfc(65534);
-    again.dst_index = 0;
-    side.at(2);
-    side.gets(&rt, &again, Delivered::Duplicate);
-    side.is_quiet(&rt);
-    side.does(&rt, Call::Accept(100), Ok(()));
-    side.sends(&rt, Opcode::OPN, 100, 65534, &[0xfe, 0xff, 13, 0]);
-    side.at(4);
-    side.gets(&rt, &again, Delivered::Duplicate);
-    side.sends_status(&rt, 65534, 65534);
-    side.gets(&rt, &rfc(65535), Delivered::Dropped(Why::OtherNumber));
-    side.gives_all_back(&rt);
-    Ok(())
+    play(
+        rt.alloc(),
+        "
+        a was asked with 65534
+        a waits until 2
+        a gets to 0 RFC 65534 \"LAB\" -> Duplicate
+        a sends nothing
+        a accepts with 100 -> done
+        a sends OPN 100 ack 65534 receipt 65534 window 13
+        a waits until 4
+        a gets to 0 RFC 65534 \"LAB\" -> Duplicate
+        a sends STS 0 ack 65534 receipt 65534 window 13
+        a gets RFC 65535 \"LAB\" -> OtherNumber
+        a gives all back
+        ",
+    )
 }
 
 #[test]
 fn the_first_fault_is_answered(rt: HostRuntime) -> Result<(), Fail> {
-    let nobody = End {
-        address: 0,
-        index: 1,
-    };
-    let mut side = rfc_sent(&rt, rt.alloc(), ConnConfig::usual(), 7)?;
-    let long = Call::Request(nobody, 0, &[0; 489], 1);
-    side.does(&rt, long, Err(ConnFault::TooLong));
-    let second = Call::Request(nobody, 0, b"LAB", 1);
-    side.does(&rt, second, Err(ConnFault::Busy));
-    side.gives_all_back(&rt);
-    let from_nobody = Call::Request(nobody, PEER.address, b"LAB", 1);
-    side.does(&rt, from_nobody, Err(ConnFault::BadAddress));
-    let data = packet(Opcode::DATA, 1, 0, b"LAB");
-    side.does(&rt, Call::Take(&data, nobody), Err(ConnFault::BadAddress));
-    side.does(&rt, Call::Take(&data, ME), Err(ConnFault::BadRequest));
-    side.gives_all_back(&rt);
-    Ok(())
+    play(
+        rt.alloc(),
+        "
+        a asked with 7
+        a asks 0 from 0 for zeros 489 with 1 -> TooLong
+        a asks 0 from 0 for \"LAB\" with 1 -> Busy
+        a gives all back
+        a asks 0o402 from 0 for \"LAB\" with 1 -> BadAddress
+        a takes DAT 1 \"LAB\" at 0 -> BadAddress
+        a takes DAT 1 \"LAB\" at 0o401 -> BadRequest
+        a gives all back
+        ",
+    )
 }

@@ -1,11 +1,15 @@
-//! A host and its outbox, with peers that are played by hand.
-use super::outbox;
-use super::packets::{HERE, THERE, between, rfc};
-use chaos_conn::{ConnConfig, ReadEnd, State, Ticked};
-use chaos_host::{CallFault, ConnId, ConnectFault, Host, HostDelivered};
+//! A host and its outbox: what the lines about it do, and what they see.
+use super::line::Line;
+use super::names::{
+    DONE, is_ticked, name_at_host, name_of_call, name_of_connect, name_of_listen, name_of_make,
+    name_of_state,
+};
+use super::packets::{HERE, THERE, told};
+use super::side::{ROOM, is_item};
+use chaos_conn::{ConnConfig, ReadEnd};
+use chaos_host::{CallFault, ConnId, Host, HostDelivered};
 use chaos_packet::{Opcode, Outbox, Packet, PktNum};
 use std::alloc::Global;
-use std::process::Abort;
 use std::test::Fail;
 
 /// A host, and what it puts out.
@@ -13,145 +17,297 @@ use std::test::Fail;
 pub struct Station {
     pub host: Host,
     pub out: Outbox,
+    alloc: Global,
 }
 
-/// A call of the user on one connection that has no answer but its fault.
-pub enum Call<'a> {
-    Accept(u16),
-    Answer(&'a [u8]),
-    Reject(&'a [u8]),
-    Unc(&'a [u8]),
-    Announce(u16),
-    Close(&'a [u8]),
-    Release,
-}
-
-/// A host with so many connections of windows of `window` packets, which listens to `FILE`.
-pub fn listening(alloc: Global, conns: usize, window: u16) -> Result<Station, Fail> {
-    let config = ConnConfig::new(window, window, 500, 10_000, 90_000)?;
-    let mut host = Host::new(alloc, HERE, conns, config)?;
-    host.listen(b"FILE")?;
+/// A host with one connection of usual windows, which listens to nothing.
+pub fn new_host(alloc: Global) -> Result<Station, Fail> {
     Ok(Station {
-        host,
-        out: outbox::empty(alloc)?,
+        host: Host::new(alloc, HERE, 1, ConnConfig::usual())?,
+        out: Outbox::new(alloc, ROOM)?,
+        alloc,
     })
 }
 
+/// The line goes on so: nothing was refused, or this fault was told.
+fn is_called(line: &mut Line, got: Result<(), CallFault>) {
+    line.is("->");
+    match got {
+        Ok(()) => line.is(DONE),
+        Err(fault) => line.is(name_of_call(fault)),
+    }
+}
+
 impl Station {
-    /// A packet comes at moment 0, and this becomes of it.
-    pub fn gets(&mut self, rt: &impl Abort, packet: &Packet, want: HostDelivered) {
-        let got = self.deliver(rt, packet);
-        assert_eq!(rt; got, want, "of {packet:?}");
+    /// What the line says of the host.
+    pub fn plays(&mut self, line: &mut Line) {
+        match line.word() {
+            "at" => self.is_made(line),
+            "listens" => self.listens(line),
+            "gets" => {
+                let packet = told(line);
+                self.gets(&packet, line);
+            }
+            "meets" => {
+                let _answer = self.deliver(&told(line));
+            }
+            "takes" => self.takes(line),
+            "asks" => self.asks(line),
+            "writes" => self.writes(line),
+            "reads" => self.reads(line),
+            "ticks" => self.ticks(line),
+            "sends" => self.sends(line),
+            "stores" => self.stores(line),
+            "slot" => self.slot(line),
+            verb => self.looks(verb, line),
+        }
     }
 
-    /// A packet comes at moment 0.
-    pub fn deliver(&mut self, rt: &impl Abort, packet: &Packet) -> HostDelivered {
-        assert!(rt; self.out.room() > 0);
+    /// `ADDRESS with 2 connections of 13 -> made`: the host is new, with so many connections of windows of so many packets;
+    /// or the fault.
+    fn is_made(&mut self, line: &mut Line) {
+        let address = line.short();
+        line.is("with");
+        let conns = line.number() as usize;
+        line.is("connections");
+        line.is("of");
+        let window = line.short();
+        line.is("->");
+        let config = ConnConfig::new(window, window, 500, 10_000, 90_000);
+        match Host::new(
+            self.alloc,
+            address,
+            conns,
+            config.unwrap_or(ConnConfig::usual()),
+        ) {
+            Ok(host) => {
+                line.is("made");
+                self.host = host;
+            }
+            Err(fault) => line.is(name_of_make(fault)),
+        }
+    }
+
+    /// `to "FILE" -> done`, or a fault.
+    fn listens(&mut self, line: &mut Line) {
+        line.is("to");
+        let got = self.host.listen(line.bytes());
+        line.is("->");
+        match got {
+            Ok(()) => line.is(DONE),
+            Err(fault) => line.is(name_of_listen(fault)),
+        }
+    }
+
+    /// A packet comes at moment 0, and the line goes on with what becomes of it: `-> Took at 1`, of the connection with this
+    /// index, or `-> NoServer`.
+    pub fn gets(&mut self, packet: &Packet, line: &mut Line) {
+        let answer = self.deliver(packet);
+        let (name, id) = name_at_host(&answer, packet);
+        line.is("->");
+        line.is(name);
+        if let Some(id) = id {
+            line.is("at");
+            line.is_number(u64::from(id));
+        }
+    }
+
+    /// A packet comes at moment 0. To a full outbox none comes.
+    pub fn deliver(&mut self, packet: &Packet) -> HostDelivered {
+        if self.out.room() == 0 {
+            return HostDelivered::TableFull;
+        }
         self.host.deliver(packet, 0, &mut self.out)
     }
 
-    /// A request from this index of the peer is taken as the connection with this index.
-    pub fn takes(&mut self, rt: &impl Abort, from: u16, id: u16) {
-        self.gets(rt, &rfc(from), HostDelivered::Requested(ConnId(id)));
-        self.is_in(rt, id, State::RfcReceived);
+    /// `1 as 0o401`: a request for `FILE` from this index of the peer is taken as the connection with this index.
+    fn takes(&mut self, line: &mut Line) {
+        let from = line.short();
+        line.is("as");
+        let id = line.short();
+        let mut rfc = Line::new("from # to 0 RFC 5 \"FILE\"", from);
+        let packet = told(&mut rfc);
+        let mut requested = Line::new("-> Requested at #", id);
+        self.gets(&packet, &mut requested);
+        let mut state = Line::new("# in RfcReceived", id);
+        self.shows(&mut state);
+        if requested.outcome(1).is_err() || state.outcome(1).is_err() {
+            line.refuse("not taken", 0);
+        }
     }
 
-    /// The user asks a peer's address for a contact, with first number 7.
-    pub fn connects(
-        &mut self,
-        rt: &impl Abort,
-        peer: u16,
-        contact: &[u8],
-        want: Result<ConnId, ConnectFault>,
-    ) {
-        assert!(rt; self.out.room() > 0);
+    /// `ADDRESS for "TIME" -> 1`: a request with first number 7; or a fault.
+    fn asks(&mut self, line: &mut Line) {
+        let peer = line.short();
+        line.is("for");
+        let contact = line.bytes();
+        line.is("->");
+        if self.out.room() == 0 {
+            return line.refuse("a full outbox", 0);
+        }
         let got = self
             .host
             .connect(peer, contact, PktNum(7), 0, &mut self.out);
-        assert_eq!(rt; got, want);
+        match got {
+            Ok(id) => line.is_number(u64::from(id.0)),
+            Err(fault) => line.is(name_of_connect(fault)),
+        }
     }
 
-    /// The user makes a call.
-    pub fn does(&mut self, rt: &impl Abort, id: u16, call: Call<'_>, want: Result<(), CallFault>) {
-        assert!(rt; self.out.room() > 0);
-        let (id, host, out) = (ConnId(id), &mut self.host, &mut self.out);
-        let got = match call {
-            Call::Accept(start) => host.accept(id, PktNum(start), 0, out),
-            Call::Answer(bytes) => host.answer(id, bytes, out),
-            Call::Reject(text) => host.reject(id, text, out),
-            Call::Unc(bytes) => host.unc(id, bytes, out),
-            Call::Announce(window) => host.announce(id, window, out),
-            Call::Close(text) => host.close(id, text, out),
-            Call::Release => host.release(id, out),
+    /// `1 "hello" -> 8`, or a fault.
+    fn writes(&mut self, line: &mut Line) {
+        let id = ConnId(line.short());
+        let bytes = line.bytes();
+        line.is("->");
+        if self.out.room() == 0 {
+            return line.refuse("a full outbox", 0);
+        }
+        match self.host.write(id, Opcode::DATA, bytes, 0, &mut self.out) {
+            Ok(number) => line.is_number(u64::from(number.0)),
+            Err(fault) => line.is(name_of_call(fault)),
+        }
+    }
+
+    /// `1 DAT "A"`.
+    fn reads(&mut self, line: &mut Line) {
+        let id = ConnId(line.short());
+        if self.out.room() == 0 {
+            return line.refuse("a full outbox", 0);
+        }
+        match self.host.read(id, &mut self.out) {
+            Ok(ReadEnd::Item(item)) => is_item(line, &item),
+            _ => line.refuse("no item", 0),
+        }
+    }
+
+    /// `0 at 500 -> Resent 1`: what is due in a slot at this moment.
+    fn ticks(&mut self, line: &mut Line) {
+        let slot = line.number() as usize;
+        line.is("at");
+        let now = line.number();
+        line.is("->");
+        if (self.host.config().send_cap() as usize) > self.out.room() {
+            return line.refuse("a full outbox", 0);
+        }
+        is_ticked(line, self.host.tick(slot, now, &mut self.out));
+    }
+
+    /// `DAT to 9 from 1 "hello"`: the oldest packet that went out, to this index of the peers' address. `nothing`.
+    pub fn sends(&mut self, line: &mut Line) {
+        let Some(sent) = self.out.take() else {
+            return line.is("nothing");
         };
-        assert_eq!(rt; got, want);
+        line.is(sent.op.name().unwrap_or("no name"));
+        line.is("to");
+        line.is_number(u64::from(sent.dst_index));
+        line.is("from");
+        line.is_number(u64::from(sent.src_index));
+        line.is_bytes(sent.bytes());
+        if (sent.dst, sent.src) != (THERE, HERE) {
+            line.refuse("between other hosts", 0);
+        }
     }
 
-    /// The user writes data.
-    pub fn writes(
-        &mut self,
-        rt: &impl Abort,
-        id: u16,
-        bytes: &[u8],
-        want: Result<PktNum, CallFault>,
-    ) {
-        assert!(rt; self.out.room() > 0);
-        let got = self
-            .host
-            .write(ConnId(id), Opcode::DATA, bytes, 0, &mut self.out);
-        assert_eq!(rt; got, want);
+    /// `2 packets and 40 bytes`: what is kept and held.
+    fn stores(&mut self, line: &mut Line) {
+        let (packets, bytes) = self.host.stored();
+        line.is_number(packets as u64);
+        line.is("packets");
+        line.is("and");
+        line.is_number(bytes as u64);
+        line.is("bytes");
     }
 
-    pub fn reads(&mut self, rt: &impl Abort, id: u16, want: Result<ReadEnd, CallFault>) {
-        assert!(rt; self.out.room() > 0);
-        let got = self.host.read(ConnId(id), &mut self.out);
-        assert_eq!(rt; got, want);
+    /// `0 has 1`, `0 has nothing`: the index of the connection in a slot.
+    fn slot(&mut self, line: &mut Line) {
+        let slot = line.number() as usize;
+        line.is("has");
+        match self.host.id_of(slot) {
+            Some(id) => line.is_number(u64::from(id.0)),
+            None => line.is("nothing"),
+        }
     }
 
-    /// What is due in a slot at this moment is this.
-    pub fn ticks(&mut self, rt: &impl Abort, slot: usize, now: u64, want: Ticked) {
-        assert!(rt; self.host.config().send_cap() as usize <= self.out.room());
-        let got = self.host.tick(slot, now, &mut self.out);
-        assert_eq!(rt; got, want, "at {now}");
+    /// A call of the user on one connection that has no answer but its fault.
+    fn calls(&mut self, verb: &'static str, line: &mut Line) {
+        if self.out.room() == 0 {
+            return line.refuse("a full outbox", 0);
+        }
+        let (host, out) = (&mut self.host, &mut self.out);
+        let got = match verb {
+            "accepts" => {
+                let id = ConnId(line.short());
+                line.is("with");
+                host.accept(id, PktNum(line.short()), 0, out)
+            }
+            "answers" => host.answer(ConnId(line.short()), line.bytes(), out),
+            "rejects" => host.reject(ConnId(line.short()), line.bytes(), out),
+            "says" => host.unc(ConnId(line.short()), line.bytes(), out),
+            "announces" => host.announce(ConnId(line.short()), line.short(), out),
+            "closes" => host.close(ConnId(line.short()), line.bytes(), out),
+            "releases" => host.release(ConnId(line.short()), out),
+            _ => return line.refuse("no verb", 0),
+        };
+        is_called(line, got);
     }
 
-    /// The connection with this index is in this state.
-    pub fn is_in(&self, rt: &impl Abort, id: u16, state: State) {
-        assert_eq!(rt; self.host.state(ConnId(id)), Ok(state));
+    /// `can write 1`, `has drained 1`, `has outstanding 1`, `announced 1 -> 5`, `shows 1 in Open`, `lends 1 DAT "A"`: what is
+    /// seen of one connection. `may store`: of all.
+    fn looks(&mut self, verb: &'static str, line: &mut Line) {
+        match verb {
+            "shows" => self.shows(line),
+            "has" => self.has(line),
+            "can" => {
+                line.is("write");
+                if self.host.can_write(ConnId(line.short())) != Ok(true) {
+                    line.refuse("it can't", 0);
+                }
+            }
+            "announced" => {
+                let window = self.host.announced(ConnId(line.short()));
+                line.is("->");
+                line.is_number(u64::from(window.unwrap_or(0xFFFF)));
+            }
+            "lends" => match self.host.front(ConnId(line.short())) {
+                Ok(Some(item)) => is_item(line, item),
+                _ => line.refuse("no item", 0),
+            },
+            "may" => self.may_store(line),
+            _ => self.calls(verb, line),
+        }
     }
 
-    /// So many packets are kept and held, and so many bytes.
-    pub fn stores(&self, rt: &impl Abort, packets: usize, bytes: usize) {
-        assert_eq!(rt; self.host.stored(), (packets, bytes));
+    /// `1 in Open`, `1 in NoSuchConnection`: the state of a connection.
+    pub fn shows(&mut self, line: &mut Line) {
+        let state = self.host.state(ConnId(line.short()));
+        line.is("in");
+        match state {
+            Ok(state) => line.is(name_of_state(state)),
+            Err(fault) => line.is(name_of_call(fault)),
+        }
     }
 
-    /// The oldest packet that went out goes to the peers' address, with this opcode, destination index, source index and
-    /// data.
-    pub fn sends(&mut self, rt: &impl Abort, op: Opcode, to: u16, from: u16, bytes: &[u8]) {
-        let sent = outbox::oldest(rt, &mut self.out);
-        assert_eq!(rt; (sent.op.0, sent.dst, sent.dst_index), (op.0, THERE, to));
-        assert_eq!(rt; (sent.src, sent.src_index), (HERE, from));
-        assert_eq!(rt; sent.bytes(), bytes);
+    /// `drained 1`: all that the connection wrote is receipted. `outstanding 1`: it isn't.
+    fn has(&mut self, line: &mut Line) {
+        let drained = match line.word() {
+            "drained" => Ok(true),
+            "outstanding" => Ok(false),
+            _ => return line.refuse("no verb", 0),
+        };
+        if self.host.drained(ConnId(line.short())) != drained {
+            line.refuse("it hasn't", 0);
+        }
     }
 
-    /// Nothing more went out.
-    pub fn is_quiet(&self, rt: &impl Abort) {
-        outbox::is_quiet(rt, &self.out);
+    /// `store 32640 packets and 16450560 bytes`: the bound of what is kept and held.
+    fn may_store(&mut self, line: &mut Line) {
+        let each = 2 * self.host.config().send_cap() as usize;
+        let most = self.host.conns().saturating_mul(each);
+        line.is("store");
+        line.is_number(most as u64);
+        line.is("packets");
+        line.is("and");
+        line.is_number((most as u64).saturating_mul(504));
+        line.is("bytes");
     }
-}
-
-/// A host with one connection, which asked index 9 of the peer for `TIME`, from its index 1; the RFC went out.
-pub fn asking(rt: &impl Abort, alloc: Global) -> Result<Station, Fail> {
-    let mut station = listening(alloc, 1, 13)?;
-    station.connects(rt, THERE, b"TIME", Ok(ConnId(1)));
-    station.sends(rt, Opcode::RFC, 0, 1, b"TIME");
-    Ok(station)
-}
-
-/// A host with one connection, which took a request with number 65534 from index 9 of the peer, as its index 1.
-pub fn asked(rt: &impl Abort, alloc: Global) -> Result<Station, Fail> {
-    let mut station = listening(alloc, 1, 13)?;
-    let rfc = between(Opcode::RFC, 0, 9, 65534, b"FILE");
-    station.gets(rt, &rfc, HostDelivered::Requested(ConnId(1)));
-    Ok(station)
 }

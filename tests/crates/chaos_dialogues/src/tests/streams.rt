@@ -3,13 +3,11 @@ ghost use Rattle.std.specs.Prelude.{◌≡◌};
 ghost use Rattle.chaos_stream.specs.Reading.{lent_by};
 ghost use Rattle.chaos_stream.specs.Shown.{sight_of};
 
-use super::outbox::oldest;
-use super::packets::packet;
-use super::side::{Side, open, windows};
-use chaos_conn::{ConnConfig, Delivered, State};
-use chaos_packet::{Opcode, Outbox};
-use chaos_stream::{Peek, StreamIn, put_bytes, put_eof};
-use std::process::Abort;
+use super::line::Line;
+use super::names::name_of_fault;
+use super::scene::play;
+use super::side::Side;
+use chaos_stream::{Peek, put_bytes, put_eof};
 use std::test::Fail;
 
 /// How many bytes a look lends.
@@ -22,68 +20,114 @@ fn lent(seen: &Peek<'_>) -> usize
     }
 }
 
-/// Of so many bytes an end takes so many.
-fn puts(rt: &impl Abort, side: &mut Side, bytes: &[u8], want: usize) {
-    let taken = put_bytes(&mut side.conn, bytes, 0, &mut side.out);
-    assert_eq!(rt; taken, want);
-}
+impl Side {
+    /// `puts sevens 1000 -> 976`: of so many bytes the end takes so many. `puts EOF -> 10`: the number of an EOF. `lends`: a look.
+    pub fn streams(&mut self, verb: &'static str, line: &mut Line) {
+        match verb {
+            "puts" if line.takes("EOF") => self.puts_eof(line),
+            "puts" => {
+                let taken = put_bytes(&mut self.conn, line.bytes(), 0, &mut self.out);
+                line.is("->");
+                line.is_number(taken as u64);
+            }
+            "lends" => self.lends(line),
+            _ => self.calls(verb, line),
+        }
+    }
 
-/// The oldest packet that went out has this opcode, and so many bytes.
-fn sends(rt: &impl Abort, side: &mut Side, op: Opcode, len: usize) {
-    let packet = oldest(rt, &mut side.out);
-    assert_eq!(rt; (packet.op.0, packet.bytes().len()), (op.0, len));
-}
+    fn puts_eof(&mut self, line: &mut Line) {
+        line.is("->");
+        if self.out.room() == 0 {
+            return line.refuse("a full outbox", 0);
+        }
+        match put_eof(&mut self.conn, 0, &mut self.out) {
+            Ok(number) => line.is_number(u64::from(number.0)),
+            Err(fault) => line.is(name_of_fault(fault)),
+        }
+    }
 
-/// A look at the stream shows this; so many bytes of it are consumed then.
-fn consumes(rt: &impl Abort, stream: &mut StreamIn, side: &mut Side, want: Peek<'_>, count: usize) {
-    let seen = stream.peek(&side.conn);
-    assert_eq!(rt; seen, want);
-    assert!(rt; count <= lent(&seen) && side.out.room() > 0);
-    stream.consume(&mut side.conn, count, &mut side.out);
+    /// `bytes "ABC" and 2 go`: a look at the stream shows this, and so many bytes of it are consumed then. `nothing`, `EOF`,
+    /// `no more`: none are.
+    fn lends(&mut self, line: &mut Line) {
+        let seen = self.stream.peek(&self.conn);
+        let mut count = 0;
+        match &seen {
+            Peek::Bytes(bytes) => {
+                line.is("bytes");
+                line.is_bytes(bytes);
+                line.is("and");
+                count = line.number() as usize;
+                line.is("go");
+            }
+            Peek::Eof => line.is("EOF"),
+            Peek::Nothing => line.is("nothing"),
+            Peek::Ended => {
+                line.is("no");
+                line.is("more");
+            }
+        }
+        if count > lent(&seen) || self.out.room() == 0 {
+            return line.refuse("too many", 0);
+        }
+        self.stream.consume(&mut self.conn, count, &mut self.out);
+    }
 }
 
 #[test]
 fn window_and_outbox_of_two_take_976_bytes(rt: HostRuntime) -> Result<(), Fail> {
-    let mut side = open(&rt, rt.alloc(), windows(2, 13)?, 7, 100)?;
-    side.out = Outbox::new(rt.alloc(), 2)?;
-    puts(&rt, &mut side, &[7; 1000], 976);
-    side.shows(&rt, State::Open, (2, 1008));
-    puts(&rt, &mut side, &[7; 24], 0);
-    sends(&rt, &mut side, Opcode::DATA, 488);
-    sends(&rt, &mut side, Opcode::DATA, 488);
-    assert!(rt; side.out.take().is_none());
-    Ok(())
+    play(
+        rt.alloc(),
+        "
+        a has windows 2 and 13
+        a asked with 7
+        a is opened with 100 ack 7
+        a has an outbox of 2
+        a puts sevens 1000 -> 976
+        a is Open with 2 packets and 1008 bytes
+        a puts sevens 24 -> 0
+        a sends DAT 8 ack 100 sevens 488
+        a sends DAT 9 ack 100 sevens 488
+        a sends nothing
+        ",
+    )
 }
 
 #[test]
 fn last_packet_has_what_is_left(rt: HostRuntime) -> Result<(), Fail> {
-    let mut side = open(&rt, rt.alloc(), windows(3, 13)?, 7, 100)?;
-    puts(&rt, &mut side, &[7; 500], 500);
-    sends(&rt, &mut side, Opcode::DATA, 488);
-    sends(&rt, &mut side, Opcode::DATA, 12);
-    assert!(rt; side.out.room() > 0);
-    let eof = put_eof(&mut side.conn, 0, &mut side.out)?;
-    assert_eq!(rt; eof.0, 10);
-    sends(&rt, &mut side, Opcode::EOF, 0);
-    Ok(())
+    play(
+        rt.alloc(),
+        "
+        a has windows 3 and 13
+        a asked with 7
+        a is opened with 100 ack 7
+        a puts sevens 500 -> 500
+        a sends DAT 8 ack 100 sevens 488
+        a sends DAT 9 ack 100 sevens 12
+        a puts EOF -> 10
+        a sends EOF 10 ack 100
+        ",
+    )
 }
 
 #[test]
 fn items_are_lent_one_after_the_other(rt: HostRuntime) -> Result<(), Fail> {
-    let mut side = open(&rt, rt.alloc(), ConnConfig::usual(), 7, 100)?;
-    let mut stream = StreamIn::new();
-    consumes(&rt, &mut stream, &mut side, Peek::Nothing, 0);
-    side.gets(&rt, &packet(Opcode::DATA, 101, 7, b"ABC"), Delivered::Took);
-    side.gets(&rt, &packet(Opcode::DATA, 102, 7, b""), Delivered::Took);
-    side.gets(&rt, &packet(Opcode::EOF, 103, 7, b""), Delivered::Took);
-    consumes(&rt, &mut stream, &mut side, Peek::Bytes(b"ABC"), 2);
-    consumes(&rt, &mut stream, &mut side, Peek::Bytes(b"C"), 0);
-    consumes(&rt, &mut stream, &mut side, Peek::Bytes(b"C"), 1);
-    consumes(&rt, &mut stream, &mut side, Peek::Bytes(b""), 0);
-    consumes(&rt, &mut stream, &mut side, Peek::Eof, 0);
-    consumes(&rt, &mut stream, &mut side, Peek::Nothing, 0);
-    let cls = packet(Opcode::CLS, 0, 7, b"Bye.");
-    side.gets(&rt, &cls, Delivered::Closed(cls.copy()));
-    consumes(&rt, &mut stream, &mut side, Peek::Ended, 0);
-    Ok(())
+    play(
+        rt.alloc(),
+        "
+        a asked with 7
+        a is opened with 100 ack 7
+        a lends nothing
+        a gets DAT 101 ack 7 \"ABC\" -> Took
+        a gets DAT 102 ack 7 -> Took
+        a gets EOF 103 ack 7 -> Took
+        a lends bytes \"ABC\" and 2 go
+        a lends bytes \"C\" and 0 go
+        a lends bytes \"C\" and 1 go
+        a lends bytes \"\" and 0 go
+        a lends EOF
+        a lends nothing
+        a gets CLS 0 ack 7 \"Bye.\" -> Closed
+        a lends no more
+        ",
+    )
 }

@@ -1,68 +1,85 @@
-use super::side::{open, rfc_sent};
-use chaos_conn::{ConnConfig, State, Ticked};
-use chaos_packet::Opcode;
+//! What time makes due.
+use super::scene::play;
 use std::test::Fail;
 
 #[test]
 fn kept_items_are_sent_again_in_order(rt: HostRuntime) -> Result<(), Fail> {
-    let mut side = rfc_sent(&rt, rt.alloc(), ConnConfig::usual(), 65534)?;
-    side.at(1_000);
-    side.opens(&rt, 65534, 100);
-    side.writes(&rt, Opcode::DATA, b"A", Ok(65535));
-    side.at(1_200);
-    side.writes(&rt, Opcode::DATA, b"B", Ok(0));
-    side.sends(&rt, Opcode::DATA, 65535, 100, b"A");
-    side.sends(&rt, Opcode::DATA, 0, 100, b"B");
-    side.ticks(&rt, 1_499, Ticked::Quiet);
-    side.is_quiet(&rt);
-    side.ticks(&rt, 1_500, Ticked::Resent(2));
-    side.sends(&rt, Opcode::DATA, 65535, 100, b"A");
-    side.sends(&rt, Opcode::DATA, 0, 100, b"B");
-    side.ticks(&rt, 1_999, Ticked::Quiet);
-    side.ticks(&rt, 1_400, Ticked::Quiet);
-    side.gives_all_back(&rt);
-    Ok(())
+    play(
+        rt.alloc(),
+        "
+        a asked with 65534
+        a waits until 1000
+        a is opened with 100 ack 65534
+        a writes DAT \"A\" -> 65535
+        a waits until 1200
+        a writes DAT \"B\" -> 0
+        a sends DAT 65535 ack 100 \"A\"
+        a sends DAT 0 ack 100 \"B\"
+        a ticks at 1499 -> Quiet
+        a sends nothing
+        a ticks at 1500 -> Resent 2
+        a sends DAT 65535 ack 100 \"A\"
+        a sends DAT 0 ack 100 \"B\"
+        a ticks at 1999 -> Quiet
+        a ticks at 1400 -> Quiet
+        a gives all back
+        ",
+    )
 }
 
 #[test]
 fn silent_peer_is_probed_and_then_down(rt: HostRuntime) -> Result<(), Fail> {
-    let mut side = open(&rt, rt.alloc(), ConnConfig::usual(), 7, 100)?;
-    side.ticks(&rt, 9_999, Ticked::Quiet);
-    for now in [10_000u64, 20_000] {
-        side.ticks(&rt, now, Ticked::Probed);
-        side.sends(&rt, Opcode::SNS, 0, 100, b"");
-    }
-    side.ticks(&rt, 90_000, Ticked::Down);
-    side.shows(&rt, State::HostDown, (0, 0));
-    side.gives_all_back(&rt);
-    Ok(())
+    play(
+        rt.alloc(),
+        "
+        a asked with 7
+        a is opened with 100 ack 7
+        a ticks at 9999 -> Quiet
+        a ticks at 10000 -> Probed
+        a sends SNS 0 ack 100
+        a ticks at 20000 -> Probed
+        a sends SNS 0 ack 100
+        a ticks at 90000 -> Down
+        a is HostDown with 0 packets and 0 bytes
+        a gives all back
+        ",
+    )
 }
 
 #[test]
 fn next_moment_is_told(rt: HostRuntime) -> Result<(), Fail> {
-    let mut side = open(&rt, rt.alloc(), ConnConfig::usual(), 7, 100)?;
-    assert_eq!(&rt; side.conn.next_due(), Some(10_000));
-    side.at(1_000);
-    side.writes(&rt, Opcode::DATA, b"A", Ok(8));
-    side.sends(&rt, Opcode::DATA, 8, 100, b"A");
-    assert_eq!(&rt; side.conn.next_due(), Some(1_500));
-    side.ticks(&rt, 10_000, Ticked::Resent(1));
-    side.sends(&rt, Opcode::DATA, 8, 100, b"A");
-    assert_eq!(&rt; side.conn.next_due(), Some(0));
-    side.ticks(&rt, 0, Ticked::Probed);
-    side.sends(&rt, Opcode::SNS, 0, 100, b"");
-    assert_eq!(&rt; side.conn.next_due(), Some(10_500));
-    side.ticks(&rt, 90_000, Ticked::Down);
-    assert_eq!(&rt; side.conn.next_due(), None);
-    side.gives_all_back(&rt);
-    Ok(())
+    play(
+        rt.alloc(),
+        "
+        a asked with 7
+        a is opened with 100 ack 7
+        a is due at 10000
+        a waits until 1000
+        a writes DAT \"A\" -> 8
+        a sends DAT 8 ack 100 \"A\"
+        a is due at 1500
+        a ticks at 10000 -> Resent 1
+        a sends DAT 8 ack 100 \"A\"
+        a is due at 0
+        a ticks at 0 -> Probed
+        a sends SNS 0 ack 100
+        a is due at 10500
+        a ticks at 90000 -> Down
+        a is due never
+        a gives all back
+        ",
+    )
 }
 
 #[test]
 fn request_is_sent_again_without_an_acknowledgement(rt: HostRuntime) -> Result<(), Fail> {
-    let mut side = rfc_sent(&rt, rt.alloc(), ConnConfig::usual(), 7)?;
-    side.ticks(&rt, 500, Ticked::Resent(1));
-    side.sends(&rt, Opcode::RFC, 7, 0, b"LAB");
-    side.gives_all_back(&rt);
-    Ok(())
+    play(
+        rt.alloc(),
+        "
+        a asked with 7
+        a ticks at 500 -> Resent 1
+        a sends RFC 7 ack 0 \"LAB\"
+        a gives all back
+        ",
+    )
 }

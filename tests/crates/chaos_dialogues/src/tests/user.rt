@@ -1,57 +1,81 @@
-use super::packets::{data, status};
-use super::side::{Call, item, open, windows};
-use chaos_conn::{ConnConfig, ConnFault, Delivered, ReadEnd};
-use chaos_packet::Opcode;
+//! What a user reads and writes.
+use super::scene::play;
 use std::test::Fail;
 
 #[test]
 fn fifth_read_sends_status(rt: HostRuntime) -> Result<(), Fail> {
-    let mut side = open(&rt, rt.alloc(), ConnConfig::usual(), 7, 100)?;
-    for num in 101u16..106 {
-        side.gets(&rt, &data(num, 7), Delivered::Took);
-    }
-    for _ in 0..4 {
-        side.reads(&rt, item(b'd'));
-        side.is_quiet(&rt);
-    }
-    side.reads(&rt, item(b'd'));
-    side.sends_status(&rt, 105, 105);
-    side.reads(&rt, ReadEnd::Nothing);
-    side.is_quiet(&rt);
-    Ok(())
+    play(
+        rt.alloc(),
+        "
+        a asked with 7
+        a is opened with 100 ack 7
+        a gets DAT 101 ack 7 \"d\" -> Took
+        a gets DAT 102 ack 7 \"d\" -> Took
+        a gets DAT 103 ack 7 \"d\" -> Took
+        a gets DAT 104 ack 7 \"d\" -> Took
+        a gets DAT 105 ack 7 \"d\" -> Took
+        a reads DAT \"d\"
+        a sends nothing
+        a reads DAT \"d\"
+        a sends nothing
+        a reads DAT \"d\"
+        a sends nothing
+        a reads DAT \"d\"
+        a sends nothing
+        a reads DAT \"d\"
+        a sends STS 0 ack 105 receipt 105 window 13
+        a reads nothing
+        a sends nothing
+        ",
+    )
 }
 
 #[test]
 fn announced_window_is_cut_to_the_cap(rt: HostRuntime) -> Result<(), Fail> {
-    let mut side = open(&rt, rt.alloc(), windows(4, 13)?, 7, 100)?;
-    let wide = status(Opcode::STS, 0, 7, 7, 65535);
-    side.gets(&rt, &wide, Delivered::Status);
-    side.has_room_for(&rt, 4);
-    side.gives_all_back(&rt);
-    Ok(())
+    play(
+        rt.alloc(),
+        "
+        a has windows 4 and 13
+        a asked with 7
+        a is opened with 100 ack 7
+        a gets STS 0 ack 7 receipt 7 window 65535 -> Status
+        a fills with 4
+        a gives all back
+        ",
+    )
 }
 
 #[test]
 fn window_of_zero_takes_no_write(rt: HostRuntime) -> Result<(), Fail> {
-    let mut side = open(&rt, rt.alloc(), windows(4, 13)?, 7, 100)?;
-    let shut = status(Opcode::STS, 0, 7, 7, 0);
-    side.gets(&rt, &shut, Delivered::Status);
-    side.has_room_for(&rt, 0);
-    side.gives_all_back(&rt);
-    Ok(())
+    play(
+        rt.alloc(),
+        "
+        a has windows 4 and 13
+        a asked with 7
+        a is opened with 100 ack 7
+        a gets STS 0 ack 7 receipt 7 window 0 -> Status
+        a fills with 0
+        a gives all back
+        ",
+    )
 }
 
 #[test]
 fn writes_are_data_and_empty_eofs(rt: HostRuntime) -> Result<(), Fail> {
-    let mut side = open(&rt, rt.alloc(), ConnConfig::usual(), 7, 100)?;
-    side.writes(&rt, Opcode::CLS, b"", Err(ConnFault::BadOp));
-    side.writes(&rt, Opcode::EOF, b"x", Err(ConnFault::TooLong));
-    side.writes(&rt, Opcode::EOF, b"", Ok(8));
-    side.sends(&rt, Opcode::EOF, 8, 100, b"");
-    side.does(&rt, Call::Unc(b"now"), Ok(()));
-    side.sends(&rt, Opcode::UNC, 0, 0, b"now");
-    side.gives_all_back(&rt);
-    side.writes(&rt, Opcode::DATA, b"x", Err(ConnFault::NotOpen));
-    side.is_quiet(&rt);
-    Ok(())
+    play(
+        rt.alloc(),
+        "
+        a asked with 7
+        a is opened with 100 ack 7
+        a writes CLS -> BadOp
+        a writes EOF \"x\" -> TooLong
+        a writes EOF -> 8
+        a sends EOF 8 ack 100
+        a says \"now\" -> done
+        a sends UNC 0 ack 0 \"now\"
+        a gives all back
+        a writes DAT \"x\" -> NotOpen
+        a sends nothing
+        ",
+    )
 }

@@ -1,134 +1,159 @@
 //! Windows that an open end announces anew.
-use super::outbox::oldest;
-use super::packets::{data, packet};
-use super::side::{Call, Side, item, open, open_pair, rfc_received, rfc_sent, windows};
-use chaos_conn::{ConnConfig, ConnFault, Delivered, Ticked};
-use chaos_packet::{Opcode, Packet};
-use std::process::Abort;
+use super::scene::{PAIR, play, play_after};
 use std::test::Fail;
 
 #[test]
 fn another_window_is_announced_and_kept_to(rt: HostRuntime) -> Result<(), Fail> {
-    let mut side = open(&rt, rt.alloc(), windows(13, 4)?, 7, 10)?;
-    side.does(&rt, Call::Announce(5), Err(ConnFault::BadWindow));
-    side.gets(&rt, &data(13, 7), Delivered::Took);
-    side.announces(&rt, 1, 10, 10);
-    side.gets(&rt, &data(13, 7), Delivered::Duplicate);
-    side.sends_status(&rt, 10, 10);
-    side.gets(&rt, &data(12, 7), Delivered::Outside);
-    side.sends_status(&rt, 10, 10);
-    side.gets(&rt, &data(11, 7), Delivered::Took);
-    side.is_quiet(&rt);
-    side.reads(&rt, item(b'd'));
-    side.sends_status(&rt, 11, 11);
-    side.gets(&rt, &data(12, 7), Delivered::Took);
-    side.announces(&rt, 0, 13, 11);
-    side.reads(&rt, item(b'd'));
-    side.sends_status(&rt, 13, 12);
-    side.reads(&rt, item(b'd'));
-    side.sends_status(&rt, 13, 13);
-    side.gets(&rt, &data(14, 7), Delivered::Outside);
-    side.sends_status(&rt, 13, 13);
-    side.announces(&rt, 4, 13, 13);
-    side.gets(&rt, &data(17, 7), Delivered::Took);
-    side.gives_all_back(&rt);
-    side.does(&rt, Call::Announce(1), Err(ConnFault::NotOpen));
-    side.does(&rt, Call::Announce(5), Err(ConnFault::NotOpen));
-    side.is_quiet(&rt);
-    Ok(())
+    play(
+        rt.alloc(),
+        "
+        a has windows 13 and 4
+        a asked with 7
+        a is opened with 10 ack 7
+        a announces 5 -> BadWindow
+        a gets DAT 13 ack 7 \"d\" -> Took
+        a announces 1 -> done
+        a announced 1
+        a sends STS 0 ack 10 receipt 10 window 1
+        a sends nothing
+        a gets DAT 13 ack 7 \"d\" -> Duplicate
+        a sends STS 0 ack 10 receipt 10 window 1
+        a gets DAT 12 ack 7 \"d\" -> Outside
+        a sends STS 0 ack 10 receipt 10 window 1
+        a gets DAT 11 ack 7 \"d\" -> Took
+        a sends nothing
+        a reads DAT \"d\"
+        a sends STS 0 ack 11 receipt 11 window 1
+        a gets DAT 12 ack 7 \"d\" -> Took
+        a announces 0 -> done
+        a announced 0
+        a sends STS 0 ack 11 receipt 13 window 0
+        a sends nothing
+        a reads DAT \"d\"
+        a sends STS 0 ack 12 receipt 13 window 0
+        a reads DAT \"d\"
+        a sends STS 0 ack 13 receipt 13 window 0
+        a gets DAT 14 ack 7 \"d\" -> Outside
+        a sends STS 0 ack 13 receipt 13 window 0
+        a announces 4 -> done
+        a announced 4
+        a sends STS 0 ack 13 receipt 13 window 4
+        a sends nothing
+        a gets DAT 17 ack 7 \"d\" -> Took
+        a gives all back
+        a announces 1 -> NotOpen
+        a announces 5 -> NotOpen
+        a sends nothing
+        ",
+    )
 }
 
 #[test]
 fn only_an_open_end_announces_a_window(rt: HostRuntime) -> Result<(), Fail> {
-    let mut side = rfc_sent(&rt, rt.alloc(), ConnConfig::usual(), 7)?;
-    side.does(&rt, Call::Announce(1), Err(ConnFault::NotOpen));
-    side.opens(&rt, 7, 100);
-    side.announces(&rt, 3, 100, 100);
-    let cls = packet(Opcode::CLS, 0, 0, b"");
-    side.gets(&rt, &cls, Delivered::Closed(cls.copy()));
-    side.does(&rt, Call::Announce(1), Err(ConnFault::NotOpen));
-    side.gives_all_back(&rt);
-    assert_eq!(rt; side.conn.announced(), 13);
-    Ok(())
+    play(
+        rt.alloc(),
+        "
+        a asked with 7
+        a announces 1 -> NotOpen
+        a is opened with 100 ack 7
+        a announces 3 -> done
+        a announced 3
+        a sends STS 0 ack 100 receipt 100 window 3
+        a sends nothing
+        a gets CLS 0 -> Closed
+        a announces 1 -> NotOpen
+        a gives all back
+        a announced 13
+        ",
+    )
 }
 
 #[test]
 fn opn_that_is_sent_again_keeps_its_words(rt: HostRuntime) -> Result<(), Fail> {
-    let mut side = rfc_received(&rt, rt.alloc(), 65534)?;
-    side.does(&rt, Call::Accept(100), Ok(()));
-    side.sends(&rt, Opcode::OPN, 100, 65534, &[0xfe, 0xff, 13, 0]);
-    side.announces(&rt, 1, 65534, 65534);
-    side.ticks(&rt, 500, Ticked::Resent(1));
-    side.sends(&rt, Opcode::OPN, 100, 65534, &[0xfe, 0xff, 13, 0]);
-    side.gives_all_back(&rt);
-    Ok(())
-}
-
-/// An end writes data of these numbers, each of one byte, and they go out.
-fn writes(rt: &impl Abort, side: &mut Side, numbers: &[u16]) {
-    for num in numbers {
-        side.writes(rt, Opcode::DATA, b"d", Ok(*num));
-    }
-}
-
-/// An end announces a window by an STS, which is handed out.
-fn announced(rt: &impl Abort, side: &mut Side, window: u16) -> Packet {
-    side.does(rt, Call::Announce(window), Ok(()));
-    assert_eq!(rt; side.conn.announced(), window);
-    oldest(rt, &mut side.out)
+    play(
+        rt.alloc(),
+        "
+        a was asked with 65534
+        a accepts with 100 -> done
+        a sends OPN 100 ack 65534 receipt 65534 window 13
+        a announces 1 -> done
+        a announced 1
+        a sends STS 0 ack 65534 receipt 65534 window 1
+        a sends nothing
+        a ticks at 500 -> Resent 1
+        a sends OPN 100 ack 65534 receipt 65534 window 13
+        a gives all back
+        ",
+    )
 }
 
 #[test]
 fn what_is_held_is_read_at_a_closed_window(rt: HostRuntime) -> Result<(), Fail> {
-    let (mut reader, mut writer) = open_pair(&rt, rt.alloc())?;
-    writes(&rt, &mut writer, &[101, 102]);
-    writer.is_heard_by(&rt, &mut reader, Delivered::Took);
-    writer.is_heard_by(&rt, &mut reader, Delivered::Took);
-    let shut = announced(&rt, &mut reader, 0);
-    writer.gets(&rt, &shut, Delivered::Status);
-    writer.has_room_for(&rt, 0);
-    for _ in 0..2 {
-        reader.reads(&rt, item(b'd'));
-        reader.is_heard_by(&rt, &mut writer, Delivered::Status);
-        writer.has_room_for(&rt, 0);
-    }
-    assert!(rt; writer.conn.drained());
-    writer.ticks(&rt, 500, Ticked::Quiet);
-    writer.is_quiet(&rt);
-    let wide = announced(&rt, &mut reader, 13);
-    writer.gets(&rt, &wide, Delivered::Status);
-    writes(&rt, &mut writer, &[103]);
-    writer.is_heard_by(&rt, &mut reader, Delivered::Took);
-    reader.reads(&rt, item(b'd'));
-    reader.is_quiet(&rt);
-    Ok(())
+    play_after(
+        rt.alloc(),
+        PAIR,
+        "
+        b writes DAT \"d\" -> 101
+        b writes DAT \"d\" -> 102
+        a hears b -> Took
+        a hears b -> Took
+        a announces 0 -> done
+        a announced 0
+        b hears a -> Status
+        b fills with 0
+        a reads DAT \"d\"
+        b hears a -> Status
+        b fills with 0
+        a reads DAT \"d\"
+        b hears a -> Status
+        b fills with 0
+        b is drained
+        b ticks at 500 -> Quiet
+        b sends nothing
+        a announces 13 -> done
+        a announced 13
+        b hears a -> Status
+        b writes DAT \"d\" -> 103
+        a hears b -> Took
+        a reads DAT \"d\"
+        a sends nothing
+        ",
+    )
 }
 
 #[test]
 fn older_status_is_used_and_what_it_lets_too_far_is_sent_again(
     rt: HostRuntime,
 ) -> Result<(), Fail> {
-    let (mut reader, mut writer) = open_pair(&rt, rt.alloc())?;
-    let older = announced(&rt, &mut reader, 2);
-    let newer = announced(&rt, &mut reader, 1);
-    writer.gets(&rt, &newer, Delivered::Status);
-    writes(&rt, &mut writer, &[101]);
-    writer.has_room_for(&rt, 0);
-    writer.gets(&rt, &older, Delivered::Status);
-    writes(&rt, &mut writer, &[102]);
-    writer.has_room_for(&rt, 0);
-    writer.is_heard_by(&rt, &mut reader, Delivered::Took);
-    writer.is_heard_by(&rt, &mut reader, Delivered::Outside);
-    reader.is_heard_by(&rt, &mut writer, Delivered::Status);
-    reader.reads(&rt, item(b'd'));
-    reader.is_heard_by(&rt, &mut writer, Delivered::Status);
-    writer.has_room_for(&rt, 0);
-    writer.ticks(&rt, 500, Ticked::Resent(1));
-    writer.is_heard_by(&rt, &mut reader, Delivered::Took);
-    reader.reads(&rt, item(b'd'));
-    reader.is_heard_by(&rt, &mut writer, Delivered::Status);
-    assert!(rt; writer.conn.drained());
-    reader.is_quiet(&rt);
-    writer.is_quiet(&rt);
-    Ok(())
+    play_after(
+        rt.alloc(),
+        PAIR,
+        "
+        a announces 2 -> done
+        a announced 2
+        a keeps copy 0
+        a announces 1 -> done
+        a announced 1
+        a keeps copy 1
+        b receives copy 1 -> Status
+        b writes DAT \"d\" -> 101
+        b fills with 0
+        b receives copy 0 -> Status
+        b writes DAT \"d\" -> 102
+        b fills with 0
+        a hears b -> Took
+        a hears b -> Outside
+        b hears a -> Status
+        a reads DAT \"d\"
+        b hears a -> Status
+        b fills with 0
+        b ticks at 500 -> Resent 1
+        a hears b -> Took
+        a reads DAT \"d\"
+        b hears a -> Status
+        b is drained
+        a sends nothing
+        b sends nothing
+        ",
+    )
 }

@@ -3,7 +3,7 @@
 mod fakes;
 mod several;
 
-use super::*;
+use chaosd_engines::*;
 use fakes::{FuseReader, FuseWriter, Watched, Watching};
 use std::cell::Cell;
 use std::io::Write;

@@ -1,8 +1,8 @@
-use crate::{Served, serve_one};
 use chaos_conn::{ConnConfig, State};
 use chaos_file::{MemStore, Session};
 use chaos_host::{ConnId, Host};
 use chaos_packet::{Item, MAX_DATA, Opcode, Outbox, Packet, PktNum};
+use chaos_serve::{Served, serve_one};
 use std::alloc::{AllocGlobal, Global};
 use std::process::Abort;
 use std::test::Fail;

@@ -1,6 +1,6 @@
 //! Scripts with the text that they print, and what comes of bad lines.
-use crate::run_filelab;
 use chaosd_engines::{INPUT_LIMIT, RunFault};
+use chaosd_filelab::run_filelab;
 use std::process::Abort;
 use std::test::Fail;
 

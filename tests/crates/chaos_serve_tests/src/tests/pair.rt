@@ -1,9 +1,9 @@
 //! Two ends of a connection to contact FILE: a client, and a server with a session over files in memory.
 
-use crate::{Served, serve_conn};
 use chaos_conn::{Conn, ConnConfig, End, ReadEnd, State};
 use chaos_file::{MemStore, Session};
 use chaos_packet::{Opcode, Outbox, PktNum};
+use chaos_serve::{Served, serve_conn};
 use std::alloc::{AllocGlobal, Global};
 use std::process::Abort;
 use std::test::Fail;

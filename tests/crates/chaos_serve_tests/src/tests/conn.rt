@@ -1,7 +1,7 @@
 use super::pair::open_pair;
-use crate::Served;
 use chaos_conn::State;
 use chaos_packet::Opcode;
+use chaos_serve::Served;
 use std::test::Fail;
 
 #[test]

@@ -1,6 +1,6 @@
 //! Datagrams of version 2.
 use super::{DATA_REPORT, STS, STS_REPORT, reports};
-use crate::*;
+use chaosd_engines::*;
 use std::process::Abort;
 use std::test::Fail;
 
