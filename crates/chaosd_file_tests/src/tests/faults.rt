@@ -40,10 +40,10 @@ fn reader_fails(rt: HostRuntime) -> Result<(), Fail> {
     Ok(())
 }
 
-/// One write a reply where the writer takes all, and more where it takes ten bytes a write.
+/// One write for all replies where the writer takes all, and more where it takes ten bytes a write.
 #[test]
 fn writer_fails(rt: HostRuntime) -> Result<(), Fail> {
-    for (most, writes) in [(usize::MAX, 7), (10, 13)] {
+    for (most, writes) in [(usize::MAX, 1), (10, 10)] {
         for left in 0..=writes {
             let (mut near, mut far) = linked(&rt)?;
             let mut writer = FuseWriter::new(rt.alloc(), left, most);
