@@ -1,6 +1,5 @@
 -- What a user sees of a request that waits for an answer.
-use Rattle.std.specs.List.{before_first, after_first}
-use Rattle.std.specs.Prelude.{ℕ, ◌==◌, if◌then◌else◌, List, [], Option, Some, None, Result, Ok, Err}
+use Rattle.std.specs.Prelude.{ℕ, if◌then◌else◌, List, [], Option, Some, None, Result, Ok, Err}
 use Rattle.chaos_packet.specs.Item.{ItemView}
 use Rattle.chaos_conn.specs.State.{is_requested}
 use Rattle.chaos_conn.specs.Calls.{front_of}
@@ -29,16 +28,7 @@ asked_in (Some slot) = asked_of slot.conn
 abbrev pub host_asked : HostView → ℕ → Result (List ℕ) CallFault
 host_asked v id = asked_in (named_slot v.slots id)
 
--- ---- its parts
-
+-- a part of it
 abbrev pub part_of : (List ℕ → List ℕ) → Result (List ℕ) CallFault → Result (List ℕ) CallFault
 part_of part (Ok bytes) = Ok (part bytes)
 part_of part (Err fault) = Err fault
-
--- the bytes before the first space
-abbrev pub contact_part : List ℕ → List ℕ
-contact_part bytes = before_first (λ b. b == 32) bytes
-
--- the bytes after the first space
-abbrev pub arguments_part : List ℕ → List ℕ
-arguments_part bytes = after_first (λ b. b == 32) bytes

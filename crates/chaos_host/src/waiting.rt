@@ -1,14 +1,16 @@
 //! What a user sees of a request that waits for an answer.
-ghost use Rattle.std.specs.Prelude.{◌≡◌, ◌==◌, position};
+ghost use Rattle.std.specs.Prelude.{◌≡◌};
 ghost use Rattle.std.specs.Result.{result_map_both};
 ghost use Rattle.chaos_host.specs.View.{host_look};
-ghost use Rattle.chaos_host.specs.Waiting.{host_asked, asked_of, part_of, contact_part, arguments_part};
+ghost use Rattle.chaos_packet.specs.Request.{contact_in, arguments_in};
+ghost use Rattle.chaos_host.specs.Waiting.{host_asked, asked_of, part_of};
 
 use crate::fault::CallFault;
 use crate::host::Host;
 use crate::index::ConnId;
 use crate::slots::named;
 use chaos_conn::{Conn, ConnFault, State};
+use chaos_packet::{arguments_in, contact_in};
 
 impl Host {
     /// The contact that a connection was asked for, while its request waits for the user: the bytes before the first space,
@@ -17,16 +19,16 @@ impl Host {
     /// Refused, in this order: `NoSuchConnection` where no connection has this index; `Refused(WrongState)` where it holds no
     /// request, as [`Host::accept`] refuses it; so it is with [`Host::arguments`].
     pub fn contact(&self, id: ConnId) -> Result<&[u8], CallFault>
-        ensures { result_map_both (λ bytes. bytes.now) (λ fault. fault) result ≡ part_of contact_part (host_asked self.now id) }
+        ensures { result_map_both (λ bytes. bytes.now) (λ fault. fault) result ≡ part_of contact_in (host_asked self.now id) }
     {
-        Ok(contact_part(asked(&named(&self.slots, id)?.conn)?))
+        Ok(contact_in(asked(&named(&self.slots, id)?.conn)?))
     }
 
     /// The arguments of the request that waits: the bytes after the first space, lent, and none where there is no space.
     pub fn arguments(&self, id: ConnId) -> Result<&[u8], CallFault>
-        ensures { result_map_both (λ bytes. bytes.now) (λ fault. fault) result ≡ part_of arguments_part (host_asked self.now id) }
+        ensures { result_map_both (λ bytes. bytes.now) (λ fault. fault) result ≡ part_of arguments_in (host_asked self.now id) }
     {
-        Ok(arguments_part(asked(&named(&self.slots, id)?.conn)?))
+        Ok(arguments_in(asked(&named(&self.slots, id)?.conn)?))
     }
 
     /// The moment when a connection's peer was last heard. Who waits for a reply to a request asks again and again, and is
@@ -49,31 +51,4 @@ fn asked(conn: &Conn) -> Result<&[u8], CallFault>
         Some(item) => Ok(item.bytes()),
         None => Ok(&[]),
     }
-}
-
-/// The bytes before the first space.
-fn contact_part(bytes: &[u8]) -> &[u8]
-    ensures { result.now ≡ contact_part bytes.now }
-{
-    match first_space(bytes) {
-        Some(place) => &bytes[..place],
-        None => bytes,
-    }
-}
-
-/// The bytes after the first space, and none where there is no space.
-fn arguments_part(bytes: &[u8]) -> &[u8]
-    ensures { result.now ≡ arguments_part bytes.now }
-{
-    match first_space(bytes) {
-        Some(place) => &bytes[place + 1..],
-        None => &[],
-    }
-}
-
-/// Where the first space stands.
-fn first_space(bytes: &[u8]) -> Option<usize>
-    ensures { result ≡ position (λ b. b == 32) bytes.now }
-{
-    bytes.iter().position(|b| *b == b' ')
 }

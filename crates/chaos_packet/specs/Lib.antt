@@ -5,4 +5,5 @@ pub mod Number
 pub mod Opcode
 pub mod Outbox
 pub mod Packet
+pub mod Request
 pub mod Words

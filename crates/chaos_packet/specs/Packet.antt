@@ -1,8 +1,8 @@
 -- What a packet is.
-use Rattle.std.specs.List.{before_first, after_first}
 use Rattle.std.specs.Prelude.{ℕ, ◌+◌, ◌*◌, List, [], ◌∷◌, Option, Some, None, ◌==◌, ◌||◌, if◌then◌else◌}
 use Rattle.chaos_packet.specs.Item.{ItemView}
 use Rattle.chaos_packet.specs.Opcode.{op_opn, op_sts}
+use Rattle.chaos_packet.specs.Request.{contact_in, arguments_in}
 
 -- A header's fields, and the data bytes.
 pub record PacketView : Type 0 where
@@ -33,9 +33,9 @@ status_words _ = None
 abbrev pub status_of : PacketView → Option (ℕ × ℕ)
 status_of p = if p.op == op_opn || p.op == op_sts then status_words p.body else None
 
--- An RFC's data is a contact name, and where a space (byte 32) follows it, arguments after that.
+-- the contact name and the arguments of an RFC
 abbrev pub contact_of : PacketView → List ℕ
-contact_of p = before_first (λ b. b == 32) p.body
+contact_of p = contact_in p.body
 
 abbrev pub arguments_of : PacketView → List ℕ
-arguments_of p = after_first (λ b. b == 32) p.body
+arguments_of p = arguments_in p.body

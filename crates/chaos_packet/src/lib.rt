@@ -12,6 +12,7 @@ mod opcode;
 mod outbox;
 mod packet;
 mod reading;
+mod request;
 mod writing;
 
 pub use fault::PacketFault;
@@ -22,4 +23,5 @@ pub use opcode::{Kind, Opcode};
 pub use outbox::Outbox;
 pub use packet::Packet;
 pub use reading::{from_words, law_spells};
+pub use request::{arguments_in, contact_in};
 pub use writing::{to_words, write_words};

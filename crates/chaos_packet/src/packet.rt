@@ -1,5 +1,5 @@
 //! A packet.
-ghost use Rattle.std.specs.Prelude.{◌≡◌, ◌+◌, ◌*◌, ◌≤◌, ◌==◌, length, position};
+ghost use Rattle.std.specs.Prelude.{◌≡◌, ◌+◌, ◌*◌, ◌≤◌, length};
 ghost use Rattle.chaos_packet.specs.Packet.{blank, status_of, status_words, contact_of, arguments_of};
 ghost use Rattle.chaos_packet.specs.Words.{header_of};
 
@@ -7,6 +7,7 @@ use crate::item::body_of;
 use crate::limits::{HEADER_WORDS, MAX_DATA};
 use crate::number::PktNum;
 use crate::opcode::{Kind, Opcode};
+use crate::request::{arguments_in, contact_in};
 use arrayvec::ArrayVec;
 use std::marker::Model;
 
@@ -152,11 +153,7 @@ impl Packet {
     pub fn contact(&self) -> &[u8]
         ensures { result.now ≡ contact_of self.now }
     {
-        let bytes = self.bytes();
-        match first_space(bytes) {
-            Some(place) => &bytes[..place],
-            None => bytes,
-        }
+        contact_in(self.bytes())
     }
 
     /// The arguments that follow the contact name of an RFC: the bytes after the first space, lent, and none where
@@ -164,11 +161,7 @@ impl Packet {
     pub fn arguments(&self) -> &[u8]
         ensures { result.now ≡ arguments_of self.now }
     {
-        let bytes = self.bytes();
-        match first_space(bytes) {
-            Some(place) => &bytes[place + 1..],
-            None => &[],
-        }
+        arguments_in(self.bytes())
     }
 
     /// The receipt and the window that an OPN or STS tells, where it has four data bytes or more; those past the
@@ -194,11 +187,4 @@ fn status_words(bytes: &[u8]) -> Option<(PktNum, u16)>
         )),
         _ => None,
     }
-}
-
-/// Where the first space stands.
-fn first_space(bytes: &[u8]) -> Option<usize>
-    ensures { result ≡ position (λ b. b == 32) bytes.now }
-{
-    bytes.iter().position(|b| *b == b' ')
 }
