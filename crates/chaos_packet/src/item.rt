@@ -36,6 +36,16 @@ impl Item {
         }
     }
 
+    /// Makes it an item with a copy of these bytes, which are written over those that it had. Where those were more, zeros are
+    /// written over the rest of them, and over no others.
+    pub fn overwrite(&mut self, op: Opcode, bytes: &[u8])
+        requires { length bytes.now ≤ MAX_DATA }
+        ensures { self.new ≡ record { op = op; body = bytes.now } }
+    {
+        self.op = op;
+        overwrite_body(&mut self.body, bytes);
+    }
+
     /// The data bytes, lent.
     pub fn bytes(&self) -> &[u8]
         ensures value { result.now ≡ self.now.body }
@@ -53,4 +63,19 @@ pub fn body_of(bytes: &[u8]) -> ArrayVec<u8, MAX_DATA>
     let mut body = ArrayVec::new();
     let _fits = body.try_extend_from_slice(bytes);
     body
+}
+
+/// Makes these the data, by a copy over what lies there.
+fn overwrite_body(body: &mut ArrayVec<u8, MAX_DATA>, bytes: &[u8])
+    requires { length bytes.now ≤ MAX_DATA }
+    ensures { body.new.items ≡ bytes.now }
+{
+    let had = body.len();
+    if had < bytes.len() {
+        body.as_mut_slice().copy_from_slice(&bytes[..had]);
+        let _fits = body.try_extend_from_slice(&bytes[had..]);
+    } else {
+        body.truncate(bytes.len());
+        body.as_mut_slice().copy_from_slice(bytes);
+    }
 }

@@ -62,9 +62,7 @@ impl Slot {
         requires { length bytes.now ≤ MAX_DATA }
         ensures { self.new ≡ Some (record { op = op; body = bytes.now }) }
     {
-        self.place.op = op;
-        self.place.body.clear();
-        let _fits = self.place.body.try_extend_from_slice(bytes);
+        self.place.overwrite(op, bytes);
         self.held = true;
     }
 
