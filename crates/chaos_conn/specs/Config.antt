@@ -43,6 +43,10 @@ checked_config c = if is_window c.send_cap
 abbrev pub usual_config : ConfigView
 usual_config = record { send_cap = 13; recv_cap = 13; retransmit = 500; probe = 10000; down = 90000 }
 
+-- the usual configuration with both windows of so many packets, where a window can have as many
+abbrev pub config_with : ℕ → ConfigView
+config_with window = if is_window window then record usual_config { send_cap = window; recv_cap = window } else usual_config
+
 -- What holds of every configuration.
 pub record IsConfig (c : ConfigView) : Type 0 where
   pub some_send : 1 ≤ c.send_cap

@@ -1,6 +1,6 @@
 //! What an end is set to.
 ghost use Rattle.std.specs.Prelude.{◌≡◌};
-ghost use Rattle.chaos_conn.specs.Config.{IsConfig, config_view, is_window, checked_config, usual_config};
+ghost use Rattle.chaos_conn.specs.Config.{IsConfig, config_view, is_window, checked_config, usual_config, config_with};
 
 use crate::fault::ConfigFault;
 use crate::limits::{USUAL_DOWN, USUAL_PROBE, USUAL_RETRANSMIT, USUAL_WINDOW};
@@ -83,6 +83,20 @@ impl ConnConfig {
             retransmit: USUAL_RETRANSMIT,
             probe: USUAL_PROBE,
             down: USUAL_DOWN,
+        }
+    }
+
+    /// The usual configuration, with both windows of so many packets, from 1 to 64. Any other number stands for the usual 13.
+    pub fn with_window(window: u16) -> Self
+        ensures { result ≡ config_with window }
+    {
+        if !is_window(window) {
+            return ConnConfig::usual();
+        }
+        ConnConfig {
+            send_cap: window,
+            recv_cap: window,
+            ..ConnConfig::usual()
         }
     }
 
