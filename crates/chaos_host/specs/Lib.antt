@@ -8,9 +8,9 @@ pub mod Law
 pub mod Lending
 pub mod Listening
 pub mod NextDue
+pub mod Requested
 pub mod Route
 pub mod Slot
 pub mod Stored
 pub mod Tick
 pub mod View
-pub mod Waiting

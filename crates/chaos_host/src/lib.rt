@@ -19,12 +19,12 @@ mod listeners;
 mod looks;
 mod next_due;
 mod replies;
+mod requested;
 mod route;
 mod slot;
 mod slots;
 mod stored;
 mod tick;
-mod waiting;
 
 pub use answers::{HostDelivered, HostDisposition};
 pub use fault::{CallFault, ConnectFault, ListenFault, MakeFault};

@@ -3,7 +3,7 @@ ghost use Rattle.std.specs.Prelude.{◌≡◌};
 ghost use Rattle.std.specs.Result.{result_map_both};
 ghost use Rattle.chaos_host.specs.View.{host_look};
 ghost use Rattle.chaos_packet.specs.Request.{contact_in, arguments_in};
-ghost use Rattle.chaos_host.specs.Waiting.{host_asked, asked_of, part_of};
+ghost use Rattle.chaos_host.specs.Requested.{host_asked, asked_of, part_of};
 
 use crate::fault::CallFault;
 use crate::host::Host;
