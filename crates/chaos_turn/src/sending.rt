@@ -8,7 +8,10 @@ use chaos_link::{Carriage, Link, Load, MAX_DATAGRAM, write_datagram};
 use chaos_packet::{Outbox, Packet};
 
 /// Sends all that waits by the carriage, the oldest first, and says whether anything did. A packet whose send fails is lost,
-/// and with it those in its datagram.
+/// and with it those in its datagram; the link's count of failures tells it.
+///
+/// A turn does so after each call of its host. A service of one's own does so after its own calls, so that what they put out
+/// doesn't wait for the next turn. It takes no memory.
 pub fn send_all<L: Link>(link: &mut L, out: &mut Outbox, carriage: Carriage) -> bool
     ensures sends { Sends (L.queue link.old) (sent_by carriage (out.old.packets ∷ [])) (L.queue link.new) }
     ensures empty { out.new ≡ record { packets = []; cap = out.old.cap } }
