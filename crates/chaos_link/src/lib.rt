@@ -1,8 +1,8 @@
 //! Chaosnet packets as UDP datagrams (own profile: the memo's hardware carriage is not used), and links that carry
 //! datagrams between hosts.
 //!
-//! The datagrams are bytes and packets alone. Of the links one is a queue in memory, whose constructor allocates, and one
-//! is a UDP socket, which alone waits. Nothing here reads a clock or makes a socket.
+//! The datagrams are bytes and packets alone. Of the links one is a queue in memory, two are a pair in memory, whose
+//! constructors allocate, and one is a UDP socket, which alone waits. Nothing here reads a clock or makes a socket.
 #![tactic(auto)]
 
 mod bundle;
@@ -16,6 +16,7 @@ mod link;
 mod loads;
 mod mem;
 mod packets;
+mod pair;
 mod pairs;
 mod peers;
 mod udp;
@@ -33,5 +34,6 @@ pub use link::{Link, Received, Sent};
 pub use loads::{Load, law_loads};
 pub use mem::MemLink;
 pub use packets::{Packets, is_version_two, law_carries2, open_datagram, read_datagram};
+pub use pair::{MemPair, PairEnd, Side};
 pub use peers::{Peer, Peers};
 pub use udp::UdpLink;

@@ -1,5 +1,6 @@
 //! Packets that wait to be sent.
 ghost use Rattle.std.specs.Prelude.{◌≡◌, ◌+◌, ◌<◌, length, [], ◌∷◌, slice_get, IfOk};
+ghost use Rattle.std.specs.Option.{option_copied};
 ghost use Rattle.chaos_packet.specs.Outbox.{room_of, with_put, without_oldest};
 
 use crate::packet::Packet;
@@ -52,7 +53,22 @@ impl Outbox {
         let _none = self.ring.push_back(packet);
     }
 
-    /// Takes the oldest packet out, where there is one.
+    /// Lends the oldest packet where it lies, where there is one. Who only looks at a packet before it goes, as to send it,
+    /// takes it by this and [`Outbox::drop_front`], which move none.
+    pub fn front(&self) -> Option<&Packet>
+        ensures { option_copied result ≡ slice_get self.now.packets 0 }
+    {
+        self.ring.front()
+    }
+
+    /// Drops the oldest packet, where there is one.
+    pub fn drop_front(&mut self)
+        ensures { self.new ≡ without_oldest self.old }
+    {
+        let _dropped = self.ring.pop_front();
+    }
+
+    /// Takes the oldest packet out, where there is one: the one that [`Outbox::front`] lends.
     pub fn take(&mut self) -> Option<Packet>
         ensures oldest { result ≡ slice_get self.old.packets 0 }
         ensures rest { self.new ≡ without_oldest self.old }

@@ -6,7 +6,7 @@ use Rattle.chaos_link.specs.declared.carriage.Carriage.TheVariants.{Two}
 use Rattle.chaos_link.specs.Bundle.{datagram_of_all}
 use Rattle.chaos_link.specs.Link.{QueueView}
 use Rattle.chaos_link.specs.Loads.{joined, joins, loads_from, loads_of}
-use Rattle.chaos_turn.specs.Link.{Sends, datagrams_of, has_packets}
+use Rattle.chaos_turn.specs.Link.{Sends, datagrams_of}
 use Rattle.chaos_turn.proofs.Queue.{first_and_rest, none_left, sends_after, sends_nothing}
 
 -- These datagrams were sent; a load is begun, and the other packets wait still.
@@ -64,23 +64,12 @@ module _ (before mid after : Option QueueView) (old out : OutboxView) (load : Li
       let whole = ap (λ (ps : List PacketView). so.done ++ map datagram_of_all (loads_from load ps)) (sym (none_left out.packets none)) ∙ so.whole in
       subst (λ (ds : List (List ℕ)). Sends before ds after) whole (sends_after before mid after so.done (datagram_of_all load ∷ []) so.sends sends)
 
-  pub empty_then : without_oldest out ≡ record { packets = []; cap = old.cap }
+  pub empty_then : out ≡ record { packets = []; cap = old.cap }
   empty_then =
-      ap (λ (ps : List PacketView). record { packets = drop 1 ps; cap = out.cap }) (none_left out.packets none)
+      ap (λ (ps : List PacketView). record { packets = ps; cap = out.cap }) (none_left out.packets none)
       ∙ ap (λ (n : ℕ). record { packets = []; cap = n }) so.cap
-
--- there was a first packet
-pub has_first : (ps : List PacketView) (p : PacketView) → slice_get ps 0 ≡ Some p → true ≡ has_packets (ps ∷ [])
-has_first [] p e = absurd (cc)
-has_first (x ∷ ps) p e = refl
 
 -- none waited
 module _ (old : OutboxView) (none : slice_get old.packets 0 ≡ None) where
-  pub none_sends : (queue : Option QueueView) → Sends queue (datagrams_of Two old.packets) queue
-  none_sends queue = subst (λ (ps : List PacketView). Sends queue (datagrams_of Two ps) queue) (sym (none_left old.packets none)) (sends_nothing queue)
-
-  pub none_empty : without_oldest old ≡ record { packets = []; cap = old.cap }
-  none_empty = ap (λ (ps : List PacketView). record { packets = drop 1 ps; cap = old.cap }) (none_left old.packets none)
-
-  pub none_told : false ≡ has_packets (old.packets ∷ [])
-  none_told = ap (λ (ps : List PacketView). has_packets (ps ∷ [])) (sym (none_left old.packets none))
+  pub no_load_sent : (queue : Option QueueView) → Sends queue (datagrams_of Two old.packets) queue
+  no_load_sent queue = subst (λ (ps : List PacketView). Sends queue (datagrams_of Two ps) queue) (sym (none_left old.packets none)) (sends_nothing queue)

@@ -1,10 +1,11 @@
 -- Datagrams sent one after the other.
-use Rattle.std.proofs.Common.{◌≡◌, ℕ, Bool, true, false, if◌then◌else◌, ◌++◌, ◌<◌, List, [], ◌∷◌, length, drop, slice_get, Option, Some, None, IfSome, refl, arith, ap, sym, ◌∙◌, subst, append_assoc}
+use Rattle.std.proofs.Common.{◌≡◌, ℕ, Bool, true, false, not, if◌then◌else◌, ◌++◌, ◌<◌, List, [], ◌∷◌, length, drop, slice_get, Option, Some, None, is_some, IfSome, Bor, refl, arith, ap, sym, ◌∙◌, subst, append_assoc}
 use Rattle.std.proofs.lemmas.List.{append-nil}
+use Rattle.std.specs.Option.{option_copied}
 use Rattle.chaos_packet.specs.Packet.{PacketView}
 use Rattle.chaos_packet.specs.Outbox.{OutboxView, without_oldest}
 use Rattle.chaos_link.specs.declared.carriage.Carriage.{Carriage}
-use Rattle.chaos_link.specs.declared.carriage.Carriage.TheVariants.{One}
+use Rattle.chaos_link.specs.declared.carriage.Carriage.TheVariants.{One, Two}
 use Rattle.chaos_link.specs.Datagram.{datagram_of}
 use Rattle.chaos_link.specs.Link.{QueueView, SendsInto, with_datagram}
 use Rattle.chaos_link.specs.declared.link.Sent.{Sent}
@@ -70,16 +71,15 @@ sends_nothing (Some queue) = refl
 
 -- ---- an outbox that is emptied packet by packet
 
--- Of the packets that waited these were sent, and the others wait still; it is known whether there were any.
-pub record SentSoFar (before after : Option QueueView) (old out : OutboxView) (sent : Bool) : Type 0 where
+-- Of the packets that waited these were sent, and the others wait still.
+pub record SentSoFar (before after : Option QueueView) (old out : OutboxView) : Type 0 where
   pub done : List PacketView
   pub all : done ++ out.packets ≡ old.packets
   pub cap : out.cap ≡ old.cap
   pub sends : Sends before (datagrams_of One done) after
-  pub told : sent ≡ has_packets (done ∷ [])
 
-pub none_sent : (queue : Option QueueView) (out : OutboxView) → SentSoFar queue queue out out false
-none_sent queue out = record { done = []; all = refl; cap = refl; sends = sends_nothing queue; told = refl }
+pub none_sent : (queue : Option QueueView) (out : OutboxView) → SentSoFar queue queue out out
+none_sent queue out = record { done = []; all = refl; cap = refl; sends = sends_nothing queue }
 
 pub first_and_rest : (ps : List PacketView) (p : PacketView) → slice_get ps 0 ≡ Some p → p ∷ drop 1 ps ≡ ps
 first_and_rest [] p e = absurd (cc)
@@ -89,40 +89,57 @@ pub one_less : (ps : List PacketView) (p : PacketView) → slice_get ps 0 ≡ So
 one_less [] p e = absurd (cc)
 one_less (x ∷ ps) p e = omega arith
 
-has_last : (ps : List PacketView) (p : PacketView) → has_packets ((ps ++ p ∷ []) ∷ []) ≡ true
-has_last [] p = refl
-has_last (x ∷ ps) p = refl
-
-pub one_more_sent : (before mid after : Option QueueView) (old out rest : OutboxView) (p : PacketView) (sent : Bool)
-    → SentSoFar before mid old out sent → slice_get out.packets 0 ≡ Some p → rest ≡ without_oldest out → Sends mid (datagrams_of One (p ∷ [])) after
-    → SentSoFar before after old rest true
-one_more_sent before mid after old out rest p sent so first e sends =
-    let here : SentSoFar before after old (without_oldest out) true
+pub one_more_sent : (before mid after : Option QueueView) (old out rest : OutboxView) (p : PacketView)
+    → SentSoFar before mid old out → slice_get out.packets 0 ≡ Some p → rest ≡ without_oldest out → Sends mid (datagrams_of One (p ∷ [])) after
+    → SentSoFar before after old rest
+one_more_sent before mid after old out rest p so first e sends =
+    let here : SentSoFar before after old (without_oldest out)
     = record {
       done = so.done ++ p ∷ [];
       all = append_assoc so.done (p ∷ []) (drop 1 out.packets) ∙ (ap (λ (ps : List PacketView). so.done ++ ps) (first_and_rest out.packets p first) ∙ so.all);
       cap = so.cap;
       sends = subst (λ (ds : List (List ℕ)). Sends before ds after) (singly_both so.done (p ∷ [])) (sends_after before mid after (datagrams_of One so.done) (datagrams_of One (p ∷ [])) so.sends sends);
-      told = sym (has_last so.done p);
     } in
-    subst (λ (o : OutboxView). SentSoFar before after old o true) (sym e) here
+    subst (λ (o : OutboxView). SentSoFar before after old o) (sym e) here
 
 pub none_left : (ps : List PacketView) → slice_get ps 0 ≡ None → ps ≡ []
 none_left [] e = refl
 none_left (x ∷ ps) e = absurd (cc)
 
 -- where none waits any more, all were sent
-module _ (before after : Option QueueView) (old out : OutboxView) (sent : Bool) (so : SentSoFar before after old out sent) (none : slice_get out.packets 0 ≡ None) where
+module _ (before after : Option QueueView) (old out : OutboxView) (so : SentSoFar before after old out) (none : slice_get out.packets 0 ≡ None) where
   all_done : so.done ≡ old.packets
   all_done = sym (append-nil so.done) ∙ (ap (λ (ps : List PacketView). so.done ++ ps) (sym (none_left out.packets none)) ∙ so.all)
 
   pub all_sends : Sends before (datagrams_of One old.packets) after
   all_sends = subst (λ (ps : List PacketView). Sends before (datagrams_of One ps) after) all_done so.sends
 
-  pub all_empty : without_oldest out ≡ record { packets = []; cap = old.cap }
+  pub all_empty : out ≡ record { packets = []; cap = old.cap }
   all_empty =
-      ap (λ (ps : List PacketView). record { packets = drop 1 ps; cap = out.cap }) (none_left out.packets none)
+      ap (λ (ps : List PacketView). record { packets = ps; cap = out.cap }) (none_left out.packets none)
       ∙ ap (λ (n : ℕ). record { packets = []; cap = n }) so.cap
 
-  pub all_told : sent ≡ has_packets (old.packets ∷ [])
-  all_told = so.told ∙ ap (λ (ps : List PacketView). has_packets (ps ∷ [])) all_done
+-- ---- an outbox in which none waits
+
+pub none_lent : (lent : Option (Bor PacketView)) (told : Bool) → is_some lent ≡ not told → told ≡ true → option_copied lent ≡ None
+none_lent None told e true-told = refl
+none_lent (Some p) told e true-told = absurd (cc)
+
+nothing_by : (carriage : Carriage) (queue : Option QueueView) → Sends queue (sent_by carriage ([] ∷ [])) queue
+nothing_by One queue = sends_nothing queue
+nothing_by Two queue = sends_nothing queue
+
+module _ (out : OutboxView) (none : slice_get out.packets 0 ≡ None) where
+  pub none_sends : (carriage : Carriage) (queue : Option QueueView) → Sends queue (sent_by carriage (out.packets ∷ [])) queue
+  none_sends carriage queue = subst (λ (ps : List PacketView). Sends queue (sent_by carriage (ps ∷ [])) queue) (sym (none_left out.packets none)) (nothing_by carriage queue)
+
+  pub none_empty : out ≡ record { packets = []; cap = out.cap }
+  none_empty = ap (λ (ps : List PacketView). record { packets = ps; cap = out.cap }) (none_left out.packets none)
+
+  pub none_told : false ≡ has_packets (out.packets ∷ [])
+  none_told = ap (λ (ps : List PacketView). has_packets (ps ∷ [])) (sym (none_left out.packets none))
+
+-- there was a first packet
+pub some_told : (ps : List PacketView) (p : PacketView) → slice_get ps 0 ≡ Some p → true ≡ has_packets (ps ∷ [])
+some_told [] p e = absurd (cc)
+some_told (x ∷ ps) p e = refl

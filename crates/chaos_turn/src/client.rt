@@ -36,8 +36,12 @@ fn take_client_turn<L: Link>(
     any_of(ticked, arrived, false)
 }
 
-/// One turn of a client: it sends what waits, receives at most one datagram, delivers its packets in order, and ticks each
+/// One turn of a client, or of a host with services of its caller's: it sends what waits, receives at most one datagram, delivers its packets in order, and ticks each
 /// slot. What the host puts out is sent after each of its calls. It accepts no request and serves nothing.
+///
+/// So it is the turn without FILE. A service of another contact takes it, and then: accepts, answers or rejects the requests
+/// that wait, which [`Host::contact`] and [`Host::arguments`] tell slot by slot; reads what is in front, and writes; releases
+/// what ended; and sends what these calls put out by [`send_all`](crate::send_all).
 ///
 /// It leaves in `told` what became of the last packet of the datagram, as [`Host::deliver`] answered it, and `None` where no
 /// datagram came or it carried no packet. So a client learns with which text its request was refused.

@@ -4,8 +4,11 @@ ghost use Rattle.chaos_turn.specs.Arrive.{Receives};
 
 use chaos_link::{LINK_ROOM, Link, LinkFault, Packets, Received, open_datagram};
 
-/// Receives at most one datagram into the buffer, for which it may wait or not, and answers the packets that it carries, of either version, which lie there,
-/// or why it carries none.
+/// Receives at most one datagram into the buffer, for which it may wait or not, and answers the packets that it carries, of
+/// either version, which lie there, or why it carries none. `None` where none came, or the link failed, which its count of
+/// failures tells.
+///
+/// It is how a turn receives, for those who build a turn of their own. It takes no memory.
 pub fn receive<'a, L: Link>(
     link: &mut L,
     buffer: &'a mut [u8; LINK_ROOM],

@@ -8,59 +8,64 @@ use chaos_link::{Carriage, Link, Load, MAX_DATAGRAM, write_datagram};
 use chaos_packet::{Outbox, Packet};
 
 /// Sends all that waits by the carriage, the oldest first, and says whether anything did. A packet whose send fails is lost,
-/// and with it those in its datagram.
+/// and with it those in its datagram; the link's count of failures tells it.
+///
+/// A turn does so after each call of its host. A service of one's own does so after its own calls, so that what they put out
+/// doesn't wait for the next turn. It takes no memory.
 pub fn send_all<L: Link>(link: &mut L, out: &mut Outbox, carriage: Carriage) -> bool
     ensures sends { Sends (L.queue link.old) (sent_by carriage (out.old.packets ∷ [])) (L.queue link.new) }
     ensures empty { out.new ≡ record { packets = []; cap = out.old.cap } }
     ensures told { result ≡ has_packets (out.old.packets ∷ []) }
 {
+    if out.front().is_none() {
+        return false;
+    }
     match carriage {
         Carriage::One => send_singly(link, out),
         Carriage::Two => send_loads(link, out),
     }
+    true
 }
 
-/// Sends all that waits, each packet as its canonical datagram.
-fn send_singly<L: Link>(link: &mut L, out: &mut Outbox) -> bool
+/// Sends all that waits, each packet as its canonical datagram, which is written from the packet where it lies.
+fn send_singly<L: Link>(link: &mut L, out: &mut Outbox)
     ensures sends { Sends (L.queue link.old) (datagrams_of Carriage.One out.old.packets) (L.queue link.new) }
     ensures empty { out.new ≡ record { packets = []; cap = out.old.cap } }
-    ensures told { result ≡ has_packets (out.old.packets ∷ []) }
 {
-    let mut sent = false;
-    'packets: while let Some(packet) = out.take() {
-        send(link, &packet);
-        sent = true;
+    // One buffer for all: it is filled once.
+    let mut buffer = [0; MAX_DATAGRAM];
+    'packets: while let Some(packet) = out.front() {
+        send(link, packet, &mut buffer);
+        out.drop_front();
     }
-    sent
 }
 
-/// Sends a packet as its canonical datagram.
-fn send<L: Link>(link: &mut L, packet: &Packet)
+/// Sends a packet as its canonical datagram, which is written into the buffer.
+fn send<L: Link>(link: &mut L, packet: &Packet, buffer: &mut [u8; MAX_DATAGRAM])
     ensures { Sends (L.queue link.old) (datagrams_of Carriage.One (packet.now ∷ [])) (L.queue link.new) }
 {
-    let mut datagram = [0; MAX_DATAGRAM];
-    let end = write_datagram(packet, &mut datagram);
-    let _ = link.send(packet.dst, &datagram[..end]);
+    let end = write_datagram(packet, buffer);
+    let _ = link.send(packet.dst, &buffer[..end]);
 }
 
 /// Sends all that waits, load by load: a packet that doesn't join the load before it begins the next.
-fn send_loads<L: Link>(link: &mut L, out: &mut Outbox) -> bool
+fn send_loads<L: Link>(link: &mut L, out: &mut Outbox)
     ensures sends { Sends (L.queue link.old) (datagrams_of Carriage.Two out.old.packets) (L.queue link.new) }
     ensures empty { out.new ≡ record { packets = []; cap = out.old.cap } }
-    ensures told { result ≡ has_packets (out.old.packets ∷ []) }
 {
-    let Some(first) = out.take() else {
-        return false;
+    let Some(first) = out.front() else {
+        return;
     };
-    let mut load = Load::of(&first);
-    'packets: while let Some(packet) = out.take() {
-        if !load.join(&packet) {
+    let mut load = Load::of(first);
+    out.drop_front();
+    'packets: while let Some(packet) = out.front() {
+        if !load.join(packet) {
             send_load(link, &load);
-            load.begin(&packet);
+            load.begin(packet);
         }
+        out.drop_front();
     }
     send_load(link, &load);
-    true
 }
 
 /// Sends a load as its datagram.

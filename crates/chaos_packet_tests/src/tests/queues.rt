@@ -1,5 +1,6 @@
 //! A queue of packets under the clauses of `Outbox`: over its ring, and over a Vec whose packets move.
 ghost use Rattle.std.specs.Prelude.{◌≡◌, ◌+◌, ◌<◌, length, [], ◌∷◌, slice_get, IfOk};
+ghost use Rattle.std.specs.Option.{option_copied};
 ghost use Rattle.chaos_packet.specs.Outbox.{OutboxView, room_of, with_put, without_oldest};
 
 use super::LETTER;
@@ -24,6 +25,12 @@ trait Queue {
         requires { 0 < room_of (seen self.old) }
         ensures { seen self.new ≡ with_put (seen self.old) (packet ∷ []) };
 
+    fn front(&self) -> Option<&Packet>
+        ensures { option_copied result ≡ slice_get (seen self.now).packets 0 };
+
+    fn drop_front(&mut self)
+        ensures { seen self.new ≡ without_oldest (seen self.old) };
+
     fn take(&mut self) -> Option<Packet>
         ensures oldest { result ≡ slice_get (seen self.old).packets 0 }
         ensures rest { seen self.new ≡ without_oldest (seen self.old) };
@@ -42,6 +49,14 @@ impl Queue for Outbox {
 
     fn put(&mut self, packet: Packet) {
         self.put(packet);
+    }
+
+    fn front(&self) -> Option<&Packet> {
+        self.front()
+    }
+
+    fn drop_front(&mut self) {
+        self.drop_front();
     }
 
     fn take(&mut self) -> Option<Packet> {
@@ -83,6 +98,14 @@ impl Queue for PlainOutbox {
         let _ = self.packets.push(packet);
     }
 
+    fn front(&self) -> Option<&Packet> {
+        self.packets.first()
+    }
+
+    fn drop_front(&mut self) {
+        let _oldest = self.take();
+    }
+
     fn take(&mut self) -> Option<Packet> {
         if self.packets.is_empty() {
             return None;
@@ -106,7 +129,8 @@ fn numbers_taken<Q: Queue + Drop>(mut out: Q) -> Result<[u16; 4], Fail> {
         }
         taken[round as usize] = out.take().map_or(0, |packet| packet.num.0);
     }
-    taken[3] = out.take().map_or(0, |packet| packet.num.0);
+    taken[3] = out.front().map_or(0, |packet| packet.num.0);
+    out.drop_front();
     Ok(taken)
 }
 

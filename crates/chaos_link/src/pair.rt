@@ -1,0 +1,134 @@
+//! Two links in memory that hear each other.
+ghost use Rattle.std.specs.Prelude.{◌≡◌, ◌≤◌, length, None, IfOk, []};
+ghost use Rattle.chaos_packet.specs.Count.{Rose};
+ghost use Rattle.chaos_link.specs.Link.{IsWithin};
+ghost use Rattle.chaos_link.specs.Pair.{SendsAcross, HearsOther};
+
+use crate::limits::LINK_ROOM;
+use crate::link::{Link, Received, Sent};
+use crate::mem::MemLink;
+use std::alloc::{AllocError, Global};
+use std::marker::Model;
+
+/// One of the two ends of a pair.
+#[derive(Clone, Copy, Debug, PartialEq, Eq)]
+pub enum Side {
+    /// The one.
+    Near,
+    /// The other.
+    Far,
+}
+
+/// Two queues in memory between two ends: what one end sends the other receives, in order, and never the end itself. A
+/// contract sees the datagrams that wait for each end.
+///
+/// [`MemPair::end`] lends one end, a [`Link`], for as long as it is used, as for a turn of its host; then the other may be
+/// lent. `new` takes the memory for all datagrams, and no later call takes any.
+#[derive(Drop)]
+pub struct MemPair {
+    /// What waits for the near end.
+    near: MemLink,
+    /// What waits for the far end.
+    far: MemLink,
+}
+
+impl Model for MemPair {
+    ghost use Rattle.chaos_link.specs.Pair.{PairView};
+
+    ghost Value = { PairView };
+
+    ghost view = { λ pair. record { near = pair.near; far = pair.far } };
+}
+
+impl MemPair {
+    /// A pair between which nothing is on its way, with room for `cap` datagrams of 2,048 bytes each way.
+    ///
+    /// # Errors
+    /// No memory for them.
+    pub fn new(alloc: Global, cap: usize) -> Result<Self, AllocError>
+        ensures { IfOk result (λ pair. pair ≡ record { near = record { datagrams = []; cap = cap }; far = record { datagrams = []; cap = cap } }) }
+    {
+        let near = MemLink::new(alloc, cap)?;
+        let far = MemLink::new(alloc, cap)?;
+        Ok(MemPair { near, far })
+    }
+
+    /// Lends an end.
+    pub fn end(&mut self, side: Side) -> PairEnd<'_>
+        // What is done at the end is done to the pair.
+        ensures lends { result.pair.ghost_name ≡ self.entry.ghost_name }
+        ensures pair { result.pair.now ≡ self.old }
+        ensures side { result.side ≡ side }
+    {
+        PairEnd { pair: self, side }
+    }
+
+    /// Sends from one end to the other.
+    fn send_from(&mut self, side: Side, to_address: u16, bytes: &[u8]) -> Sent
+        requires { length bytes.now ≤ LINK_ROOM }
+        ensures { SendsAcross side bytes.now result self.old self.new }
+    {
+        match side {
+            Side::Near => self.far.send(to_address, bytes),
+            Side::Far => self.near.send(to_address, bytes),
+        }
+    }
+
+    /// Receives at an end.
+    fn receive_at(&mut self, side: Side, buffer: &mut [u8; LINK_ROOM], may_wait: bool) -> Received
+        ensures within { IsWithin LINK_ROOM result }
+        ensures heard { HearsOther side buffer.old buffer.new result self.old self.new }
+    {
+        match side {
+            Side::Near => self.near.receive(buffer, may_wait),
+            Side::Far => self.far.receive(buffer, may_wait),
+        }
+    }
+}
+
+/// An end of a pair, as a link. It sends what the other end receives, whatever address that goes to, and never fails.
+#[derive(Drop)]
+pub struct PairEnd<'a> {
+    /// The pair.
+    pub pair: &'a mut MemPair,
+    /// Which end of it this is.
+    pub side: Side,
+}
+
+impl Link for PairEnd<'_> {
+    ghost count = { λ _. 0 };
+
+    // What is sent isn't what is received, so that an end is no queue.
+    ghost queue = { λ _. None };
+
+    /// Puts the datagram behind those that wait for the other end. One that finds the queue full is lost, and answered as
+    /// sent.
+    fn send(&mut self, to_address: u16, bytes: &[u8]) -> Sent
+        requires { length bytes.now ≤ LINK_ROOM }
+        ensures failed { result ≡ Sent.Failed → Rose 0 0 }
+        ensures queued { Unit {0} }
+        ensures across { SendsAcross self.old.side bytes.now result self.old.pair.now self.new.pair.now }
+        // It is an end of the same pair still.
+        ensures pair { self.new.pair.ghost_name ≡ self.old.pair.ghost_name }
+        ensures side { self.new.side ≡ self.old.side }
+    {
+        self.pair.send_from(self.side, to_address, bytes)
+    }
+
+    /// Takes the oldest datagram that waits for this end out, and never waits. The buffer behind it stays as it was.
+    fn receive(&mut self, buffer: &mut [u8; LINK_ROOM], may_wait: bool) -> Received
+        ensures failed { result ≡ Received.Failed → Rose 0 0 }
+        ensures within { IsWithin LINK_ROOM result }
+        ensures queued { Unit {0} }
+        ensures heard { HearsOther self.old.side buffer.old buffer.new result self.old.pair.now self.new.pair.now }
+        ensures pair { self.new.pair.ghost_name ≡ self.old.pair.ghost_name }
+        ensures side { self.new.side ≡ self.old.side }
+    {
+        self.pair.receive_at(self.side, buffer, may_wait)
+    }
+
+    /// A pair in memory never fails.
+    fn failures(&self) -> u64 {
+        0
+    }
+}
