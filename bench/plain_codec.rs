@@ -1,4 +1,7 @@
-// Packets of 448 data bytes read from datagrams and written to them, in plain Rust: beside chaos_link's codec.
+//! Packets of 448 data bytes read from datagrams and written to them, in plain Rust, written for speed: beside chaos_link's codec. A
+//! datagram is written into a place that is lent, or handed out by value, as there.
+//!
+//! It has version 1 of the carriage alone, one packet a datagram. A packet that is read has room of 488 bytes, cleared where it is made.
 use std::time::Instant;
 
 const ROUNDS: u32 = 1_000_000;

@@ -1,5 +1,8 @@
-// What `show` prints, in plain Rust by somebody who cares for speed: lines cut from one buffer, digits by tables, the
-// packet's words read in place, and one fixed buffer of text. It takes no memory.
+//! What `show` prints, in plain Rust, written for speed: lines cut from one buffer, digits by tables, the packet's words read in place,
+//! and one fixed buffer of text. It takes no memory.
+//!
+//! It has no limit of its input, counts neither lines nor faults for its exit status, tells no fault of its reader from one of its
+//! writer, and asks a reader that is interrupted again for ever.
 use std::io::{self, ErrorKind, Read, Write};
 
 const LINE_LIMIT: usize = 8_192;
