@@ -5,8 +5,8 @@ both carriages, where one packet goes out in a turn and where several do.
     make bench-loop, or bench/loop.py [PROGRAM]
 
 PROGRAM is bin/chaosd by default. The plain program is built for the same processors (x86-64-v2). Each figure is the least of
-several runs, taken in turn, beyond what a run without a command takes, and the outputs have to be the same. Where valgrind is
-there, the instructions of `loop` outside the system are counted too, which don't vary with what else the machine does. Where
+several runs, taken in turn, beyond what a run without a command takes, and the outputs have to be the same. Where valgrind or
+perf is there, the instructions of `loop` outside the system are counted too, which don't vary with what else the machine does. Where
 tftp-hpa is installed, its time for the same file stands beside them.
 """
 
@@ -21,6 +21,10 @@ import subprocess
 import sys
 import tempfile
 import time
+
+sys.dont_write_bytecode = True
+
+from beside import instructions  # noqa: E402
 
 HERE = pathlib.Path(__file__).resolve().parent
 PROGRAM = HERE.parent / "bin/chaosd"
@@ -86,20 +90,13 @@ def timed(name, commands, script, count, folder):
     return whole
 
 
-def instructions(command, script):
-    """How many instructions a run of the command on the script takes, as valgrind counts them."""
-    words = ["valgrind", "--tool=callgrind", "--callgrind-out-file=/dev/null", *command]
-    told = subprocess.run(words, input=script, stdout=subprocess.DEVNULL, stderr=subprocess.PIPE, check=True).stderr
-    return int(re.search(rb"Collected : (\d+)", told)[1])
-
-
 def counted(name, commands, script, count):
     """Prints the instructions of one of the script's commands for each program, or that none were counted."""
-    if not shutil.which("valgrind"):
-        print(f"{name}: instructions aren't counted: no valgrind here")
+    runs = {program: (instructions(command, script), instructions(command)) for program, command in commands.items()}
+    if any(None in both for both in runs.values()):
+        print(f"{name}: instructions aren't counted: neither valgrind nor perf can here")
         return
-    spent = {program: instructions(command, script) - instructions(command, b"") for program, command in commands.items()}
-    ours, plain = (spent[program] / count for program in ["chaosd", "plain"])
+    ours, plain = ((runs[program][0] - runs[program][1]) / count for program in ["chaosd", "plain"])
     print(f"{name}: chaosd {ours:.0f} instructions a command, plain Rust {plain:.0f}, ratio {ours / plain:.2f}")
 
 
