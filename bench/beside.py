@@ -4,8 +4,8 @@
 Each bench is two programs that print the same lines, `what operations nanoseconds`, and where they have one what all came to,
 which has to be the same: bench/NAME.rt.in over copies of the crates,
 proved and built by rt (another by RT=..) in a folder of its own, and bench/plain_NAME.rs, built by rustc. Both are run ten times,
-in turn, and each figure is the least. Where valgrind is there, the instructions of a whole run are counted too, which don't vary
-with what else the machine does. It takes some minutes, most of them for the proofs.
+in turn, and each figure is the least. Where valgrind or perf is there, the instructions of a whole run are counted too, which
+don't vary with what else the machine does. It takes some minutes, most of them for the proofs.
 """
 
 import os
@@ -85,19 +85,26 @@ def figures(program):
     return {(what, int(count), *sums): int(spent) / int(count) for what, count, spent, *sums in rows}
 
 
-def instructions(program):
-    """How many instructions a run takes, as valgrind counts them."""
-    count = ["valgrind", "--tool=callgrind", "--callgrind-out-file=/dev/null", program]
-    told = subprocess.run(count, capture_output=True, text=True, check=True).stderr
-    return int(re.search(r"Collected : (\d+)", told).group(1))
+def instructions(command, script=b""):
+    """How many instructions a run of the command on the script takes outside the system, as valgrind counts them or perf; None
+    where neither can."""
+    if shutil.which("valgrind"):
+        counter, count = ["valgrind", "--tool=callgrind", "--callgrind-out-file=/dev/null"], rb"Collected : (\d+)"
+    elif shutil.which("perf"):
+        counter, count = ["perf", "stat", "-x", ",", "-e", "instructions:u"], rb"(\d+),.*instructions"
+    else:
+        return None
+    ran = subprocess.run([*counter, *command], input=script, stdout=subprocess.DEVNULL, stderr=subprocess.PIPE)
+    told = re.search(count, ran.stderr)
+    return int(told[1]) if told else None
 
 
 def count_both(name, programs):
     """Prints what both programs take in instructions, or that none were counted."""
-    if not shutil.which("valgrind"):
-        print(f"{name}: instructions aren't counted: no valgrind here", flush=True)
+    ours, plain = (instructions([programs[kind]]) for kind in ("chaos", "plain"))
+    if ours is None or plain is None:
+        print(f"{name}: instructions aren't counted: neither valgrind nor perf can here", flush=True)
         return
-    ours, plain = (instructions(programs[kind]) for kind in ("chaos", "plain"))
     both = f"{ours / 1e6:.0f} million instructions, plain Rust {plain / 1e6:.0f} million"
     print(f"{name}: the whole run: {both}, ratio {ours / plain:.2f}", flush=True)
 

@@ -5,8 +5,9 @@ both carriages, where one packet goes out in a turn and where several do.
     make bench-loop, or bench/loop.py [PROGRAM]
 
 PROGRAM is bin/chaosd by default. The plain program is built for the same processors (x86-64-v2). Each figure is the least of
-several runs, taken in turn, beyond what a run without a command takes, and the outputs have to be the same. Where tftp-hpa is
-installed, its time for the same file stands beside them.
+several runs, taken in turn, beyond what a run without a command takes, and the outputs have to be the same. Where valgrind or
+perf is there, the instructions of `loop` outside the system are counted too, which don't vary with what else the machine does. Where
+tftp-hpa is installed, its time for the same file stands beside them.
 """
 
 import contextlib
@@ -20,6 +21,10 @@ import subprocess
 import sys
 import tempfile
 import time
+
+sys.dont_write_bytecode = True
+
+from beside import instructions  # noqa: E402
 
 HERE = pathlib.Path(__file__).resolve().parent
 PROGRAM = HERE.parent / "bin/chaosd"
@@ -85,6 +90,16 @@ def timed(name, commands, script, count, folder):
     return whole
 
 
+def counted(name, commands, script, count):
+    """Prints the instructions of one of the script's commands for each program, or that none were counted."""
+    runs = {program: (instructions(command, script), instructions(command)) for program, command in commands.items()}
+    if any(None in both for both in runs.values()):
+        print(f"{name}: instructions aren't counted: neither valgrind nor perf can here")
+        return
+    ours, plain = ((runs[program][0] - runs[program][1]) / count for program in ["chaosd", "plain"])
+    print(f"{name}: chaosd {ours:.0f} instructions a command, plain Rust {plain:.0f}, ratio {ours / plain:.2f}")
+
+
 def free_ports(count):
     """Ports of 127.0.0.1 that nobody has."""
     sockets = [socket.socket(socket.AF_INET, socket.SOCK_DGRAM) for _ in range(count)]
@@ -114,6 +129,7 @@ def bench_loop(programs, folder):
     script, count = files_script(8, 250)
     commands = {name: [program, "loop"] for name, program in programs.items()}
     timed(f"loop, {count} commands", commands, script, count, folder)
+    counted(f"loop, {count} commands", commands, script, count)
 
 
 def bench_ask(programs, folder):

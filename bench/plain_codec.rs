@@ -1,4 +1,9 @@
-// Packets of 448 data bytes read from datagrams and written to them, in plain Rust: beside chaos_link's codec.
+//! Packets of 448 data bytes read from datagrams and written to them, in plain Rust, written for speed: beside chaos_link's codec. A
+//! datagram is written into a place that is lent, or handed out by value, as there.
+//!
+//! It has version 1 of the carriage alone, one packet a datagram. What a packet or datagram that is handed out has room for beyond its
+//! bytes is never written, as in the crate arrayvec.
+use std::mem::MaybeUninit;
 use std::time::Instant;
 
 const ROUNDS: u32 = 1_000_000;
@@ -9,15 +14,23 @@ const MAX_DATAGRAM: usize = 508;
 const HEADER_END: usize = 20;
 const MARK: [u8; 4] = [0x43, 0x48, 0x01, 0x00];
 
-/// Bytes in place, so many of which count.
+type Unset = MaybeUninit<u8>;
+
+/// Bytes in place, so many of which count; the others were never written.
 struct Bytes<const N: usize> {
     len: usize,
-    all: [u8; N],
+    all: [Unset; N],
 }
 
 impl<const N: usize> Bytes<N> {
+    fn new() -> Self {
+        Bytes { len: 0, all: [Unset::uninit(); N] }
+    }
+
     fn as_slice(&self) -> &[u8] {
-        &self.all[..self.len]
+        let bytes = &self.all[..self.len];
+        // SAFETY: whoever sets the length has written so many bytes.
+        unsafe { &*(bytes as *const [Unset] as *const [u8]) }
     }
 }
 
@@ -45,9 +58,9 @@ enum Fault {
 }
 
 /// Copies pairs of bytes, each turned round: by whole words, which vectors turn at once.
-fn swap_pairs(to: &mut [u8], from: &[u8]) {
+fn swap_pairs(to: &mut [Unset], from: &[u8]) {
     for (to, from) in to.chunks_exact_mut(2).zip(from.chunks_exact(2)) {
-        to.copy_from_slice(&u16::from_be_bytes([from[0], from[1]]).to_le_bytes());
+        to.copy_from_slice(&u16::from_be_bytes([from[0], from[1]]).to_le_bytes().map(Unset::new));
     }
 }
 
@@ -78,7 +91,8 @@ fn from_datagram(bytes: &[u8]) -> Result<Packet, Fault> {
     if rest.len() > even {
         return Err(Fault::Trailing);
     }
-    let mut packet = Packet {
+    // Made where it is handed out, and its data written there, so that it isn't moved.
+    let mut read = Ok(Packet {
         op: header[0],
         fwd: (word(1) / 4096) as u8,
         dst: word(2),
@@ -87,15 +101,18 @@ fn from_datagram(bytes: &[u8]) -> Result<Packet, Fault> {
         src_index: word(5),
         num: word(6),
         ack: word(7),
-        body: Bytes { len: count, all: [0; MAX_DATA] },
-    };
-    swap_pairs(&mut packet.body.all[..even], rest);
-    Ok(packet)
+        body: Bytes::new(),
+    });
+    if let Ok(packet) = &mut read {
+        swap_pairs(&mut packet.body.all[..even], rest);
+        packet.body.len = count;
+    }
+    read
 }
 
 /// Writes the datagram to the front of the buffer, and says where it ends.
 #[inline(always)]
-fn put_datagram(packet: &Packet, buffer: &mut [u8; MAX_DATAGRAM]) -> usize {
+fn put_datagram(packet: &Packet, buffer: &mut [Unset; MAX_DATAGRAM]) -> usize {
     let data = packet.body.as_slice();
     let header = [
         u16::from(packet.op) << 8,
@@ -109,34 +126,36 @@ fn put_datagram(packet: &Packet, buffer: &mut [u8; MAX_DATAGRAM]) -> usize {
     ];
     let even = data.len() + data.len() % 2;
     let (front, rest) = buffer.split_at_mut(HEADER_END);
-    front[..4].copy_from_slice(&MARK);
+    front[..4].copy_from_slice(&MARK.map(Unset::new));
     for (to, word) in front[4..].chunks_exact_mut(2).zip(header) {
-        to.copy_from_slice(&word.to_be_bytes());
+        to.copy_from_slice(&word.to_be_bytes().map(Unset::new));
     }
     swap_pairs(rest, data);
     if let [last] = data.chunks_exact(2).remainder() {
-        rest[even - 2..even].copy_from_slice(&[0, *last]);
+        rest[even - 2..even].copy_from_slice(&[0, *last].map(Unset::new));
     }
     HEADER_END + even
 }
 
 #[inline(never)]
 fn to_datagram(packet: &Packet) -> Bytes<MAX_DATAGRAM> {
-    let mut datagram = Bytes { len: 0, all: [0; MAX_DATAGRAM] };
+    let mut datagram = Bytes::new();
     datagram.len = put_datagram(packet, &mut datagram.all);
     datagram
 }
 
 #[inline(never)]
 fn write_datagram(packet: &Packet, buffer: &mut [u8; MAX_DATAGRAM]) -> usize {
-    put_datagram(packet, buffer)
+    // SAFETY: all that is written there are bytes.
+    put_datagram(packet, unsafe { &mut *(buffer as *mut [u8; MAX_DATAGRAM] as *mut [Unset; MAX_DATAGRAM]) })
 }
 
 fn numbered(num: u16) -> Packet {
-    let mut body = Bytes { len: BYTES, all: [0; MAX_DATA] };
+    let mut body = Bytes::new();
     for (i, byte) in body.all[..BYTES].iter_mut().enumerate() {
-        *byte = num as u8 ^ i as u8;
+        byte.write(num as u8 ^ i as u8);
     }
+    body.len = BYTES;
     Packet { op: 0o200, fwd: 0, dst: 0o401, dst_index: 1, src: 0o402, src_index: 2, num, ack: 0, body }
 }
 
@@ -148,8 +167,8 @@ fn sum_of(packet: &Packet, place: usize) -> u32 {
 fn read_all(datagrams: &[Bytes<MAX_DATAGRAM>]) -> u32 {
     let mut sum = 0u32;
     for round in 0..ROUNDS as usize {
-        if let Ok(packet) = from_datagram(datagrams[round % PACKETS].as_slice()) {
-            sum = sum.wrapping_add(sum_of(&packet, round));
+        if let Ok(packet) = &from_datagram(datagrams[round % PACKETS].as_slice()) {
+            sum = sum.wrapping_add(sum_of(packet, round));
         }
     }
     sum

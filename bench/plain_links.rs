@@ -1,4 +1,7 @@
-// Round trips of 508-byte datagrams between two sockets of one process, in plain Rust: beside the links of chaos_link.
+//! Round trips of 508-byte datagrams between two sockets of one process, in plain Rust: beside the links of chaos_link. A round trip is
+//! four calls of the system and nothing else, and its buffer is made once.
+//!
+//! It has no peers, of which one would have to be found by its address, can't poll, tells no loss from a failure, and counts none.
 use std::net::UdpSocket;
 use std::time::{Duration, Instant};
 

@@ -1,5 +1,8 @@
-// What `show` prints, in plain Rust by somebody who cares for speed: lines cut from one buffer, digits by tables, the
-// packet's words read in place, and one fixed buffer of text. It takes no memory.
+//! What `show` prints, in plain Rust, written for speed: lines cut from one buffer, digits by tables, a packet's words and data read
+//! where they lie, and one fixed buffer of text. It takes no memory.
+//!
+//! It has no limit of its input, counts neither lines nor faults for its exit status, tells no fault of its reader from one of its
+//! writer, and asks a reader that is interrupted again for ever.
 use std::io::{self, ErrorKind, Read, Write};
 
 const LINE_LIMIT: usize = 8_192;
@@ -80,12 +83,18 @@ impl Text {
         self.put(&[15, 12, 9, 6, 3, 0].map(|shift| b'0' + (n >> shift & 7) as u8));
     }
 
-    fn data(&mut self, body: &[u8]) {
-        let end = self.len + 3 * body.len();
-        for (place, byte) in self.bytes[self.len..end].chunks_exact_mut(3).zip(body) {
-            place.copy_from_slice(&TRIPLES[usize::from(*byte)]);
+    /// So many data bytes, of which each pair stands turned round.
+    fn data(&mut self, words: &[u8], count: usize) {
+        let even = count - count % 2;
+        let end = self.len + 3 * even;
+        for (place, pair) in self.bytes[self.len..end].chunks_exact_mut(6).zip(words.chunks_exact(2)) {
+            place[..3].copy_from_slice(&TRIPLES[usize::from(pair[1])]);
+            place[3..].copy_from_slice(&TRIPLES[usize::from(pair[0])]);
         }
         self.len = end;
+        if even < count {
+            self.put(&TRIPLES[usize::from(words[even + 1])]);
+        }
     }
 
     fn hand_on(&mut self) -> io::Result<()> {
@@ -117,14 +126,6 @@ enum PacketFault {
 enum Datagram<'a> {
     One(&'a [u8]),
     Several(u8, &'a [u8]),
-}
-
-struct Packet {
-    op: u8,
-    fwd: u8,
-    words: [u16; 6],
-    body: [u8; 488],
-    count: usize,
 }
 
 /// The bytes that a line stands for, at the front of `bytes`.
@@ -209,21 +210,6 @@ fn open(bytes: &[u8]) -> Result<Datagram<'_>, Fault> {
     }
 }
 
-/// The packet at the front of words that were looked through.
-fn decode(words: &[u8]) -> Packet {
-    let mut body = [0; 488];
-    for (pair, swapped) in body.chunks_exact_mut(2).zip(words[16..].chunks_exact(2)) {
-        pair.copy_from_slice(&[swapped[1], swapped[0]]);
-    }
-    Packet {
-        op: words[0],
-        fwd: words[2] >> 4,
-        words: [2, 3, 4, 5, 6, 7].map(|at| word(words, at)),
-        body,
-        count: count(words),
-    }
-}
-
 fn name(op: u8) -> &'static [u8] {
     match op {
         0o1 => b" RFC\n",
@@ -243,38 +229,38 @@ fn name(op: u8) -> &'static [u8] {
     }
 }
 
-fn print(text: &mut Text, p: &Packet) {
-    let op = [6, 3, 0].map(|shift| b'0' + (p.op >> shift & 7));
+/// The report of the packet at the front of words that were looked through.
+fn print(text: &mut Text, words: &[u8]) {
+    let (op, count) = (words[0], count(words));
     text.put(b"op ");
-    text.put(&op);
-    text.put(name(p.op));
+    text.put(&[6, 3, 0].map(|shift| b'0' + (op >> shift & 7)));
+    text.put(name(op));
     text.put(b"fwd ");
-    text.decimal(u16::from(p.fwd));
+    text.decimal(u16::from(words[2] >> 4));
     text.put(b" count ");
-    text.decimal(p.count as u16);
+    text.decimal(count as u16);
     text.put(b"\nto ");
-    text.octal(p.words[0]);
+    text.octal(word(words, 2));
     text.put(b" ");
-    text.octal(p.words[1]);
+    text.octal(word(words, 3));
     text.put(b"\nfrom ");
-    text.octal(p.words[2]);
+    text.octal(word(words, 4));
     text.put(b" ");
-    text.octal(p.words[3]);
+    text.octal(word(words, 5));
     text.put(b"\nnum ");
-    text.decimal(p.words[4]);
+    text.decimal(word(words, 6));
     text.put(b" ack ");
-    text.decimal(p.words[5]);
+    text.decimal(word(words, 7));
     text.put(b"\n");
-    let body = &p.body[..p.count];
-    if (p.op == 2 || p.op == 7) && body.len() >= 4 {
+    if (op == 2 || op == 7) && count >= 4 {
         text.put(b"receipt ");
-        text.decimal(u16::from_le_bytes([body[0], body[1]]));
+        text.decimal(word(words, 8));
         text.put(b" window ");
-        text.decimal(u16::from_le_bytes([body[2], body[3]]));
+        text.decimal(word(words, 9));
         text.put(b"\n");
-    } else if !body.is_empty() {
+    } else if count > 0 {
         text.put(b"data");
-        text.data(body);
+        text.data(&words[16..], count);
         text.put(b"\n");
     }
 }
@@ -318,7 +304,7 @@ fn print_several(text: &mut Text, number: u8, words: &[u8]) {
         let used = 16 + 2 * count(rest).div_ceil(2);
         let (front, behind) = rest.split_at(used);
         text.put(b"\n");
-        print(text, &decode(front));
+        print(text, front);
         rest = behind;
     }
 }
@@ -348,7 +334,7 @@ impl Reporter {
             hex(line, bytes).ok_or(Fault::Line).and_then(|count| open(&bytes[..count]))
         };
         match read {
-            Ok(Datagram::One(words)) => print(text, &decode(words)),
+            Ok(Datagram::One(words)) => print(text, words),
             Ok(Datagram::Several(number, words)) => print_several(text, number, words),
             Err(f) => print_fault(text, f),
         }

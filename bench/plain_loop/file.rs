@@ -1,10 +1,10 @@
 //! FILE: commands over a session and a store, in memory or in a folder.
+use crate::host::Body;
 use std::collections::HashMap;
 use std::fs;
 use std::io::{self, ErrorKind, Read, Write};
 use std::path::PathBuf;
 
-const MOST_DATA: usize = 488;
 const FILE_DATA: usize = 448;
 const FILE_LIMIT: usize = 1_048_576;
 pub const NL: u8 = 0x8D;
@@ -184,7 +184,7 @@ impl Session {
         self.handles.iter_mut().find(|(known, _)| known == name).map(|(_, handle)| handle).ok_or(NOH)
     }
 
-    fn open(&mut self, store: &mut dyn Store, name: &[u8], rest: &[u8], reply: &mut Vec<u8>) -> Result<(), Refused> {
+    fn open(&mut self, store: &mut impl Store, name: &[u8], rest: &[u8], reply: &mut Body) -> Result<(), Refused> {
         let (reads, path) = match (rest.strip_prefix(b" READ\x8D"), rest.strip_prefix(b" WRITE\x8D")) {
             (Some(path), _) => (true, path_of(path)?),
             (_, Some(path)) => (false, path_of(path)?),
@@ -197,37 +197,39 @@ impl Session {
             return Err("NMH Too many handles.");
         }
         let bytes = if reads { store.get(path)? } else { Vec::new() };
-        let _ = write!(reply, "OPEN {}", bytes.len());
+        reply.put(b"OPEN ");
+        reply.put_number(bytes.len());
         let path = path.to_owned();
         let handle = if reads { Handle::Reader { bytes, place: 0 } } else { Handle::Writer { path, bytes } };
         self.handles.push((name.to_vec(), handle));
         Ok(())
     }
 
-    fn read(&mut self, name: &[u8], reply: &mut Vec<u8>) -> Result<(), Refused> {
+    fn read(&mut self, name: &[u8], reply: &mut Body) -> Result<(), Refused> {
         let Handle::Reader { bytes, place } = self.found(name)? else { return Err(WRK) };
         let next = bytes.len().min(*place + FILE_DATA);
         if next == *place {
-            reply.extend_from_slice(b"EOF");
+            reply.put(b"EOF");
         } else {
-            reply.extend_from_slice(b"READ\x8D");
-            reply.extend_from_slice(&bytes[*place..next]);
+            reply.put(b"READ\x8D");
+            reply.put(&bytes[*place..next]);
         }
         *place = next;
         Ok(())
     }
 
-    fn write(&mut self, name: &[u8], more: &[u8], reply: &mut Vec<u8>) -> Result<(), Refused> {
+    fn write(&mut self, name: &[u8], more: &[u8], reply: &mut Body) -> Result<(), Refused> {
         let Handle::Writer { bytes, .. } = self.found(name)? else { return Err(WRK) };
         if bytes.len() + more.len() > FILE_LIMIT {
             return Err(TBG);
         }
         bytes.extend_from_slice(more);
-        let _ = write!(reply, "WRITE {}", bytes.len());
+        reply.put(b"WRITE ");
+        reply.put_number(bytes.len());
         Ok(())
     }
 
-    fn close(&mut self, store: &mut dyn Store, name: &[u8], reply: &mut Vec<u8>) -> Result<(), Refused> {
+    fn close(&mut self, store: &mut impl Store, name: &[u8], reply: &mut Body) -> Result<(), Refused> {
         let place = self.place(name).ok_or(NOH)?;
         let count = match self.handles.remove(place).1 {
             Handle::Reader { bytes, .. } => bytes.len(),
@@ -240,11 +242,12 @@ impl Session {
                 count
             }
         };
-        let _ = write!(reply, "CLOSE {count}");
+        reply.put(b"CLOSE ");
+        reply.put_number(count);
         Ok(())
     }
 
-    fn run(&mut self, store: &mut dyn Store, name: &[u8], rest: &[u8], reply: &mut Vec<u8>) -> Result<(), Refused> {
+    fn run(&mut self, store: &mut impl Store, name: &[u8], rest: &[u8], reply: &mut Body) -> Result<(), Refused> {
         let end = rest.iter().position(|&b| b == b' ' || b == NL).unwrap_or(rest.len());
         let (word, rest) = rest.split_at(end);
         let takes_handle = match word {
@@ -264,8 +267,8 @@ impl Session {
             b"LOGIN" => {
                 let user = rest.strip_prefix(b" ").filter(|user| is_name(user, 1, 16)).ok_or(SYN)?;
                 self.named = true;
-                reply.extend_from_slice(b"LOGIN ");
-                reply.extend_from_slice(user);
+                reply.put(b"LOGIN ");
+                reply.put(user);
             }
             b"OPEN" => self.open(store, name, rest, reply)?,
             b"READ" if rest.is_empty() => self.read(name, reply)?,
@@ -274,30 +277,31 @@ impl Session {
             b"RENAME" => {
                 let (old, new) = cut_at(line?, NL).ok_or(SYN)?;
                 store.rename(path_of(old)?, path_of(new)?)?;
-                reply.extend_from_slice(word);
+                reply.put(word);
             }
             b"DELETE" => {
                 store.remove(path_of(line?)?)?;
-                reply.extend_from_slice(word);
+                reply.put(word);
             }
             _ => return Err(SYN),
         }
         Ok(())
     }
 
-    pub fn apply(&mut self, store: &mut dyn Store, command: &[u8]) -> Vec<u8> {
+    /// Carries a command out, and writes its reply, where nothing is yet.
+    pub fn apply(&mut self, store: &mut impl Store, command: &[u8], reply: &mut Body) {
         let head = cut_at(command, b' ').filter(|(tid, _)| is_name(tid, 1, 8));
         let names = head.and_then(|(tid, rest)| cut_at(rest, b' ').map(|(name, rest)| (tid, name, rest)));
         let Some((tid, name, rest)) = names.filter(|(_, name, _)| is_name(name, 0, 8)) else {
-            return [b"  ERROR ", SYN.as_bytes()].concat();
+            reply.put(b"  ERROR ");
+            return reply.put(SYN.as_bytes());
         };
-        let mut reply = Vec::with_capacity(MOST_DATA);
         for text in [tid, b" ", name, b" "] {
-            reply.extend_from_slice(text);
+            reply.put(text);
         }
-        if let Err(text) = self.run(store, name, rest, &mut reply) {
-            let _ = write!(reply, "ERROR {text}");
+        if let Err(text) = self.run(store, name, rest, reply) {
+            reply.put(b"ERROR ");
+            reply.put(text.as_bytes());
         }
-        reply
     }
 }

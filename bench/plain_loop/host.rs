@@ -1,11 +1,14 @@
-//! Packets, connections and a host: the protocol without a socket.
-use std::collections::VecDeque;
-
+//! Packets, connections and a host: the protocol without a socket. After a host is made no packet takes memory: both windows are
+//! rings whose places are kept, data are lent where they lie, and what goes out is written as its datagram at once.
 const RETRANSMIT: u64 = 500;
 const PROBE: u64 = 10_000;
 const DOWN: u64 = 90_000;
 const WINDOW: u16 = 13;
+const PLACES: usize = WINDOW as usize;
+const MARK: [u8; 4] = [0x43, 0x48, 1, 0];
+const HEADER_END: usize = 20;
 pub const MOST_DATA: usize = 488;
+pub const MOST_DATAGRAM: usize = 508;
 
 const RFC: u8 = 0o1;
 const OPN: u8 = 0o2;
@@ -19,7 +22,53 @@ pub const EOF: u8 = 0o14;
 const UNC: u8 = 0o15;
 pub const DATA: u8 = 0o200;
 
-pub struct Packet {
+/// Bytes in a place that is kept, so many of which count.
+pub struct Body {
+    len: usize,
+    all: [u8; MOST_DATA],
+}
+
+impl Body {
+    pub fn new() -> Self {
+        Body { len: 0, all: [0; MOST_DATA] }
+    }
+
+    pub fn bytes(&self) -> &[u8] {
+        &self.all[..self.len]
+    }
+
+    pub fn clear(&mut self) {
+        self.len = 0;
+    }
+
+    /// Puts bytes behind those that are there; they have to fit.
+    pub fn put(&mut self, bytes: &[u8]) {
+        self.all[self.len..self.len + bytes.len()].copy_from_slice(bytes);
+        self.len += bytes.len();
+    }
+
+    pub fn put_number(&mut self, number: usize) {
+        let mut digits = [0; 20];
+        let (mut place, mut left) = (digits.len(), number);
+        loop {
+            place -= 1;
+            digits[place] = b'0' + (left % 10) as u8;
+            left /= 10;
+            if left == 0 {
+                break;
+            }
+        }
+        self.put(&digits[place..]);
+    }
+
+    fn fill(&mut self, bytes: &[u8]) {
+        self.clear();
+        self.put(bytes);
+    }
+}
+
+/// A packet whose data lie elsewhere: in the buffer of its datagram, or with the item that is sent.
+pub struct Packet<'a> {
     pub op: u8,
     pub dst: u16,
     pub dst_index: u16,
@@ -27,46 +76,56 @@ pub struct Packet {
     pub src_index: u16,
     pub num: u16,
     pub ack: u16,
-    pub body: Vec<u8>,
+    pub body: &'a [u8],
 }
 
+/// Turns each pair of bytes round: by whole words, which vectors turn at once.
 fn swap_pairs(bytes: &mut [u8]) {
     for pair in bytes.chunks_exact_mut(2) {
-        pair.swap(0, 1);
+        pair.copy_from_slice(&u16::from_be_bytes([pair[0], pair[1]]).to_le_bytes());
     }
 }
 
-impl Packet {
-    pub fn read(bytes: &[u8]) -> Option<Packet> {
-        let words = bytes.strip_prefix(&[0x43, 0x48, 1, 0])?;
-        if words.len() < 16 {
+/// Copies pairs of bytes, each turned round.
+fn copy_swapped(to: &mut [u8], from: &[u8]) {
+    for (to, from) in to.chunks_exact_mut(2).zip(from.chunks_exact(2)) {
+        to.copy_from_slice(&u16::from_be_bytes([from[0], from[1]]).to_le_bytes());
+    }
+}
+
+impl<'a> Packet<'a> {
+    /// The packet of a datagram, whose data are turned round where they lie.
+    pub fn read(bytes: &'a mut [u8]) -> Option<Packet<'a>> {
+        if !bytes.starts_with(&MARK) {
             return None;
         }
-        let word = |n: usize| u16::from_be_bytes([words[2 * n], words[2 * n + 1]]);
+        let (header, words) = bytes[MARK.len()..].split_first_chunk_mut::<16>()?;
+        let word = |n: usize| u16::from_be_bytes([header[2 * n], header[2 * n + 1]]);
         let count = usize::from(word(1) & 0xFFF);
-        if count > MOST_DATA || words.len() != 16 + count.next_multiple_of(2) {
+        if count > MOST_DATA || words.len() != count.next_multiple_of(2) {
             return None;
         }
-        let mut body = words[16..].to_vec();
-        swap_pairs(&mut body);
-        body.truncate(count);
+        swap_pairs(words);
         let [dst, dst_index, src, src_index, num, ack] = [2, 3, 4, 5, 6, 7].map(word);
-        Some(Packet { op: words[0], dst, dst_index, src, src_index, num, ack, body })
+        Some(Packet { op: header[0], dst, dst_index, src, src_index, num, ack, body: &words[..count] })
     }
 
-    pub fn datagram<'a>(&self, place: &'a mut [u8; 508]) -> &'a [u8] {
-        place[..4].copy_from_slice(&[0x43, 0x48, 1, 0]);
+    /// Writes the packet's datagram to the front of the place, and says where it ends.
+    pub fn write(&self, place: &mut [u8; MOST_DATAGRAM]) -> usize {
         let count = self.body.len();
-        let first = [u16::from(self.op) << 8, count as u16];
-        let header = [self.dst, self.dst_index, self.src, self.src_index, self.num, self.ack];
-        for (place, word) in place[4..].chunks_exact_mut(2).zip(first.into_iter().chain(header)) {
-            place.copy_from_slice(&word.to_be_bytes());
+        let words =
+            [u16::from(self.op) << 8, count as u16, self.dst, self.dst_index, self.src, self.src_index, self.num, self.ack];
+        let (header, rest) = place.split_at_mut(HEADER_END);
+        header[..MARK.len()].copy_from_slice(&MARK);
+        for (to, word) in header[MARK.len()..].chunks_exact_mut(2).zip(words) {
+            to.copy_from_slice(&word.to_be_bytes());
         }
-        let end = 20 + count.next_multiple_of(2);
-        place[20 + count..end].fill(0);
-        place[20..20 + count].copy_from_slice(&self.body);
-        swap_pairs(&mut place[20..end]);
-        &place[..end]
+        copy_swapped(rest, self.body);
+        let even = count.next_multiple_of(2);
+        if let [last] = self.body.chunks_exact(2).remainder() {
+            rest[even - 2..even].copy_from_slice(&[0, *last]);
+        }
+        HEADER_END + even
     }
 
     /// The receipt and the window that an OPN or STS tells.
@@ -80,7 +139,49 @@ impl Packet {
     }
 }
 
-pub type Out = Vec<Packet>;
+/// A datagram that waits to be sent.
+pub struct Datagram {
+    pub to: u16,
+    len: usize,
+    all: [u8; MOST_DATAGRAM],
+}
+
+impl Datagram {
+    pub fn bytes(&self) -> &[u8] {
+        &self.all[..self.len]
+    }
+}
+
+/// What waits to be sent, in places that are kept: a packet is written as its datagram as soon as it goes out.
+#[derive(Default)]
+pub struct Out {
+    places: Vec<Datagram>,
+    count: usize,
+}
+
+impl Out {
+    pub fn is_empty(&self) -> bool {
+        self.count == 0
+    }
+
+    pub fn datagrams(&self) -> &[Datagram] {
+        &self.places[..self.count]
+    }
+
+    pub fn clear(&mut self) {
+        self.count = 0;
+    }
+
+    fn put(&mut self, packet: &Packet) {
+        if self.count == self.places.len() {
+            self.places.push(Datagram { to: 0, len: 0, all: [0; MOST_DATAGRAM] });
+        }
+        let place = &mut self.places[self.count];
+        place.to = packet.dst;
+        place.len = packet.write(&mut place.all);
+        self.count += 1;
+    }
+}
 
 #[derive(Clone, Copy, PartialEq)]
 pub enum State {
@@ -93,7 +194,43 @@ pub enum State {
 
 pub struct Item {
     pub op: u8,
-    pub body: Vec<u8>,
+    pub body: Body,
+}
+
+fn items() -> Box<[Item]> {
+    (0..WINDOW).map(|_| Item { op: 0, body: Body::new() }).collect()
+}
+
+/// The place that is so far behind the first.
+fn place_of(first: usize, behind: usize) -> usize {
+    let place = first + behind;
+    if place < PLACES {
+        place
+    } else {
+        place - PLACES
+    }
+}
+
+/// Items that were sent and not yet receipted.
+struct Kept {
+    first: usize,
+    count: usize,
+    items: Box<[Item]>,
+}
+
+impl Kept {
+    /// The place behind the last item.
+    fn next(&mut self) -> &mut Item {
+        &mut self.items[place_of(self.first, self.count)]
+    }
+}
+
+/// Items that came and were not yet read.
+struct Held {
+    first: usize,
+    /// Which of those behind the first are there, the first in the lowest bit.
+    bits: u16,
+    items: Box<[Item]>,
 }
 
 pub struct Conn {
@@ -113,9 +250,9 @@ pub struct Conn {
     receipted: u16,
     acknowledged: u16,
     window: u16,
-    kept: VecDeque<Item>,
+    kept: Kept,
     read: u16,
-    held: VecDeque<Option<Item>>,
+    held: Held,
 }
 
 impl Conn {
@@ -137,10 +274,18 @@ impl Conn {
             receipted: 0,
             acknowledged: 0,
             window: WINDOW,
-            kept: VecDeque::with_capacity(usize::from(WINDOW)),
+            kept: Kept { first: 0, count: 0, items: items() },
             read: 0,
-            held: (0..WINDOW).map(|_| None).collect(),
+            held: Held { first: 0, bits: 0, items: items() },
         }
+    }
+
+    /// Makes it as new, but for its moments.
+    fn clear(&mut self) {
+        (self.state, self.asked, self.request, self.index) = (State::Inactive, false, 0, 0);
+        (self.peer, self.peer_index, self.untold) = (0, None, 0);
+        (self.sent, self.receipted, self.acknowledged, self.window) = (0, 0, 0, WINDOW);
+        (self.kept.count, self.read, self.held.bits) = (0, 0, 0);
     }
 
     pub fn outstanding(&self) -> u16 {
@@ -156,37 +301,45 @@ impl Conn {
         self.heard = self.last;
     }
 
-    fn packet(&self, op: u8, num: u16, ack: u16, body: Vec<u8>) -> Packet {
+    fn packet<'a>(&self, op: u8, num: u16, ack: u16, body: &'a [u8]) -> Packet<'a> {
         let dst_index = if op == RFC { 0 } else { self.peer_index.unwrap_or(0) };
         Packet { op, dst: self.peer, dst_index, src: self.address, src_index: self.index, num, ack, body }
     }
 
-    fn status(&self) -> Vec<u8> {
-        let run = self.held.iter().take_while(|slot| slot.is_some()).count() as u16;
-        [self.read.wrapping_add(run).to_le_bytes(), WINDOW.to_le_bytes()].concat()
+    fn status(&self) -> [u8; 4] {
+        let run = self.held.bits.trailing_ones() as u16;
+        let ([r0, r1], [w0, w1]) = (self.read.wrapping_add(run).to_le_bytes(), WINDOW.to_le_bytes());
+        [r0, r1, w0, w1]
     }
 
     fn put_sts(&mut self, out: &mut Out) {
         self.untold = 0;
-        out.push(self.packet(STS, 0, self.read, self.status()));
+        out.put(&self.packet(STS, 0, self.read, &self.status()));
     }
 
-    fn put_again(&mut self, num: u16, place: usize, out: &mut Out) {
-        let item = &self.kept[place];
+    fn put_again(&mut self, num: u16, behind: usize, out: &mut Out) {
+        let item = &self.kept.items[place_of(self.kept.first, behind)];
         let ack = if item.op == RFC { 0 } else { self.read };
-        out.push(self.packet(item.op, num, ack, item.body.clone()));
+        out.put(&self.packet(item.op, num, ack, item.body.bytes()));
         if item.op != RFC {
             self.untold = 0;
         }
     }
 
-    fn put_item(&mut self, op: u8, body: Vec<u8>, out: &mut Out) {
-        if self.kept.is_empty() {
+    /// Sends the item whose data lie behind the last.
+    fn put_next(&mut self, op: u8, out: &mut Out) {
+        if self.kept.count == 0 {
             self.resent = self.last;
         }
         self.sent = self.sent.wrapping_add(1);
-        self.kept.push_back(Item { op, body });
-        self.put_again(self.sent, self.kept.len() - 1, out);
+        self.kept.next().op = op;
+        self.kept.count += 1;
+        self.put_again(self.sent, self.kept.count - 1, out);
+    }
+
+    fn put_item(&mut self, op: u8, bytes: &[u8], out: &mut Out) {
+        self.kept.next().body.fill(bytes);
+        self.put_next(op, out);
     }
 
     fn begin(&mut self, start: u16) {
@@ -199,16 +352,15 @@ impl Conn {
         (self.state, self.asked, self.index, self.peer) = (State::RfcSent, true, index, peer);
         self.hear(now);
         self.begin(start);
-        self.put_item(RFC, contact.to_vec(), out);
+        self.put_item(RFC, contact, out);
     }
 
     fn take_request(&mut self, index: u16, rfc: &Packet, now: u64) {
-        (self.state, self.index, self.peer, self.peer_index) =
-            (State::RfcReceived, index, rfc.src, Some(rfc.src_index));
+        (self.state, self.index, self.peer, self.peer_index) = (State::RfcReceived, index, rfc.src, Some(rfc.src_index));
         self.hear(now);
         self.request = rfc.num;
         self.read = rfc.num.wrapping_sub(1);
-        self.held[0] = Some(Item { op: RFC, body: rfc.body.clone() });
+        self.hold(0, RFC, rfc.body);
     }
 
     pub fn accept(&mut self, start: u16, now: u64, out: &mut Out) {
@@ -216,70 +368,94 @@ impl Conn {
         (self.state, self.probed) = (State::Open, self.last);
         self.take_front();
         self.begin(start);
-        self.put_item(OPN, self.status(), out);
+        self.put_item(OPN, &self.status(), out);
     }
 
-    pub fn write(&mut self, op: u8, body: Vec<u8>, now: u64, out: &mut Out) -> bool {
+    pub fn write(&mut self, op: u8, bytes: &[u8], now: u64, out: &mut Out) -> bool {
         if !self.can_write() {
             return false;
         }
         self.last = self.last.max(now);
-        self.put_item(op, body, out);
+        self.put_item(op, bytes, out);
         true
+    }
+
+    /// Reads the item in front, and writes what is made of its data, where that is kept to be sent again. There has to be an item, and
+    /// room to write.
+    pub fn reply(&mut self, now: u64, out: &mut Out, make: impl FnOnce(&[u8], &mut Body)) {
+        let reply = &mut self.kept.next().body;
+        reply.clear();
+        make(self.held.items[self.held.first].body.bytes(), reply);
+        self.read_done(out);
+        self.last = self.last.max(now);
+        self.put_next(DATA, out);
     }
 
     pub fn front(&self) -> Option<&Item> {
         let is_read = matches!(self.state, State::Open | State::Ended);
-        self.held.front().and_then(Option::as_ref).filter(|_| is_read)
+        (is_read && self.held.bits & 1 != 0).then(|| &self.held.items[self.held.first])
     }
 
-    fn take_front(&mut self) -> Option<Item> {
-        let item = self.held.front_mut()?.take()?;
-        self.held.rotate_left(1);
+    /// Holds an item so far behind the first.
+    fn hold(&mut self, behind: usize, op: u8, bytes: &[u8]) {
+        let item = &mut self.held.items[place_of(self.held.first, behind)];
+        item.op = op;
+        item.body.fill(bytes);
+        self.held.bits |= 1 << behind;
+    }
+
+    fn take_front(&mut self) {
+        self.held.bits >>= 1;
+        self.held.first = place_of(self.held.first, 1);
         self.read = self.read.wrapping_add(1);
-        Some(item)
     }
 
-    pub fn read(&mut self, out: &mut Out) -> Option<Item> {
-        self.front()?;
-        let item = self.take_front();
+    /// Lets the item in front go, which is there.
+    pub fn read_done(&mut self, out: &mut Out) {
+        self.take_front();
         if self.state == State::Open {
             self.untold += 1;
             if 3 * self.untold >= WINDOW {
                 self.put_sts(out);
             }
         }
-        item
     }
 
     pub fn close(&mut self, text: &[u8], out: &mut Out) {
         if matches!(self.state, State::Open | State::RfcReceived) {
-            out.push(self.packet(CLS, 0, 0, text.to_vec()));
+            out.put(&self.packet(CLS, 0, 0, text));
         }
-        let fresh = Conn::new(self.address);
-        *self = Conn { last: self.last, heard: self.heard, resent: self.resent, probed: self.probed, ..fresh };
+        self.clear();
     }
 
+    #[inline]
     pub fn tick(&mut self, now: u64, out: &mut Out) {
         self.last = self.last.max(now);
-        let waits = matches!(self.state, State::RfcSent | State::Open);
-        if waits && self.last - self.heard >= DOWN {
+        if matches!(self.state, State::RfcSent | State::Open) {
+            self.wait(out);
+        }
+    }
+
+    #[inline]
+    fn wait(&mut self, out: &mut Out) {
+        if self.last - self.heard >= DOWN {
             self.state = State::Ended;
-        } else if waits && !self.kept.is_empty() && self.last - self.resent >= RETRANSMIT {
+        } else if self.kept.count > 0 && self.last - self.resent >= RETRANSMIT {
             self.resent = self.last;
-            for place in 0..self.kept.len() {
-                self.put_again(self.receipted.wrapping_add(place as u16 + 1), place, out);
+            for behind in 0..self.kept.count {
+                self.put_again(self.receipted.wrapping_add(behind as u16 + 1), behind, out);
             }
         } else if self.state == State::Open && self.last - self.heard.max(self.probed) >= PROBE {
             (self.probed, self.untold) = (self.last, 0);
-            out.push(self.packet(SNS, 0, self.read, Vec::new()));
+            out.put(&self.packet(SNS, 0, self.read, &[]));
         }
     }
 
     fn receipt(&mut self, num: u16) {
         let count = num.wrapping_sub(self.receipted);
         if count <= self.sent.wrapping_sub(self.receipted) {
-            self.kept.drain(..usize::from(count));
+            self.kept.first = place_of(self.kept.first, usize::from(count));
+            self.kept.count -= usize::from(count);
             self.receipted = num;
         }
     }
@@ -300,10 +476,9 @@ impl Conn {
     fn arrive(&mut self, packet: &Packet, out: &mut Out) {
         self.acknowledge(packet.ack);
         let offset = packet.num.wrapping_sub(self.read);
-        let place = usize::from(offset).wrapping_sub(1);
-        if (1..=WINDOW).contains(&offset) && self.held[place].is_none() {
-            let body = if packet.op == EOF { Vec::new() } else { packet.body.clone() };
-            self.held[place] = Some(Item { op: packet.op, body });
+        if (1..=WINDOW).contains(&offset) && self.held.bits & 1 << (offset - 1) == 0 {
+            let bytes = if packet.op == EOF { &[] } else { packet.body };
+            self.hold(usize::from(offset) - 1, packet.op, bytes);
         } else {
             self.put_sts(out);
         }
@@ -360,7 +535,7 @@ impl Conn {
             UNC => {}
             _ => {
                 if self.state == State::RfcReceived {
-                    self.held[0] = None;
+                    self.held.bits &= !1;
                 }
                 self.state = State::Ended;
             }
@@ -372,6 +547,13 @@ impl Conn {
 pub struct Slot {
     pub generation: u8,
     pub conn: Conn,
+}
+
+impl Slot {
+    pub fn close(&mut self, out: &mut Out) {
+        self.conn.close(b"", out);
+        self.generation = self.generation.wrapping_add(1);
+    }
 }
 
 pub struct Host {
@@ -393,14 +575,9 @@ impl Host {
         self.slots.iter().position(|slot| slot.conn.state == State::Inactive)
     }
 
-    pub fn close(&mut self, slot: usize, out: &mut Out) {
-        self.slots[slot].conn.close(b"", out);
-        self.slots[slot].generation = self.slots[slot].generation.wrapping_add(1);
-    }
-
     fn reply(&self, packet: &Packet, op: u8, src_index: u16, text: &[u8], out: &mut Out) {
         let (dst, dst_index) = (packet.src, packet.src_index);
-        out.push(Packet { op, dst, dst_index, src: self.address, src_index, num: 0, ack: 0, body: text.to_vec() });
+        out.put(&Packet { op, dst, dst_index, src: self.address, src_index, num: 0, ack: 0, body: text });
     }
 
     /// Delivers a packet, and answers the slot that took a new request.

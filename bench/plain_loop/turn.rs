@@ -1,87 +1,55 @@
-//! Links over sockets, and the turns of a client and of a server.
+//! The turns of a client and of a server over a link.
 use crate::file::{Session, Store};
-use crate::host::{Host, Item, Out, Packet, State, DATA, EOF};
-use std::collections::HashMap;
-use std::io::{self, ErrorKind};
-use std::net::{SocketAddrV4, UdpSocket};
-use std::time::Duration;
+use crate::host::{Conn, Host, Item, Out, Packet, State, EOF};
+use std::io;
 
-pub struct Link {
-    socket: UdpSocket,
-    peers: HashMap<u16, SocketAddrV4>,
-    sent: bool,
-    waits: Option<bool>,
-    name: Option<&'static str>,
+pub const LINK_ROOM: usize = 2048;
+
+/// Carries datagrams.
+pub trait Link {
+    fn send(&mut self, to: u16, datagram: &[u8]) -> io::Result<()>;
+
+    /// How many bytes of the buffer a datagram that came has. Where none is there, it waits for one if it may.
+    fn receive(&mut self, buffer: &mut [u8; LINK_ROOM], may_wait: bool) -> io::Result<Option<usize>>;
 }
 
-fn is_loss(fault: &io::Error) -> bool {
-    let kinds = [ErrorKind::WouldBlock, ErrorKind::TimedOut, ErrorKind::Interrupted, ErrorKind::ConnectionRefused];
-    kinds.contains(&fault.kind())
+/// Sends all that waits, and says whether anything did.
+fn send_all(link: &mut impl Link, out: &mut Out) -> io::Result<bool> {
+    if out.is_empty() {
+        return Ok(false);
+    }
+    for datagram in out.datagrams() {
+        link.send(datagram.to, datagram.bytes())?;
+    }
+    out.clear();
+    Ok(true)
 }
 
-impl Link {
-    pub fn new(socket: UdpSocket, peers: HashMap<u16, SocketAddrV4>, name: Option<&'static str>) -> Self {
-        Link { socket, peers, sent: false, waits: None, name }
-    }
-
-    fn send(&mut self, to: u16, datagram: &[u8]) -> io::Result<()> {
-        let Some(peer) = self.peers.get(&to) else { return Ok(()) };
-        if let Some(name) = self.name {
-            let told: Vec<String> = datagram.iter().map(|b| format!("{b:02X}")).collect();
-            eprintln!("{name} {}", told.join(" "));
-        }
-        match self.socket.send_to(datagram, peer) {
-            Err(fault) if !is_loss(&fault) => return Err(fault),
-            _ => self.sent = true,
-        }
-        Ok(())
-    }
-
-    /// Waits at most 10 milliseconds, and only where nothing was sent since the receive before.
-    fn receive(&mut self) -> io::Result<Option<Packet>> {
-        let waits = !std::mem::take(&mut self.sent);
-        if self.waits != Some(waits) {
-            if self.waits.is_none() {
-                self.socket.set_read_timeout(Some(Duration::from_millis(10)))?;
-            }
-            self.socket.set_nonblocking(!waits)?;
-            self.waits = Some(waits);
-        }
-        let mut buffer = [0; 2048];
-        match self.socket.recv_from(&mut buffer) {
-            Ok((count, _)) => Ok(Packet::read(&buffer[..count])),
-            Err(fault) if is_loss(&fault) => Ok(None),
-            Err(fault) => Err(fault),
-        }
-    }
-
-    fn send_all(&mut self, out: &mut Out) -> io::Result<()> {
-        for packet in out.drain(..) {
-            self.send(packet.dst, packet.datagram(&mut [0; 508]))?;
-        }
-        Ok(())
-    }
-}
-
-pub struct Client {
+pub struct Client<L> {
     host: Host,
-    link: Link,
+    link: L,
     out: Out,
+    buffer: [u8; LINK_ROOM],
 }
 
-impl Client {
-    pub fn new(address: u16, link: Link) -> Self {
-        Client { host: Host::new(address, 1, false), link, out: Out::new() }
+impl<L: Link> Client<L> {
+    pub fn new(address: u16, link: L) -> Self {
+        Client { host: Host::new(address, 1, false), link, out: Out::default(), buffer: [0; LINK_ROOM] }
     }
 
-    pub fn turn(&mut self, now: u64) -> io::Result<()> {
-        self.link.send_all(&mut self.out)?;
-        if let Some(packet) = self.link.receive()? {
-            self.host.deliver(&packet, now, &mut self.out);
-            self.link.send_all(&mut self.out)?;
+    /// One turn, which says whether a datagram came or went.
+    pub fn turn(&mut self, now: u64, may_wait: bool) -> io::Result<bool> {
+        let Client { host, link, out, buffer } = self;
+        let mut worked = send_all(link, out)?;
+        if let Some(count) = link.receive(buffer, may_wait)? {
+            worked = true;
+            if let Some(packet) = Packet::read(&mut buffer[..count]) {
+                host.deliver(&packet, now, out);
+                send_all(link, out)?;
+            }
         }
-        self.host.slots[0].conn.tick(now, &mut self.out);
-        self.link.send_all(&mut self.out)
+        host.slots[0].conn.tick(now, out);
+        Ok(send_all(link, out)? || worked)
     }
 
     /// Asks for a connection to FILE. The index's generation is that of so many connections before.
@@ -91,12 +59,17 @@ impl Client {
         self.host.slots[0].conn.request(index, to, b"FILE", start, now, &mut self.out);
     }
 
-    pub fn write(&mut self, op: u8, body: &[u8], now: u64) -> bool {
-        self.host.slots[0].conn.write(op, body.to_vec(), now, &mut self.out)
+    pub fn write(&mut self, op: u8, bytes: &[u8], now: u64) -> bool {
+        self.host.slots[0].conn.write(op, bytes, now, &mut self.out)
     }
 
-    pub fn read(&mut self) -> Option<Item> {
-        self.host.slots[0].conn.read(&mut self.out)
+    pub fn front(&self) -> Option<&Item> {
+        self.host.slots[0].conn.front()
+    }
+
+    /// Lets the item in front go, which is there.
+    pub fn read_done(&mut self) {
+        self.host.slots[0].conn.read_done(&mut self.out);
     }
 
     pub fn state(&self) -> State {
@@ -108,7 +81,7 @@ impl Client {
     }
 
     pub fn close(&mut self) {
-        self.host.close(0, &mut self.out);
+        self.host.slots[0].close(&mut self.out);
     }
 
     /// Whether a packet waits to be sent.
@@ -117,80 +90,86 @@ impl Client {
     }
 }
 
+/// What a slot keeps for its connection: a new one where a new request is accepted.
 #[derive(Default)]
 struct Kept {
-    index: u16,
     session: Session,
     eof: bool,
 }
 
-pub struct Server {
+pub struct Server<S, L> {
     host: Host,
     sessions: Vec<Kept>,
-    store: Box<dyn Store>,
-    link: Link,
+    store: S,
+    pub link: L,
     out: Out,
+    buffer: [u8; LINK_ROOM],
 }
 
-impl Server {
-    pub fn new(address: u16, conns: usize, store: Box<dyn Store>, link: Link) -> Self {
-        let sessions = (0..conns).map(|_| Kept::default()).collect();
-        Server { host: Host::new(address, conns, true), sessions, store, link, out: Out::new() }
+impl<S: Store, L: Link> Server<S, L> {
+    pub fn new(address: u16, conns: usize, store: S, link: L) -> Self {
+        Server {
+            host: Host::new(address, conns, true),
+            sessions: (0..conns).map(|_| Kept::default()).collect(),
+            store,
+            link,
+            out: Out::default(),
+            buffer: [0; LINK_ROOM],
+        }
     }
 
-    pub fn turn(&mut self, start: u16, now: u64) -> io::Result<()> {
-        self.link.send_all(&mut self.out)?;
-        if let Some(packet) = self.link.receive()? {
-            let requested = self.host.deliver(&packet, now, &mut self.out);
-            if let Some(slot) = requested {
-                self.host.slots[slot].conn.accept(start, now, &mut self.out);
-            }
-            self.link.send_all(&mut self.out)?;
-        }
-        for slot in 0..self.host.slots.len() {
-            self.serve(slot, now);
-            self.link.send_all(&mut self.out)?;
-        }
-        for slot in 0..self.host.slots.len() {
-            let conn = &self.host.slots[slot].conn;
-            if conn.state != State::Inactive && self.sessions[slot].eof && conn.outstanding() == 0 {
-                self.host.close(slot, &mut self.out);
-                self.link.send_all(&mut self.out)?;
-            }
-        }
-        for slot in 0..self.host.slots.len() {
-            if self.host.slots[slot].conn.state == State::Ended {
-                self.host.close(slot, &mut self.out);
-            }
-        }
-        for slot in &mut self.host.slots {
-            slot.conn.tick(now, &mut self.out);
-            self.link.send_all(&mut self.out)?;
-        }
-        Ok(())
+    /// Whether a connection has something to serve, so that a turn isn't to wait.
+    pub fn can_serve_any(&self) -> bool {
+        let mut conns = self.host.slots.iter().map(|slot| &slot.conn);
+        conns.any(|conn| conn.state == State::Open && conn.front().is_some_and(|item| item.op == EOF || conn.can_write()))
     }
 
-    fn serve(&mut self, slot: usize, now: u64) {
-        let index = self.host.index(slot);
-        let (conn, kept) = (&mut self.host.slots[slot].conn, &mut self.sessions[slot]);
-        if conn.state == State::Inactive {
-            return;
+    /// One turn, which says whether a datagram came or went.
+    pub fn turn(&mut self, start: u16, now: u64, may_wait: bool) -> io::Result<bool> {
+        let mut worked = send_all(&mut self.link, &mut self.out)?;
+        if let Some(count) = self.link.receive(&mut self.buffer, may_wait)? {
+            worked = true;
+            self.arrive(count, start, now);
+            send_all(&mut self.link, &mut self.out)?;
         }
-        if kept.index != index {
-            *kept = Kept { index, ..Kept::default() };
-        }
-        match conn.front() {
-            _ if conn.state != State::Open => {}
-            Some(item) if item.op == EOF => {
-                conn.read(&mut self.out);
-                kept.eof = true;
+        let Server { host, sessions, store, link, out, .. } = self;
+        for (slot, kept) in host.slots.iter_mut().zip(&mut *sessions) {
+            if slot.conn.state == State::Open {
+                serve(&mut slot.conn, kept, store, now, out);
+                worked |= send_all(link, out)?;
             }
-            Some(item) if conn.can_write() => {
-                let reply = kept.session.apply(&mut *self.store, &item.body);
-                conn.read(&mut self.out);
-                conn.write(DATA, reply, now, &mut self.out);
-            }
-            _ => {}
         }
+        for (slot, kept) in host.slots.iter_mut().zip(sessions) {
+            let has_ended = slot.conn.state == State::Ended;
+            if has_ended || kept.eof && slot.conn.state != State::Inactive && slot.conn.outstanding() == 0 {
+                slot.close(out);
+                worked |= send_all(link, out)?;
+            }
+        }
+        for slot in &mut host.slots {
+            slot.conn.tick(now, out);
+            worked |= send_all(link, out)?;
+        }
+        Ok(worked)
+    }
+
+    fn arrive(&mut self, count: usize, start: u16, now: u64) {
+        let Some(packet) = Packet::read(&mut self.buffer[..count]) else { return };
+        if let Some(slot) = self.host.deliver(&packet, now, &mut self.out) {
+            self.sessions[slot] = Kept::default();
+            self.host.slots[slot].conn.accept(start, now, &mut self.out);
+        }
+    }
+}
+
+/// Serves an open connection once.
+fn serve(conn: &mut Conn, kept: &mut Kept, store: &mut impl Store, now: u64, out: &mut Out) {
+    match conn.front() {
+        Some(item) if item.op == EOF => {
+            conn.read_done(out);
+            kept.eof = true;
+        }
+        Some(_) if conn.can_write() => conn.reply(now, out, |command, reply| kept.session.apply(store, command, reply)),
+        _ => {}
     }
 }
