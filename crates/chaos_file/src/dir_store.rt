@@ -22,7 +22,8 @@ use std::rt::Files;
 /// What the system keeps in the folder no clause can say, so this store claims no contents. It answers `Failed` for what
 /// the system refuses, but for a file that isn't there and for memory; for a path that isn't legal; and where a path's
 /// name in the folder is no file, as a folder, a link, a fifo, a socket or a device: none is opened, followed, moved,
-/// replaced or taken away. So no path leads out of the folder, and no call waits for anybody but the disk.
+/// replaced or taken away. So no path leads out of the folder, and no call waits for anybody but the disk. What the system
+/// said is handed out by [`take_fault`](DirStore::take_fault).
 ///
 /// A `put` writes the file `.new` of the folder, flushes it to the disk, renames it over the path and flushes the folder,
 /// so that a path has its old content or its new one whole, and one that was answered `Done` survives a loss of power. A file
@@ -39,6 +40,8 @@ use std::rt::Files;
 pub struct DirStore<R> {
     folder: Folder<R>,
     failures: u64,
+    /// What the system said in the last call, where it refused something.
+    fault: Option<io::Error>,
 }
 
 impl<R> Model for DirStore<R> {
@@ -58,11 +61,19 @@ impl<R: Drop + Files<File = File>> DirStore<R> {
         Ok(DirStore {
             folder: Folder::open(rt, folder)?,
             failures: 0,
+            fault: None,
         })
     }
 }
 
 impl<R: Files> DirStore<R> {
+    /// What the system said in the last call, where it refused something; it is handed out once.
+    pub fn take_fault(&mut self) -> Option<io::Error>
+        ensures { self.new ≡ self.old }
+    {
+        self.fault.take()
+    }
+
     fn note_failure(&mut self)
         ensures { self.new ≡ with_failure self.old }
     {
@@ -70,11 +81,19 @@ impl<R: Files> DirStore<R> {
     }
 }
 
-/// What a fault of the system is told as, by its kind.
-fn told_as<T: Drop>(fault: io::Error, absent: T, no_memory: T, failed: T) -> T
+/// What a fault of the system is told as, by its kind. It is kept.
+fn told_as<T: Drop>(
+    fault: io::Error,
+    absent: T,
+    no_memory: T,
+    failed: T,
+    kept: &mut Option<io::Error>,
+) -> T
     ensures { (result ≡ absent) ⊎ ((result ≡ no_memory) ⊎ (result ≡ failed)) }
 {
-    match fault.kind() {
+    let kind = fault.kind();
+    *kept = Some(fault);
+    match kind {
         ErrorKind::NotFound => absent,
         ErrorKind::OutOfMemory => no_memory,
         _ => failed,
@@ -82,7 +101,13 @@ fn told_as<T: Drop>(fault: io::Error, absent: T, no_memory: T, failed: T) -> T
 }
 
 impl<R: Files> Folder<R> {
-    fn got(&self, alloc: Global, path: &[u8], limit: usize) -> Got
+    fn got(
+        &self,
+        alloc: Global,
+        path: &[u8],
+        limit: usize,
+        kept: &mut Option<io::Error>,
+    ) -> Got
         ensures illegal { is_path path.now ≡ false → result ≡ Got.Failed }
         ensures limit { Gives (λ bytes. length bytes ≤ limit) result }
     {
@@ -92,11 +117,17 @@ impl<R: Files> Folder<R> {
         match self.get(alloc, path, limit) {
             Ok(Some(bytes)) => Got::Bytes(FileBytes::from_vec(bytes)),
             Ok(None) => Got::TooBig,
-            Err(fault) => told_as(fault, Got::Absent, Got::NoMemory, Got::Failed),
+            Err(fault) => told_as(fault, Got::Absent, Got::NoMemory, Got::Failed, kept),
         }
     }
 
-    fn stored(&self, alloc: Global, path: &[u8], bytes: &[u8]) -> Stored
+    fn stored(
+        &self,
+        alloc: Global,
+        path: &[u8],
+        bytes: &[u8],
+        kept: &mut Option<io::Error>,
+    ) -> Stored
         ensures { is_path path.now ≡ false → result ≡ Stored.Failed }
     {
         if !is_path(path) {
@@ -104,11 +135,11 @@ impl<R: Files> Folder<R> {
         }
         match self.put(alloc, path, bytes) {
             Ok(()) => Stored::Done,
-            Err(fault) => told_as(fault, Stored::Failed, Stored::NoMemory, Stored::Failed),
+            Err(fault) => told_as(fault, Stored::Failed, Stored::NoMemory, Stored::Failed, kept),
         }
     }
 
-    fn removed(&self, alloc: Global, path: &[u8]) -> Removed
+    fn removed(&self, alloc: Global, path: &[u8], kept: &mut Option<io::Error>) -> Removed
         ensures { is_path path.now ≡ false → result ≡ Removed.Failed }
     {
         if !is_path(path) {
@@ -116,11 +147,17 @@ impl<R: Files> Folder<R> {
         }
         match self.remove(alloc, path) {
             Ok(()) => Removed::Done,
-            Err(fault) => told_as(fault, Removed::Absent, Removed::NoMemory, Removed::Failed),
+            Err(fault) => told_as(fault, Removed::Absent, Removed::NoMemory, Removed::Failed, kept),
         }
     }
 
-    fn renamed(&self, alloc: Global, old: &[u8], new: &[u8]) -> Renamed
+    fn renamed(
+        &self,
+        alloc: Global,
+        old: &[u8],
+        new: &[u8],
+        kept: &mut Option<io::Error>,
+    ) -> Renamed
         ensures illegal_old { is_path old.now ≡ false → result ≡ Renamed.Failed }
         ensures illegal_new { is_path new.now ≡ false → result ≡ Renamed.Failed }
     {
@@ -130,7 +167,7 @@ impl<R: Files> Folder<R> {
         match self.rename(alloc, old, new) {
             Ok(true) => Renamed::Done,
             Ok(false) => Renamed::Exists,
-            Err(fault) => told_as(fault, Renamed::Absent, Renamed::NoMemory, Renamed::Failed),
+            Err(fault) => told_as(fault, Renamed::Absent, Renamed::NoMemory, Renamed::Failed, kept),
         }
     }
 }
@@ -151,7 +188,8 @@ impl<R: Files> Store for DirStore<R> {
         ensures limit { Gives (λ bytes. length bytes ≤ limit) result }
         ensures gives { Gives (λ _. Unit {0}) result }
     {
-        let got = self.folder.got(alloc, path, limit);
+        self.fault = None;
+        let got = self.folder.got(alloc, path, limit, &mut self.fault);
         if matches!(&got, Got::Failed) {
             self.note_failure();
         }
@@ -164,7 +202,8 @@ impl<R: Files> Store for DirStore<R> {
         ensures counted { self.new ≡ failures_after_put result self.old }
         ensures illegal { is_path path.now ≡ false → result ≡ Stored.Failed }
     {
-        let stored = self.folder.stored(alloc, path, bytes);
+        self.fault = None;
+        let stored = self.folder.stored(alloc, path, bytes, &mut self.fault);
         if stored == Stored::Failed {
             self.note_failure();
         }
@@ -177,7 +216,8 @@ impl<R: Files> Store for DirStore<R> {
         ensures counted { self.new ≡ failures_after_remove result self.old }
         ensures illegal { is_path path.now ≡ false → result ≡ Removed.Failed }
     {
-        let removed = self.folder.removed(alloc, path);
+        self.fault = None;
+        let removed = self.folder.removed(alloc, path, &mut self.fault);
         if removed == Removed::Failed {
             self.note_failure();
         }
@@ -191,7 +231,8 @@ impl<R: Files> Store for DirStore<R> {
         ensures illegal_old { is_path old.now ≡ false → result ≡ Renamed.Failed }
         ensures illegal_new { is_path new.now ≡ false → result ≡ Renamed.Failed }
     {
-        let renamed = self.folder.renamed(alloc, old, new);
+        self.fault = None;
+        let renamed = self.folder.renamed(alloc, old, new, &mut self.fault);
         if renamed == Renamed::Failed {
             self.note_failure();
         }

@@ -1,5 +1,5 @@
 //! A user's session: one reply for each command.
-ghost use Rattle.std.specs.Prelude.{◌≡◌, ◌≤◌, length};
+ghost use Rattle.std.specs.Prelude.{◌≡◌, ◌≤◌, length, option_map};
 ghost use Rattle.chaos_file.specs.Session.{SessionView, new_session};
 ghost use Rattle.chaos_file.specs.Command.{word_said};
 ghost use Rattle.chaos_file.specs.Views.{command_view, parsed_view, CommandFits, ParsedFits};
@@ -49,6 +49,16 @@ impl Session {
         Session {
             name: None,
             handles: Handles::new(),
+        }
+    }
+
+    /// The user's name, where one was given.
+    pub fn name(&self) -> Option<&[u8]>
+        ensures { option_map (λ name. name.now) result ≡ self.now.name }
+    {
+        match &self.name {
+            Some(name) => Some(name.as_slice()),
+            None => None,
         }
     }
 

@@ -2,7 +2,7 @@
 ghost use Rattle.std.specs.Prelude.{◌≡◌};
 ghost use Rattle.std.specs.Option.{option_copied};
 ghost use Rattle.std.specs.Result.{result_map_both};
-ghost use Rattle.chaos_conn.specs.Calls.{can_write, front_of, is_drained};
+ghost use Rattle.chaos_conn.specs.Calls.{can_write, front_of, is_drained, peer_of};
 ghost use Rattle.chaos_host.specs.View.{id_at, host_look};
 
 use crate::fault::CallFault;
@@ -30,6 +30,13 @@ impl Host {
         ensures { result ≡ host_look self.now id (λ conn. conn.state) }
     {
         Ok(named(&self.slots, id)?.conn.state())
+    }
+
+    /// The address of a connection's peer, and its index where that is known.
+    pub fn peer(&self, id: ConnId) -> Result<Option<(u16, Option<u16>)>, CallFault>
+        ensures { result ≡ host_look self.now id (λ conn. peer_of conn) }
+    {
+        Ok(named(&self.slots, id)?.conn.peer())
     }
 
     /// Whether a connection is open and its window has room, so that a write of data is taken.

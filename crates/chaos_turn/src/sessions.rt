@@ -1,6 +1,6 @@
 //! A session for each slot of a host.
-ghost use Rattle.std.specs.Prelude.{◌≡◌, IfOk, length, replicate};
-ghost use Rattle.chaos_turn.specs.Sessions.{Serving, new_serving, serving_of, eof_after};
+ghost use Rattle.std.specs.Prelude.{◌≡◌, ◌<◌, IfOk, length, option_map, replicate};
+ghost use Rattle.chaos_turn.specs.Sessions.{Serving, new_serving, serving_at, serving_of, eof_after};
 
 use chaos_file::Session;
 use chaos_host::ConnId;
@@ -14,6 +14,8 @@ pub(crate) struct Kept {
     pub(crate) id: Option<ConnId>,
     pub(crate) session: Session,
     pub(crate) eof: bool,
+    /// How many commands were replied to; no contract sees it.
+    commands: u64,
 }
 
 impl Model for Kept {
@@ -64,6 +66,29 @@ impl Sessions {
     {
         self.kept.len()
     }
+
+    /// The name that the user gave of the connection in a slot, or of the last one that was served there, where one was given.
+    pub fn name(&self, place: usize) -> Option<&[u8]>
+        requires { place < length self.now }
+        ensures { option_map (λ name. name.now) result ≡ (serving_at self.now place).session.name }
+    {
+        self.kept[place].session.name()
+    }
+
+    /// Whether the EOF of the connection in a slot was served, or of the last one that was served there.
+    pub fn eof(&self, place: usize) -> bool
+        requires { place < length self.now }
+        ensures { result ≡ (serving_at self.now place).eof }
+    {
+        self.kept[place].eof
+    }
+
+    /// How many commands of the connection in a slot were replied to, or of the last one that was served there.
+    pub fn commands(&self, place: usize) -> u64
+        requires { place < length self.now }
+    {
+        self.kept[place].commands
+    }
 }
 
 impl Kept {
@@ -75,6 +100,7 @@ impl Kept {
             id,
             session: Session::new(),
             eof: false,
+            commands: 0,
         }
     }
 
@@ -87,12 +113,14 @@ impl Kept {
         }
     }
 
-    /// Keeps that an EOF was served.
+    /// Keeps that an EOF was served, or counts a command.
     pub(crate) fn note(&mut self, served: Served)
         ensures { self.new ≡ record self.old { eof = eof_after self.old.eof served } }
     {
-        if let Served::Eof = served {
-            self.eof = true;
+        match served {
+            Served::Eof => self.eof = true,
+            Served::Replied => self.commands = self.commands.saturating_add(1),
+            _ => {}
         }
     }
 }

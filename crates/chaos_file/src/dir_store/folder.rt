@@ -60,7 +60,7 @@ fn require_file(info: &Metadata) -> io::Result<()> {
     if info.is_file() {
         Ok(())
     } else {
-        Err(io::Error::from(ErrorKind::InvalidInput))
+        Err(io::Error::new(ErrorKind::InvalidInput, "it is no file"))
     }
 }
 
