@@ -1,6 +1,6 @@
 #!/usr/bin/env python3
-"""Times `chaosd lab` beside a plain Rust program that prints the same, on scripts of 8,000 and 16,000 items, and measures the
-memory that the longest of them takes.
+"""Times `chaosd lab` beside a plain Rust program that prints the same, on scripts of 8,000 and 16,000 items and on scripts of ticks that
+send a full window again, and measures the memory that they take.
 
     bench/lab.py [PROGRAM]
 
@@ -38,11 +38,23 @@ def sent_again(ticks):
     return b"".join(lines)
 
 
+def ticks_within(size):
+    """The longest script of at most so many bytes that fills a window of 64 and has all of it sent again."""
+    parts = [sent_again(0)]
+    length = len(parts[0])
+    for tick in range(1, size):
+        parts.append(b"tick a %d\ndeliver 1\n" % (500 * tick))
+        length += len(parts[-1])
+        if length > size:
+            return b"".join(parts[:-1])
+
+
 SCRIPTS = {
     "8,000 items in turn": in_turn(8_000),
     "16,000 items in turn": in_turn(16_000),
     "64 items, sent again 120 times": sent_again(120),
     "64 items, sent again 240 times": sent_again(240),
+    "64 items, sent again by 1 MiB of ticks": ticks_within(1_048_576),
 }
 
 
@@ -85,7 +97,7 @@ def main():
         held, held_plain = most[name, "chaosd"], most[name, "plain"]
         print(f"{name}: chaosd {ours * 1000:.1f} ms, plain Rust {theirs * 1000:.1f} ms, ratio {ours / theirs:.2f};", end=" ")
         print(f"memory {held:.1f} MB, plain Rust {held_plain:.1f} MB")
-    for less, more in [list(SCRIPTS)[:2], list(SCRIPTS)[2:]]:
+    for less, more in [list(SCRIPTS)[:2], list(SCRIPTS)[2:4]]:
         print(f"{more} over {less}: {best[more, 'chaosd'] / best[less, 'chaosd']:.2f}")
 
 

@@ -1,4 +1,9 @@
-// A laboratory of two ends over a script of losses, repeats and reorderings, in plain Rust: beside `chaosd lab`.
+// A laboratory of two ends over a script of losses, repeats and reorderings, in plain Rust written for speed: beside `chaosd lab`.
+//
+// It prints the same for the same scripts, and does less. Bodies lie in one list of bytes, where a copy that is sent again and an
+// item that is held name those of the item that was written. It keeps neither the packets' addresses, indices and forwarding
+// counts, which it therefore doesn't check, nor what each end wrote and its user read. It has no UNC, ANS, FWD and LOS, since no
+// line makes them, and no `window`. It ends where there is no memory, and writes its text once, at the end.
 use std::collections::VecDeque;
 use std::io::{Read, Write};
 use std::process::ExitCode;
@@ -52,23 +57,59 @@ impl State {
     }
 }
 
-#[derive(Clone)]
-struct Item {
-    op: u8,
-    body: Box<[u8]>,
+/// Where bytes lie in [`Out`].
+#[derive(Clone, Copy, Default)]
+struct Body {
+    at: usize,
+    len: u16,
 }
 
+#[derive(Clone, Copy)]
+struct Item {
+    op: u8,
+    body: Body,
+}
+
+#[derive(Clone, Copy)]
 struct Packet {
     op: u8,
     num: u16,
     ack: u16,
-    body: Box<[u8]>,
+    body: Body,
 }
 
+#[derive(Clone, Copy)]
 struct Stamped {
     side: usize,
     packet: Packet,
     lens: [u64; 2],
+}
+
+/// What an event put out, and the bytes of all bodies.
+#[derive(Default)]
+struct Out {
+    packets: Vec<Packet>,
+    bytes: Vec<u8>,
+}
+
+impl Out {
+    fn keep(&mut self, bytes: &[u8]) -> Body {
+        let at = self.bytes.len();
+        self.bytes.extend_from_slice(bytes);
+        Body { at, len: bytes.len() as u16 }
+    }
+
+    fn bytes_of(&self, body: Body) -> &[u8] {
+        &self.bytes[body.at..][..usize::from(body.len)]
+    }
+}
+
+#[derive(Clone, Copy)]
+enum Ticked {
+    Quiet,
+    Down,
+    Resent(usize),
+    Probed,
 }
 
 struct Conn {
@@ -90,8 +131,6 @@ struct Conn {
     read: u16,
     held: VecDeque<Option<Item>>,
 }
-
-type Out = Vec<Packet>;
 
 impl Conn {
     fn new(send_cap: u16, recv_cap: u16) -> Self {
@@ -128,21 +167,22 @@ impl Conn {
         self.kept.clear();
     }
 
-    fn status(&self) -> Box<[u8]> {
+    fn status(&self, out: &mut Out) -> Body {
         let run = self.held.iter().take_while(|slot| slot.is_some()).count() as u16;
         let [a, b] = self.read.wrapping_add(run).to_le_bytes();
         let [c, d] = self.recv_cap.to_le_bytes();
-        Box::new([a, b, c, d])
+        out.keep(&[a, b, c, d])
     }
 
     fn put_sts(&mut self, out: &mut Out) {
         self.untold = 0;
-        out.push(Packet { op: STS, num: 0, ack: self.read, body: self.status() });
+        let body = self.status(out);
+        out.packets.push(Packet { op: STS, num: 0, ack: self.read, body });
     }
 
-    fn packet_of(&self, num: u16, item: &Item) -> Packet {
+    fn packet_of(&self, num: u16, item: Item) -> Packet {
         let ack = if item.op == RFC { 0 } else { self.read };
-        Packet { op: item.op, num, ack, body: item.body.clone() }
+        Packet { op: item.op, num, ack, body: item.body }
     }
 
     fn put_item(&mut self, item: Item, out: &mut Out) -> u16 {
@@ -150,7 +190,7 @@ impl Conn {
             self.resent = self.last;
         }
         self.sent = self.sent.wrapping_add(1);
-        out.push(self.packet_of(self.sent, &item));
+        out.packets.push(self.packet_of(self.sent, item));
         if item.op != RFC {
             self.untold = 0;
         }
@@ -189,15 +229,16 @@ impl Conn {
         self.asked = true;
         self.request = start;
         self.begin(start);
-        self.put_item(Item { op: RFC, body: Box::from(&b"LAB"[..]) }, out);
+        let body = out.keep(b"LAB");
+        self.put_item(Item { op: RFC, body }, out);
     }
 
-    fn take_request(&mut self, rfc: &Packet, now: u64) {
+    fn take_request(&mut self, rfc: Packet, now: u64) {
         self.hear(now);
         self.state = State::RfcReceived;
         self.request = rfc.num;
         self.read = rfc.num.wrapping_sub(1);
-        self.held[0] = Some(Item { op: RFC, body: rfc.body.clone() });
+        self.held[0] = Some(Item { op: RFC, body: rfc.body });
     }
 
     fn accept(&mut self, start: u16, now: u64, out: &mut Out) -> Option<Item> {
@@ -209,7 +250,7 @@ impl Conn {
         self.probed = self.last;
         let rfc = self.take_front();
         self.begin(start);
-        let body = self.status();
+        let body = self.status(out);
         self.put_item(Item { op: OPN, body }, out);
         rfc
     }
@@ -236,7 +277,8 @@ impl Conn {
             return Err("4 Full");
         }
         self.last = self.last.max(now);
-        Ok(self.put_item(Item { op, body: Box::from(bytes) }, out))
+        let body = out.keep(bytes);
+        Ok(self.put_item(Item { op, body }, out))
     }
 
     fn read(&mut self, out: &mut Out) -> Result<Option<Item>, State> {
@@ -260,47 +302,48 @@ impl Conn {
 
     fn close(&mut self, text: &[u8], out: &mut Out) {
         if matches!(self.state, State::Open | State::RfcReceived) {
-            out.push(Packet { op: CLS, num: 0, ack: 0, body: Box::from(text) });
+            let body = out.keep(text);
+            out.packets.push(Packet { op: CLS, num: 0, ack: 0, body });
         }
         let fresh = Conn::new(self.send_cap, self.recv_cap);
         *self = Conn { last: self.last, heard: self.heard, resent: self.resent, probed: self.probed, ..fresh };
     }
 
-    fn tick(&mut self, now: u64, out: &mut Out) -> String {
+    fn tick(&mut self, now: u64, out: &mut Out) -> Ticked {
         self.last = self.last.max(now);
         let waits = matches!(self.state, State::RfcSent | State::Open);
         if waits && self.last - self.heard >= DOWN {
             self.state = State::HostDown;
-            return "down".into();
+            return Ticked::Down;
         }
         if waits && !self.kept.is_empty() && self.last - self.resent >= RETRANSMIT {
             self.resent = self.last;
             let mut num = self.receipted;
-            for item in &self.kept {
+            for &item in &self.kept {
                 num = num.wrapping_add(1);
-                out.push(self.packet_of(num, item));
+                out.packets.push(self.packet_of(num, item));
             }
             if self.kept.iter().any(|item| item.op != RFC) {
                 self.untold = 0;
             }
-            return format!("resent {}", self.kept.len());
+            return Ticked::Resent(self.kept.len());
         }
         if self.state == State::Open && self.last - self.heard.max(self.probed) >= PROBE {
             self.probed = self.last;
             self.untold = 0;
-            out.push(Packet { op: SNS, num: 0, ack: self.read, body: Box::default() });
-            return "probed".into();
+            out.packets.push(Packet { op: SNS, num: 0, ack: self.read, body: Body::default() });
+            return Ticked::Probed;
         }
-        "quiet".into()
+        Ticked::Quiet
     }
 
-    fn arrive(&mut self, packet: &Packet, now: u64, out: &mut Out) -> &'static str {
+    fn arrive(&mut self, packet: Packet, now: u64, out: &mut Out) -> &'static str {
         self.hear(now);
         self.acknowledge(packet.ack);
         let offset = packet.num.wrapping_sub(self.read);
         let slot = usize::from(offset).wrapping_sub(1);
         if (1..=self.recv_cap).contains(&offset) && self.held[slot].is_none() {
-            let body = if packet.op == EOF { Box::default() } else { packet.body.clone() };
+            let body = if packet.op == EOF { Body::default() } else { packet.body };
             self.held[slot] = Some(Item { op: packet.op, body });
             return "Took";
         }
@@ -309,13 +352,13 @@ impl Conn {
     }
 
     /// The addresses and indices of the laboratory's packets are always right, so that they aren't looked at.
-    fn deliver(&mut self, packet: &Packet, now: u64, out: &mut Out) -> &'static str {
+    fn deliver(&mut self, packet: Packet, now: u64, out: &mut Out) -> &'static str {
         if !matches!(self.state, State::RfcSent | State::RfcReceived | State::Open) {
             return "Dropped NotOpen";
         }
-        let status = || {
-            let word = |place: usize| u16::from_le_bytes([packet.body[place], packet.body[place + 1]]);
-            (word(0), word(2))
+        let status = |out: &Out| {
+            let [a, b, c, d] = out.bytes[packet.body.at..][..4] else { return (0, 0) };
+            (u16::from_le_bytes([a, b]), u16::from_le_bytes([c, d]))
         };
         match (self.state, packet.op) {
             (_, RFC) if self.asked => "Dropped BadOp",
@@ -329,7 +372,7 @@ impl Conn {
             }
             (State::RfcSent, OPN) => {
                 self.hear(now);
-                let (receipt, window) = status();
+                let (receipt, window) = status(out);
                 self.hear_status(packet.ack, receipt, window);
                 self.state = State::Open;
                 self.probed = self.last;
@@ -344,14 +387,14 @@ impl Conn {
             }
             (State::Open, OPN) => {
                 self.hear(now);
-                let (receipt, window) = status();
+                let (receipt, window) = status(out);
                 self.hear_status(packet.ack, receipt, window);
                 self.put_sts(out);
                 "Duplicate"
             }
             (State::Open, STS) => {
                 self.hear(now);
-                let (receipt, window) = status();
+                let (receipt, window) = status(out);
                 self.hear_status(packet.ack, receipt, window);
                 "Status"
             }
@@ -374,27 +417,39 @@ struct Lab {
     now: u64,
     was_asked: bool,
     refused: u64,
+    out: Out,
     text: Vec<u8>,
 }
 
 const SIDES: [&str; 2] = ["a", "b"];
 
-fn side_of(text: &str) -> Option<usize> {
-    SIDES.iter().position(|&side| side == text)
+fn side_of(text: &[u8]) -> Option<usize> {
+    SIDES.iter().position(|side| side.as_bytes() == text)
 }
 
-fn number(text: &str, most: u64) -> Option<u64> {
-    let plain = text == "0" || !text.starts_with('0') && !text.is_empty() && text.bytes().all(|b| b.is_ascii_digit());
-    text.parse().ok().filter(|&number| plain && number <= most)
+fn number(text: &[u8], most: u64) -> Option<u64> {
+    if text.is_empty() || text.len() > 1 && text[0] == b'0' {
+        return None;
+    }
+    let mut number = 0u64;
+    for byte in text {
+        let digit = byte.wrapping_sub(b'0');
+        if digit > 9 {
+            return None;
+        }
+        number = number.checked_mul(10)?.checked_add(u64::from(digit))?;
+    }
+    (number <= most).then_some(number)
 }
 
-fn bytes_of(text: &[u8]) -> Option<Vec<u8>> {
-    let mut bytes = Vec::new();
+/// The bytes that a text stands for, in a place of the caller's.
+fn bytes_of<'a>(text: &[u8], room: &'a mut [u8; 488]) -> Option<&'a [u8]> {
+    let mut len = 0;
     let mut rest = text;
     while let [first, others @ ..] = rest {
         rest = others;
-        match first {
-            b'^' => bytes.push(0x8D),
+        let byte = match first {
+            b'^' => 0x8D,
             b'\\' => {
                 let [high, low, others @ ..] = rest else { return None };
                 let digit = |b: &u8| match b {
@@ -402,25 +457,43 @@ fn bytes_of(text: &[u8]) -> Option<Vec<u8>> {
                     b'a'..=b'f' => Some(b - b'a' + 10),
                     _ => None,
                 };
-                bytes.push(digit(high)? * 16 + digit(low)?);
                 rest = others;
+                digit(high)? * 16 + digit(low)?
             }
-            0x20..=0x7E => bytes.push(*first),
+            0x20..=0x7E => *first,
             _ => return None,
-        }
+        };
+        *room.get_mut(len)? = byte;
+        len += 1;
     }
-    (bytes.len() <= 488).then_some(bytes)
+    Some(&room[..len])
 }
 
 fn put_text(text: &mut Vec<u8>, bytes: &[u8]) {
+    const DIGITS: &[u8; 16] = b"0123456789abcdef";
     for &byte in bytes {
         match byte {
             0x8D => text.push(b'^'),
-            b'^' | b'\\' => drop(write!(text, "\\{byte:02x}")),
-            0x20..=0x7E => text.push(byte),
-            _ => drop(write!(text, "\\{byte:02x}")),
+            b'^' | b'\\' | 0..=0x1F | 0x7F.. => {
+                text.extend_from_slice(&[b'\\', DIGITS[usize::from(byte >> 4)], DIGITS[usize::from(byte & 15)]]);
+            }
+            _ => text.push(byte),
         }
     }
+}
+
+fn put_number(text: &mut Vec<u8>, mut number: u64) {
+    let mut digits = [0; 20];
+    let mut at = digits.len();
+    loop {
+        at -= 1;
+        digits[at] = b'0' + (number % 10) as u8;
+        number /= 10;
+        if number == 0 {
+            break;
+        }
+    }
+    text.extend_from_slice(&digits[at..]);
 }
 
 impl Lab {
@@ -432,152 +505,161 @@ impl Lab {
             now: 0,
             was_asked: false,
             refused: 0,
+            out: Out::default(),
             text: Vec::new(),
         };
-        let mut out = Vec::new();
-        lab.ends[0].request(start, &mut out);
-        lab.post(0, out);
+        lab.ends[0].request(start, &mut lab.out);
+        lab.post(0);
         lab
     }
 
-    fn say(&mut self, line: std::fmt::Arguments) {
-        let _ = writeln!(self.text, "{line}");
+    fn say(&mut self, parts: &[&str]) {
+        for part in parts {
+            self.text.extend_from_slice(part.as_bytes());
+        }
+        self.text.push(b'\n');
     }
 
-    fn refuse(&mut self, fault: &str) {
+    fn say_number(&mut self, words: &str, number: u64) {
+        self.text.extend_from_slice(words.as_bytes());
+        put_number(&mut self.text, number);
+        self.text.push(b'\n');
+    }
+
+    fn refuse(&mut self, words: &[&str]) {
         self.refused += 1;
-        self.say(format_args!("refused {fault}"));
+        self.text.extend_from_slice(b"refused ");
+        self.say(words);
     }
 
-    fn post(&mut self, side: usize, out: Out) {
-        for packet in out {
-            let place = self.copies.len();
-            let (name, num, ack) = (name_of(packet.op), packet.num, packet.ack);
-            self.say(format_args!("copy {place} {} {name} num {num} ack {ack}", SIDES[side]));
+    fn post(&mut self, side: usize) {
+        for packet in self.out.packets.drain(..) {
+            self.text.extend_from_slice(b"copy ");
+            put_number(&mut self.text, self.copies.len() as u64);
+            self.text.extend_from_slice(if side == 0 { b" a " } else { b" b " });
+            self.text.extend_from_slice(name_of(packet.op).as_bytes());
+            self.text.extend_from_slice(b" num ");
+            put_number(&mut self.text, u64::from(packet.num));
+            self.text.extend_from_slice(b" ack ");
+            put_number(&mut self.text, u64::from(packet.ack));
+            self.text.push(b'\n');
             self.copies.push(Stamped { side, packet, lens: self.lens });
         }
     }
 
     fn deliver(&mut self, place: usize) {
-        let Some(copy) = self.copies.get(place) else {
-            return self.refuse("1 NoSuchCopy");
+        let Some(&copy) = self.copies.get(place) else {
+            return self.refuse(&["1 NoSuchCopy"]);
         };
         if (0..2).any(|side| self.lens[side] - copy.lens[side] >= FRESH) {
-            return self.refuse("2 Stale");
+            return self.refuse(&["2 Stale"]);
         }
         let to = 1 - copy.side;
-        let mut out = Vec::new();
         let answer = if to == 1 && copy.packet.op == RFC && !self.was_asked && self.ends[1].state == State::Inactive {
             self.was_asked = true;
-            self.ends[1].take_request(&copy.packet, self.now);
+            self.ends[1].take_request(copy.packet, self.now);
             "Requested"
         } else {
-            self.ends[to].deliver(&copy.packet, self.now, &mut out)
+            self.ends[to].deliver(copy.packet, self.now, &mut self.out)
         };
-        self.say(format_args!("delivered {answer}"));
-        self.post(to, out);
+        self.say(&["delivered ", answer]);
+        self.post(to);
     }
 
     fn write(&mut self, side: usize, op: u8, bytes: &[u8]) {
-        let mut out = Vec::new();
-        match self.ends[side].write(op, bytes, self.now, &mut out) {
+        match self.ends[side].write(op, bytes, self.now, &mut self.out) {
             Ok(num) => {
                 self.lens[side] += 1;
-                self.say(format_args!("wrote {num}"));
-                self.post(side, out);
+                self.say_number("wrote ", u64::from(num));
+                self.post(side);
             }
-            Err(fault) => self.refuse(&format!("3 {fault}")),
+            Err(fault) => self.refuse(&["3 ", fault]),
         }
     }
 
     fn read(&mut self, side: usize) {
-        let mut out = Vec::new();
-        match self.ends[side].read(&mut out) {
+        match self.ends[side].read(&mut self.out) {
             Ok(Some(item)) => {
-                let _ = write!(self.text, "read {:03o}", item.op);
-                if !item.body.is_empty() {
+                let digit = |shift: u8| b'0' + (item.op >> shift & 7);
+                self.text.extend_from_slice(b"read ");
+                self.text.extend_from_slice(&[digit(6), digit(3), digit(0)]);
+                if item.body.len > 0 {
                     self.text.push(b' ');
-                    put_text(&mut self.text, &item.body);
+                    put_text(&mut self.text, self.out.bytes_of(item.body));
                 }
                 self.text.push(b'\n');
             }
-            Ok(None) => self.say(format_args!("read nothing")),
-            Err(state) => self.say(format_args!("read ended {}", state.name())),
+            Ok(None) => self.say(&["read nothing"]),
+            Err(state) => self.say(&["read ended ", state.name()]),
         }
-        self.post(side, out);
+        self.post(side);
+    }
+
+    fn tick(&mut self, side: usize, now: u64) {
+        self.now = self.now.max(now);
+        match self.ends[side].tick(now, &mut self.out) {
+            Ticked::Quiet => self.say(&["ticked quiet"]),
+            Ticked::Down => self.say(&["ticked down"]),
+            Ticked::Resent(count) => self.say_number("ticked resent ", count as u64),
+            Ticked::Probed => self.say(&["ticked probed"]),
+        }
+        self.post(side);
+    }
+
+    fn accept(&mut self, start: u16) {
+        match self.ends[1].accept(start, self.now, &mut self.out) {
+            Some(_) => {
+                self.lens[1] += 1;
+                self.say_number("accepted ", u64::from(start));
+                self.post(1);
+            }
+            None => self.refuse(&["3 6 WrongState"]),
+        }
     }
 
     fn event(&mut self, line: &[u8]) -> Option<()> {
-        let mut fields = line.splitn(4, |&b| b == b' ').map(|field| std::str::from_utf8(field).ok());
-        let word = fields.next()??;
-        let mut out = Vec::new();
+        let mut room = [0; 488];
+        let (word, rest) = cut(line);
         match word {
-            "write" => {
-                let side = side_of(fields.next()??)?;
-                let op = fields.next()??;
-                let good = op.len() == 3 && op.bytes().all(|b| (b'0'..=b'7').contains(&b));
-                let op = u8::from_str_radix(op, 8).ok().filter(|_| good)?;
-                let text = fields.next().unwrap_or(Some(""))?;
-                let bytes = bytes_of(text.as_bytes())?;
-                self.write(side, op, &bytes);
+            b"write" => {
+                let (side, rest) = cut(rest?);
+                let (op, text) = cut(rest?);
+                let [a @ b'0'..=b'3', b @ b'0'..=b'7', c @ b'0'..=b'7'] = op else { return None };
+                let op = (a - b'0') << 6 | (b - b'0') << 3 | (c - b'0');
+                self.write(side_of(side)?, op, bytes_of(text.unwrap_or(&[]), &mut room)?);
             }
-            "close" => {
-                let side = side_of(fields.next()??)?;
-                let text = line.get(8..).unwrap_or(&[]);
-                let bytes = bytes_of(text)?;
-                self.ends[side].close(&bytes, &mut out);
-                self.say(format_args!("closed"));
-                self.post(side, out);
+            b"close" => {
+                let (side, text) = cut(rest?);
+                let side = side_of(side)?;
+                let bytes = bytes_of(text.unwrap_or(&[]), &mut room)?;
+                self.ends[side].close(bytes, &mut self.out);
+                self.say(&["closed"]);
+                self.post(side);
             }
-            "read" => {
-                let side = side_of(fields.next()??)?;
-                if fields.next().is_some() {
-                    return None;
-                }
-                self.read(side);
+            b"read" => self.read(side_of(rest?)?),
+            b"tick" => {
+                let (side, now) = cut(rest?);
+                self.tick(side_of(side)?, number(now?, u64::MAX)?);
             }
-            "tick" => {
-                let side = side_of(fields.next()??)?;
-                let now = number(fields.next()??, u64::MAX)?;
-                if fields.next().is_some() {
-                    return None;
-                }
-                self.now = self.now.max(now);
-                let answer = self.ends[side].tick(now, &mut out);
-                self.say(format_args!("ticked {answer}"));
-                self.post(side, out);
-            }
-            "accept" => {
-                let start = number(fields.next()??, 65_535)? as u16;
-                if fields.next().is_some() {
-                    return None;
-                }
-                match self.ends[1].accept(start, self.now, &mut out) {
-                    Some(_) => {
-                        self.lens[1] += 1;
-                        self.say(format_args!("accepted {start}"));
-                        self.post(1, out);
-                    }
-                    None => self.refuse("3 6 WrongState"),
-                }
-            }
-            "deliver" => {
-                let place = number(fields.next()??, u64::MAX)?;
-                if fields.next().is_some() {
-                    return None;
-                }
-                self.deliver(usize::try_from(place).ok()?);
-            }
+            b"accept" => self.accept(number(rest?, 65_535)? as u16),
+            b"deliver" => self.deliver(usize::try_from(number(rest?, u64::MAX)?).ok()?),
             _ => return None,
         }
         Some(())
     }
 }
 
+/// What stands before the first space, and behind it.
+fn cut(text: &[u8]) -> (&[u8], Option<&[u8]>) {
+    match text.iter().position(|&b| b == b' ') {
+        Some(at) => (&text[..at], Some(&text[at + 1..])),
+        None => (text, None),
+    }
+}
+
 fn first(line: &[u8]) -> Option<Lab> {
-    let text = std::str::from_utf8(line).ok()?;
-    let fields: Vec<&str> = text.split(' ').collect();
-    let ["ends", sa, ra, sb, rb, start] = fields[..] else { return None };
+    let fields: Vec<&[u8]> = line.split(|&b| b == b' ').collect();
+    let [b"ends", sa, ra, sb, rb, start] = fields[..] else { return None };
     let cap = |text| number(text, 64).filter(|&cap| cap > 0).map(|cap| cap as u16);
     Some(Lab::new([cap(sa)?, cap(ra)?, cap(sb)?, cap(rb)?], number(start, 65_535)? as u16))
 }
@@ -587,13 +669,10 @@ fn main() -> ExitCode {
     if std::io::stdin().lock().read_to_end(&mut input).is_err() {
         return ExitCode::from(1);
     }
-    let mut lines = input.split(|&b| b == b'\n').collect::<Vec<_>>();
-    if lines.last().is_some_and(|line| line.is_empty()) {
-        lines.pop();
-    }
+    let ended = input.strip_suffix(b"\n").unwrap_or(&input);
     let mut lab: Option<Lab> = None;
     let mut bad = None;
-    for (place, line) in lines.iter().enumerate() {
+    for (place, line) in ended.split(|&b| b == b'\n').enumerate() {
         let line = line.strip_suffix(b"\r").unwrap_or(line);
         let done = line.len() <= 4096
             && match &mut lab {
@@ -613,7 +692,7 @@ fn main() -> ExitCode {
         if status == 0 {
             let stored = |end: &Conn| end.kept.len() + end.held.iter().flatten().count();
             let (a, b) = (stored(&lab.ends[0]), stored(&lab.ends[1]));
-            lab.say(format_args!("stored a {a} b {b}"));
+            lab.say(&["stored a ", &a.to_string(), " b ", &b.to_string()]);
             status = if lab.refused > 0 { 3 } else { 0 };
         }
         if std::io::stdout().write_all(&lab.text).is_err() {

@@ -1,9 +1,10 @@
 -- The parts of the laboratory as what contracts see.
-use Rattle.std.specs.Prelude.{◌≡◌, ◌<◌, ◌≤◌, [], vec_len, vec_capacity}
+use Rattle.std.specs.Prelude.{◌≡◌, ◌+◌, ◌<◌, ◌≤◌, [], vec_len, vec_capacity}
 use Rattle.chaos_packet.specs.Outbox.{OutboxView}
 use Rattle.chaos_window.specs.declared.limits.TheConstants.{MAX_WINDOW}
 use Rattle.chaos_lab.specs.declared.lab_end.LabEnd.{LabEnd}
 use Rattle.chaos_lab.specs.declared.both_ends.BothEnds.{BothEnds}
+use Rattle.chaos_lab.specs.declared.copy_list.CopyList.{CopyList}
 use Rattle.chaos_lab.specs.declared.event.Event.{Event}
 use Rattle.chaos_lab.specs.declared.event.Event.TheVariants as event
 use Rattle.chaos_lab.specs.Laboratory.Happening.{WriteBy, ReadBy, AnnounceBy, TickOf, CloseBy, AcceptFrom, DeliverCopy}
@@ -16,6 +17,11 @@ end_view e = record { conn = e.conn; first = e.first; written = e.written.items;
 pub record HasRoom (e : LabEnd) : Type 0 where
   pub written : vec_len e.written < vec_capacity e.written
   pub read : vec_len e.read < vec_capacity e.read
+
+-- the list has places for all that one call may put out, and there is a spare room for the data of each
+pub record HasSpace (c : CopyList) : Type 0 where
+  pub places : vec_len c.list + MAX_WINDOW ≤ vec_capacity c.list
+  pub spares : MAX_WINDOW ≤ vec_len c.spares
 
 -- so at both ends, and both windows fit the outbox
 pub record AreReady (e : BothEnds) (out : OutboxView) : Type 0 where

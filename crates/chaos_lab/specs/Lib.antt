@@ -1,3 +1,4 @@
+pub mod Data
 pub mod Machine
 pub mod Numbers
 pub mod Law

@@ -9,8 +9,10 @@
 #![tactic(auto)]
 
 mod both_ends;
+mod copy_list;
 mod event;
 mod fault;
+mod kept_packet;
 mod lab;
 mod lab_end;
 mod law;
@@ -21,6 +23,7 @@ mod user;
 
 pub use event::{Event, Stepped};
 pub use fault::LabFault;
+pub use kept_packet::KeptPacket;
 pub use lab::Lab;
 pub use law::{law_delivery, law_limits, law_numbers, law_phases};
 pub use side::Side;

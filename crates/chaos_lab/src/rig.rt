@@ -8,12 +8,13 @@ ghost use Rattle.chaos_conn.specs.Stored.{stored_packets, stored_bytes};
 ghost use Rattle.chaos_lab.specs.Shown.{place_of};
 ghost use Rattle.chaos_lab.specs.Laboratory.{Happens, happen, check, lab_end, start_for, after_all, StopsWithin, Calls, CallsWith, is_fresh, is_request, stamp};
 ghost use Rattle.chaos_lab.specs.Laboratory.Happening.{DeliverCopy};
-ghost use Rattle.chaos_lab.specs.Inside.{end_view, happening_of, HasRoom};
+ghost use Rattle.chaos_lab.specs.Inside.{end_view, happening_of, HasRoom, HasSpace};
 ghost use Rattle.chaos_lab.specs.Makes.{MakesAt};
 ghost use Rattle.chaos_lab.specs.Turn.{Turn, IsTaken, turn_events};
 ghost use Rattle.chaos_lab.specs.Turning.{stamped_reply, reply_items};
 
 use crate::both_ends::BothEnds;
+use crate::copy_list::CopyList;
 use crate::event::{Event, Stepped};
 use crate::fault::LabFault;
 use crate::lab_end::LabEnd;
@@ -34,7 +35,7 @@ const FRESH_SPAN: usize = 32_640;
 pub(crate) struct Rig {
     ends: BothEnds,
     /// Every packet that was sent, the oldest first.
-    copies: Vec<Stamped>,
+    copies: CopyList,
     /// Whether B took a request.
     asked: bool,
     /// The greatest moment that was ticked.
@@ -75,7 +76,7 @@ impl Rig {
         let mut out = Outbox::new(alloc, MAX_WINDOW as usize)?;
         let a = LabEnd::asking(alloc, config_a, contact, start_a, &mut out)?;
         let b = LabEnd::new(alloc, config_b)?;
-        let mut copies = Vec::with_capacity(alloc, MAX_WINDOW as usize)?;
+        let mut copies = CopyList::new(alloc)?;
         let ends = BothEnds { a, b };
         post(&mut copies, &mut out, Side::A, &ends);
         Ok(Rig {
@@ -111,7 +112,7 @@ impl Rig {
     pub(crate) fn copies(&self) -> &[Stamped]
         ensures { result.now ≡ self.now.copies }
     {
-        self.copies.as_slice()
+        self.copies.list.as_slice()
     }
 
     /// How many packets an end stores, and their bytes with a header for each.
@@ -255,7 +256,7 @@ impl Rig {
     fn deliver(&mut self, k: usize) -> Result<Stepped, LabFault>
         ensures { Happens self.old (DeliverCopy k) self.new result }
     {
-        let Some(copy) = self.copies.get(k) else {
+        let Some(copy) = self.copies.list.get(k) else {
             return Err(LabFault::NoSuchCopy);
         };
         if !is_fresh(&self.ends, copy) {
@@ -272,12 +273,12 @@ impl Rig {
         ensures { CallsWith (slice_get self.old.copies k) (λ copy. Calls self.old B (TakeRequest copy.packet (place_of B) self.old.clock) self.new result) }
     {
         grow(&mut self.ends, &mut self.copies)?;
-        let Some(copy) = self.copies.get(k) else {
+        let Some(copy) = self.copies.list.get(k) else {
             return Err(LabFault::NoSuchCopy);
         };
         let stepped = self
             .ends
-            .take_request(&copy.packet, self.clock, &mut self.out)?;
+            .take_request(&copy.packet.packet(), self.clock, &mut self.out)?;
         self.asked = true;
         post(&mut self.copies, &mut self.out, Side::B, &self.ends);
         Ok(stepped)
@@ -288,26 +289,26 @@ impl Rig {
         ensures { CallsWith (slice_get self.old.copies k) (λ copy. Calls self.old (other copy.side) (Deliver copy.packet self.old.clock) self.new result) }
     {
         grow(&mut self.ends, &mut self.copies)?;
-        let Some(copy) = self.copies.get(k) else {
+        let Some(copy) = self.copies.list.get(k) else {
             return Err(LabFault::NoSuchCopy);
         };
         let side = copy.side.other();
         let stepped = self
             .ends
-            .deliver(side, &copy.packet, self.clock, &mut self.out)?;
+            .deliver(side, &copy.packet.packet(), self.clock, &mut self.out)?;
         post(&mut self.copies, &mut self.out, side, &self.ends);
         Ok(stepped)
     }
 }
 
 /// Makes room for all that one call may add.
-fn grow(ends: &mut BothEnds, copies: &mut Vec<Stamped>) -> Result<(), LabFault>
+fn grow(ends: &mut BothEnds, copies: &mut CopyList) -> Result<(), LabFault>
     ensures ends { (end_view ends.new.a ≡ end_view ends.old.a) × (end_view ends.new.b ≡ end_view ends.old.b) }
-    ensures copies { copies.new.items ≡ copies.old.items }
-    ensures room { OnOk result (HasRoom ends.new.a × HasRoom ends.new.b × (vec_len copies.new + MAX_WINDOW ≤ vec_capacity copies.new)) }
+    ensures copies { copies.new.list.items ≡ copies.old.list.items }
+    ensures room { OnOk result (HasRoom ends.new.a × HasRoom ends.new.b × HasSpace copies.new) }
     ensures err { IfErr result (λ fault. fault ≡ LabFault.NoMemory) }
 {
-    if ends.grow().is_err() || copies.reserve(MAX_WINDOW as usize).is_err() {
+    if ends.grow().is_err() || copies.grow().is_err() {
         return Err(LabFault::NoMemory);
     }
     Ok(())
@@ -331,14 +332,14 @@ fn is_near(len: usize, stamp: usize) -> bool
 fn is_request(asked: bool, copy: &Stamped) -> bool
     ensures { result ≡ is_request asked copy.now }
 {
-    copy.side == Side::A && !asked && copy.packet.op.kind() == Kind::Rfc
+    copy.side == Side::A && !asked && copy.packet.op().kind() == Kind::Rfc
 }
 
 /// Takes what was put out into the copies.
-fn post(copies: &mut Vec<Stamped>, out: &mut Outbox, side: Side, ends: &BothEnds)
+fn post(copies: &mut CopyList, out: &mut Outbox, side: Side, ends: &BothEnds)
     requires few { length out.old.packets ≤ MAX_WINDOW }
-    requires room { vec_len copies.old + MAX_WINDOW ≤ vec_capacity copies.old }
-    ensures copies { copies.new.items ≡ copies.old.items ++ map (stamp side (length ends.now.a.written.items) (length ends.now.b.written.items)) out.old.packets }
+    requires space { HasSpace copies.old }
+    ensures copies { copies.new.list.items ≡ copies.old.list.items ++ map (stamp side (length ends.now.a.written.items) (length ends.now.b.written.items)) out.old.packets }
     ensures out { out.new ≡ record out.old { packets = [] } }
 {
     let (len_a, len_b) = (ends.a.written.len(), ends.b.written.len());
@@ -346,21 +347,17 @@ fn post(copies: &mut Vec<Stamped>, out: &mut Outbox, side: Side, ends: &BothEnds
         let Some(packet) = out.take() else {
             break;
         };
-        copies.push_reserved(Stamped {
-            side,
-            packet,
-            len_a,
-            len_b,
-        });
+        copies.push(side, &packet, len_a, len_b);
     }
 }
 
 /// Takes what was put out in a turn that ended with B's reply into the copies, and the reply into what B wrote. What went out
 /// before it is stamped before the reply is counted.
-fn post_reply(copies: &mut Vec<Stamped>, out: &mut Outbox, ends: &mut BothEnds)
+fn post_reply(copies: &mut CopyList, out: &mut Outbox, ends: &mut BothEnds)
     requires few { length out.old.packets ≤ 2 }
-    requires room { (vec_len copies.old + MAX_WINDOW ≤ vec_capacity copies.old) × (vec_len ends.old.b.written < vec_capacity ends.old.b.written) }
-    ensures copies { copies.new.items ≡ copies.old.items ++ stamped_reply (length ends.old.a.written.items) (length ends.old.b.written.items) out.old.packets }
+    requires space { HasSpace copies.old }
+    requires room { vec_len ends.old.b.written < vec_capacity ends.old.b.written }
+    ensures copies { copies.new.list.items ≡ copies.old.list.items ++ stamped_reply (length ends.old.a.written.items) (length ends.old.b.written.items) out.old.packets }
     ensures ends { (ends.new.a ≡ ends.old.a) × (end_view ends.new.b ≡ record (end_view ends.old.b) { written = ends.old.b.written.items ++ reply_items out.old.packets }) }
     ensures out { out.new ≡ record out.old { packets = [] } }
 {
@@ -372,22 +369,12 @@ fn post_reply(copies: &mut Vec<Stamped>, out: &mut Outbox, ends: &mut BothEnds)
     let reply = match out.take() {
         None => first,
         Some(reply) => {
-            copies.push_reserved(Stamped {
-                side: Side::B,
-                packet: first,
-                len_a,
-                len_b,
-            });
+            copies.push(Side::B, &first, len_a, len_b);
             reply
         }
     };
     ends.b
         .written
         .push_reserved(Item::new(reply.op, reply.bytes()));
-    copies.push_reserved(Stamped {
-        side: Side::B,
-        packet: reply,
-        len_a,
-        len_b: len_b + 1,
-    });
+    copies.push(Side::B, &reply, len_a, len_b + 1);
 }

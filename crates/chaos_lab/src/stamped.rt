@@ -1,15 +1,15 @@
 //! A packet that was sent, with its stamp.
 
+use crate::kept_packet::KeptPacket;
 use crate::side::Side;
-use chaos_packet::Packet;
 
 /// A packet that was sent, and its stamp: how many items each end had written after the call that sent it, the packet's own
 /// item counted.
-#[derive(Debug, PartialEq, Eq, Drop)]
+#[derive(Drop)]
 pub struct Stamped {
     /// The end that sent it.
     pub side: Side,
-    pub packet: Packet,
+    pub packet: KeptPacket,
     /// How many items A had written.
     pub len_a: usize,
     /// How many items B had written.

@@ -126,8 +126,8 @@ fn put_copy(out: &mut WriteBuffer, place: usize, copy: &Stamped) -> Result<(), N
     out.put(b" ")?;
     out.put(side_name(copy.side).as_bytes())?;
     out.put(b" ")?;
-    out.put(op_name(copy.packet.op).as_bytes())?;
-    put_pair(out, copy.packet.num.0, copy.packet.ack.0)
+    out.put(op_name(copy.packet.op()).as_bytes())?;
+    put_pair(out, copy.packet.num().0, copy.packet.ack().0)
 }
 
 /// The number and the acknowledgement of a copy, and the end of its line.

@@ -1,0 +1,153 @@
+//! A packet that was sent, as the laboratory keeps it.
+ghost use Rattle.std.specs.Prelude.{◌≡◌, ◌≤◌, ◌<◌, ◌+◌, length, vec_len};
+ghost use Rattle.chaos_lab.specs.Data.{data_of};
+
+use chaos_packet::{Item, MAX_DATA, Opcode, Packet, PktNum, body_of};
+use std::alloc::Global;
+use std::marker::Model;
+
+/// The data bytes of a packet, in memory of their own.
+#[derive(Drop)]
+pub(crate) enum Data {
+    /// As much of it as there are bytes.
+    Fitting(Vec<u8>),
+    /// Room for the most that a packet has, which was set aside before: no other memory was to be had.
+    Spare(Box<Item, Global>),
+}
+
+impl Data {
+    /// A copy of these bytes, in a spare room only where there is no other memory.
+    fn new(alloc: Global, bytes: &[u8], spares: &mut Vec<Box<Item, Global>>) -> Self
+        requires fits { length bytes.now ≤ MAX_DATA }
+        requires spare { 0 < vec_len spares.old }
+        ensures value { data_of result ≡ bytes.now }
+        ensures spares { vec_len spares.old ≤ vec_len spares.new + 1 }
+    {
+        if let Ok(fitting) = Vec::from_slice(alloc, bytes) {
+            return Data::Fitting(fitting);
+        }
+        match spares.pop() {
+            Some(mut room) => {
+                room.body.clear();
+                let _fits = room.body.try_extend_from_slice(bytes);
+                Data::Spare(room)
+            }
+            None => Data::Fitting(Vec::new(alloc)),
+        }
+    }
+
+    /// The bytes, lent.
+    fn bytes(&self) -> &[u8]
+        ensures { result.now ≡ data_of self.now }
+    {
+        match self {
+            Data::Fitting(bytes) => bytes.as_slice(),
+            Data::Spare(room) => room.bytes(),
+        }
+    }
+}
+
+/// A packet that was sent. A contract sees it as any packet.
+///
+/// It takes the memory of its header and of the data bytes that it has, where a [`Packet`] has room for the most of them.
+#[derive(Drop)]
+pub struct KeptPacket {
+    op: Opcode,
+    fwd: u8,
+    dst: u16,
+    dst_index: u16,
+    src: u16,
+    src_index: u16,
+    num: PktNum,
+    ack: PktNum,
+    bytes: Data,
+}
+
+impl Model for KeptPacket {
+    ghost use Rattle.std.specs.Prelude.{◌≤◌, length};
+    ghost use Rattle.chaos_packet.specs.declared.limits.TheConstants.{MAX_DATA, MAX_FORWARDS};
+    ghost use Rattle.chaos_packet.specs.Packet.{PacketView};
+    ghost use Rattle.chaos_lab.specs.Data.{data_of};
+
+    ghost Value = { PacketView };
+
+    ghost view = { λ p. record {
+      op = p.op;
+      fwd = p.fwd;
+      dst = p.dst;
+      dst_index = p.dst_index;
+      src = p.src;
+      src_index = p.src_index;
+      num = p.num;
+      ack = p.ack;
+      body = data_of p.bytes;
+    } };
+
+    ghost invariant = { λ p. (p.fwd ≤ MAX_FORWARDS) × (length (data_of p.bytes) ≤ MAX_DATA) };
+}
+
+impl KeptPacket {
+    /// A copy of a packet. Where there is no memory for its data, they take a spare room.
+    pub(crate) fn new(alloc: Global, packet: &Packet, spares: &mut Vec<Box<Item, Global>>) -> Self
+        requires { 0 < vec_len spares.old }
+        ensures value { result ≡ packet.now }
+        ensures spares { vec_len spares.old ≤ vec_len spares.new + 1 }
+    {
+        KeptPacket {
+            op: packet.op,
+            fwd: packet.fwd,
+            dst: packet.dst,
+            dst_index: packet.dst_index,
+            src: packet.src,
+            src_index: packet.src_index,
+            num: packet.num,
+            ack: packet.ack,
+            bytes: Data::new(alloc, packet.bytes(), spares),
+        }
+    }
+
+    /// The packet's opcode.
+    pub fn op(&self) -> Opcode
+        ensures { result ≡ self.now.op }
+    {
+        self.op
+    }
+
+    /// The packet's number.
+    pub fn num(&self) -> PktNum
+        ensures { result ≡ self.now.num }
+    {
+        self.num
+    }
+
+    /// The number of the last packet that its sender's user had read.
+    pub fn ack(&self) -> PktNum
+        ensures { result ≡ self.now.ack }
+    {
+        self.ack
+    }
+
+    /// The data bytes, lent.
+    pub fn bytes(&self) -> &[u8]
+        ensures { result.now ≡ self.now.body }
+    {
+        self.bytes.bytes()
+    }
+
+    /// The packet, made again. It takes no memory, and copies the data.
+    pub fn packet(&self) -> Packet
+        ensures { result ≡ self.now }
+    {
+        Packet {
+            op: self.op,
+            fwd: self.fwd,
+            dst: self.dst,
+            dst_index: self.dst_index,
+            src: self.src,
+            src_index: self.src_index,
+            num: self.num,
+            ack: self.ack,
+            body: body_of(self.bytes.bytes()),
+        }
+    }
+}
