@@ -1,5 +1,5 @@
 //! Getting a file.
-ghost use Rattle.std.specs.Prelude.{◌≡◌, ◌≤◌, ◌<◌, ◌+◌, ◌++◌, [], ℕ, List, Some, option_map, length, IfSome};
+ghost use Rattle.std.specs.Prelude.{◌≡◌, ◌⊎◌, ◌≤◌, ◌<◌, ◌+◌, ◌++◌, [], ℕ, List, Some, option_map, length, IfErr, IfSome};
 ghost use Rattle.std.specs.Fmt.{decimal};
 ghost use Rattle.chaos_file.specs.declared.limits.TheConstants.{MAX_FILE, MAX_PATH, MAX_CHUNK};
 ghost use Rattle.chaos_file.specs.Answer.{Given};
@@ -69,8 +69,9 @@ fn take_piece(
     bytes: &mut Vec<u8>,
 ) -> Result<CopyEnd, RunFault>
     requires { tid < 100000000 }
-    ensures { IfDone result ((more : List ℕ) × (length more ≡ len) × (bytes.new.items ≡ bytes.old.items ++ more)
+    ensures done { IfDone result ((more : List ℕ) × (length more ≡ len) × (bytes.new.items ≡ bytes.old.items ++ more)
         × (option_map (λ v. v.items) reply ≡ Some (reply_of (decimal tid) file_handle (Given more)))) }
+    ensures faults { IfErr result (λ fault. fault ≡ RunFault.NoMemory) }
 {
     let Some(reply) = reply else {
         return Ok(CopyEnd::NoReply);
@@ -98,6 +99,7 @@ fn read_all<T: Talk>(
     ensures said { SaidUpTo (T.talked talk.old) (T.talked talk.new) (read_said first) (1 + chunk_count len) }
     ensures done { IfDone result ((length bytes.new.items ≡ len) × Since (T.talked talk.old) (T.talked talk.new)
         (upto (read_said first) (1 + chunk_count len)) (upto (read_heard first bytes.new.items) (1 + chunk_count len))) }
+    ensures faults { IfErr result (λ fault. (fault ≡ RunFault.NoMemory) ⊎ T.failed_by talk.new fault) }
 {
     let count = chunk_count(len);
     let row = Row {
@@ -140,6 +142,8 @@ pub fn get_file<T: Talk>(
         (get_commands (tids_from first) file_handle path.now (length bytes.new.items)) (get_replies (tids_from first) file_handle bytes.new.items)) }
     // However it ended, what was said begins the commands that get a file of some length.
     ensures begun { GetBegun (T.talked talk.old) (T.talked talk.new) (tids_from first) file_handle path.now }
+    // It fails for want of memory, or by a turn that did, by the same fault.
+    ensures faults { IfErr result (λ fault. (fault ≡ RunFault.NoMemory) ⊎ T.failed_by talk.new fault) }
 {
     let opened = ask_one(talk, Errand::OpenRead(path), first)?;
     let Some(len) = opened_length(&opened, first) else {

@@ -1,5 +1,5 @@
 //! Putting a file.
-ghost use Rattle.std.specs.Prelude.{◌≡◌, ◌≤◌, ◌<◌, ◌+◌, length};
+ghost use Rattle.std.specs.Prelude.{◌≡◌, ◌≤◌, ◌<◌, ◌+◌, length, IfErr};
 ghost use Rattle.chaos_file.specs.declared.limits.TheConstants.{MAX_FILE, MAX_PATH};
 ghost use Rattle.chaosd_copy.specs.declared.limits.TheConstants.{MAX_FIRST};
 ghost use Rattle.chaosd_copy.specs.Copy.{upto, chunk_count, put_commands, put_replies};
@@ -32,6 +32,7 @@ fn write_all<T: Talk>(talk: &mut T, first: u32, bytes: &[u8]) -> Result<CopyEnd,
     ensures said { SaidUpTo (T.talked talk.old) (T.talked talk.new) (write_said first bytes.now) (chunk_count (length bytes.now)) }
     ensures done { IfDone result (Since (T.talked talk.old) (T.talked talk.new)
         (upto (write_said first bytes.now) (chunk_count (length bytes.now))) (upto (write_heard first bytes.now) (chunk_count (length bytes.now)))) }
+    ensures faults { IfErr result (T.failed_by talk.new) }
 {
     let count = chunk_count(bytes.len());
     let row = Row {
@@ -77,6 +78,8 @@ pub fn put_file<T: Talk>(
         (put_commands (tids_from first) file_handle path.now bytes.now) (put_replies (tids_from first) file_handle bytes.now)) }
     // However it ended, what was said begins those commands, and CLOSE was said only where all before it was answered as it should be.
     ensures begun { PutBegun (T.talked talk.old) (T.talked talk.new) (tids_from first) file_handle path.now bytes.now }
+    // It fails only by a turn that did, by the same fault.
+    ensures faults { IfErr result (T.failed_by talk.new) }
 {
     let opened = ask_one(talk, Errand::OpenWrite(path), first)?;
     let wanted = counted(first, HANDLE, b"OPEN ", 0);

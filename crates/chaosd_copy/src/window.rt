@@ -1,5 +1,5 @@
 //! Commands that are said before the replies to those before them came.
-ghost use Rattle.std.specs.Prelude.{◌≡◌, ◌≤◌, ◌<◌, ◌+◌, ◌++◌, ◌∷◌, [], ℕ, true, List, Option, Some, option_map, length, IfOk, OnErr, IfSome};
+ghost use Rattle.std.specs.Prelude.{◌≡◌, ◌≤◌, ◌<◌, ◌+◌, ◌++◌, ◌∷◌, [], ℕ, true, List, Option, Some, option_map, length, IfOk, IfErr, OnErr, IfSome};
 ghost use Rattle.chaosd_copy.specs.Copy.{upto};
 ghost use Rattle.chaosd_copy.specs.Talk.{Talked, Since, SaidOrNot, after_hear};
 ghost use Rattle.chaosd_copy.specs.Row.{ErrandFits, errand_command, row_command, heard_in};
@@ -109,6 +109,7 @@ pub fn next_reply<T: Talk>(
     // Where a turn fails, what was said before it was, and nothing more was heard.
     ensures fault { (start : Option Talked) (replies : List (List ℕ)) → Since start (T.talked talk.old) (upto (row_command row.now) said.old) replies
         → OnErr result (Since start (T.talked talk.new) (upto (row_command row.now) said.new) replies) }
+    ensures faults { IfErr result (T.failed_by talk.new) }
 {
     let since = talk.moment();
     for turns in 0..u32::MAX {
@@ -137,6 +138,7 @@ pub fn ask_one<T: Talk>(
     ensures heard { IfOk result (λ r. IfSome r (λ reply. Since (T.talked talk.old) (T.talked talk.new)
         (errand_command errand.entry 0 tid ∷ []) (reply.items ∷ []))) }
     ensures said { SaidOrNot (T.talked talk.old) (T.talked talk.new) (errand_command errand.entry 0 tid) }
+    ensures faults { IfErr result (T.failed_by talk.new) }
 {
     let row = Row {
         first: tid,
@@ -186,6 +188,8 @@ pub fn log_in<T: Talk>(talk: &mut T, name: &[u8]) -> Result<CopyEnd, RunFault>
     ensures done { IfDone result (Since (T.talked talk.old) (T.talked talk.new) (login_command name.now ∷ []) (login_reply name.now ∷ [])) }
     // However it ended, nothing but the LOGIN was said.
     ensures begun { SaidOrNot (T.talked talk.old) (T.talked talk.new) (login_command name.now) }
+    // It fails only by a turn that did, by the same fault.
+    ensures faults { IfErr result (T.failed_by talk.new) }
 {
     let reply = ask_one(talk, Errand::Login(name), 0)?;
     let wanted = spelled(0, b"", b"LOGIN ", name);

@@ -45,6 +45,7 @@ returns-in_default-2 g c =
     let fits : c.in-Some.len ≤ MAX_FILE = search rules in
     record {
       done = search rules;
+      faults = tt;
       begun = get_reading _ _ _ c.args.first c.in-Some.len c.args.path.now _ fits
           (wanted_heard (λ v. v.items) (λ x. Since (g.T.Talk.talked c.args.talk.now) (g.T.Talk.talked c.ask_one.new.talk) (spelling_of (decimal c.args.first) file_handle (OpenRead c.args.path.now) ∷ []) (x ∷ []))
           c.in_ok-opened.opened _ _ c.in-Done.ensures c.counted-wanted.ensures c.in_ok-opened.ensures.heard)

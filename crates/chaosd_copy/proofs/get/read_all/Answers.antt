@@ -15,7 +15,7 @@ use Rattle.chaosd_copy.proofs.get.read_all.Goals as goal
 
 pub loop-i-preserved : goal.loop-i-preserved
 loop-i-preserved g c =
-    let p = when_copied _ _ c.in-Done.is c.in_ok-end.ensures in
+    let p = when_copied _ _ c.in-Done.is c.in_ok-end.ensures.done in
     let below : MAX_CHUNK * c.loop-i.i < c.args.len = omega (arith, c.chunk_count-count.ensures.value, c.loop-i-test.true) in
     let old : length c.loop-i.bytes.items ≡ MAX_CHUNK * c.loop-i.i = c.loop-i.invariant.size ∙ omega arith in
     let size : length p.0 ≡ min (c.args.len - MAX_CHUNK * c.loop-i.i) MAX_CHUNK = p.1 ∙ c.min.ensures in
@@ -63,6 +63,7 @@ returns-in_default g c = record {
   said = said_up_to _ _ (read_said c.args.first) c.next_reply.new.said (1 + c.chunk_count-count.result) _ _ c.next_reply.ensures.within (ap (λ n. 1 + n) c.chunk_count-count.ensures.value)
       (c.in_ok-reply.ensures.talk _ _ c.loop-i.invariant.talk);
   done = search rules;
+  faults = tt;
 }
 
 pub returns-in_err-last-clause-said : goal.returns-in_err-last-clause-said

@@ -39,6 +39,7 @@ returns-in_err-end-clause-begun g c =
 pub returns-in_default-2 : goal.returns-in_default-2
 returns-in_default-2 g c = record {
   done = search rules;
+  faults = tt;
   begun = put_writing _ _ _ c.args.first c.args.path.now c.args.bytes.now _
       (wanted_heard (λ v. v.items) (λ x. Since (g.T.Talk.talked c.args.talk.now) (g.T.Talk.talked c.ask_one.new.talk) (spelling_of (decimal c.args.first) file_handle (OpenWrite c.args.path.now) ∷ []) (x ∷ []))
       c.in_ok-opened.opened _ _ c.in-Done.ensures c.counted-wanted.ensures c.in_ok-opened.ensures.heard)

@@ -27,6 +27,7 @@ returns-in_default g c = record {
   said = said_up_to _ _ (write_said c.args.first c.args.bytes.now) c.next_reply.new.said c.chunk_count-count.result _ _ c.next_reply.ensures.within c.chunk_count-count.ensures.value
       (c.in_ok-reply.ensures.talk _ _ c.loop-i.invariant.talk);
   done = search rules;
+  faults = tt;
 }
 
 pub returns-clause-said : goal.returns-clause-said
