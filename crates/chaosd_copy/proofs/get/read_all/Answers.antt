@@ -35,7 +35,7 @@ returns-clause-done g c =
     let size : length c.loop-i.bytes.items ≡ c.args.len = c.loop-i.invariant.size ∙ all in
     from_copied c.settled.result _ ((length c.loop-i.bytes.items ≡ c.args.len) × Since (g.T.Talk.talked c.args.talk.now) (g.T.Talk.talked c.next_reply-2.new.talk)
     (upto (read_said c.args.first) (1 + chunk_count c.args.len)) (upto (read_heard c.args.first c.loop-i.bytes.items) (1 + chunk_count c.args.len)))
-    c.settled.ensures (λ e.
+    c.settled.ensures.done (λ e.
     let asked : c.chunk_count-count.result < c.next_reply-2.new.said = wanted_asked (λ v. v.items) (c.chunk_count-count.result < c.next_reply-2.new.said) c.in_ok-last.last _ e c.in_ok-last.ensures.asked in
     let within : c.next_reply-2.new.said ≤ 1 + c.chunk_count-count.result = c.in_ok-last.ensures.within in
     let said : c.next_reply-2.new.said ≡ 1 + chunk_count c.args.len = omega arith in
