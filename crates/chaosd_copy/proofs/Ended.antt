@@ -1,19 +1,19 @@
 -- How a copy ended that wasn't done.
-use Rattle.std.proofs.Common.{◌≡◌, ℕ, ◌+◌, ◌*◌, ◌<◌, Bool, false, List, [], ◌∷◌, ◌++◌, length, take, drop, Option, Some, None, refl, ap, ◌∙◌, sym, subst, inl, inr}
+use Rattle.std.proofs.Common.{◌≡◌, ℕ, ◌+◌, ◌*◌, ◌<◌, ◌≤◌, Bool, false, List, [], ◌∷◌, ◌++◌, length, take, drop, Option, Some, None, refl, ap, ◌∙◌, sym, subst, arith, inl, inr}
 use Rattle.std.specs.Prelude.{min, codes, not, is_some, option_map, Decides, Result, Ok, Err, IfOk}
 use Rattle.std.specs.Fmt.{decimal}
 use Rattle.std.proofs.lemmas.List.{append_assoc, append-nil, take-append-drop}
 use Rattle.std.proofs.lemmas.Slice.Eq.{bytes_eq-Decides}
 use Rattle.std.proofs.Math.Seq.{take-append_seam}
 use Rattle.std.specs.Str.{bytes_eq}
-use Rattle.chaos_file.specs.declared.limits.TheConstants.{MAX_CHUNK}
-use Rattle.chaos_file.specs.Answer.{Opened, Wrote, Closed, reply_front}
+use Rattle.chaos_file.specs.declared.limits.TheConstants.{MAX_CHUNK, MAX_FILE}
+use Rattle.chaos_file.specs.Answer.{Opened, Wrote, Closed, read_answer, reply_front}
 use Rattle.chaosd_copy.specs.declared.end.CopyEnd.{CopyEnd}
 use Rattle.chaosd_copy.specs.declared.end.CopyEnd.TheVariants as e
-use Rattle.chaosd_copy.specs.Copy.{upto, chunk_count, reply_of, put_reply, put_front_replies}
+use Rattle.chaosd_copy.specs.Copy.{upto, chunk, chunk_count, reply_of, put_reply, put_front_replies, get_front_replies}
 use Rattle.chaosd_copy.specs.Talk.{Talked, Since, Heard}
 use Rattle.chaosd_copy.specs.Row.{file_handle, heard_in}
-use Rattle.chaosd_copy.specs.Ends.{UnlessCopied, IsErrorTo, EndedBy, EndedAt, WritesEnded, PutEnded, tids_from, write_heard}
+use Rattle.chaosd_copy.specs.Ends.{UnlessCopied, IsErrorTo, EndedBy, EndedAt, WritesEnded, PutEnded, ReadsEnded, GetEnded, tids_from, write_heard, read_heard}
 use Rattle.chaosd_copy.proofs.Talks.{since_then, none_some}
 use Rattle.chaosd_copy.proofs.Begun.{open_named}
 use Rattle.chaosd_copy.proofs.Joined.{upto_same, next_tid}
@@ -162,3 +162,80 @@ unheard items (Some x) e = cc
 pub is_heard : {R : Type 0} (items : R → List ℕ) (r : Option R) (b : Bool) → is_some r ≡ not b → b ≡ false → option_map items r ≡ None → ⊥
 is_heard items None b told f e = let h : false ≡ not false = told ∙ ap not f in cc
 is_heard items (Some x) b told f e = none_some (items x) (sym e)
+
+-- ---- a get
+
+unwished : (tid handle : List ℕ) (W : List ℕ → Type 0) (last : Option (List ℕ)) (end : CopyEnd) → EndedBy tid handle W last end → EndedBy tid handle (λ _. ⊥) last end
+unwished tid handle W last e.Done h = h
+unwished tid handle W last (e.Refused reply) h = h
+unwished tid handle W last (e.Strange reply) h = (h.0, h.1, λ f. f)
+unwished tid handle W last e.NoReply h = h
+unwished tid handle W last e.Unknown h = h
+
+pub reads_not_done : (a b : Option Talked) (cs : List (List ℕ)) (first len i : ℕ) (bytes : List ℕ) (W : List ℕ → Type 0) (last : Option (List ℕ)) (end : CopyEnd) → i ≤ chunk_count len
+    → Since a b cs (upto (read_heard first bytes) i ++ heard_in last)
+    → UnlessCopied end (EndedBy (decimal (first + i)) file_handle W last) → UnlessCopied end (ReadsEnded a b first len bytes)
+reads_not_done a b cs first len i bytes W last end below h =
+    unless_then end _ _ (λ k. (i, below, (last, (cs, h), unwished (decimal (first + i)) file_handle W last end k)))
+
+-- a READ's reply, by which no more bytes came
+pub piece_not_done : (a b : Option Talked) (cs : List (List ℕ)) (first len i : ℕ) (xs ys : List ℕ) (last : Option (List ℕ)) (end : CopyEnd) → i ≤ chunk_count len
+    → Since a b cs (upto (read_heard first xs) i ++ heard_in last)
+    → UnlessCopied end (λ e. (ys ≡ xs) × EndedBy (decimal (first + i)) file_handle (λ _. ⊥) last e) → UnlessCopied end (ReadsEnded a b first len ys)
+piece_not_done a b cs first len i xs ys last end below h =
+    unless_then end _ _ (λ k. (i, below, (last, (cs, subst (λ zs. Since a b cs (upto (read_heard first zs) i ++ heard_in last)) (sym k.0) h), k.1)))
+
+pub get_not_opened : (a b : Option Talked) (first : ℕ) (bytes : List ℕ) (W : List ℕ → Type 0) (last : Option (List ℕ)) (end : CopyEnd) → Heard a b (heard_in last)
+    → UnlessCopied end (EndedBy (decimal first) file_handle W last) → UnlessCopied end (GetEnded a b (tids_from first) file_handle bytes)
+get_not_opened a b first bytes W last end h =
+    unless_then end _ _ (λ k. inl (subst (λ n. EndedAt a b [] (decimal n) file_handle (λ _. ⊥) end) (open_named first) (last, h, unwished (decimal first) file_handle W last end k)))
+
+reads_named : (first i : ℕ) (bytes : List ℕ) → read_heard (first + 1) bytes i ≡ reply_of (tids_from first (1 + i)) file_handle (read_answer (chunk bytes i))
+reads_named first i bytes = ap (λ t. reply_of (decimal t) file_handle (read_answer (chunk bytes i))) (next_tid first i)
+
+-- the replies to OPEN and some READs
+got_front : (a b c : Option Talked) (first len : ℕ) (bytes : List ℕ) (cs qs : List (List ℕ)) (i : ℕ) → Since a b cs (reply_of (decimal first) file_handle (Opened len) ∷ [])
+    → Heard b c (upto (read_heard (first + 1) bytes) i ++ qs) → Heard a c (get_front_replies (tids_from first) file_handle len bytes i ++ qs)
+got_front a b c first len bytes cs qs i h k =
+    heard_then a b c cs (reply_of (tids_from first 0) file_handle (Opened len) ∷ []) _ (subst (λ n. Since a b cs (reply_of (decimal n) file_handle (Opened len) ∷ [])) (open_named first) h)
+    (subst (λ rs. Heard b c (rs ++ qs)) (upto_same (read_heard (first + 1) bytes) (λ j. reply_of (tids_from first (1 + j)) file_handle (read_answer (chunk bytes j))) i (λ j m. reads_named first j bytes)) k)
+
+get_ended_reading : (a b c : Option Talked) (first len : ℕ) (bytes : List ℕ) (cs : List (List ℕ)) (end : CopyEnd) → len ≤ MAX_FILE
+    → Since a b cs (reply_of (decimal first) file_handle (Opened len) ∷ []) → ReadsEnded b c (first + 1) len bytes end → GetEnded a c (tids_from first) file_handle bytes end
+get_ended_reading a b c first len bytes cs end fits h (i, below, (last, heard, ended)) =
+    inr (
+      len,
+      fits,
+      i,
+      omega arith,
+      (
+        last,
+        got_front a b c first len bytes cs (heard_in last) i h heard,
+        subst (λ t. EndedBy (decimal t) file_handle (λ _. ⊥) last end) (next_tid first i) ended,
+      ),
+    )
+
+pub get_not_read : (a b c : Option Talked) (first len : ℕ) (bytes : List ℕ) (cs : List (List ℕ)) (end : CopyEnd) → len ≤ MAX_FILE
+    → Since a b cs (reply_of (decimal first) file_handle (Opened len) ∷ [])
+    → UnlessCopied end (ReadsEnded b c (first + 1) len bytes) → UnlessCopied end (GetEnded a c (tids_from first) file_handle bytes)
+get_not_read a b c first len bytes cs end fits h = unless_then end _ _ (get_ended_reading a b c first len bytes cs end fits h)
+
+pub get_not_closed : (a b c d : Option Talked) (first len tid : ℕ) (bytes : List ℕ) (W : List ℕ → Type 0) (cs ds : List (List ℕ)) (last : Option (List ℕ)) (end : CopyEnd) → len ≤ MAX_FILE
+    → tid ≡ chunk_count len
+    → Since a b cs (reply_of (decimal first) file_handle (Opened len) ∷ [])
+    → Since b c ds (upto (read_heard (first + 1) bytes) (1 + chunk_count len)) → Heard c d (heard_in last)
+    → UnlessCopied end (EndedBy (decimal (first + 2 + tid)) file_handle W last) → UnlessCopied end (GetEnded a d (tids_from first) file_handle bytes)
+get_not_closed a b c d first len tid bytes W cs ds last end fits count h k l =
+    let n = chunk_count len in
+    let same : first + 2 + tid ≡ first + (1 + (1 + n)) = ap (λ m. first + 2 + m) count ∙ omega arith in
+    unless_then end _ _ (λ m. inr (
+      len,
+      fits,
+      1 + n,
+      omega arith,
+      (
+        last,
+        got_front a b d first len bytes cs (heard_in last) (1 + n) h (heard_then b c d ds _ (heard_in last) k l),
+        subst (λ t. EndedBy (decimal t) file_handle (λ _. ⊥) last end) same (unwished (decimal (first + 2 + tid)) file_handle W last end m),
+      ),
+    ))

@@ -79,6 +79,11 @@ get_commands tid handle path n =
 abbrev pub get_front : Tids → List ℕ → List ℕ → ℕ → List (List ℕ)
 get_front tid handle path k = spelling_of (tid 0) handle (OpenRead path) ∷ upto (λ i. spelling_of (tid (1 + i)) handle Read) k
 
+-- the replies to OPEN, which told this length, and to so many of the READs, which gave these bytes
+abbrev pub get_front_replies : Tids → List ℕ → ℕ → List ℕ → ℕ → List (List ℕ)
+get_front_replies tid handle len bytes k =
+    reply_of (tid 0) handle (Opened len) ∷ upto (λ i. reply_of (tid (1 + i)) handle (read_answer (chunk bytes i))) k
+
 -- OPEN is answered by the file's length, each READ by a piece but the last, which finds nothing and is answered EOF
 abbrev pub get_replies : Tids → List ℕ → List ℕ → List (List ℕ)
 get_replies tid handle bytes =

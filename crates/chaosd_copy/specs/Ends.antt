@@ -8,7 +8,7 @@ use Rattle.chaos_file.specs.Answer.{LoggedIn, Opened, Wrote, Closed, read_answer
 use Rattle.chaosd_engines.specs.declared.fault.RunFault.{RunFault}
 use Rattle.chaosd_copy.specs.declared.end.CopyEnd.{CopyEnd}
 use Rattle.chaosd_copy.specs.declared.end.CopyEnd.TheVariants as e
-use Rattle.chaosd_copy.specs.Copy.{Tids, upto, chunk, chunk_count, reply_of, put_front, put_reply, put_front_replies, put_commands, get_front, get_commands}
+use Rattle.chaosd_copy.specs.Copy.{Tids, upto, chunk, chunk_count, reply_of, put_front, put_reply, put_front_replies, put_commands, get_front, get_front_replies, get_commands}
 use Rattle.chaosd_copy.specs.Talk.{Talked, Since, Heard}
 use Rattle.chaosd_copy.specs.Row.{file_handle, heard_in}
 
@@ -111,3 +111,16 @@ PutEnded start now tid handle bytes end =
     ⊎ (((reply : List ℕ) × Heard start now (put_front_replies tid handle bytes (chunk_count (length bytes)) ++ reply ∷ [])
     × EndedBy (tid (1 + chunk_count (length bytes))) handle (λ r. r ≡ reply_of (tid (1 + chunk_count (length bytes))) handle (Closed (length bytes))) (Some reply) end)
     ⊎ ((end ≡ e.Unknown) × Heard start now (put_front_replies tid handle bytes (chunk_count (length bytes))))))
+
+-- Some READs gave these bytes, and the get ended by the reply to the next.
+abbrev pub ReadsEnded : Option Talked → Option Talked → ℕ → ℕ → List ℕ → CopyEnd → Type 0
+ReadsEnded start now first len bytes end = (i : ℕ) × (i ≤ chunk_count len)
+    × EndedAt start now (upto (read_heard first bytes) i) (decimal (first + i)) file_handle (λ _. ⊥) end
+
+-- A get ended by the reply to OPEN; or that told a length, and some READs gave these bytes, and it ended by the reply to the next command,
+-- which was CLOSE where all were read.
+abbrev pub GetEnded : Option Talked → Option Talked → Tids → List ℕ → List ℕ → CopyEnd → Type 0
+GetEnded start now tid handle bytes end =
+    EndedAt start now [] (tid 0) handle (λ _. ⊥) end
+    ⊎ ((len : ℕ) × (len ≤ MAX_FILE) × (i : ℕ) × (i ≤ 1 + chunk_count len)
+    × EndedAt start now (get_front_replies tid handle len bytes i) (tid (1 + i)) handle (λ _. ⊥) end)

@@ -1,12 +1,12 @@
 //! Commands that are said before the replies to those before them came.
 ghost use Rattle.std.specs.Prelude.{◌≡◌, ◌≤◌, ◌<◌, ◌+◌, ◌++◌, ◌∷◌, [], ℕ, true, List, Option, Some, option_map, length, Decides, IfOk, IfErr, OnErr, IfSome};
+ghost use Rattle.std.specs.Fmt.{decimal};
 ghost use Rattle.chaosd_copy.specs.Copy.{upto};
 ghost use Rattle.chaosd_copy.specs.Talk.{Talked, Since, Heard, SaidOrNot, after_hear};
 ghost use Rattle.chaosd_copy.specs.Row.{ErrandFits, errand_command, row_command, heard_in};
 ghost use Rattle.chaosd_copy.specs.declared.limits.TheConstants.{MAX_FIRST};
 ghost use Rattle.chaos_file.specs.declared.limits.TheConstants.{MAX_NAME};
 ghost use Rattle.chaosd_copy.specs.Ends.{IfCopied, IfDone, UnlessCopied, UnlessDone, IsErrorTo, EndedBy, EndedAt, login_command, login_reply};
-ghost use Rattle.std.specs.Fmt.{decimal};
 
 use crate::end::CopyEnd;
 use crate::errand::Errand;
