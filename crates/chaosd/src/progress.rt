@@ -97,7 +97,7 @@ impl<'a, R: Eprint, T: Talk> Watched<'a, R, T> {
 
     /// Tells the user how far the file has come, in place of what was told before.
     fn tell(&mut self)
-        ensures { T.talked self.new.inner.now ≡ T.talked self.old.inner.now }
+        ensures { self.new.inner ≡ self.old.inner }
     {
         let now = self.inner.moment();
         if !self.viewer.is_told || now.saturating_sub(self.progress.told) < PACE {
@@ -124,6 +124,8 @@ impl<'a, R: Eprint, T: Talk> Watched<'a, R, T> {
 
 impl<R: Eprint, T: Talk> Talk for Watched<'_, R, T> {
     ghost talked = { λ watched. T.talked watched.inner.now };
+
+    ghost failed_by = { λ watched. T.failed_by watched.inner.now };
 
     fn say(&mut self, command: &[u8]) -> bool {
         self.inner.say(command)

@@ -8,6 +8,7 @@ ghost use Rattle.chaos_host.specs.Calls.{plain_reply_of};
 ghost use Rattle.chaos_turn.specs.declared.limits.TheConstants.{TURN_ROOM};
 ghost use Rattle.chaosd_copy.specs.Talk.{after_hear, after_say};
 ghost use Rattle.chaosd_file.specs.Client.{call_by, data_read, is_over, is_wrote};
+ghost use Rattle.chaosd_file.specs.Fault.{IsTurnFault};
 ghost use Rattle.chaosd_call.specs.Call.{Connects, HangsUp, Hears, Says, TurnsBy, asked, caller, closed, config_for, new_caller};
 
 use chaos_conn::{ConnConfig, ReadEnd};
@@ -233,6 +234,9 @@ fn read(host: &mut Host, id: Option<ConnId>, out: &mut Outbox) -> Option<Reply>
 impl<C: Clock, L: Link> Talk for Call<'_, C, L> {
     ghost talked = { λ _. None };
 
+    /// A fault of the clock, or of the link, where it counts a failure.
+    ghost failed_by = { λ call. IsTurnFault (L.count call.link.now) };
+
     fn say(&mut self, command: &[u8]) -> bool
         ensures talk { after_say result command.now None ≡ None }
         ensures said { Says command.now self.old.now result
@@ -260,7 +264,7 @@ impl<C: Clock, L: Link> Talk for Call<'_, C, L> {
     }
 
     fn turn(&mut self) -> Result<(), RunFault>
-        ensures faults { IfErr result (λ fault. (fault ≡ RunFault.ClockFault) ⊎ (fault ≡ RunFault.LinkFault)) }
+        ensures faults { IfErr result (IsTurnFault (L.count self.new.link.now)) }
         ensures failed { result ≡ Err RunFault.LinkFault → Rose (L.count self.old.link.now) (L.count self.new.link.now) }
         ensures well { OnOk result (TurnsBy self.old.carriage (L.queue self.old.link.now) (L.queue self.new.link.now)
             (caller self.old.host self.old.id self.old.out) (caller self.new.host self.new.id self.new.out)) }

@@ -34,7 +34,7 @@ said_up_to a b f k m n rs l e h = (k, omega arith, rs, h)
 
 -- ---- a put
 
-open_named : (first : ℕ) → first ≡ first + 0
+pub open_named : (first : ℕ) → first ≡ first + 0
 open_named first = omega arith
 
 writes_named : (first : ℕ) (bytes : List ℕ) (k : ℕ) → upto (write_said (first + 1) bytes) k ≡ upto (λ i. spelling_of (tids_from first (1 + i)) file_handle (Write (chunk bytes i))) k
@@ -65,14 +65,14 @@ put_writing a b c first path bytes reply h (k, l, rs, g) =
 put_written : (a b c : Option Talked) (first : ℕ) (path bytes : List ℕ)
     → Since a b (spelling_of (decimal first) file_handle (OpenWrite path) ∷ []) (reply_of (decimal first) file_handle (Opened 0) ∷ [])
     → Since b c (upto (write_said (first + 1) bytes) (chunk_count (length bytes))) (upto (write_heard (first + 1) bytes) (chunk_count (length bytes)))
-    → Since a c (put_front (tids_from first) file_handle path bytes (chunk_count (length bytes))) (put_front_replies (tids_from first) file_handle bytes)
+    → Since a c (put_front (tids_from first) file_handle path bytes (chunk_count (length bytes))) (put_front_replies (tids_from first) file_handle bytes (chunk_count (length bytes)))
 put_written a b c first path bytes h g =
     let n = chunk_count (length bytes) in
     since_then a b c _ _ _ _ (subst (λ t. Since a b (spelling_of (decimal t) file_handle (OpenWrite path) ∷ []) (reply_of (decimal t) file_handle (Opened 0) ∷ [])) (open_named first) h)
     (since_same b c _ _ _ _ (writes_named first bytes n) (replies_named first bytes n) g)
 
 put_end : (a c d : Option Talked) (first : ℕ) (path bytes : List ℕ)
-    → Since a c (put_front (tids_from first) file_handle path bytes (chunk_count (length bytes))) (put_front_replies (tids_from first) file_handle bytes)
+    → Since a c (put_front (tids_from first) file_handle path bytes (chunk_count (length bytes))) (put_front_replies (tids_from first) file_handle bytes (chunk_count (length bytes)))
     → SaidOrNot c d (spelling_of (decimal (first + 1 + chunk_count (length bytes))) file_handle Close)
     → PutBegun a d (tids_from first) file_handle path bytes
 put_end a c d first path bytes h (rs, inl g) =
@@ -80,8 +80,8 @@ put_end a c d first path bytes h (rs, inl g) =
     inr (inl (
       n,
       omega arith,
-      put_front_replies (tids_from first) file_handle bytes ++ rs,
-      subst (λ cs. Since a d cs (put_front_replies (tids_from first) file_handle bytes ++ rs)) (append-nil (put_front (tids_from first) file_handle path bytes n))
+      put_front_replies (tids_from first) file_handle bytes n ++ rs,
+      subst (λ cs. Since a d cs (put_front_replies (tids_from first) file_handle bytes n ++ rs)) (append-nil (put_front (tids_from first) file_handle path bytes n))
           (since_then a c d _ _ [] rs h g),
     ))
 put_end a c d first path bytes h (rs, inr g) =

@@ -11,15 +11,15 @@ use Rattle.chaosd_copy.specs.declared.end.CopyEnd.TheVariants as e
 use Rattle.chaosd_copy.specs.Copy.{upto, chunk, chunk_count, reply_of, put_commands, put_replies, get_commands, get_replies}
 use Rattle.chaosd_copy.specs.Talk.{Talked, Since}
 use Rattle.chaosd_copy.specs.Row.{file_handle}
-use Rattle.chaosd_copy.specs.Ends.{IsRefusal, IfCopied, tids_from, write_said, write_heard, read_said, read_heard}
+use Rattle.chaosd_copy.specs.Ends.{IfCopied, EndedBy, tids_from, write_said, write_heard, read_said, read_heard}
 use Rattle.chaosd_copy.proofs.Talks.{since_then}
 
-pub not_copied : (end : CopyEnd) (P : Type 0) → IsRefusal end → IfCopied end P
-not_copied e.Done P h = absurd h
-not_copied (e.Refused reply) P h = tt
-not_copied (e.Strange reply) P h = tt
-not_copied e.NoReply P h = tt
-not_copied e.Unknown P h = tt
+pub not_copied : (tid handle : List ℕ) (Wanted : List ℕ → Type 0) (last : Option (List ℕ)) (end : CopyEnd) (P : Type 0) → EndedBy tid handle Wanted last end → IfCopied end P
+not_copied tid handle Wanted last e.Done P h = absurd h
+not_copied tid handle Wanted last (e.Refused reply) P h = tt
+not_copied tid handle Wanted last (e.Strange reply) P h = tt
+not_copied tid handle Wanted last e.NoReply P h = tt
+not_copied tid handle Wanted last e.Unknown P h = tt
 
 pub copied_then : (end : CopyEnd) (P Q : Type 0) → (P → Q) → IfCopied end P → IfCopied end Q
 copied_then e.Done P Q f h = f h

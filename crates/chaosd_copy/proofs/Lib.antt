@@ -13,3 +13,4 @@ pub mod Texts
 pub mod Memory
 pub mod Begun
 pub mod LocalFiles
+pub mod Ended

@@ -84,7 +84,7 @@ nothing_more a b cs rs h = subst (λ l. Since a b cs l) (sym (append-nil rs)) h
 
 -- ---- a reply that is the one that was hoped for
 
-none_some : (x : List ℕ) → None ≡ Some x → ⊥
+pub none_some : (x : List ℕ) → None ≡ Some x → ⊥
 none_some x e = cc
 
 pub wanted_heard : {R : Type 0} (items : R → List ℕ) (P : List ℕ → Type 0) (r : Option R) (x y : List ℕ) → option_map items r ≡ Some x → x ≡ y → IfSome r (λ v. P (items v)) → P y

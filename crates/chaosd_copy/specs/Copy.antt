@@ -53,11 +53,13 @@ abbrev pub put_front : Tids → List ℕ → List ℕ → List ℕ → ℕ → L
 put_front tid handle path bytes k =
     spelling_of (tid 0) handle (OpenWrite path) ∷ upto (λ i. spelling_of (tid (1 + i)) handle (Write (chunk bytes i))) k
 
--- the replies to OPEN and to all WRITEs
-abbrev pub put_front_replies : Tids → List ℕ → List ℕ → List (List ℕ)
-put_front_replies tid handle bytes =
-    reply_of (tid 0) handle (Opened 0)
-    ∷ upto (λ i. reply_of (tid (1 + i)) handle (Wrote (min (MAX_CHUNK * (1 + i)) (length bytes)))) (chunk_count (length bytes))
+-- the reply to a WRITE: the bytes written so far
+abbrev pub put_reply : Tids → List ℕ → List ℕ → ℕ → List ℕ
+put_reply tid handle bytes i = reply_of (tid (1 + i)) handle (Wrote (min (MAX_CHUNK * (1 + i)) (length bytes)))
+
+-- the replies to OPEN and to so many of the WRITEs
+abbrev pub put_front_replies : Tids → List ℕ → List ℕ → ℕ → List (List ℕ)
+put_front_replies tid handle bytes k = reply_of (tid 0) handle (Opened 0) ∷ upto (put_reply tid handle bytes) k
 
 -- each WRITE is answered by the bytes written so far, and CLOSE by all
 abbrev pub put_replies : Tids → List ℕ → List ℕ → List (List ℕ)
@@ -76,6 +78,11 @@ get_commands tid handle path n =
 -- OPEN READ and so many READs
 abbrev pub get_front : Tids → List ℕ → List ℕ → ℕ → List (List ℕ)
 get_front tid handle path k = spelling_of (tid 0) handle (OpenRead path) ∷ upto (λ i. spelling_of (tid (1 + i)) handle Read) k
+
+-- the replies to OPEN, which told this length, and to so many of the READs, which gave these bytes
+abbrev pub get_front_replies : Tids → List ℕ → ℕ → List ℕ → ℕ → List (List ℕ)
+get_front_replies tid handle len bytes k =
+    reply_of (tid 0) handle (Opened len) ∷ upto (λ i. reply_of (tid (1 + i)) handle (read_answer (chunk bytes i))) k
 
 -- OPEN is answered by the file's length, each READ by a piece but the last, which finds nothing and is answered EOF
 abbrev pub get_replies : Tids → List ℕ → List ℕ → List (List ℕ)

@@ -1,24 +1,16 @@
 -- How a copy ended, and what was said and heard in it.
-use Rattle.std.specs.Prelude.{◌≤◌, ◌⊎◌, ℕ, ◌+◌, ◌*◌, List, [], ◌++◌, length, min, Option, Result, Ok, Err}
+use Rattle.std.specs.Prelude.{◌≡◌, ◌≤◌, ◌<◌, ◌⊎◌, ℕ, ◌+◌, ◌*◌, List, [], ◌∷◌, ◌++◌, codes, length, min, Option, Some, None, Result, Ok, Err}
 use Rattle.std.specs.Fmt.{decimal}
 use Rattle.chaos_file.specs.declared.limits.TheConstants.{MAX_CHUNK, MAX_FILE}
 use Rattle.chaos_file.specs.Command.{Login, Read, Write}
 use Rattle.chaos_file.specs.Spelling.{spelling_of}
-use Rattle.chaos_file.specs.Answer.{LoggedIn, Wrote, read_answer}
+use Rattle.chaos_file.specs.Answer.{LoggedIn, Opened, Wrote, Closed, read_answer, reply_front}
 use Rattle.chaosd_engines.specs.declared.fault.RunFault.{RunFault}
 use Rattle.chaosd_copy.specs.declared.end.CopyEnd.{CopyEnd}
 use Rattle.chaosd_copy.specs.declared.end.CopyEnd.TheVariants as e
-use Rattle.chaosd_copy.specs.Copy.{Tids, chunk, chunk_count, reply_of, put_front, put_front_replies, put_commands, get_front, get_commands}
-use Rattle.chaosd_copy.specs.Talk.{Talked, Since}
-use Rattle.chaosd_copy.specs.Row.{file_handle}
-
--- the file was not copied
-abbrev pub IsRefusal : CopyEnd → Type 0
-IsRefusal e.Done = ⊥
-IsRefusal (e.Refused reply) = Unit {0}
-IsRefusal (e.Strange reply) = Unit {0}
-IsRefusal e.NoReply = Unit {0}
-IsRefusal e.Unknown = Unit {0}
+use Rattle.chaosd_copy.specs.Copy.{Tids, upto, chunk, chunk_count, reply_of, put_front, put_reply, put_front_replies, put_commands, get_front, get_front_replies, get_commands}
+use Rattle.chaosd_copy.specs.Talk.{Talked, Since, Heard}
+use Rattle.chaosd_copy.specs.Row.{file_handle, heard_in}
 
 abbrev pub IfCopied : CopyEnd → Type 0 → Type 0
 IfCopied e.Done P = P
@@ -65,7 +57,7 @@ abbrev pub PutBegun : Option Talked → Option Talked → Tids → List ℕ → 
 PutBegun start now tid handle path bytes =
     ((replies : List (List ℕ)) × Since start now [] replies)
     ⊎ (((writes : ℕ) × (writes ≤ chunk_count (length bytes)) × (replies : List (List ℕ)) × Since start now (put_front tid handle path bytes writes) replies)
-    ⊎ ((last : List (List ℕ)) × Since start now (put_commands tid handle path bytes) (put_front_replies tid handle bytes ++ last)))
+    ⊎ ((last : List (List ℕ)) × Since start now (put_commands tid handle path bytes) (put_front_replies tid handle bytes (chunk_count (length bytes)) ++ last)))
 
 -- Of a get nothing was said since then; or OPEN and some READs, no more than a file of FILE needs; or all that gets a file of some such
 -- length.
@@ -74,3 +66,61 @@ GetBegun start now tid handle path =
     ((replies : List (List ℕ)) × Since start now [] replies)
     ⊎ (((len : ℕ) × (len ≤ MAX_FILE) × (reads : ℕ) × (reads ≤ 1 + chunk_count len) × (replies : List (List ℕ)) × Since start now (get_front tid handle path reads) replies)
     ⊎ ((len : ℕ) × (len ≤ MAX_FILE) × (replies : List (List ℕ)) × Since start now (get_commands tid handle path len) replies))
+
+-- ---- how a copy ended that wasn't done
+
+abbrev pub UnlessCopied : CopyEnd → (CopyEnd → Type 0) → Type 0
+UnlessCopied e.Done P = Unit {0}
+UnlessCopied (e.Refused reply) P = P (e.Refused reply)
+UnlessCopied (e.Strange reply) P = P (e.Strange reply)
+UnlessCopied e.NoReply P = P e.NoReply
+UnlessCopied e.Unknown P = P e.Unknown
+
+-- where a copy came to an end without a fault, and the file was not copied
+abbrev pub UnlessDone : Result CopyEnd RunFault → (CopyEnd → Type 0) → Type 0
+UnlessDone (Ok end) P = UnlessCopied end P
+UnlessDone (Err fault) P = Unit {0}
+
+-- an error reply to the command of this name
+abbrev pub IsErrorTo : List ℕ → List ℕ → List ℕ → Type 0
+IsErrorTo tid handle reply = (text : List ℕ) × (reply ≡ reply_front tid handle ++ (codes "ERROR " ++ text))
+
+-- The copy ended by this reply to the command of this name, or by none, where some other was wanted.
+abbrev pub EndedBy : List ℕ → List ℕ → (List ℕ → Type 0) → Option (List ℕ) → CopyEnd → Type 0
+EndedBy tid handle Wanted last e.Done = ⊥
+EndedBy tid handle Wanted last (e.Refused reply) = (last ≡ Some reply.items) × IsErrorTo tid handle reply.items
+EndedBy tid handle Wanted last (e.Strange reply) = (last ≡ Some reply.items) × (IsErrorTo tid handle reply.items → ⊥) × (Wanted reply.items → ⊥)
+EndedBy tid handle Wanted last e.NoReply = last ≡ None
+EndedBy tid handle Wanted last e.Unknown = ⊥
+
+-- Since then these replies were heard, and then the last, or none, by which the copy ended.
+abbrev pub EndedAt : Option Talked → Option Talked → List (List ℕ) → List ℕ → List ℕ → (List ℕ → Type 0) → CopyEnd → Type 0
+EndedAt start now before tid handle Wanted end = (last : Option (List ℕ)) × Heard start now (before ++ heard_in last) × EndedBy tid handle Wanted last end
+
+-- Some WRITEs were answered well, and the put ended by the reply to the next.
+abbrev pub WritesEnded : Option Talked → Option Talked → ℕ → List ℕ → CopyEnd → Type 0
+WritesEnded start now first bytes end = (i : ℕ) × (i < chunk_count (length bytes))
+    × EndedAt start now (upto (write_heard first bytes) i) (decimal (first + i)) file_handle (λ r. r ≡ write_heard first bytes i) end
+
+-- A put ended by the reply to OPEN; or OPEN was answered well, and it ended by the reply to a WRITE, and those before it were answered
+-- well; or so were all, and it ended by the reply to CLOSE; or that got none, and whether the file was put isn't known.
+abbrev pub PutEnded : Option Talked → Option Talked → Tids → List ℕ → List ℕ → CopyEnd → Type 0
+PutEnded start now tid handle bytes end =
+    EndedAt start now [] (tid 0) handle (λ r. r ≡ reply_of (tid 0) handle (Opened 0)) end
+    ⊎ (((i : ℕ) × (i < chunk_count (length bytes)) × EndedAt start now (put_front_replies tid handle bytes i) (tid (1 + i)) handle (λ r. r ≡ put_reply tid handle bytes i) end)
+    ⊎ (((reply : List ℕ) × Heard start now (put_front_replies tid handle bytes (chunk_count (length bytes)) ++ reply ∷ [])
+    × EndedBy (tid (1 + chunk_count (length bytes))) handle (λ r. r ≡ reply_of (tid (1 + chunk_count (length bytes))) handle (Closed (length bytes))) (Some reply) end)
+    ⊎ ((end ≡ e.Unknown) × Heard start now (put_front_replies tid handle bytes (chunk_count (length bytes))))))
+
+-- Some READs gave these bytes, and the get ended by the reply to the next.
+abbrev pub ReadsEnded : Option Talked → Option Talked → ℕ → ℕ → List ℕ → CopyEnd → Type 0
+ReadsEnded start now first len bytes end = (i : ℕ) × (i ≤ chunk_count len)
+    × EndedAt start now (upto (read_heard first bytes) i) (decimal (first + i)) file_handle (λ _. ⊥) end
+
+-- A get ended by the reply to OPEN; or that told a length, and some READs gave these bytes, and it ended by the reply to the next command,
+-- which was CLOSE where all were read.
+abbrev pub GetEnded : Option Talked → Option Talked → Tids → List ℕ → List ℕ → CopyEnd → Type 0
+GetEnded start now tid handle bytes end =
+    EndedAt start now [] (tid 0) handle (λ _. ⊥) end
+    ⊎ ((len : ℕ) × (len ≤ MAX_FILE) × (i : ℕ) × (i ≤ 1 + chunk_count len)
+    × EndedAt start now (get_front_replies tid handle len bytes i) (tid (1 + i)) handle (λ _. ⊥) end)

@@ -24,6 +24,10 @@ after_hear None t = t
 abbrev pub Since : Option Talked → Option Talked → List (List ℕ) → List (List ℕ) → Type 0
 Since start now commands replies = now ≡ option_map (λ t. with_heard replies (with_said commands t)) start
 
+-- Since then these replies were heard, and no others.
+abbrev pub Heard : Option Talked → Option Talked → List (List ℕ) → Type 0
+Heard start now replies = (commands : List (List ℕ)) × Since start now commands replies
+
 -- Since then this command was said or not, and no other.
 abbrev pub SaidOrNot : Option Talked → Option Talked → List ℕ → Type 0
 SaidOrNot start now command = (replies : List (List ℕ)) × (Since start now [] replies ⊎ Since start now (command ∷ []) replies)

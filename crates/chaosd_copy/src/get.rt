@@ -1,5 +1,5 @@
 //! Getting a file.
-ghost use Rattle.std.specs.Prelude.{◌≡◌, ◌≤◌, ◌<◌, ◌+◌, ◌++◌, [], ℕ, List, Some, option_map, length, IfSome};
+ghost use Rattle.std.specs.Prelude.{◌≡◌, ◌⊎◌, ◌≤◌, ◌<◌, ◌+◌, ◌++◌, [], ℕ, List, Some, option_map, length, IfErr, IfSome};
 ghost use Rattle.std.specs.Fmt.{decimal};
 ghost use Rattle.chaos_file.specs.declared.limits.TheConstants.{MAX_FILE, MAX_PATH, MAX_CHUNK};
 ghost use Rattle.chaos_file.specs.Answer.{Given};
@@ -7,7 +7,7 @@ ghost use Rattle.chaosd_copy.specs.declared.limits.TheConstants.{MAX_FIRST};
 ghost use Rattle.chaosd_copy.specs.Copy.{upto, chunk_count, reply_of, get_commands, get_replies};
 ghost use Rattle.chaosd_copy.specs.Row.{file_handle};
 ghost use Rattle.chaosd_copy.specs.Talk.{Since, SaidUpTo};
-ghost use Rattle.chaosd_copy.specs.Ends.{IfDone, GetBegun, tids_from, read_said, read_heard};
+ghost use Rattle.chaosd_copy.specs.Ends.{IfDone, UnlessDone, EndedBy, ReadsEnded, GetBegun, GetEnded, tids_from, read_said, read_heard};
 
 use crate::end::CopyEnd;
 use crate::errand::Errand;
@@ -69,8 +69,11 @@ fn take_piece(
     bytes: &mut Vec<u8>,
 ) -> Result<CopyEnd, RunFault>
     requires { tid < 100000000 }
-    ensures { IfDone result ((more : List ℕ) × (length more ≡ len) × (bytes.new.items ≡ bytes.old.items ++ more)
+    ensures done { IfDone result ((more : List ℕ) × (length more ≡ len) × (bytes.new.items ≡ bytes.old.items ++ more)
         × (option_map (λ v. v.items) reply ≡ Some (reply_of (decimal tid) file_handle (Given more)))) }
+    ensures ended { UnlessDone result (λ end. (bytes.new.items ≡ bytes.old.items)
+        × EndedBy (decimal tid) file_handle (λ _. ⊥) (option_map (λ v. v.items) reply) end) }
+    ensures faults { IfErr result (λ fault. fault ≡ RunFault.NoMemory) }
 {
     let Some(reply) = reply else {
         return Ok(CopyEnd::NoReply);
@@ -98,6 +101,8 @@ fn read_all<T: Talk>(
     ensures said { SaidUpTo (T.talked talk.old) (T.talked talk.new) (read_said first) (1 + chunk_count len) }
     ensures done { IfDone result ((length bytes.new.items ≡ len) × Since (T.talked talk.old) (T.talked talk.new)
         (upto (read_said first) (1 + chunk_count len)) (upto (read_heard first bytes.new.items) (1 + chunk_count len))) }
+    ensures ended { UnlessDone result (ReadsEnded (T.talked talk.old) (T.talked talk.new) first len bytes.new.items) }
+    ensures faults { IfErr result (λ fault. (fault ≡ RunFault.NoMemory) ⊎ T.failed_by talk.new fault) }
 {
     let count = chunk_count(len);
     let row = Row {
@@ -127,6 +132,9 @@ fn read_all<T: Talk>(
 
 /// Gets a file. Where the answer is `Done`, the commands that were said are OPEN, READs up to the one answered EOF, and CLOSE, and
 /// the bytes are those of the replies, joined, as many as OPEN and CLOSE told.
+///
+/// # Errors
+/// Those of the talk's turns, and `NoMemory`.
 pub fn get_file<T: Talk>(
     talk: &mut T,
     first: u32,
@@ -138,8 +146,12 @@ pub fn get_file<T: Talk>(
     requires empty { bytes.old.items ≡ [] }
     ensures done { IfDone result (Since (T.talked talk.old) (T.talked talk.new)
         (get_commands (tids_from first) file_handle path.now (length bytes.new.items)) (get_replies (tids_from first) file_handle bytes.new.items)) }
+    // Where it wasn't done, some READs gave bytes, with which these begin, and it ended by the reply to the next command, or by none.
+    ensures ended { UnlessDone result (GetEnded (T.talked talk.old) (T.talked talk.new) (tids_from first) file_handle bytes.new.items) }
     // However it ended, what was said begins the commands that get a file of some length.
     ensures begun { GetBegun (T.talked talk.old) (T.talked talk.new) (tids_from first) file_handle path.now }
+    // It fails for want of memory, or by a turn that did, by the same fault.
+    ensures faults { IfErr result (λ fault. (fault ≡ RunFault.NoMemory) ⊎ T.failed_by talk.new fault) }
 {
     let opened = ask_one(talk, Errand::OpenRead(path), first)?;
     let Some(len) = opened_length(&opened, first) else {

@@ -94,6 +94,9 @@ impl MemTalk {
 impl Talk for MemTalk {
     ghost talked = { λ t. Some (record { said = map (λ v. v.items) t.said.items; heard = take t.heard (map (λ v. v.items) t.replies.items) }) };
 
+    /// No turn fails.
+    ghost failed_by = { λ _ _. ⊥ };
+
     fn say(&mut self, command: &[u8]) -> bool {
         if self.said.reserve(1).is_err() || self.replies.reserve(1).is_err() {
             return false;

@@ -1,11 +1,11 @@
 //! Putting a file.
-ghost use Rattle.std.specs.Prelude.{◌≡◌, ◌≤◌, ◌<◌, ◌+◌, length};
+ghost use Rattle.std.specs.Prelude.{◌≡◌, ◌≤◌, ◌<◌, ◌+◌, length, IfErr};
 ghost use Rattle.chaos_file.specs.declared.limits.TheConstants.{MAX_FILE, MAX_PATH};
 ghost use Rattle.chaosd_copy.specs.declared.limits.TheConstants.{MAX_FIRST};
 ghost use Rattle.chaosd_copy.specs.Copy.{upto, chunk_count, put_commands, put_replies};
 ghost use Rattle.chaosd_copy.specs.Row.{file_handle};
 ghost use Rattle.chaosd_copy.specs.Talk.{Since, SaidUpTo};
-ghost use Rattle.chaosd_copy.specs.Ends.{IfDone, PutBegun, tids_from, write_said, write_heard};
+ghost use Rattle.chaosd_copy.specs.Ends.{IfDone, UnlessDone, PutBegun, PutEnded, WritesEnded, tids_from, write_said, write_heard};
 
 use crate::end::CopyEnd;
 use crate::errand::Errand;
@@ -32,6 +32,8 @@ fn write_all<T: Talk>(talk: &mut T, first: u32, bytes: &[u8]) -> Result<CopyEnd,
     ensures said { SaidUpTo (T.talked talk.old) (T.talked talk.new) (write_said first bytes.now) (chunk_count (length bytes.now)) }
     ensures done { IfDone result (Since (T.talked talk.old) (T.talked talk.new)
         (upto (write_said first bytes.now) (chunk_count (length bytes.now))) (upto (write_heard first bytes.now) (chunk_count (length bytes.now)))) }
+    ensures ended { UnlessDone result (WritesEnded (T.talked talk.old) (T.talked talk.new) first bytes.now) }
+    ensures faults { IfErr result (T.failed_by talk.new) }
 {
     let count = chunk_count(bytes.len());
     let row = Row {
@@ -75,8 +77,12 @@ pub fn put_file<T: Talk>(
     requires fits { length bytes.now ≤ MAX_FILE }
     ensures done { IfDone result (Since (T.talked talk.old) (T.talked talk.new)
         (put_commands (tids_from first) file_handle path.now bytes.now) (put_replies (tids_from first) file_handle bytes.now)) }
+    // Where it wasn't done, it ended by the first reply that was another than those, or by none.
+    ensures ended { UnlessDone result (PutEnded (T.talked talk.old) (T.talked talk.new) (tids_from first) file_handle bytes.now) }
     // However it ended, what was said begins those commands, and CLOSE was said only where all before it was answered as it should be.
     ensures begun { PutBegun (T.talked talk.old) (T.talked talk.new) (tids_from first) file_handle path.now bytes.now }
+    // It fails only by a turn that did, by the same fault.
+    ensures faults { IfErr result (T.failed_by talk.new) }
 {
     let opened = ask_one(talk, Errand::OpenWrite(path), first)?;
     let wanted = counted(first, HANDLE, b"OPEN ", 0);

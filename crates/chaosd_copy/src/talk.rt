@@ -1,7 +1,8 @@
 //! A talk with a FILE server.
-ghost use Rattle.std.specs.Prelude.{◌≡◌, ◌≤◌, Option, option_map, length, IfSome};
+ghost use Rattle.std.specs.Prelude.{◌≡◌, ◌≤◌, Option, option_map, length, IfErr, IfSome};
 ghost use Rattle.chaosd_copy.specs.Talk.{Talked, after_say, after_hear};
 ghost use Rattle.chaos_file.specs.declared.limits.TheConstants.{MAX_REPLY};
+ghost use Rattle.chaosd_engines.specs.declared.fault.RunFault.{RunFault};
 
 use chaos_file::Reply;
 use chaosd_engines::RunFault;
@@ -10,6 +11,9 @@ use chaosd_engines::RunFault;
 pub trait Talk {
     /// The commands that were said and the replies that were heard so far, each in order, where the talk can tell them.
     ghost talked: { Self → Option Talked };
+
+    /// The faults that may have ended the last turn.
+    ghost failed_by: { Self → RunFault → Type 0 };
 
     /// Says a command where there is room for it on its way, and says whether it did.
     fn say(&mut self, command: &[u8]) -> bool
@@ -25,7 +29,8 @@ pub trait Talk {
     /// # Errors
     /// `LinkFault` and `ClockFault`.
     fn turn(&mut self) -> Result<(), RunFault>
-        ensures { talked self.new ≡ talked self.old };
+        ensures silent { talked self.new ≡ talked self.old }
+        ensures faults { IfErr result (failed_by self.new) };
 
     /// The moment of the last turn, in milliseconds since some beginning.
     fn moment(&self) -> u64;

@@ -1,11 +1,12 @@
 //! Commands that are said before the replies to those before them came.
-ghost use Rattle.std.specs.Prelude.{◌≡◌, ◌≤◌, ◌<◌, ◌+◌, ◌++◌, ◌∷◌, [], ℕ, true, List, Option, Some, option_map, length, IfOk, OnErr, IfSome};
+ghost use Rattle.std.specs.Prelude.{◌≡◌, ◌≤◌, ◌<◌, ◌+◌, ◌++◌, ◌∷◌, [], ℕ, true, List, Option, Some, option_map, length, Decides, IfOk, IfErr, OnErr, IfSome};
+ghost use Rattle.std.specs.Fmt.{decimal};
 ghost use Rattle.chaosd_copy.specs.Copy.{upto};
-ghost use Rattle.chaosd_copy.specs.Talk.{Talked, Since, SaidOrNot, after_hear};
+ghost use Rattle.chaosd_copy.specs.Talk.{Talked, Since, Heard, SaidOrNot, after_hear};
 ghost use Rattle.chaosd_copy.specs.Row.{ErrandFits, errand_command, row_command, heard_in};
 ghost use Rattle.chaosd_copy.specs.declared.limits.TheConstants.{MAX_FIRST};
 ghost use Rattle.chaos_file.specs.declared.limits.TheConstants.{MAX_NAME};
-ghost use Rattle.chaosd_copy.specs.Ends.{IsRefusal, IfCopied, IfDone, login_command, login_reply};
+ghost use Rattle.chaosd_copy.specs.Ends.{IfCopied, IfDone, UnlessCopied, UnlessDone, IsErrorTo, EndedBy, EndedAt, login_command, login_reply};
 
 use crate::end::CopyEnd;
 use crate::errand::Errand;
@@ -109,6 +110,7 @@ pub fn next_reply<T: Talk>(
     // Where a turn fails, what was said before it was, and nothing more was heard.
     ensures fault { (start : Option Talked) (replies : List (List ℕ)) → Since start (T.talked talk.old) (upto (row_command row.now) said.old) replies
         → OnErr result (Since start (T.talked talk.new) (upto (row_command row.now) said.new) replies) }
+    ensures faults { IfErr result (T.failed_by talk.new) }
 {
     let since = talk.moment();
     for turns in 0..u32::MAX {
@@ -137,6 +139,9 @@ pub fn ask_one<T: Talk>(
     ensures heard { IfOk result (λ r. IfSome r (λ reply. Since (T.talked talk.old) (T.talked talk.new)
         (errand_command errand.entry 0 tid ∷ []) (reply.items ∷ []))) }
     ensures said { SaidOrNot (T.talked talk.old) (T.talked talk.new) (errand_command errand.entry 0 tid) }
+    // What was heard is the reply, or nothing.
+    ensures all { IfOk result (λ r. Heard (T.talked talk.old) (T.talked talk.new) (heard_in (option_map (λ v. v.items) r))) }
+    ensures faults { IfErr result (T.failed_by talk.new) }
 {
     let row = Row {
         first: tid,
@@ -148,17 +153,26 @@ pub fn ask_one<T: Talk>(
     next_reply(talk, &row, &mut said, &mut flight, 0)
 }
 
+/// Whether a reply tells of an error of the command of this name.
+fn is_error(reply: &Reply, tid: u32, handle: &[u8]) -> bool
+    requires tid { tid < 100000000 }
+    requires handle { length handle.now ≤ 8 }
+    ensures { Decides result (IsErrorTo (decimal tid) handle.now reply.now.items) }
+{
+    let error = spelled(tid, handle, b"ERROR ", b"");
+    reply.as_slice().starts_with(error.as_slice())
+}
+
 /// Why a reply isn't the one that was hoped for.
 pub fn refusal(reply: Option<Reply>, tid: u32, handle: &[u8]) -> CopyEnd
     requires tid { tid < 100000000 }
     requires handle { length handle.now ≤ 8 }
-    ensures { IsRefusal result }
+    ensures { EndedBy (decimal tid) handle.now (λ _. ⊥) (option_map (λ v. v.items) reply) result }
 {
     let Some(reply) = reply else {
         return CopyEnd::NoReply;
     };
-    let error = spelled(tid, handle, b"ERROR ", b"");
-    if reply.as_slice().starts_with(error.as_slice()) {
+    if is_error(&reply, tid, handle) {
         CopyEnd::Refused(reply)
     } else {
         CopyEnd::Strange(reply)
@@ -169,7 +183,8 @@ pub fn refusal(reply: Option<Reply>, tid: u32, handle: &[u8]) -> CopyEnd
 pub fn settled(reply: Option<Reply>, wanted: &Reply, tid: u32, handle: &[u8]) -> CopyEnd
     requires tid { tid < 100000000 }
     requires handle { length handle.now ≤ 8 }
-    ensures { IfCopied result (option_map (λ v. v.items) reply ≡ Some wanted.now.items) }
+    ensures done { IfCopied result (option_map (λ v. v.items) reply ≡ Some wanted.now.items) }
+    ensures ended { UnlessCopied result (EndedBy (decimal tid) handle.now (λ r. r ≡ wanted.now.items) (option_map (λ v. v.items) reply)) }
 {
     match reply {
         Some(reply) if reply.as_slice() == wanted.as_slice() => CopyEnd::Done,
@@ -184,8 +199,12 @@ pub fn settled(reply: Option<Reply>, wanted: &Reply, tid: u32, handle: &[u8]) ->
 pub fn log_in<T: Talk>(talk: &mut T, name: &[u8]) -> Result<CopyEnd, RunFault>
     requires { length name.now ≤ MAX_NAME }
     ensures done { IfDone result (Since (T.talked talk.old) (T.talked talk.new) (login_command name.now ∷ []) (login_reply name.now ∷ [])) }
+    // Where it wasn't done, it ended by the reply to the LOGIN, which was another, or by none.
+    ensures ended { UnlessDone result (EndedAt (T.talked talk.old) (T.talked talk.new) [] (decimal 0) [] (λ r. r ≡ login_reply name.now)) }
     // However it ended, nothing but the LOGIN was said.
     ensures begun { SaidOrNot (T.talked talk.old) (T.talked talk.new) (login_command name.now) }
+    // It fails only by a turn that did, by the same fault.
+    ensures faults { IfErr result (T.failed_by talk.new) }
 {
     let reply = ask_one(talk, Errand::Login(name), 0)?;
     let wanted = spelled(0, b"", b"LOGIN ", name);

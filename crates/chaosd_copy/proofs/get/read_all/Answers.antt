@@ -1,21 +1,22 @@
-use Rattle.std.proofs.Common.{rules, arith, ap, sym, subst, ◌∙◌, ◌+◌, ◌-◌, ◌*◌, ◌<◌, ◌≤◌, ◌≡◌, Some, length, length-append}
-use Rattle.std.specs.Prelude.{min}
+use Rattle.std.proofs.Common.{rules, arith, ap, sym, subst, ◌∙◌, ◌+◌, ◌++◌, ◌-◌, ◌*◌, ◌<◌, ◌≤◌, ◌≡◌, Some, length, length-append}
+use Rattle.std.specs.Prelude.{min, option_map}
 use Rattle.std.specs.Fmt.{decimal}
 use Rattle.chaos_file.specs.declared.limits.TheConstants.{MAX_CHUNK}
 use Rattle.chaos_file.specs.Answer.{AtEnd}
 use Rattle.chaosd_copy.specs.Copy.{upto, reply_of, chunk_count}
 use Rattle.chaosd_copy.specs.Talk.{Since}
-use Rattle.chaosd_copy.specs.Row.{file_handle}
+use Rattle.chaosd_copy.specs.Row.{file_handle, heard_in}
 use Rattle.chaosd_copy.specs.Ends.{read_said, read_heard}
 use Rattle.chaosd_copy.proofs.Talks.{wanted_asked}
 use Rattle.chaosd_copy.proofs.Joined.{when_copied, from_copied}
 use Rattle.chaosd_copy.proofs.Growing.{grows, ends}
 use Rattle.chaosd_copy.proofs.Begun.{said_up_to}
+use Rattle.chaosd_copy.proofs.Ended.{piece_not_done, reads_not_done}
 use Rattle.chaosd_copy.proofs.get.read_all.Goals as goal
 
 pub loop-i-preserved : goal.loop-i-preserved
 loop-i-preserved g c =
-    let p = when_copied _ _ c.in-Done.is c.in_ok-end.ensures in
+    let p = when_copied _ _ c.in-Done.is c.in_ok-end.ensures.done in
     let below : MAX_CHUNK * c.loop-i.i < c.args.len = omega (arith, c.chunk_count-count.ensures.value, c.loop-i-test.true) in
     let old : length c.loop-i.bytes.items ≡ MAX_CHUNK * c.loop-i.i = c.loop-i.invariant.size ∙ omega arith in
     let size : length p.0 ≡ min (c.args.len - MAX_CHUNK * c.loop-i.i) MAX_CHUNK = p.1 ∙ c.min.ensures in
@@ -35,7 +36,7 @@ returns-clause-done g c =
     let size : length c.loop-i.bytes.items ≡ c.args.len = c.loop-i.invariant.size ∙ all in
     from_copied c.settled.result _ ((length c.loop-i.bytes.items ≡ c.args.len) × Since (g.T.Talk.talked c.args.talk.now) (g.T.Talk.talked c.next_reply-2.new.talk)
     (upto (read_said c.args.first) (1 + chunk_count c.args.len)) (upto (read_heard c.args.first c.loop-i.bytes.items) (1 + chunk_count c.args.len)))
-    c.settled.ensures (λ e.
+    c.settled.ensures.done (λ e.
     let asked : c.chunk_count-count.result < c.next_reply-2.new.said = wanted_asked (λ v. v.items) (c.chunk_count-count.result < c.next_reply-2.new.said) c.in_ok-last.last _ e c.in_ok-last.ensures.asked in
     let within : c.next_reply-2.new.said ≤ 1 + c.chunk_count-count.result = c.in_ok-last.ensures.within in
     let said : c.next_reply-2.new.said ≡ 1 + chunk_count c.args.len = omega arith in
@@ -63,6 +64,9 @@ returns-in_default g c = record {
   said = said_up_to _ _ (read_said c.args.first) c.next_reply.new.said (1 + c.chunk_count-count.result) _ _ c.next_reply.ensures.within (ap (λ n. 1 + n) c.chunk_count-count.ensures.value)
       (c.in_ok-reply.ensures.talk _ _ c.loop-i.invariant.talk);
   done = search rules;
+  ended = piece_not_done _ _ _ c.args.first c.args.len c.loop-i.i c.loop-i.bytes.items c.take_piece.new.bytes.items _ c.in_ok-end.end (omega (arith, c.loop-i-test.true, c.chunk_count-count.ensures.value))
+      (c.in_ok-reply.ensures.talk _ _ c.loop-i.invariant.talk) c.in_ok-end.ensures.ended;
+  faults = tt;
 }
 
 pub returns-in_err-last-clause-said : goal.returns-in_err-last-clause-said
@@ -74,3 +78,10 @@ pub returns-clause-said : goal.returns-clause-said
 returns-clause-said g c =
     said_up_to _ _ (read_said c.args.first) c.next_reply-2.new.said (1 + c.chunk_count-count.result) _ _ c.next_reply-2.ensures.within (ap (λ n. 1 + n) c.chunk_count-count.ensures.value)
     (c.in_ok-last.ensures.talk _ _ c.loop-i.invariant.talk)
+
+pub returns-clause-ended : goal.returns-clause-ended
+returns-clause-ended g c =
+    let n : c.loop-i.i ≡ c.chunk_count-count.result = search rules in
+    reads_not_done _ _ _ c.args.first c.args.len c.chunk_count-count.result c.loop-i.bytes.items _ _ c.settled.result (omega (arith, c.chunk_count-count.ensures.value))
+    (subst (λ m. Since (g.T.Talk.talked c.args.talk.now) (g.T.Talk.talked c.next_reply-2.new.talk) (upto (read_said c.args.first) c.next_reply-2.new.said) (upto (read_heard c.args.first c.loop-i.bytes.items) m ++ heard_in (option_map (λ v. v.items) c.in_ok-last.last))) n
+    (c.in_ok-last.ensures.talk _ _ c.loop-i.invariant.talk)) c.settled.ensures.ended

@@ -1,4 +1,4 @@
-use Rattle.std.proofs.Common.{rules, subst, ◌+◌, length, [], ◌∷◌}
+use Rattle.std.proofs.Common.{rules, subst, None, ◌≡◌, ◌+◌, length, [], ◌∷◌}
 use Rattle.std.specs.Fmt.{decimal}
 use Rattle.chaos_file.specs.Answer.{Closed}
 use Rattle.chaos_file.specs.Command.{OpenWrite, Close}
@@ -9,6 +9,7 @@ use Rattle.chaosd_copy.specs.Row.{file_handle}
 use Rattle.chaosd_copy.proofs.Joined.{copied_then, when_copied, put_joined}
 use Rattle.chaosd_copy.proofs.Talks.{wanted_heard}
 use Rattle.chaosd_copy.proofs.Begun.{put_opening, put_writing, put_closing}
+use Rattle.chaosd_copy.proofs.Ended.{put_not_opened, put_not_written, put_not_closed, put_ended_unknown, unheard, is_heard}
 use Rattle.chaosd_copy.proofs.put.put_file.Goals as goal
 
 pub returns-clause-done : goal.returns-clause-done
@@ -19,12 +20,12 @@ returns-clause-done g c =
     let d = g.T.Talk.talked c.ask_one-2.new.talk in
     copied_then _ _ _ (λ e. put_joined a b m d c.args.first c.args.path.now c.args.bytes.now
     (wanted_heard (λ v. v.items) (λ x. Since a b (spelling_of (decimal c.args.first) file_handle (OpenWrite c.args.path.now) ∷ []) (x ∷ []))
-    c.in_ok-opened.opened _ _ c.in-Done.ensures c.counted-wanted.ensures c.in_ok-opened.ensures.heard)
+    c.in_ok-opened.opened _ _ c.in-Done.ensures.done c.counted-wanted.ensures c.in_ok-opened.ensures.heard)
     (when_copied _ _ c.in-Done-2.is c.in_ok-end.ensures.done)
     (subst (λ n. Since m d (spelling_of (decimal (c.args.first + 1 + n)) file_handle Close ∷ []) (reply_of (decimal (c.args.first + 1 + n)) file_handle (Closed (length c.args.bytes.now)) ∷ []))
     c.chunk_count.ensures.value
     (wanted_heard (λ v. v.items) (λ x. Since m d (spelling_of (decimal (c.args.first + 1 + c.chunk_count.result)) file_handle Close ∷ []) (x ∷ []))
-    c.in_ok-closed.closed _ _ e c.counted-all.ensures c.in_ok-closed.ensures.heard))) c.settled-2.ensures
+    c.in_ok-closed.closed _ _ e c.counted-all.ensures c.in_ok-closed.ensures.heard))) c.settled-2.ensures.done
 
 pub returns-in_err-opened-clause-begun : goal.returns-in_err-opened-clause-begun
 returns-in_err-opened-clause-begun g c = put_opening _ _ c.args.first c.args.path.now c.args.bytes.now c.ask_one.ensures.said
@@ -33,15 +34,20 @@ pub returns-in_err-end-clause-begun : goal.returns-in_err-end-clause-begun
 returns-in_err-end-clause-begun g c =
     put_writing _ _ _ c.args.first c.args.path.now c.args.bytes.now _
     (wanted_heard (λ v. v.items) (λ x. Since (g.T.Talk.talked c.args.talk.now) (g.T.Talk.talked c.ask_one.new.talk) (spelling_of (decimal c.args.first) file_handle (OpenWrite c.args.path.now) ∷ []) (x ∷ []))
-    c.in_ok-opened.opened _ _ c.in-Done.ensures c.counted-wanted.ensures c.in_ok-opened.ensures.heard)
+    c.in_ok-opened.opened _ _ c.in-Done.ensures.done c.counted-wanted.ensures c.in_ok-opened.ensures.heard)
     c.write_all.ensures.said
 
 pub returns-in_default-2 : goal.returns-in_default-2
 returns-in_default-2 g c = record {
   done = search rules;
+  ended = put_not_written _ _ _ c.args.first c.args.bytes.now _ c.in_ok-end.end
+      (wanted_heard (λ v. v.items) (λ x. Since (g.T.Talk.talked c.args.talk.now) (g.T.Talk.talked c.ask_one.new.talk) (spelling_of (decimal c.args.first) file_handle (OpenWrite c.args.path.now) ∷ []) (x ∷ []))
+      c.in_ok-opened.opened _ _ c.in-Done.ensures.done c.counted-wanted.ensures c.in_ok-opened.ensures.heard)
+      c.in_ok-end.ensures.ended;
+  faults = tt;
   begun = put_writing _ _ _ c.args.first c.args.path.now c.args.bytes.now _
       (wanted_heard (λ v. v.items) (λ x. Since (g.T.Talk.talked c.args.talk.now) (g.T.Talk.talked c.ask_one.new.talk) (spelling_of (decimal c.args.first) file_handle (OpenWrite c.args.path.now) ∷ []) (x ∷ []))
-      c.in_ok-opened.opened _ _ c.in-Done.ensures c.counted-wanted.ensures c.in_ok-opened.ensures.heard)
+      c.in_ok-opened.opened _ _ c.in-Done.ensures.done c.counted-wanted.ensures c.in_ok-opened.ensures.heard)
       c.write_all.ensures.said;
 }
 
@@ -49,7 +55,7 @@ pub returns-in_err-closed-clause-begun : goal.returns-in_err-closed-clause-begun
 returns-in_err-closed-clause-begun g c =
     put_closing _ _ _ _ c.args.first c.args.path.now c.args.bytes.now
     (wanted_heard (λ v. v.items) (λ x. Since (g.T.Talk.talked c.args.talk.now) (g.T.Talk.talked c.ask_one.new.talk) (spelling_of (decimal c.args.first) file_handle (OpenWrite c.args.path.now) ∷ []) (x ∷ []))
-    c.in_ok-opened.opened _ _ c.in-Done.ensures c.counted-wanted.ensures c.in_ok-opened.ensures.heard)
+    c.in_ok-opened.opened _ _ c.in-Done.ensures.done c.counted-wanted.ensures c.in_ok-opened.ensures.heard)
     (when_copied _ _ c.in-Done-2.is c.in_ok-end.ensures.done)
     (subst (λ n. SaidOrNot (g.T.Talk.talked c.write_all.new.talk) (g.T.Talk.talked c.ask_one-2.new.talk) (spelling_of (decimal (c.args.first + 1 + n)) file_handle Close))
     c.chunk_count.ensures.value c.ask_one-2.ensures.said)
@@ -58,7 +64,7 @@ pub returns-then-is_none-clause-begun : goal.returns-then-is_none-clause-begun
 returns-then-is_none-clause-begun g c =
     put_closing _ _ _ _ c.args.first c.args.path.now c.args.bytes.now
     (wanted_heard (λ v. v.items) (λ x. Since (g.T.Talk.talked c.args.talk.now) (g.T.Talk.talked c.ask_one.new.talk) (spelling_of (decimal c.args.first) file_handle (OpenWrite c.args.path.now) ∷ []) (x ∷ []))
-    c.in_ok-opened.opened _ _ c.in-Done.ensures c.counted-wanted.ensures c.in_ok-opened.ensures.heard)
+    c.in_ok-opened.opened _ _ c.in-Done.ensures.done c.counted-wanted.ensures c.in_ok-opened.ensures.heard)
     (when_copied _ _ c.in-Done-2.is c.in_ok-end.ensures.done)
     (subst (λ n. SaidOrNot (g.T.Talk.talked c.write_all.new.talk) (g.T.Talk.talked c.ask_one-2.new.talk) (spelling_of (decimal (c.args.first + 1 + n)) file_handle Close))
     c.chunk_count.ensures.value c.ask_one-2.ensures.said)
@@ -67,7 +73,27 @@ pub returns-clause-begun : goal.returns-clause-begun
 returns-clause-begun g c =
     put_closing _ _ _ _ c.args.first c.args.path.now c.args.bytes.now
     (wanted_heard (λ v. v.items) (λ x. Since (g.T.Talk.talked c.args.talk.now) (g.T.Talk.talked c.ask_one.new.talk) (spelling_of (decimal c.args.first) file_handle (OpenWrite c.args.path.now) ∷ []) (x ∷ []))
-    c.in_ok-opened.opened _ _ c.in-Done.ensures c.counted-wanted.ensures c.in_ok-opened.ensures.heard)
+    c.in_ok-opened.opened _ _ c.in-Done.ensures.done c.counted-wanted.ensures c.in_ok-opened.ensures.heard)
     (when_copied _ _ c.in-Done-2.is c.in_ok-end.ensures.done)
     (subst (λ n. SaidOrNot (g.T.Talk.talked c.write_all.new.talk) (g.T.Talk.talked c.ask_one-2.new.talk) (spelling_of (decimal (c.args.first + 1 + n)) file_handle Close))
     c.chunk_count.ensures.value c.ask_one-2.ensures.said)
+
+pub returns-in_default-clause-ended : goal.returns-in_default-clause-ended
+returns-in_default-clause-ended g c = put_not_opened _ _ c.args.first c.args.bytes.now _ _ c.settled.result c.counted-wanted.ensures c.in_ok-opened.ensures.all c.settled.ensures.ended
+
+pub returns-then-is_none-clause-ended : goal.returns-then-is_none-clause-ended
+returns-then-is_none-clause-ended g c =
+    let none : c.in_ok-closed.closed ≡ None = search rules in
+    put_ended_unknown _ _ _ _ c.args.first c.args.bytes.now _ _ _ (unheard (λ v. v.items) c.in_ok-closed.closed none)
+    (wanted_heard (λ v. v.items) (λ x. Since (g.T.Talk.talked c.args.talk.now) (g.T.Talk.talked c.ask_one.new.talk) (spelling_of (decimal c.args.first) file_handle (OpenWrite c.args.path.now) ∷ []) (x ∷ []))
+    c.in_ok-opened.opened _ _ c.in-Done.ensures.done c.counted-wanted.ensures c.in_ok-opened.ensures.heard)
+    (when_copied _ _ c.in-Done-2.is c.in_ok-end.ensures.done) c.in_ok-closed.ensures.all
+
+pub returns-clause-ended : goal.returns-clause-ended
+returns-clause-ended g c =
+    put_not_closed _ _ _ _ c.args.first c.chunk_count.result c.args.bytes.now _ _ _ _ c.settled-2.result
+    (is_heard (λ v. v.items) c.in_ok-closed.closed _ c.is_none.ensures c.if-is_none.false)
+    c.chunk_count.ensures.value c.counted-all.ensures
+    (wanted_heard (λ v. v.items) (λ x. Since (g.T.Talk.talked c.args.talk.now) (g.T.Talk.talked c.ask_one.new.talk) (spelling_of (decimal c.args.first) file_handle (OpenWrite c.args.path.now) ∷ []) (x ∷ []))
+    c.in_ok-opened.opened _ _ c.in-Done.ensures.done c.counted-wanted.ensures c.in_ok-opened.ensures.heard)
+    (when_copied _ _ c.in-Done-2.is c.in_ok-end.ensures.done) c.in_ok-closed.ensures.all c.settled-2.ensures.ended

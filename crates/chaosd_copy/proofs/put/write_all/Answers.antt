@@ -6,13 +6,14 @@ use Rattle.chaosd_copy.specs.Row.{file_handle}
 use Rattle.chaosd_copy.specs.Ends.{write_said, write_heard}
 use Rattle.chaosd_copy.proofs.Talks.{heard_at, wanted_asked}
 use Rattle.chaosd_copy.proofs.Begun.{said_up_to}
+use Rattle.chaosd_copy.proofs.Ended.{writes_not_done}
 use Rattle.chaosd_copy.proofs.put.write_all.Goals as goal
 
 pub loop-i-preserved : goal.loop-i-preserved
 loop-i-preserved g c = record {
   said = c.in_ok-reply.ensures.within;
-  asked = let h : c.loop-i.i < c.next_reply.new.said = wanted_asked (λ v. v.items) (c.loop-i.i < c.next_reply.new.said) c.in_ok-reply.reply _ c.in-Done.ensures c.in_ok-reply.ensures.asked in omega arith;
-  talk = heard_at _ _ _ (write_heard c.args.first c.args.bytes.now) c.loop-i.i _ _ c.in-Done.ensures
+  asked = let h : c.loop-i.i < c.next_reply.new.said = wanted_asked (λ v. v.items) (c.loop-i.i < c.next_reply.new.said) c.in_ok-reply.reply _ c.in-Done.ensures.done c.in_ok-reply.ensures.asked in omega arith;
+  talk = heard_at _ _ _ (write_heard c.args.first c.args.bytes.now) c.loop-i.i _ _ c.in-Done.ensures.done
       (c.counted-wanted.ensures ∙ ap (λ n. reply_of (decimal (c.args.first + c.loop-i.i)) file_handle (Wrote n)) c.min.ensures)
       (c.in_ok-reply.ensures.talk _ _ c.loop-i.invariant.talk);
 }
@@ -27,6 +28,10 @@ returns-in_default g c = record {
   said = said_up_to _ _ (write_said c.args.first c.args.bytes.now) c.next_reply.new.said c.chunk_count-count.result _ _ c.next_reply.ensures.within c.chunk_count-count.ensures.value
       (c.in_ok-reply.ensures.talk _ _ c.loop-i.invariant.talk);
   done = search rules;
+  ended = writes_not_done _ _ _ c.args.first c.loop-i.i c.args.bytes.now _ _ c.settled.result (omega (arith, c.loop-i-test.true, c.chunk_count-count.ensures.value))
+      (c.counted-wanted.ensures ∙ ap (λ n. reply_of (decimal (c.args.first + c.loop-i.i)) file_handle (Wrote n)) c.min.ensures)
+      (c.in_ok-reply.ensures.talk _ _ c.loop-i.invariant.talk) c.settled.ensures.ended;
+  faults = tt;
 }
 
 pub returns-clause-said : goal.returns-clause-said

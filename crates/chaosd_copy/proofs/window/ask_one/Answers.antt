@@ -2,6 +2,7 @@ use Rattle.std.proofs.Common.{arith, ap, [], ◌+◌, ◌≡◌}
 use Rattle.chaosd_copy.specs.Row.{errand_command}
 use Rattle.chaosd_copy.proofs.Talks.{asked_one, since_none}
 use Rattle.chaosd_copy.proofs.Begun.{asked_or_not}
+use Rattle.chaosd_copy.proofs.Ended.{heard_ok}
 use Rattle.chaosd_copy.proofs.window.ask_one.Goals as goal
 
 pub returns-clause-heard : goal.returns-clause-heard
@@ -18,3 +19,6 @@ returns-clause-said g c =
     c.next_reply.ensures.within
     (c.next_reply.ensures.talk (g.T.Talk.talked c.args.talk.now) [] (since_none _))
     (c.next_reply.ensures.fault (g.T.Talk.talked c.args.talk.now) [] (since_none _))
+
+pub returns-clause-all : goal.returns-clause-all
+returns-clause-all g c = heard_ok (λ v. v.items) _ _ _ c.next_reply.result (c.next_reply.ensures.talk (g.T.Talk.talked c.args.talk.now) [] (since_none _))

@@ -9,4 +9,4 @@ pub returns-clause-done : goal.returns-clause-done
 returns-clause-done g c =
     copied_then _ _ _ (λ e. wanted_heard (λ v. v.items)
     (λ x. Since (g.T.Talk.talked c.args.talk.now) (g.T.Talk.talked c.ask_one.new.talk) (login_command c.args.name.now ∷ []) (x ∷ []))
-    c.in_ok-reply.reply _ _ e c.spelled-wanted.ensures c.in_ok-reply.ensures.heard) c.settled.ensures
+    c.in_ok-reply.reply _ _ e c.spelled-wanted.ensures c.in_ok-reply.ensures.heard) c.settled.ensures.done

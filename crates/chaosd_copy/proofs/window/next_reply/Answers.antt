@@ -15,7 +15,7 @@ pub loop-turns-preserved : goal.loop-turns-preserved
 loop-turns-preserved g c =
     let none : c.hear_asked.result ≡ None = search rules in (
       c.say_on.ensures.within,
-      λ start replies h. c.turn.ensures ∙ c.say_on.ensures.talk start replies
+      λ start replies h. c.turn.ensures.silent ∙ c.say_on.ensures.talk start replies
           (heard_none (λ v. v.items) start _ _ _ replies c.hear_asked.result (c.loop-turns.invariant.1 start replies h) c.hear_asked.ensures.talk none),
     )
 
@@ -25,5 +25,5 @@ returns-clause-talk g c = λ start replies h. nothing_more start _ _ replies (c.
 pub returns-in_err-turn-clause-fault : goal.returns-in_err-turn-clause-fault
 returns-in_err-turn-clause-fault g c = λ start replies h.
     let none : c.hear_asked.result ≡ None = search rules in
-    on_err c.from_residual.result _ (c.turn.ensures ∙ c.say_on.ensures.talk start replies
+    on_err c.from_residual.result _ (c.turn.ensures.silent ∙ c.say_on.ensures.talk start replies
     (heard_none (λ v. v.items) start _ _ _ replies c.hear_asked.result (c.loop-turns.invariant.1 start replies h) c.hear_asked.ensures.talk none))

@@ -1,0 +1,241 @@
+-- How a copy ended that wasn't done.
+use Rattle.std.proofs.Common.{◌≡◌, ℕ, ◌+◌, ◌*◌, ◌<◌, ◌≤◌, Bool, false, List, [], ◌∷◌, ◌++◌, length, take, drop, Option, Some, None, refl, ap, ◌∙◌, sym, subst, arith, inl, inr}
+use Rattle.std.specs.Prelude.{min, codes, not, is_some, option_map, Decides, Result, Ok, Err, IfOk}
+use Rattle.std.specs.Fmt.{decimal}
+use Rattle.std.proofs.lemmas.List.{append_assoc, append-nil, take-append-drop}
+use Rattle.std.proofs.lemmas.Slice.Eq.{bytes_eq-Decides}
+use Rattle.std.proofs.Math.Seq.{take-append_seam}
+use Rattle.std.specs.Str.{bytes_eq}
+use Rattle.chaos_file.specs.declared.limits.TheConstants.{MAX_CHUNK, MAX_FILE}
+use Rattle.chaos_file.specs.Answer.{Opened, Wrote, Closed, read_answer, reply_front}
+use Rattle.chaosd_copy.specs.declared.end.CopyEnd.{CopyEnd}
+use Rattle.chaosd_copy.specs.declared.end.CopyEnd.TheVariants as e
+use Rattle.chaosd_copy.specs.Copy.{upto, chunk, chunk_count, reply_of, put_reply, put_front_replies, get_front_replies}
+use Rattle.chaosd_copy.specs.Talk.{Talked, Since, Heard}
+use Rattle.chaosd_copy.specs.Row.{file_handle, heard_in}
+use Rattle.chaosd_copy.specs.Ends.{UnlessCopied, IsErrorTo, EndedBy, EndedAt, WritesEnded, PutEnded, ReadsEnded, GetEnded, tids_from, write_heard, read_heard}
+use Rattle.chaosd_copy.proofs.Talks.{since_then, none_some}
+use Rattle.chaosd_copy.proofs.Begun.{open_named}
+use Rattle.chaosd_copy.proofs.Joined.{upto_same, next_tid}
+
+-- whether a reply begins so
+pub error_decides : (tid handle reply s p : List ℕ) (r : Bool) → s ≡ reply → p ≡ reply_front tid handle ++ (codes "ERROR " ++ []) → r ≡ bytes_eq p (take (length p) s)
+    → Decides r (IsErrorTo tid handle reply)
+error_decides tid handle reply s p r whole front told =
+    let d = bytes_eq-Decides p (take (length p) s) in (
+      λ t. (
+        drop (length p) s,
+        sym whole ∙ sym (take-append-drop (length p) s) ∙ ap (λ l. l ++ drop (length p) s) (sym (d.0 (sym told ∙ t)))
+            ∙ ap (λ l. l ++ drop (length p) s) front ∙ append_assoc (reply_front tid handle) (codes "ERROR " ++ []) (drop (length p) s),
+      ),
+      λ h. told ∙ d.1 (sym (ap (take (length p)) (whole ∙ h.1 ∙ sym (append_assoc (reply_front tid handle) (codes "ERROR " ++ []) h.0) ∙ ap (λ l. l ++ h.0) (sym front))
+          ∙ take-append_seam p h.0)),
+    )
+
+pub unless : (end : CopyEnd) (P : CopyEnd → Type 0) → P end → UnlessCopied end P
+unless e.Done P h = tt
+unless (e.Refused reply) P h = h
+unless (e.Strange reply) P h = h
+unless e.NoReply P h = h
+unless e.Unknown P h = h
+
+pub unless_then : (end : CopyEnd) (P Q : CopyEnd → Type 0) → (P end → Q end) → UnlessCopied end P → UnlessCopied end Q
+unless_then e.Done P Q f h = tt
+unless_then (e.Refused reply) P Q f h = f h
+unless_then (e.Strange reply) P Q f h = f h
+unless_then e.NoReply P Q f h = f h
+unless_then e.Unknown P Q f h = f h
+
+-- a reply that isn't the one that was wanted
+pub unwanted : (tid handle : List ℕ) (W : List ℕ → Type 0) (last : Option (List ℕ)) (end : CopyEnd) → ((x : List ℕ) → last ≡ Some x → W x → ⊥) → EndedBy tid handle (λ _. ⊥) last end
+    → EndedBy tid handle W last end
+unwanted tid handle W last e.Done f h = h
+unwanted tid handle W last (e.Refused reply) f h = h
+unwanted tid handle W last (e.Strange reply) f h = (h.0, h.1, f reply.items h.0)
+unwanted tid handle W last e.NoReply f h = h
+unwanted tid handle W last e.Unknown f h = h
+
+-- ---- what was heard
+
+pub heard_ok : {R F : Type 0} (items : R → List ℕ) (a b : Option Talked) (cs : List (List ℕ)) (result : Result (Option R) F)
+    → IfOk result (λ r. Since a b cs ([] ++ heard_in (option_map items r))) → IfOk result (λ r. Heard a b (heard_in (option_map items r)))
+heard_ok items a b cs (Ok r) h = (cs, h)
+heard_ok items a b cs (Err x) h = tt
+
+pub heard_then : (a b c : Option Talked) (cs rs qs : List (List ℕ)) → Since a b cs rs → Heard b c qs → Heard a c (rs ++ qs)
+heard_then a b c cs rs qs h (ds, k) = (cs ++ ds, since_then a b c cs rs ds qs h k)
+
+-- ---- a put
+
+writes_ended_named : (first i : ℕ) (bytes : List ℕ) → write_heard (first + 1) bytes i ≡ put_reply (tids_from first) file_handle bytes i
+writes_ended_named first i bytes = ap (λ t. reply_of (decimal t) file_handle (Wrote (min (MAX_CHUNK * (1 + i)) (length bytes)))) (next_tid first i)
+
+pub put_ended_opening : (a b : Option Talked) (first : ℕ) (bytes : List ℕ) (last : Option (List ℕ)) (end : CopyEnd) → Heard a b (heard_in last)
+    → EndedBy (decimal first) file_handle (λ r. r ≡ reply_of (decimal first) file_handle (Opened 0)) last end
+    → PutEnded a b (tids_from first) file_handle bytes end
+put_ended_opening a b first bytes last end h k =
+    inl (subst (λ n. EndedAt a b [] (decimal n) file_handle (λ r. r ≡ reply_of (decimal n) file_handle (Opened 0)) end) (open_named first) (last, h, k))
+
+-- OPEN was answered well
+pub opened_put : (a b : Option Talked) (first : ℕ) (cs : List (List ℕ)) → Since a b cs (reply_of (decimal first) file_handle (Opened 0) ∷ [])
+    → Since a b cs (reply_of (tids_from first 0) file_handle (Opened 0) ∷ [])
+opened_put a b first cs h = subst (λ n. Since a b cs (reply_of (decimal n) file_handle (Opened 0) ∷ [])) (open_named first) h
+
+-- the replies to OPEN and some WRITEs
+front_heard : (a b c : Option Talked) (first : ℕ) (bytes : List ℕ) (cs qs : List (List ℕ)) (i : ℕ) → Since a b cs (reply_of (decimal first) file_handle (Opened 0) ∷ [])
+    → Heard b c (upto (write_heard (first + 1) bytes) i ++ qs) → Heard a c (put_front_replies (tids_from first) file_handle bytes i ++ qs)
+front_heard a b c first bytes cs qs i h k =
+    heard_then a b c cs (reply_of (tids_from first 0) file_handle (Opened 0) ∷ []) _ (opened_put a b first cs h)
+    (subst (λ rs. Heard b c (rs ++ qs)) (upto_same (write_heard (first + 1) bytes) (put_reply (tids_from first) file_handle bytes) i (λ j m. writes_ended_named first j bytes)) k)
+
+pub put_ended_writing : (a b c : Option Talked) (first : ℕ) (bytes : List ℕ) (cs : List (List ℕ)) (end : CopyEnd) → Since a b cs (reply_of (decimal first) file_handle (Opened 0) ∷ [])
+    → WritesEnded b c (first + 1) bytes end
+    → PutEnded a c (tids_from first) file_handle bytes end
+put_ended_writing a b c first bytes cs end h (i, below, (last, heard, ended)) =
+    inr (inl (
+      i,
+      below,
+      (
+        last,
+        front_heard a b c first bytes cs (heard_in last) i h heard,
+        subst (λ t. EndedBy (decimal t) file_handle (λ r. r ≡ reply_of (decimal t) file_handle (Wrote (min (MAX_CHUNK * (1 + i)) (length bytes)))) last end) (next_tid first i) ended,
+      ),
+    ))
+
+-- all WRITEs were answered well
+pub front_closing : (a b c d : Option Talked) (first : ℕ) (bytes : List ℕ) (cs ds qs : List (List ℕ)) → Since a b cs (reply_of (decimal first) file_handle (Opened 0) ∷ [])
+    → Since b c ds (upto (write_heard (first + 1) bytes) (chunk_count (length bytes))) → Heard c d qs
+    → Heard a d (put_front_replies (tids_from first) file_handle bytes (chunk_count (length bytes)) ++ qs)
+front_closing a b c d first bytes cs ds qs h k l = front_heard a b d first bytes cs qs (chunk_count (length bytes)) h (heard_then b c d ds _ qs k l)
+
+pub put_ended_closing : (a b c d : Option Talked) (first tid : ℕ) (bytes : List ℕ) (cs ds : List (List ℕ)) (last : Option (List ℕ)) (end : CopyEnd) → (last ≡ None → ⊥)
+    → tid ≡ chunk_count (length bytes)
+    → Since a b cs (reply_of (decimal first) file_handle (Opened 0) ∷ [])
+    → Since b c ds (upto (write_heard (first + 1) bytes) (chunk_count (length bytes))) → Heard c d (heard_in last)
+    → EndedBy (decimal (first + 1 + tid)) file_handle (λ r. r ≡ reply_of (decimal (first + 1 + tid)) file_handle (Closed (length bytes))) last end
+    → PutEnded a d (tids_from first) file_handle bytes end
+put_ended_closing a b c d first tid bytes cs ds None end some same h k l ended = absurd (some refl)
+put_ended_closing a b c d first tid bytes cs ds (Some reply) end some same h k l ended =
+    inr (inr (inl (
+      reply,
+      front_closing a b c d first bytes cs ds (reply ∷ []) h k l,
+      subst (λ t. EndedBy (decimal t) file_handle (λ r. r ≡ reply_of (decimal t) file_handle (Closed (length bytes))) (Some reply) end)
+          (ap (λ n. first + 1 + n) same ∙ next_tid first (chunk_count (length bytes))) ended,
+    )))
+
+pub put_ended_unknown : (a b c d : Option Talked) (first : ℕ) (bytes : List ℕ) (cs ds : List (List ℕ)) (last : Option (List ℕ)) → last ≡ None
+    → Since a b cs (reply_of (decimal first) file_handle (Opened 0) ∷ [])
+    → Since b c ds (upto (write_heard (first + 1) bytes) (chunk_count (length bytes))) → Heard c d (heard_in last)
+    → PutEnded a d (tids_from first) file_handle bytes e.Unknown
+put_ended_unknown a b c d first bytes cs ds (Some reply) none h k l = cc
+put_ended_unknown a b c d first bytes cs ds None none h k l =
+    inr (inr (inr (refl, subst (λ rs. Heard a d rs) (append-nil (put_front_replies (tids_from first) file_handle bytes (chunk_count (length bytes)))) (front_closing a b c d first bytes cs ds [] h k l))))
+
+pub writes_not_done : (a b : Option Talked) (cs : List (List ℕ)) (first i : ℕ) (bytes wanted : List ℕ) (last : Option (List ℕ)) (end : CopyEnd) → i < chunk_count (length bytes)
+    → wanted ≡ write_heard first bytes i → Since a b cs (upto (write_heard first bytes) i ++ heard_in last)
+    → UnlessCopied end (EndedBy (decimal (first + i)) file_handle (λ r. r ≡ wanted) last) → UnlessCopied end (WritesEnded a b first bytes)
+writes_not_done a b cs first i bytes wanted last end below same h =
+    unless_then end _ _ (λ k. (i, below, (last, (cs, h), subst (λ w. EndedBy (decimal (first + i)) file_handle (λ r. r ≡ w) last end) same k)))
+
+pub put_not_opened : (a b : Option Talked) (first : ℕ) (bytes wanted : List ℕ) (last : Option (List ℕ)) (end : CopyEnd) → wanted ≡ reply_of (decimal first) file_handle (Opened 0)
+    → Heard a b (heard_in last) → UnlessCopied end (EndedBy (decimal first) file_handle (λ r. r ≡ wanted) last) → UnlessCopied end (PutEnded a b (tids_from first) file_handle bytes)
+put_not_opened a b first bytes wanted last end same h =
+    unless_then end _ _ (λ k. put_ended_opening a b first bytes last end h (subst (λ w. EndedBy (decimal first) file_handle (λ r. r ≡ w) last end) same k))
+
+pub put_not_written : (a b c : Option Talked) (first : ℕ) (bytes : List ℕ) (cs : List (List ℕ)) (end : CopyEnd) → Since a b cs (reply_of (decimal first) file_handle (Opened 0) ∷ [])
+    → UnlessCopied end (WritesEnded b c (first + 1) bytes) → UnlessCopied end (PutEnded a c (tids_from first) file_handle bytes)
+put_not_written a b c first bytes cs end h = unless_then end _ _ (put_ended_writing a b c first bytes cs end h)
+
+pub put_not_closed : (a b c d : Option Talked) (first tid : ℕ) (bytes wanted : List ℕ) (cs ds : List (List ℕ)) (last : Option (List ℕ)) (end : CopyEnd) → (last ≡ None → ⊥)
+    → tid ≡ chunk_count (length bytes) → wanted ≡ reply_of (decimal (first + 1 + tid)) file_handle (Closed (length bytes))
+    → Since a b cs (reply_of (decimal first) file_handle (Opened 0) ∷ [])
+    → Since b c ds (upto (write_heard (first + 1) bytes) (chunk_count (length bytes))) → Heard c d (heard_in last)
+    → UnlessCopied end (EndedBy (decimal (first + 1 + tid)) file_handle (λ r. r ≡ wanted) last) → UnlessCopied end (PutEnded a d (tids_from first) file_handle bytes)
+put_not_closed a b c d first tid bytes wanted cs ds last end some count same h k l =
+    unless_then end _ _ (λ m. put_ended_closing a b c d first tid bytes cs ds last end some count h k l
+    (subst (λ w. EndedBy (decimal (first + 1 + tid)) file_handle (λ r. r ≡ w) last end) same m))
+
+pub unheard : {R : Type 0} (items : R → List ℕ) (r : Option R) → r ≡ None → option_map items r ≡ None
+unheard items None e = refl
+unheard items (Some x) e = cc
+
+pub is_heard : {R : Type 0} (items : R → List ℕ) (r : Option R) (b : Bool) → is_some r ≡ not b → b ≡ false → option_map items r ≡ None → ⊥
+is_heard items None b told f e = let h : false ≡ not false = told ∙ ap not f in cc
+is_heard items (Some x) b told f e = none_some (items x) (sym e)
+
+-- ---- a get
+
+unwished : (tid handle : List ℕ) (W : List ℕ → Type 0) (last : Option (List ℕ)) (end : CopyEnd) → EndedBy tid handle W last end → EndedBy tid handle (λ _. ⊥) last end
+unwished tid handle W last e.Done h = h
+unwished tid handle W last (e.Refused reply) h = h
+unwished tid handle W last (e.Strange reply) h = (h.0, h.1, λ f. f)
+unwished tid handle W last e.NoReply h = h
+unwished tid handle W last e.Unknown h = h
+
+pub reads_not_done : (a b : Option Talked) (cs : List (List ℕ)) (first len i : ℕ) (bytes : List ℕ) (W : List ℕ → Type 0) (last : Option (List ℕ)) (end : CopyEnd) → i ≤ chunk_count len
+    → Since a b cs (upto (read_heard first bytes) i ++ heard_in last)
+    → UnlessCopied end (EndedBy (decimal (first + i)) file_handle W last) → UnlessCopied end (ReadsEnded a b first len bytes)
+reads_not_done a b cs first len i bytes W last end below h =
+    unless_then end _ _ (λ k. (i, below, (last, (cs, h), unwished (decimal (first + i)) file_handle W last end k)))
+
+-- a READ's reply, by which no more bytes came
+pub piece_not_done : (a b : Option Talked) (cs : List (List ℕ)) (first len i : ℕ) (xs ys : List ℕ) (last : Option (List ℕ)) (end : CopyEnd) → i ≤ chunk_count len
+    → Since a b cs (upto (read_heard first xs) i ++ heard_in last)
+    → UnlessCopied end (λ e. (ys ≡ xs) × EndedBy (decimal (first + i)) file_handle (λ _. ⊥) last e) → UnlessCopied end (ReadsEnded a b first len ys)
+piece_not_done a b cs first len i xs ys last end below h =
+    unless_then end _ _ (λ k. (i, below, (last, (cs, subst (λ zs. Since a b cs (upto (read_heard first zs) i ++ heard_in last)) (sym k.0) h), k.1)))
+
+pub get_not_opened : (a b : Option Talked) (first : ℕ) (bytes : List ℕ) (W : List ℕ → Type 0) (last : Option (List ℕ)) (end : CopyEnd) → Heard a b (heard_in last)
+    → UnlessCopied end (EndedBy (decimal first) file_handle W last) → UnlessCopied end (GetEnded a b (tids_from first) file_handle bytes)
+get_not_opened a b first bytes W last end h =
+    unless_then end _ _ (λ k. inl (subst (λ n. EndedAt a b [] (decimal n) file_handle (λ _. ⊥) end) (open_named first) (last, h, unwished (decimal first) file_handle W last end k)))
+
+reads_named : (first i : ℕ) (bytes : List ℕ) → read_heard (first + 1) bytes i ≡ reply_of (tids_from first (1 + i)) file_handle (read_answer (chunk bytes i))
+reads_named first i bytes = ap (λ t. reply_of (decimal t) file_handle (read_answer (chunk bytes i))) (next_tid first i)
+
+-- the replies to OPEN and some READs
+got_front : (a b c : Option Talked) (first len : ℕ) (bytes : List ℕ) (cs qs : List (List ℕ)) (i : ℕ) → Since a b cs (reply_of (decimal first) file_handle (Opened len) ∷ [])
+    → Heard b c (upto (read_heard (first + 1) bytes) i ++ qs) → Heard a c (get_front_replies (tids_from first) file_handle len bytes i ++ qs)
+got_front a b c first len bytes cs qs i h k =
+    heard_then a b c cs (reply_of (tids_from first 0) file_handle (Opened len) ∷ []) _ (subst (λ n. Since a b cs (reply_of (decimal n) file_handle (Opened len) ∷ [])) (open_named first) h)
+    (subst (λ rs. Heard b c (rs ++ qs)) (upto_same (read_heard (first + 1) bytes) (λ j. reply_of (tids_from first (1 + j)) file_handle (read_answer (chunk bytes j))) i (λ j m. reads_named first j bytes)) k)
+
+get_ended_reading : (a b c : Option Talked) (first len : ℕ) (bytes : List ℕ) (cs : List (List ℕ)) (end : CopyEnd) → len ≤ MAX_FILE
+    → Since a b cs (reply_of (decimal first) file_handle (Opened len) ∷ []) → ReadsEnded b c (first + 1) len bytes end → GetEnded a c (tids_from first) file_handle bytes end
+get_ended_reading a b c first len bytes cs end fits h (i, below, (last, heard, ended)) =
+    inr (
+      len,
+      fits,
+      i,
+      omega arith,
+      (
+        last,
+        got_front a b c first len bytes cs (heard_in last) i h heard,
+        subst (λ t. EndedBy (decimal t) file_handle (λ _. ⊥) last end) (next_tid first i) ended,
+      ),
+    )
+
+pub get_not_read : (a b c : Option Talked) (first len : ℕ) (bytes : List ℕ) (cs : List (List ℕ)) (end : CopyEnd) → len ≤ MAX_FILE
+    → Since a b cs (reply_of (decimal first) file_handle (Opened len) ∷ [])
+    → UnlessCopied end (ReadsEnded b c (first + 1) len bytes) → UnlessCopied end (GetEnded a c (tids_from first) file_handle bytes)
+get_not_read a b c first len bytes cs end fits h = unless_then end _ _ (get_ended_reading a b c first len bytes cs end fits h)
+
+pub get_not_closed : (a b c d : Option Talked) (first len tid : ℕ) (bytes : List ℕ) (W : List ℕ → Type 0) (cs ds : List (List ℕ)) (last : Option (List ℕ)) (end : CopyEnd) → len ≤ MAX_FILE
+    → tid ≡ chunk_count len
+    → Since a b cs (reply_of (decimal first) file_handle (Opened len) ∷ [])
+    → Since b c ds (upto (read_heard (first + 1) bytes) (1 + chunk_count len)) → Heard c d (heard_in last)
+    → UnlessCopied end (EndedBy (decimal (first + 2 + tid)) file_handle W last) → UnlessCopied end (GetEnded a d (tids_from first) file_handle bytes)
+get_not_closed a b c d first len tid bytes W cs ds last end fits count h k l =
+    let n = chunk_count len in
+    let same : first + 2 + tid ≡ first + (1 + (1 + n)) = ap (λ m. first + 2 + m) count ∙ omega arith in
+    unless_then end _ _ (λ m. inr (
+      len,
+      fits,
+      1 + n,
+      omega arith,
+      (
+        last,
+        got_front a b d first len bytes cs (heard_in last) (1 + n) h (heard_then b c d ds _ (heard_in last) k l),
+        subst (λ t. EndedBy (decimal t) file_handle (λ _. ⊥) last end) same (unwished (decimal (first + 2 + tid)) file_handle W last end m),
+      ),
+    ))
