@@ -193,6 +193,8 @@ def local_faults(checks):
         (here / "B").write_bytes(b"more")
         ended = copied(server, "put", "SUB", "B", cwd=here)
         problems = ended.problems(REFUSED, b"", b"chaosd: SUB: STF Store fault.\n") + stored_problems(server.folder / "B", b"more")
+        seen = server.fault()
+        problems += [] if seen == b"chaosd: can't write SUB: it is no file\n" else [f"the server said {seen!r}"]
         checks.check("a put that the server's folder refuses at its CLOSE: its code and text, status 3, and the next is put", problems)
 
 
@@ -219,6 +221,9 @@ def full_disks(checks):
         problems = ended.problems(REFUSED, b"", b"chaosd: F: STF Store fault.\n")
         problems += stored_problems(server.folder / "F", b"old") + stored_problems(server.folder / "G", b"more")
         checks.check("put to a full disk: the server's code and text, status 3, the old file stays, and the next is put", problems)
+        seen = server.fault()
+        problems = [] if seen.startswith(b"chaosd: can't write F: File too large") else [f"it said {seen!r}"]
+        checks.check("and the server tells what the system said", problems)
 
 
 def forbidden(checks):
@@ -255,7 +260,9 @@ def forbidden(checks):
             for_all(server.folder, 0o500)
             ended = copied(server, "put", "UP", options=["--as", "F"], cwd=here, prepare=as_nobody)
             problems = ended.problems(REFUSED, b"", b"chaosd: UP: STF Store fault.\n")
-            checks.check("put into a folder without permission: the server's code and text, status 3", problems)
+            seen = server.fault()
+            problems += [] if seen.startswith(b"chaosd: can't write F: Permission denied") else [f"the server said {seen!r}"]
+            checks.check("put into a folder without permission: the server's code and text, status 3, and what the system said", problems)
         finally:
             server.end()
             program.PROGRAM = own

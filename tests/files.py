@@ -177,6 +177,13 @@ class Serving:
         """What it has to say when it listens, and did not."""
         return [piece for piece in self.told if piece not in self.said]
 
+    def fault(self):
+        """The next line in which it tells what the folder's system said, or the last that came in time."""
+        line = line_of(self.process.stderr)
+        while line and not line.startswith(b"chaosd: can't "):
+            line = line_of(self.process.stderr)
+        return line
+
     def words(self, peer=0, options=()):
         """The words of `ask` for that peer."""
         return ["ask", *options, f"{CLIENT + peer:o}", at(self.peers[peer]), "401", f"401={at(self.port)}"]
@@ -398,8 +405,8 @@ def no_peers(checks):
             for index in (1, 2, 3):
                 stranger.sendto(datagram(RFC, (SERVER, 0), (0o777, index), 5, 0, b"FILE"), ("127.0.0.1", ports[0]))
         out, err = server.communicate(timeout=LONG)
-        told = b"chaosd: host 000777 asks and is no PEER\n"
-        wanted = told + b"chaosd: 300 turns are over\n"
+        opens = [b"chaosd: host 000777 opens connection %06o\n" % index for index in (1, 2, 3)]
+        wanted = b"chaosd: host 000777 asks and is no PEER\n" + b"".join(opens) + b"chaosd: 300 turns are over\n"
         problems = program.Ended(server.returncode, out, said + err).problems(DONE, b"", said + wanted)
         checks.check("serve tells once of a host that is no peer and asks, and at its end that its turns are over", problems)
         ended = run(["serve", "--quiet", "--turns", "3", "401", at(ports[0]), folder])
@@ -593,6 +600,17 @@ def store_faults(checks):
         listed = sorted(path.name for path in server.folder.iterdir())
         problems += [] if listed == ["FIFO", "SUB"] else [f"there are {listed}"]
         checks.check("a store fault is told in the reply, and the same CLOSE succeeds later", problems)
+        faults = [b"read SUB", b"read FIFO", b"write SUB", b"rename A to SUB", b"delete FIFO"]
+        wanted = [b"chaosd: can't %s: it is no file\n" % fault for fault in faults]
+        seen = [server.fault() for _ in wanted]
+        checks.check("and what it was on the server's standard error", [] if seen == wanted else [f"it said {seen}"])
+    with serving(options=["--quiet"]) as server:
+        (server.folder / "SUB").mkdir()
+        script = b"T  LOGIN LISPM\nT H OPEN READ^SUB\n"
+        problems = run(server.words(), script).problems(DONE, b"T  LOGIN LISPM\nT H ERROR STF Store fault.\n", b"")
+        seen = line_of(server.process.stderr)
+        problems += [] if seen == b"chaosd: can't read SUB: it is no file\n" else [f"it said {seen!r}"]
+        checks.check("serve --quiet tells that, and nothing else", problems)
         checks.check("ask: ERROR replies leave the status 0", run(server.words(), b"\nT9\n").problems(DONE, EMPTY_REPLY * 2, b""))
 
 
@@ -639,6 +657,31 @@ class Peer:
 
 RFC, OPN, CLS, SNS, STS, LOS, EOF, DATA = 0o1, 0o2, 0o3, 0o6, 0o7, 0o11, 0o14, 0o200
 STATUS_WINDOW = 13
+
+
+def connections_told(checks):
+    """A line for each connection that opens and one for each that ends: who, how many commands, and why."""
+    opens, ends = b"chaosd: host 000402 opens connection %06o\n", b"chaosd: connection %06o of host 000402 ends: "
+    with serving() as server:
+        for name, script, last in [
+            ("a session", FILE_SCRIPT, b"LISPM, 7 commands, done\n"),
+            ("commands without a login", b"T1  DELETE^A.LISP\n", b"nobody, 1 command, done\n"),
+        ]:
+            problems = [] if run(server.words(), script).status == DONE else ["it did not end well"]
+            seen = [line_of(server.process.stderr) for _ in range(2)]
+            index = int(seen[0].split()[-1], 8) if seen[0].startswith(opens[:-8]) else 0
+            wanted = [opens % index, ends % index + last]
+            checks.check(f"serve tells of {name}", problems + ([] if seen == wanted else [f"it said {seen}"]))
+        peer, me = Peer(server, 0), (CLIENT, 0o1405)
+        peer.send(RFC, (SERVER, 0), me, 5, 0, b"FILE")
+        problems = [] if line_of(server.process.stderr) == opens % 0o1405 else ["its opening is not told"]
+        index, first = struct.unpack(">2H", peer.receive()[14:18])
+        peer.send(DATA, (SERVER, index), me, 6, first, b"T  LOGIN M")
+        peer.receive()
+        peer.send(CLS, (SERVER, index), me, 0, 0, b"Bye.")
+        seen = line_of(server.process.stderr)
+        problems += [] if seen == ends % 0o1405 + b"M, 1 command, closed by its host\n" else [f"it said {seen!r}"]
+        checks.check("serve tells of one that its peer closes", problems)
 
 
 def another_program(checks):
@@ -819,7 +862,7 @@ def carriages(checks):
 
 
 GROUPS = [loop_rows, loop_lines, loop_bad_lines, loop_limits, streams, command_lines, good_lines, no_peers, openings, files_both_ways]
-GROUPS += [carriages, typed_commands, four_clients, vanished_clients, store_faults, another_program, signals]
+GROUPS += [carriages, typed_commands, four_clients, vanished_clients, store_faults, connections_told, another_program, signals]
 
 
 def main():

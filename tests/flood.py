@@ -114,7 +114,7 @@ class Service:
         }
         words = [f"{address:o}={at}" for address, at in peers.items()]
         self.process = subprocess.Popen(
-            [PROGRAM, "serve", f"{SERVER:o}", f"127.0.0.1:{self.port}", self.folder.name, *words],
+            [PROGRAM, "serve", "--quiet", f"{SERVER:o}", f"127.0.0.1:{self.port}", self.folder.name, *words],
             stdin=subprocess.DEVNULL,
             stdout=subprocess.PIPE,
             stderr=subprocess.STDOUT,

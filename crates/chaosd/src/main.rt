@@ -5,6 +5,7 @@
 #![tactic(auto)]
 
 mod caller;
+mod connections;
 mod copied;
 mod copies;
 mod network;
@@ -12,6 +13,7 @@ mod noting;
 mod progress;
 mod runs;
 mod status;
+mod telling;
 mod told;
 mod words;
 

@@ -1,5 +1,7 @@
 //! The runs over sockets: `loop`, `ask` and `serve`.
+use crate::connections::Connections;
 use crate::noting::Noting;
+use crate::telling::Telling;
 use crate::told::{tell_script, tell_served, tell_unopened};
 use chaos_file::DirStore;
 use chaos_link::{Carriage, Peer, Peers, UdpLink};
@@ -173,7 +175,7 @@ pub(crate) fn run_serve_line<R: AllocGlobal + Clock + Eprint + Files<File = File
         peers,
     } = line;
     let mut store = match store_at(rt, folder) {
-        Ok(store) => store,
+        Ok(store) => Telling::new(rt, store),
         Err(error) => return tell_unopened(rt, &folder, &error),
     };
     let mut link = match link_at(rt, socket, peers) {
@@ -192,6 +194,7 @@ pub(crate) fn run_serve_line<R: AllocGlobal + Clock + Eprint + Files<File = File
         config_of(window),
         u64::from(turns),
         carriage,
+        &mut Connections::new(rt, is_quiet),
     );
     tell_served(rt, &end, turns, is_quiet);
     serve_status(&end)

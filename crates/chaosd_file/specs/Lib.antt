@@ -9,3 +9,4 @@ pub mod Script
 pub mod Conversation
 pub mod Service
 pub mod Asking
+pub mod Watch

@@ -5,7 +5,9 @@ ghost use Rattle.chaosd_file.specs.Fault.{IsServiceFault};
 ghost use Rattle.chaosd_file.specs.Service.{Serves, ServesBy};
 
 use crate::clock::Beginning;
+use crate::log::{Log, Silent};
 use crate::server::Server;
+use crate::watch::Watch;
 use chaos_conn::ConnConfig;
 use chaos_file::Store;
 use chaos_link::{Carriage, Link};
@@ -43,14 +45,25 @@ pub fn run_serve<C: Clock, L: Link, S: Store>(
     ensures failed { result ≡ Err RunFault.LinkFault → 0 < L.count link.new }
 {
     let config = ConnConfig::usual();
-    run_serve_by(clock, alloc, link, store, me, config, turns, carriage)
+    run_serve_by(
+        clock,
+        alloc,
+        link,
+        store,
+        me,
+        config,
+        turns,
+        carriage,
+        &mut Silent,
+    )
 }
 
 /// Serves as [`run_serve`] does, by connections of this configuration: its windows say how many commands of a client may be in flight.
+/// The log is told of each connection that a turn opened or ended.
 ///
 /// # Errors
 /// Those of [`run_serve`].
-pub fn run_serve_by<C: Clock, L: Link, S: Store>(
+pub fn run_serve_by<C: Clock, L: Link, S: Store, G: Log>(
     clock: &C,
     alloc: Global,
     link: &mut L,
@@ -59,6 +72,7 @@ pub fn run_serve_by<C: Clock, L: Link, S: Store>(
     config: ConnConfig,
     turns: u64,
     carriage: Carriage,
+    log: &mut G,
 ) -> Result<(), RunFault>
     requires { 0 < me }
     ensures faults { IfErr result IsServiceFault }
@@ -70,6 +84,7 @@ pub fn run_serve_by<C: Clock, L: Link, S: Store>(
 {
     let beginning = Beginning::new(clock)?;
     let mut server = Server::new(alloc, me, config)?;
+    let mut watch = Watch::new();
     for turn in 0..turns {
         let now = beginning.moment(clock)?;
         let end = server.turn(
@@ -81,6 +96,7 @@ pub fn run_serve_by<C: Clock, L: Link, S: Store>(
             carriage,
             true,
         );
+        server.watch(&mut watch, log);
         if end == TurnEnd::LinkFault {
             return Err(RunFault::LinkFault);
         }

@@ -3,6 +3,8 @@ ghost use Rattle.std.specs.Prelude.{◌≡◌, ◌≤◌, ◌<◌, ◌↔◌, le
 ghost use Rattle.chaos_turn.specs.declared.limits.TheConstants.{TURN_ROOM};
 
 use crate::limits::SERVER_CONNS;
+use crate::log::Log;
+use crate::watch::Watch;
 use chaos_conn::ConnConfig;
 use chaos_file::Store;
 use chaos_host::Host;
@@ -26,11 +28,12 @@ pub struct Server {
 }
 
 impl Server {
-    ghost use Rattle.std.specs.Prelude.{[], replicate, IfOk};
+    ghost use Rattle.std.specs.Prelude.{[], min, replicate, IfOk};
     ghost use Rattle.chaos_file.specs.Store.{change};
     ghost use Rattle.chaos_packet.specs.Count.{Rose};
     ghost use Rattle.chaos_turn.specs.Sessions.{new_serving};
     ghost use Rattle.chaosd_file.specs.Service.{listening_host, service_of, ServesTurn};
+    ghost use Rattle.chaosd_file.specs.Watch.{watched, watched_slots};
 
     /// A server with this address, whose connections have this configuration.
     pub fn new(alloc: Global, address: u16, config: ConnConfig) -> Result<Self, RunFault>
@@ -87,5 +90,14 @@ impl Server {
             &mut self.buffer,
             may_wait,
         )
+    }
+
+    /// Looks at each slot, and tells of the connections that opened and ended since the last look.
+    pub fn watch<G: Log>(&self, watch: &mut Watch, log: &mut G)
+        ensures { watched watch.new.seen (G.told log.new) ≡ watched_slots self.now.host self.now.sessions (min SERVER_CONNS (length self.now.host.slots)) (watched watch.old.seen (G.told log.old)) }
+    {
+        for place in 0..SERVER_CONNS.min(self.host.conns()) {
+            watch.look(&self.host, &self.sessions, place, log);
+        }
     }
 }
