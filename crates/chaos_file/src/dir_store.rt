@@ -101,13 +101,7 @@ fn told_as<T: Drop>(
 }
 
 impl<R: Files> Folder<R> {
-    fn got(
-        &self,
-        alloc: Global,
-        path: &[u8],
-        limit: usize,
-        kept: &mut Option<io::Error>,
-    ) -> Got
+    fn got(&self, alloc: Global, path: &[u8], limit: usize, kept: &mut Option<io::Error>) -> Got
         ensures illegal { is_path path.now ≡ false → result ≡ Got.Failed }
         ensures limit { Gives (λ bytes. length bytes ≤ limit) result }
     {
@@ -135,7 +129,13 @@ impl<R: Files> Folder<R> {
         }
         match self.put(alloc, path, bytes) {
             Ok(()) => Stored::Done,
-            Err(fault) => told_as(fault, Stored::Failed, Stored::NoMemory, Stored::Failed, kept),
+            Err(fault) => told_as(
+                fault,
+                Stored::Failed,
+                Stored::NoMemory,
+                Stored::Failed,
+                kept,
+            ),
         }
     }
 
@@ -147,7 +147,13 @@ impl<R: Files> Folder<R> {
         }
         match self.remove(alloc, path) {
             Ok(()) => Removed::Done,
-            Err(fault) => told_as(fault, Removed::Absent, Removed::NoMemory, Removed::Failed, kept),
+            Err(fault) => told_as(
+                fault,
+                Removed::Absent,
+                Removed::NoMemory,
+                Removed::Failed,
+                kept,
+            ),
         }
     }
 
@@ -167,7 +173,13 @@ impl<R: Files> Folder<R> {
         match self.rename(alloc, old, new) {
             Ok(true) => Renamed::Done,
             Ok(false) => Renamed::Exists,
-            Err(fault) => told_as(fault, Renamed::Absent, Renamed::NoMemory, Renamed::Failed, kept),
+            Err(fault) => told_as(
+                fault,
+                Renamed::Absent,
+                Renamed::NoMemory,
+                Renamed::Failed,
+                kept,
+            ),
         }
     }
 }

@@ -3,9 +3,9 @@ use crate::connections::Connections;
 use crate::noting::Noting;
 use crate::telling::Telling;
 use crate::told::{tell_script, tell_served, tell_unopened};
+use chaos_conn::ConnConfig;
 use chaos_file::DirStore;
 use chaos_link::{Carriage, Peer, Peers, UdpLink};
-use chaosd_call::config_of;
 use chaosd_engines::RunFault;
 use chaosd_file::{
     LOOP_CLIENT, LOOP_SERVER, NOBODY, ScriptEnd, Why, run_ask, run_loop, run_serve_by,
@@ -191,7 +191,7 @@ pub(crate) fn run_serve_line<R: AllocGlobal + Clock + Eprint + Files<File = File
         &mut link,
         &mut store,
         address,
-        config_of(window),
+        ConnConfig::with_window(window),
         u64::from(turns),
         carriage,
         &mut Connections::new(rt, is_quiet),

@@ -1,13 +1,12 @@
 -- What is said and heard over a link, at the connection of a host.
-use Rattle.std.specs.Prelude.{◌≡◌, ◌<◌, ◌⊎◌, ℕ, Bool, false, if◌then◌else◌, nat_lt, List, [], codes, Option, Some, None, Result, Ok, Err}
+use Rattle.std.specs.Prelude.{◌≡◌, ◌<◌, ◌⊎◌, ℕ, Bool, false, if◌then◌else◌, nat_lt, List, [], codes, Option, Some, None}
 use Rattle.std.specs.Result.{result_ok}
 use Rattle.chaos_packet.specs.Opcode.{op_data}
 use Rattle.chaos_packet.specs.Outbox.{OutboxView, room_of, with_put}
 use Rattle.chaos_link.specs.Link.{QueueView}
 use Rattle.chaos_link.specs.declared.carriage.Carriage.{Carriage}
 use Rattle.chaos_conn.specs.Act.{Close, Read, Write}
-use Rattle.chaos_conn.specs.Config.{ConfigView, checked_config, config_view, usual_config}
-use Rattle.chaos_conn.specs.declared.fault.ConfigFault.{ConfigFault}
+use Rattle.chaos_conn.specs.Config.{config_with}
 use Rattle.chaos_host.specs.Acted.{HostActed}
 use Rattle.chaos_host.specs.Calls.{HostReply, host_end}
 use Rattle.chaos_host.specs.Connect.{ConnectAnswer, host_connect}
@@ -54,17 +53,9 @@ TurnsBy carriage before after c d = (d.id ≡ c.id) × ((now : ℕ) × TakesTurn
 
 -- ---- a call's beginning and end
 
-abbrev pub ok_or_usual : Result ConfigView ConfigFault → ConfigView
-ok_or_usual (Ok config) = config
-ok_or_usual (Err fault) = usual_config
-
--- both windows have so many packets; the times are the usual ones
-abbrev pub config_for : ℕ → ConfigView
-config_for window = ok_or_usual (checked_config (config_view window window 500 10000 90000))
-
 -- a host without a connection, which has used up so many indices
 abbrev pub new_caller : ℕ → ℕ → ℕ → ℕ → Caller
-new_caller me to window count = caller (after_passing to count (new_host me 1 (config_for window))) None (record { packets = []; cap = TURN_ROOM })
+new_caller me to window count = caller (after_passing to count (new_host me 1 (config_with window))) None (record { packets = []; cap = TURN_ROOM })
 
 abbrev pub close_of : ℕ → HostView → HostActed HostReply
 close_of id host = host_end host id (Close [])

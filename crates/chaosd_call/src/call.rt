@@ -9,7 +9,7 @@ ghost use Rattle.chaos_turn.specs.declared.limits.TheConstants.{TURN_ROOM};
 ghost use Rattle.chaosd_copy.specs.Talk.{after_hear, after_say};
 ghost use Rattle.chaosd_file.specs.Client.{call_by, data_read, is_over, is_wrote};
 ghost use Rattle.chaosd_file.specs.Fault.{IsTurnFault};
-ghost use Rattle.chaosd_call.specs.Call.{Connects, HangsUp, Hears, Says, TurnsBy, asked, caller, closed, config_for, new_caller};
+ghost use Rattle.chaosd_call.specs.Call.{Connects, HangsUp, Hears, Says, TurnsBy, asked, caller, closed, new_caller};
 
 use chaos_conn::{ConnConfig, ReadEnd};
 use chaos_file::Reply;
@@ -71,7 +71,7 @@ impl<'a, C: Clock, L: Link> Call<'a, C, L> {
         ensures server { IfOk result (λ call. (call.to ≡ to) × (call.carriage ≡ carriage)) }
     {
         let beginning = Beginning::new(clock)?;
-        let Ok(mut host) = Host::new(alloc, me, 1, config_of(window)) else {
+        let Ok(mut host) = Host::new(alloc, me, 1, ConnConfig::with_window(window)) else {
             return Err(RunFault::NoMemory);
         };
         let Ok(mut out) = Outbox::new(alloc, TURN_ROOM) else {
@@ -163,16 +163,6 @@ impl<'a, C: Clock, L: Link> Call<'a, C, L> {
             TurnEnd::LinkFault => Err(RunFault::LinkFault),
             _ => Ok(()),
         }
-    }
-}
-
-/// The usual configuration, with windows of so many packets, from 1 to 64. Any other number stands for the usual 13.
-pub fn config_of(window: u16) -> ConnConfig
-    ensures { result ≡ config_for window }
-{
-    match ConnConfig::new(window, window, 500, 10_000, 90_000) {
-        Ok(config) => config,
-        Err(_) => ConnConfig::usual(),
     }
 }
 

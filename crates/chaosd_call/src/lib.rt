@@ -3,4 +3,4 @@
 
 mod call;
 
-pub use call::{Call, config_of};
+pub use call::Call;

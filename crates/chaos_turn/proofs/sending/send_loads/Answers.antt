@@ -7,10 +7,11 @@ pub packets-preserved : goal.packets-preserved
 packets-preserved g c =
     let queue = g.L.Link.queue in
     elim c.if-not-join.branch [
-      then-not-join w ↦ rw w.link-is (rw w.load-is (one_begun (queue c.args.link.now) (queue c.packets.link) (queue w.send_load.new.link) c.args.out.now c.packets.out c.drop_front-in-Some-front.new.self
+      | then-not-join w ↦ rw w.link-is (rw w.load-is (one_begun (queue c.args.link.now) (queue c.packets.link) (queue w.send_load.new.link) c.args.out.now c.packets.out c.drop_front-in-Some-front.new.self
           c.packets.load c.join.new.self w.begin.new.self c.in-Some-front.packet.now c.packets.invariant (cc) c.drop_front-in-Some-front.ensures (cc) c.join.ensures.load w.send_load.ensures w.begin.ensures))
-    | else-not-join w ↦ rw w.link-is (rw w.load-is (one_joined (queue c.args.link.now) (queue c.packets.link) c.args.out.now c.packets.out c.drop_front-in-Some-front.new.self
-          c.packets.load c.join.new.self c.in-Some-front.packet.now c.packets.invariant (cc) c.drop_front-in-Some-front.ensures (cc) c.join.ensures.load)) ]
+      | else-not-join w ↦ rw w.link-is (rw w.load-is (one_joined (queue c.args.link.now) (queue c.packets.link) c.args.out.now c.packets.out c.drop_front-in-Some-front.new.self
+          c.packets.load c.join.new.self c.in-Some-front.packet.now c.packets.invariant (cc) c.drop_front-in-Some-front.ensures (cc) c.join.ensures.load))
+    ]
 
 pub returns-in_default-clause-empty : goal.returns-in_default-clause-empty
 returns-in_default-clause-empty g c = none_empty c.args.out.now (cc)
