@@ -236,7 +236,7 @@ def memory(checks):
         stdin=subprocess.PIPE,
         stdout=subprocess.PIPE,
         stderr=subprocess.PIPE,
-        preexec_fn=lambda: resource.setrlimit(resource.RLIMIT_AS, (24 << 20, 24 << 20)),
+        preexec_fn=lambda: resource.setrlimit(resource.RLIMIT_AS, (8 << 20, 8 << 20)),
     )
     out, err = process.communicate(script, timeout=PATIENCE)
     ended = program.Ended(process.returncode, out[-19:], err)
