@@ -121,15 +121,21 @@ def mixed_content(size):
 # Servers and clients.
 
 
+def is_free(port):
+    """Whether nobody has this port of 127.0.0.1."""
+    with socket.socket(socket.AF_INET, socket.SOCK_DGRAM) as one:
+        try:
+            one.bind(("127.0.0.1", port))
+        except OSError:
+            return False
+    return True
+
+
 def free_ports(count):
-    """Ports of 127.0.0.1 that nobody has."""
-    sockets = [socket.socket(socket.AF_INET, socket.SOCK_DGRAM) for _ in range(count)]
-    for each in sockets:
-        each.bind(("127.0.0.1", 0))
-    ports = [each.getsockname()[1] for each in sockets]
-    for each in sockets:
-        each.close()
-    return ports
+    """Ports of 127.0.0.1 that nobody has: none of those that the system hands out by itself, which another may have by the time
+    that it is bound."""
+    ports = random.sample(range(10_000, 32_000), 100)
+    return [port for port in ports if is_free(port)][:count]
 
 
 def at(port):

@@ -26,7 +26,7 @@ use std::marker::Model;
 /// - Packets from the network: [`Host::deliver`], which finds the connection, or takes a new request.
 /// - The tick: [`Host::tick`], called now and then for each slot, sends what is due there; [`Host::next_due`] says when
 ///   something is.
-/// - Looks, which change nothing: [`Host::state`], [`Host::announced`], [`Host::can_write`], [`Host::drained`],
+/// - Looks, which change nothing: [`Host::conn`], which lends the connection with all its looks, [`Host::state`], [`Host::announced`], [`Host::can_write`], [`Host::drained`],
 ///   [`Host::heard`] and [`Host::peer`] of a connection, [`Host::contact`] and [`Host::arguments`] of a request that it holds; [`Host::id_of`], [`Host::stored`], [`Host::config`] and [`Host::conns`] of the table.
 ///
 /// The order: `new`; then `listen` for each contact; then packets, ticks and the user's calls as they come. An index is told

@@ -9,7 +9,7 @@ use crate::fault::CallFault;
 use crate::host::Host;
 use crate::index::ConnId;
 use crate::slots::named;
-use chaos_conn::State;
+use chaos_conn::{Conn, State};
 use chaos_packet::Item;
 
 impl Host {
@@ -25,7 +25,15 @@ impl Host {
         }
     }
 
-    /// The state of a connection, and `NoSuchConnection` where none has this index; so it is with all calls here.
+    /// Lends a connection, with all its looks: one look into the table for as many of them as a caller wants.
+    /// `NoSuchConnection` where none has this index; so it is with all calls here.
+    pub fn conn(&self, id: ConnId) -> Result<&Conn, CallFault>
+        ensures { result_map_both (λ conn. conn.now) (λ fault. fault) result ≡ host_look self.now id (λ conn. conn) }
+    {
+        Ok(&named(&self.slots, id)?.conn)
+    }
+
+    /// The state of a connection.
     pub fn state(&self, id: ConnId) -> Result<State, CallFault>
         ensures { result ≡ host_look self.now id (λ conn. conn.state) }
     {

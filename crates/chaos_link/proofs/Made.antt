@@ -1,12 +1,13 @@
 -- The packet that is made of a datagram's bytes.
 use Rattle.std.proofs.Common.{◌≡◌, ℕ, ◌+◌, ◌*◌, ◌/◌, ◌<◌, ◌≤◌, List, length, get_or, take, drop, refl, arith, ap, ◌∙◌, sym, Some, None, Ok, length-drop}
-use Rattle.std.proofs.lemmas.List.{take-take, length-take-le}
+use Rattle.std.proofs.lemmas.List.{take-take, length-take-le, take_all}
 use Rattle.std.proofs.lemmas.Bool.Decides.{nat_tests}
 use Rattle.chaos_packet.specs.Packet.{PacketView}
 use Rattle.chaos_packet.specs.Words.{words_for, count_of, words_fault, halves, packet_with, packet_at}
 use Rattle.chaos_packet.specs.declared.fault.PacketFault.TheVariants.{Truncated}
 use Rattle.chaos_link.specs.Datagram.{words_of, fault_of, read_by, datagram_read}
-use Rattle.chaos_link.proofs.Words.{take-words_of, drop-words_of}
+use Rattle.chaos_packet.proofs.Pairs.{length-halves}
+use Rattle.chaos_link.proofs.Words.{length-words_of, take-words_of, drop-words_of}
 
 -- too few words for the count
 pub truncated : (ws : List ℕ) (n : ℕ) → n ≡ count_of ws → 8 ≤ length ws → n ≤ 488 → length ws < 8 + words_for n → words_fault ws ≡ Some Truncated
@@ -36,3 +37,7 @@ data_read ws part to n count behind long turned =
 -- so bytes without a fault are read as the packet behind the mark
 pub read_as : (p : PacketView) (bs ws : List ℕ) → fault_of bs ≡ None → ws ≡ drop 4 bs → p ≡ packet_at (words_of ws) → Ok p ≡ datagram_read bs
 read_as p bs ws none after packet = ap Ok (packet ∙ ap (λ l. packet_at (words_of l)) after) ∙ sym (ap (read_by bs) none)
+
+-- the halves of words are two bytes for each whole pair, and no more
+pub all_halves : (bs : List ℕ) → take (2 * (length bs / 2)) (halves (words_of bs)) ≡ halves (words_of bs)
+all_halves bs = take_all (2 * (length bs / 2)) (halves (words_of bs)) (omega (arith, length-halves (words_of bs), length-words_of bs))

@@ -1,7 +1,7 @@
 //! A packet from its bytes on a link.
-ghost use Rattle.std.specs.Prelude.{◌≡◌, ◌+◌, ◌*◌, ◌<◌, ◌≤◌, ℕ, IfOk, MatchResult, Ok, Some, None, drop, length, slice_index};
+ghost use Rattle.std.specs.Prelude.{◌≡◌, ◌+◌, ◌*◌, ◌/◌, ◌<◌, ◌≤◌, ℕ, IfOk, MatchResult, Ok, Some, None, drop, length, slice_index, take};
 ghost use Rattle.chaos_packet.specs.Packet.{PacketView};
-ghost use Rattle.chaos_packet.specs.Words.{words_for, count_of, words_fault, packet_at};
+ghost use Rattle.chaos_packet.specs.Words.{words_for, count_of, halves, words_fault, packet_at};
 ghost use Rattle.chaos_link.specs.Datagram.{Carries, IsDecidedByCarries, datagram_len, datagram_read, fault_of, words_of};
 
 use crate::fault::LinkFault;
@@ -71,6 +71,44 @@ pub(crate) fn packet_of(words: &[u8], count: usize) -> Packet
     turn_pairs(data, packet.body.as_mut_slice());
     packet.body.truncate(count);
     packet
+}
+
+/// The same into a place of the caller's, whatever packet stands there: what is longer than the data of both stays as it is, so
+/// that a packet that is read over others again and again costs its data and no more.
+#[inline(always)]
+pub(crate) fn read_over(words: &[u8], count: usize, packet: &mut Packet)
+    requires long { datagram_len count ≤ MARK_BYTES + length words.now }
+    requires count { count ≡ count_of (words_of words.now) }
+    requires small { count ≤ MAX_DATA }
+    ensures { packet.new ≡ packet_at (words_of words.now) }
+{
+    let (_, data) = words.split_at(2 * HEADER_WORDS);
+    let (data, _) = data.split_at(2 * ((count + 1) / 2));
+    packet.op = Opcode((word_at(words, 0) / 256) as u8);
+    packet.fwd = (word_at(words, 1) / 4096) as u8;
+    packet.dst = word_at(words, 2);
+    packet.dst_index = word_at(words, 3);
+    packet.src = word_at(words, 4);
+    packet.src_index = word_at(words, 5);
+    packet.num = PktNum(word_at(words, 6));
+    packet.ack = PktNum(word_at(words, 7));
+    turn_over(data, count, &mut packet.body);
+}
+
+/// Puts so many bytes in place of a body: those of the words, each turned round.
+#[inline(always)]
+fn turn_over(from: &[u8], count: usize, body: &mut ArrayVec<u8, MAX_DATA>)
+    requires fits { length from.now ≤ MAX_DATA }
+    requires count { count ≤ 2 * (length from.now / 2) }
+    ensures { body.new.items ≡ take count (halves (words_of from.now)) }
+{
+    let had = body.len();
+    if had < from.len() {
+        // Room for what is turned: whatever stands there is written over.
+        let _fits = body.try_extend_from_slice(&from[had..]);
+    }
+    turn_pairs(from, body.as_mut_slice());
+    body.truncate(count);
 }
 
 /// How many data bytes the datagram's packet has, where it is one: what the checks make of the bytes, in their order.

@@ -1,10 +1,11 @@
 //! The packets of a datagram of either version.
-ghost use Rattle.std.specs.Prelude.{◌≡◌, ◌+◌, ◌-◌, ◌*◌, ◌/◌, ◌≤◌, [], ℕ, List, IfOk, MatchResult, Ok, Err, Some, None, true, drop, length, slice_get, slice_index};
+ghost use Rattle.std.specs.Prelude.{◌≡◌, ◌+◌, ◌-◌, ◌*◌, ◌/◌, ◌≤◌, [], ℕ, List, IfOk, IfSome, MatchResult, Ok, Err, Some, None, true, false, drop, if◌then◌else◌, length, option_map, slice_get, slice_index};
 ghost use Rattle.chaos_packet.specs.Packet.{PacketView};
-ghost use Rattle.chaos_link.specs.Datagram.{words_of};
+ghost use Rattle.chaos_packet.specs.Words.{count_of, packet_at};
+ghost use Rattle.chaos_link.specs.Datagram.{datagram_len, words_of};
 ghost use Rattle.chaos_link.specs.Packets.{AtMostOneList, CarriesAll, IsDecidedByCarriesAll, packets_len, packets_fault, fault_of_all, fault_of_two, is_two, number_of, packets_at, packets_read};
 
-use crate::datagram::{MARK, checked_count, data_count, packet_of};
+use crate::datagram::{MARK, checked_count, data_count, packet_of, read_over};
 use crate::fault::LinkFault;
 use crate::limits::{MARK_BYTES, MAX_BUNDLE, MAX_PACKETS};
 use arrayvec::ArrayVec;
@@ -44,6 +45,34 @@ impl<'a> Packets<'a> {
         ensures packet { result ≡ slice_get self.old 0 }
         ensures rest { self.new ≡ drop 1 self.old }
     {
+        let (words, count) = self.step()?;
+        Some(packet_of(words, count))
+    }
+
+    /// Takes the next packet out into a place of the caller's, whatever packet stands there, and says whether there was one: a
+    /// caller who takes one after the other keeps one place for all of them, and pays for the data alone. Where none is left,
+    /// the place stays as it is.
+    pub fn next_into(&mut self, packet: &mut Packet) -> bool
+        ensures packet { (if result then Some packet.new else None) ≡ slice_get self.old 0 }
+        ensures none { result ≡ false → packet.new ≡ packet.old }
+        ensures rest { self.new ≡ drop 1 self.old }
+    {
+        let Some((words, count)) = self.step() else {
+            return false;
+        };
+        read_over(words, count, packet);
+        true
+    }
+
+    /// Steps over the next packet: the words that it begins, and how many data bytes it has.
+    #[inline(always)]
+    fn step(&mut self) -> Option<(&'a [u8], usize)>
+        ensures packet { option_map (λ at. packet_at (words_of at.0.now)) result ≡ slice_get self.old 0 }
+        ensures count { IfSome result (λ at. at.1 ≡ count_of (words_of at.0.now)) }
+        ensures small { IfSome result (λ at. at.1 ≤ MAX_DATA) }
+        ensures long { IfSome result (λ at. datagram_len at.1 ≤ MARK_BYTES + length at.0.now) }
+        ensures rest { self.new ≡ drop 1 self.old }
+    {
         if self.left == 0 {
             return None;
         }
@@ -54,7 +83,7 @@ impl<'a> Packets<'a> {
         let (_, behind) = words.split_at(packet_bytes(count));
         self.words = behind;
         self.left -= 1;
-        Some(packet_of(words, count))
+        Some((words, count))
     }
 }
 

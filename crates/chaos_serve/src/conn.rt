@@ -3,22 +3,13 @@ ghost use Rattle.std.specs.Prelude.{◌≡◌, ◌≤◌};
 ghost use Rattle.chaos_packet.specs.Outbox.{room_of};
 ghost use Rattle.chaos_file.specs.Store.{change};
 ghost use Rattle.chaos_serve.specs.Serve.{ActsTwice, ServesConn, after_reply, after_eof};
-ghost use Rattle.chaos_serve.specs.Task.{work_in};
-ghost use Rattle.chaos_serve.specs.Work.{work_of};
 
 use crate::served::Served;
-use crate::task::{Task, task_by};
+use crate::task::{Task, task_of};
 use chaos_conn::Conn;
 use chaos_file::{Session, Store};
 use chaos_packet::{Opcode, Outbox};
 use std::alloc::Global;
-
-/// What is to be done at an end.
-fn task_of(conn: &Conn) -> Task<'_>
-    ensures { work_in result ≡ work_of conn.now }
-{
-    task_by(conn.state(), conn.front(), conn.can_write())
-}
 
 /// Reads the command in front, and writes its reply.
 #[tactic(auto, using(crate::proofs::Twice::put_twice, crate::proofs::Twice::length_both))]

@@ -1,15 +1,14 @@
 //! FILE over one of a host's connections.
-ghost use Rattle.std.specs.Prelude.{◌≡◌, ◌≤◌, option_map, true, Some};
+ghost use Rattle.std.specs.Prelude.{◌≡◌, ◌≤◌, option_map};
 ghost use Rattle.chaos_packet.specs.Outbox.{room_of};
 ghost use Rattle.chaos_file.specs.Store.{change};
 ghost use Rattle.chaos_host.specs.Acted.{HostDoes};
 ghost use Rattle.chaos_serve.specs.Calls.{DoesWorkByCalls, after_eof_at, after_reply_at, work_at};
 ghost use Rattle.chaos_serve.specs.Host.{ServesOne};
 ghost use Rattle.chaos_serve.specs.Task.{work_in};
-ghost use Rattle.chaos_serve.specs.Work.{Nothing};
 
 use crate::served::Served;
-use crate::task::{Task, task_by};
+use crate::task::{Task, task_of};
 use chaos_file::{Reply, Session, Store};
 use chaos_host::{ConnId, Host};
 use chaos_packet::{Opcode, Outbox};
@@ -19,16 +18,8 @@ use std::alloc::Global;
 pub(crate) fn task_at(host: &Host, id: ConnId) -> Option<Task<'_>>
     ensures { option_map (λ task. work_in task) result ≡ work_at host.now id }
 {
-    let Ok(state) = host.state(id) else {
-        return None;
-    };
-    let Ok(front) = host.front(id) else {
-        return None;
-    };
-    let Ok(can_write) = host.can_write(id) else {
-        return None;
-    };
-    Some(task_by(state, front, can_write))
+    let conn = host.conn(id).ok()?;
+    Some(task_of(conn))
 }
 
 /// Reads the command in front, and writes its reply.
@@ -51,18 +42,8 @@ fn finish_at(host: &mut Host, id: ConnId, out: &mut Outbox) -> Served
     Served::Eof
 }
 
-/// Whether nothing is in front of a connection that is open.
-fn is_idle(host: &Host, id: ConnId) -> bool
-    ensures { result ≡ true → work_at host.now id ≡ Some Nothing }
-{
-    match task_at(host, id) {
-        Some(Task::Nothing) => true,
-        _ => false,
-    }
-}
-
-/// Serves the item in front of a connection, by calls of the host. One that has none is passed over before there is room for a
-/// reply.
+/// Serves the item in front of a connection, by calls of the host. It has no room of a reply of its own, so that a connection
+/// with nothing in front is passed over by one look.
 fn serve_by_calls<S: Store>(
     alloc: Global,
     host: &mut Host,
@@ -71,26 +52,7 @@ fn serve_by_calls<S: Store>(
     store: &mut S,
     now: u64,
     out: &mut Outbox,
-) -> Served
-    requires { 2 ≤ room_of out.old }
-    ensures { DoesWorkByCalls (change S.contents S.may_give S.count store.old store.new) session.old session.new
-        (λ acted. HostDoes host.old 2 acted host.new out.old out.new result) host.old id now (work_at host.old id) }
-{
-    if is_idle(host, id) {
-        return Served::Idle;
-    }
-    serve_item(alloc, host, id, session, store, now, out)
-}
-
-/// Does what is to be done at a connection, by calls of the host.
-fn serve_item<S: Store>(
-    alloc: Global,
-    host: &mut Host,
-    id: ConnId,
-    session: &mut Session,
-    store: &mut S,
-    now: u64,
-    out: &mut Outbox,
+    reply: &mut Reply,
 ) -> Served
     requires { 2 ≤ room_of out.old }
     ensures { DoesWorkByCalls (change S.contents S.may_give S.count store.old store.new) session.old session.new
@@ -105,8 +67,7 @@ fn serve_item<S: Store>(
         Task::Full => Served::NoRoom,
         Task::LastItem => finish_at(host, id, out),
         Task::Command(body) => {
-            let mut reply = Reply::new();
-            session.apply_into(alloc, store, body, &mut reply);
+            session.apply_into(alloc, store, body, reply);
             answer_at(host, id, reply.as_slice(), now, out)
         }
     }
@@ -129,5 +90,25 @@ pub fn serve_one<S: Store>(
     ensures { ServesOne (change S.contents S.may_give S.count store.old store.new) session.old session.new
         host.old id now host.new out.old out.new result }
 {
-    serve_by_calls(alloc, host, id, session, store, now, out)
+    let mut reply = Reply::new();
+    serve_one_by(alloc, host, id, session, store, now, out, &mut reply)
+}
+
+/// The same with a room for the reply that its caller keeps, whatever it holds: one that serves many connections makes it once.
+/// What it holds afterwards no clause says.
+pub fn serve_one_by<S: Store>(
+    alloc: Global,
+    host: &mut Host,
+    id: ConnId,
+    session: &mut Session,
+    store: &mut S,
+    now: u64,
+    out: &mut Outbox,
+    reply: &mut Reply,
+) -> Served
+    requires { 2 ≤ room_of out.old }
+    ensures { ServesOne (change S.contents S.may_give S.count store.old store.new) session.old session.new
+        host.old id now host.new out.old out.new result }
+{
+    serve_by_calls(alloc, host, id, session, store, now, out, reply)
 }

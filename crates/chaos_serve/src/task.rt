@@ -2,9 +2,9 @@
 ghost use Rattle.std.specs.Prelude.{◌≡◌};
 ghost use Rattle.std.specs.Option.{option_copied};
 ghost use Rattle.chaos_serve.specs.Task.{work_in};
-ghost use Rattle.chaos_serve.specs.Work.{work_by};
+ghost use Rattle.chaos_serve.specs.Work.{work_by, work_of};
 
-use chaos_conn::State;
+use chaos_conn::{Conn, State};
 use chaos_packet::{Item, Kind};
 
 /// What is to be done at an end. A command's bytes are lent from where the connection holds them.
@@ -32,4 +32,11 @@ pub(crate) fn task_by(state: State, front: Option<&Item>, can_write: bool) -> Ta
         _ if can_write => Task::Command(item.bytes()),
         _ => Task::Full,
     }
+}
+
+/// What is to be done at an end.
+pub(crate) fn task_of(conn: &Conn) -> Task<'_>
+    ensures { work_in result ≡ work_of conn.now }
+{
+    task_by(conn.state(), conn.front(), conn.can_write())
 }

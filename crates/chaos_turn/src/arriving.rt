@@ -88,7 +88,8 @@ fn greet_all<L: Link>(
     ensures { DoesPhase carriage (over_packets (greet start now) packets.entry host.old) (station host.old (L.queue link.old) out.old) (station host.new (L.queue link.new) out.new) result }
 {
     let mut sent = false;
-    'packets: while let Some(packet) = packets.next() {
+    let mut packet = Packet::default();
+    'packets: while packets.next_into(&mut packet) {
         sent = greet(host, &packet, link, start, now, out, carriage) || sent;
     }
     sent
@@ -150,7 +151,8 @@ fn deliver_all<L: Link>(
     ensures told { told.new ≡ told_after told.old packets.entry now host.old }
 {
     let mut sent = false;
-    'packets: while let Some(packet) = packets.next() {
+    let mut packet = Packet::default();
+    'packets: while packets.next_into(&mut packet) {
         sent = deliver(host, &packet, link, now, out, told, carriage) || sent;
     }
     sent

@@ -29,10 +29,13 @@ fn close_slot<L: Link>(
     requires empty { out.old.packets ≡ [] }
     ensures { DoesPhase carriage (close_at sessions.now place host.old) (station host.old (L.queue link.old) out.old) (station host.new (L.queue link.new) out.new) result }
 {
+    if !sessions.kept[place].eof {
+        return false;
+    }
     let Some(id) = host.id_of(place) else {
         return false;
     };
-    if !sessions.kept[place].eof || host.drained(id) != Ok(true) {
+    if host.drained(id) != Ok(true) {
         return false;
     }
     let _ = host.close(id, b"", out);
@@ -76,6 +79,12 @@ fn release_slot<L: Link>(
     let Some(id) = host.id_of(place) else {
         return false;
     };
+    let Ok(conn) = host.conn(id) else {
+        return false;
+    };
+    if !conn.state().is_ended() {
+        return false;
+    }
     let _ = host.release(id, out);
     send_all(link, out, carriage)
 }

@@ -9,11 +9,11 @@ ghost use Rattle.chaos_turn.specs.Station.{server, station};
 use crate::limits::TURN_ROOM;
 use crate::sending::send_all;
 use crate::sessions::{Kept, Sessions};
-use chaos_file::Store;
+use chaos_file::{Reply, Store};
 use chaos_host::{ConnId, Host};
 use chaos_link::{Carriage, Link};
 use chaos_packet::Outbox;
-use chaos_serve::serve_one;
+use chaos_serve::serve_one_by;
 use std::alloc::Global;
 
 /// Serves a connection once by a slot's session, which is a new one where it served another connection before.
@@ -25,13 +25,15 @@ fn serve_kept<S: Store>(
     store: &mut S,
     now: u64,
     out: &mut Outbox,
+    reply: &mut Reply,
 )
     requires { 2 ≤ room_of out.old }
     ensures { SessionServes (change S.contents S.may_give S.count store.old store.new) now id (serving_of id kept.old)
         (λ serving acted. DoesKept serving kept.new host.old acted host.new out.old out.new) host.old }
 {
     kept.turn_to(id);
-    let served = serve_one(alloc, host, id, &mut kept.session, store, now, out);
+    let session = &mut kept.session;
+    let served = serve_one_by(alloc, host, id, session, store, now, out, reply);
     kept.note(served);
 }
 
@@ -59,7 +61,8 @@ fn serve_slot<S: Store, L: Link>(
         return false;
     };
     let kept = &mut sessions.kept[place];
-    serve_kept(alloc, host, id, kept, store, now, out);
+    let reply = &mut sessions.reply;
+    serve_kept(alloc, host, id, kept, store, now, out, reply);
     send_all(link, out, carriage)
 }
 

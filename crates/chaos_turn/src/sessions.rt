@@ -2,7 +2,7 @@
 ghost use Rattle.std.specs.Prelude.{◌≡◌, ◌<◌, IfOk, length, option_map, replicate};
 ghost use Rattle.chaos_turn.specs.Sessions.{Serving, new_serving, serving_at, serving_of, eof_after};
 
-use chaos_file::Session;
+use chaos_file::{Reply, Session};
 use chaos_host::ConnId;
 use chaos_serve::Served;
 use std::alloc::{AllocError, Global};
@@ -33,6 +33,8 @@ impl Model for Kept {
 #[derive(Drop)]
 pub struct Sessions {
     pub(crate) kept: Vec<Kept>,
+    /// The room in which each reply is made, one for all slots; no contract sees it.
+    pub(crate) reply: Reply,
 }
 
 impl Model for Sessions {
@@ -57,7 +59,10 @@ impl Sessions {
         for i in 0..conns {
             kept.push(Kept::new(None))?;
         }
-        Ok(Sessions { kept })
+        Ok(Sessions {
+            kept,
+            reply: Reply::new(),
+        })
     }
 
     /// The number of slots for which it has a session.

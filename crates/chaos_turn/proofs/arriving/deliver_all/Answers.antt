@@ -1,4 +1,4 @@
-use Rattle.std.proofs.Common.{◌∙◌, refl, sym}
+use Rattle.std.proofs.Common.{Bool, if◌then◌else◌, Some, None, ap, ◌∙◌, refl, sym}
 use Rattle.chaos_turn.specs.Arrive.{deliver_effect}
 use Rattle.chaos_turn.specs.Station.{station}
 use Rattle.chaos_turn.proofs.Several.{either_false, either_true, none_taken, one_more_taken, told_more}
@@ -11,11 +11,11 @@ pub packets-preserved-then-deliver : goal.packets-preserved-then-deliver
 packets-preserved-then-deliver g c =
     let link = g.L.Link.queue in
     let done = c.deliver in
-    let first = sym c.next.ensures.packet ∙ c.in-Some.is in (
-      rw c.next.ensures.rest (one_more_taken c.args.carriage (deliver_effect c.args.now) c.args.packets c.packets.packets c.in-Some.packet
+    let first = sym c.next_into.ensures.packet ∙ ap (λ (b : Bool). if b then Some c.next_into.new.packet else None) c.packets-test.true in (
+      rw c.next_into.ensures.rest (one_more_taken c.args.carriage (deliver_effect c.args.now) c.args.packets c.packets.packets c.next_into.new.packet
           (station c.args.host.now (link c.args.link.now) c.args.out.now) (station c.packets.host (link c.packets.link) c.packets.out) (station done.new.host (link done.new.link) done.new.out)
           c.packets.sent done.result done.result c.packets.invariant.0 first done.ensures.phase (either_true done.result c.packets.sent c.if-deliver.true)),
-      told_more c.packets.told done.new.told c.packets.packets c.next.new.self c.in-Some.packet c.args.now c.packets.host done.new.host first c.next.ensures.rest done.ensures.told done.ensures.phase.host
+      told_more c.packets.told done.new.told c.packets.packets c.next_into.new.self c.next_into.new.packet c.args.now c.packets.host done.new.host first c.next_into.ensures.rest done.ensures.told done.ensures.phase.host
           ∙ c.packets.invariant.1,
     )
 
@@ -23,10 +23,10 @@ pub packets-preserved : goal.packets-preserved
 packets-preserved g c =
     let link = g.L.Link.queue in
     let done = c.deliver in
-    let first = sym c.next.ensures.packet ∙ c.in-Some.is in (
-      rw c.next.ensures.rest (one_more_taken c.args.carriage (deliver_effect c.args.now) c.args.packets c.packets.packets c.in-Some.packet
+    let first = sym c.next_into.ensures.packet ∙ ap (λ (b : Bool). if b then Some c.next_into.new.packet else None) c.packets-test.true in (
+      rw c.next_into.ensures.rest (one_more_taken c.args.carriage (deliver_effect c.args.now) c.args.packets c.packets.packets c.next_into.new.packet
           (station c.args.host.now (link c.args.link.now) c.args.out.now) (station c.packets.host (link c.packets.link) c.packets.out) (station done.new.host (link done.new.link) done.new.out)
           c.packets.sent done.result c.packets.sent c.packets.invariant.0 first done.ensures.phase (either_false done.result c.packets.sent c.if-deliver.false)),
-      told_more c.packets.told done.new.told c.packets.packets c.next.new.self c.in-Some.packet c.args.now c.packets.host done.new.host first c.next.ensures.rest done.ensures.told done.ensures.phase.host
+      told_more c.packets.told done.new.told c.packets.packets c.next_into.new.self c.next_into.new.packet c.args.now c.packets.host done.new.host first c.next_into.ensures.rest done.ensures.told done.ensures.phase.host
           ∙ c.packets.invariant.1,
     )

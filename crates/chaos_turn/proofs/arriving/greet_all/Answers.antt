@@ -1,4 +1,4 @@
-use Rattle.std.proofs.Common.{◌∙◌, sym}
+use Rattle.std.proofs.Common.{Bool, if◌then◌else◌, Some, None, ap, ◌∙◌, sym}
 use Rattle.chaos_turn.specs.Arrive.{greet}
 use Rattle.chaos_turn.specs.Station.{station}
 use Rattle.chaos_turn.proofs.Several.{either_false, either_true, none_taken, one_more_taken}
@@ -10,13 +10,13 @@ packets-init g c = none_taken c.args.carriage (greet c.args.start c.args.now) c.
 pub packets-preserved-then-greet : goal.packets-preserved-then-greet
 packets-preserved-then-greet g c =
     let link = g.L.Link.queue in
-    rw c.next.ensures.rest (one_more_taken c.args.carriage (greet c.args.start c.args.now) c.args.packets c.packets.packets c.in-Some.packet
+    rw c.next_into.ensures.rest (one_more_taken c.args.carriage (greet c.args.start c.args.now) c.args.packets c.packets.packets c.next_into.new.packet
     (station c.args.host.now (link c.args.link.now) c.args.out.now) (station c.packets.host (link c.packets.link) c.packets.out) (station c.greet.new.host (link c.greet.new.link) c.greet.new.out)
-    c.packets.sent c.greet.result c.greet.result c.packets.invariant (sym c.next.ensures.packet ∙ c.in-Some.is) c.greet.ensures (either_true c.greet.result c.packets.sent c.if-greet.true))
+    c.packets.sent c.greet.result c.greet.result c.packets.invariant (sym c.next_into.ensures.packet ∙ ap (λ (b : Bool). if b then Some c.next_into.new.packet else None) c.packets-test.true) c.greet.ensures (either_true c.greet.result c.packets.sent c.if-greet.true))
 
 pub packets-preserved : goal.packets-preserved
 packets-preserved g c =
     let link = g.L.Link.queue in
-    rw c.next.ensures.rest (one_more_taken c.args.carriage (greet c.args.start c.args.now) c.args.packets c.packets.packets c.in-Some.packet
+    rw c.next_into.ensures.rest (one_more_taken c.args.carriage (greet c.args.start c.args.now) c.args.packets c.packets.packets c.next_into.new.packet
     (station c.args.host.now (link c.args.link.now) c.args.out.now) (station c.packets.host (link c.packets.link) c.packets.out) (station c.greet.new.host (link c.greet.new.link) c.greet.new.out)
-    c.packets.sent c.greet.result c.packets.sent c.packets.invariant (sym c.next.ensures.packet ∙ c.in-Some.is) c.greet.ensures (either_false c.greet.result c.packets.sent c.if-greet.false))
+    c.packets.sent c.greet.result c.packets.sent c.packets.invariant (sym c.next_into.ensures.packet ∙ ap (λ (b : Bool). if b then Some c.next_into.new.packet else None) c.packets-test.true) c.greet.ensures (either_false c.greet.result c.packets.sent c.if-greet.false))
