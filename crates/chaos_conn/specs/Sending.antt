@@ -1,10 +1,12 @@
 -- The packets that an end sends.
 use Rattle.std.specs.Prelude.{ℕ, ◌==◌, Bool, true, false, if◌then◌else◌, List, [], ◌∷◌, length, unwrap_or}
+use Rattle.chaos_packet.specs.Header.{packet_of}
 use Rattle.chaos_packet.specs.Number.{num}
 use Rattle.chaos_packet.specs.Item.{ItemView}
 use Rattle.chaos_packet.specs.Opcode.{op_sns, op_sts, kind_of, is_rfc}
 use Rattle.chaos_packet.specs.Packet.{PacketView}
 use Rattle.chaos_packet.specs.Words.{halves}
+use Rattle.chaos_packet.specs.declared.header.Header.{Header}
 use Rattle.chaos_packet.specs.declared.opcode.Kind.{Kind}
 use Rattle.chaos_packet.specs.declared.opcode.Kind.TheVariants as kind
 use Rattle.chaos_window.specs.Send.{after_push, next_of}
@@ -21,19 +23,21 @@ carries_ack kind.Eof = true
 carries_ack kind.Data = true
 carries_ack _ = false
 
--- a packet from this end to its peer: it was not forwarded, and its destination index is 0 where the peer's is not known
-abbrev pub packet_to_peer : ConnView → ℕ → ℕ → ℕ → List ℕ → PacketView
-packet_to_peer v op number ack body = record {
+-- the header of a packet from this end to its peer: its destination index is 0 where the peer's is not known
+abbrev pub header_to_peer : ConnView → ℕ → ℕ → ℕ → Header
+header_to_peer v op number ack = record {
   op = op;
-  fwd = 0;
   dst = v.peer;
   dst_index = unwrap_or v.peer_index 0;
   src = v.me.address;
   src_index = v.me.index;
   num = number;
   ack = ack;
-  body = body;
 }
+
+-- a packet from this end to its peer, which was not forwarded
+abbrev pub packet_to_peer : ConnView → ℕ → ℕ → ℕ → List ℕ → PacketView
+packet_to_peer v op number ack body = packet_of (header_to_peer v op number ack) body
 
 -- an uncontrolled packet, which has no number and tells nothing
 abbrev pub untelling_packet : ConnView → ℕ → List ℕ → PacketView

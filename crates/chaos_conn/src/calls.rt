@@ -74,7 +74,7 @@ impl Conn {
         if bytes.len() > MAX_DATA {
             return Err(ConnFault::TooLong);
         }
-        out.put(self.untelling_packet(Opcode::UNC, bytes));
+        self.put_untelling(Opcode::UNC, bytes, out);
         Ok(())
     }
 
@@ -113,7 +113,7 @@ impl Conn {
             return Err(ConnFault::TooLong);
         }
         if self.state.tells_close() {
-            out.put(self.untelling_packet(Opcode::CLS, text));
+            self.put_untelling(Opcode::CLS, text, out);
         }
         self.reset();
         Ok(())

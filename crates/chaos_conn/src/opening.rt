@@ -194,7 +194,7 @@ impl Conn {
         if !self.state.is_requested() {
             return Err(ConnFault::WrongState);
         }
-        out.put(self.untelling_packet(op, bytes));
+        self.put_untelling(op, bytes, out);
         self.reset();
         Ok(())
     }

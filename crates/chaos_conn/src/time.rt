@@ -1,5 +1,5 @@
 //! What is due at a moment.
-ghost use Rattle.std.specs.Prelude.{◌≡◌, ◌<◌, ◌≤◌, length};
+ghost use Rattle.std.specs.Prelude.{◌≡◌, ◌<◌, ◌≤◌, [], ◌∷◌, length};
 ghost use Rattle.chaos_packet.specs.Outbox.{with_put, room_of};
 ghost use Rattle.chaos_conn.specs.Sending.{all_kept, item_packet, carries_ack};
 ghost use Rattle.chaos_packet.specs.Opcode.{kind_of};
@@ -11,7 +11,7 @@ use crate::answers::Ticked;
 use crate::conn::Conn;
 use crate::sending::carries_ack;
 use crate::state::State;
-use chaos_packet::{Item, Outbox, Packet, PktNum};
+use chaos_packet::{Item, Outbox, PktNum};
 use chaos_window::SendWindow;
 
 /// What may be due at a moment. The definition of a tick goes by it, so it is public to the definitions of crates above.
@@ -106,7 +106,7 @@ impl Conn {
         requires { 0 < room_of out.old }
         ensures { Acts self.old (ticked_by Due.Probe self.old) self.new out.old out.new result }
     {
-        out.put(self.sns());
+        self.put_sns(out);
         self.probed = self.last;
         self.untold = 0;
         Ticked::Probed
@@ -121,16 +121,17 @@ impl Conn {
         let send = &self.send;
         let mut num = send.receipted().next();
         for i in 0..send.unreceipted() as usize {
-            out.put(self.kept_packet(num, send.kept(i).unwrap()));
+            self.put_again(num, send.kept(i).unwrap(), out);
             num = num.next();
         }
     }
 
-    /// A kept item as a packet, with the present acknowledgement where it carries one.
-    fn kept_packet(&self, num: PktNum, item: &Item) -> Packet
-        ensures { result ≡ item_packet self.now num item.now }
+    /// Puts a kept item out, with the present acknowledgement where it carries one.
+    fn put_again(&self, num: PktNum, item: &Item, out: &mut Outbox)
+        requires { 0 < room_of out.old }
+        ensures { out.new ≡ with_put out.old (item_packet self.now num item.now ∷ []) }
     {
-        self.item_packet(num, item.op, item.bytes())
+        self.put_item(num, item.op, item.bytes(), out);
     }
 }
 

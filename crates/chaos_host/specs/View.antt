@@ -54,6 +54,14 @@ id_in place (Some slot) = if is_used slot then Some (index_of place slot) else N
 abbrev pub id_at : HostView → ℕ → Option ℕ
 id_at v place = id_in place (slice_get v.slots place)
 
+-- the connection in a slot and its index, where the slot is in use
+abbrev pub conn_in : ℕ → Option Slot → Option (ℕ × ConnView)
+conn_in place None = None
+conn_in place (Some slot) = if is_used slot then Some (index_of place slot, slot.conn) else None
+
+abbrev pub conn_at : HostView → ℕ → Option (ℕ × ConnView)
+conn_at v place = conn_in place (slice_get v.slots place)
+
 -- the own end of the connection in a slot
 abbrev pub own_end : HostView → ℕ → Slot → End
 own_end v place slot = record { address = v.address; index = index_of place slot }

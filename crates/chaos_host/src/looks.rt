@@ -1,9 +1,9 @@
 //! What a host shows of its connections.
-ghost use Rattle.std.specs.Prelude.{◌≡◌};
+ghost use Rattle.std.specs.Prelude.{◌≡◌, option_map, IfSome, Ok};
 ghost use Rattle.std.specs.Option.{option_copied};
 ghost use Rattle.std.specs.Result.{result_map_both};
 ghost use Rattle.chaos_conn.specs.Calls.{can_write, front_of, is_drained, peer_of};
-ghost use Rattle.chaos_host.specs.View.{id_at, host_look};
+ghost use Rattle.chaos_host.specs.View.{conn_at, id_at, host_look};
 
 use crate::fault::CallFault;
 use crate::host::Host;
@@ -23,6 +23,21 @@ impl Host {
         } else {
             Some(used.index_at(slot))
         }
+    }
+
+    /// The connection in a slot, lent with all its looks, and its index; none for a free slot or a place without a slot. So who
+    /// walks over the slots looks into the table once for each.
+    pub fn conn_at(&self, slot: usize) -> Option<(ConnId, &Conn)>
+        ensures conn { option_map (λ at. (at.0, at.1.now)) result ≡ conn_at self.now slot }
+        // It is the one that `id_of` tells, and that its index names.
+        ensures index { option_map (λ at. at.0) result ≡ id_at self.now slot }
+        ensures named { IfSome result (λ at. host_look self.now at.0 (λ conn. conn) ≡ Ok at.1.now) }
+    {
+        let used = self.slots.get(slot)?;
+        if used.is_free() {
+            return None;
+        }
+        Some((used.index_at(slot), &used.conn))
     }
 
     /// Lends a connection, with all its looks: one look into the table for as many of them as a caller wants.

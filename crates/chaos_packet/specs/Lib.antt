@@ -1,5 +1,6 @@
 pub mod Begins
 pub mod Count
+pub mod Header
 pub mod Item
 pub mod Number
 pub mod Opcode

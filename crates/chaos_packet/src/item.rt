@@ -66,7 +66,7 @@ pub fn body_of(bytes: &[u8]) -> ArrayVec<u8, MAX_DATA>
 }
 
 /// Makes these the data, by a copy over what lies there.
-fn overwrite_body(body: &mut ArrayVec<u8, MAX_DATA>, bytes: &[u8])
+pub(crate) fn overwrite_body(body: &mut ArrayVec<u8, MAX_DATA>, bytes: &[u8])
     requires { length bytes.now ≤ MAX_DATA }
     ensures { body.new.items ≡ bytes.now }
 {

@@ -5,17 +5,20 @@
 #![tactic(auto)]
 
 mod fault;
+mod header;
 mod item;
 mod limits;
 mod number;
 mod opcode;
 mod outbox;
 mod packet;
+mod place;
 mod reading;
 mod request;
 mod writing;
 
 pub use fault::PacketFault;
+pub use header::Header;
 pub use item::{Item, body_of};
 pub use limits::{HEADER_WORDS, MAX_DATA, MAX_FORWARDS, MAX_WORDS, law_limits};
 pub use number::PktNum;

@@ -1,9 +1,10 @@
 //! Whether there is something to serve.
-ghost use Rattle.std.specs.Prelude.{◌≡◌};
-ghost use Rattle.chaos_serve.specs.Calls.{can_serve};
+ghost use Rattle.std.specs.Prelude.{◌≡◌, Some};
+ghost use Rattle.chaos_serve.specs.Calls.{can_serve, is_served};
+ghost use Rattle.chaos_serve.specs.Work.{work_of};
 
-use crate::host::task_at;
-use crate::task::Task;
+use crate::task::{Task, task_of};
+use chaos_conn::Conn;
 use chaos_host::{ConnId, Host};
 
 /// Whether [`serve_one`](crate::serve_one) would serve an item of this connection: a command in front for whose reply there is
@@ -11,8 +12,18 @@ use chaos_host::{ConnId, Host};
 pub fn can_serve(host: &Host, id: ConnId) -> bool
     ensures { result ≡ can_serve host.now id }
 {
-    match task_at(host, id) {
-        Some(Task::LastItem | Task::Command(_)) => true,
+    match host.conn(id) {
+        Ok(conn) => can_serve_conn(conn),
+        Err(_) => false,
+    }
+}
+
+/// Whether [`serve_conn`](crate::serve_conn) would serve an item of this end, likewise.
+pub fn can_serve_conn(conn: &Conn) -> bool
+    ensures { result ≡ is_served (Some (work_of conn.now)) }
+{
+    match task_of(conn) {
+        Task::LastItem | Task::Command(_) => true,
         _ => false,
     }
 }

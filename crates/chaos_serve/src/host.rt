@@ -15,7 +15,7 @@ use chaos_packet::{Opcode, Outbox};
 use std::alloc::Global;
 
 /// What is to be done at a connection, and none where the host has no such connection.
-pub(crate) fn task_at(host: &Host, id: ConnId) -> Option<Task<'_>>
+fn task_at(host: &Host, id: ConnId) -> Option<Task<'_>>
     ensures { option_map (λ task. work_in task) result ≡ work_at host.now id }
 {
     let conn = host.conn(id).ok()?;

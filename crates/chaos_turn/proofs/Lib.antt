@@ -1,4 +1,5 @@
 pub mod Loaded
+pub mod Passed
 pub mod Phase
 pub mod Queue
 pub mod Readback

@@ -76,10 +76,7 @@ fn release_slot<L: Link>(
     requires empty { out.old.packets ≡ [] }
     ensures { DoesPhase carriage (release_at place host.old) (station host.old (L.queue link.old) out.old) (station host.new (L.queue link.new) out.new) result }
 {
-    let Some(id) = host.id_of(place) else {
-        return false;
-    };
-    let Ok(conn) = host.conn(id) else {
+    let Some((id, conn)) = host.conn_at(place) else {
         return false;
     };
     if !conn.state().is_ended() {

@@ -11,7 +11,8 @@ use chaos_packet::{Outbox, Packet};
 /// and with it those in its datagram; the link's count of failures tells it.
 ///
 /// A turn does so after each call of its host. A service of one's own does so after its own calls, so that what they put out
-/// doesn't wait for the next turn. It takes no memory.
+/// doesn't wait for the next turn. It takes no memory, and costs a look where nothing waits, as after most calls of a turn.
+#[inline(always)]
 pub fn send_all<L: Link>(link: &mut L, out: &mut Outbox, carriage: Carriage) -> bool
     ensures sends { Sends (L.queue link.old) (sent_by carriage (out.old.packets ∷ [])) (L.queue link.new) }
     ensures empty { out.new ≡ record { packets = []; cap = out.old.cap } }
@@ -20,11 +21,19 @@ pub fn send_all<L: Link>(link: &mut L, out: &mut Outbox, carriage: Carriage) -> 
     if out.front().is_none() {
         return false;
     }
+    send_waiting(link, out, carriage);
+    true
+}
+
+/// Sends all that waits by the carriage, the oldest first.
+fn send_waiting<L: Link>(link: &mut L, out: &mut Outbox, carriage: Carriage)
+    ensures sends { Sends (L.queue link.old) (sent_by carriage (out.old.packets ∷ [])) (L.queue link.new) }
+    ensures empty { out.new ≡ record { packets = []; cap = out.old.cap } }
+{
     match carriage {
         Carriage::One => send_singly(link, out),
         Carriage::Two => send_loads(link, out),
     }
-    true
 }
 
 /// Sends all that waits, each packet as its canonical datagram, which is written from the packet where it lies.

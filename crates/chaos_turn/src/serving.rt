@@ -13,7 +13,7 @@ use chaos_file::{Reply, Store};
 use chaos_host::{ConnId, Host};
 use chaos_link::{Carriage, Link};
 use chaos_packet::Outbox;
-use chaos_serve::serve_one_by;
+use chaos_serve::{can_serve_conn, serve_one_by};
 use std::alloc::Global;
 
 /// Serves a connection once by a slot's session, which is a new one where it served another connection before.
@@ -57,10 +57,15 @@ fn serve_slot<S: Store, L: Link>(
         (station (server host.old sessions.old store.old) (L.queue link.old) out.old)
         (station (server host.new sessions.new store.new) (L.queue link.new) out.new) result }
 {
-    let Some(id) = host.id_of(place) else {
+    let Some(at) = host.conn_at(place) else {
         return false;
     };
+    let id = at.0;
     let kept = &mut sessions.kept[place];
+    // Most slots of most turns: nothing is looked up twice for them.
+    if kept.serves(id) && !can_serve_conn(at.1) {
+        return false;
+    }
     let reply = &mut sessions.reply;
     serve_kept(alloc, host, id, kept, store, now, out, reply);
     send_all(link, out, carriage)

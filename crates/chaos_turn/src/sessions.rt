@@ -1,5 +1,5 @@
 //! A session for each slot of a host.
-ghost use Rattle.std.specs.Prelude.{◌≡◌, ◌<◌, IfOk, length, option_map, replicate};
+ghost use Rattle.std.specs.Prelude.{◌≡◌, ◌<◌, IfOk, length, option_map, replicate, true};
 ghost use Rattle.chaos_turn.specs.Sessions.{Serving, new_serving, serving_at, serving_of, eof_after};
 
 use chaos_file::{Reply, Session};
@@ -107,6 +107,13 @@ impl Kept {
             eof: false,
             commands: 0,
         }
+    }
+
+    /// Whether it serves this connection already.
+    pub(crate) fn serves(&self, id: ConnId) -> bool
+        ensures { result ≡ true → serving_of id self.now ≡ self.now }
+    {
+        self.id == Some(id)
     }
 
     /// Turns to this connection: with a new session, unless it is the one that was served so far.

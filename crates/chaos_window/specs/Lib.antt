@@ -1,3 +1,4 @@
+pub mod Kept
 pub mod Receive
 pub mod Send
 pub mod Slots

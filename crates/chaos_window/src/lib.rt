@@ -5,6 +5,7 @@
 #![tactic(auto)]
 
 mod arrival;
+mod kept;
 mod limits;
 mod receive;
 mod send;

@@ -3,9 +3,9 @@ ghost use Rattle.std.specs.Prelude.{◌≡◌, ◌<◌, ◌≤◌, [], ◌∷◌
 ghost use Rattle.std.specs.Option.{option_copied};
 ghost use Rattle.chaos_window.specs.Send.{IsSendWindow, outstanding_of, next_of, clear_send, started_send, after_push, after_receipt, after_acknowledgement, after_window};
 
+use crate::kept::Kept;
 use crate::limits::MAX_WINDOW;
 use chaos_packet::{Item, MAX_DATA, Opcode, PktNum};
-use circular_buffer::HeapCircularBuffer;
 use std::alloc::{AllocError, Global};
 use std::marker::Model;
 use thiserror::Error;
@@ -40,8 +40,8 @@ pub struct SendWindow {
     acknowledged: PktNum,
     /// The window that the other end announced, and the cap before it did.
     window: u16,
-    /// The items past `receipted`, the oldest first: a ring with as many places as the cap.
-    kept: HeapCircularBuffer<Item>,
+    /// The items past `receipted`, the oldest first, with room for as many as the cap.
+    kept: Kept,
 }
 
 impl Model for SendWindow {
@@ -53,7 +53,7 @@ impl Model for SendWindow {
     ghost view = { λ w. send_view w.cap w.sent w.receipted w.acknowledged w.window w.kept.items };
 
     ghost invariant = { λ w. IsSendWindow (send_view w.cap w.sent w.receipted w.acknowledged w.window w.kept.items)
-        × (w.kept.capacity ≡ w.cap) };
+        × (w.kept.cap ≡ w.cap) };
 }
 
 impl SendWindow {
@@ -62,7 +62,7 @@ impl SendWindow {
         requires { (1 ≤ cap) × (cap ≤ MAX_WINDOW) }
         ensures { IfOk result (λ window. window ≡ clear_send cap) }
     {
-        let kept = HeapCircularBuffer::with_capacity(alloc, cap as usize)?;
+        let kept = Kept::new(alloc, cap as usize)?;
         Ok(SendWindow {
             cap,
             sent: PktNum(0),
@@ -98,7 +98,7 @@ impl SendWindow {
         if self.outstanding() >= self.window {
             return Err(Full);
         }
-        add_item(&mut self.kept, op, body);
+        self.kept.add(op, body);
         self.sent = self.sent.next();
         Ok(self.sent)
     }
@@ -142,7 +142,7 @@ impl SendWindow {
     {
         let arrived = num.off(self.receipted);
         if arrived <= self.unreceipted() {
-            drop_front(&mut self.kept, arrived as usize);
+            self.kept.drop_front(arrived as usize);
             self.receipted = num;
         }
     }
@@ -201,30 +201,4 @@ impl SendWindow {
         self.acknowledged = PktNum(0);
         self.window = self.cap;
     }
-}
-
-/// Adds an item with a copy of these bytes at the back.
-///
-/// An item is put there empty and gets its bytes where it lies, so that none is moved.
-#[tactic(auto, using(crate::proofs::Last::last))]
-fn add_item(items: &mut HeapCircularBuffer<Item>, op: Opcode, body: &[u8])
-    requires room { length items.old.items < items.old.capacity }
-    requires fits { length body.now ≤ MAX_DATA }
-    ensures items { items.new.items ≡ items.old.items ++ (record { op = op; body = body.now }) ∷ [] }
-    ensures capacity { items.new.capacity ≡ items.old.capacity }
-{
-    let back = items.len();
-    let _ = items.push_back(Item::new(op, &[]));
-    if let Some(item) = items.get_mut(back) {
-        let _fits = item.body.try_extend_from_slice(body);
-    }
-}
-
-/// Drops the first items.
-fn drop_front(items: &mut HeapCircularBuffer<Item>, count: usize)
-    requires { count ≤ length items.old.items }
-    ensures items { items.new.items ≡ drop count items.old.items }
-    ensures capacity { items.new.capacity ≡ items.old.capacity }
-{
-    items.truncate_front(items.len() - count);
 }

@@ -1,10 +1,12 @@
 //! A queue of packets under the clauses of `Outbox`: over its ring, and over a Vec whose packets move.
-ghost use Rattle.std.specs.Prelude.{◌≡◌, ◌+◌, ◌<◌, length, [], ◌∷◌, slice_get, IfOk};
+ghost use Rattle.std.specs.Prelude.{◌≡◌, ◌+◌, ◌<◌, ◌≤◌, length, [], ◌∷◌, slice_get, IfOk};
 ghost use Rattle.std.specs.Option.{option_copied};
+ghost use Rattle.chaos_packet.specs.Header.{packet_of};
 ghost use Rattle.chaos_packet.specs.Outbox.{OutboxView, room_of, with_put, without_oldest};
 
 use super::LETTER;
-use chaos_packet::{Outbox, Packet, PktNum, from_words};
+use arrayvec::ArrayVec;
+use chaos_packet::{Header, MAX_DATA, Outbox, Packet, PktNum, body_of, from_words};
 use std::alloc::{AllocError, Global};
 use std::marker::Model;
 use std::test::Fail;
@@ -24,6 +26,11 @@ trait Queue {
     fn put(&mut self, packet: Packet)
         requires { 0 < room_of (seen self.old) }
         ensures { seen self.new ≡ with_put (seen self.old) (packet ∷ []) };
+
+    fn put_lent(&mut self, header: Header, bytes: &[u8])
+        requires room { 0 < room_of (seen self.old) }
+        requires fits { length bytes.now ≤ MAX_DATA }
+        ensures { seen self.new ≡ with_put (seen self.old) (packet_of header bytes.now ∷ []) };
 
     fn front(&self) -> Option<&Packet>
         ensures { option_copied result ≡ slice_get (seen self.now).packets 0 };
@@ -49,6 +56,10 @@ impl Queue for Outbox {
 
     fn put(&mut self, packet: Packet) {
         self.put(packet);
+    }
+
+    fn put_lent(&mut self, header: Header, bytes: &[u8]) {
+        self.put_lent(header, bytes);
     }
 
     fn front(&self) -> Option<&Packet> {
@@ -98,6 +109,21 @@ impl Queue for PlainOutbox {
         let _ = self.packets.push(packet);
     }
 
+    fn put_lent(&mut self, header: Header, bytes: &[u8]) {
+        let packet = Packet {
+            op: header.op,
+            fwd: 0,
+            dst: header.dst,
+            dst_index: header.dst_index,
+            src: header.src,
+            src_index: header.src_index,
+            num: header.num,
+            ack: header.ack,
+            body: body_of(bytes),
+        };
+        let _ = self.packets.push(packet);
+    }
+
     fn front(&self) -> Option<&Packet> {
         self.packets.first()
     }
@@ -112,6 +138,56 @@ impl Queue for PlainOutbox {
         }
         Some(self.packets.remove(0))
     }
+}
+
+/// The header of the packet, which no host forwarded.
+fn header_of(packet: &Packet) -> Header {
+    Header {
+        op: packet.op,
+        dst: packet.dst,
+        dst_index: packet.dst_index,
+        src: packet.src,
+        src_index: packet.src_index,
+        num: packet.num,
+        ack: packet.ack,
+    }
+}
+
+/// Puts a packet, and then its header with other data, and a shorter and a longer one over each other: what comes out.
+fn lent_packets<Q: Queue + Drop>(mut out: Q) -> Result<ArrayVec<Packet, 3>, Fail> {
+    let (packet, _) = from_words(&LETTER)?;
+    let mut taken = ArrayVec::new();
+    for bytes in [
+        &b"longer than the one behind it"[..],
+        b"x",
+        b"and a longer one again",
+    ] {
+        if out.room() > 0 {
+            out.put_lent(header_of(&packet), bytes);
+        }
+        if let Some(oldest) = out.take() {
+            let _fits = taken.try_push(oldest);
+        }
+    }
+    Ok(taken)
+}
+
+#[test]
+fn a_lent_packet_is_its_header_and_its_data(rt: HostRuntime) -> Result<(), Fail> {
+    let (mut letter, _) = from_words(&LETTER)?;
+    letter.fwd = 0;
+    let lent = lent_packets(Outbox::empty(rt.alloc(), 1)?)?;
+    assert!(rt; lent == lent_packets(PlainOutbox::empty(rt.alloc(), 1)?)?);
+    assert_eq!(rt; lent.len(), 3);
+    for (packet, bytes) in lent.iter().zip([
+        &b"longer than the one behind it"[..],
+        b"x",
+        b"and a longer one again",
+    ]) {
+        assert!(rt; packet.bytes() == bytes);
+        assert!(rt; packet.header()[2..] == letter.header()[2..]);
+    }
+    Ok(())
 }
 
 /// Puts three packets through a queue of two, past its end: the numbers that come out, and the room in between.
