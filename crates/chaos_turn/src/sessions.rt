@@ -11,11 +11,12 @@ use std::marker::Model;
 /// A slot's session, the connection that it serves, and whether that connection's EOF was served.
 #[derive(Drop)]
 pub(crate) struct Kept {
+    // What a turn's walk looks at comes first and the session last, so that a slot passed over costs one line of the cache.
     pub(crate) id: Option<ConnId>,
-    pub(crate) session: Session,
     pub(crate) eof: bool,
     /// How many commands were replied to; no contract sees it.
     commands: u64,
+    pub(crate) session: Session,
 }
 
 impl Model for Kept {
