@@ -36,6 +36,7 @@ pub mod UserTies
 pub mod CopyTies
 pub mod LabTies
 pub mod Runs
+pub mod Tells
 pub mod Phases
 pub mod HeadlineLaw
 pub mod Turns

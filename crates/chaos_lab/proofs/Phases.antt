@@ -1,5 +1,5 @@
 -- What an end has written and read, by its phase.
-use Rattle.std.proofs.Common.{◌≡◌, ℕ, ◌≤◌, [], length}
+use Rattle.std.proofs.Common.{◌≡◌, ◌≤◌, [], length}
 use Rattle.std.proofs.lemmas.List.{nil_from_length}
 use Rattle.chaos_lab.specs.declared.side.Side.{Side}
 use Rattle.chaos_lab.specs.declared.side.Side.TheVariants.{A, B}

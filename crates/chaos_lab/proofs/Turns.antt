@@ -1,5 +1,5 @@
 -- A user's turn is its events.
-use Rattle.std.proofs.Common.{◌≡◌, ℕ, suc, ◌+◌, ◌*◌, ◌≤◌, List, [], ◌∷◌, ◌++◌, length, map, Bool, true, false, Option, Some, None, Result, Ok, Err, OnOk, OnErr, nat_le, refl, sym, ap, ◌∙◌, subst, arith, append_assoc}
+use Rattle.std.proofs.Common.{◌≡◌, ℕ, ◌+◌, ◌*◌, ◌≤◌, List, [], ◌∷◌, ◌++◌, length, map, Option, Some, None, Result, Ok, Err, OnOk, OnErr, nat_le, refl, sym, ap, ◌∙◌, subst, arith, append_assoc}
 use Rattle.std.specs.Option.{option_to_list}
 use Rattle.std.proofs.lemmas.List.{append-nil}
 use Rattle.std.proofs.lemmas.Bool.{cond_both, cond-true, cond-false}
@@ -7,18 +7,16 @@ use Rattle.chaos_packet.specs.Item.{ItemView}
 use Rattle.chaos_packet.specs.Packet.{PacketView, item_of}
 use Rattle.chaos_packet.specs.Outbox.{OutboxView}
 use Rattle.chaos_window.specs.Receive.{after_advance}
-use Rattle.chaos_conn.specs.declared.fault.ConnFault.{ConnFault}
 use Rattle.chaos_conn.specs.declared.answers.ReadEnd.{ReadEnd}
 use Rattle.chaos_conn.specs.declared.answers.ReadEnd.TheVariants as gave
 use Rattle.chaos_conn.specs.View.{ConnView}
 use Rattle.chaos_conn.specs.State.{is_open, is_opening}
 use Rattle.chaos_conn.specs.Acted.{Acted, quietly}
 use Rattle.chaos_conn.specs.Sending.{with_sts}
-use Rattle.chaos_conn.specs.Act.{Call, act}
+use Rattle.chaos_conn.specs.Act.{act}
 use Rattle.chaos_conn.specs.Act.Call.{Read, FinishRead, Write}
-use Rattle.chaos_conn.specs.Act.Reply.{Wrote, Gave}
-use Rattle.chaos_conn.specs.Calls.{front_of, act_read, act_write, read_at_open, read_at_end}
-use Rattle.chaos_conn.proofs.Ended.{ended_is_over}
+use Rattle.chaos_conn.specs.Act.Reply.{Wrote}
+use Rattle.chaos_conn.specs.Calls.{front_of, act_read, act_write, read_at_open}
 use Rattle.chaos_lab.specs.declared.side.Side.TheVariants.{B}
 use Rattle.chaos_lab.specs.declared.stamped.Stamped.{Stamped as Sent}
 use Rattle.chaos_lab.specs.declared.user.Turned.{Turned}

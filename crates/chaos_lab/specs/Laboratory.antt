@@ -1,5 +1,5 @@
 -- What contracts see of the laboratory, and what each event makes of it.
-use Rattle.std.specs.Prelude.{◌≡◌, ℕ, ◌-◌, ◌<◌, max, Bool, true, false, ◌&&◌, not, nat_lt, if◌then◌else◌, List, [], ◌∷◌, ◌++◌, length, map, take, codes, Option, Some, None, slice_get, Result, Ok, Err, ◌⊎◌, ⊤}
+use Rattle.std.specs.Prelude.{◌≡◌, ℕ, ◌-◌, max, Bool, true, false, ◌&&◌, not, nat_lt, if◌then◌else◌, List, [], ◌∷◌, ◌++◌, length, map, take, codes, Option, Some, None, slice_get, Result, Ok, Err, ◌⊎◌, ⊤}
 use Rattle.std.specs.Option.{option_to_list}
 use Rattle.chaos_packet.specs.Item.{ItemView}
 use Rattle.chaos_packet.specs.Opcode.{kind_of, is_rfc}

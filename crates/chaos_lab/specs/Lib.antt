@@ -4,6 +4,7 @@ pub mod Numbers
 pub mod Law
 pub mod Shown
 pub mod Laboratory
+pub mod Told
 pub mod Tied
 pub mod Headline
 pub mod Inside

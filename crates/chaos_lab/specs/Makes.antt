@@ -2,6 +2,7 @@
 use Rattle.std.specs.Prelude.{◌≡◌, ◌≤◌, List, [], length, Option, Some, None, Result, Ok, Err}
 use Rattle.chaos_packet.specs.Outbox.{OutboxView}
 use Rattle.chaos_packet.specs.Packet.{PacketView}
+use Rattle.chaos_packet.specs.Item.{ItemView}
 use Rattle.chaos_window.specs.declared.limits.TheConstants.{MAX_WINDOW}
 use Rattle.chaos_conn.specs.declared.fault.ConnFault.{ConnFault}
 use Rattle.chaos_conn.specs.Act.{Call, act}
@@ -35,6 +36,11 @@ pub record Makes (old : EndView) (call : Call) (new : EndView) (before after : O
   pub answer : reply ≡ (made old call).answer
   pub few : length (made old call).packets ≤ MAX_WINDOW
   pub config : new.conn.config ≡ old.conn.config
+
+-- all that the user at a side has read
+abbrev pub read_at : Side → BothEnds → List ItemView
+read_at A ends = ends.a.read.items
+read_at B ends = ends.b.read.items
 
 -- the call did that at one of both ends, and the other stays as it is
 abbrev pub MakesAt : Side → Call → (old new : BothEnds) → (before after : OutboxView) → Result Stepped LabFault → Type 0

@@ -1,5 +1,5 @@
 -- Two connections and the packets between them, tied to a reached world.
-use Rattle.std.specs.Prelude.{◌≡◌, ℕ, zero, suc, ◌≤◌, List, [], ◌∷◌, length, take, slice_get, Bool, true, false, Option, Some, None, Result, Ok, Err, ⊤, ◌⊎◌}
+use Rattle.std.specs.Prelude.{◌≡◌, ℕ, zero, suc, ◌≤◌, List, [], ◌∷◌, length, take, slice_get, Bool, true, false, Some, None, Result, Ok, Err, ⊤, ◌⊎◌}
 use Rattle.std.specs.List.{All, AllZip}
 use Rattle.chaos_lab.specs.declared.side.Side.{Side}
 use Rattle.chaos_lab.specs.declared.side.Side.TheVariants.{A, B}

@@ -4,9 +4,11 @@ ghost use Rattle.chaos_conn.specs.Act.Call.{Accept, Announce, Close, Deliver, Re
 ghost use Rattle.chaos_lab.specs.declared.side.Side.TheVariants.{B};
 ghost use Rattle.chaos_lab.specs.Shown.{place_of};
 ghost use Rattle.chaos_lab.specs.Inside.{end_view, HasRoom, AreReady};
-ghost use Rattle.chaos_lab.specs.Makes.{MakesAt};
+ghost use Rattle.chaos_lab.specs.Makes.{MakesAt, read_at};
+ghost use Rattle.chaos_lab.specs.Told.{told};
+ghost use Rattle.chaos_packet.specs.Packet.{blank};
 
-use crate::event::Stepped;
+use crate::event::StepDone;
 use crate::fault::LabFault;
 use crate::lab_end::LabEnd;
 use crate::side::Side;
@@ -37,9 +39,9 @@ impl BothEnds {
         bytes: &[u8],
         now: u64,
         out: &mut Outbox,
-    ) -> Result<Stepped, LabFault>
+    ) -> Result<StepDone, LabFault>
         requires ready { AreReady self.old out.old }
-        ensures { MakesAt side (Write op bytes.now now) self.old self.new out.old out.new result }
+        ensures { MakesAt side (Write op bytes.now now) self.old self.new out.old out.new (told blank [] result) }
     {
         match side {
             Side::A => self.a.write(op, bytes, now, out),
@@ -47,9 +49,9 @@ impl BothEnds {
         }
     }
 
-    pub(crate) fn read(&mut self, side: Side, out: &mut Outbox) -> Result<Stepped, LabFault>
+    pub(crate) fn read(&mut self, side: Side, out: &mut Outbox) -> Result<StepDone, LabFault>
         requires ready { AreReady self.old out.old }
-        ensures { MakesAt side Read self.old self.new out.old out.new result }
+        ensures { MakesAt side Read self.old self.new out.old out.new (told blank (read_at side self.new) result) }
     {
         match side {
             Side::A => self.a.read(out),
@@ -62,9 +64,9 @@ impl BothEnds {
         side: Side,
         window: u16,
         out: &mut Outbox,
-    ) -> Result<Stepped, LabFault>
+    ) -> Result<StepDone, LabFault>
         requires ready { AreReady self.old out.old }
-        ensures { MakesAt side (Announce window) self.old self.new out.old out.new result }
+        ensures { MakesAt side (Announce window) self.old self.new out.old out.new (told blank [] result) }
     {
         match side {
             Side::A => self.a.announce(window, out),
@@ -77,9 +79,9 @@ impl BothEnds {
         side: Side,
         moment: u64,
         out: &mut Outbox,
-    ) -> Result<Stepped, LabFault>
+    ) -> Result<StepDone, LabFault>
         requires ready { AreReady self.old out.old }
-        ensures { MakesAt side (Tick moment) self.old self.new out.old out.new result }
+        ensures { MakesAt side (Tick moment) self.old self.new out.old out.new (told blank [] result) }
     {
         match side {
             Side::A => self.a.tick(moment, out),
@@ -92,9 +94,9 @@ impl BothEnds {
         side: Side,
         text: &[u8],
         out: &mut Outbox,
-    ) -> Result<Stepped, LabFault>
+    ) -> Result<StepDone, LabFault>
         requires ready { AreReady self.old out.old }
-        ensures { MakesAt side (Close text.now) self.old self.new out.old out.new result }
+        ensures { MakesAt side (Close text.now) self.old self.new out.old out.new (told blank [] result) }
     {
         match side {
             Side::A => self.a.close(text, out),
@@ -107,9 +109,9 @@ impl BothEnds {
         start: PktNum,
         now: u64,
         out: &mut Outbox,
-    ) -> Result<Stepped, LabFault>
+    ) -> Result<StepDone, LabFault>
         requires ready { AreReady self.old out.old }
-        ensures { MakesAt B (Accept start now) self.old self.new out.old out.new result }
+        ensures { MakesAt B (Accept start now) self.old self.new out.old out.new (told blank [] result) }
     {
         self.b.accept(start, now, out)
     }
@@ -119,9 +121,9 @@ impl BothEnds {
         rfc: &Packet,
         now: u64,
         out: &mut Outbox,
-    ) -> Result<Stepped, LabFault>
+    ) -> Result<StepDone, LabFault>
         requires ready { AreReady self.old out.old }
-        ensures { MakesAt B (TakeRequest rfc.now (place_of B) now) self.old self.new out.old out.new result }
+        ensures { MakesAt B (TakeRequest rfc.now (place_of B) now) self.old self.new out.old out.new (told rfc.now [] result) }
     {
         self.b.take_request(rfc, now, out)
     }
@@ -132,9 +134,9 @@ impl BothEnds {
         packet: &Packet,
         now: u64,
         out: &mut Outbox,
-    ) -> Result<Stepped, LabFault>
+    ) -> Result<StepDone, LabFault>
         requires ready { AreReady self.old out.old }
-        ensures { MakesAt side (Deliver packet.now now) self.old self.new out.old out.new result }
+        ensures { MakesAt side (Deliver packet.now now) self.old self.new out.old out.new (told packet.now [] result) }
     {
         match side {
             Side::A => self.a.deliver(packet, now, out),

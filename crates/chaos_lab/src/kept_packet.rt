@@ -134,6 +134,22 @@ impl KeptPacket {
         self.bytes.bytes()
     }
 
+    /// Writes the packet into a place of the caller's, by a copy of the data over what lay there.
+    pub(crate) fn write_into(&self, packet: &mut Packet)
+        ensures { packet.new ≡ self.now }
+    {
+        packet.op = self.op;
+        packet.fwd = self.fwd;
+        packet.dst = self.dst;
+        packet.dst_index = self.dst_index;
+        packet.src = self.src;
+        packet.src_index = self.src_index;
+        packet.num = self.num;
+        packet.ack = self.ack;
+        packet.body.clear();
+        let _fits = packet.body.try_extend_from_slice(self.bytes.bytes());
+    }
+
     /// The packet, made again. It takes no memory, and copies the data.
     pub fn packet(&self) -> Packet
         ensures { result ≡ self.now }

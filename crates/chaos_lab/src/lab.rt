@@ -12,11 +12,12 @@ ghost use Rattle.chaos_lab.specs.Laboratory.{Happening, Happens, check, lab_end,
 ghost use Rattle.chaos_lab.specs.Laboratory.Happening.{DeliverCopy};
 ghost use Rattle.chaos_lab.specs.Headline.{IsCopyOf, ComesInside, Unclosed, ReadsInTurn};
 ghost use Rattle.chaos_lab.specs.Inside.{happening_of};
+ghost use Rattle.chaos_lab.specs.Told.{told_at, items_at};
 ghost use Rattle.chaos_lab.specs.Turn.{Turn};
 ghost use Rattle.chaos_lab.specs.Turns.{TurnHappens};
 ghost use Rattle.chaos_lab.specs.Tied.{Ties, HasMachine, Stops, lab_machine, machine_for, plain_event, plain_run};
 
-use crate::event::{Event, Stepped};
+use crate::event::{Event, StepDone, Stepped};
 use crate::fault::LabFault;
 use crate::rig::Rig;
 use crate::side::Side;
@@ -90,8 +91,9 @@ impl Lab {
     /// since it was sent; `NoMemory` where one of the lists can't grow; `Refused` where the connection refuses its call. Nothing
     /// changes then.
     ///
-    /// What it costs doesn't grow with what was sent before: no list is searched, and each grows by doubling.
-    pub fn step(&mut self, _alloc: Global, event: &Event<'_>) -> Result<Stepped, LabFault>
+    /// What it costs doesn't grow with what was sent before: no list is searched, and each grows by doubling. The item that was
+    /// read and the packet that was delivered are copied into the answer; [`Lab::happen`] copies neither.
+    pub fn step(&mut self, alloc: Global, event: &Event<'_>) -> Result<Stepped, LabFault>
         ensures happens { Happens self.old (happening_of event.now) self.new result }
         // a copy that isn't there or isn't fresh is refused for that, whatever memory there is
         ensures checked { (why : LabFault) → check self.old (happening_of event.now) ≡ Some why → result ≡ Err why }
@@ -99,7 +101,29 @@ impl Lab {
         // an event that is taken is a step of the plain machine, of the row that the table has for it
         ensures machine { IfOk result (λ _. (m : Machine) → Ties m self.old → (n : Machine) × Step m (plain_event self.old (happening_of event.now)) n × Ties n self.new) }
     {
+        let packet = self.rig.packet_at(event);
+        let done = self.happen(alloc, event)?;
+        Ok(done.in_full(&packet, self.rig.items_at(event)))
+    }
+
+    /// Lets an event happen as `step` does, and hands neither item nor packet out: an item that was read is the last of
+    /// [`Lab::read_in`], and a packet that was delivered is the copy's.
+    pub fn happen(&mut self, _alloc: Global, event: &Event<'_>) -> Result<StepDone, LabFault>
+        ensures happens { Happens self.old (happening_of event.now) self.new (told_at self.old self.new (happening_of event.now) result) }
+        // a copy that isn't there or isn't fresh is refused for that, whatever memory there is
+        ensures checked { (why : LabFault) → check self.old (happening_of event.now) ≡ Some why → result ≡ Err why }
+        ensures refused { OnErr result (self.new ≡ self.old) }
+        // an event that is taken is a step of the plain machine, of the row that the table has for it
+        ensures machine { IfOk result (λ _. (m : Machine) → Ties m self.old → (n : Machine) × Step m (plain_event self.old (happening_of event.now)) n × Ties n self.new) }
+    {
         self.rig.step(event)
+    }
+
+    /// All that the user has read whom an event lets read, item 0 of the other end first; nothing for another event.
+    pub fn read_in(&self, event: &Event<'_>) -> &[Item]
+        ensures { result.now ≡ items_at self.now (happening_of event.now) }
+    {
+        self.rig.items_at(event)
     }
 
     /// Lets events happen, one after the other. A refused event changes nothing, and the next one follows. Where there is no

@@ -1,23 +1,24 @@
 //! One end of the laboratory.
-ghost use Rattle.std.specs.Prelude.{◌≡◌, ℕ, ◌<◌, ◌≤◌, [], ◌∷◌, ◌++◌, length, OnOk, OnErr, IfOk, Ok, Some, None, map, slice_get};
+ghost use Rattle.std.specs.Prelude.{◌≡◌, ℕ, ◌<◌, ◌≤◌, [], ◌∷◌, ◌++◌, length, OnOk, OnErr, IfOk, Ok, Some, None, map, slice_get, vec_len, vec_capacity};
 ghost use Rattle.chaos_packet.specs.Outbox.{room_of, with_put};
 ghost use Rattle.chaos_lab.specs.Turn.{Turn};
 ghost use Rattle.chaos_lab.specs.Turning.{EndTurns};
-ghost use Rattle.chaos_packet.specs.Packet.{item_of};
+ghost use Rattle.chaos_packet.specs.Packet.{blank, item_of};
 ghost use Rattle.chaos_conn.specs.Act.Call.{Accept, Announce, Close, Deliver, Read, TakeRequest, Tick, Write};
 ghost use Rattle.chaos_lab.specs.declared.side.Side.TheVariants.{B};
 ghost use Rattle.chaos_lab.specs.Shown.{place_of};
 ghost use Rattle.chaos_conn.specs.Calls.{front_of};
 ghost use Rattle.chaos_lab.specs.Inside.{end_view, HasRoom};
 ghost use Rattle.chaos_lab.specs.Makes.{Makes};
+ghost use Rattle.chaos_lab.specs.Told.{told};
 ghost use Rattle.chaos_conn.specs.View.{new_conn};
 ghost use Rattle.chaos_conn.specs.Opening.{rfc_item};
 ghost use Rattle.chaos_lab.specs.Laboratory.{request_for};
 
-use crate::event::Stepped;
+use crate::event::StepDone;
 use crate::fault::LabFault;
 use crate::user::{Turned, User};
-use chaos_conn::{Conn, ConnConfig, Delivered, End, ReadEnd};
+use chaos_conn::{Conn, ConnConfig, Disposition, End};
 use chaos_packet::{Item, MAX_DATA, Opcode, Outbox, Packet, PktNum};
 use chaos_window::MAX_WINDOW;
 use std::alloc::{AllocError, Global};
@@ -99,33 +100,34 @@ impl LabEnd {
         bytes: &[u8],
         now: u64,
         out: &mut Outbox,
-    ) -> Result<Stepped, LabFault>
+    ) -> Result<StepDone, LabFault>
         requires room { HasRoom self.old }
         requires empty { out.old.packets ≡ [] }
         requires fits { 0 < out.old.cap }
-        ensures { Makes (end_view self.old) (Write op bytes.now now) (end_view self.new) out.old out.new result }
+        ensures { Makes (end_view self.old) (Write op bytes.now now) (end_view self.new) out.old out.new (told blank [] result) }
     {
         match self.conn.write(op, bytes, now, out) {
             Ok(number) => {
                 self.written.push_reserved(Item::new(op, bytes));
-                Ok(Stepped::Wrote(number))
+                Ok(StepDone::Wrote(number))
             }
             Err(why) => Err(LabFault::Refused(why)),
         }
     }
 
     /// Reads the next item, and keeps a copy of it.
-    pub(crate) fn read(&mut self, out: &mut Outbox) -> Result<Stepped, LabFault>
+    pub(crate) fn read(&mut self, out: &mut Outbox) -> Result<StepDone, LabFault>
         requires room { HasRoom self.old }
         requires empty { out.old.packets ≡ [] }
         requires fits { 0 < out.old.cap }
-        ensures { Makes (end_view self.old) Read (end_view self.new) out.old out.new result }
+        ensures { Makes (end_view self.old) Read (end_view self.new) out.old out.new (told blank self.new.read.items result) }
     {
-        let given = self.conn.read(out);
-        if let ReadEnd::Item(item) = &given {
-            self.read.push_reserved(Item::new(item.op, item.bytes()));
+        if !self.conn.state().is_opening() {
+            if let Some(item) = self.conn.front() {
+                self.read.push_reserved(Item::new(item.op, item.bytes()));
+            }
         }
-        Ok(Stepped::Read(given))
+        Ok(StepDone::Read(self.conn.read_done(out)))
     }
 
     /// Takes a packet. An OPN that opens the end is read by that.
@@ -134,49 +136,58 @@ impl LabEnd {
         packet: &Packet,
         now: u64,
         out: &mut Outbox,
-    ) -> Result<Stepped, LabFault>
+    ) -> Result<StepDone, LabFault>
         requires room { HasRoom self.old }
         requires empty { out.old.packets ≡ [] }
         requires fits { 0 < out.old.cap }
-        ensures { Makes (end_view self.old) (Deliver packet.now now) (end_view self.new) out.old out.new result }
+        ensures { Makes (end_view self.old) (Deliver packet.now now) (end_view self.new) out.old out.new (told packet.now [] result) }
     {
-        let delivered = self.conn.deliver(packet, now, out);
-        if let Delivered::Opened = &delivered {
-            self.read
-                .push_reserved(Item::new(packet.op, packet.bytes()));
+        let disposition = self.conn.take(packet, now, out);
+        if disposition == Disposition::Opened {
+            self.keep_read(packet);
         }
-        Ok(Stepped::Delivered(delivered))
+        Ok(StepDone::Delivered(disposition))
+    }
+
+    /// Keeps a copy of the item that a packet carries, which was read.
+    #[inline(never)]
+    fn keep_read(&mut self, packet: &Packet)
+        requires { vec_len self.old.read < vec_capacity self.old.read }
+        ensures { end_view self.new ≡ record (end_view self.old) { read = self.old.read.items ++ item_of packet.now ∷ [] } }
+    {
+        self.read
+            .push_reserved(Item::new(packet.op, packet.bytes()));
     }
 
     /// Ticks.
-    pub(crate) fn tick(&mut self, moment: u64, out: &mut Outbox) -> Result<Stepped, LabFault>
+    pub(crate) fn tick(&mut self, moment: u64, out: &mut Outbox) -> Result<StepDone, LabFault>
         requires empty { out.old.packets ≡ [] }
         requires fits { (self.old.conn.config.send_cap ≤ MAX_WINDOW) × (MAX_WINDOW ≤ out.old.cap) }
-        ensures { Makes (end_view self.old) (Tick moment) (end_view self.new) out.old out.new result }
+        ensures { Makes (end_view self.old) (Tick moment) (end_view self.new) out.old out.new (told blank [] result) }
     {
-        Ok(Stepped::Ticked(self.conn.tick(moment, out)))
+        Ok(StepDone::Ticked(self.conn.tick(moment, out)))
     }
 
     /// Announces a window.
-    pub(crate) fn announce(&mut self, window: u16, out: &mut Outbox) -> Result<Stepped, LabFault>
+    pub(crate) fn announce(&mut self, window: u16, out: &mut Outbox) -> Result<StepDone, LabFault>
         requires empty { out.old.packets ≡ [] }
         requires fits { 0 < out.old.cap }
-        ensures { Makes (end_view self.old) (Announce window) (end_view self.new) out.old out.new result }
+        ensures { Makes (end_view self.old) (Announce window) (end_view self.new) out.old out.new (told blank [] result) }
     {
         match self.conn.announce(window, out) {
-            Ok(()) => Ok(Stepped::Announced(window)),
+            Ok(()) => Ok(StepDone::Announced(window)),
             Err(why) => Err(LabFault::Refused(why)),
         }
     }
 
     /// Closes.
-    pub(crate) fn close(&mut self, text: &[u8], out: &mut Outbox) -> Result<Stepped, LabFault>
+    pub(crate) fn close(&mut self, text: &[u8], out: &mut Outbox) -> Result<StepDone, LabFault>
         requires empty { out.old.packets ≡ [] }
         requires fits { 0 < out.old.cap }
-        ensures { Makes (end_view self.old) (Close text.now) (end_view self.new) out.old out.new result }
+        ensures { Makes (end_view self.old) (Close text.now) (end_view self.new) out.old out.new (told blank [] result) }
     {
         match self.conn.close(text, out) {
-            Ok(()) => Ok(Stepped::Closed),
+            Ok(()) => Ok(StepDone::Closed),
             Err(why) => Err(LabFault::Refused(why)),
         }
     }
@@ -187,12 +198,12 @@ impl LabEnd {
         rfc: &Packet,
         now: u64,
         out: &mut Outbox,
-    ) -> Result<Stepped, LabFault>
+    ) -> Result<StepDone, LabFault>
         requires empty { out.old.packets ≡ [] }
-        ensures { Makes (end_view self.old) (TakeRequest rfc.now (place_of B) now) (end_view self.new) out.old out.new result }
+        ensures { Makes (end_view self.old) (TakeRequest rfc.now (place_of B) now) (end_view self.new) out.old out.new (told rfc.now [] result) }
     {
         match self.conn.take_request(rfc, PLACE_B, now) {
-            Ok(()) => Ok(Stepped::Requested),
+            Ok(()) => Ok(StepDone::Requested),
             Err(why) => Err(LabFault::Refused(why)),
         }
     }
@@ -203,11 +214,11 @@ impl LabEnd {
         start: PktNum,
         now: u64,
         out: &mut Outbox,
-    ) -> Result<Stepped, LabFault>
+    ) -> Result<StepDone, LabFault>
         requires room { HasRoom self.old }
         requires empty { out.old.packets ≡ [] }
         requires fits { 0 < out.old.cap }
-        ensures { Makes (end_view self.old) (Accept start now) (end_view self.new) out.old out.new result }
+        ensures { Makes (end_view self.old) (Accept start now) (end_view self.new) out.old out.new (told blank [] result) }
     {
         let rfc = self.front();
         match self.conn.accept(start, now, out) {
@@ -220,7 +231,7 @@ impl LabEnd {
                     self.written.push_reserved(Item::new(opn.op, opn.bytes()));
                     out.put(opn);
                 }
-                Ok(Stepped::Accepted(start))
+                Ok(StepDone::Accepted(start))
             }
             Err(why) => Err(LabFault::Refused(why)),
         }

@@ -21,7 +21,7 @@ mod side;
 mod stamped;
 mod user;
 
-pub use event::{Event, Stepped};
+pub use event::{Event, StepDone, Stepped};
 pub use fault::LabFault;
 pub use kept_packet::KeptPacket;
 pub use lab::Lab;

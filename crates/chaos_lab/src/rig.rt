@@ -10,19 +10,21 @@ ghost use Rattle.chaos_lab.specs.Laboratory.{Happens, happen, check, lab_end, st
 ghost use Rattle.chaos_lab.specs.Laboratory.Happening.{DeliverCopy};
 ghost use Rattle.chaos_lab.specs.Inside.{end_view, happening_of, HasRoom, HasSpace};
 ghost use Rattle.chaos_lab.specs.Makes.{MakesAt};
+ghost use Rattle.chaos_lab.specs.Told.{told, told_at, packet_at, items_at};
+ghost use Rattle.chaos_packet.specs.Packet.{blank};
 ghost use Rattle.chaos_lab.specs.Turn.{Turn, IsTaken, turn_events};
 ghost use Rattle.chaos_lab.specs.Turning.{stamped_reply, reply_items};
 
 use crate::both_ends::BothEnds;
 use crate::copy_list::CopyList;
-use crate::event::{Event, Stepped};
+use crate::event::{Event, StepDone};
 use crate::fault::LabFault;
 use crate::lab_end::LabEnd;
 use crate::side::Side;
 use crate::stamped::Stamped;
 use crate::user::{Turned, User};
 use chaos_conn::ConnConfig;
-use chaos_packet::{Item, Kind, MAX_DATA, Opcode, Outbox, PktNum};
+use chaos_packet::{Item, Kind, MAX_DATA, Opcode, Outbox, Packet, PktNum};
 use chaos_window::MAX_WINDOW;
 use std::alloc::{AllocError, Global};
 use std::marker::Model;
@@ -42,6 +44,8 @@ pub(crate) struct Rig {
     clock: u64,
     /// Empty between two events.
     out: Outbox,
+    /// The copy that was delivered last: a packet's place, which each delivery writes anew.
+    delivered: Packet,
 }
 
 impl Model for Rig {
@@ -85,6 +89,7 @@ impl Rig {
             asked: false,
             clock: 0,
             out,
+            delivered: Packet::default(),
         })
     }
 
@@ -152,8 +157,8 @@ impl Rig {
     }
 
     /// Lets an event happen.
-    pub(crate) fn step(&mut self, event: &Event<'_>) -> Result<Stepped, LabFault>
-        ensures { Happens self.old (happening_of event.now) self.new result }
+    pub(crate) fn step(&mut self, event: &Event<'_>) -> Result<StepDone, LabFault>
+        ensures { Happens self.old (happening_of event.now) self.new (told_at self.old self.new (happening_of event.now) result) }
     {
         match event {
             Event::Write(side, op, bytes) => self.write(*side, *op, bytes),
@@ -166,9 +171,32 @@ impl Rig {
         }
     }
 
+    /// The packet that an event delivers, where its copy is there.
+    pub(crate) fn packet_at(&self, event: &Event<'_>) -> Packet
+        ensures { result ≡ packet_at self.now (happening_of event.now) }
+    {
+        match event {
+            Event::Deliver(k) => match self.copies.list.get(*k) {
+                Some(copy) => copy.packet.packet(),
+                None => Packet::default(),
+            },
+            _ => Packet::default(),
+        }
+    }
+
+    /// All that the user has read whom an event lets read.
+    pub(crate) fn items_at(&self, event: &Event<'_>) -> &[Item]
+        ensures { result.now ≡ items_at self.now (happening_of event.now) }
+    {
+        match event {
+            Event::Read(side) => self.read(*side),
+            _ => &[],
+        }
+    }
+
     /// A user writes an item.
-    fn write(&mut self, side: Side, op: Opcode, bytes: &[u8]) -> Result<Stepped, LabFault>
-        ensures { Calls self.old side (Write op bytes.now self.old.clock) self.new result }
+    fn write(&mut self, side: Side, op: Opcode, bytes: &[u8]) -> Result<StepDone, LabFault>
+        ensures { Calls self.old side (Write op bytes.now self.old.clock) self.new (told blank [] result) }
     {
         grow(&mut self.ends, &mut self.copies)?;
         let stepped = self.ends.write(side, op, bytes, self.clock, &mut self.out)?;
@@ -177,8 +205,8 @@ impl Rig {
     }
 
     /// A user reads.
-    fn read_next(&mut self, side: Side) -> Result<Stepped, LabFault>
-        ensures { Calls self.old side Read self.new result }
+    fn read_next(&mut self, side: Side) -> Result<StepDone, LabFault>
+        ensures { Calls self.old side Read self.new (told blank (lab_end self.new side).read result) }
     {
         grow(&mut self.ends, &mut self.copies)?;
         let stepped = self.ends.read(side, &mut self.out)?;
@@ -187,8 +215,8 @@ impl Rig {
     }
 
     /// A user announces a window.
-    fn announce(&mut self, side: Side, window: u16) -> Result<Stepped, LabFault>
-        ensures { Calls self.old side (Announce window) self.new result }
+    fn announce(&mut self, side: Side, window: u16) -> Result<StepDone, LabFault>
+        ensures { Calls self.old side (Announce window) self.new (told blank [] result) }
     {
         grow(&mut self.ends, &mut self.copies)?;
         let stepped = self.ends.announce(side, window, &mut self.out)?;
@@ -197,8 +225,8 @@ impl Rig {
     }
 
     /// An end gets its own moment.
-    fn tick(&mut self, side: Side, moment: u64) -> Result<Stepped, LabFault>
-        ensures { Calls self.old side (Tick moment) self.new result }
+    fn tick(&mut self, side: Side, moment: u64) -> Result<StepDone, LabFault>
+        ensures { Calls self.old side (Tick moment) self.new (told blank [] result) }
     {
         grow(&mut self.ends, &mut self.copies)?;
         let stepped = self.ends.tick(side, moment, &mut self.out)?;
@@ -208,8 +236,8 @@ impl Rig {
     }
 
     /// A user closes its end.
-    fn close(&mut self, side: Side, text: &[u8]) -> Result<Stepped, LabFault>
-        ensures { Calls self.old side (Close text.now) self.new result }
+    fn close(&mut self, side: Side, text: &[u8]) -> Result<StepDone, LabFault>
+        ensures { Calls self.old side (Close text.now) self.new (told blank [] result) }
     {
         grow(&mut self.ends, &mut self.copies)?;
         let stepped = self.ends.close(side, text, &mut self.out)?;
@@ -218,8 +246,8 @@ impl Rig {
     }
 
     /// B's user accepts the request.
-    fn accept(&mut self, start: PktNum) -> Result<Stepped, LabFault>
-        ensures { Calls self.old B (Accept start self.old.clock) self.new result }
+    fn accept(&mut self, start: PktNum) -> Result<StepDone, LabFault>
+        ensures { Calls self.old B (Accept start self.old.clock) self.new (told blank [] result) }
     {
         grow(&mut self.ends, &mut self.copies)?;
         let stepped = self.ends.accept(start, self.clock, &mut self.out)?;
@@ -253,8 +281,8 @@ impl Rig {
     }
 
     /// A copy comes to the end that it was sent to.
-    fn deliver(&mut self, k: usize) -> Result<Stepped, LabFault>
-        ensures { Happens self.old (DeliverCopy k) self.new result }
+    fn deliver(&mut self, k: usize) -> Result<StepDone, LabFault>
+        ensures { Happens self.old (DeliverCopy k) self.new (told_at self.old self.new (DeliverCopy k) result) }
     {
         let Some(copy) = self.copies.list.get(k) else {
             return Err(LabFault::NoSuchCopy);
@@ -269,33 +297,35 @@ impl Rig {
     }
 
     /// B takes the request that a copy carries.
-    fn take_request(&mut self, k: usize) -> Result<Stepped, LabFault>
-        ensures { CallsWith (slice_get self.old.copies k) (λ copy. Calls self.old B (TakeRequest copy.packet (place_of B) self.old.clock) self.new result) }
+    fn take_request(&mut self, k: usize) -> Result<StepDone, LabFault>
+        ensures { CallsWith (slice_get self.old.copies k) (λ copy. Calls self.old B (TakeRequest copy.packet (place_of B) self.old.clock) self.new (told copy.packet [] result)) }
     {
         grow(&mut self.ends, &mut self.copies)?;
         let Some(copy) = self.copies.list.get(k) else {
             return Err(LabFault::NoSuchCopy);
         };
+        copy.packet.write_into(&mut self.delivered);
         let stepped = self
             .ends
-            .take_request(&copy.packet.packet(), self.clock, &mut self.out)?;
+            .take_request(&self.delivered, self.clock, &mut self.out)?;
         self.asked = true;
         post(&mut self.copies, &mut self.out, Side::B, &self.ends);
         Ok(stepped)
     }
 
     /// A copy comes as a packet of the connection.
-    fn deliver_packet(&mut self, k: usize) -> Result<Stepped, LabFault>
-        ensures { CallsWith (slice_get self.old.copies k) (λ copy. Calls self.old (other copy.side) (Deliver copy.packet self.old.clock) self.new result) }
+    fn deliver_packet(&mut self, k: usize) -> Result<StepDone, LabFault>
+        ensures { CallsWith (slice_get self.old.copies k) (λ copy. Calls self.old (other copy.side) (Deliver copy.packet self.old.clock) self.new (told copy.packet [] result)) }
     {
         grow(&mut self.ends, &mut self.copies)?;
         let Some(copy) = self.copies.list.get(k) else {
             return Err(LabFault::NoSuchCopy);
         };
         let side = copy.side.other();
+        copy.packet.write_into(&mut self.delivered);
         let stepped = self
             .ends
-            .deliver(side, &copy.packet.packet(), self.clock, &mut self.out)?;
+            .deliver(side, &self.delivered, self.clock, &mut self.out)?;
         post(&mut self.copies, &mut self.out, side, &self.ends);
         Ok(stepped)
     }
@@ -344,10 +374,11 @@ fn post(copies: &mut CopyList, out: &mut Outbox, side: Side, ends: &BothEnds)
 {
     let (len_a, len_b) = (ends.a.written.len(), ends.b.written.len());
     for _ in 0..MAX_WINDOW {
-        let Some(packet) = out.take() else {
+        let Some(packet) = out.front() else {
             break;
         };
-        copies.push(side, &packet, len_a, len_b);
+        copies.push(side, packet, len_a, len_b);
+        out.drop_front();
     }
 }
 

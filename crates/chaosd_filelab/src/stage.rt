@@ -14,7 +14,7 @@ use crate::answers::put_answer;
 use crate::command::file_line_of;
 use chaos_filelab::FileLab;
 use chaos_lab::Side;
-use chaosd_engines::{NotWritten, RunFault, WriteBuffer, written};
+use chaosd_engines::{Data, NotWritten, RunFault, WriteBuffer, written};
 use chaosd_lab::{is_refused, put_copies, put_stored, start_of};
 use chaosd_script::Stage;
 use std::alloc::Global;
@@ -24,6 +24,8 @@ use std::marker::Model;
 #[derive(Drop)]
 pub struct FileStage {
     lab: FileLab,
+    /// The bytes of the last text.
+    body: Data,
 }
 
 impl Model for FileStage {
@@ -57,7 +59,7 @@ impl Stage for FileStage {
         line: &[u8],
         number: u64,
     ) -> Result<bool, RunFault> {
-        play(alloc, &mut self.lab, out, line, number)
+        play(alloc, &mut self.lab, &mut self.body, out, line, number)
     }
 
     fn end(&self, out: &mut WriteBuffer) -> Result<(), NotWritten> {
@@ -69,6 +71,7 @@ impl Stage for FileStage {
 ///
 /// # Errors
 /// `BadScript` with this number where the line is of no form, `NoMemory`, and `WriteFault` where the text doesn't fit.
+#[inline(never)]
 fn begin(
     alloc: Global,
     out: &mut WriteBuffer,
@@ -87,7 +90,10 @@ fn begin(
         return Err(RunFault::NoMemory);
     };
     written(put_copies(out, lab.copies(), 0))?;
-    Ok(FileStage { lab })
+    Ok(FileStage {
+        lab,
+        body: Data::new(),
+    })
 }
 
 /// Lets the event of a line happen, writes what came of it, and says whether it was refused.
@@ -98,6 +104,7 @@ fn begin(
 fn play(
     alloc: Global,
     lab: &mut FileLab,
+    body: &mut Data,
     out: &mut WriteBuffer,
     line: &[u8],
     number: u64,
@@ -108,11 +115,11 @@ fn play(
         × (wrote_mem lab.old ≡ false → (out.new ≡ out.old ++ refusal_text NoMemory) ⊎ ((file_line_of line.now ≡ Some Serve) × (out.new ≡ out.old))) }
     ensures faults { IfErr result (λ fault. IsLineFault fault) }
 {
-    let Some(command) = file_line_of(line) else {
+    let Some(command) = file_line_of(line, body) else {
         return Err(RunFault::BadScript(number));
     };
     let before = lab.copies().len();
-    let answer = command.act(alloc, lab);
+    let answer = command.act(alloc, lab, body.as_slice());
     if lab.wrote_mem() {
         return Err(RunFault::NoMemory);
     }

@@ -3,10 +3,14 @@ use Rattle.std.proofs.Common.{◌≡◌, ◌≢◌, ℕ, ◌≤◌, Bool, List, 
 use Rattle.std.specs.Prelude.{Option, Some, None, Result, Ok, Err, is_err, IfOk, option_map}
 use Rattle.std.proofs.lemmas.List.{drop_all}
 use Rattle.chaos_lab.specs.declared.stamped.Stamped.{Stamped}
+use Rattle.chaos_packet.specs.Item.{ItemView}
+use Rattle.chaos_packet.specs.Packet.{PacketView}
+use Rattle.chaos_lab.specs.declared.event.StepDone.{StepDone}
 use Rattle.chaos_lab.specs.declared.event.Stepped.{Stepped}
 use Rattle.chaos_lab.specs.declared.fault.LabFault.{LabFault}
 use Rattle.chaos_lab.specs.declared.fault.LabFault.TheVariants.{NoSuchCopy, Stale, Refused, NoMemory, ByServer}
 use Rattle.chaos_lab.specs.Laboratory.{LabView, Happening, Happens, happen}
+use Rattle.chaos_lab.specs.Told.{told}
 use Rattle.chaos_lab.proofs.Happening.{no_memory}
 use Rattle.chaosd_engines.specs.declared.fault.RunFault.{RunFault}
 use Rattle.chaosd_engines.specs.declared.fault.RunFault.TheVariants as run
@@ -45,6 +49,11 @@ line_plays line before after old mid new event answer result said happens first 
       })
       | inr h ↦ let (none, lab, ans) = h in subst (λ a. IfOk (refused_or_ended a) P) (sym ans) tt
     ])
+
+-- whether an answer refuses is the same of the small one
+pub told_refused : (packet : PacketView) (items : List ItemView) (answer : Result StepDone LabFault) → refused_or_ended answer ≡ refused_or_ended (told packet items answer)
+told_refused packet items (Ok done) = refl
+told_refused packet items (Err why) = refl
 
 -- ---- want of memory
 

@@ -1,10 +1,12 @@
 //! What came of an event, as text.
 ghost use Rattle.std.specs.Prelude.{◌≡◌, ◌++◌, drop, OnOk};
+ghost use Rattle.chaos_packet.specs.Packet.{PacketView};
+ghost use Rattle.chaos_lab.specs.Told.{given_by, in_full, last_of, told};
 ghost use Rattle.chaosd_lab.specs.Answers.{named_line, numbered_line, item_line, read_text, ticked_text, stepped_text, refusal_text, answer_text, op_name, numbers_text, copy_line, copies_text, stored_line};
 
-use crate::names::{conn_fault_name, delivered_name, side_name, state_name};
-use chaos_conn::{ReadEnd, Ticked};
-use chaos_lab::{LabFault, Stamped, Stepped};
+use crate::names::{conn_fault_name, delivered_name, disposition_name, side_name, state_name};
+use chaos_conn::{ReadDone, ReadEnd, Ticked};
+use chaos_lab::{LabFault, Stamped, StepDone, Stepped};
 use chaos_packet::{Item, Opcode};
 use chaosd_engines::{NotWritten, WriteBuffer, put_decimal, put_line, put_octal_three, put_text};
 
@@ -53,6 +55,17 @@ fn put_read(out: &mut WriteBuffer, read: &ReadEnd) -> Result<(), NotWritten>
     }
 }
 
+/// What a read gave, of these items the last where it gave one.
+fn put_read_done(out: &mut WriteBuffer, done: ReadDone, items: &[Item]) -> Result<(), NotWritten>
+    ensures { OnOk result (out.new ≡ out.old ++ read_text (given_by done (last_of items.now))) }
+{
+    match (done, items.last()) {
+        (ReadDone::Done, Some(item)) => put_item(out, item),
+        (ReadDone::Done | ReadDone::Nothing, _) => put_line(out, "read nothing"),
+        (ReadDone::Ended(state), _) => put_named(out, "read ended", state_name(state)),
+    }
+}
+
 fn put_ticked(out: &mut WriteBuffer, ticked: Ticked) -> Result<(), NotWritten>
     ensures { OnOk result (out.new ≡ out.old ++ ticked_text ticked) }
 {
@@ -80,6 +93,24 @@ pub fn put_stepped(out: &mut WriteBuffer, stepped: &Stepped) -> Result<(), NotWr
     }
 }
 
+/// What an event did that was taken, where the user whom it let read has read these items.
+fn put_done(out: &mut WriteBuffer, done: StepDone, items: &[Item]) -> Result<(), NotWritten>
+    ensures { (packet : PacketView) → OnOk result (out.new ≡ out.old ++ stepped_text (in_full packet items.now done)) }
+{
+    match done {
+        StepDone::Wrote(num) => put_numbered(out, "wrote", usize::from(num.0)),
+        StepDone::Read(done) => put_read_done(out, done, items),
+        StepDone::Announced(window) => put_numbered(out, "announced", usize::from(window)),
+        StepDone::Ticked(ticked) => put_ticked(out, ticked),
+        StepDone::Closed => put_line(out, "closed"),
+        StepDone::Accepted(num) => put_numbered(out, "accepted", usize::from(num.0)),
+        StepDone::Requested => put_line(out, "delivered Requested"),
+        StepDone::Delivered(disposition) => {
+            put_named(out, "delivered", disposition_name(disposition))
+        }
+    }
+}
+
 /// Why an event was refused.
 pub fn put_refusal(out: &mut WriteBuffer, fault: LabFault) -> Result<(), NotWritten>
     ensures { OnOk result (out.new ≡ out.old ++ refusal_text fault) }
@@ -93,16 +124,17 @@ pub fn put_refusal(out: &mut WriteBuffer, fault: LabFault) -> Result<(), NotWrit
     }
 }
 
-/// What came of an event.
+/// What came of an event, where the user whom it let read has read these items.
 pub fn put_answer(
     out: &mut WriteBuffer,
-    answer: &Result<Stepped, LabFault>,
+    answer: Result<StepDone, LabFault>,
+    items: &[Item],
 ) -> Result<(), NotWritten>
-    ensures { OnOk result (out.new ≡ out.old ++ answer_text answer.now) }
+    ensures { (packet : PacketView) → OnOk result (out.new ≡ out.old ++ answer_text (told packet items.now answer)) }
 {
     match answer {
-        Ok(stepped) => put_stepped(out, stepped),
-        Err(fault) => put_refusal(out, *fault),
+        Ok(done) => put_done(out, done, items),
+        Err(fault) => put_refusal(out, fault),
     }
 }
 

@@ -5,33 +5,32 @@ ghost use Rattle.chaosd_lab.specs.Command.{happening_said};
 
 use chaos_lab::{Event, Side};
 use chaos_packet::{Opcode, PktNum};
-use chaosd_engines::Data;
 
-/// An event with bytes of its own.
-#[derive(Drop)]
+/// An event without the bytes of its text, which lie with the caller: few lines have any.
+#[derive(Clone, Copy, Debug, PartialEq, Eq)]
 pub enum Command {
-    Write(Side, Opcode, Data),
+    Write(Side, Opcode),
     Read(Side),
     Window(Side, u16),
     Tick(Side, u64),
-    Close(Side, Data),
+    Close(Side),
     Accept(PktNum),
     Deliver(usize),
 }
 
 impl Command {
-    /// The event, its bytes lent.
-    pub fn event(&self) -> Event<'_>
-        ensures { happening_of result ≡ happening_said self.now }
+    /// The event, with the bytes of its text.
+    pub fn event<'a>(self, bytes: &'a [u8]) -> Event<'a>
+        ensures { happening_of result ≡ happening_said bytes.now self }
     {
         match self {
-            Command::Write(side, op, data) => Event::Write(*side, *op, data.as_slice()),
-            Command::Read(side) => Event::Read(*side),
-            Command::Window(side, window) => Event::Announce(*side, *window),
-            Command::Tick(side, now) => Event::Tick(*side, *now),
-            Command::Close(side, data) => Event::Close(*side, data.as_slice()),
-            Command::Accept(start) => Event::Accept(*start),
-            Command::Deliver(copy) => Event::Deliver(*copy),
+            Command::Write(side, op) => Event::Write(side, op, bytes),
+            Command::Read(side) => Event::Read(side),
+            Command::Window(side, window) => Event::Announce(side, window),
+            Command::Tick(side, now) => Event::Tick(side, now),
+            Command::Close(side) => Event::Close(side, bytes),
+            Command::Accept(start) => Event::Accept(start),
+            Command::Deliver(copy) => Event::Deliver(copy),
         }
     }
 }

@@ -12,7 +12,7 @@ use crate::answers::{put_answer, put_copies, put_stored};
 use crate::parse::event_of;
 use crate::start::start_of;
 use chaos_lab::{Lab, LabFault, Side};
-use chaosd_engines::{NotWritten, RunFault, WriteBuffer, written};
+use chaosd_engines::{Data, NotWritten, RunFault, WriteBuffer, written};
 use chaosd_script::Stage;
 use std::alloc::Global;
 use std::marker::Model;
@@ -21,6 +21,8 @@ use std::marker::Model;
 #[derive(Drop)]
 pub struct LabStage {
     lab: Lab,
+    /// The bytes of the last text.
+    body: Data,
 }
 
 impl Model for LabStage {
@@ -50,7 +52,7 @@ impl Stage for LabStage {
         line: &[u8],
         number: u64,
     ) -> Result<bool, RunFault> {
-        play(alloc, &mut self.lab, out, line, number)
+        play(alloc, &mut self.lab, &mut self.body, out, line, number)
     }
 
     fn end(&self, out: &mut WriteBuffer) -> Result<(), NotWritten> {
@@ -62,6 +64,7 @@ impl Stage for LabStage {
 ///
 /// # Errors
 /// `BadScript` with this number where the line is of no form, `NoMemory`, and `WriteFault` where the text doesn't fit.
+#[inline(never)]
 fn begin(
     alloc: Global,
     out: &mut WriteBuffer,
@@ -80,7 +83,10 @@ fn begin(
         return Err(RunFault::NoMemory);
     };
     written(put_copies(out, lab.copies(), 0))?;
-    Ok(LabStage { lab })
+    Ok(LabStage {
+        lab,
+        body: Data::new(),
+    })
 }
 
 /// How many packets both ends store.
@@ -100,6 +106,7 @@ fn put_ends(out: &mut WriteBuffer, lab: &Lab) -> Result<(), NotWritten>
 fn play(
     alloc: Global,
     lab: &mut Lab,
+    body: &mut Data,
     out: &mut WriteBuffer,
     line: &[u8],
     number: u64,
@@ -109,12 +116,13 @@ fn play(
     ensures no_memory { result ≡ Err RunFault.NoMemory → (event_of line.now ≢ None) × (lab.new ≡ lab.old) × (out.new ≡ out.old ++ refusal_text NoMemory) }
     ensures faults { IfErr result (λ fault. IsLineFault fault) }
 {
-    let Some(command) = event_of(line) else {
+    let Some(command) = event_of(line, body) else {
         return Err(RunFault::BadScript(number));
     };
     let before = lab.copies().len();
-    let answer = lab.step(alloc, &command.event());
-    written(put_answer(out, &answer))?;
+    let event = command.event(body.as_slice());
+    let answer = lab.happen(alloc, &event);
+    written(put_answer(out, answer, lab.read_in(&event)))?;
     written(put_copies(out, lab.copies(), before))?;
     is_refused(&answer)
 }

@@ -1,6 +1,7 @@
 //! The event that a line asks for.
-ghost use Rattle.std.specs.Prelude.{◌≡◌, option_map};
+ghost use Rattle.std.specs.Prelude.{◌≡◌, ℕ, List, option_map};
 ghost use Rattle.chaosd_lab.specs.Command.{happening_said};
+ghost use Rattle.chaosd_engines.specs.Escapes as said;
 ghost use Rattle.chaosd_lab.specs.Event.{write_of, write_at, read_of, window_of, tick_of, close_of, accept_of, deliver_of, event_of};
 
 use crate::command::Command;
@@ -8,34 +9,44 @@ use crate::fields::{cut, field_and_text};
 use crate::numbers::{number_of, opcode_of, side_of};
 use chaos_lab::Side;
 use chaos_packet::PktNum;
-use chaosd_engines::data_of;
+use chaosd_engines::{Data, data_of};
+
+/// Reads the bytes that a text stands for into their place, where it is of that form.
+fn read_data(text: &[u8], body: &mut Data) -> Option<()>
+    ensures { option_map (λ none. body.new.items) result ≡ said.data_of text.now }
+{
+    *body = data_of(text)?;
+    Some(())
+}
 
 /// `S OOO TEXT`, or without the text and the space before it.
-fn write_of(rest: &[u8]) -> Option<Command>
-    ensures { option_map happening_said result ≡ write_of rest.now }
+fn write_of(rest: &[u8], body: &mut Data) -> Option<Command>
+    ensures { option_map (happening_said body.new.items) result ≡ write_of rest.now }
 {
     let (side, rest) = cut(rest)?;
-    write_at(side_of(side)?, rest)
+    write_at(side_of(side)?, rest, body)
 }
 
 /// `OOO TEXT` of a write at a side.
-fn write_at(side: Side, rest: &[u8]) -> Option<Command>
-    ensures { option_map happening_said result ≡ write_at side rest.now }
+fn write_at(side: Side, rest: &[u8], body: &mut Data) -> Option<Command>
+    ensures { option_map (happening_said body.new.items) result ≡ write_at side rest.now }
 {
     let (op, text) = field_and_text(rest);
-    Some(Command::Write(side, opcode_of(op)?, data_of(text)?))
+    let op = opcode_of(op)?;
+    read_data(text, body)?;
+    Some(Command::Write(side, op))
 }
 
 /// `S`.
 fn read_of(rest: &[u8]) -> Option<Command>
-    ensures { option_map happening_said result ≡ read_of rest.now }
+    ensures { (bytes : List ℕ) → option_map (happening_said bytes) result ≡ read_of rest.now }
 {
     Some(Command::Read(side_of(rest)?))
 }
 
 /// `S N`, the window that a side announces.
 fn window_of(rest: &[u8]) -> Option<Command>
-    ensures { option_map happening_said result ≡ window_of rest.now }
+    ensures { (bytes : List ℕ) → option_map (happening_said bytes) result ≡ window_of rest.now }
 {
     let (side, window) = cut(rest)?;
     let window = number_of(u64::from(u16::MAX), window);
@@ -44,23 +55,25 @@ fn window_of(rest: &[u8]) -> Option<Command>
 
 /// `S N`.
 fn tick_of(rest: &[u8]) -> Option<Command>
-    ensures { option_map happening_said result ≡ tick_of rest.now }
+    ensures { (bytes : List ℕ) → option_map (happening_said bytes) result ≡ tick_of rest.now }
 {
     let (side, now) = cut(rest)?;
     Some(Command::Tick(side_of(side)?, number_of(u64::MAX, now)?))
 }
 
 /// `S TEXT`, or without the text and the space before it.
-fn close_of(rest: &[u8]) -> Option<Command>
-    ensures { option_map happening_said result ≡ close_of rest.now }
+fn close_of(rest: &[u8], body: &mut Data) -> Option<Command>
+    ensures { option_map (happening_said body.new.items) result ≡ close_of rest.now }
 {
     let (side, text) = field_and_text(rest);
-    Some(Command::Close(side_of(side)?, data_of(text)?))
+    let side = side_of(side)?;
+    read_data(text, body)?;
+    Some(Command::Close(side))
 }
 
 /// `N`, the number of B's first item.
 fn accept_of(rest: &[u8]) -> Option<Command>
-    ensures { option_map happening_said result ≡ accept_of rest.now }
+    ensures { (bytes : List ℕ) → option_map (happening_said bytes) result ≡ accept_of rest.now }
 {
     let start = number_of(u64::from(u16::MAX), rest)?;
     Some(Command::Accept(PktNum(start as u16)))
@@ -68,20 +81,21 @@ fn accept_of(rest: &[u8]) -> Option<Command>
 
 /// `K`, the number of a copy.
 fn deliver_of(rest: &[u8]) -> Option<Command>
-    ensures { option_map happening_said result ≡ deliver_of rest.now }
+    ensures { (bytes : List ℕ) → option_map (happening_said bytes) result ≡ deliver_of rest.now }
 {
     let copy = number_of(u64::MAX, rest)?;
     Some(Command::Deliver(copy as usize))
 }
 
-/// The event that a line asks for, where it is of the form of one.
+/// The event that a line asks for, where it is of the form of one, with the bytes of its text in `body`. A line without a text
+/// leaves them as they are.
 #[tactic(auto, unfolding(crate::specs::Event::event_of))]
-pub fn event_of(line: &[u8]) -> Option<Command>
-    ensures { option_map happening_said result ≡ event_of line.now }
+pub fn event_of(line: &[u8], body: &mut Data) -> Option<Command>
+    ensures { option_map (happening_said body.new.items) result ≡ event_of line.now }
 {
     let (word, rest) = cut(line)?;
     if word == b"write".as_slice() {
-        write_of(rest)
+        write_of(rest, body)
     } else if word == b"read".as_slice() {
         read_of(rest)
     } else if word == b"window".as_slice() {
@@ -89,7 +103,7 @@ pub fn event_of(line: &[u8]) -> Option<Command>
     } else if word == b"tick".as_slice() {
         tick_of(rest)
     } else if word == b"close".as_slice() {
-        close_of(rest)
+        close_of(rest, body)
     } else if word == b"accept".as_slice() {
         accept_of(rest)
     } else if word == b"deliver".as_slice() {

@@ -10,7 +10,6 @@ use Rattle.chaosd_engines.specs.declared.limits.TheConstants.{INPUT_LIMIT, KEPT_
 use Rattle.chaosd_engines.specs.Buffer.{written_of}
 use Rattle.chaosd_engines.specs.Lines.{lines_of, IsMet}
 use Rattle.chaosd_engines.specs.Reader.{LinesView, Gives, GivesNext, GivesLast}
-use Rattle.chaosd_engines.proofs.Steps.{nothing_waits}
 use Rattle.chaosd_engines.proofs.Cutting.{IsGiven, given_met, last_met, if_some}
 use Rattle.chaosd_script.specs.declared.standing.Standing.{Standing}
 use Rattle.chaosd_script.specs.Script.{Script, play_of, text_of, IsFirstBad}

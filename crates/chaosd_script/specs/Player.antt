@@ -5,6 +5,7 @@ use Rattle.std.specs.Io.KnownBytes.{Appends, Consumes}
 use Rattle.chaosd_engines.specs.declared.fault.RunFault.{RunFault}
 use Rattle.chaosd_engines.specs.declared.fault.RunFault.TheVariants as run
 use Rattle.chaosd_engines.specs.declared.limits.TheConstants.{INPUT_LIMIT, KEPT_LEN}
+use Rattle.chaosd_engines.specs.Buffer.{written_of}
 use Rattle.chaosd_engines.specs.Lines.{lines_of, ended_lines, IsMet}
 use Rattle.chaosd_engines.specs.Reader.{LinesView, Gives, Done}
 use Rattle.chaosd_script.specs.declared.standing.Standing.{Standing}
@@ -42,6 +43,18 @@ StopsLine script before written ended line (run.BadScript number) = (number ≡ 
 StopsLine script before written ended line run.NoMemory = (play_of script (ended ++ line ∷ []) ≢ None) × (text : List ℕ) × IsWantText script (length ended) line text × Appends before written (text_of (play_of script ended) ++ text)
 StopsLine script before written ended line run.WriteFault = ⊤
 StopsLine script before written ended line _ = ⊥
+
+-- a line more was played: the text that waits is longer, and the standing is that behind it
+abbrev pub PlaysOn : {X : Type 0} → Script X → (old_text : List ℕ) → (old : Standing X) → (line new_text : List ℕ) → (new : Standing X) → Type 0
+PlaysOn script old_text old line new_text new =
+    (before held : Option (List ℕ)) → (ended : List (List ℕ))
+    → PlaysLines script before (written_of held old_text) old ended → PlaysLines script before (written_of held new_text) new (ended ++ line ∷ [])
+
+-- why it wasn't
+abbrev pub StopsOn : {X : Type 0} → Script X → (old_text : List ℕ) → (old : Standing X) → (line new_text : List ℕ) → RunFault → Type 0
+StopsOn script old_text old line new_text fault =
+    (before held : Option (List ℕ)) → (ended : List (List ℕ))
+    → PlaysLines script before (written_of held old_text) old ended → StopsLine script before (written_of held new_text) ended line fault
 
 -- ---- Inputs
 

@@ -1,9 +1,10 @@
 //! Lines played one after another.
-ghost use Rattle.std.specs.Prelude.{◌≡◌, ◌+◌, ◌≤◌, ◌++◌, ◌∷◌, [], List, Option, OnOk, IfErr, IfSome, ℕ};
+ghost use Rattle.std.specs.Prelude.{◌≡◌, ◌+◌, ◌≤◌, ◌++◌, ◌∷◌, [], List, None, Option, OnOk, IfErr, IfSome, length, ℕ};
+ghost use Rattle.std.specs.Io.BufRead.{strip_last};
 ghost use Rattle.std.specs.Io.KnownBytes.{Keeps};
 ghost use Rattle.chaosd_engines.specs.Buffer.{written_of};
 ghost use Rattle.chaosd_engines.specs.declared.fault.RunFault.TheVariants.{WriteFault};
-ghost use Rattle.chaosd_script.specs.Player.{PlaysLines, StopsLine, PlaysDone, PlaysWithin, StopsRun};
+ghost use Rattle.chaosd_script.specs.Player.{PlaysLines, PlaysOn, StopsLine, StopsOn, PlaysDone, PlaysWithin, StopsRun};
 
 use crate::stage::Stage;
 use crate::standing::Standing;
@@ -64,15 +65,29 @@ impl<S: Stage> Player<S> {
         Ok(())
     }
 
+    /// Plays the first line. A function of its own, so that a later line has no room for a laboratory to be made in.
+    #[inline(never)]
+    fn play_first(&mut self, raw: &[u8]) -> Result<(), RunFault>
+        requires few { self.old.at.lines ≤ INPUT_LIMIT }
+        requires first { self.old.at.lab ≡ None }
+        requires short { length (strip_last 13 raw.now) ≤ LINE_LIMIT }
+        ensures plays { OnOk result (PlaysOn S.script self.old.out self.old.at raw.now self.new.out self.new.at) }
+        ensures stops { IfErr result (StopsOn S.script self.old.out self.old.at raw.now self.new.out) }
+        ensures count { OnOk result (self.new.at.lines ≡ self.old.at.lines + 1) }
+    {
+        let line = without_return(raw);
+        let number = self.at.lines + 1;
+        let lab = S::begin(self.alloc, &mut self.out, line, number)?;
+        self.at.lab = Some(lab);
+        self.at.lines = number;
+        Ok(())
+    }
+
     /// Plays a line.
     fn play_one(&mut self, raw: &[u8]) -> Result<(), RunFault>
         requires { self.old.at.lines ≤ INPUT_LIMIT }
-        ensures plays { OnOk result ((before held : Option (List ℕ)) (ended : List (List ℕ))
-            → PlaysLines S.script before (written_of held self.old.out) self.old.at ended
-            → PlaysLines S.script before (written_of held self.new.out) self.new.at (ended ++ raw.now ∷ [])) }
-        ensures stops { IfErr result (λ fault. (before held : Option (List ℕ)) (ended : List (List ℕ))
-            → PlaysLines S.script before (written_of held self.old.out) self.old.at ended
-            → StopsLine S.script before (written_of held self.new.out) ended raw.now fault) }
+        ensures plays { OnOk result (PlaysOn S.script self.old.out self.old.at raw.now self.new.out self.new.at) }
+        ensures stops { IfErr result (StopsOn S.script self.old.out self.old.at raw.now self.new.out) }
         ensures count { OnOk result (self.new.at.lines ≡ self.old.at.lines + 1) }
     {
         let line = without_return(raw);
@@ -81,10 +96,7 @@ impl<S: Stage> Player<S> {
             return Err(RunFault::BadScript(number));
         }
         let Some(lab) = &mut self.at.lab else {
-            let lab = S::begin(self.alloc, &mut self.out, line, number)?;
-            self.at.lab = Some(lab);
-            self.at.lines = number;
-            return Ok(());
+            return self.play_first(raw);
         };
         let refused = lab.play(self.alloc, &mut self.out, line, number)?;
         self.at.refused += u64::from(refused);

@@ -1,12 +1,10 @@
-use Rattle.std.proofs.Common.{rules, ◌≡◌, ℕ, [], subst, ◌++◌, length}
+use Rattle.std.proofs.Common.{rules, ◌≡◌, ℕ, [], subst}
 use Rattle.chaos_packet.specs.Outbox.{OutboxView}
-use Rattle.chaos_conn.specs.View.{ConnView}
 use Rattle.chaos_lab.specs.declared.user.Turned.{Turned}
 use Rattle.chaos_lab.specs.declared.user.Turned.TheVariants as turned
 use Rattle.chaos_lab.specs.Inside.{end_view}
 use Rattle.chaos_lab.specs.Laboratory.{EndView, LabView}
-use Rattle.chaos_lab.specs.Turn.{Turn}
-use Rattle.chaos_lab.specs.Turning.{EndTurns, stamped_reply, reply_items}
+use Rattle.chaos_lab.specs.Turning.{EndTurns}
 use Rattle.chaos_lab.proofs.Turns.{turned_lab}
 use Rattle.chaos_lab.proofs.rig.Rig.take_turn.Goals as goal
 

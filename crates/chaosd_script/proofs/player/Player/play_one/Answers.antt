@@ -1,9 +1,9 @@
-use Rattle.std.proofs.Common.{◌≡◌, true, false, ltb, length, refl, sym, ap, ◌∙◌, subst, arith, rules}
+use Rattle.std.proofs.Common.{◌≡◌, true, false, ltb, length, sym, ap, ◌∙◌, subst, arith, rules}
 use Rattle.std.specs.Io.BufRead.{strip_last}
 use Rattle.std.proofs.lemmas.Bool.Decides.{nat_tests}
 use Rattle.chaosd_engines.specs.declared.limits.TheConstants.{LINE_LIMIT}
 use Rattle.chaosd_script.specs.Script.{PlaysLine}
-use Rattle.chaosd_script.proofs.Plays.{too_long_stops, begins, plays_event, first_stops, event_stops, on_fault}
+use Rattle.chaosd_script.proofs.Plays.{too_long_stops, plays_event, event_stops, on_fault}
 use Rattle.chaosd_script.proofs.player.Player.play_one.Goals as goal
 
 pub returns-then-line-gt-LINE_LIMIT-clause-stops : goal.returns-then-line-gt-LINE_LIMIT-clause-stops
@@ -13,25 +13,9 @@ returns-then-line-gt-LINE_LIMIT-clause-stops g c before held ended s =
     let x = c.if-line-gt-LINE_LIMIT.true in
     too_long_stops g.S.Stage.script before _ _ ended raw (subst (λ l. ltb LINE_LIMIT (length l) ≡ true) line (grind (arith, nat_tests))) s
 
-pub returns-in_default-clause-plays : goal.returns-in_default-clause-plays
-returns-in_default-clause-plays g c before held ended s =
-    let raw = c.args.raw.now in
-    let line : c.without_return-line.result.now ≡ strip_last 13 raw = c.without_return-line.ensures in
-    begins g.S.Stage.script before held _ _ ended raw _ _ c.in_ok-lab.lab c.in_default.is refl (subst (λ l. ltb LINE_LIMIT (length l) ≡ false) line (grind (arith, nat_tests))) (ap g.S.Stage.script.first (sym line) ∙ c.in_ok-lab.ensures.begun.0) c.in_ok-lab.ensures.begun.1 c.in_ok-lab.ensures.begun.2 s
-
-pub returns-in_err-lab-clause-stops : goal.returns-in_err-lab-clause-stops
-returns-in_err-lab-clause-stops g c =
-    on_fault c.from_residual.result c.in_err-lab.field-0.0 _ c.from_residual.ensures.1 (λ before held ended s.
-    let raw = c.args.raw.now in
-    let line : c.without_return-line.result.now ≡ strip_last 13 raw = c.without_return-line.ensures in
-    first_stops g.S.Stage.script c.in_err-lab.field-0.0 before held _ ended raw _ _ c.in_default.is (subst (λ l. ltb LINE_LIMIT (length l) ≡ false) line (grind (arith, nat_tests)))
-    c.in_err-lab.ensures.faults
-    (λ n e. let (number, said, same) = c.in_err-lab.ensures.bad n e in (number, ap g.S.Stage.script.first (sym line) ∙ said, same))
-    (λ e. let (said, same) = c.in_err-lab.ensures.no_memory e in (λ none. said (ap g.S.Stage.script.first line ∙ none), same)) s)
-
 pub returns-in_err-refused-clause-stops : goal.returns-in_err-refused-clause-stops
 returns-in_err-refused-clause-stops g c =
-    on_fault c.from_residual-in_err-refused.result c.in_err-refused.field-0.0 _ c.from_residual-in_err-refused.ensures.1 (λ before held ended s.
+    on_fault c.from_residual.result c.in_err-refused.field-0.0 _ c.from_residual.ensures.1 (λ before held ended s.
     let raw = c.args.raw.now in
     let line : c.without_return-line.result.now ≡ strip_last 13 raw = c.without_return-line.ensures in
     event_stops g.S.Stage.script c.in_err-refused.field-0.0 before held _ ended raw _ _ c.in-Some.lab c.in-Some.is (subst (λ l. ltb LINE_LIMIT (length l) ≡ false) line (grind (arith, nat_tests)))
