@@ -1,7 +1,7 @@
 pub mod Digits
 pub mod Faults
-pub mod TextBytes
 pub mod ReadBack
+pub mod TextBytes
 pub mod Pairs
 pub mod Steps
 pub mod Versions

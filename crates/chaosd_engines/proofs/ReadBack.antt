@@ -6,7 +6,7 @@ use Rattle.std.proofs.lemmas.Bool.Decides.{nat_tests}
 use Rattle.std.proofs.lemmas.List.Elements.{All-head, All-tail}
 use Rattle.chaosd_engines.specs.Escapes.{plain_byte, low_hex, joined, escaped_byte, with_byte, bytes_of, low_hex_digit, is_escaped, shown_byte}
 
-plain_first : (a : ℕ) (rest : List ℕ) → eqb a 92 ≡ false → bytes_of (a ∷ rest) ≡ with_byte (plain_byte a) (bytes_of rest)
+pub plain_first : (a : ℕ) (rest : List ℕ) → eqb a 92 ≡ false → bytes_of (a ∷ rest) ≡ with_byte (plain_byte a) (bytes_of rest)
 unfolding bytes_of
 plain_first a [] h = refl
 plain_first a (b ∷ []) h = refl
@@ -25,10 +25,10 @@ byte_back b lt =
     let low : low_hex (low_hex_digit (b % 16)) ≡ Some (b % 16) = digit_back (b % 16) (omega arith) in
     ap (λ h. joined h (low_hex (low_hex_digit (b % 16)))) high ∙ ap (joined (Some (b / 16))) low ∙ ap Some (omega arith)
 
-plain_back : (b : ℕ) → is_escaped b ≡ false → plain_byte b ≡ Some b
+pub plain_back : (b : ℕ) → is_escaped b ≡ false → plain_byte b ≡ Some b
 plain_back b h = grind (arith, nat_tests, h)
 
-not_escape : (b : ℕ) → is_escaped b ≡ false → eqb b 92 ≡ false
+pub not_escape : (b : ℕ) → is_escaped b ≡ false → eqb b 92 ≡ false
 not_escape b h = grind (arith, nat_tests, h)
 
 return_back : (b : ℕ) → eqb b 141 ≡ true → Some 141 ≡ Some b

@@ -1,5 +1,5 @@
 -- Bytes, written as text.
-use Rattle.std.specs.Prelude.{◌≡◌, ◌<◌, All, ℕ, ◌+◌, ◌*◌, ◌-◌, ◌/◌, ◌%◌, Bool, ◌&&◌, ◌||◌, ◌==◌, nat_le, nat_lt, if◌then◌else◌, List, [], ◌∷◌, length, Option, Some, None}
+use Rattle.std.specs.Prelude.{◌≡◌, ◌<◌, ◌≤◌, All, not, drop, ◌++◌, ℕ, ◌+◌, ◌*◌, ◌-◌, ◌/◌, ◌%◌, Bool, ◌&&◌, ◌||◌, ◌==◌, nat_le, nat_lt, if◌then◌else◌, List, [], ◌∷◌, length, Option, Some, None}
 use Rattle.std.specs.List.{flat_map}
 use Rattle.chaos_packet.specs.declared.limits.TheConstants.{MAX_DATA}
 
@@ -35,6 +35,11 @@ bytes_of (a ∷ b ∷ []) = with_byte (plain_byte a) (bytes_of (b ∷ []))
 bytes_of (a ∷ b ∷ c ∷ others) = if a == 92 then with_byte (escaped_byte b c) (bytes_of others)
     else with_byte (plain_byte a) (bytes_of (b ∷ c ∷ others))
 
+-- bytes in front of those that a text stands for
+abbrev pub with_front : List ℕ → Option (List ℕ) → Option (List ℕ)
+with_front front None = None
+with_front front (Some bytes) = Some (front ++ bytes)
+
 abbrev pub within_packet : Option (List ℕ) → Option (List ℕ)
 within_packet None = None
 within_packet (Some bytes) = if nat_lt MAX_DATA (length bytes) then None else Some bytes
@@ -54,6 +59,13 @@ first_byte (a ∷ []) = counted 1 (plain_byte a)
 first_byte (a ∷ b ∷ []) = counted 1 (plain_byte a)
 first_byte (a ∷ b ∷ c ∷ others) = if a == 92 then counted 3 (escaped_byte b c) else counted 1 (plain_byte a)
 
+-- So many bytes at the front of a text were read: what was read then, in front of what the others stand for, is what was read before
+-- in front of what all stand for.
+pub record ReadsFront (before text after : List ℕ) (n : ℕ) : Type 0 where
+  pub some : 0 < n
+  pub within : n ≤ length text
+  pub value : with_front after (bytes_of (drop n text)) ≡ with_front before (bytes_of text)
+
 -- ---- printing
 
 abbrev pub low_hex_digit : ℕ → ℕ
@@ -61,6 +73,10 @@ low_hex_digit digit = if nat_lt digit 10 then 48 + digit else 97 + (digit - 10)
 
 abbrev pub is_escaped : ℕ → Bool
 is_escaped b = b == 94 || (b == 92 || (nat_lt b 32 || nat_lt 126 b))
+
+-- a byte that stands for itself, and is shown by itself
+abbrev pub is_plain : ℕ → Bool
+is_plain b = not (is_escaped b)
 
 -- how a byte is shown in a text
 abbrev pub shown_byte : ℕ → List ℕ

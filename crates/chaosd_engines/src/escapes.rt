@@ -1,8 +1,8 @@
 //! Bytes, written as text in the lines of scripts: `^` is byte 8D, `\` and two lower-case hexadecimal digits is that byte, and
 //! every other byte from 20 to 7E is itself.
-ghost use Rattle.std.specs.Prelude.{◌≡◌, ◌≤◌, ◌<◌, ◌++◌, length, option_map, IfSome, OnOk};
-ghost use Rattle.std.specs.List.{flat_map};
-ghost use Rattle.chaosd_engines.specs.Escapes.{plain_byte, low_hex, escaped_byte, first_byte, data_of, low_hex_digit, shown_byte, IsReadBack};
+ghost use Rattle.std.specs.Prelude.{◌≡◌, ◌≤◌, ◌<◌, ◌++◌, length, None, option_map, IfSome, OnOk};
+ghost use Rattle.std.specs.List.{flat_map, list_all};
+ghost use Rattle.chaosd_engines.specs.Escapes.{plain_byte, low_hex, escaped_byte, first_byte, bytes_of, with_front, within_packet, ReadsFront, data_of, low_hex_digit, is_escaped, is_plain, shown_byte, IsReadBack};
 
 use crate::buffer::{NotWritten, WriteBuffer};
 use arrayvec::ArrayVec;
@@ -60,22 +60,74 @@ fn first_byte(text: &[u8]) -> Option<(u8, usize)>
     Some((escaped_byte(text[1], text[2])?, 3))
 }
 
+/// How many bytes are looked at together.
+const PIECE: usize = 32;
+
+/// Whether a byte is shown otherwise than by itself.
+fn is_escaped(b: u8) -> bool
+    ensures { result ≡ is_escaped b }
+{
+    b == b'^' || b == b'\\' || b < 0x20 || b > 0x7E
+}
+
+/// Whether each byte stands for itself, and is shown by itself. There is no way out between two bytes, so that many are looked at
+/// at once.
+fn are_plain(bytes: &[u8]) -> bool
+    ensures { result ≡ list_all is_plain bytes.now }
+{
+    let mut plain = true;
+    for b in bytes {
+        plain = plain & !is_escaped(*b);
+    }
+    plain
+}
+
+/// Reads what the first byte of a text stands for, and answers how many bytes of the text stand for it.
+fn read_byte(text: &[u8], bytes: &mut Data) -> Option<usize>
+    requires some { 0 < length text.now }
+    requires room { length bytes.old.items ≤ MAX_DATA }
+    ensures read { IfSome result (λ n. ReadsFront bytes.old.items text.now bytes.new.items n) }
+    ensures room { length bytes.new.items ≤ MAX_DATA }
+    ensures none { result ≡ None → within_packet (with_front bytes.old.items (bytes_of text.now)) ≡ None }
+{
+    let (byte, count) = first_byte(text)?;
+    if bytes.is_full() {
+        return None;
+    }
+    bytes.push(byte);
+    Some(count)
+}
+
+/// Reads what the front of a text stands for, a whole piece at a time where that stands for itself.
+fn read_some(text: &[u8], bytes: &mut Data) -> Option<usize>
+    requires some { 0 < length text.now }
+    requires room { length bytes.old.items ≤ MAX_DATA }
+    ensures read { IfSome result (λ n. ReadsFront bytes.old.items text.now bytes.new.items n) }
+    ensures room { length bytes.new.items ≤ MAX_DATA }
+    ensures none { result ≡ None → within_packet (with_front bytes.old.items (bytes_of text.now)) ≡ None }
+{
+    let count = text.len().min(PIECE);
+    let piece = &text[..count];
+    if !are_plain(piece) {
+        return read_byte(text, bytes);
+    }
+    match bytes.try_extend_from_slice(piece) {
+        Ok(()) => Some(count),
+        Err(_) => None,
+    }
+}
+
 /// The bytes that a text stands for, where they are no more than the 488 that a packet has. None for any other text: one with a
 /// byte that isn't from 20 to 7E, or with a `\` without its two lower-case hexadecimal digits.
 ///
-/// The cost is a look at each byte; no memory is taken.
+/// The cost is a look at each byte, at 32 together where they stand for themselves; no memory is taken.
 pub fn data_of(text: &[u8]) -> Option<Data>
     ensures { option_map (λ v. v.items) result ≡ data_of text.now }
 {
     let mut data = ArrayVec::new();
     let mut i = 0;
     while i < text.len() {
-        let (byte, count) = first_byte(&text[i..])?;
-        if data.is_full() {
-            return None;
-        }
-        data.push(byte);
-        i += count;
+        i += read_some(&text[i..], &mut data)?;
     }
     Some(data)
 }
@@ -99,19 +151,44 @@ fn put_byte(out: &mut WriteBuffer, b: u8) -> Result<(), NotWritten>
     if b == RETURN {
         return out.put(b"^");
     }
-    if b == b'^' || b == b'\\' || b < 0x20 || b > 0x7E {
+    if is_escaped(b) {
         return out.put(&[b'\\', low_hex_digit(b / 16), low_hex_digit(b % 16)]);
     }
     out.put(&[b])
 }
 
-/// Writes bytes as text: `^` for 8D, the byte itself from 20 to 7E but for `^` and `\`, and a `\` with two lower-case hexadecimal
-/// digits for every other.
-pub fn put_text(out: &mut WriteBuffer, bytes: &[u8]) -> Result<(), NotWritten>
+/// Writes bytes as text, each by itself.
+fn put_bytes(out: &mut WriteBuffer, bytes: &[u8]) -> Result<(), NotWritten>
     ensures { OnOk result (out.new ≡ out.old ++ flat_map shown_byte bytes.now) }
 {
     for b in bytes {
         put_byte(out, *b)?;
+    }
+    Ok(())
+}
+
+/// Writes a piece as text, whole where each byte is shown by itself.
+fn put_piece(out: &mut WriteBuffer, piece: &[u8]) -> Result<(), NotWritten>
+    ensures { OnOk result (out.new ≡ out.old ++ flat_map shown_byte piece.now) }
+{
+    if are_plain(piece) {
+        return out.put(piece);
+    }
+    put_bytes(out, piece)
+}
+
+/// Writes bytes as text: `^` for 8D, the byte itself from 20 to 7E but for `^` and `\`, and a `\` with two lower-case hexadecimal
+/// digits for every other.
+///
+/// The cost is a look at each byte, at 32 together where they are shown by themselves.
+pub fn put_text(out: &mut WriteBuffer, bytes: &[u8]) -> Result<(), NotWritten>
+    ensures { OnOk result (out.new ≡ out.old ++ flat_map shown_byte bytes.now) }
+{
+    let mut i = 0;
+    while i < bytes.len() {
+        let count = PIECE.min(bytes.len() - i);
+        put_piece(out, &bytes[i..i + count])?;
+        i += count;
     }
     Ok(())
 }

@@ -75,9 +75,9 @@ impl<S: Stage> Player<S> {
         ensures stops { IfErr result (StopsOn S.script self.old.out self.old.at raw.now self.new.out) }
         ensures count { OnOk result (self.new.at.lines ≡ self.old.at.lines + 1) }
     {
-        let line = without_return(raw);
+        let first = without_return(raw);
         let number = self.at.lines + 1;
-        let lab = S::begin(self.alloc, &mut self.out, line, number)?;
+        let lab = S::begin(self.alloc, &mut self.out, first, number)?;
         self.at.lab = Some(lab);
         self.at.lines = number;
         Ok(())

@@ -1,7 +1,6 @@
 use Rattle.std.proofs.Common.{◌≡◌, ◌≤◌, ◌-◌, length, drop}
 use Rattle.chaos_packet.specs.declared.limits.TheConstants.{MAX_DATA}
-use Rattle.chaosd_engines.specs.Escapes.{bytes_of}
-use Rattle.chaosd_engines.proofs.TextBytes.{with_front}
+use Rattle.chaosd_engines.specs.Escapes.{bytes_of, with_front}
 use Rattle.chaosd_engines.proofs.escapes.data_of.Given as goal
 
 -- the bytes so far, in front of those of the rest, are those of the text
