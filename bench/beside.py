@@ -109,6 +109,17 @@ def count_both(name, programs):
     print(f"{name}: the whole run: {both}, ratio {ours / plain:.2f}", flush=True)
 
 
+def count_each(name, commands, scripts, count, unit):
+    """Prints the instructions of one of so many units of a script for each program, beyond those of a run on a script without them,
+    which stands beside it, or that none were counted."""
+    runs = {program: [instructions(command, script) for script in scripts] for program, command in commands.items()}
+    if any(None in both for both in runs.values()):
+        print(f"{name}: instructions aren't counted: neither valgrind nor perf can here", flush=True)
+        return
+    ours, plain = ((runs[program][0] - runs[program][1]) / count for program in ["chaosd", "plain"])
+    print(f"{name}: chaosd {ours:.0f} instructions a {unit}, plain Rust {plain:.0f}, ratio {ours / plain:.2f}", flush=True)
+
+
 def bench(name):
     """Runs both programs in turn, and prints a line for each figure."""
     with tempfile.TemporaryDirectory() as folder:

@@ -5,16 +5,22 @@ send a full window again, and measures the memory that they take.
     bench/lab.py [PROGRAM]
 
 PROGRAM is bin/chaosd by default. The plain program is built for the same processors (x86-64-v2). Each figure is the least of
-ten runs, taken in turn, and the outputs have to be the same. Memory is the most that a process ever held, as the system counts it, and
-never less than that of the Python that starts it, some 20 MB.
+ten runs, taken in turn, and the outputs have to be the same. Where valgrind or perf is there, the instructions of a line, and of a
+copy that is sent again, are counted too, which don't vary with what else the machine does. Memory is the most that a process ever
+held, as the system counts it, and never less than that of the Python that starts it, some 20 MB.
 """
 
+import filecmp
 import os
 import pathlib
 import subprocess
 import sys
 import tempfile
 import time
+
+sys.dont_write_bytecode = True
+
+from beside import count_each  # noqa: E402
 
 HERE = pathlib.Path(__file__).resolve().parent
 RUNS = 10
@@ -59,14 +65,15 @@ SCRIPTS = {
 
 
 def run(command, text, out):
-    """Runs the command on the text, and gives the seconds that it took, the most memory that it held, in MB, and what it wrote."""
+    """Runs the command on the text, and gives the seconds that it took and the most memory that it held, in MB. What it wrote stays in
+    its file: memory that this program held when it started the command would count as the command's."""
     with open(text, "rb") as reader, open(out, "wb") as writer:
         start = time.perf_counter()
         process = subprocess.Popen(command, stdin=reader, stdout=writer)
         _, status, used = os.wait4(process.pid, 0)
         spent = time.perf_counter() - start
     assert status == 0, f"{command} ended with {status}"
-    return spent, used.ru_maxrss / 1024, pathlib.Path(out).read_bytes()
+    return spent, used.ru_maxrss / 1024
 
 
 def bench(programs, folder):
@@ -75,13 +82,13 @@ def bench(programs, folder):
     for name, script in SCRIPTS.items():
         text = f"{folder}/script"
         pathlib.Path(text).write_bytes(script)
-        seen = {}
         for _ in range(RUNS):
             for program, command in programs.items():
-                spent, held, seen[program] = run(command, text, f"{folder}/output")
+                spent, held = run(command, text, f"{folder}/{program}.out")
                 best[name, program] = min(best.get((name, program), spent), spent)
                 most[name, program] = max(most.get((name, program), held), held)
-        assert seen["chaosd"] == seen["plain"], f"{name}: the outputs differ"
+        same = filecmp.cmp(f"{folder}/chaosd.out", f"{folder}/plain.out", shallow=False)
+        assert same, f"{name}: the outputs differ"
     return best, most
 
 
@@ -91,7 +98,10 @@ def main():
         plain = f"{folder}/plain_lab"
         build = ["rustc", "--edition=2021", "-O", "-C", "target-cpu=x86-64-v2", "-o", plain, HERE / "plain_lab.rs"]
         subprocess.run(build, check=True)
-        best, most = bench({"chaosd": [chaosd, "lab"], "plain": [plain]}, folder)
+        programs = {"chaosd": [chaosd, "lab"], "plain": [plain]}
+        best, most = bench(programs, folder)
+        count_each("16,000 items in turn", programs, [in_turn(16_000), in_turn(0)], 64_000, "line")
+        count_each("64 items, sent again 240 times", programs, [sent_again(240), sent_again(0)], 240 * 64, "copy")
     for name in SCRIPTS:
         ours, theirs = best[name, "chaosd"], best[name, "plain"]
         held, held_plain = most[name, "chaosd"], most[name, "plain"]

@@ -24,7 +24,7 @@ import time
 
 sys.dont_write_bytecode = True
 
-from beside import instructions  # noqa: E402
+from beside import count_each  # noqa: E402
 
 HERE = pathlib.Path(__file__).resolve().parent
 PROGRAM = HERE.parent / "bin/chaosd"
@@ -90,16 +90,6 @@ def timed(name, commands, script, count, folder):
     return whole
 
 
-def counted(name, commands, script, count):
-    """Prints the instructions of one of the script's commands for each program, or that none were counted."""
-    runs = {program: (instructions(command, script), instructions(command)) for program, command in commands.items()}
-    if any(None in both for both in runs.values()):
-        print(f"{name}: instructions aren't counted: neither valgrind nor perf can here")
-        return
-    ours, plain = ((runs[program][0] - runs[program][1]) / count for program in ["chaosd", "plain"])
-    print(f"{name}: chaosd {ours:.0f} instructions a command, plain Rust {plain:.0f}, ratio {ours / plain:.2f}")
-
-
 def free_ports(count):
     """Ports of 127.0.0.1 that nobody has."""
     sockets = [socket.socket(socket.AF_INET, socket.SOCK_DGRAM) for _ in range(count)]
@@ -129,7 +119,7 @@ def bench_loop(programs, folder):
     script, count = files_script(8, 250)
     commands = {name: [program, "loop"] for name, program in programs.items()}
     timed(f"loop, {count} commands", commands, script, count, folder)
-    counted(f"loop, {count} commands", commands, script, count)
+    count_each(f"loop, {count} commands", commands, [script, b""], count, "command")
 
 
 def bench_ask(programs, folder):
