@@ -1,4 +1,3 @@
-pub mod Numbers
 pub mod Outcome
 pub mod Apply
 pub mod Files

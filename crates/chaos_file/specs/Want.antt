@@ -1,5 +1,5 @@
 -- Replies for want of memory.
-use Rattle.std.specs.Prelude.{ℕ, Bool, true, false, List, Option, Some, None, Result, Ok, Err}
+use Rattle.std.specs.Prelude.{ℕ, Bool, true, false, List, Option, Some, None, Result, Err}
 use Rattle.std.specs.Str.{bytes_eq}
 use Rattle.chaos_file.specs.declared.error.FileError.{FileError}
 use Rattle.chaos_file.specs.declared.error.FileError.TheVariants as e

@@ -7,6 +7,7 @@ ghost use Rattle.chaos_file.specs.Outcome.{whole_reply};
 use crate::error::FileError;
 use crate::limits::{MAX_CHUNK, MAX_FRONT, MAX_HANDLE, MAX_REPLY, MAX_TID};
 use arrayvec::ArrayVec;
+use itoa::Buffer;
 
 /// A reply: tid, space, handle, space, and an answer or an error. It is as long as a packet's data at most.
 pub type Reply = ArrayVec<u8, MAX_REPLY>;
@@ -34,12 +35,8 @@ fn put_number(reply: &mut Reply, n: usize)
     requires { length reply.old.items + length (decimal n) ≤ MAX_REPLY }
     ensures { reply.new.items ≡ reply.old.items ++ decimal n }
 {
-    if n < 10 {
-        put(reply, &[b'0' + n as u8]);
-    } else {
-        put_number(reply, n / 10);
-        put(reply, &[b'0' + (n % 10) as u8]);
-    }
+    let mut digits = Buffer::new();
+    put(reply, digits.format(n).as_bytes());
 }
 
 /// Writes the front of a reply: the command's two names.

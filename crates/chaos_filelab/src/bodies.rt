@@ -2,13 +2,14 @@
 ghost use Rattle.std.specs.Prelude.{◌≡◌, option_map, slice_get, drop, length};
 ghost use Rattle.chaos_filelab.specs.Bodies.{data_bodies, first_of};
 
-use chaos_packet::{Item, Kind};
+use chaos_lab::KeptItem;
+use chaos_packet::Kind;
 use std::marker::Model;
 
 /// The bodies of the data items among some items, in order, which are lent. A contract sees the list of them.
 #[derive(Drop)]
 pub struct Bodies<'a> {
-    items: &'a [Item],
+    items: &'a [KeptItem],
 }
 
 impl<'a> Model for Bodies<'a> {
@@ -21,7 +22,7 @@ impl<'a> Model for Bodies<'a> {
 }
 
 impl<'a> Bodies<'a> {
-    pub(crate) fn new(items: &'a [Item]) -> Self
+    pub(crate) fn new(items: &'a [KeptItem]) -> Self
         ensures { result ≡ data_bodies items.now }
     {
         Bodies { items }
@@ -46,13 +47,13 @@ impl<'a> Bodies<'a> {
 }
 
 /// The body of the first data item, and the items behind it.
-fn first_data(items: &[Item]) -> Option<(&[u8], &[Item])>
+fn first_data(items: &[KeptItem]) -> Option<(&[u8], &[KeptItem])>
     ensures { option_map (λ p. (p.0.now, data_bodies p.1.now)) result ≡ first_of (data_bodies items.now) }
 {
     let [item, rest @ ..] = items else {
         return None;
     };
-    match item.op.kind() {
+    match item.op().kind() {
         Kind::Data => Some((item.bytes(), rest)),
         _ => first_data(rest),
     }

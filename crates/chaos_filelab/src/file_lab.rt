@@ -17,8 +17,8 @@ use crate::event::{FileEvent, FileStepped};
 use crate::server::Server;
 use chaos_conn::ConnConfig;
 use chaos_file::{MemStore, Session, is_want, law_memory, law_replies, law_want};
-use chaos_lab::{Event, Lab, LabFault, Side, Stamped, law_delivery, law_phases};
-use chaos_packet::{Item, Kind, PktNum};
+use chaos_lab::{Event, KeptItem, Lab, LabFault, Side, Stamped, law_delivery, law_phases};
+use chaos_packet::{Kind, PktNum};
 use chaos_serve::{CONTACT, Served};
 use std::alloc::{AllocError, Global};
 use std::marker::Model;
@@ -221,14 +221,14 @@ fn is_by_server(event: &Event<'_>) -> bool
 }
 
 /// Whether an item is a reply for want of memory.
-fn is_mem(item: &Item) -> bool
+fn is_mem(item: &KeptItem) -> bool
     ensures { result ≡ is_mem item.now }
 {
-    item.op.kind() == Kind::Data && is_want(item.bytes())
+    item.op().kind() == Kind::Data && is_want(item.bytes())
 }
 
 /// Whether serving ended with such a reply, which is then the last item that B wrote.
-fn told_want(served: Served, written: &[Item]) -> bool
+fn told_want(served: Served, written: &[KeptItem]) -> bool
     ensures { result ≡ told_want served written.now }
 {
     match (served, written.last()) {
@@ -238,7 +238,7 @@ fn told_want(served: Served, written: &[Item]) -> bool
 }
 
 /// Whether B wrote such a reply: before, or by serving just now.
-fn wanted_after(wanted: bool, served: Served, written: &[Item]) -> bool
+fn wanted_after(wanted: bool, served: Served, written: &[KeptItem]) -> bool
     ensures { result ≡ (wanted || told_want served written.now) }
 {
     wanted || told_want(served, written)

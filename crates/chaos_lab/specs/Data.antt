@@ -1,8 +1,9 @@
--- The bytes that the data of a kept packet stand for.
+-- The bytes that kept data stand for.
 use Rattle.std.specs.Prelude.{ℕ, List}
-use Rattle.chaos_lab.specs.declared.kept_packet.Data.{Data}
-use Rattle.chaos_lab.specs.declared.kept_packet.Data.TheVariants as kept
+use Rattle.chaos_lab.specs.declared.data.Data.{Data}
+use Rattle.chaos_lab.specs.declared.data.Data.TheVariants as kept
 
 abbrev pub data_of : Data → List ℕ
-data_of (kept.Fitting bytes) = bytes.items
+data_of (kept.Short bytes) = bytes.items
+data_of (kept.Long bytes) = bytes.items
 data_of (kept.Spare room) = room.value.body

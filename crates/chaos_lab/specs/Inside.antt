@@ -1,5 +1,5 @@
 -- The parts of the laboratory as what contracts see.
-use Rattle.std.specs.Prelude.{◌≡◌, ◌+◌, ◌<◌, ◌≤◌, [], vec_len, vec_capacity}
+use Rattle.std.specs.Prelude.{◌≡◌, ◌+◌, ◌≤◌, [], vec_len, vec_capacity}
 use Rattle.chaos_packet.specs.Outbox.{OutboxView}
 use Rattle.chaos_window.specs.declared.limits.TheConstants.{MAX_WINDOW}
 use Rattle.chaos_lab.specs.declared.lab_end.LabEnd.{LabEnd}
@@ -8,15 +8,16 @@ use Rattle.chaos_lab.specs.declared.copy_list.CopyList.{CopyList}
 use Rattle.chaos_lab.specs.declared.event.Event.{Event}
 use Rattle.chaos_lab.specs.declared.event.Event.TheVariants as event
 use Rattle.chaos_lab.specs.Laboratory.Happening.{WriteBy, ReadBy, AnnounceBy, TickOf, CloseBy, AcceptFrom, DeliverCopy}
+use Rattle.chaos_lab.specs.History.{HasPlace}
 use Rattle.chaos_lab.specs.Laboratory.{EndView, Happening}
 
 abbrev pub end_view : LabEnd → EndView
-end_view e = record { conn = e.conn; first = e.first; written = e.written.items; read = e.read.items }
+end_view e = record { conn = e.conn; first = e.first; written = e.written.list.items; read = e.read.list.items }
 
--- both lists have room for one more item
+-- both histories have a place for one more item
 pub record HasRoom (e : LabEnd) : Type 0 where
-  pub written : vec_len e.written < vec_capacity e.written
-  pub read : vec_len e.read < vec_capacity e.read
+  pub written : HasPlace e.written
+  pub read : HasPlace e.read
 
 -- the list has places for all that one call may put out, and there is a spare room for the data of each
 pub record HasSpace (c : CopyList) : Type 0 where

@@ -1,4 +1,5 @@
 pub mod Data
+pub mod History
 pub mod Machine
 pub mod Numbers
 pub mod Law

@@ -39,8 +39,8 @@ pub record Makes (old : EndView) (call : Call) (new : EndView) (before after : O
 
 -- all that the user at a side has read
 abbrev pub read_at : Side → BothEnds → List ItemView
-read_at A ends = ends.a.read.items
-read_at B ends = ends.b.read.items
+read_at A ends = ends.a.read.list.items
+read_at B ends = ends.b.read.list.items
 
 -- the call did that at one of both ends, and the other stays as it is
 abbrev pub MakesAt : Side → Call → (old new : BothEnds) → (before after : OutboxView) → Result Stepped LabFault → Type 0

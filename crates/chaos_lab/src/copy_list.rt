@@ -3,10 +3,11 @@ ghost use Rattle.std.specs.Prelude.{◌≡◌, ◌≤◌, ◌<◌, ◌+◌, [], 
 ghost use Rattle.chaos_lab.specs.Laboratory.{stamp};
 ghost use Rattle.chaos_lab.specs.Inside.{HasSpace};
 
+use crate::data::set_aside;
 use crate::kept_packet::KeptPacket;
 use crate::side::Side;
 use crate::stamped::Stamped;
-use chaos_packet::{Item, Opcode, Packet};
+use chaos_packet::{Item, Packet};
 use chaos_window::MAX_WINDOW;
 use std::alloc::{AllocError, Global};
 
@@ -40,7 +41,7 @@ impl CopyList {
         ensures space { OnOk result (HasSpace self.new) }
     {
         self.list.reserve(MAX_WINDOW as usize)?;
-        set_aside(self.alloc, &mut self.spares)
+        set_aside(self.alloc, &mut self.spares, MAX_WINDOW as usize)
     }
 
     /// Adds a copy of a packet that was sent, with its stamp.
@@ -60,15 +61,4 @@ impl CopyList {
             len_b,
         });
     }
-}
-
-/// Sets room aside for the data of as many packets as one call may put out.
-fn set_aside(alloc: Global, spares: &mut Vec<Box<Item, Global>>) -> Result<(), AllocError>
-    ensures { OnOk result (MAX_WINDOW ≤ vec_len spares.new) }
-{
-    for place in spares.len()..MAX_WINDOW as usize {
-        let room = Box::new(alloc, Item::new(Opcode(0), &[]))?;
-        spares.push(room)?;
-    }
-    Ok(())
 }

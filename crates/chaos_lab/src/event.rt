@@ -3,9 +3,10 @@ ghost use Rattle.std.specs.Prelude.{◌≡◌};
 ghost use Rattle.std.specs.Option.{option_copied};
 ghost use Rattle.chaos_lab.specs.Told.{given_by, in_full};
 
+use crate::kept_item::KeptItem;
 use crate::side::Side;
 use chaos_conn::{Delivered, Disposition, ReadDone, ReadEnd, Ticked};
-use chaos_packet::{Item, Opcode, Packet, PktNum};
+use chaos_packet::{Opcode, Packet, PktNum};
 
 /// What may happen: a call at one end, or the delivery of a copy. A copy that is never delivered is lost.
 #[derive(Clone, Copy, Debug)]
@@ -64,7 +65,7 @@ pub enum StepDone {
 
 impl StepDone {
     /// The answer in full, of an event that delivered this packet or after which an end's user has read these items.
-    pub(crate) fn in_full(self, packet: &Packet, items: &[Item]) -> Stepped
+    pub(crate) fn in_full(self, packet: &Packet, items: &[KeptItem]) -> Stepped
         ensures { result ≡ in_full packet.now items.now self }
     {
         match self {
@@ -83,11 +84,11 @@ impl StepDone {
 }
 
 /// What a read gave that came to this, where this item is the last that was read.
-fn given_by(done: ReadDone, item: Option<&Item>) -> ReadEnd
+fn given_by(done: ReadDone, item: Option<&KeptItem>) -> ReadEnd
     ensures { result ≡ given_by done (option_copied item.entry) }
 {
     match (done, item) {
-        (ReadDone::Done, Some(item)) => ReadEnd::Item(Item::new(item.op, item.bytes())),
+        (ReadDone::Done, Some(item)) => ReadEnd::Item(item.item()),
         (ReadDone::Done | ReadDone::Nothing, _) => ReadEnd::Nothing,
         (ReadDone::Ended(state), _) => ReadEnd::Ended(state),
     }

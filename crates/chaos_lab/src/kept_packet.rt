@@ -1,51 +1,10 @@
 //! A packet that was sent, as the laboratory keeps it.
-ghost use Rattle.std.specs.Prelude.{◌≡◌, ◌≤◌, ◌<◌, ◌+◌, length, vec_len};
-ghost use Rattle.chaos_lab.specs.Data.{data_of};
+ghost use Rattle.std.specs.Prelude.{◌≡◌, ◌≤◌, ◌<◌, ◌+◌, vec_len};
 
-use chaos_packet::{Item, MAX_DATA, Opcode, Packet, PktNum, body_of};
+use crate::data::Data;
+use chaos_packet::{Item, Opcode, Packet, PktNum, body_of};
 use std::alloc::Global;
 use std::marker::Model;
-
-/// The data bytes of a packet, in memory of their own.
-#[derive(Drop)]
-pub(crate) enum Data {
-    /// As much of it as there are bytes.
-    Fitting(Vec<u8>),
-    /// Room for the most that a packet has, which was set aside before: no other memory was to be had.
-    Spare(Box<Item, Global>),
-}
-
-impl Data {
-    /// A copy of these bytes, in a spare room only where there is no other memory.
-    fn new(alloc: Global, bytes: &[u8], spares: &mut Vec<Box<Item, Global>>) -> Self
-        requires fits { length bytes.now ≤ MAX_DATA }
-        requires spare { 0 < vec_len spares.old }
-        ensures value { data_of result ≡ bytes.now }
-        ensures spares { vec_len spares.old ≤ vec_len spares.new + 1 }
-    {
-        if let Ok(fitting) = Vec::from_slice(alloc, bytes) {
-            return Data::Fitting(fitting);
-        }
-        match spares.pop() {
-            Some(mut room) => {
-                room.body.clear();
-                let _fits = room.body.try_extend_from_slice(bytes);
-                Data::Spare(room)
-            }
-            None => Data::Fitting(Vec::new(alloc)),
-        }
-    }
-
-    /// The bytes, lent.
-    fn bytes(&self) -> &[u8]
-        ensures { result.now ≡ data_of self.now }
-    {
-        match self {
-            Data::Fitting(bytes) => bytes.as_slice(),
-            Data::Spare(room) => room.bytes(),
-        }
-    }
-}
 
 /// A packet that was sent. A contract sees it as any packet.
 ///

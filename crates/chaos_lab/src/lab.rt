@@ -19,12 +19,13 @@ ghost use Rattle.chaos_lab.specs.Tied.{Ties, HasMachine, Stops, lab_machine, mac
 
 use crate::event::{Event, StepDone, Stepped};
 use crate::fault::LabFault;
+use crate::kept_item::KeptItem;
 use crate::rig::Rig;
 use crate::side::Side;
 use crate::stamped::Stamped;
 use crate::user::User;
 use chaos_conn::ConnConfig;
-use chaos_packet::{Item, MAX_DATA, PktNum};
+use chaos_packet::{MAX_DATA, PktNum};
 use std::alloc::{AllocError, Global};
 use std::marker::Model;
 
@@ -120,7 +121,7 @@ impl Lab {
     }
 
     /// All that the user has read whom an event lets read, item 0 of the other end first; nothing for another event.
-    pub fn read_in(&self, event: &Event<'_>) -> &[Item]
+    pub fn read_in(&self, event: &Event<'_>) -> &[KeptItem]
         ensures { result.now ≡ items_at self.now (happening_of event.now) }
     {
         self.rig.items_at(event)
@@ -149,14 +150,14 @@ impl Lab {
     }
 
     /// All that an end wrote, its item 0 first.
-    pub fn written(&self, side: Side) -> &[Item]
+    pub fn written(&self, side: Side) -> &[KeptItem]
         ensures { result.now ≡ (lab_end self.now side).written }
     {
         self.rig.written(side)
     }
 
     /// All that the user at an end read, item 0 of the other end first.
-    pub fn read(&self, side: Side) -> &[Item]
+    pub fn read(&self, side: Side) -> &[KeptItem]
         ensures { result.now ≡ (lab_end self.now side).read }
     {
         self.rig.read(side)

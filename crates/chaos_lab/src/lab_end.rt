@@ -1,5 +1,5 @@
 //! One end of the laboratory.
-ghost use Rattle.std.specs.Prelude.{◌≡◌, ℕ, ◌<◌, ◌≤◌, [], ◌∷◌, ◌++◌, length, OnOk, OnErr, IfOk, Ok, Some, None, map, slice_get, vec_len, vec_capacity};
+ghost use Rattle.std.specs.Prelude.{◌≡◌, ℕ, ◌<◌, ◌≤◌, [], ◌∷◌, ◌++◌, length, OnOk, OnErr, IfOk, Ok, Some, None, map, slice_get};
 ghost use Rattle.chaos_packet.specs.Outbox.{room_of, with_put};
 ghost use Rattle.chaos_lab.specs.Turn.{Turn};
 ghost use Rattle.chaos_lab.specs.Turning.{EndTurns};
@@ -8,6 +8,7 @@ ghost use Rattle.chaos_conn.specs.Act.Call.{Accept, Announce, Close, Deliver, Re
 ghost use Rattle.chaos_lab.specs.declared.side.Side.TheVariants.{B};
 ghost use Rattle.chaos_lab.specs.Shown.{place_of};
 ghost use Rattle.chaos_conn.specs.Calls.{front_of};
+ghost use Rattle.chaos_lab.specs.History.{HasPlace};
 ghost use Rattle.chaos_lab.specs.Inside.{end_view, HasRoom};
 ghost use Rattle.chaos_lab.specs.Makes.{Makes};
 ghost use Rattle.chaos_lab.specs.Told.{told};
@@ -17,6 +18,7 @@ ghost use Rattle.chaos_lab.specs.Laboratory.{request_for};
 
 use crate::event::StepDone;
 use crate::fault::LabFault;
+use crate::history::History;
 use crate::user::{Turned, User};
 use chaos_conn::{Conn, ConnConfig, Disposition, End};
 use chaos_packet::{Item, MAX_DATA, Opcode, Outbox, Packet, PktNum};
@@ -42,9 +44,9 @@ pub(crate) struct LabEnd {
     /// The number of its item 0.
     pub(crate) first: PktNum,
     /// All that it wrote.
-    pub(crate) written: Vec<Item>,
+    pub(crate) written: History,
     /// All that its user read.
-    pub(crate) read: Vec<Item>,
+    pub(crate) read: History,
 }
 
 impl LabEnd {
@@ -55,8 +57,8 @@ impl LabEnd {
         Ok(LabEnd {
             conn: Conn::new(alloc, config)?,
             first: PktNum(0),
-            written: Vec::new(alloc),
-            read: Vec::new(alloc),
+            written: History::new(alloc),
+            read: History::new(alloc),
         })
     }
 
@@ -77,7 +79,8 @@ impl LabEnd {
     {
         let mut end = LabEnd::new(alloc, config)?;
         end.first = start;
-        end.written.push(Item::new(Opcode::RFC, contact))?;
+        end.written.grow()?;
+        end.written.keep(Opcode::RFC, contact);
         let _ = end
             .conn
             .request(PLACE_A, PLACE_B.address, contact, start, 0, out);
@@ -89,8 +92,8 @@ impl LabEnd {
         ensures same { end_view self.new ≡ end_view self.old }
         ensures room { OnOk result (HasRoom self.new) }
     {
-        self.written.reserve(1)?;
-        self.read.reserve(1)
+        self.written.grow()?;
+        self.read.grow()
     }
 
     /// Writes an item.
@@ -108,7 +111,7 @@ impl LabEnd {
     {
         match self.conn.write(op, bytes, now, out) {
             Ok(number) => {
-                self.written.push_reserved(Item::new(op, bytes));
+                self.written.keep(op, bytes);
                 Ok(StepDone::Wrote(number))
             }
             Err(why) => Err(LabFault::Refused(why)),
@@ -120,11 +123,11 @@ impl LabEnd {
         requires room { HasRoom self.old }
         requires empty { out.old.packets ≡ [] }
         requires fits { 0 < out.old.cap }
-        ensures { Makes (end_view self.old) Read (end_view self.new) out.old out.new (told blank self.new.read.items result) }
+        ensures { Makes (end_view self.old) Read (end_view self.new) out.old out.new (told blank self.new.read.list.items result) }
     {
         if !self.conn.state().is_opening() {
             if let Some(item) = self.conn.front() {
-                self.read.push_reserved(Item::new(item.op, item.bytes()));
+                self.read.keep(item.op, item.bytes());
             }
         }
         Ok(StepDone::Read(self.conn.read_done(out)))
@@ -152,11 +155,10 @@ impl LabEnd {
     /// Keeps a copy of the item that a packet carries, which was read.
     #[inline(never)]
     fn keep_read(&mut self, packet: &Packet)
-        requires { vec_len self.old.read < vec_capacity self.old.read }
-        ensures { end_view self.new ≡ record (end_view self.old) { read = self.old.read.items ++ item_of packet.now ∷ [] } }
+        requires { HasPlace self.old.read }
+        ensures { end_view self.new ≡ record (end_view self.old) { read = self.old.read.list.items ++ item_of packet.now ∷ [] } }
     {
-        self.read
-            .push_reserved(Item::new(packet.op, packet.bytes()));
+        self.read.keep(packet.op, packet.bytes());
     }
 
     /// Ticks.
@@ -225,10 +227,10 @@ impl LabEnd {
             Ok(()) => {
                 self.first = start;
                 if let Some(rfc) = rfc {
-                    self.read.push_reserved(rfc);
+                    self.read.keep(rfc.op, rfc.bytes());
                 }
                 if let Some(opn) = out.take() {
-                    self.written.push_reserved(Item::new(opn.op, opn.bytes()));
+                    self.written.keep(opn.op, opn.bytes());
                     out.put(opn);
                 }
                 Ok(StepDone::Accepted(start))
@@ -255,7 +257,7 @@ impl LabEnd {
         let turned = user.turn(alloc, &mut self.conn, now, out);
         if turned != Turned::Rested {
             if let Some(item) = front {
-                self.read.push_reserved(item);
+                self.read.keep(item.op, item.bytes());
             }
         }
         turned

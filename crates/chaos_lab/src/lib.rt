@@ -10,8 +10,11 @@
 
 mod both_ends;
 mod copy_list;
+mod data;
 mod event;
 mod fault;
+mod history;
+mod kept_item;
 mod kept_packet;
 mod lab;
 mod lab_end;
@@ -23,6 +26,7 @@ mod user;
 
 pub use event::{Event, StepDone, Stepped};
 pub use fault::LabFault;
+pub use kept_item::KeptItem;
 pub use kept_packet::KeptPacket;
 pub use lab::Lab;
 pub use law::{law_delivery, law_limits, law_numbers, law_phases};

@@ -1,5 +1,5 @@
 //! Two connections and the packets between them.
-ghost use Rattle.std.specs.Prelude.{◌≡◌, ℕ, ◌<◌, ◌+◌, ◌-◌, ◌≤◌, [], ◌∷◌, ◌++◌, length, map, Option, Some, None, Ok, Err, IfOk, IfErr, OnErr, OnOk, slice_get, nat_lt, vec_len, vec_capacity, ◌⊎◌};
+ghost use Rattle.std.specs.Prelude.{◌≡◌, ℕ, ◌<◌, ◌+◌, ◌-◌, ◌≤◌, [], ◌∷◌, ◌++◌, length, map, Option, Some, None, Ok, Err, IfOk, IfErr, OnErr, OnOk, slice_get, nat_lt, ◌⊎◌};
 ghost use Rattle.chaos_lab.specs.Machine.{other, fresh_span};
 ghost use Rattle.chaos_conn.specs.Act.Call.{Accept, Announce, Close, Deliver, Read, TakeRequest, Tick, Write};
 ghost use Rattle.chaos_lab.specs.declared.side.Side.TheVariants.{B};
@@ -8,6 +8,7 @@ ghost use Rattle.chaos_conn.specs.Stored.{stored_packets, stored_bytes};
 ghost use Rattle.chaos_lab.specs.Shown.{place_of};
 ghost use Rattle.chaos_lab.specs.Laboratory.{Happens, happen, check, lab_end, start_for, after_all, StopsWithin, Calls, CallsWith, is_fresh, is_request, stamp};
 ghost use Rattle.chaos_lab.specs.Laboratory.Happening.{DeliverCopy};
+ghost use Rattle.chaos_lab.specs.History.{HasPlace};
 ghost use Rattle.chaos_lab.specs.Inside.{end_view, happening_of, HasRoom, HasSpace};
 ghost use Rattle.chaos_lab.specs.Makes.{MakesAt};
 ghost use Rattle.chaos_lab.specs.Told.{told, told_at, packet_at, items_at};
@@ -19,12 +20,13 @@ use crate::both_ends::BothEnds;
 use crate::copy_list::CopyList;
 use crate::event::{Event, StepDone};
 use crate::fault::LabFault;
+use crate::kept_item::KeptItem;
 use crate::lab_end::LabEnd;
 use crate::side::Side;
 use crate::stamped::Stamped;
 use crate::user::{Turned, User};
 use chaos_conn::ConnConfig;
-use chaos_packet::{Item, Kind, MAX_DATA, Opcode, Outbox, Packet, PktNum};
+use chaos_packet::{Kind, MAX_DATA, Opcode, Outbox, Packet, PktNum};
 use chaos_window::MAX_WINDOW;
 use std::alloc::{AllocError, Global};
 use std::marker::Model;
@@ -94,22 +96,22 @@ impl Rig {
     }
 
     /// All that an end wrote, its item 0 first.
-    pub(crate) fn written(&self, side: Side) -> &[Item]
+    pub(crate) fn written(&self, side: Side) -> &[KeptItem]
         ensures { result.now ≡ (lab_end self.now side).written }
     {
         match side {
-            Side::A => self.ends.a.written.as_slice(),
-            Side::B => self.ends.b.written.as_slice(),
+            Side::A => self.ends.a.written.list.as_slice(),
+            Side::B => self.ends.b.written.list.as_slice(),
         }
     }
 
     /// All that the user at an end read, item 0 of the other end first.
-    pub(crate) fn read(&self, side: Side) -> &[Item]
+    pub(crate) fn read(&self, side: Side) -> &[KeptItem]
         ensures { result.now ≡ (lab_end self.now side).read }
     {
         match side {
-            Side::A => self.ends.a.read.as_slice(),
-            Side::B => self.ends.b.read.as_slice(),
+            Side::A => self.ends.a.read.list.as_slice(),
+            Side::B => self.ends.b.read.list.as_slice(),
         }
     }
 
@@ -185,7 +187,7 @@ impl Rig {
     }
 
     /// All that the user has read whom an event lets read.
-    pub(crate) fn items_at(&self, event: &Event<'_>) -> &[Item]
+    pub(crate) fn items_at(&self, event: &Event<'_>) -> &[KeptItem]
         ensures { result.now ≡ items_at self.now (happening_of event.now) }
     {
         match event {
@@ -348,7 +350,7 @@ fn grow(ends: &mut BothEnds, copies: &mut CopyList) -> Result<(), LabFault>
 fn is_fresh(ends: &BothEnds, copy: &Stamped) -> bool
     ensures { result ≡ is_fresh (end_view ends.now.a) (end_view ends.now.b) copy.now }
 {
-    is_near(ends.a.written.len(), copy.len_a) && is_near(ends.b.written.len(), copy.len_b)
+    is_near(ends.a.written.list.len(), copy.len_a) && is_near(ends.b.written.list.len(), copy.len_b)
 }
 
 /// Whether a length exceeds its stamp by less than what makes a copy stale.
@@ -369,10 +371,10 @@ fn is_request(asked: bool, copy: &Stamped) -> bool
 fn post(copies: &mut CopyList, out: &mut Outbox, side: Side, ends: &BothEnds)
     requires few { length out.old.packets ≤ MAX_WINDOW }
     requires space { HasSpace copies.old }
-    ensures copies { copies.new.list.items ≡ copies.old.list.items ++ map (stamp side (length ends.now.a.written.items) (length ends.now.b.written.items)) out.old.packets }
+    ensures copies { copies.new.list.items ≡ copies.old.list.items ++ map (stamp side (length ends.now.a.written.list.items) (length ends.now.b.written.list.items)) out.old.packets }
     ensures out { out.new ≡ record out.old { packets = [] } }
 {
-    let (len_a, len_b) = (ends.a.written.len(), ends.b.written.len());
+    let (len_a, len_b) = (ends.a.written.list.len(), ends.b.written.list.len());
     for _ in 0..MAX_WINDOW {
         let Some(packet) = out.front() else {
             break;
@@ -387,13 +389,13 @@ fn post(copies: &mut CopyList, out: &mut Outbox, side: Side, ends: &BothEnds)
 fn post_reply(copies: &mut CopyList, out: &mut Outbox, ends: &mut BothEnds)
     requires few { length out.old.packets ≤ 2 }
     requires space { HasSpace copies.old }
-    requires room { vec_len ends.old.b.written < vec_capacity ends.old.b.written }
-    ensures copies { copies.new.list.items ≡ copies.old.list.items ++ stamped_reply (length ends.old.a.written.items) (length ends.old.b.written.items) out.old.packets }
-    ensures ends { (ends.new.a ≡ ends.old.a) × (end_view ends.new.b ≡ record (end_view ends.old.b) { written = ends.old.b.written.items ++ reply_items out.old.packets }) }
+    requires room { HasPlace ends.old.b.written }
+    ensures copies { copies.new.list.items ≡ copies.old.list.items ++ stamped_reply (length ends.old.a.written.list.items) (length ends.old.b.written.list.items) out.old.packets }
+    ensures ends { (ends.new.a ≡ ends.old.a) × (end_view ends.new.b ≡ record (end_view ends.old.b) { written = ends.old.b.written.list.items ++ reply_items out.old.packets }) }
     ensures out { out.new ≡ record out.old { packets = [] } }
 {
-    let len_a = ends.a.written.len();
-    let len_b = ends.b.written.len();
+    let len_a = ends.a.written.list.len();
+    let len_b = ends.b.written.list.len();
     let Some(first) = out.take() else {
         return;
     };
@@ -404,8 +406,6 @@ fn post_reply(copies: &mut CopyList, out: &mut Outbox, ends: &mut BothEnds)
             reply
         }
     };
-    ends.b
-        .written
-        .push_reserved(Item::new(reply.op, reply.bytes()));
+    ends.b.written.keep(reply.op, reply.bytes());
     copies.push(Side::B, &reply, len_a, len_b + 1);
 }

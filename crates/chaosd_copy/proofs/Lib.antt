@@ -2,7 +2,6 @@ pub mod Runs
 pub mod Steps
 pub mod Pieces
 pub mod Whole
-pub mod Numbers
 pub mod Talks
 pub mod Spelled
 pub mod Joined

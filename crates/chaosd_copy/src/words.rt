@@ -5,6 +5,7 @@ ghost use Rattle.chaos_file.specs.Answer.{reply_front};
 ghost use Rattle.chaos_file.specs.declared.limits.TheConstants.{MAX_REPLY, MAX_CHUNK, MAX_HANDLE};
 
 use chaos_file::Reply;
+use itoa::Buffer;
 
 /// Adds bytes.
 pub fn put(text: &mut Reply, bytes: &[u8])
@@ -19,12 +20,8 @@ fn put_number(text: &mut Reply, n: usize)
     requires { length text.old.items + length (decimal n) ≤ MAX_REPLY }
     ensures { text.new.items ≡ text.old.items ++ decimal n }
 {
-    if n < 10 {
-        put(text, &[b'0' + n as u8]);
-    } else {
-        put_number(text, n / 10);
-        put(text, &[b'0' + (n % 10) as u8]);
-    }
+    let mut digits = Buffer::new();
+    put(text, digits.format(n).as_bytes());
 }
 
 /// A command's name, which is a number.

@@ -1,3 +1,4 @@
+pub mod FirstByte
 pub mod Digits
 pub mod Faults
 pub mod ReadBack

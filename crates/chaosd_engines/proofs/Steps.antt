@@ -120,8 +120,3 @@ nothing_waits (Some x) waiting none = ap (λ l. x ++ l) none
 pub on_ok : {X E P Q S : Type 0} (r : Result X E) → (P → Q → S) → OnOk r P → OnOk r Q → OnOk r S
 on_ok (Ok x) f p q = f p q
 on_ok (Err e) f p q = tt
-
--- a text, and the one behind it
-pub then_put : {X E : Type 0} (r : Result X E) (old first last all mid new : List ℕ) → mid ≡ old ++ first → OnOk r (new ≡ mid ++ last) → all ≡ first ++ last → OnOk r (new ≡ old ++ all)
-then_put (Ok x) old first last all mid new p q e = q ∙ ap (λ l. l ++ last) p ∙ append_assoc old first last ∙ ap (λ l. old ++ l) (sym e)
-then_put (Err x) old first last all mid new p q e = tt

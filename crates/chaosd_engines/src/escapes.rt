@@ -117,18 +117,28 @@ fn read_some(text: &[u8], bytes: &mut Data) -> Option<usize>
     }
 }
 
-/// The bytes that a text stands for, where they are no more than the 488 that a packet has. None for any other text: one with a
-/// byte that isn't from 20 to 7E, or with a `\` without its two lower-case hexadecimal digits.
+/// Reads the bytes that a text stands for into a place of the caller's, where they are no more than the 488 that a packet has.
+/// None for any other text: one with a byte that isn't from 20 to 7E, or with a `\` without its two lower-case hexadecimal digits.
 ///
-/// The cost is a look at each byte, at 32 together where they stand for themselves; no memory is taken.
+/// The cost is a look at each byte, at 32 together where they stand for themselves, and zeros over the bytes that lay there; no
+/// memory is taken.
+pub fn read_data(text: &[u8], bytes: &mut Data) -> Option<()>
+    ensures { option_map (λ none. bytes.new.items) result ≡ data_of text.now }
+{
+    bytes.clear();
+    let mut i = 0;
+    while i < text.len() {
+        i += read_some(&text[i..], bytes)?;
+    }
+    Some(())
+}
+
+/// The bytes that a text stands for, as [`read_data`] reads them, by value.
 pub fn data_of(text: &[u8]) -> Option<Data>
     ensures { option_map (λ v. v.items) result ≡ data_of text.now }
 {
     let mut data = ArrayVec::new();
-    let mut i = 0;
-    while i < text.len() {
-        i += read_some(&text[i..], &mut data)?;
-    }
+    read_data(text, &mut data)?;
     Some(data)
 }
 

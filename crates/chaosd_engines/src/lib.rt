@@ -16,7 +16,7 @@ mod status;
 mod texts;
 
 pub use buffer::{NotWritten, WriteBuffer};
-pub use escapes::{Data, data_of, law_read_back, put_text};
+pub use escapes::{Data, data_of, law_read_back, put_text, read_data};
 pub use fault::{RunFault, written};
 pub use input::read_chunk;
 pub use limits::{

@@ -1,16 +1,23 @@
 //! Lines, cut from chunks of an input.
-ghost use Rattle.std.specs.Prelude.{◌≡◌, All, MatchOption, false};
+ghost use Rattle.std.specs.Prelude.{◌≡◌, All, MatchOption, false, ◌<◌, ◌+◌, length, take, drop};
 ghost use Rattle.std.specs.Io.BufRead.{strip_last};
 ghost use Rattle.chaosd_engines.specs.Lines.{is_newline, IsCut};
+
+use memchr::memchr;
+
+/// Where the first line ends.
+fn first_end(bytes: &[u8]) -> Option<usize>
+    ensures { MatchOption result (All (λ b. is_newline b ≡ false) bytes.now) (λ at. (at < length bytes.now) × IsCut bytes.now (take at bytes.now) (drop (at + 1) bytes.now)) }
+{
+    memchr(b'\n', bytes)
+}
 
 /// The line that ends first, and what comes after its end; None where none ends.
 pub fn cut_line(bytes: &[u8]) -> Option<(&[u8], &[u8])>
     ensures { MatchOption result (All (λ b. is_newline b ≡ false) bytes.now) (λ cut. IsCut bytes.now cut.0.now cut.1.now) }
 {
-    let at = bytes.iter().position(|byte| *byte == b'\n')?;
-    let (line, end) = bytes.split_at(at);
-    let (_, after) = end.split_at(1);
-    Some((line, after))
+    let at = first_end(bytes)?;
+    Some((&bytes[..at], &bytes[at + 1..]))
 }
 
 /// A line without a carriage return at its end.

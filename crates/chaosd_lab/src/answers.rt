@@ -1,13 +1,14 @@
 //! What came of an event, as text.
 ghost use Rattle.std.specs.Prelude.{◌≡◌, ◌++◌, drop, OnOk};
 ghost use Rattle.chaos_packet.specs.Packet.{PacketView};
+ghost use Rattle.chaos_lab.specs.History.{item};
 ghost use Rattle.chaos_lab.specs.Told.{given_by, in_full, last_of, told};
 ghost use Rattle.chaosd_lab.specs.Answers.{named_line, numbered_line, item_line, read_text, ticked_text, stepped_text, refusal_text, answer_text, op_name, numbers_text, copy_line, copies_text, stored_line};
 
 use crate::names::{conn_fault_name, delivered_name, disposition_name, side_name, state_name};
 use chaos_conn::{ReadDone, ReadEnd, Ticked};
-use chaos_lab::{LabFault, Stamped, StepDone, Stepped};
-use chaos_packet::{Item, Opcode};
+use chaos_lab::{KeptItem, LabFault, Stamped, StepDone, Stepped};
+use chaos_packet::Opcode;
 use chaosd_engines::{NotWritten, WriteBuffer, put_decimal, put_line, put_octal_three, put_text};
 
 /// A word or more, and a name.
@@ -31,16 +32,16 @@ fn put_numbered(out: &mut WriteBuffer, words: &str, n: usize) -> Result<(), NotW
     out.put(b"\n")
 }
 
-/// An item that was read.
+/// An item of this opcode and these data that was read.
 #[tactic(auto, unfolding(crate::specs::Answers::item_line))]
-fn put_item(out: &mut WriteBuffer, item: &Item) -> Result<(), NotWritten>
-    ensures { OnOk result (out.new ≡ out.old ++ item_line item.now) }
+fn put_item(out: &mut WriteBuffer, op: Opcode, bytes: &[u8]) -> Result<(), NotWritten>
+    ensures { OnOk result (out.new ≡ out.old ++ item_line (item op bytes.now)) }
 {
     out.put(b"read ")?;
-    put_octal_three(out, u16::from(item.op.0))?;
-    if !item.bytes().is_empty() {
+    put_octal_three(out, u16::from(op.0))?;
+    if !bytes.is_empty() {
         out.put(b" ")?;
-        put_text(out, item.bytes())?;
+        put_text(out, bytes)?;
     }
     out.put(b"\n")
 }
@@ -49,18 +50,22 @@ fn put_read(out: &mut WriteBuffer, read: &ReadEnd) -> Result<(), NotWritten>
     ensures { OnOk result (out.new ≡ out.old ++ read_text read.now) }
 {
     match read {
-        ReadEnd::Item(item) => put_item(out, item),
+        ReadEnd::Item(item) => put_item(out, item.op, item.bytes()),
         ReadEnd::Nothing => put_line(out, "read nothing"),
         ReadEnd::Ended(state) => put_named(out, "read ended", state_name(*state)),
     }
 }
 
 /// What a read gave, of these items the last where it gave one.
-fn put_read_done(out: &mut WriteBuffer, done: ReadDone, items: &[Item]) -> Result<(), NotWritten>
+fn put_read_done(
+    out: &mut WriteBuffer,
+    done: ReadDone,
+    items: &[KeptItem],
+) -> Result<(), NotWritten>
     ensures { OnOk result (out.new ≡ out.old ++ read_text (given_by done (last_of items.now))) }
 {
     match (done, items.last()) {
-        (ReadDone::Done, Some(item)) => put_item(out, item),
+        (ReadDone::Done, Some(item)) => put_item(out, item.op(), item.bytes()),
         (ReadDone::Done | ReadDone::Nothing, _) => put_line(out, "read nothing"),
         (ReadDone::Ended(state), _) => put_named(out, "read ended", state_name(state)),
     }
@@ -94,7 +99,7 @@ pub fn put_stepped(out: &mut WriteBuffer, stepped: &Stepped) -> Result<(), NotWr
 }
 
 /// What an event did that was taken, where the user whom it let read has read these items.
-fn put_done(out: &mut WriteBuffer, done: StepDone, items: &[Item]) -> Result<(), NotWritten>
+fn put_done(out: &mut WriteBuffer, done: StepDone, items: &[KeptItem]) -> Result<(), NotWritten>
     ensures { (packet : PacketView) → OnOk result (out.new ≡ out.old ++ stepped_text (in_full packet items.now done)) }
 {
     match done {
@@ -128,7 +133,7 @@ pub fn put_refusal(out: &mut WriteBuffer, fault: LabFault) -> Result<(), NotWrit
 pub fn put_answer(
     out: &mut WriteBuffer,
     answer: Result<StepDone, LabFault>,
-    items: &[Item],
+    items: &[KeptItem],
 ) -> Result<(), NotWritten>
     ensures { (packet : PacketView) → OnOk result (out.new ≡ out.old ++ answer_text (told packet items.now answer)) }
 {

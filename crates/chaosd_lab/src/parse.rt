@@ -1,7 +1,6 @@
 //! The event that a line asks for.
 ghost use Rattle.std.specs.Prelude.{◌≡◌, ℕ, List, option_map};
 ghost use Rattle.chaosd_lab.specs.Command.{happening_said};
-ghost use Rattle.chaosd_engines.specs.Escapes as said;
 ghost use Rattle.chaosd_lab.specs.Event.{write_of, write_at, read_of, window_of, tick_of, close_of, accept_of, deliver_of, event_of};
 
 use crate::command::Command;
@@ -9,15 +8,7 @@ use crate::fields::{cut, field_and_text};
 use crate::numbers::{number_of, opcode_of, side_of};
 use chaos_lab::Side;
 use chaos_packet::PktNum;
-use chaosd_engines::{Data, data_of};
-
-/// Reads the bytes that a text stands for into their place, where it is of that form.
-fn read_data(text: &[u8], body: &mut Data) -> Option<()>
-    ensures { option_map (λ none. body.new.items) result ≡ said.data_of text.now }
-{
-    *body = data_of(text)?;
-    Some(())
-}
+use chaosd_engines::{Data, read_data};
 
 /// `S OOO TEXT`, or without the text and the space before it.
 fn write_of(rest: &[u8], body: &mut Data) -> Option<Command>
