@@ -5,9 +5,9 @@ ghost use Rattle.chaos_file.specs.declared.limits.TheConstants.{MAX_FILE, MAX_NA
 use crate::progress::{Viewer, Watched};
 use chaos_link::UdpLink;
 use chaosd_call::Call;
+use chaosd_client::NoReply;
 use chaosd_copy::{CopyEnd, get_file, log_in, put_file};
 use chaosd_engines::RunFault;
-use chaosd_file::NoReply;
 use chaosd_line::Copying;
 use std::alloc::Global;
 use std::time::Clock;

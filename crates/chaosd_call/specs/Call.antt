@@ -12,8 +12,8 @@ use Rattle.chaos_host.specs.Calls.{HostReply, host_end}
 use Rattle.chaos_host.specs.Connect.{ConnectAnswer, host_connect}
 use Rattle.chaos_host.specs.View.{HostView, new_host}
 use Rattle.chaos_turn.specs.declared.limits.TheConstants.{TURN_ROOM}
-use Rattle.chaosd_file.specs.Client.{after_passing, call_by, data_read, is_wrote}
-use Rattle.chaosd_file.specs.Talk.{TakesTurn}
+use Rattle.chaosd_client.specs.Calls.{after_passing, call_by, data_read, is_wrote}
+use Rattle.chaosd_client.specs.Turn.{TakesTurn}
 
 -- A host that calls, its connection, and what waits to be sent.
 pub record Caller : Type 0 where

@@ -1,26 +1,22 @@
 //! A call to a FILE server over a link.
 ghost use Rattle.std.specs.Prelude.{◌≡◌, ◌<◌, ◌⊎◌, ◌%◌, ℕ, None, Err, option_map, IfErr, IfOk, OnOk};
 ghost use Rattle.chaos_packet.specs.Count.{Rose};
-ghost use Rattle.chaos_packet.specs.Opcode.{op_data};
-ghost use Rattle.chaos_packet.specs.Outbox.{room_of, with_put};
-ghost use Rattle.chaos_conn.specs.Act.{Gave, Read, Write};
-ghost use Rattle.chaos_host.specs.Calls.{plain_reply_of};
 ghost use Rattle.chaos_turn.specs.declared.limits.TheConstants.{TURN_ROOM};
 ghost use Rattle.chaosd_copy.specs.Talk.{after_hear, after_say};
-ghost use Rattle.chaosd_file.specs.Client.{call_by, data_read, is_over, is_wrote};
-ghost use Rattle.chaosd_file.specs.Fault.{IsTurnFault};
+ghost use Rattle.chaosd_client.specs.Calls.{is_over};
+ghost use Rattle.chaosd_client.specs.Fault.{IsTurnFault};
 ghost use Rattle.chaosd_call.specs.Call.{Connects, HangsUp, Hears, Says, TurnsBy, asked, caller, closed, new_caller};
 
-use chaos_conn::{ConnConfig, ReadEnd};
+use chaos_conn::ConnConfig;
 use chaos_file::Reply;
-use chaos_host::{CallFault, ConnId, Host};
+use chaos_host::{ConnId, Host};
 use chaos_link::{Carriage, LINK_ROOM, Link};
 use chaos_packet::{Opcode, Outbox, PktNum};
 use chaos_serve::CONTACT;
 use chaos_turn::{TURN_ROOM, TurnEnd, client_turn};
+use chaosd_client::{Beginning, NoReply, Patience, is_over, pass_indices, take_reply, write_item};
 use chaosd_copy::Talk;
 use chaosd_engines::RunFault;
-use chaosd_file::{Beginning, NoReply, Patience, pass_indices};
 use std::alloc::Global;
 use std::time::Clock;
 
@@ -185,42 +181,6 @@ fn close(host: &mut Host, id: ConnId, out: &mut Outbox)
     }
 }
 
-/// Writes a command, and says whether the connection took it.
-fn write(host: &mut Host, id: Option<ConnId>, command: &[u8], now: u64, out: &mut Outbox) -> bool
-    requires { 0 < room_of out.old }
-    ensures host { host.new ≡ (call_by host.old (Write op_data command.now now) id).view }
-    ensures out { out.new ≡ with_put out.old (call_by host.old (Write op_data command.now now) id).packets }
-    ensures told { result ≡ is_wrote (call_by host.old (Write op_data command.now now) id).answer }
-{
-    match id {
-        Some(id) => host.write(id, Opcode::DATA, command, now, out).is_ok(),
-        None => false,
-    }
-}
-
-/// The bytes of an item that was read, where it is data.
-fn data_of(read: Result<ReadEnd, CallFault>) -> Option<Reply>
-    ensures { option_map (λ v. v.items) result ≡ data_read (plain_reply_of Gave read) }
-{
-    match read {
-        Ok(ReadEnd::Item(item)) if item.op.is_data() => Some(item.body),
-        _ => None,
-    }
-}
-
-/// Reads what the server sent, where it is data.
-fn read(host: &mut Host, id: Option<ConnId>, out: &mut Outbox) -> Option<Reply>
-    requires { 0 < room_of out.old }
-    ensures host { host.new ≡ (call_by host.old Read id).view }
-    ensures out { out.new ≡ with_put out.old (call_by host.old Read id).packets }
-    ensures told { option_map (λ v. v.items) result ≡ data_read (call_by host.old Read id).answer }
-{
-    match id {
-        Some(id) => data_of(host.read(id, out)),
-        None => None,
-    }
-}
-
 impl<C: Clock, L: Link> Talk for Call<'_, C, L> {
     ghost talked = { λ _. None };
 
@@ -235,7 +195,14 @@ impl<C: Clock, L: Link> Talk for Call<'_, C, L> {
         if self.out.room() < 2 {
             return false;
         }
-        write(&mut self.host, self.id, command, self.now, &mut self.out)
+        write_item(
+            &mut self.host,
+            self.id,
+            Opcode::DATA,
+            command,
+            self.now,
+            &mut self.out,
+        )
     }
 
     fn hear(&mut self) -> Option<Reply>
@@ -246,11 +213,12 @@ impl<C: Clock, L: Link> Talk for Call<'_, C, L> {
         if self.out.room() == 0 {
             return None;
         }
-        let reply = read(&mut self.host, self.id, &mut self.out);
-        if reply.is_some() {
-            self.patience.begin(self.now);
+        let mut reply = Reply::new();
+        if !take_reply(&mut self.host, self.id, &mut self.out, &mut reply) {
+            return None;
         }
-        reply
+        self.patience.begin(self.now);
+        Some(reply)
     }
 
     fn turn(&mut self) -> Result<(), RunFault>
@@ -269,12 +237,6 @@ impl<C: Clock, L: Link> Talk for Call<'_, C, L> {
     fn is_over(&self) -> bool
         ensures { result ≡ is_over self.entry.now.host self.entry.now.id }
     {
-        let Some(id) = self.id else {
-            return true;
-        };
-        match self.host.state(id) {
-            Ok(state) => state.is_ended(),
-            Err(_) => true,
-        }
+        is_over(&self.host, self.id)
     }
 }

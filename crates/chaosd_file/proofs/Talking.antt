@@ -2,10 +2,8 @@
 use Rattle.std.proofs.Common.{◌≡◌, ◌⊎◌, ℕ, ◌+◌, Bool, true, false, List, [], ◌∷◌, ◌++◌, refl, sym, ap, ◌∙◌, subst, append_assoc, append-nil, add_assoc, add-zero, inl, inr}
 use Rattle.std.specs.Prelude.{Option, None, Some, Ok}
 use Rattle.chaos_packet.specs.Item.{ItemView}
-use Rattle.chaosd_file.specs.Talk.{Talker, Talk, Step, Calls, Writes, Reads, Turns, Does, Goes, and_later, and_then, after_call, silence, talk_of, Talks}
-use Rattle.chaosd_file.specs.Client.{call_by, data_read, is_over}
-use Rattle.chaos_conn.specs.Act.{Read}
-use Rattle.chaos_host.specs.Calls.{host_call}
+use Rattle.chaosd_file.specs.Talk.{Talker, Talk, Step, Calls, Writes, Reads, Turns, Does, Goes, and_later, and_then, silence, talk_of, Talks}
+use Rattle.chaosd_client.specs.Calls.{is_over}
 use Rattle.chaosd_file.specs.Exchange.{newly_said, hearing, command_item, eof_item, WritesOnce, WritesAndTurns, Exchanges, SaysFarewell}
 use Rattle.chaosd_file.specs.declared.limits.TheConstants.{COMMAND_TURNS, END_TURNS}
 use Rattle.chaos_packet.specs.Outbox.{OutboxView}
@@ -72,10 +70,6 @@ talks_calling c d now does = talks_step c c d silence (Calls now) (talks_none c)
 pub talks_reading : (c d : Talker) (got : Option (List ℕ)) → Does c (Reads got) d → Talks c (hearing got) d
 talks_reading c d None does = talks_step c c d silence (Reads None) (talks_none c) does
 talks_reading c d (Some bytes) does = talks_step c c d silence (Reads (Some bytes)) (talks_none c) does
-
--- it read by the connection that it has
-pub talks_read : (c d : Talker) (id : ℕ) (got : Option (List ℕ)) → c.id ≡ Some id → got ≡ data_read (host_call c.host id Read).answer → d ≡ after_call c (host_call c.host id Read) → Talks c (hearing got) d
-talks_read c d id got e read same = talks_reading c d got (read ∙ ap (λ o. data_read (call_by c.host Read o).answer) (sym e), same ∙ ap (λ o. after_call c (call_by c.host Read o)) (sym e))
 
 -- it tried to write
 pub talks_writing : (c d : Talker) (item : ItemView) (now : ℕ) (taken : Bool) → Does c (Writes item now taken) d → WritesOnce c item false taken d

@@ -1,19 +1,8 @@
--- Which faults a part of a run meets.
-use Rattle.std.specs.Prelude.{ℕ, ◌<◌}
+-- Which faults a service meets.
 use Rattle.chaosd_engines.specs.declared.fault.RunFault.{RunFault}
 use Rattle.chaosd_engines.specs.declared.fault.RunFault.TheVariants.{ReadFault, WriteFault, InputTooLong, NoMemory, BadScript, LinkFault, ClockFault}
 
--- a turn meets a fault of the clock, or of a link, where so many failures are counted then
-abbrev pub IsTurnFault : ℕ → RunFault → Type 0
-IsTurnFault count LinkFault = 0 < count
-IsTurnFault count ClockFault = Unit {0}
-IsTurnFault count ReadFault = ⊥
-IsTurnFault count WriteFault = ⊥
-IsTurnFault count InputTooLong = ⊥
-IsTurnFault count NoMemory = ⊥
-IsTurnFault count (BadScript number) = ⊥
-
--- a service meets besides only want of memory
+-- want of memory, and a fault of the clock or of its link
 abbrev pub IsServiceFault : RunFault → Type 0
 IsServiceFault NoMemory = Unit {0}
 IsServiceFault LinkFault = Unit {0}

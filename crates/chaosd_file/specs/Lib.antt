@@ -1,7 +1,6 @@
 pub mod Status
 pub mod Command
 pub mod Fault
-pub mod Client
 pub mod Talk
 pub mod Exchange
 pub mod Printed

@@ -11,12 +11,9 @@ use Rattle.chaos_host.specs.Acted.{HostActed}
 use Rattle.chaos_host.specs.Calls.{HostReply}
 use Rattle.chaos_host.specs.Connect.{ConnectAnswer, host_connect}
 use Rattle.chaos_host.specs.View.{HostView, new_host}
-use Rattle.chaos_host.specs.declared.answers.HostDelivered.{HostDelivered}
-use Rattle.chaos_turn.specs.Station.{station}
-use Rattle.chaos_turn.specs.Turn.{RunsClientTurn}
-use Rattle.chaos_turn.specs.declared.end.TurnEnd.{TurnEnd}
 use Rattle.chaos_turn.specs.declared.limits.TheConstants.{TURN_ROOM}
-use Rattle.chaosd_file.specs.Client.{call_by, is_wrote, data_read, after_passing}
+use Rattle.chaosd_client.specs.Calls.{call_by, is_wrote, data_read, after_passing}
+use Rattle.chaosd_client.specs.Turn.{TakesTurn}
 
 -- A client: its host, whom it asks and from which number on, how its packets are carried, whether it has asked, its connection,
 -- what waits to be sent, and the queue that its link is.
@@ -77,10 +74,6 @@ module _ {A : Type 0} where
   -- after a call on its host
   abbrev pub after_call : Talker → HostActed A → Talker
   after_call c acted = record c { host = acted.view; out = with_put c.out acted.packets }
-
--- A turn of a client's host, in which this became of the packet that came.
-abbrev pub TakesTurn : Carriage → ℕ → HostView → HostView → Option QueueView → Option QueueView → OutboxView → OutboxView → Type 0
-TakesTurn carriage now old new before after waiting left = (end : TurnEnd) × (told : Option HostDelivered) × RunsClientTurn carriage now (station old before waiting) (station new after left) end told
 
 -- what a turn makes of a client
 abbrev pub after_turn : Talker → HostView → Option QueueView → Talker

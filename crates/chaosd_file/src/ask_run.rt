@@ -9,7 +9,6 @@ ghost use Rattle.chaosd_file.specs.Printed.{PrintsReplies, PrintsScript};
 ghost use Rattle.chaosd_file.specs.Script.{AreCommands, BeginWithCommands, IsFirstBad, lines_within, PrintsRepliesTo, RepliesRead};
 
 use crate::client::Client;
-use crate::clock::Beginning;
 use crate::end::ScriptEnd;
 use crate::script::run_script;
 use crate::turns::Turns;
@@ -18,6 +17,7 @@ use chaos_host::{Host, HostDelivered};
 use chaos_link::{Carriage, LINK_ROOM, Link};
 use chaos_packet::Outbox;
 use chaos_turn::{TurnEnd, client_turn};
+use chaosd_client::Beginning;
 use chaosd_engines::RunFault;
 use std::alloc::Global;
 use std::io::{Read, Write};

@@ -1,23 +1,20 @@
 //! The end that asks.
-ghost use Rattle.std.specs.Prelude.{◌≡◌, ◌≤◌, ◌<◌, ◌+◌, true, false, [], ℕ, Option, length, option_map, OnOk, IfErr, IfOk};
-ghost use Rattle.chaos_packet.specs.Outbox.{room_of, with_put};
-ghost use Rattle.chaos_conn.specs.Act.{Gave, Write};
-ghost use Rattle.chaos_host.specs.Calls.{plain_reply_of};
+ghost use Rattle.std.specs.Prelude.{◌≡◌, ◌≤◌, ◌<◌, ◌+◌, true, false, [], ℕ, Option, length, OnOk, IfErr, IfOk};
 ghost use Rattle.chaos_conn.specs.Config.{usual_config};
 ghost use Rattle.chaos_host.specs.View.{new_host};
 ghost use Rattle.chaos_turn.specs.declared.limits.TheConstants.{TURN_ROOM};
-ghost use Rattle.chaosd_file.specs.Client.{call_by, data_read, is_over, is_wrote, pass_index, after_passing};
-ghost use Rattle.chaosd_file.specs.Fault.{IsTurnFault};
+ghost use Rattle.chaosd_client.specs.Calls.{taken};
+ghost use Rattle.chaosd_client.specs.Fault.{IsTurnFault};
 
 use crate::limits::{COMMAND_TURNS, END_TURNS};
-use crate::patience::{NoReply, Patience};
 use crate::turns::Turns;
-use chaos_conn::{ConnConfig, ReadEnd};
-use chaos_host::{CallFault, ConnId, Host};
+use chaos_conn::ConnConfig;
+use chaos_host::{ConnId, Host};
 use chaos_link::Carriage;
 use chaos_packet::{Opcode, Outbox, PktNum};
 use chaos_serve::CONTACT;
 use chaos_turn::TURN_ROOM;
+use chaosd_client::{NoReply, Patience, is_over, pass_indices, take_reply, write_item};
 use chaosd_engines::{Data, RunFault};
 use std::alloc::Global;
 
@@ -96,13 +93,18 @@ impl Client {
         self.id = called.ok();
     }
 
-    /// Sends a command as soon as there is room, and takes turns until its reply comes, within 1,000 turns. None where none came,
-    /// and where the connection ended.
-    pub fn ask<T: Turns>(&mut self, turns: &mut T, command: &[u8]) -> Result<Option<Data>, RunFault>
+    /// Sends a command as soon as there is room, and takes turns until its reply comes, within 1,000 turns. Says whether one came, which
+    /// is then left in the caller's place. None comes any more where the connection ended.
+    pub fn ask<T: Turns>(
+        &mut self,
+        turns: &mut T,
+        command: &[u8],
+        reply: &mut Data,
+    ) -> Result<bool, RunFault>
         ensures faults { IfErr result (IsTurnFault (T.failures turns.new)) }
         ensures same_links { T.links turns.new ≡ T.links turns.old }
         ensures well { OnOk result (T.failures turns.new ≤ T.failures turns.old) }
-        ensures talk { IfOk result (λ reply. Exchanges (talker_of self.old (T.queue turns.old)) command.now (option_map (λ v. v.items) reply) (talker_of self.new (T.queue turns.new))) }
+        ensures talk { IfOk result (λ came. Exchanges (talker_of self.old (T.queue turns.old)) command.now (taken came reply.new.items) (talker_of self.new (T.queue turns.new))) }
     {
         let now = turns.now()?;
         self.call(now);
@@ -110,16 +112,14 @@ impl Client {
         let mut is_written = false;
         for turn in 0..COMMAND_TURNS {
             is_written = self.turn_with(turns, Opcode::DATA, command, is_written)?;
-            if is_written {
-                if let Some(reply) = self.reply() {
-                    return Ok(Some(reply));
-                }
+            if is_written && self.take(reply) {
+                return Ok(true);
             }
-            if self.is_over() {
-                return Ok(None);
+            if is_over(&self.host, self.id) {
+                return Ok(false);
             }
         }
-        Ok(None)
+        Ok(false)
     }
 
     /// Why the command that was asked last got no reply, where none came.
@@ -142,7 +142,7 @@ impl Client {
         let mut is_written = false;
         for turn in 0..END_TURNS {
             is_written = self.turn_with(turns, Opcode::EOF, b"", is_written)?;
-            if self.is_over() || (is_written && self.is_drained()) {
+            if is_over(&self.host, self.id) || (is_written && self.is_drained()) {
                 return Ok(());
             }
         }
@@ -193,7 +193,7 @@ impl Client {
     {
         let now = turns.now()?;
         let is_written = is_written
-            || write(&mut self.host, self.id, op, bytes, now, &mut self.out);
+            || write_item(&mut self.host, self.id, op, bytes, now, &mut self.out);
         let mut told = None;
         turns.turn(
             &mut self.host,
@@ -207,29 +207,14 @@ impl Client {
         Ok(is_written)
     }
 
-    /// The reply that came, where one did. An EOF is none.
-    fn reply(&mut self) -> Option<Data>
+    /// Takes the reply that came, where one did, into the caller's place, and says so. An EOF is none.
+    fn take(&mut self, reply: &mut Data) -> bool
         requires called { self.old.is_called ≡ true }
         requires sent { self.old.out.packets ≡ [] }
-        ensures talk { (queue : Option QueueView) → Talks (talker_of self.old queue) (hearing (option_map (λ v. v.items) result)) (talker_of self.new queue) }
+        ensures talk { (queue : Option QueueView) → Talks (talker_of self.old queue) (hearing (taken result reply.new.items)) (talker_of self.new queue) }
         ensures called { self.new.is_called ≡ true }
     {
-        let id = self.id?;
-        let read = self.host.read(id, &mut self.out);
-        data_of(read)
-    }
-
-    /// Whether the connection has ended.
-    fn is_over(&self) -> bool
-        ensures { result ≡ is_over self.now.host self.now.id }
-    {
-        let Some(id) = self.id else {
-            return true;
-        };
-        match self.host.state(id) {
-            Ok(state) => state.is_ended(),
-            Err(_) => true,
-        }
+        take_reply(&mut self.host, self.id, &mut self.out, reply)
     }
 
     /// Whether the server read all that was sent.
@@ -238,63 +223,5 @@ impl Client {
             Some(id) => self.host.drained(id) == Ok(true),
             None => false,
         }
-    }
-}
-
-/// Writes an item, where there is room, and says whether it did.
-fn write(
-    host: &mut Host,
-    id: Option<ConnId>,
-    op: Opcode,
-    bytes: &[u8],
-    now: u64,
-    out: &mut Outbox,
-) -> bool
-    requires { 0 < room_of out.old }
-    ensures host { host.new ≡ (call_by host.old (Write op bytes.now now) id).view }
-    ensures out { out.new ≡ with_put out.old (call_by host.old (Write op bytes.now now) id).packets }
-    ensures told { result ≡ is_wrote (call_by host.old (Write op bytes.now now) id).answer }
-{
-    match id {
-        Some(id) => host.write(id, op, bytes, now, out).is_ok(),
-        None => false,
-    }
-}
-
-/// The bytes of an item that was read, where it is data.
-fn data_of(read: Result<ReadEnd, CallFault>) -> Option<Data>
-    ensures { option_map (λ v. v.items) result ≡ data_read (plain_reply_of Gave read) }
-{
-    match read {
-        Ok(ReadEnd::Item(item)) if item.op.is_data() => Some(item.body),
-        _ => None,
-    }
-}
-
-/// Uses up so many indices: each by a connection that is asked for and given up at once, whose request isn't sent. So copies of an
-/// older process's packets find no connection.
-pub fn pass_indices(host: &mut Host, to: u16, count: u8, out: &mut Outbox)
-    requires empty { out.old.packets ≡ [] }
-    requires room { 0 < out.old.cap }
-    ensures out { out.new ≡ out.old }
-    ensures host { host.new ≡ after_passing to count host.old }
-{
-    for passed in 0..count {
-        pass_index(host, to, out);
-    }
-}
-
-/// Uses up an index.
-fn pass_index(host: &mut Host, to: u16, out: &mut Outbox)
-    requires empty { out.old.packets ≡ [] }
-    requires room { 0 < out.old.cap }
-    ensures out { out.new ≡ out.old }
-    ensures host { host.new ≡ pass_index to host.old }
-{
-    let called = host.connect(to, CONTACT, PktNum(0), 0, out);
-    let _request = out.take();
-    if let Ok(id) = called {
-        let _ = host.close(id, b"", out);
-        let _none = out.take();
     }
 }

@@ -13,7 +13,7 @@ use crate::end::ScriptEnd;
 use crate::replies::{hand_on, print_none, print_reply};
 use crate::turns::Turns;
 use crate::why::{Why, bad_line};
-use chaosd_engines::{INPUT_LIMIT, KEPT_LEN, LineReader, RunFault, WriteBuffer};
+use chaosd_engines::{Data, INPUT_LIMIT, KEPT_LEN, LineReader, RunFault, WriteBuffer};
 use std::io::{Read, Write};
 
 /// Asks each command of a script, and closes the connection however that ends, but for a fault of a link or of the clock: no turn
@@ -59,7 +59,8 @@ fn ask_all<T: Turns, R: Read, W: Write>(
     ensures talk { IfOk result (λ end. AsksAll (talker_of client.old (T.queue turns.old)) (talker_of client.new (T.queue turns.new)) (R.remaining reader.old) (W.contents writer.old) (W.contents writer.new) end) }
 {
     let mut out = WriteBuffer::new();
-    let end = ask_lines(client, turns, reader, &mut out, writer, why);
+    let mut reply = Data::new();
+    let end = ask_lines(client, turns, reader, &mut reply, &mut out, writer, why);
     if let Err(RunFault::LinkFault | RunFault::ClockFault) = end {
         let _later = hand_on(&mut out, writer);
         return end;
@@ -69,10 +70,12 @@ fn ask_all<T: Turns, R: Read, W: Write>(
 }
 
 /// Asks each command in turn, and puts its reply behind what waits to be printed, which is handed on before each read.
+/// `reply` is a place for one.
 fn ask_lines<T: Turns, R: Read, W: Write>(
     client: &mut Client,
     turns: &mut T,
     reader: &mut R,
+    reply: &mut Data,
     out: &mut WriteBuffer,
     writer: &mut W,
     why: &mut Option<Why>,
@@ -88,7 +91,8 @@ fn ask_lines<T: Turns, R: Read, W: Write>(
     let mut replied = 0;
     'reads: loop {
         'lines: while lines.cut() {
-            if !ask_line(client, turns, lines.line(), replied, out, writer, why)? {
+            let line = lines.line();
+            if !ask_line(client, turns, line, replied, reply, out, writer, why)? {
                 return Ok(ScriptEnd {
                     commands: replied + 1,
                     replied,
@@ -102,7 +106,7 @@ fn ask_lines<T: Turns, R: Read, W: Write>(
         }
     }
     if let Some(line) = lines.last() {
-        if !ask_line(client, turns, line, replied, out, writer, why)? {
+        if !ask_line(client, turns, line, replied, reply, out, writer, why)? {
             return Ok(ScriptEnd {
                 commands: replied + 1,
                 replied,
@@ -117,12 +121,13 @@ fn ask_lines<T: Turns, R: Read, W: Write>(
     })
 }
 
-/// Asks the command that a line stands for and prints its reply, and says whether it got one.
+/// Asks the command that a line stands for and prints its reply, and says whether it got one. `reply` is a place for it.
 fn ask_line<T: Turns, W: Write>(
     client: &mut Client,
     turns: &mut T,
     line: &[u8],
     replied: u64,
+    reply: &mut Data,
     out: &mut WriteBuffer,
     writer: &mut W,
     why: &mut Option<Why>,
@@ -138,11 +143,11 @@ fn ask_line<T: Turns, W: Write>(
         *why = Some(Why::BadLine(bad_line(line)));
         return Err(RunFault::BadScript(replied + 1));
     };
-    let Some(reply) = client.ask(turns, command.as_slice())? else {
+    if !client.ask(turns, command.as_slice(), reply)? {
         *why = Some(Why::NoReply(client.no_reply()));
         print_none(out, writer)?;
         return Ok(false);
-    };
+    }
     print_reply(out, writer, reply.as_slice())?;
     Ok(true)
 }

@@ -4,7 +4,6 @@ ghost use Rattle.chaos_file.specs.Store.{change};
 ghost use Rattle.chaosd_file.specs.Fault.{IsServiceFault};
 ghost use Rattle.chaosd_file.specs.Service.{Serves, ServesBy};
 
-use crate::clock::Beginning;
 use crate::log::{Log, Silent};
 use crate::server::Server;
 use crate::watch::Watch;
@@ -12,6 +11,7 @@ use chaos_conn::ConnConfig;
 use chaos_file::Store;
 use chaos_link::{Carriage, Link};
 use chaos_turn::TurnEnd;
+use chaosd_client::Beginning;
 use chaosd_engines::RunFault;
 use std::alloc::Global;
 use std::time::Clock;

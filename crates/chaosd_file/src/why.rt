@@ -1,5 +1,5 @@
 //! What is said of a run besides its result: what is wrong with a bad line, and why a command got no reply.
-use crate::patience::NoReply;
+use chaosd_client::NoReply;
 use chaosd_engines::{LINE_LIMIT, without_return};
 use thiserror::Error;
 

@@ -4,9 +4,9 @@ use Rattle.chaosd_file.specs.Exchange.{talker_of, Exchanges}
 use Rattle.chaosd_file.specs.Talk.{Talker}
 use Rattle.chaosd_file.proofs.script.ask_line.Goals as goal
 
-pub returns-in_default-2-clause-asks : goal.returns-in_default-2-clause-asks
-returns-in_default-2-clause-asks g c =
-    let exchange = rw (c.in_default-2.is, c.as_slice.ensures.value) at c.in_ok-reply.ensures.talk in (
+pub returns-then-not-branch-clause-asks : goal.returns-then-not-branch-clause-asks
+returns-then-not-branch-clause-asks g c =
+    let exchange = rw (c.if-not-branch.true, c.as_slice.ensures.value) at c.in_ok-ask.ensures.talk in (
       c.in-Some.command.items,
       sym c.command_of.ensures ∙ ap (option_map (λ v. v.items)) c.in-Some.is,
       subst

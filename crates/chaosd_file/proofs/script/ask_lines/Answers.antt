@@ -23,17 +23,17 @@ pub returns-in_err-ask_line-clause-runs : goal.returns-in_err-ask_line-clause-ru
 returns-in_err-ask_line-clause-runs g c =
     let p = err_from_is_err_and c.from_residual.result c.from_residual.ensures.1 in
     let (given, asked, gives) = c.lines.invariant.asked in
-    rw (p.1, p.2) (line_runs _ _ (talker_of c.ask_line.new.client (g.T.Turns.queue c.ask_line.new.turns)) _ _ _ _ _ c.lines.replied given _ c.in_err-ask_line.field-0.0 asked (next_is _ _ given _ _ c.line.ensures (c.lines-test.ensures.given _ _ _ given gives)) c.in_err-ask_line.ensures.asks)
+    rw (p.1, p.2) (line_runs _ _ (talker_of c.ask_line.new.client (g.T.Turns.queue c.ask_line.new.turns)) _ _ _ _ _ c.lines.replied given _ c.in_err-ask_line.field-0.0 asked (next_is _ _ given _ _ c.line-line.ensures (c.lines-test.ensures.given _ _ _ given gives)) c.in_err-ask_line.ensures.asks)
 
 pub returns-then-not-branch-clause-runs : goal.returns-then-not-branch-clause-runs
 returns-then-not-branch-clause-runs g c =
     let (given, asked, gives) = c.lines.invariant.asked in
-    ran_in_part _ _ _ _ _ _ _ _ c.lines.replied given _ asked (next_is _ _ given _ _ c.line.ensures (c.lines-test.ensures.given _ _ _ given gives)) (rw c.if-not-branch.true at c.in_ok-ask_line.ensures.asks)
+    ran_in_part _ _ _ _ _ _ _ _ c.lines.replied given _ asked (next_is _ _ given _ _ c.line-line.ensures (c.lines-test.ensures.given _ _ _ given gives)) (rw c.if-not-branch.true at c.in_ok-ask_line.ensures.asks)
 
 pub returns-then-not-branch-clause-talk : goal.returns-then-not-branch-clause-talk
 returns-then-not-branch-clause-talk g c =
     let (given, asked, gives) = c.lines.invariant.asked in
-    asks_in_part _ _ _ _ _ _ _ c.lines.replied given _ asked (next_is _ _ given _ _ c.line.ensures (c.lines-test.ensures.given _ _ _ given gives)) (rw c.if-not-branch.true at c.in_ok-ask_line.ensures.asks)
+    asks_in_part _ _ _ _ _ _ _ c.lines.replied given _ asked (next_is _ _ given _ _ c.line-line.ensures (c.lines-test.ensures.given _ _ _ given gives)) (rw c.if-not-branch.true at c.in_ok-ask_line.ensures.asks)
 
 pub lines-preserved : goal.lines-preserved
 lines-preserved g c =
@@ -46,7 +46,7 @@ lines-preserved g c =
       well = omega (arith, c.lines.invariant.well, c.in_ok-ask_line.ensures.well);
       asked = (
         given ++ raw ∷ [],
-        asked_more _ _ _ _ _ _ c.lines.replied given _ raw (ap (take KEPT_LEN) c.line.ensures ∙ front) asked (rw c.if-not-branch.false at c.in_ok-ask_line.ensures.asks),
+        asked_more _ _ _ _ _ _ c.lines.replied given _ raw (ap (take KEPT_LEN) c.line-line.ensures ∙ front) asked (rw c.if-not-branch.false at c.in_ok-ask_line.ensures.asks),
         more,
       );
     }

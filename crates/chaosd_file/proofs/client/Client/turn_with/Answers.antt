@@ -21,9 +21,9 @@ returns-clause-talk g c =
       | else-is_written w ↦ (
           let turned = rw w.self-is at c.turn.ensures.turned in
           let sent = rw w.self-is at c.turn.ensures.sent in
-          let wrote = w.write-is_written.ensures in
-          let mid : Talker = record { host = w.write-is_written.new.host; to = old.to; start = old.start; carriage = old.carriage; is_called = old.is_called; id = old.id; out = w.write-is_written.new.out; queue = g.T.Turns.queue c.args.turns.now } in
-          rw (w.is_written-is, w.if-is_written.false) (talks_turning _ mid _ item _ w.write-is_written.result c.in_ok-now.now
+          let wrote = w.write_item-is_written.ensures in
+          let mid : Talker = record { host = w.write_item-is_written.new.host; to = old.to; start = old.start; carriage = old.carriage; is_called = old.is_called; id = old.id; out = w.write_item-is_written.new.out; queue = g.T.Turns.queue c.args.turns.now } in
+          rw (w.is_written-is, w.if-is_written.false) (talks_turning _ mid _ item _ w.write_item-is_written.result c.in_ok-now.now
           (talks_writing first mid item c.in_ok-now.now _ (wrote.told, same_talker _ _ old.to old.start old.carriage old.is_called _ _ _ _ (g.T.Turns.queue c.args.turns.now) wrote.host refl wrote.out))
           (same_talker _ _ old.to old.start old.carriage old.is_called _ _ _ _ (g.T.Turns.queue c.turn.new.self) refl refl sent, turned))
           )

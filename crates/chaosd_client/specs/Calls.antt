@@ -1,10 +1,12 @@
 -- What a client's calls make of its host.
 use Rattle.std.specs.Prelude.{zero, suc, ℕ, Bool, true, false, if◌then◌else◌, List, [], codes, Option, Some, None, Result, Ok, Err}
+use Rattle.chaos_packet.specs.Item.{ItemView}
 use Rattle.chaos_packet.specs.Opcode.{is_data}
 use Rattle.chaos_conn.specs.State.{is_ended}
+use Rattle.chaos_conn.specs.declared.answers.ReadDone.TheVariants as done
 use Rattle.chaos_conn.specs.declared.answers.ReadEnd.TheVariants as gave
 use Rattle.chaos_conn.specs.declared.state.State.{State}
-use Rattle.chaos_conn.specs.Act.{Call, Close, Gave, Wrote}
+use Rattle.chaos_conn.specs.Act.{Call, Close, Finished, Gave, Wrote}
 use Rattle.chaos_host.specs.declared.fault.CallFault.{CallFault}
 use Rattle.chaos_host.specs.declared.fault.CallFault.TheVariants.{NoSuchConnection}
 use Rattle.chaos_host.specs.Acted.{HostActed, no_effect}
@@ -26,6 +28,23 @@ is_wrote _ = false
 abbrev pub data_read : HostReply → Option (List ℕ)
 data_read (Ok (Gave (gave.Item item))) = if is_data item.op then Some item.body else None
 data_read _ = None
+
+-- the bytes that were left in a place, where it is told that some were
+abbrev pub taken : Bool → List ℕ → Option (List ℕ)
+taken true bytes = Some bytes
+taken false bytes = None
+
+-- ---- the same item, lent and then read where it lies
+
+abbrev pub data_in_front : Result (Option ItemView) CallFault → Option (List ℕ)
+data_in_front (Ok (Some item)) = if is_data item.op then Some item.body else None
+data_in_front _ = None
+
+abbrev pub is_read : HostReply → Bool
+is_read (Ok (Finished done.Done)) = true
+is_read _ = false
+
+-- ---- the end
 
 abbrev pub has_ended : Result State CallFault → Bool
 has_ended (Ok state) = is_ended state
