@@ -2,17 +2,24 @@
 ghost use Rattle.std.specs.Prelude.{◌≡◌, option_map};
 ghost use Rattle.chaosd_file.specs.Command.{command_of};
 
-use chaosd_engines::{Data, LINE_LIMIT, data_of, without_return};
+use chaosd_engines::{Data, LINE_LIMIT, read_data, without_return};
 
-/// The bytes of the command that a line stands for, where it is a text of at most 4,096 bytes that stands for no more than a packet
-/// has. A carriage return at its end is ignored.
+/// The places of a command and of its reply, which are kept from line to line.
+#[derive(Drop)]
+pub struct Places {
+    pub command: Data,
+    pub reply: Data,
+}
+
+/// Reads the bytes of the command that a line stands for into a place of the caller's, where it is a text of at most 4,096 bytes that
+/// stands for no more than a packet has. A carriage return at its end is ignored.
 #[tactic(auto, unfolding(crate::specs::Command::command_of))]
-pub fn command_of(raw: &[u8]) -> Option<Data>
-    ensures { option_map (λ v. v.items) result ≡ command_of raw.now }
+pub fn read_command(raw: &[u8], command: &mut Data) -> Option<()>
+    ensures { option_map (λ none. command.new.items) result ≡ command_of raw.now }
 {
     let text = without_return(raw);
     if text.len() > LINE_LIMIT {
         return None;
     }
-    data_of(text)
+    read_data(text, command)
 }

@@ -8,7 +8,7 @@ ghost use Rattle.chaosd_file.specs.Exchange.{talker_of};
 ghost use Rattle.chaosd_file.specs.Script.{Runs};
 
 use crate::client::Client;
-use crate::command::command_of;
+use crate::command::{Places, read_command};
 use crate::end::ScriptEnd;
 use crate::replies::{hand_on, print_none, print_reply};
 use crate::turns::Turns;
@@ -59,8 +59,11 @@ fn ask_all<T: Turns, R: Read, W: Write>(
     ensures talk { IfOk result (λ end. AsksAll (talker_of client.old (T.queue turns.old)) (talker_of client.new (T.queue turns.new)) (R.remaining reader.old) (W.contents writer.old) (W.contents writer.new) end) }
 {
     let mut out = WriteBuffer::new();
-    let mut reply = Data::new();
-    let end = ask_lines(client, turns, reader, &mut reply, &mut out, writer, why);
+    let mut places = Places {
+        command: Data::new(),
+        reply: Data::new(),
+    };
+    let end = ask_lines(client, turns, reader, &mut places, &mut out, writer, why);
     if let Err(RunFault::LinkFault | RunFault::ClockFault) = end {
         let _later = hand_on(&mut out, writer);
         return end;
@@ -70,12 +73,11 @@ fn ask_all<T: Turns, R: Read, W: Write>(
 }
 
 /// Asks each command in turn, and puts its reply behind what waits to be printed, which is handed on before each read.
-/// `reply` is a place for one.
 fn ask_lines<T: Turns, R: Read, W: Write>(
     client: &mut Client,
     turns: &mut T,
     reader: &mut R,
-    reply: &mut Data,
+    places: &mut Places,
     out: &mut WriteBuffer,
     writer: &mut W,
     why: &mut Option<Why>,
@@ -92,7 +94,7 @@ fn ask_lines<T: Turns, R: Read, W: Write>(
     'reads: loop {
         'lines: while lines.cut() {
             let line = lines.line();
-            if !ask_line(client, turns, line, replied, reply, out, writer, why)? {
+            if !ask_line(client, turns, line, replied, places, out, writer, why)? {
                 return Ok(ScriptEnd {
                     commands: replied + 1,
                     replied,
@@ -106,7 +108,7 @@ fn ask_lines<T: Turns, R: Read, W: Write>(
         }
     }
     if let Some(line) = lines.last() {
-        if !ask_line(client, turns, line, replied, reply, out, writer, why)? {
+        if !ask_line(client, turns, line, replied, places, out, writer, why)? {
             return Ok(ScriptEnd {
                 commands: replied + 1,
                 replied,
@@ -121,13 +123,13 @@ fn ask_lines<T: Turns, R: Read, W: Write>(
     })
 }
 
-/// Asks the command that a line stands for and prints its reply, and says whether it got one. `reply` is a place for it.
+/// Asks the command that a line stands for and prints its reply, and says whether it got one.
 fn ask_line<T: Turns, W: Write>(
     client: &mut Client,
     turns: &mut T,
     line: &[u8],
     replied: u64,
-    reply: &mut Data,
+    places: &mut Places,
     out: &mut WriteBuffer,
     writer: &mut W,
     why: &mut Option<Why>,
@@ -139,15 +141,15 @@ fn ask_line<T: Turns, W: Write>(
     ensures failed { result ≡ Err RunFault.LinkFault → 0 < T.failures turns.new }
     ensures well { OnOk result (T.failures turns.new ≤ T.failures turns.old) }
 {
-    let Some(command) = command_of(line) else {
+    let Some(()) = read_command(line, &mut places.command) else {
         *why = Some(Why::BadLine(bad_line(line)));
         return Err(RunFault::BadScript(replied + 1));
     };
-    if !client.ask(turns, command.as_slice(), reply)? {
+    if !client.ask(turns, places.command.as_slice(), &mut places.reply)? {
         *why = Some(Why::NoReply(client.no_reply()));
         print_none(out, writer)?;
         return Ok(false);
     }
-    print_reply(out, writer, reply.as_slice())?;
+    print_reply(out, writer, places.reply.as_slice())?;
     Ok(true)
 }

@@ -24,7 +24,7 @@ pub enum BadLine {
     TooMany,
 }
 
-/// What is wrong with a line for which [`crate::command::command_of`] finds no command.
+/// What is wrong with a line for which [`crate::command::read_command`] finds no command.
 pub fn bad_line(raw: &[u8]) -> BadLine {
     let text = without_return(raw);
     if text.len() > LINE_LIMIT {
