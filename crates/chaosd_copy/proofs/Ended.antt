@@ -1,5 +1,5 @@
 -- How a copy ended that wasn't done.
-use Rattle.std.proofs.Common.{◌≡◌, ℕ, ◌+◌, ◌*◌, ◌<◌, ◌≤◌, Bool, false, List, [], ◌∷◌, ◌++◌, length, take, drop, Option, Some, None, refl, ap, ◌∙◌, sym, subst, arith, inl, inr}
+use Rattle.std.proofs.Common.{◌≡◌, ℕ, ◌+◌, ◌-◌, ◌*◌, ◌<◌, ◌≤◌, Bool, false, List, [], ◌∷◌, ◌++◌, length, take, drop, Option, Some, None, refl, ap, ◌∙◌, sym, subst, arith, inl, inr}
 use Rattle.std.specs.Prelude.{min, codes, not, is_some, option_map, Decides, Result, Ok, Err, IfOk}
 use Rattle.std.specs.Fmt.{decimal}
 use Rattle.std.proofs.lemmas.List.{append_assoc, append-nil, take-append-drop}
@@ -7,16 +7,17 @@ use Rattle.std.proofs.lemmas.Slice.Eq.{bytes_eq-Decides}
 use Rattle.std.proofs.Math.Seq.{take-append_seam}
 use Rattle.std.specs.Str.{bytes_eq}
 use Rattle.chaos_file.specs.declared.limits.TheConstants.{MAX_CHUNK, MAX_FILE}
-use Rattle.chaos_file.specs.Answer.{Opened, Wrote, Closed, read_answer, reply_front}
+use Rattle.chaos_file.specs.Answer.{AtEnd, Opened, Wrote, Closed, read_answer, reply_front}
 use Rattle.chaosd_copy.specs.declared.end.CopyEnd.{CopyEnd}
 use Rattle.chaosd_copy.specs.declared.end.CopyEnd.TheVariants as e
 use Rattle.chaosd_copy.specs.Copy.{upto, chunk, chunk_count, reply_of, put_reply, put_front_replies, get_front_replies}
 use Rattle.chaosd_copy.specs.Talk.{Talked, Since, Heard}
 use Rattle.chaosd_copy.specs.Row.{file_handle, heard_in}
-use Rattle.chaosd_copy.specs.Ends.{UnlessCopied, IsErrorTo, EndedBy, EndedAt, WritesEnded, PutEnded, ReadsEnded, GetEnded, tids_from, write_heard, read_heard}
+use Rattle.chaosd_copy.specs.Ends.{UnlessCopied, IsErrorTo, EndedBy, EndedAt, WritesEnded, PutEnded, IsOpened, IsGiven, IsPiece, ReadsEnded, GetEnded, tids_from, write_heard, read_heard}
 use Rattle.chaosd_copy.proofs.Talks.{since_then, none_some}
 use Rattle.chaosd_copy.proofs.Begun.{open_named}
 use Rattle.chaosd_copy.proofs.Joined.{upto_same, next_tid}
+use Rattle.chaosd_copy.proofs.Growing.{given}
 
 -- whether a reply begins so
 pub error_decides : (tid handle reply s p : List ℕ) (r : Bool) → s ≡ reply → p ≡ reply_front tid handle ++ (codes "ERROR " ++ []) → r ≡ bytes_eq p (take (length p) s)
@@ -46,14 +47,14 @@ unless_then (e.Strange reply) P Q f h = f h
 unless_then e.NoReply P Q f h = f h
 unless_then e.Unknown P Q f h = f h
 
--- a reply that isn't the one that was wanted
-pub unwanted : (tid handle : List ℕ) (W : List ℕ → Type 0) (last : Option (List ℕ)) (end : CopyEnd) → ((x : List ℕ) → last ≡ Some x → W x → ⊥) → EndedBy tid handle (λ _. ⊥) last end
+-- whoever got no reply of one kind got none of a narrower one
+pub unwanted : (tid handle : List ℕ) (V W : List ℕ → Type 0) (last : Option (List ℕ)) (end : CopyEnd) → ((x : List ℕ) → last ≡ Some x → W x → V x) → EndedBy tid handle V last end
     → EndedBy tid handle W last end
-unwanted tid handle W last e.Done f h = h
-unwanted tid handle W last (e.Refused reply) f h = h
-unwanted tid handle W last (e.Strange reply) f h = (h.0, h.1, f reply.items h.0)
-unwanted tid handle W last e.NoReply f h = h
-unwanted tid handle W last e.Unknown f h = h
+unwanted tid handle V W last e.Done f h = h
+unwanted tid handle V W last (e.Refused reply) f h = h
+unwanted tid handle V W last (e.Strange reply) f h = (h.0, h.1, λ w. h.2 (f reply.items h.0 w))
+unwanted tid handle V W last e.NoReply f h = h
+unwanted tid handle V W last e.Unknown f h = h
 
 -- ---- what was heard
 
@@ -165,30 +166,69 @@ is_heard items (Some x) b told f e = none_some (items x) (sym e)
 
 -- ---- a get
 
-unwished : (tid handle : List ℕ) (W : List ℕ → Type 0) (last : Option (List ℕ)) (end : CopyEnd) → EndedBy tid handle W last end → EndedBy tid handle (λ _. ⊥) last end
-unwished tid handle W last e.Done h = h
-unwished tid handle W last (e.Refused reply) h = h
-unwished tid handle W last (e.Strange reply) h = (h.0, h.1, λ f. f)
-unwished tid handle W last e.NoReply h = h
-unwished tid handle W last e.Unknown h = h
+-- behind the last piece
+past_end : (tid handle : List ℕ) (len i : ℕ) (x : List ℕ) → len ≤ MAX_CHUNK * i → IsPiece tid handle len i x → x ≡ reply_of tid handle AtEnd
+past_end tid handle len i x past ([], size, is) = is
+past_end tid handle len i x past (b ∷ bs, size, is) = absurd (omega (arith, past, size))
 
-pub reads_not_done : (a b : Option Talked) (cs : List (List ℕ)) (first len i : ℕ) (bytes : List ℕ) (W : List ℕ → Type 0) (last : Option (List ℕ)) (end : CopyEnd) → i ≤ chunk_count len
-    → Since a b cs (upto (read_heard first bytes) i ++ heard_in last)
-    → UnlessCopied end (EndedBy (decimal (first + i)) file_handle W last) → UnlessCopied end (ReadsEnded a b first len bytes)
-reads_not_done a b cs first len i bytes W last end below h =
-    unless_then end _ _ (λ k. (i, below, (last, (cs, h), unwished (decimal (first + i)) file_handle W last end k)))
+pub reads_not_done : (a b : Option Talked) (cs : List (List ℕ)) (first len i : ℕ) (bytes wanted : List ℕ) (last : Option (List ℕ)) (end : CopyEnd) → i ≡ chunk_count len
+    → wanted ≡ reply_of (decimal (first + i)) file_handle AtEnd → Since a b cs (upto (read_heard first bytes) i ++ heard_in last)
+    → UnlessCopied end (EndedBy (decimal (first + i)) file_handle (λ r. r ≡ wanted) last) → UnlessCopied end (ReadsEnded a b first len bytes)
+reads_not_done a b cs first len i bytes wanted last end all same h =
+    let past : len ≤ MAX_CHUNK * i = omega (arith, all) in
+    unless_then end _ _ (λ k. (
+      i,
+      omega (arith, all),
+      (
+        last,
+        (cs, h),
+        unwanted (decimal (first + i)) file_handle (λ r. r ≡ wanted) (IsPiece (decimal (first + i)) file_handle len i) last end
+            (λ x e w. past_end (decimal (first + i)) file_handle len i x past w ∙ sym same) k,
+      ),
+    ))
+
+-- before the end
+a_piece : (tid handle : List ℕ) (len i size : ℕ) (x : List ℕ) → MAX_CHUNK * i < len → size ≡ min (len - MAX_CHUNK * i) MAX_CHUNK → IsPiece tid handle len i x → IsGiven tid handle size x
+a_piece tid handle len i size x below same (piece, long, is) =
+    let some : 0 < length piece = omega (arith, below, long) in (piece, long ∙ sym same, is ∙ ap (reply_of tid handle) (given piece some))
 
 -- a READ's reply, by which no more bytes came
-pub piece_not_done : (a b : Option Talked) (cs : List (List ℕ)) (first len i : ℕ) (xs ys : List ℕ) (last : Option (List ℕ)) (end : CopyEnd) → i ≤ chunk_count len
-    → Since a b cs (upto (read_heard first xs) i ++ heard_in last)
-    → UnlessCopied end (λ e. (ys ≡ xs) × EndedBy (decimal (first + i)) file_handle (λ _. ⊥) last e) → UnlessCopied end (ReadsEnded a b first len ys)
-piece_not_done a b cs first len i xs ys last end below h =
-    unless_then end _ _ (λ k. (i, below, (last, (cs, subst (λ zs. Since a b cs (upto (read_heard first zs) i ++ heard_in last)) (sym k.0) h), k.1)))
+pub piece_not_done : (a b : Option Talked) (cs : List (List ℕ)) (first len i size : ℕ) (xs ys : List ℕ) (last : Option (List ℕ)) (end : CopyEnd) → i < chunk_count len
+    → size ≡ min (len - MAX_CHUNK * i) MAX_CHUNK → Since a b cs (upto (read_heard first xs) i ++ heard_in last)
+    → UnlessCopied end (λ e. (ys ≡ xs) × EndedBy (decimal (first + i)) file_handle (IsGiven (decimal (first + i)) file_handle size) last e)
+    → UnlessCopied end (ReadsEnded a b first len ys)
+piece_not_done a b cs first len i size xs ys last end inside same h =
+    let below : MAX_CHUNK * i < len = omega (arith, inside) in
+    unless_then end _ _ (λ k. (
+      i,
+      omega (arith, inside),
+      (
+        last,
+        (cs, subst (λ zs. Since a b cs (upto (read_heard first zs) i ++ heard_in last)) (sym k.0) h),
+        unwanted (decimal (first + i)) file_handle (IsGiven (decimal (first + i)) file_handle size) (IsPiece (decimal (first + i)) file_handle len i) last end
+            (λ x e w. a_piece (decimal (first + i)) file_handle len i size x below same w) k.1,
+      ),
+    ))
 
-pub get_not_opened : (a b : Option Talked) (first : ℕ) (bytes : List ℕ) (W : List ℕ → Type 0) (last : Option (List ℕ)) (end : CopyEnd) → Heard a b (heard_in last)
-    → UnlessCopied end (EndedBy (decimal first) file_handle W last) → UnlessCopied end (GetEnded a b (tids_from first) file_handle bytes)
-get_not_opened a b first bytes W last end h =
-    unless_then end _ _ (λ k. inl (subst (λ n. EndedAt a b [] (decimal n) file_handle (λ _. ⊥) end) (open_named first) (last, h, unwished (decimal first) file_handle W last end k)))
+-- no file's length stands in a reply in which none was found
+pub no_length : (found : Option ℕ) (reply : Option (List ℕ)) (tid : List ℕ) → ((n : ℕ) → n ≤ MAX_FILE → reply ≡ Some (reply_of tid file_handle (Opened n)) → found ≡ Some n) → found ≡ None
+    → (x : List ℕ) → reply ≡ Some x → IsOpened tid file_handle x → ⊥
+no_length found reply tid all none x e (n, fits, is) = let both : None ≡ Some n = sym none ∙ all n fits (e ∙ ap Some is) in cc
+
+-- nor another than the one that was found
+pub one_length : (found : Option ℕ) (reply : Option (List ℕ)) (tid : List ℕ) (len : ℕ) (wanted : List ℕ) → ((n : ℕ) → n ≤ MAX_FILE → reply ≡ Some (reply_of tid file_handle (Opened n)) → found ≡ Some n)
+    → found ≡ Some len → wanted ≡ reply_of tid file_handle (Opened len) → (x : List ℕ) → reply ≡ Some x → IsOpened tid file_handle x → x ≡ wanted
+one_length found reply tid len wanted all some same x e (n, fits, is) =
+    let both : Some n ≡ Some len = sym (all n fits (e ∙ ap Some is)) ∙ some in
+    let one : n ≡ len = cc in
+    is ∙ ap (λ m. reply_of tid file_handle (Opened m)) one ∙ sym same
+
+pub get_not_opened : (a b : Option Talked) (first : ℕ) (bytes : List ℕ) (V : List ℕ → Type 0) (last : Option (List ℕ)) (end : CopyEnd)
+    → ((x : List ℕ) → last ≡ Some x → IsOpened (decimal first) file_handle x → V x) → Heard a b (heard_in last)
+    → UnlessCopied end (EndedBy (decimal first) file_handle V last) → UnlessCopied end (GetEnded a b (tids_from first) file_handle bytes)
+get_not_opened a b first bytes V last end f h =
+    unless_then end _ _ (λ k. inl (subst (λ n. EndedAt a b [] (decimal n) file_handle (IsOpened (decimal n) file_handle) end) (open_named first)
+    (last, h, unwanted (decimal first) file_handle V (IsOpened (decimal first) file_handle) last end f k)))
 
 reads_named : (first i : ℕ) (bytes : List ℕ) → read_heard (first + 1) bytes i ≡ reply_of (tids_from first (1 + i)) file_handle (read_answer (chunk bytes i))
 reads_named first i bytes = ap (λ t. reply_of (decimal t) file_handle (read_answer (chunk bytes i))) (next_tid first i)
@@ -206,12 +246,14 @@ get_ended_reading a b c first len bytes cs end fits h (i, below, (last, heard, e
     inr (
       len,
       fits,
-      i,
-      omega arith,
-      (
-        last,
-        got_front a b c first len bytes cs (heard_in last) i h heard,
-        subst (λ t. EndedBy (decimal t) file_handle (λ _. ⊥) last end) (next_tid first i) ended,
+      inl (
+        i,
+        below,
+        (
+          last,
+          got_front a b c first len bytes cs (heard_in last) i h heard,
+          subst (λ t. EndedBy (decimal t) file_handle (IsPiece (decimal t) file_handle len i) last end) (next_tid first i) ended,
+        ),
       ),
     )
 
@@ -220,22 +262,21 @@ pub get_not_read : (a b c : Option Talked) (first len : ℕ) (bytes : List ℕ) 
     → UnlessCopied end (ReadsEnded b c (first + 1) len bytes) → UnlessCopied end (GetEnded a c (tids_from first) file_handle bytes)
 get_not_read a b c first len bytes cs end fits h = unless_then end _ _ (get_ended_reading a b c first len bytes cs end fits h)
 
-pub get_not_closed : (a b c d : Option Talked) (first len tid : ℕ) (bytes : List ℕ) (W : List ℕ → Type 0) (cs ds : List (List ℕ)) (last : Option (List ℕ)) (end : CopyEnd) → len ≤ MAX_FILE
-    → tid ≡ chunk_count len
+pub get_not_closed : (a b c d : Option Talked) (first len tid : ℕ) (bytes wanted : List ℕ) (cs ds : List (List ℕ)) (last : Option (List ℕ)) (end : CopyEnd) → len ≤ MAX_FILE
+    → tid ≡ chunk_count len → wanted ≡ reply_of (decimal (first + 2 + tid)) file_handle (Closed len)
     → Since a b cs (reply_of (decimal first) file_handle (Opened len) ∷ [])
     → Since b c ds (upto (read_heard (first + 1) bytes) (1 + chunk_count len)) → Heard c d (heard_in last)
-    → UnlessCopied end (EndedBy (decimal (first + 2 + tid)) file_handle W last) → UnlessCopied end (GetEnded a d (tids_from first) file_handle bytes)
-get_not_closed a b c d first len tid bytes W cs ds last end fits count h k l =
+    → UnlessCopied end (EndedBy (decimal (first + 2 + tid)) file_handle (λ r. r ≡ wanted) last) → UnlessCopied end (GetEnded a d (tids_from first) file_handle bytes)
+get_not_closed a b c d first len tid bytes wanted cs ds last end fits count is h k l =
     let n = chunk_count len in
-    let same : first + 2 + tid ≡ first + (1 + (1 + n)) = ap (λ m. first + 2 + m) count ∙ omega arith in
+    let same : first + 2 + tid ≡ first + (2 + n) = ap (λ m. first + 2 + m) count ∙ omega arith in
     unless_then end _ _ (λ m. inr (
       len,
       fits,
-      1 + n,
-      omega arith,
-      (
+      inr (
         last,
         got_front a b d first len bytes cs (heard_in last) (1 + n) h (heard_then b c d ds _ (heard_in last) k l),
-        subst (λ t. EndedBy (decimal t) file_handle (λ _. ⊥) last end) same (unwished (decimal (first + 2 + tid)) file_handle W last end m),
+        subst (λ t. EndedBy (decimal t) file_handle (λ r. r ≡ reply_of (decimal t) file_handle (Closed len)) last end) same
+            (subst (λ w. EndedBy (decimal (first + 2 + tid)) file_handle (λ r. r ≡ w) last end) is m),
       ),
     ))

@@ -1,6 +1,7 @@
 pub mod Runs
 pub mod Steps
 pub mod Pieces
+pub mod ReadBack
 pub mod Whole
 pub mod Talks
 pub mod Spelled

@@ -1,10 +1,10 @@
 -- How a copy ended, and what was said and heard in it.
-use Rattle.std.specs.Prelude.{◌≡◌, ◌≤◌, ◌<◌, ◌⊎◌, ℕ, ◌+◌, ◌*◌, List, [], ◌∷◌, ◌++◌, codes, length, min, Option, Some, None, Result, Ok, Err}
+use Rattle.std.specs.Prelude.{◌≡◌, ◌≤◌, ◌<◌, ◌⊎◌, ℕ, ◌+◌, ◌-◌, ◌*◌, List, [], ◌∷◌, ◌++◌, codes, length, min, Option, Some, None, Result, Ok, Err}
 use Rattle.std.specs.Fmt.{decimal}
 use Rattle.chaos_file.specs.declared.limits.TheConstants.{MAX_CHUNK, MAX_FILE}
 use Rattle.chaos_file.specs.Command.{Login, Read, Write}
 use Rattle.chaos_file.specs.Spelling.{spelling_of}
-use Rattle.chaos_file.specs.Answer.{LoggedIn, Opened, Wrote, Closed, read_answer, reply_front}
+use Rattle.chaos_file.specs.Answer.{LoggedIn, Opened, Given, Wrote, Closed, read_answer, reply_front}
 use Rattle.chaosd_engines.specs.declared.fault.RunFault.{RunFault}
 use Rattle.chaosd_copy.specs.declared.end.CopyEnd.{CopyEnd}
 use Rattle.chaosd_copy.specs.declared.end.CopyEnd.TheVariants as e
@@ -112,15 +112,29 @@ PutEnded start now tid handle bytes end =
     × EndedBy (tid (1 + chunk_count (length bytes))) handle (λ r. r ≡ reply_of (tid (1 + chunk_count (length bytes))) handle (Closed (length bytes))) (Some reply) end)
     ⊎ ((end ≡ e.Unknown) × Heard start now (put_front_replies tid handle bytes (chunk_count (length bytes))))))
 
+-- the reply to the OPEN of a file of some length that FILE allows
+abbrev pub IsOpened : List ℕ → List ℕ → List ℕ → Type 0
+IsOpened tid handle reply = (len : ℕ) × (len ≤ MAX_FILE) × (reply ≡ reply_of tid handle (Opened len))
+
+-- a reply to a READ that gives so many bytes
+abbrev pub IsGiven : List ℕ → List ℕ → ℕ → List ℕ → Type 0
+IsGiven tid handle size reply = (piece : List ℕ) × (length piece ≡ size) × (reply ≡ reply_of tid handle (Given piece))
+
+-- the reply to a READ of a file of this length: as many bytes as its piece at this place has, and EOF behind the last
+abbrev pub IsPiece : List ℕ → List ℕ → ℕ → ℕ → List ℕ → Type 0
+IsPiece tid handle len i reply = (piece : List ℕ) × (length piece ≡ min (len - MAX_CHUNK * i) MAX_CHUNK) × (reply ≡ reply_of tid handle (read_answer piece))
+
 -- Some READs gave these bytes, and the get ended by the reply to the next.
 abbrev pub ReadsEnded : Option Talked → Option Talked → ℕ → ℕ → List ℕ → CopyEnd → Type 0
 ReadsEnded start now first len bytes end = (i : ℕ) × (i ≤ chunk_count len)
-    × EndedAt start now (upto (read_heard first bytes) i) (decimal (first + i)) file_handle (λ _. ⊥) end
+    × EndedAt start now (upto (read_heard first bytes) i) (decimal (first + i)) file_handle (IsPiece (decimal (first + i)) file_handle len i) end
 
--- A get ended by the reply to OPEN; or that told a length, and some READs gave these bytes, and it ended by the reply to the next command,
--- which was CLOSE where all were read.
+-- A get ended by the reply to OPEN; or that told a length, and some READs gave these bytes, and it ended by the reply to the next; or so
+-- did all, and it ended by the reply to CLOSE.
 abbrev pub GetEnded : Option Talked → Option Talked → Tids → List ℕ → List ℕ → CopyEnd → Type 0
 GetEnded start now tid handle bytes end =
-    EndedAt start now [] (tid 0) handle (λ _. ⊥) end
-    ⊎ ((len : ℕ) × (len ≤ MAX_FILE) × (i : ℕ) × (i ≤ 1 + chunk_count len)
-    × EndedAt start now (get_front_replies tid handle len bytes i) (tid (1 + i)) handle (λ _. ⊥) end)
+    EndedAt start now [] (tid 0) handle (IsOpened (tid 0) handle) end
+    ⊎ ((len : ℕ) × (len ≤ MAX_FILE)
+    × (((i : ℕ) × (i ≤ chunk_count len) × EndedAt start now (get_front_replies tid handle len bytes i) (tid (1 + i)) handle (IsPiece (tid (1 + i)) handle len i) end)
+    ⊎ EndedAt start now (get_front_replies tid handle len bytes (1 + chunk_count len)) (tid (2 + chunk_count len)) handle
+    (λ r. r ≡ reply_of (tid (2 + chunk_count len)) handle (Closed len)) end))

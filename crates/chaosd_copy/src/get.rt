@@ -1,13 +1,13 @@
 //! Getting a file.
-ghost use Rattle.std.specs.Prelude.{◌≡◌, ◌⊎◌, ◌≤◌, ◌<◌, ◌+◌, ◌++◌, [], ℕ, List, Some, option_map, length, IfErr, IfSome};
+ghost use Rattle.std.specs.Prelude.{◌≡◌, ◌≢◌, ◌⊎◌, ◌≤◌, ◌<◌, ◌+◌, ◌++◌, [], ℕ, List, Some, option_map, length, IfErr, IfSome, MatchOption};
 ghost use Rattle.std.specs.Fmt.{decimal};
 ghost use Rattle.chaos_file.specs.declared.limits.TheConstants.{MAX_FILE, MAX_PATH, MAX_CHUNK};
-ghost use Rattle.chaos_file.specs.Answer.{Given};
+ghost use Rattle.chaos_file.specs.Answer.{Given, Opened};
 ghost use Rattle.chaosd_copy.specs.declared.limits.TheConstants.{MAX_FIRST};
 ghost use Rattle.chaosd_copy.specs.Copy.{upto, chunk_count, reply_of, get_commands, get_replies};
 ghost use Rattle.chaosd_copy.specs.Row.{file_handle};
 ghost use Rattle.chaosd_copy.specs.Talk.{Since, SaidUpTo};
-ghost use Rattle.chaosd_copy.specs.Ends.{IfDone, UnlessDone, EndedBy, ReadsEnded, GetBegun, GetEnded, tids_from, read_said, read_heard};
+ghost use Rattle.chaosd_copy.specs.Ends.{IfDone, UnlessDone, EndedBy, IsGiven, ReadsEnded, GetBegun, GetEnded, tids_from, read_said, read_heard};
 
 use crate::end::CopyEnd;
 use crate::errand::Errand;
@@ -18,34 +18,42 @@ use crate::window::{NO_LIMIT, Row, ask_one, next_reply, refusal, settled};
 use crate::words::{counted, spelled};
 use chaos_file::{MAX_CHUNK, MAX_FILE, Reply};
 use chaosd_engines::RunFault;
+use std::str;
 
-/// A decimal number of a file's length.
+/// The length of a file that decimal digits write.
 fn number_of(digits: &[u8]) -> Option<usize>
-    ensures { IfSome result (λ n. n ≤ MAX_FILE) }
+    ensures within { IfSome result (λ n. n ≤ MAX_FILE) }
+    ensures all { (n : ℕ) → n ≤ MAX_FILE → digits.now ≡ decimal n → result ≡ Some n }
 {
-    let mut n: usize = 0;
-    if digits.is_empty() || digits.len() > 7 {
+    let Ok(text) = str::from_utf8(digits) else {
         return None;
+    };
+    match text.parse::<usize>() {
+        Ok(n) if n <= MAX_FILE => Some(n),
+        _ => None,
     }
-    for digit in digits {
-        if !digit.is_ascii_digit() || n > MAX_FILE {
-            return None;
-        }
-        n = 10 * n + (*digit - b'0') as usize;
-    }
-    if n <= MAX_FILE { Some(n) } else { None }
+}
+
+/// What stands behind a front.
+fn behind<'a>(reply: &'a Reply, front: &Reply) -> Option<&'a [u8]>
+    ensures { MatchOption result ((more : List ℕ) → reply.now.items ≢ front.now.items ++ more) (λ more. reply.now.items ≡ front.now.items ++ more.now) }
+{
+    reply.as_slice().strip_prefix(front.as_slice())
 }
 
 /// The length that OPEN may have been answered by.
 fn opened_length(reply: &Option<Reply>, tid: u32) -> Option<usize>
     requires { tid < 100000000 }
-    ensures { IfSome result (λ n. n ≤ MAX_FILE) }
+    ensures within { IfSome result (λ n. n ≤ MAX_FILE) }
+    ensures all { (n : ℕ) → n ≤ MAX_FILE → option_map (λ v. v.items) reply.now ≡ Some (reply_of (decimal tid) file_handle (Opened n)) → result ≡ Some n }
 {
     match reply {
         Some(reply) => {
             let front = spelled(tid, HANDLE, b"OPEN ", b"");
-            let digits = reply.as_slice().strip_prefix(front.as_slice())?;
-            number_of(digits)
+            match behind(reply, &front) {
+                Some(digits) => number_of(digits),
+                None => None,
+            }
         }
         None => None,
     }
@@ -53,9 +61,10 @@ fn opened_length(reply: &Option<Reply>, tid: u32) -> Option<usize>
 
 /// What stands behind a front, where it has so many bytes.
 fn behind_front<'a>(reply: &'a Reply, front: &Reply, len: usize) -> Option<&'a [u8]>
-    ensures { IfSome result (λ more. (length more.now ≡ len) × (reply.now.items ≡ front.now.items ++ more.now)) }
+    ensures { MatchOption result ((more : List ℕ) → length more ≡ len → reply.now.items ≢ front.now.items ++ more)
+        (λ more. (length more.now ≡ len) × (reply.now.items ≡ front.now.items ++ more.now)) }
 {
-    match reply.as_slice().strip_prefix(front.as_slice()) {
+    match behind(reply, front) {
         Some(more) if more.len() == len => Some(more),
         _ => None,
     }
@@ -72,7 +81,7 @@ fn take_piece(
     ensures done { IfDone result ((more : List ℕ) × (length more ≡ len) × (bytes.new.items ≡ bytes.old.items ++ more)
         × (option_map (λ v. v.items) reply ≡ Some (reply_of (decimal tid) file_handle (Given more)))) }
     ensures ended { UnlessDone result (λ end. (bytes.new.items ≡ bytes.old.items)
-        × EndedBy (decimal tid) file_handle (λ _. ⊥) (option_map (λ v. v.items) reply) end) }
+        × EndedBy (decimal tid) file_handle (IsGiven (decimal tid) file_handle len) (option_map (λ v. v.items) reply) end) }
     ensures faults { IfErr result (λ fault. fault ≡ RunFault.NoMemory) }
 {
     let Some(reply) = reply else {
@@ -146,7 +155,8 @@ pub fn get_file<T: Talk>(
     requires empty { bytes.old.items ≡ [] }
     ensures done { IfDone result (Since (T.talked talk.old) (T.talked talk.new)
         (get_commands (tids_from first) file_handle path.now (length bytes.new.items)) (get_replies (tids_from first) file_handle bytes.new.items)) }
-    // Where it wasn't done, some READs gave bytes, with which these begin, and it ended by the reply to the next command, or by none.
+    // Where it wasn't done, some READs gave bytes, with which these begin, and it ended by the reply to the next command, which was
+    // another than a file's, or by none.
     ensures ended { UnlessDone result (GetEnded (T.talked talk.old) (T.talked talk.new) (tids_from first) file_handle bytes.new.items) }
     // However it ended, what was said begins the commands that get a file of some length.
     ensures begun { GetBegun (T.talked talk.old) (T.talked talk.new) (tids_from first) file_handle path.now }

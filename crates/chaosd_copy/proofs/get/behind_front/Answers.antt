@@ -1,15 +1,14 @@
-use Rattle.std.proofs.Common.{rules, ap, sym, ◌∙◌, ◌++◌, length, take, drop}
-use Rattle.std.proofs.lemmas.List.{take-append-drop}
-use Rattle.std.proofs.lemmas.Slice.Eq.{bytes_eq-Decides}
+use Rattle.std.proofs.Common.{◌≡◌, ◌∙◌, ap, sym, length}
+use Rattle.std.proofs.lemmas.List.{append_cancel_left}
 use Rattle.chaosd_copy.proofs.get.behind_front.Goals as goal
+use Rattle.chaosd_copy.proofs.get.behind_front.Goals.{in_default-via-in-Some+else-more-len, in_default-via-in_default}
 
-pub returns-in-Some : goal.returns-in-Some
-returns-in-Some c =
-    let r = c.as_slice.result.now in
-    let f = c.as_slice-2.result.now in
-    let k = c.in-Some.ensures.cases in (
-      search rules,
-      sym c.as_slice.ensures.value ∙ sym (take-append-drop (length f) r)
-          ∙ ap (λ x. x ++ drop (length f) r) ((bytes_eq-Decides (take (length f) r) f).0 k.0)
-          ∙ ap (λ d. f ++ d) (sym k.1) ∙ ap (λ x. x ++ c.in-Some.more.now) c.as_slice-2.ensures.value,
-    )
+pub returns-in_default : goal.returns-in_default
+returns-in_default c = λ more size e.
+    elim c.in_default.branch [
+      | in_default-via-in-Some+else-more-len w ↦
+          let same : w.in-Some.more.now ≡ more = append_cancel_left c.args.front.now.items w.in-Some.more.now more (sym w.in-Some.ensures ∙ e) in
+          let long : length w.in-Some.more.now ≡ c.args.len = ap length same ∙ size in
+          w.if-more-len.false long
+      | in_default-via-in_default w ↦ w.in_default.ensures more e
+    ]

@@ -1,4 +1,4 @@
-use Rattle.std.proofs.Common.{rules, ◌≤◌, ap, sym, subst, ◌∙◌, ◌+◌, [], ◌∷◌}
+use Rattle.std.proofs.Common.{rules, ◌≡◌, None, ◌≤◌, ap, sym, subst, ◌∙◌, ◌+◌, [], ◌∷◌}
 use Rattle.std.specs.Fmt.{decimal}
 use Rattle.chaos_file.specs.declared.limits.TheConstants.{MAX_FILE}
 use Rattle.chaos_file.specs.Answer.{Opened, Closed}
@@ -11,7 +11,7 @@ use Rattle.chaosd_copy.specs.Ends.{read_said, read_heard}
 use Rattle.chaosd_copy.proofs.Joined.{copied_then, when_copied, get_joined}
 use Rattle.chaosd_copy.proofs.Talks.{wanted_heard}
 use Rattle.chaosd_copy.proofs.Begun.{get_reading, get_closing}
-use Rattle.chaosd_copy.proofs.Ended.{unless, get_not_opened, get_not_read, get_not_closed}
+use Rattle.chaosd_copy.proofs.Ended.{unless, no_length, one_length, get_not_opened, get_not_read, get_not_closed}
 use Rattle.chaosd_copy.proofs.get.get_file.Goals as goal
 
 pub returns-clause-done : goal.returns-clause-done
@@ -78,15 +78,20 @@ returns-clause-begun g c =
     c.chunk_count.ensures.value c.ask_one-2.ensures.said)
 
 pub returns-in_default-clause-ended : goal.returns-in_default-clause-ended
-returns-in_default-clause-ended g c = get_not_opened _ _ c.args.first _ _ _ c.refusal.result c.in_ok-opened.ensures.all (unless c.refusal.result _ c.refusal.ensures)
+returns-in_default-clause-ended g c =
+    let none : c.opened_length.result ≡ None = search rules in
+    get_not_opened _ _ c.args.first _ _ _ c.refusal.result (no_length c.opened_length.result _ _ c.opened_length.ensures.all none) c.in_ok-opened.ensures.all
+    (unless c.refusal.result _ c.refusal.ensures)
 
 pub returns-in_default-settled-clause-ended : goal.returns-in_default-settled-clause-ended
-returns-in_default-settled-clause-ended g c = get_not_opened _ _ c.args.first _ _ _ c.settled.result c.in_ok-opened.ensures.all c.settled.ensures.ended
+returns-in_default-settled-clause-ended g c =
+    get_not_opened _ _ c.args.first _ _ _ c.settled.result (one_length c.opened_length.result _ _ c.in-Some.len _ c.opened_length.ensures.all c.in-Some.is c.counted-wanted.ensures)
+    c.in_ok-opened.ensures.all c.settled.ensures.ended
 
 pub returns-clause-ended : goal.returns-clause-ended
 returns-clause-ended g c =
     let fits : c.in-Some.len ≤ MAX_FILE = search rules in
-    get_not_closed _ _ _ _ c.args.first c.in-Some.len c.chunk_count.result c.read_all.new.bytes.items _ _ _ _ c.settled-2.result fits c.chunk_count.ensures.value
+    get_not_closed _ _ _ _ c.args.first c.in-Some.len c.chunk_count.result c.read_all.new.bytes.items _ _ _ _ c.settled-2.result fits c.chunk_count.ensures.value c.counted-all.ensures
     (wanted_heard (λ v. v.items) (λ x. Since (g.T.Talk.talked c.args.talk.now) (g.T.Talk.talked c.ask_one.new.talk) (spelling_of (decimal c.args.first) file_handle (OpenRead c.args.path.now) ∷ []) (x ∷ []))
     c.in_ok-opened.opened _ _ c.in-Done.ensures.done c.counted-wanted.ensures c.in_ok-opened.ensures.heard)
     (when_copied _ _ c.in-Done-2.is c.in_ok-end.ensures.done).1 c.in_ok-closed.ensures.all c.settled-2.ensures.ended

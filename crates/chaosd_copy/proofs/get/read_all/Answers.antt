@@ -64,7 +64,8 @@ returns-in_default g c = record {
   said = said_up_to _ _ (read_said c.args.first) c.next_reply.new.said (1 + c.chunk_count-count.result) _ _ c.next_reply.ensures.within (ap (λ n. 1 + n) c.chunk_count-count.ensures.value)
       (c.in_ok-reply.ensures.talk _ _ c.loop-i.invariant.talk);
   done = search rules;
-  ended = piece_not_done _ _ _ c.args.first c.args.len c.loop-i.i c.loop-i.bytes.items c.take_piece.new.bytes.items _ c.in_ok-end.end (omega (arith, c.loop-i-test.true, c.chunk_count-count.ensures.value))
+  ended = piece_not_done _ _ _ c.args.first c.args.len c.loop-i.i _ c.loop-i.bytes.items c.take_piece.new.bytes.items _ c.in_ok-end.end (omega (arith, c.loop-i-test.true, c.chunk_count-count.ensures.value))
+      c.min.ensures
       (c.in_ok-reply.ensures.talk _ _ c.loop-i.invariant.talk) c.in_ok-end.ensures.ended;
   faults = tt;
 }
@@ -82,6 +83,6 @@ returns-clause-said g c =
 pub returns-clause-ended : goal.returns-clause-ended
 returns-clause-ended g c =
     let n : c.loop-i.i ≡ c.chunk_count-count.result = search rules in
-    reads_not_done _ _ _ c.args.first c.args.len c.chunk_count-count.result c.loop-i.bytes.items _ _ c.settled.result (omega (arith, c.chunk_count-count.ensures.value))
+    reads_not_done _ _ _ c.args.first c.args.len c.chunk_count-count.result c.loop-i.bytes.items _ _ c.settled.result c.chunk_count-count.ensures.value c.spelled-wanted.ensures
     (subst (λ m. Since (g.T.Talk.talked c.args.talk.now) (g.T.Talk.talked c.next_reply-2.new.talk) (upto (read_said c.args.first) c.next_reply-2.new.said) (upto (read_heard c.args.first c.loop-i.bytes.items) m ++ heard_in (option_map (λ v. v.items) c.in_ok-last.last))) n
     (c.in_ok-last.ensures.talk _ _ c.loop-i.invariant.talk)) c.settled.ensures.ended
