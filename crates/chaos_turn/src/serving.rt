@@ -32,7 +32,7 @@ fn serve_kept<S: Store>(
         (λ serving acted. DoesKept serving kept.new host.old acted host.new out.old out.new) host.old }
 {
     kept.turn_to(id);
-    let session = &mut kept.session;
+    let session = &mut *kept.session;
     let served = serve_one_by(alloc, host, id, session, store, now, out, reply);
     kept.note(served);
 }

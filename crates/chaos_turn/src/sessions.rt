@@ -11,12 +11,12 @@ use std::marker::Model;
 /// A slot's session, the connection that it serves, and whether that connection's EOF was served.
 #[derive(Drop)]
 pub(crate) struct Kept {
-    // What a turn's walk looks at comes first and the session last, so that a slot passed over costs one line of the cache.
     pub(crate) id: Option<ConnId>,
     pub(crate) eof: bool,
     /// How many commands were replied to; no contract sees it.
     commands: u64,
-    pub(crate) session: Session,
+    // In memory of its own: a turn walks over all slots, and looks at few of the sessions.
+    pub(crate) session: Box<Session, Global>,
 }
 
 impl Model for Kept {
@@ -24,7 +24,7 @@ impl Model for Kept {
 
     ghost Value = { Serving };
 
-    ghost view = { λ k. record { id = k.id; session = k.session; eof = k.eof } };
+    ghost view = { λ k. record { id = k.id; session = k.session.value; eof = k.eof } };
 }
 
 /// A session for each slot of a host, with the connection that it serves. A contract sees the sessions in the order of the
@@ -58,7 +58,7 @@ impl Sessions {
     {
         let mut kept = Vec::with_capacity(alloc, conns)?;
         for i in 0..conns {
-            kept.push(Kept::new(None))?;
+            kept.push(Kept::new(alloc)?)?;
         }
         Ok(Sessions {
             kept,
@@ -98,16 +98,16 @@ impl Sessions {
 }
 
 impl Kept {
-    /// A new session for this connection, where there is one.
-    pub(crate) fn new(id: Option<ConnId>) -> Self
-        ensures { result ≡ record new_serving { id = id } }
+    /// A new session, which serves no connection yet.
+    fn new(alloc: Global) -> Result<Self, AllocError>
+        ensures { IfOk result (λ kept. kept ≡ new_serving) }
     {
-        Kept {
-            id,
-            session: Session::new(),
+        Ok(Kept {
+            id: None,
             eof: false,
             commands: 0,
-        }
+            session: Box::new(alloc, Session::new())?,
+        })
     }
 
     /// Whether it serves this connection already.
@@ -122,7 +122,10 @@ impl Kept {
         ensures { self.new ≡ serving_of id self.old }
     {
         if self.id != Some(id) {
-            *self = Kept::new(Some(id));
+            self.id = Some(id);
+            self.eof = false;
+            self.commands = 0;
+            *self.session = Session::new();
         }
     }
 
