@@ -46,6 +46,13 @@ impl Conn {
         self.heard
     }
 
+    /// The last moment that this end was handed; an earlier one counts as this.
+    pub fn last(&self) -> u64
+        ensures { result ≡ self.now.last }
+    {
+        self.last
+    }
+
     /// Whether this end made the request itself.
     pub fn asked(&self) -> bool
         ensures { result ≡ self.now.asked }

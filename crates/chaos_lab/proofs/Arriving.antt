@@ -17,7 +17,7 @@ take_in_there i e inside =
     (λ (u : ltb i (length e.read + e.announced) ≡ false). absurd (omega (arith, ltb-false i (length e.read + e.announced) u)))
     (and_cases _ _ t))
 
-heard_there : (told : Told) (i : ℕ) (e : PlainEnd) → i < length e.read + e.announced → IsThere (take_in i (hear told e)) i
+pub heard_there : (told : Told) (i : ℕ) (e : PlainEnd) → i < length e.read + e.announced → IsThere (take_in i (hear told e)) i
 heard_there Nothing i e inside = take_in_there i e inside
 heard_there (Acknowledges a) i e inside = take_in_there i (hear (Acknowledges a) e) inside
 heard_there (Status a r w) i e inside = take_in_there i (hear (Status a r w) e) inside

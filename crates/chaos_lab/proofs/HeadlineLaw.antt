@@ -80,7 +80,7 @@ given_is (gave.Item other) items item h = ap gave.Item (some_is (sym (last_item 
 given_is gave.Nothing items item h = absurd (let longer = length-one_more items item in let same = ap length h in omega arith)
 given_is (gave.Ended state) items item h = absurd (let longer = length-one_more items item in let same = ap length h in omega arith)
 
-after_read : (x : Side) (l : LabView) → (lab_end (after_call l x Read) x).read ≡ with_given (act_read (conn_at l x)).answer (lab_end l x).read
+pub after_read : (x : Side) (l : LabView) → (lab_end (after_call l x Read) x).read ≡ with_given (act_read (conn_at l x)).answer (lab_end l x).read
 after_read A l = refl
 after_read B l = refl
 
@@ -113,7 +113,7 @@ window_at x w l t is =
 -- ---- the copy's index
 
 -- the kinds of an end's items
-item_kind : (x : Side) (b' i : ℕ) (e : Plain) (item : ItemView) → HasItems x b' e → slice_get e.written i ≡ Some item → (kind_of item.op ≡ k.Sns → ⊥) × (kind_of item.op ≡ k.Sts → ⊥) × (kind_of item.op ≡ k.Cls → ⊥)
+pub item_kind : (x : Side) (b' i : ℕ) (e : Plain) (item : ItemView) → HasItems x b' e → slice_get e.written i ≡ Some item → (kind_of item.op ≡ k.Sns → ⊥) × (kind_of item.op ≡ k.Sts → ⊥) × (kind_of item.op ≡ k.Cls → ⊥)
 item_kind A b' zero e item its at =
     let is : kind_of item.op ≡ k.Rfc = ap kind_of (its.first item at) in
     (λ t. let no : k.Rfc ≡ k.Sns = sym is ∙ t in absurd (cc), λ t. let no : k.Rfc ≡ k.Sts = sym is ∙ t in absurd (cc), λ t. let no : k.Rfc ≡ k.Cls = sym is ∙ t in absurd (cc))
@@ -127,7 +127,7 @@ item_kind x b' (suc i) e item its at =
     (its.users i item at)
 
 -- b: the first number. len: its sender had written so many by then
-nth_of : (kind : Kind) (x : Side) (b b' i len : ℕ) (e : Plain) (pk : PacketView) → HasItems x b' e → IsWhat b e pk kind → KindOk kind e len → e.send_cap ≤ 64 → length e.written < len + 32640 → slice_get e.written i ≡ Some (item_of pk) → pk.num ≡ num b i → i < length e.written → len ≤ i + 64 → kind ≡ Nth i
+pub nth_of : (kind : Kind) (x : Side) (b b' i len : ℕ) (e : Plain) (pk : PacketView) → HasItems x b' e → IsWhat b e pk kind → KindOk kind e len → e.send_cap ≤ 64 → length e.written < len + 32640 → slice_get e.written i ≡ Some (item_of pk) → pk.num ≡ num b i → i < length e.written → len ≤ i + 64 → kind ≡ Nth i
 nth_of (Nth j) x b b' i len e pk its what ok cap fresh at number before near = ap Nth (let same : j ≡ i = omega (arith, what.1, ok.0, ok.1, cap, fresh, number, before, near) in same)
 nth_of Sns x b b' i len e pk its what ok cap fresh at number before near = absurd ((item_kind x b' i e (item_of pk) its at).0 (ap kind_of what.0))
 nth_of Sts x b b' i len e pk its what ok cap fresh at number before near = absurd ((item_kind x b' i e (item_of pk) its at).1 (ap kind_of what.0))
@@ -140,7 +140,7 @@ pub record IsItem (z : Side) (l : LabView) (s : Sent) (i : ℕ) : Type 0 where
   pub near : len_at z s ≤ i + 64
 
 -- the copy of the plain machine is of the item that its packet is of
-kind_at : (x : Side) (w : Machine) (l : LabView) (n : ℕ) (s : Sent) (i : ℕ) (d : Copy) → Ties w l → d.sender ≡ s.side → CopyKnown d.sender w l n s d → IsCopyOf l s i → d.kind ≡ Nth i
+pub kind_at : (x : Side) (w : Machine) (l : LabView) (n : ℕ) (s : Sent) (i : ℕ) (d : Copy) → Ties w l → d.sender ≡ s.side → CopyKnown d.sender w l n s d → IsCopyOf l s i → d.kind ≡ Nth i
 kind_at x w l n s i d t from know of_item = by s.side refl
   where
     by : (z : Side) → s.side ≡ z → d.kind ≡ Nth i
@@ -218,7 +218,7 @@ no_request w l s t is =
     other_is B h = absurd (cc)
 
 -- it is taken
-taken : (w : Machine) (l : LabView) (n : ℕ) (s : Sent) → Ties w l → slice_get l.copies n ≡ Some s → is_fresh l.a l.b s ≡ true → (end_of w (other s.side)).phase ≡ Open → happen l (DeliverCopy n) ≡ call_at l (other s.side) (DeliverPacket s.packet l.clock)
+pub taken : (w : Machine) (l : LabView) (n : ℕ) (s : Sent) → Ties w l → slice_get l.copies n ≡ Some s → is_fresh l.a l.b s ≡ true → (end_of w (other s.side)).phase ≡ Open → happen l (DeliverCopy n) ≡ call_at l (other s.side) (DeliverPacket s.packet l.clock)
 taken w l n s t at near is =
     ap (delivery_effect l) at
     ∙ cond-true _ _ _ near

@@ -40,3 +40,13 @@ pub mod Tells
 pub mod Phases
 pub mod HeadlineLaw
 pub mod Turns
+pub mod Keeps
+pub mod Helping
+pub mod Waiting
+pub mod Playing
+pub mod OneWay
+pub mod Stepping
+pub mod Settled
+pub mod Before
+pub mod Fair
+pub mod Answering

@@ -88,7 +88,7 @@ moves_stays row m x y n s keeps may =
     s.1)
     may
 
-step_stays :
+pub step_stays :
     (m : Machine) (event : Event) (n : Machine) (x : Side) → Step m event n → (event ≡ CloseAt x → ⊥) →
     CanRead (end_of m x).phase → CanRead (end_of n x).phase
 step_stays m (AcceptAt y opn) n x s unclosed may =

@@ -14,3 +14,6 @@ pub mod Sound
 pub mod Turn
 pub mod Turning
 pub mod Turns
+pub mod Progress
+pub mod Settling
+pub mod SettlingLeft

@@ -1,16 +1,20 @@
 //! The laboratory.
-ghost use Rattle.std.specs.Prelude.{◌≡◌, true, ◌≤◌, length, slice_get, ℕ, List, ◌∷◌, map, Some, Err, IfOk, OnOk, OnErr};
+ghost use Rattle.std.specs.Prelude.{◌≡◌, true, ◌<◌, ◌≤◌, Ok, length, slice_get, ℕ, List, ◌∷◌, map, Some, Err, IfOk, OnOk, OnErr};
 ghost use Rattle.chaos_conn.specs.Stored.{stored_packets, stored_bytes};
 ghost use Rattle.chaos_conn.specs.declared.state.State.TheVariants.{Open};
 ghost use Rattle.chaos_packet.specs.Begins.{Begins};
 ghost use Rattle.chaos_packet.specs.Opcode.{is_controlled};
 ghost use Rattle.chaos_packet.specs.Packet.{item_of};
+ghost use Rattle.chaos_conn.specs.declared.answers.Ticked.TheVariants.{Resent};
+ghost use Rattle.chaos_lab.specs.declared.event.Stepped.TheVariants.{Ticked};
 ghost use Rattle.chaos_lab.specs.declared.side.Side.{Side};
 ghost use Rattle.chaos_lab.specs.declared.stamped.Stamped.{Stamped};
-ghost use Rattle.chaos_lab.specs.Machine.{Machine, Step, Run, other};
-ghost use Rattle.chaos_lab.specs.Laboratory.{Happening, Happens, check, lab_end, lab_start, start_for, after_all};
-ghost use Rattle.chaos_lab.specs.Laboratory.Happening.{DeliverCopy};
+ghost use Rattle.chaos_lab.specs.Machine.{Machine, Step, Run, other, greatest_window};
+ghost use Rattle.chaos_lab.specs.Laboratory.{LabView, Happening, Happens, happen, check, lab_end, lab_start, start_for, after_all};
+ghost use Rattle.chaos_lab.specs.Laboratory.Happening.{TickOf, DeliverCopy};
 ghost use Rattle.chaos_lab.specs.Headline.{IsCopyOf, ComesInside, Unclosed, ReadsInTurn};
+ghost use Rattle.chaos_lab.specs.Progress.{CanSettle, Settles, Waits, IsDue, Round, GoesOn, Rounds, ComesAgain, IsAnswered, Report, Knows};
+ghost use Rattle.chaos_lab.specs.Settling.{settling};
 ghost use Rattle.chaos_lab.specs.Inside.{happening_of};
 ghost use Rattle.chaos_lab.specs.Told.{told_at, items_at};
 ghost use Rattle.chaos_lab.specs.Turn.{Turn};
@@ -40,7 +44,7 @@ const CONTACT: &[u8] = b"LAB";
 /// [`Lab::law_headline`].
 #[derive(Drop)]
 pub struct Lab {
-    rig: Rig,
+    pub(crate) rig: Rig,
 }
 
 impl Model for Lab {
@@ -193,5 +197,34 @@ impl Lab {
             ReadsInTurn (after_all self.now (DeliverCopy copy ∷ events)) (other s.side) i (item_of s.packet) }
     {
         let _ = &self.rig;
+    }
+
+    /// Progress: whatever happened in a laboratory, its open ends can settle, by few events that deliver only what is sent now.
+    /// Nothing that was lost, late or out of order keeps them from it, and no window that was announced.
+    pub fn law_progress(&self)
+        ensures { CanSettle self.now → Settles self.now (settling self.now) }
+    {
+        self.rig.sound();
+    }
+
+    /// Rounds: how the ends of a laboratory go on whatever happens, as long as what is sent again comes.
+    pub fn law_rounds(&self)
+        // while a reader waits for what was written, the writer keeps something
+        ensures keeps { (x : Side) → ((y : Side) → (lab_end self.now y).conn.state ≡ Open) → Waits self.now (other x) →
+            length (lab_end self.now (other x)).read < length (lab_end self.now x).written → 0 < length (lab_end self.now x).conn.send.kept }
+        // which it sends again when that is due
+        ensures sends { (x : Side) (now : ℕ) → IsDue (lab_end self.now x).conn now →
+            (happen self.now (TickOf x now)).answer ≡ Ok (Ticked (Resent (length (lab_end self.now x).conn.send.kept))) }
+        // if that comes, the reader gets on by an item
+        ensures round { (x : Side) (m : LabView) → Round x self.now m → GoesOn x self.now m }
+        // so after as many rounds as the greatest window has places, a reader that waits has read all that was written before them
+        ensures rounds { (x : Side) (m : LabView) → Rounds greatest_window x self.now m → (lab_end m (other x)).conn.state ≡ Open → Waits m (other x) →
+            Begins (lab_end self.now x).written (lab_end m (other x)).read }
+        // what comes again, though it was read, is answered by a status
+        ensures answers { (copy : ℕ) (s : Stamped) → ComesAgain self.now copy s → IsAnswered self.now copy s }
+        // and a status of the reader that comes back frees the writer of all that was read
+        ensures report { (x : Side) (m : LabView) → Report x self.now m → Knows x self.now m }
+    {
+        self.rig.sound();
     }
 }

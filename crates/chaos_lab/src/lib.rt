@@ -20,6 +20,7 @@ mod lab;
 mod lab_end;
 mod law;
 mod rig;
+mod settling;
 mod side;
 mod stamped;
 mod user;

@@ -1,9 +1,11 @@
 //! Two connections and the packets between them.
-ghost use Rattle.std.specs.Prelude.{◌≡◌, ℕ, ◌<◌, ◌+◌, ◌-◌, ◌≤◌, [], ◌∷◌, ◌++◌, length, map, Option, Some, None, Ok, Err, IfOk, IfErr, OnErr, OnOk, slice_get, nat_lt, ◌⊎◌};
+ghost use Rattle.std.specs.Prelude.{◌≡◌, ℕ, ◌<◌, ◌+◌, ◌-◌, ◌^◌, ◌≤◌, [], ◌∷◌, ◌++◌, length, map, Option, Some, None, Ok, Err, IfOk, IfErr, OnErr, OnOk, slice_get, nat_lt, ◌⊎◌};
 ghost use Rattle.chaos_lab.specs.Machine.{other, fresh_span};
 ghost use Rattle.chaos_conn.specs.Act.Call.{Accept, Announce, Close, Deliver, Read, TakeRequest, Tick, Write};
 ghost use Rattle.chaos_lab.specs.declared.side.Side.TheVariants.{B};
 ghost use Rattle.chaos_conn.specs.Config.{IsConfig};
+ghost use Rattle.chaos_conn.specs.View.{IsConn};
+ghost use Rattle.chaos_lab.specs.declared.side.Side.{Side};
 ghost use Rattle.chaos_conn.specs.Stored.{stored_packets, stored_bytes};
 ghost use Rattle.chaos_lab.specs.Shown.{place_of};
 ghost use Rattle.chaos_lab.specs.Laboratory.{Happens, happen, check, lab_end, start_for, after_all, StopsWithin, Calls, CallsWith, is_fresh, is_request, stamp};
@@ -25,7 +27,7 @@ use crate::lab_end::LabEnd;
 use crate::side::Side;
 use crate::stamped::Stamped;
 use crate::user::{Turned, User};
-use chaos_conn::ConnConfig;
+use chaos_conn::{Conn, ConnConfig};
 use chaos_packet::{Kind, MAX_DATA, Opcode, Outbox, Packet, PktNum};
 use chaos_window::MAX_WINDOW;
 use std::alloc::{AllocError, Global};
@@ -131,6 +133,30 @@ impl Rig {
             Side::A => self.ends.a.conn.stored(),
             Side::B => self.ends.b.conn.stored(),
         }
+    }
+
+    /// What holds of both connections.
+    pub(crate) fn sound(&self)
+        ensures { (x : Side) → IsConn (lab_end self.now x).conn }
+    {
+        let _ = (self.ends.a.conn.config(), self.ends.b.conn.config());
+    }
+
+    /// The connection of an end.
+    pub(crate) fn conn(&self, side: Side) -> &Conn
+        ensures { result.now ≡ (lab_end self.now side).conn }
+    {
+        match side {
+            Side::A => &self.ends.a.conn,
+            Side::B => &self.ends.b.conn,
+        }
+    }
+
+    /// The greatest moment that was ticked.
+    pub(crate) fn clock(&self) -> u64
+        ensures { result ≡ self.now.clock }
+    {
+        self.clock
     }
 
     /// Lets events happen, one after the other. A refused event changes nothing, and the next one follows. Where there is no
