@@ -1,0 +1,11 @@
+pub mod Holding
+pub mod Lists
+pub mod Moves
+pub mod Pairs
+pub mod Stories
+pub mod Next
+pub mod Goes
+pub mod Gone
+pub mod Begun
+pub mod Steps
+pub mod Network
