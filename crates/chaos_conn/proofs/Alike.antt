@@ -1,14 +1,13 @@
 -- Connections that differ in their names alone do the same.
-use Rattle.std.proofs.Common.{◌≡◌, ℕ, ◌*◌, Bool, true, false, ◌&&◌, not, ◌==◌, if◌then◌else◌, List, [], ◌∷◌, map, length, nat_lt, nat_le, Option, Some, None, Ok, Err, refl, sym, ap, ◌∙◌, unwrap_or}
+use Rattle.std.proofs.Common.{◌≡◌, ℕ, ◌*◌, Bool, true, false, ◌&&◌, not, if◌then◌else◌, List, [], ◌∷◌, map, length, nat_lt, nat_le, Option, Some, None, refl, sym, ap, ◌∙◌}
 use Rattle.std.proofs.lemmas.Bool.{eq-eqb, false≢true}
 use Rattle.chaos_packet.specs.Item.{ItemView}
 use Rattle.chaos_packet.specs.Number.{num}
 use Rattle.chaos_packet.specs.Opcode.{kind_of, is_rfc}
 use Rattle.chaos_packet.specs.Packet.{PacketView, status_of, item_of}
-use Rattle.chaos_packet.specs.declared.limits.TheConstants.{MAX_DATA}
 use Rattle.chaos_packet.specs.declared.opcode.Kind.{Kind}
 use Rattle.chaos_packet.specs.declared.opcode.Kind.TheVariants as kind
-use Rattle.chaos_window.specs.Receive.{arrival_of, after_announcement}
+use Rattle.chaos_window.specs.Receive.{arrival_of}
 use Rattle.chaos_window.specs.declared.arrival.Arrived.{Arrived}
 use Rattle.chaos_window.specs.declared.arrival.Arrived.TheVariants as arr
 use Rattle.chaos_conn.specs.declared.state.State.{State}
@@ -16,18 +15,17 @@ use Rattle.chaos_conn.specs.declared.state.State.TheVariants as st
 use Rattle.chaos_conn.specs.declared.time.Due.{Due}
 use Rattle.chaos_conn.specs.declared.time.Due.TheVariants as due
 use Rattle.chaos_conn.specs.State.{is_live, is_open, is_opening, is_requested}
-use Rattle.chaos_conn.specs.View.{ConnView, moment, heard_at}
+use Rattle.chaos_conn.specs.View.{ConnView, moment}
 use Rattle.chaos_conn.specs.Acted.{Acted, map_answer}
-use Rattle.chaos_conn.specs.Sending.{carries_ack, packets_from, item_packet, with_sts}
-use Rattle.chaos_conn.specs.Time.{act_tick, ticked_by, due_of, at_moment, is_down, is_resend_due, is_probe_due}
-use Rattle.chaos_conn.specs.Opening.{act_accept, with_opn, after_accepting}
+use Rattle.chaos_conn.specs.Sending.{carries_ack, packets_from, item_packet}
+use Rattle.chaos_conn.specs.Time.{act_tick, ticked_by, due_of, at_moment}
+use Rattle.chaos_conn.specs.Opening.{act_accept}
 use Rattle.chaos_conn.specs.Calls.{act_write, write_at_most, write_item, most_bytes, has_window, act_read, read_at_open, read_open, read_at_end, front_of, act_announce, done_of}
-use Rattle.chaos_conn.specs.Arriving.{act_deliver, is_between_hosts, is_between_indices, may_be_index, deliver_in, deliver_open, deliver_asking, deliver_requested, after_opn_telling, after_second_opn_telling, after_sts_telling, after_arrived, heard_with_ack, after_rfc}
-use Rattle.chaos_conn.specs.Act.{Call, act}
+use Rattle.chaos_conn.specs.Arriving.{is_between_hosts, is_between_indices, may_be_index, deliver_in, deliver_open, deliver_asking, deliver_requested, after_opn_telling, after_second_opn_telling, after_sts_telling, after_arrived, heard_with_ack}
 use Rattle.chaos_conn.specs.Act.Call.{Request, TakeRequest, Accept, Answer, Reject, Deliver, Write, Unc, Read, FinishRead, Announce, Close, Tick}
 use Rattle.chaos_conn.specs.Act.Reply.{Did, Wrote, Gave, Finished, Ticks}
 use Rattle.chaos_conn.specs.declared.answers.ReadEnd.{ReadEnd}
-use Rattle.chaos_conn.specs.Names.{Names, known_as, renamed, renamed_packet, renamed_in, renamed_acted, is_alike, is_named, ActsAlike, ComesAlike}
+use Rattle.chaos_conn.specs.Names.{Names, known_as, renamed, renamed_packet, renamed_in, renamed_acted, ActsAlike, ComesAlike}
 
 -- both calls go the same way
 either : {A B : Type 0} (f : A → B) (b : Bool) (x y : A) (u v : B) → u ≡ f x → v ≡ f y → (if b then u else v) ≡ f (if b then x else y)
@@ -213,6 +211,6 @@ comes_alike n v p now named ack =
     let parts = both (is_between_hosts v p) (is_between_indices v p) named in
     let rfc = not_rfc (kind_of p.op) ack in
     passes (is_live v.state) _ _ _ _ _ _ _ _ (from_both _ _ (eq-eqb n.me.address n.me.address refl) (eq-eqb n.peer.address n.peer.address refl)) rfc
-        (from_both _ _ (eq-eqb n.me.index n.me.index refl) (known_fits n.peer.index v.peer_index))
+    (from_both _ _ (eq-eqb n.me.index n.me.index refl) (known_fits n.peer.index v.peer_index))
     ∙ either (renamed_acted n) (not (is_live v.state)) _ _ _ _ refl (in_alike n v p now v.state ack)
     ∙ ap (renamed_acted n) (sym (passes (is_live v.state) (is_between_hosts v p) (is_rfc (kind_of p.op)) (is_between_indices v p) _ _ _ _ _ parts.0 rfc parts.1))

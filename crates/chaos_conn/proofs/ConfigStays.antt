@@ -1,16 +1,12 @@
 -- No call changes the configuration of a connection.
-use Rattle.std.proofs.Common.{◌≡◌, ℕ, ◌+◌, ◌*◌, Bool, true, false, ◌&&◌, ◌||◌, not, ◌==◌, if◌then◌else◌, List, [], ◌∷◌, length, nat_lt, nat_le, Option, Some, None, refl, sym, ap, ◌∙◌, unwrap_or}
-use Rattle.std.specs.List.{AllByRecursion}
-use Rattle.std.proofs.lemmas.Bool.{false≢true}
+use Rattle.std.proofs.Common.{◌≡◌, ℕ, ◌+◌, ◌*◌, Bool, true, false, ◌||◌, not, ◌==◌, if◌then◌else◌, List, [], length, nat_lt, nat_le, Option, Some, None, refl}
 use Rattle.chaos_packet.specs.Item.{ItemView}
-use Rattle.chaos_packet.specs.Number.{num}
 use Rattle.chaos_packet.specs.Opcode.{op_cls, op_ans, kind_of, is_rfc}
 use Rattle.chaos_packet.specs.Packet.{PacketView, status_of, item_of}
 use Rattle.chaos_packet.specs.declared.limits.TheConstants.{MAX_DATA}
 use Rattle.chaos_packet.specs.declared.opcode.Kind.{Kind}
 use Rattle.chaos_packet.specs.declared.opcode.Kind.TheVariants as kind
 use Rattle.chaos_window.specs.Receive.{arrival_of, after_advance}
-use Rattle.chaos_window.specs.Send.{next_of}
 use Rattle.chaos_window.specs.declared.arrival.Arrived.{Arrived}
 use Rattle.chaos_window.specs.declared.arrival.Arrived.TheVariants as arr
 use Rattle.chaos_conn.specs.declared.state.State.{State}
@@ -21,12 +17,11 @@ use Rattle.chaos_conn.specs.State.{is_live, is_open, is_opening, is_requested, i
 use Rattle.chaos_conn.specs.View.{ConnView, moment, heard_at}
 use Rattle.chaos_conn.specs.Acted.{Acted, quietly}
 use Rattle.chaos_conn.specs.declared.answers.ReadEnd.TheVariants as end
-use Rattle.chaos_conn.specs.Sending.{carries_ack, packets_from, item_packet, with_sts}
-use Rattle.chaos_conn.specs.Time.{act_tick, ticked_by, due_of, at_moment}
+use Rattle.chaos_conn.specs.Sending.{with_sts}
+use Rattle.chaos_conn.specs.Time.{ticked_by, due_of, at_moment}
 use Rattle.chaos_conn.specs.Calls.{write_at_most, most_bytes, has_window, read_at_open, read_at_end, front_of}
 use Rattle.chaos_conn.specs.Arriving.{act_deliver, is_between_hosts, is_between_indices, is_index, deliver_in, deliver_open, deliver_asking, deliver_requested, after_opn_telling, after_second_opn_telling, after_sts_telling, after_arrived, heard_with_ack, after_rfc, repeated_request}
 use Rattle.chaos_conn.specs.Opening.{turn_away}
-use Rattle.chaos_conn.specs.Act.{Call, act}
 use Rattle.chaos_conn.specs.Act.Call.{Request, TakeRequest, Accept, Answer, Reject, Deliver, Write, Unc, Read, FinishRead, Announce, Close, Tick}
 use Rattle.chaos_conn.specs.Names.{ConfigStays}
 

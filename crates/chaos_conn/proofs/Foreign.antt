@@ -1,36 +1,31 @@
 -- Packets that make little of a connection, and connections that are over.
-use Rattle.std.proofs.Common.{◌≡◌, ℕ, zero, suc, ◌-◌, ◌*◌, Bool, true, false, ◌&&◌, ◌||◌, not, ◌==◌, if◌then◌else◌, List, [], ◌∷◌, length, replicate, nat_lt, nat_le, slice_get, Option, Some, None, Result, Ok, Err, refl, sym, ap, ◌∙◌, subst, inl, inr, ◌⊎◌, unwrap_or}
+use Rattle.std.proofs.Common.{◌≡◌, ℕ, zero, suc, Bool, true, false, ◌&&◌, ◌||◌, not, ◌==◌, if◌then◌else◌, List, [], ◌∷◌, length, replicate, nat_lt, slice_get, Option, Some, None, refl, sym, ap, ◌∙◌, inl, inr, ◌⊎◌, unwrap_or}
 use Rattle.std.specs.List.{AllByRecursion}
 use Rattle.std.proofs.lemmas.Bool.{false≢true}
 use Rattle.chaos_packet.specs.Item.{ItemView}
-use Rattle.chaos_packet.specs.Number.{num}
 use Rattle.chaos_packet.specs.Opcode.{op_cls, op_ans, kind_of, is_rfc}
-use Rattle.chaos_packet.specs.Packet.{PacketView, status_of, item_of}
+use Rattle.chaos_packet.specs.Packet.{PacketView}
 use Rattle.chaos_packet.specs.declared.limits.TheConstants.{MAX_DATA}
 use Rattle.chaos_packet.specs.declared.opcode.Kind.{Kind}
 use Rattle.chaos_packet.specs.declared.opcode.Kind.TheVariants as kind
-use Rattle.chaos_window.specs.Receive.{arrival_of, item_at, clear_receive}
-use Rattle.chaos_window.specs.Slots.{slot_at}
-use Rattle.chaos_window.specs.declared.arrival.Arrived.{Arrived}
-use Rattle.chaos_window.specs.declared.arrival.Arrived.TheVariants as arr
+use Rattle.chaos_window.specs.Receive.{item_at, clear_receive}
 use Rattle.chaos_conn.specs.declared.state.State.{State}
 use Rattle.chaos_conn.specs.declared.state.State.TheVariants as st
-use Rattle.chaos_conn.specs.declared.fault.ConnFault.{ConnFault}
 use Rattle.chaos_conn.specs.declared.answers.Delivered.{Delivered}
 use Rattle.chaos_conn.specs.declared.answers.Delivered.TheVariants as answer
 use Rattle.chaos_conn.specs.State.{is_live, is_open, is_opening, is_requested, is_inactive, is_ended, awaits_peer, tells_close}
 use Rattle.chaos_conn.specs.View.{ConnView, moment, heard_at}
 use Rattle.chaos_conn.specs.Acted.{Acted, quietly}
 use Rattle.chaos_conn.specs.Sending.{carries_ack}
-use Rattle.chaos_conn.specs.Time.{act_tick, ticked_by, due_of, at_moment, is_down, is_resend_due, is_probe_due}
-use Rattle.chaos_conn.specs.Opening.{Outcome, refusal, closed_conn, turn_away, with_last_packet, act_accept}
-use Rattle.chaos_conn.specs.Calls.{act_write, write_at_most, write_item, most_bytes, has_window, act_read, read_at_open, read_at_end, front_of, act_announce, act_close, act_unc, cls_of}
-use Rattle.chaos_conn.specs.Arriving.{act_deliver, is_between_hosts, is_between_indices, is_index, deliver_in, deliver_open, deliver_asking, deliver_requested, after_rfc, repeated_request, after_cls, after_los}
-use Rattle.chaos_conn.specs.Act.{Call, Reply, act}
+use Rattle.chaos_conn.specs.Time.{ticked_by, at_moment, is_down, is_resend_due, is_probe_due}
+use Rattle.chaos_conn.specs.Opening.{Outcome, closed_conn, turn_away}
+use Rattle.chaos_conn.specs.Calls.{write_at_most, most_bytes, has_window, read_at_end, front_of}
+use Rattle.chaos_conn.specs.Arriving.{is_between_hosts, is_between_indices, is_index, deliver_in, deliver_open, deliver_asking, deliver_requested, after_rfc, repeated_request}
+use Rattle.chaos_conn.specs.Act.{Reply}
 use Rattle.chaos_conn.specs.Act.Reply.{Did, Wrote}
 use Rattle.chaos_conn.specs.declared.time.Due.TheVariants as due
 use Rattle.chaos_conn.specs.Act.Call.{Request, TakeRequest, Accept, Answer, Reject, Deliver, Write, Unc, Read, FinishRead, Announce, Close, Tick}
-use Rattle.chaos_conn.specs.Names.{Quiet, MayBe, is_opened, IsQuiet, IsLost, IsOver, IsBare, is_named, is_refused, begins, ends, quiet, ForeignIsQuiet, OverStays, RefusedIsSame, EndsAreOver}
+use Rattle.chaos_conn.specs.Names.{is_opened, IsQuiet, IsLost, IsOver, IsBare, is_named, is_refused, ForeignIsQuiet, OverStays, RefusedIsSame, EndsAreOver}
 use Rattle.chaos_conn.specs.Names.Quiet.{Same, Heard, Tells, Ends}
 
 -- little or lost

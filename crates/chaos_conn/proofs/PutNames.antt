@@ -1,5 +1,5 @@
 -- Each packet that a connection puts out carries its names.
-use Rattle.std.proofs.Common.{◌≡◌, ℕ, ◌+◌, ◌*◌, Bool, true, false, ◌&&◌, not, ◌==◌, if◌then◌else◌, List, [], ◌∷◌, length, nat_lt, nat_le, Option, Some, None, refl, sym, ap, ◌∙◌, unwrap_or}
+use Rattle.std.proofs.Common.{◌≡◌, ℕ, ◌+◌, ◌*◌, Bool, true, false, not, ◌==◌, if◌then◌else◌, List, [], ◌∷◌, length, nat_lt, nat_le, Option, Some, None, refl, sym, ap, ◌∙◌, unwrap_or}
 use Rattle.std.specs.List.{AllByRecursion}
 use Rattle.std.proofs.lemmas.Bool.{false≢true}
 use Rattle.chaos_packet.specs.Item.{ItemView}
@@ -22,13 +22,12 @@ use Rattle.chaos_conn.specs.View.{ConnView, moment, heard_at}
 use Rattle.chaos_conn.specs.Acted.{Acted, quietly}
 use Rattle.chaos_conn.specs.declared.answers.ReadEnd.TheVariants as end
 use Rattle.chaos_conn.specs.Sending.{carries_ack, packets_from, item_packet, with_sts}
-use Rattle.chaos_conn.specs.Time.{act_tick, ticked_by, due_of, at_moment}
+use Rattle.chaos_conn.specs.Time.{ticked_by, due_of, at_moment}
 use Rattle.chaos_conn.specs.Calls.{write_at_most, most_bytes, has_window, read_at_open, read_at_end, front_of}
 use Rattle.chaos_conn.specs.Arriving.{act_deliver, is_between_hosts, is_between_indices, is_index, deliver_in, deliver_open, deliver_asking, deliver_requested, after_opn_telling, after_second_opn_telling, after_sts_telling, after_arrived, heard_with_ack, after_rfc, repeated_request}
 use Rattle.chaos_conn.specs.Opening.{turn_away}
-use Rattle.chaos_conn.specs.Act.{Call, act}
 use Rattle.chaos_conn.specs.Act.Call.{Request, TakeRequest, Accept, Answer, Reject, Deliver, Write, Unc, Read, FinishRead, Announce, Close, Tick}
-use Rattle.chaos_conn.specs.Names.{IsFrom, begins, PutsItsNames}
+use Rattle.chaos_conn.specs.Names.{IsFrom, PutsItsNames}
 use Rattle.chaos_conn.proofs.Alike.{not_rfc}
 
 -- each packet of the call has the names of v

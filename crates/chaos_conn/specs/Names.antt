@@ -1,6 +1,6 @@
 -- What a connection's names are to it: the own address and index, and the peer's. Two connections that differ in these alone do the
 -- same, but for the names on their packets; and a packet of other names changes nothing.
-use Rattle.std.specs.Prelude.{◌≡◌, ◌≢◌, ℕ, Bool, true, false, ◌&&◌, if◌then◌else◌, List, [], ◌∷◌, map, Option, Some, None, option_map, unwrap_or, ⊤, ◌⊎◌, Result, Ok, Err}
+use Rattle.std.specs.Prelude.{◌≡◌, ℕ, Bool, true, false, ◌&&◌, if◌then◌else◌, List, [], map, Option, Some, None, unwrap_or, ⊤, ◌⊎◌, Err}
 use Rattle.std.specs.List.{AllByRecursion}
 use Rattle.chaos_packet.specs.Opcode.{kind_of, is_rfc}
 use Rattle.chaos_packet.specs.Packet.{PacketView}
@@ -9,7 +9,6 @@ use Rattle.chaos_conn.specs.declared.state.State.{State}
 use Rattle.chaos_conn.specs.declared.state.State.TheVariants as st
 use Rattle.chaos_conn.specs.declared.answers.Delivered.{Delivered}
 use Rattle.chaos_conn.specs.declared.answers.Delivered.TheVariants as answer
-use Rattle.chaos_conn.specs.declared.fault.ConnFault.{ConnFault}
 use Rattle.chaos_conn.specs.State.{is_live, is_ended, awaits_peer}
 use Rattle.chaos_conn.specs.View.{ConnView, heard_at}
 use Rattle.chaos_conn.specs.Acted.{Acted, quietly}
@@ -17,7 +16,7 @@ use Rattle.chaos_conn.specs.Sending.{carries_ack, with_sts}
 use Rattle.chaos_conn.specs.Arriving.{act_deliver, is_between_hosts, is_between_indices}
 use Rattle.chaos_conn.specs.Calls.{front_of}
 use Rattle.chaos_conn.specs.Act.{Call, Reply, act}
-use Rattle.chaos_conn.specs.Act.Call.{Request, TakeRequest, Accept, Answer, Reject, Deliver, Write, Unc, Read, FinishRead, Announce, Close, Tick}
+use Rattle.chaos_conn.specs.Act.Call.{Request, TakeRequest, Accept, Answer, Reject, Deliver, Write, Read, FinishRead, Announce, Close, Tick}
 use Rattle.chaos_conn.specs.Act.Reply.{Did, Wrote}
 
 -- ---- other names

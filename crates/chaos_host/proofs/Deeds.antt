@@ -1,5 +1,5 @@
 -- Each step of a host is the call of one connection, or no connection does anything.
-use Rattle.std.proofs.Common.{◌≡◌, ℕ, ◌≤◌, ◌==◌, Bool, true, false, not, ◌&&◌, if◌then◌else◌, List, [], length, nat_lt, slice_get, slice_set, slice_index_or, Option, Some, None, position, refl, sym, ap, ◌∙◌, subst, arith}
+use Rattle.std.proofs.Common.{◌≡◌, ℕ, ◌≤◌, ◌==◌, Bool, true, false, not, if◌then◌else◌, List, [], length, nat_lt, slice_get, slice_set, Option, Some, None, position, refl, sym, ap, ◌∙◌, subst, arith}
 use Rattle.std.specs.List.{AllByRecursion}
 use Rattle.std.proofs.lemmas.Bool.{false≢true, cond-false, cond-true}
 use Rattle.std.proofs.lemmas.List.{set-get_or}
@@ -9,13 +9,10 @@ use Rattle.std.proofs.lemmas.Option.{slice_get_within, get_or_from_slice_get}
 use Rattle.chaos_packet.specs.Packet.{PacketView, contact_of}
 use Rattle.chaos_packet.specs.declared.limits.TheConstants.{MAX_DATA}
 use Rattle.chaos_packet.specs.Opcode.{kind_of, is_rfc}
-use Rattle.chaos_packet.specs.declared.opcode.Kind.{Kind}
 use Rattle.chaos_conn.specs.declared.state.State.{State}
 use Rattle.chaos_conn.specs.declared.state.State.TheVariants as st
-use Rattle.chaos_conn.specs.declared.fault.ConnFault.{ConnFault}
 use Rattle.chaos_conn.specs.State.{is_inactive, is_live, is_ended}
-use Rattle.chaos_conn.specs.View.{ConnView}
-use Rattle.chaos_conn.specs.Acted.{Acted, quietly}
+use Rattle.chaos_conn.specs.Acted.{quietly}
 use Rattle.chaos_conn.specs.Arriving.{act_deliver}
 use Rattle.chaos_conn.specs.Act.{Call, act}
 use Rattle.chaos_conn.specs.declared.answers.Delivered.TheVariants as answer
@@ -29,14 +26,14 @@ use Rattle.chaos_host.specs.declared.fault.ListenFault.{ListenFault}
 use Rattle.chaos_host.specs.Law.{may_end}
 use Rattle.chaos_host.specs.Slot.{is_used, is_free, named_slot, place_of, free_place, after_ending, took_from, comes_from, IsTable}
 use Rattle.chaos_host.specs.View.{HostView, IsHost, own_end}
-use Rattle.chaos_host.specs.Acted.{HostActed, with_slot, slot_after_call, no_effect, on_slot, on_slot_then_free}
-use Rattle.chaos_host.specs.Route.{route, route_rfc, route_taken, route_new, route_request, route_other, route_named, route_no_conn, needs_conn}
-use Rattle.chaos_host.specs.Deliver.{host_deliver, deliver_by, deliver_slot, take_request_slot}
-use Rattle.chaos_host.specs.Connect.{host_connect, connect_at, connect_slot}
-use Rattle.chaos_host.specs.Calls.{host_call, host_end, host_release, call_slot, end_slot, release_slot}
+use Rattle.chaos_host.specs.Acted.{with_slot, slot_after_call}
+use Rattle.chaos_host.specs.Route.{route, route_taken, route_request, route_named, route_no_conn, needs_conn}
+use Rattle.chaos_host.specs.Deliver.{deliver_by, deliver_slot, take_request_slot}
+use Rattle.chaos_host.specs.Connect.{connect_at, connect_slot}
+use Rattle.chaos_host.specs.Calls.{call_slot, end_slot, release_slot}
 use Rattle.chaos_host.specs.Listening.{listen_fault, after_listen, has_listener}
-use Rattle.chaos_host.specs.Tick.{host_tick, tick_slot}
-use Rattle.chaos_host.specs.Deeds.{HostEvent, HostMade, Deed, IsEvent, IsDeed, IsDone, IsNothing, FitsSlot, is_users, made_of, host_made, deed_of, deed_by, by_used, by_free, by_named, by_ended, by_asking, by_lowest, HasDeeds, StaysHost}
+use Rattle.chaos_host.specs.Tick.{tick_slot}
+use Rattle.chaos_host.specs.Deeds.{HostMade, Deed, IsDeed, IsDone, IsNothing, FitsSlot, is_users, made_of, host_made, deed_of, deed_by, by_used, by_free, by_named, by_ended, by_asking, by_lowest, HasDeeds, StaysHost}
 use Rattle.chaos_host.specs.Deeds.HostEvent.{Comes, Calls, Ends, Releases, Connects, Listens, Ticks}
 use Rattle.chaos_host.specs.Deeds.Deed.{Nothing, Does}
 use Rattle.chaos_host.proofs.InUse.{stays_in_use}

@@ -1,13 +1,13 @@
 -- What each step of a host makes of its connections: the connection in one slot does one call, or none does anything.
-use Rattle.std.specs.Prelude.{◌≡◌, ℕ, ◌==◌, Bool, true, false, ◌&&◌, nat_lt, if◌then◌else◌, List, [], length, Option, Some, None, slice_get, ⊤}
+use Rattle.std.specs.Prelude.{◌≡◌, ℕ, ◌==◌, Bool, true, false, nat_lt, if◌then◌else◌, List, [], length, Option, Some, None, slice_get, ⊤}
 use Rattle.std.specs.List.{AllByRecursion}
 use Rattle.chaos_packet.specs.Packet.{PacketView}
 use Rattle.chaos_packet.specs.declared.limits.TheConstants.{MAX_DATA}
 use Rattle.chaos_packet.specs.Opcode.{kind_of, is_rfc}
 use Rattle.chaos_conn.specs.State.{is_ended}
 use Rattle.chaos_conn.specs.Act.{Call, act}
-use Rattle.chaos_conn.specs.Act.Call.{Request, TakeRequest, Accept, Answer, Reject, Deliver, Write, Unc, Read, FinishRead, Announce, Close, Tick}
-use Rattle.chaos_conn.specs.Names.{IsBare, begins, ends}
+use Rattle.chaos_conn.specs.Act.Call.{Request, TakeRequest, Accept, Deliver, Write, Unc, Read, FinishRead, Announce, Close, Tick}
+use Rattle.chaos_conn.specs.Names.{IsBare, ends}
 use Rattle.chaos_host.specs.declared.slot.Slot.{Slot}
 use Rattle.chaos_host.specs.declared.route.Route.{Route}
 use Rattle.chaos_host.specs.declared.route.Route.TheVariants as to

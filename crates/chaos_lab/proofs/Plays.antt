@@ -1,51 +1,44 @@
 -- Each call of a connection is played by an end of a laboratory.
-use Rattle.std.proofs.Common.{◌≡◌, ℕ, zero, suc, ◌+◌, ◌<◌, ◌≤◌, max, List, [], ◌∷◌, ◌++◌, length, map, drop, Bool, true, false, not, Option, Some, None, Ok, Err, refl, sym, ap, ◌∙◌, subst, inl, inr, ◌⊎◌, ⊎_elim, arith}
+use Rattle.std.proofs.Common.{◌≡◌, ℕ, zero, suc, max, List, [], ◌∷◌, ◌++◌, length, map, drop, true, false, Some, None, refl, sym, ap, ◌∙◌, subst, inl, inr, ◌⊎◌, ⊎_elim, arith}
 use Rattle.std.specs.Prelude.{slice_get}
 use Rattle.std.specs.List.{All, AllByRecursion}
-use Rattle.std.specs.FinSet.{contains}
-use Rattle.std.proofs.lemmas.Bool.{cond-true, cond-false, cond_both, cases_Bool, false≢true, lt-ltb, le-ltb}
+use Rattle.std.proofs.lemmas.Bool.{cond-true, cond-false, false≢true, lt-ltb, le-ltb}
 use Rattle.std.proofs.lemmas.List.{append-nil, nil_from_length}
 use Rattle.std.proofs.lemmas.List.Elements.{All-nil}
-use Rattle.std.proofs.lemmas.Option.{slice_get_within}
 use Rattle.chaos_packet.specs.Item.{ItemView}
-use Rattle.chaos_packet.specs.Number.{num}
 use Rattle.chaos_packet.specs.Opcode.{kind_of, is_rfc}
-use Rattle.chaos_packet.specs.Packet.{PacketView, item_of}
+use Rattle.chaos_packet.specs.Packet.{PacketView}
 use Rattle.chaos_conn.specs.declared.state.State.{State}
 use Rattle.chaos_conn.specs.declared.state.State.TheVariants as st
-use Rattle.chaos_conn.specs.Config.{ConfigView, IsConfig}
 use Rattle.chaos_conn.specs.State.{is_ended, is_inactive, awaits_peer}
 use Rattle.chaos_conn.specs.View.{ConnView, heard_at, new_conn}
 use Rattle.chaos_conn.specs.Acted.{Acted, quietly}
 use Rattle.chaos_conn.specs.Sending.{carries_ack, with_sts}
-use Rattle.chaos_conn.specs.Opening.{act_request, Outcome as Asked, closed_conn, rfc_item, after_asking}
-use Rattle.chaos_conn.specs.Act.{Call, act}
+use Rattle.chaos_conn.specs.Opening.{act_request, Outcome as Asked, closed_conn}
 use Rattle.chaos_conn.specs.Act.Call.{Request, TakeRequest, Accept, Answer, Reject, Write, Unc, Read, FinishRead, Announce, Close, Tick, Deliver as DeliverPacket}
 use Rattle.chaos_conn.specs.Names.{Quiet, MayBe, quiet}
 use Rattle.chaos_conn.specs.Names.Quiet.{Same, Heard, Tells, Ends}
 use Rattle.chaos_conn.proofs.Ended.{ended_is_over}
 use Rattle.chaos_lab.specs.declared.side.Side.{Side}
 use Rattle.chaos_lab.specs.declared.side.Side.TheVariants.{A, B}
-use Rattle.chaos_lab.specs.declared.stamped.Stamped.{Stamped as Sent}
 use Rattle.chaos_lab.specs.Machine.{PlainEnd as Plain, Phase, Kind, Copy, Machine, Event, other, end_of, with_end, IsSent, Step}
 use Rattle.chaos_lab.specs.Machine.Phase.{Inactive, RfcSent, RfcReceived, Open, Ended, Closed}
 use Rattle.chaos_lab.specs.Machine.Kind.{Nth, Sns, Sts, Cls}
 use Rattle.chaos_packet.specs.declared.opcode.Kind.TheVariants as k
 use Rattle.chaos_lab.specs.Machine.Event.{WriteAt, ResizeAt, TickAt, Deliver}
-use Rattle.chaos_lab.specs.Shown.{Rest, shown, shown_at, shown_in, recv_shown, send_shown, send_view, index_of, idle, place_of, address_of, to_index, HasItems, IsWhat, Leaves, Stands}
-use Rattle.chaos_lab.specs.Laboratory.{LabView, EndView, Done, lab_end, with_lab_end, with_sent, call_at, is_fresh, start_for, stamp}
+use Rattle.chaos_lab.specs.Shown.{Rest, shown_at, shown_in, send_shown, send_view, index_of, idle, place_of, address_of, to_index, HasItems, IsWhat, Leaves, Stands}
+use Rattle.chaos_lab.specs.Laboratory.{LabView, Done, lab_end, with_lab_end, with_sent, call_at, stamp}
 use Rattle.chaos_lab.specs.Tied.{Tied, Ties, HasMachine, StandsCopy, AskedFits, base_of, machine_for}
-use Rattle.chaos_lab.specs.Plays.{IsCopyTo, CanPlay, KeepsPlay, quiet_at, KeepsQuiet, begun_lab, MayBegin, MayReplace, ReadsBegin, IsRequestOf, RfcIsFirst, Waits, AskingWaits, IsUnasked, UnaskedIsNew, KnowsSides, OthersNameIndex, OpenHasRead, UnreadIsAlone}
-use Rattle.chaos_lab.proofs.Directions.{Sound}
-use Rattle.chaos_lab.proofs.Ends.{EndOk, EndHolds, Fits, IsNew, IsNone, HasMet, fits_at}
+use Rattle.chaos_lab.specs.Plays.{IsCopyTo, KeepsPlay, KeepsQuiet, MayBegin, MayReplace, ReadsBegin, RfcIsFirst, AskingWaits, UnaskedIsNew, KnowsSides, OthersNameIndex, OpenHasRead, UnreadIsAlone}
+use Rattle.chaos_lab.proofs.Ends.{EndOk, IsNew, IsNone, HasMet, fits_at}
 use Rattle.chaos_lab.proofs.Functions.{ended_phase, tick_row}
-use Rattle.chaos_lab.proofs.Items.{same_phase, not_new, same_items}
+use Rattle.chaos_lab.proofs.Items.{same_phase, same_items}
 use Rattle.chaos_lab.proofs.Machines.{reached_holds, end_holds}
 use Rattle.chaos_lab.proofs.SendTie.{read_within}
-use Rattle.chaos_lab.proofs.OpenEnd.{is_open, open_is, in_met, leaves_sts}
+use Rattle.chaos_lab.proofs.OpenEnd.{is_open, open_is, leaves_sts}
 use Rattle.chaos_lab.proofs.DeliverOpen.{heard_rest}
 use Rattle.chaos_lab.proofs.TiedOn.{on_a, on_b}
-use Rattle.chaos_lab.proofs.OnSide.{Outcome, Refuses, Steps, Stepped, conn_at, first_at, stands_at, items_at, written_at, read_at, asked_keeps, settle}
+use Rattle.chaos_lab.proofs.OnSide.{Outcome, Refuses, Steps, conn_at, first_at, stands_at, items_at, asked_keeps, settle}
 use Rattle.chaos_lab.proofs.UserTies.{read_ties, write_ties, resize_ties, tick_ties, accept_ties, ended_new}
 use Rattle.chaos_lab.proofs.CopyTies.{CopyKnown, copy_known, copy_of, comes_to_a, comes_to_b, takes_by_b}
 use Rattle.chaos_lab.proofs.LabTies.{is_first, first_is}
@@ -245,10 +238,12 @@ idle_stands : (w : Machine) (l : LabView) (conn : ConnView) → w.b.phase ≡ In
 idle_stands w l conn new s closed config =
     let was : l.b.conn ≡ idle s.0 w.b = s.2 ∙ ap (λ ph. shown_at ph B s.0 l.b.first l.a.first w.a w.b) new in
     let same : conn.config ≡ (idle s.0 w.b).config = config ∙ ap (λ v. v.config) was in
-    let rest : Rest = record s.0 { last = conn.last; heard = conn.heard; resent = conn.resent; probed = conn.probed } in
-    (rest, s.1,
-    closed ∙ (λ j. record (new_conn (same j)) { last = conn.last; heard = conn.heard; resent = conn.resent; probed = conn.probed })
-    ∙ sym (ap (λ ph. shown_at ph B rest l.b.first l.a.first w.a w.b) new))
+    let rest : Rest = record s.0 { last = conn.last; heard = conn.heard; resent = conn.resent; probed = conn.probed } in (
+      rest,
+      s.1,
+      closed ∙ (λ j. record (new_conn (same j)) { last = conn.last; heard = conn.heard; resent = conn.resent; probed = conn.probed })
+          ∙ sym (ap (λ ph. shown_at ph B rest l.b.first l.a.first w.a w.b) new),
+    )
 
 pub may_replace : MayReplace
 may_replace l conn h asked closed config =
@@ -401,11 +396,12 @@ knows_sides l h =
     let t = h.ties in
     let holds = reached_holds w t.tied.reached in
     let sa = t.tied.a in
-    let sb = t.tied.b in
-    (λ is. fits_at A w.a RfcReceived holds.a (asked_by w.a.phase A sa.0 l.a.first l.b.first w.b w.a sa.1 (sym (ap (λ v. v.state) sa.2) ∙ is)),
-    λ is. fits_at B w.b RfcSent holds.b (asks_by w.b.phase B sb.0 l.b.first l.a.first w.a w.b sb.1 (sym (ap (λ v. v.state) sb.2) ∙ is)),
-    λ used none. t.read_a ∙ nil_from_length w.a.read
-    (no_index w.a.phase sa.0 l.a.first l.b.first w.b w.a (sym (ap (λ v. is_inactive v.state) sa.2) ∙ used) (sym (ap (λ v. v.peer_index) sa.2) ∙ none)))
+    let sb = t.tied.b in (
+      λ is. fits_at A w.a RfcReceived holds.a (asked_by w.a.phase A sa.0 l.a.first l.b.first w.b w.a sa.1 (sym (ap (λ v. v.state) sa.2) ∙ is)),
+      λ is. fits_at B w.b RfcSent holds.b (asks_by w.b.phase B sb.0 l.b.first l.a.first w.a w.b sb.1 (sym (ap (λ v. v.state) sb.2) ∙ is)),
+      λ used none. t.read_a ∙ nil_from_length w.a.read
+          (no_index w.a.phase sa.0 l.a.first l.b.first w.b w.a (sym (ap (λ v. is_inactive v.state) sa.2) ∙ used) (sym (ap (λ v. v.peer_index) sa.2) ∙ none)),
+    )
 
 index_by : (y : Side) (kind : Kind) (b b' : ℕ) (e : Plain) (pk : PacketView) → HasItems y b' e → IsWhat b e pk kind → is_rfc (kind_of pk.op) ≡ false → to_index kind y ≡ 1
 index_by A (Nth zero) b b' e pk its what is = absurd (false≢true (sym is ∙ ap (λ op. is_rfc (kind_of op)) (its.first (record { op = pk.op; body = pk.body }) what.0)))

@@ -1,14 +1,12 @@
 -- What the laws of two hosts take from the laboratory: each call of a connection of a host is played by an end of a laboratory, whose
 -- connection is the same but for its names.
-use Rattle.std.specs.Prelude.{◌≡◌, ℕ, ◌<◌, ◌≤◌, Bool, true, false, List, [], ◌∷◌, length, Option, Some, None, slice_get, ⊤}
+use Rattle.std.specs.Prelude.{◌≡◌, ℕ, ◌<◌, ◌≤◌, true, false, List, [], ◌∷◌, length, Some, None, slice_get, ⊤}
 use Rattle.std.specs.List.{AllByRecursion}
 use Rattle.chaos_packet.specs.Begins.{Begins}
-use Rattle.chaos_packet.specs.Item.{ItemView}
 use Rattle.chaos_packet.specs.Number.{num}
 use Rattle.chaos_packet.specs.Opcode.{kind_of, is_rfc}
 use Rattle.chaos_packet.specs.Packet.{PacketView, item_of}
 use Rattle.chaos_packet.specs.declared.limits.TheConstants.{MAX_DATA}
-use Rattle.chaos_conn.specs.declared.state.End.{End}
 use Rattle.chaos_conn.specs.declared.state.State.TheVariants as st
 use Rattle.chaos_conn.specs.Config.{ConfigView, IsConfig}
 use Rattle.chaos_conn.specs.State.{is_inactive}
@@ -17,7 +15,7 @@ use Rattle.chaos_conn.specs.Sending.{carries_ack}
 use Rattle.chaos_conn.specs.Opening.{act_request, closed_conn, rfc_item}
 use Rattle.chaos_conn.specs.Act.{Call}
 use Rattle.chaos_conn.specs.Act.Call.{TakeRequest, Accept, Deliver, Write, Read, Announce, Tick}
-use Rattle.chaos_conn.specs.Names.{Names, Quiet, MayBe, quiet, renamed}
+use Rattle.chaos_conn.specs.Names.{Names, Quiet, MayBe, quiet}
 use Rattle.chaos_lab.specs.declared.side.Side.{Side}
 use Rattle.chaos_lab.specs.declared.side.Side.TheVariants.{A, B}
 use Rattle.chaos_lab.specs.declared.stamped.Stamped.{Stamped}
