@@ -9,3 +9,7 @@ pub mod Gone
 pub mod Begun
 pub mod Steps
 pub mod Network
+pub mod Short
+pub mod Lasting
+pub mod Present
+pub mod Hello

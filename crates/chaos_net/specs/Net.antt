@@ -1,5 +1,17 @@
--- Two hosts on one network, which keeps every packet that either ever sent, and may deliver it late, twice, out of order or never.
--- Beside what a host is stands the story of each connection that it ever had.
+-- Two hosts on one network, and the law of their connections.
+--
+--          host at A                    the network                    host at B
+--    +-------------------+                                       +-------------------+
+--    | slots, generation |   every packet that A ever sent  -->  | slots, generation |
+--    | a story for each  |                                       | a story for each  |
+--    | connection, past  |   <--  every packet that B ever sent  | connection, past  |
+--    | or present        |                                       | or present        |
+--    +-------------------+   late, twice, out of order or never  +-------------------+
+--        ^ users, clock                                              ^ users, clock
+--
+-- An event is a call of one of the users, a tick, or one of those packets as it comes to the other host, which does with it what a
+-- host does. A story tells what became of one connection. The law says that what a connection has read begins what its peer has
+-- written.
 use Rattle.std.specs.Prelude.{◌≡◌, ℕ, ◌+◌, ◌*◌, ◌%◌, ◌<◌, ◌≤◌, Bool, true, false, ◌&&◌, ◌==◌, if◌then◌else◌, List, [], ◌∷◌, ◌++◌, length, map, Option, Some, None, slice_get, ◌⊎◌}
 use Rattle.chaos_packet.specs.Begins.{Begins}
 use Rattle.chaos_packet.specs.Opcode.{kind_of}
@@ -27,31 +39,33 @@ use Rattle.chaos_lab.specs.Laboratory.{EndView, with_written, with_read, first_a
 
 -- ---- connections, past and present
 
--- A connection of a host: the place of its slot, and how many connections had that slot before it.
+-- The name of a connection of a host, by which it is known for good: the place of its slot, and how many connections had that slot
+-- before it.
 pub record Name : Type 0 where
   pub place : ℕ
   pub turn : ℕ
 
--- its own index on the wire: of the turn that tells the generation, which has 8 bits
+-- Its index on the wire, which is used again: the place plus 1 in the low 8 bits, the slot's generation in the high 8 bits.
 abbrev pub index_of : Name → ℕ
 index_of name = 256 * (name.turn % 256) + (name.place + 1)
 
--- What became of a connection: its view, its first number, all that its user wrote and read; whether it asked or was asked; and
--- its peer: of one that was asked the connection that asked, and of one that asked the connection whose OPN opened it.
+-- What became of a connection: its end, which is what its host shows of it, the number of its item 0, and all that its user wrote and
+-- read, the request and the OPN too; whether it asked or was asked; and its peer, where that is known: of one that was asked the
+-- connection that asked, and of one that asked the connection whose OPN opened it. Uncontrolled data and answers aren't items.
 pub record Story : Type 0 where
   pub end : EndView
   pub asked : Bool
   pub peer : Option Name
 
--- A packet that was sent; by which connection, or by the host itself; and how many items each connection of either side had written
--- by then, its own item counted.
+-- A packet that was sent; by which connection, or, where there is none, by the host itself; and how many items each connection of
+-- either host had written by then, its own item counted.
 pub record Sent : Type 0 where
   pub packet : PacketView
   pub by : Option Name
   pub lengths : Side → Name → ℕ
 
--- A host, how many connections each slot had before the present or next one, the story of each connection that there was, and
--- each packet that was sent, the oldest first.
+-- A host; how many connections each slot had before the present one, or the next where it is free; the story of each connection that
+-- there ever was; and each packet that was ever sent, the oldest first.
 pub record Station : Type 0 where
   pub host : HostView
   pub turn : ℕ → ℕ
@@ -76,7 +90,7 @@ abbrev pub as_read : Call → Call
 as_read FinishRead = Read
 as_read call = call
 
--- both lists after a call; a call that is refused adds nothing
+-- the end after a call, with both lists; a call that is refused adds nothing
 abbrev pub end_by : EndView → Call → Acted Reply → EndView
 end_by e call acted = record {
   conn = acted.view;
@@ -88,7 +102,7 @@ end_by e call acted = record {
 abbrev pub end_of_call : EndView → Call → EndView
 end_of_call e call = end_by e (as_read call) (act e.conn (as_read call))
 
--- the packet that opens an end comes from its peer
+-- the packet that opens a connection comes from its peer
 abbrev pub peer_by : Reply → Option Name → Option Name
 peer_by (Came answer) from = if is_opened answer then from else None
 peer_by _ from = None
@@ -102,7 +116,7 @@ peer_after None reply from = peer_by reply from
 abbrev pub goes_on : Story → Call → Option Name → Story
 goes_on s call from = record { end = end_of_call s.end call; asked = s.asked; peer = peer_after s.peer (act s.end.conn call).answer from }
 
--- a story begins by a request that is made or taken
+-- a story begins by a request that is made, and is then item 0 of what was written, or by one that is taken, from its sender
 abbrev pub story_of : ConnView → Call → Option Name → Option Story
 story_of conn (Request me peer contact start now) from =
     Some (record { end = record { conn = (act conn (Request me peer contact start now)).view; first = start; written = rfc_item contact ∷ []; read = [] }; asked = true; peer = None })
@@ -146,7 +160,7 @@ abbrev pub sender : Station → Deed → Option Name
 sender st Nothing = None
 sender st (Does place call) = Some (present st place)
 
--- how many items a connection has written
+-- how many items a connection has written by now
 abbrev pub length_of : Option Story → ℕ
 length_of None = 0
 length_of (Some s) = length s.end.written
@@ -157,11 +171,11 @@ lengths_of n side name = length_of ((n side).story name)
 abbrev pub sent_by : Option Name → (Side → Name → ℕ) → PacketView → Sent
 sent_by by lengths packet = record { packet = packet; by = by; lengths = lengths }
 
--- the host at a side does what it does, and so do the stories
+-- The host at a side does what its contracts say, and its stories go on.
 abbrev pub moved : Station → HostEvent → Option Name → Station
 moved st event from = record (after_deed st (deed_of st.host event) from) { host = (host_made st.host event).view }
 
--- and what it puts out is sent
+-- And what it puts out is sent, and stays with the network.
 abbrev pub after_event : Net → Side → HostEvent → Option Name → Net
 after_event n x event from =
     let st = moved (n x) event from in
@@ -171,7 +185,8 @@ after_event n x event from =
 
 -- ---- events
 
--- a user makes a call or a slot is ticked at one side; or a packet that the other side sent comes to it
+-- A user of one host makes a call, or a slot is ticked. Or a packet that the other host sent comes: that with this number, the oldest
+-- being number 0. One that never comes is lost, and one may come as often as it likes, before or after any other.
 pub data NetEvent : Type 0 where
   At : (side : Side) → (event : HostEvent) → NetEvent
   Arrives : (side : Side) → (number now : ℕ) → NetEvent
@@ -186,19 +201,20 @@ happens n (Arrives x number now) = arrives n x now (slice_get (n (other x)).sent
 
 -- ---- freshness
 
--- fewer than 256 connections lie between them, so that their generations differ
+-- Fewer than 256 connections lie between both, so that in one slot they have two indices.
 abbrev pub Near : Name → Name → Type 0
 Near a b = (a.turn < b.turn + 256) × (b.turn < a.turn + 256)
 
--- A packet that c sent comes to d, the present connection that its destination index names: d is near the connection that was meant,
--- and c is near d's peer; and neither of both has written 32,640 items since.
+-- A packet that c sent comes to d, the present connection that its destination index names, and s and t are their stories. It is
+-- fresh: d is near the connection that was meant, which is c's peer, and c is near d's peer, so that neither index was used again;
+-- and neither c nor d has written 32,640 items since it was sent, so that no 16-bit number was.
 pub record IsFreshFor (x : Side) (q : Sent) (c d : Name) (s t : Story) : Type 0 where
   pub meant : (m : Name) → s.peer ≡ Some m → Near d m
   pub peer : (e : Name) → t.peer ≡ Some e → Near c e
   pub sender : length s.end.written < q.lengths (other x) c + fresh_span
   pub receiver : length t.end.written < q.lengths x d + fresh_span
 
--- So it is with each packet that carries an acknowledgement.
+-- So it is with each packet that carries an acknowledgement: an OPN, data, an EOF, an SNS or an STS. All others may be of any age.
 abbrev pub IsFresh : Net → Side → Sent → Type 0
 IsFresh n x q =
     carries_ack (kind_of q.packet.op) ≡ true →
@@ -206,14 +222,23 @@ IsFresh n x q =
 
 -- ---- runs
 
--- Which events there are: users' calls, of which a connect numbers what it writes from a 16-bit number on, and ticks; and packets that
--- come while they are fresh.
+-- What users and clocks make: any event of a host but that a packet comes. A connect numbers its items from a 16-bit number on.
+abbrev pub IsOwn : HostEvent → Type 0
+IsOwn (Comes packet now) = ⊥
+IsOwn (Connects peer contact start now) = start < 65536
+IsOwn event = IsEvent event
+
+-- All these may happen at any time, and a packet that was sent may come while it is fresh.
 abbrev pub CanHappen : Net → NetEvent → Type 0
-CanHappen n (At x (Comes packet now)) = ⊥
-CanHappen n (At x (Connects peer contact start now)) = start < 65536
-CanHappen n (At x event) = IsEvent event
+CanHappen n (At x event) = IsOwn event
 CanHappen n (Arrives x number now) = (q : Sent) → slice_get (n (other x)).sent number ≡ Some q → IsFresh n x q
 
+-- the net after some events, one after the other
+abbrev pub after_events : Net → List NetEvent → Net
+after_events n [] = n
+after_events n (event ∷ events) = after_events (happens n event) events
+
+-- Each of these events can happen when it does, and they lead from one net to another.
 abbrev pub Run : Net → List NetEvent → Net → Type 0
 Run n [] m = m ≡ n
 Run n (event ∷ events) m = CanHappen n event × Run (happens n event) events m
@@ -230,7 +255,7 @@ pub record IsNew (st : Station) : Type 0 where
   pub sound : IsConfig config
   pub is : st ≡ new_station address conns config
 
--- a run of some events leads here from two new hosts
+-- a run of some events leads here from two new hosts, of any addresses, numbers of slots and configurations
 pub record Reached (n : Net) : Type 0 where
   pub start : Net
   pub a : IsNew (start A)
@@ -240,15 +265,15 @@ pub record Reached (n : Net) : Type 0 where
 
 -- ---- the law
 
--- What a connection has read begins what its peer has written, which is a connection of the other host. Both name each other; or
--- this one was asked, its peer was opened by another or by none, and it has read no more than the request. One that asked and wasn't
--- opened has read nothing.
+-- What a connection has read begins what its peer has written, which is a connection of the other host. Both name each other. Or
+-- this one was asked, its peer was opened by another or by none yet, and it has read no more than the request.
 pub record HoldsWith (n : Net) (x : Side) (name : Name) (s : Story) (peer : Name) : Type 0 where
   pub story : Story
   pub there : (n (other x)).story peer ≡ Some story
   pub begins : Begins s.end.read story.end.written
   pub named : (story.peer ≡ Some name) ⊎ ((s.asked ≡ false) × (length s.end.read ≤ 1))
 
+-- One that asked and wasn't opened has read nothing.
 abbrev pub HoldsBy : Net → Side → Name → Story → Option Name → Type 0
 HoldsBy n x name s None = (s.asked ≡ true) × (s.end.read ≡ [])
 HoldsBy n x name s (Some peer) = HoldsWith n x name s peer
