@@ -13,3 +13,4 @@ pub mod Short
 pub mod Lasting
 pub mod Present
 pub mod Hello
+pub mod Apart

@@ -4,3 +4,4 @@ pub mod Short
 pub mod Lasting
 pub mod Present
 pub mod Hello
+pub mod Apart

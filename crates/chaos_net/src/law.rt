@@ -2,6 +2,7 @@
 //! the call.
 ghost use Rattle.std.specs.Prelude.{◌≡◌};
 ghost use Rattle.chaos_lab.specs.declared.side.Side.{Side};
+ghost use Rattle.chaos_net.specs.Apart.{ChangesPeerAlone, BareAddsNothing};
 ghost use Rattle.chaos_net.specs.Hello.{SomethingIsRead};
 ghost use Rattle.chaos_net.specs.Lasting.{StoriesLast};
 ghost use Rattle.chaos_net.specs.Net.{Net, Name, Holds, NetworkLaw};
@@ -26,6 +27,14 @@ pub fn law_net_holds()
 /// changes.
 pub fn law_lasting()
     ensures { StoriesLast }
+{}
+
+/// No packet of one connection changes another.
+pub fn law_apart()
+    // one that carries an acknowledgement, and is fresh, changes its sender's peer alone
+    ensures peer { ChangesPeerAlone }
+    // every other packet, of whatever age, adds nothing to any connection: it may end one, or begin one
+    ensures bare { BareAddsNothing }
 {}
 
 /// What a caller of a host holds is what the stories tell.
