@@ -50,3 +50,4 @@ pub mod Settled
 pub mod Before
 pub mod Fair
 pub mod Answering
+pub mod Plays
