@@ -85,6 +85,10 @@ impl Conn {
     /// The STS may be lost, and an older one may come late: the peer uses the window that came last. Where it sends too far, its
     /// items are told `Outside` here, and it sends them again.
     ///
+    /// Only an STS or an OPN tells a window. A peer whose window is 0 and that keeps nothing sends nothing again, and it probes only
+    /// where it has heard nothing for `probe`. So who announced 0, and goes on sending, announces more again until an item comes:
+    /// where that STS is lost, the peer's writes stay `Full` as long as this end talks.
+    ///
     /// Refused, in this order: `NotOpen`; `BadWindow` for more than the configuration's receive window. Nothing changes then.
     pub fn announce(&mut self, window: u16, out: &mut Outbox) -> Result<(), ConnFault>
         requires { 0 < room_of out.old }

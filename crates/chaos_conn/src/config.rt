@@ -46,6 +46,9 @@ impl ConnConfig {
     /// Give both windows the same size, at both ends of a connection, or the receive window at most three times what the
     /// peer sends at most: a reader that sends nothing tells what it read when that is a third of its own window, so a
     /// sender whose window is smaller than that third waits each time until what it keeps is sent again.
+    ///
+    /// Give `down` a time above `retransmit`. One that isn't is taken too, but then an end gives its peer up before it sends
+    /// anything again, so the first loss ends the connection.
     pub fn new(
         send_cap: u16,
         recv_cap: u16,
