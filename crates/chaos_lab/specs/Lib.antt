@@ -17,3 +17,4 @@ pub mod Turns
 pub mod Progress
 pub mod Settling
 pub mod SettlingLeft
+pub mod Opening

@@ -3,6 +3,7 @@ use Rattle.std.specs.Prelude.{◌≡◌, ◌≢◌, ℕ, zero, suc, ◌+◌, ◌
 use Rattle.chaos_packet.specs.Opcode.{op_sns, op_sts}
 use Rattle.chaos_window.specs.Send.{outstanding_of}
 use Rattle.chaos_conn.specs.declared.state.State.TheVariants.{Open}
+use Rattle.chaos_conn.specs.State.{awaits_peer}
 use Rattle.chaos_conn.specs.View.{ConnView}
 use Rattle.chaos_conn.specs.declared.answers.Ticked.TheVariants.{Resent}
 use Rattle.chaos_conn.specs.Calls.{front_of, is_drained}
@@ -91,9 +92,10 @@ Brings l (event ∷ events) copy =
 abbrev pub Waits : LabView → Side → Type 0
 Waits l y = front_of (lab_end l y).conn ≡ None
 
--- An open end keeps something, and at this moment it was last sent long ago enough, and the peer heard since not too long.
+-- An end that awaits its peer keeps something, and at this moment it was last sent long ago enough, and the peer heard since not
+-- too long.
 pub record IsDue (v : ConnView) (now : ℕ) : Type 0 where
-  pub open_end : v.state ≡ Open
+  pub awaits : awaits_peer v.state ≡ true
   pub some : 0 < length v.send.kept
   pub later : v.last ≤ now
   pub again : v.resent + v.config.retransmit ≤ now
