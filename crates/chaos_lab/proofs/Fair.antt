@@ -2,7 +2,8 @@
 use Rattle.std.proofs.Common.{◌≡◌, ℕ, zero, suc, ◌+◌, ◌-◌, ◌<◌, ◌≤◌, List, [], ◌∷◌, ◌++◌, length, take, false, ◌&&◌, leb, ltb, Option, Some, None, Ok, Err, refl, sym, ap, ◌∙◌, subst, inl, inr, ◌⊎◌, ⊎_elim, arith, drop, length-drop}
 use Rattle.std.specs.Prelude.{slice_get}
 use Rattle.std.specs.FinSet.{contains, insert}
-use Rattle.std.proofs.lemmas.Bool.{cond_both, cond-true, cond-false, cases_lt, false≢true}
+use Rattle.std.proofs.lemmas.Bool.{cond_both, cond-true, cond-false, cases_lt, false≢true, eq-eqb}
+use Rattle.std.proofs.lemmas.List.{nil_from_length}
 use Rattle.chaos_packet.specs.Item.{ItemView}
 use Rattle.chaos_packet.specs.Begins.{Begins}
 use Rattle.chaos_conn.specs.declared.state.State.TheVariants as st
@@ -27,7 +28,7 @@ use Rattle.chaos_lab.specs.Tied.{Ties, HasMachine, plain_event, plain_run, sent_
 use Rattle.chaos_conn.specs.Opening.{act_accept}
 use Rattle.chaos_conn.specs.Act.Call.{Read as ReadCall}
 use Rattle.chaos_lab.specs.Headline.{Unclosed, ReadsInTurn}
-use Rattle.chaos_lab.specs.Progress.{IsCalm, Brings, Waits, IsDue, Round, GoesOn, Rounds, Report, Knows}
+use Rattle.chaos_lab.specs.Progress.{IsCalm, Brings, Waits, IsDue, Round, GoesOn, Rounds, Report, Knows, HadRead, KeepsNone}
 use Rattle.std.proofs.lemmas.Option.{slice_get_within}
 use Rattle.chaos_lab.proofs.Lists.{member_at}
 use Rattle.chaos_lab.proofs.Calls.{room_is}
@@ -581,6 +582,14 @@ knows l h x m r = by (event_ties w l r.event t)
         let wrote : length (lab_end m x).written ≡ length e.written = ap length (written_at x u m g.ties) in
         let read : length (lab_end l y).read ≡ length (end_of h.plain y).read = ap length (read_at y h.plain l h.ties) in
         (omega (arith, kept, left, wrote, read, g.heard, c.told.4, d.writer.in_order), omega (arith, out, wrote, read, g.heard, c.told.4))
+
+-- where that was all, it is drained
+pub keeps_none : (l : LabView) → HasMachine l → (x : Side) (m : LabView) → Report x l m → HadRead x l m → KeepsNone x m
+keeps_none l h x m r all =
+    let k = knows l h x m r in
+    let send = (lab_end m x).conn.send in
+    let out : outstanding_of send ≡ 0 = omega (arith, k.1, all) in
+    (nil_from_length send.kept (omega (arith, k.0, all)), eq-eqb (outstanding_of send) 0 out)
 
 -- ---- while something is unread, the writer keeps something, and sends it again when that is due
 

@@ -69,6 +69,12 @@ pub record Settles (l : LabView) (events : List Happening) : Type 0 where
   pub taken : AreTaken l events
   pub settled : IsSettled l (after_all l events)
 
+-- Each item that x wrote in l, an EOF too, stands in m at its place in what the other user has read, and x is drained.
+abbrev pub ReadThrough : Side → LabView → LabView → Type 0
+ReadThrough x l m =
+    ((i : ℕ) (item : ItemView) → slice_get (lab_end l x).written i ≡ Some item → slice_get (lab_end m (other x)).read i ≡ Some item)
+    × (is_drained (lab_end m x).conn ≡ true)
+
 -- ---- Rounds: whatever happens
 
 -- the user at y doesn't close its end in these events, and announces no window of nothing
@@ -163,3 +169,11 @@ abbrev pub Knows : Side → LabView → LabView → Type 0
 Knows x l m =
     let beyond = length (lab_end m x).written - length (lab_end l (other x)).read in
     (length (lab_end m x).conn.send.kept ≤ beyond) × (outstanding_of (lab_end m x).conn.send ≤ beyond)
+
+-- all that x has written by m, an EOF too, had been read by the other user in l
+abbrev pub HadRead : Side → LabView → LabView → Type 0
+HadRead x l m = length (lab_end m x).written ≤ length (lab_end l (other x)).read
+
+-- the end at x keeps nothing, and is drained
+abbrev pub KeepsNone : Side → LabView → Type 0
+KeepsNone x m = ((lab_end m x).conn.send.kept ≡ []) × (is_drained (lab_end m x).conn ≡ true)
