@@ -55,3 +55,4 @@ pub mod Asking
 pub mod Accepting
 pub mod Meeting
 pub mod Opens
+pub mod NewOpens
