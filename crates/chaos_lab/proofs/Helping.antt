@@ -83,7 +83,7 @@ read_event y w l t at =
 -- ---- a copy comes
 
 module _ {X Y : Type 0} where
-  stamped_of : (R : X → Y → Type 0) (xs : List X) (ys : List Y) (k : ℕ) (y : Y) → AllZip R xs ys → slice_get ys k ≡ Some y → (x : X) × (slice_get xs k ≡ Some x) × R x y
+  pub stamped_of : (R : X → Y → Type 0) (xs : List X) (ys : List Y) (k : ℕ) (y : Y) → AllZip R xs ys → slice_get ys k ≡ Some y → (x : X) × (slice_get xs k ≡ Some x) × R x y
   stamped_of R [] [] k y h at = absurd (cc)
   stamped_of R [] (z ∷ ys) k y h at = absurd h
   stamped_of R (x ∷ xs) [] k y h at = absurd (cc)
@@ -99,7 +99,7 @@ module _ {X Y : Type 0} where
 pub same_count : (w : Machine) (l : LabView) → Ties w l → length l.copies ≡ length w.copies
 same_count w l t = zip_length (StandsCopy l.a.first l.b.first w) l.copies w.copies t.tied.copies
 
-fresh_is : (w : Machine) (l : LabView) (s : Sent) (c : Copy) → Ties w l → Fresh w c → s.len_a ≡ c.len_a → s.len_b ≡ c.len_b → is_fresh l.a l.b s ≡ true
+pub fresh_is : (w : Machine) (l : LabView) (s : Sent) (c : Copy) → Ties w l → Fresh w c → s.len_a ≡ c.len_a → s.len_b ≡ c.len_b → is_fresh l.a l.b s ≡ true
 fresh_is w l s c t fresh is_a is_b =
     let a : length l.a.written ≡ length w.a.written = ap length t.written_a in
     let b : length l.b.written ≡ length w.b.written = ap length t.written_b in
@@ -193,7 +193,7 @@ conn_stays A B l call is = refl
 conn_stays B A l call is = refl
 conn_stays B B l call is = let no : A ≡ B = is in absurd (cc)
 
-put_at : (x : Side) (l : LabView) (call : Call) (n j : ℕ) (packet : PacketView) → n ≡ length l.copies + j → slice_get (act (conn_at l x) call).packets j ≡ Some packet → slice_get (after_call l x call).copies n ≡ Some (stamp_after l x call packet)
+pub put_at : (x : Side) (l : LabView) (call : Call) (n j : ℕ) (packet : PacketView) → n ≡ length l.copies + j → slice_get (act (conn_at l x) call).packets j ≡ Some packet → slice_get (after_call l x call).copies n ≡ Some (stamp_after l x call packet)
 put_at x l call n j packet place at =
     ap (λ cs. slice_get cs n) (copies_after x l call)
     ∙ past_front l.copies (map (stamp_after l x call) (act (conn_at l x) call).packets) n j place
@@ -327,7 +327,7 @@ heard_from x rest b b' p e pk now r f w s =
     (record { config = refl; heard = refl; last = refl; resent = refl })
 
 -- the stamped packet of the end at y stands for it
-stands_at_side : (y z : Side) (w : Machine) (fa fb : ℕ) (pk : PacketView) (kind : Kind) (told : Told) → z ≡ y → StandsFor z (base_of fa fb z) (base_of fa fb (other z)) (end_of w z) pk kind told → StandsFor y (base_of fa fb y) (base_of fa fb (other y)) (end_of w y) pk kind told
+pub stands_at_side : (y z : Side) (w : Machine) (fa fb : ℕ) (pk : PacketView) (kind : Kind) (told : Told) → z ≡ y → StandsFor z (base_of fa fb z) (base_of fa fb (other z)) (end_of w z) pk kind told → StandsFor y (base_of fa fb y) (base_of fa fb (other y)) (end_of w y) pk kind told
 stands_at_side y z w fa fb pk kind told is h = subst (λ (q : Side). StandsFor q (base_of fa fb q) (base_of fa fb (other q)) (end_of w q) pk kind told) is h
 
 pub record Hears (y x : Side) (w : Machine) (l : LabView) (n r : ℕ) : Type 0 where

@@ -20,7 +20,7 @@ use Rattle.chaos_lab.specs.Shown.{Rest, met_view, slots_from, there_at}
 use Rattle.chaos_lab.specs.Laboratory.{LabView, Happening, lab_end, happen, after_all}
 use Rattle.chaos_lab.specs.Laboratory.Happening.{ReadBy, AnnounceBy, TickOf, DeliverCopy}
 use Rattle.chaos_lab.specs.Tied.{Ties, HasMachine}
-use Rattle.chaos_lab.specs.Progress.{IsInTime, IsSettled, CanSettle, Settles, most_events}
+use Rattle.chaos_lab.specs.Progress.{IsInTime, IsSettled, CanSettle, Settles, ReadThrough, most_events}
 use Rattle.chaos_lab.specs.Settling.{telling, told, resend_moment, reading, reading_on, coming, bringing, taking, both_taking, b_hearing, settling}
 use Rattle.chaos_lab.proofs.Machines.{reached_holds, end_holds}
 use Rattle.chaos_lab.proofs.Directions.{Sound}
@@ -237,3 +237,9 @@ settles l h conns can =
       taken = g.plays.taken;
       settled = settled w g.machine l (after_all l (settling l)) h.ties g.plays.ties g.plays.keeps (stay_open w g.machine g.plays.keeps opens) g.done;
     }
+
+-- what was written is read in its turn
+pub reads_through : (l : LabView) → HasMachine l → ((x : Side) → IsConn (lab_end l x).conn) → CanSettle l → (x : Side) → ReadThrough x l (after_all l (settling l))
+reads_through l h conns can x =
+    let s = (settles l h conns can).settled in
+    (λ i item at. ap (λ items. slice_get items i) (s.read x) ∙ at, s.drained x)

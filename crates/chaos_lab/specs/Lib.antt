@@ -18,3 +18,4 @@ pub mod Progress
 pub mod Settling
 pub mod SettlingLeft
 pub mod Plays
+pub mod Opening
