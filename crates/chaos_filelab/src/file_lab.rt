@@ -28,7 +28,7 @@ use std::marker::Model;
 /// laboratory, the session and the files.
 #[derive(Drop)]
 pub struct FileLab {
-    lab: Lab,
+    pub(crate) lab: Lab,
     server: Server,
     /// Whether B wrote a reply for want of memory.
     wanted: bool,

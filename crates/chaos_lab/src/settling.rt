@@ -4,7 +4,7 @@ ghost use Rattle.chaos_conn.specs.Calls.{front_of};
 ghost use Rattle.chaos_lab.specs.Inside.{happening_of};
 ghost use Rattle.chaos_lab.specs.Laboratory.{LabView, lab_end, happen, after_all, StopsWithin};
 ghost use Rattle.chaos_lab.specs.Progress.{CanSettle, IsInTime, IsSettled};
-ghost use Rattle.chaos_lab.specs.Settling.{settling, last_moment, settling_moment, resend_moment};
+ghost use Rattle.chaos_lab.specs.Settling.{settling, last_moment, latest, settling_moment, resend_moment};
 ghost use Rattle.chaos_lab.specs.SettlingLeft.{left, left_at, sent_to, next_taking};
 ghost use Rattle.chaos_lab.specs.Laboratory.Happening.{AnnounceBy};
 
@@ -225,8 +225,8 @@ impl Lab {
         Ok(())
     }
 
-    /// An end is open, and sends again before it would count the other as down.
-    fn is_in_time(&self, side: Side) -> bool
+    /// Whether an end is open, and sends again before it would count the other as down.
+    pub fn is_in_time(&self, side: Side) -> bool
         ensures { IsTrue result ↔ IsInTime (lab_end self.now side).conn }
     {
         let conn = self.rig.conn(side);
@@ -237,38 +237,51 @@ impl Lab {
     fn has_moments(&self) -> bool
         ensures { IsTrue result ↔ (settling_moment self.now ≤ last_moment) }
     {
-        let (a, b) = (self.rig.conn(Side::A), self.rig.conn(Side::B));
-        let last = a.last().max(b.last()).max(self.rig.clock());
-        let Some(moment) = last.checked_add(a.config().retransmit()) else {
+        let Some(moment) = self.latest().checked_add(self.retransmit(Side::A)) else {
             return false;
         };
-        moment.checked_add(b.config().retransmit()).is_some()
+        moment.checked_add(self.retransmit(Side::B)).is_some()
+    }
+
+    /// The greatest moment that the laboratory or one of its ends was handed.
+    pub fn latest(&self) -> u64
+        ensures { result ≡ latest self.now }
+    {
+        let (a, b) = (self.rig.conn(Side::A), self.rig.conn(Side::B));
+        a.last().max(b.last()).max(self.rig.clock())
+    }
+
+    /// After how long an end sends again, in milliseconds.
+    pub fn retransmit(&self, side: Side) -> u64
+        ensures { result ≡ (lab_end self.now side).conn.config.retransmit }
+    {
+        self.rig.conn(side).config().retransmit()
     }
 
     /// The event by which the user at a side announces its greatest window.
-    fn announcement(&self, side: Side) -> Event<'static>
+    pub fn announcement(&self, side: Side) -> Event<'static>
         ensures { happening_of result ≡ AnnounceBy side (lab_end self.now side).conn.config.recv_cap }
     {
         Event::Announce(side, self.recv_cap(side))
     }
 
     /// The greatest window that an end may announce.
-    fn recv_cap(&self, side: Side) -> u16
+    pub fn recv_cap(&self, side: Side) -> u16
         ensures { result ≡ (lab_end self.now side).conn.config.recv_cap }
     {
         self.rig.conn(side).config().recv_cap()
     }
 
     /// When an end that was just heard sends again, or the last moment that there is.
-    fn resend_moment(&self, side: Side) -> u64
+    pub fn resend_moment(&self, side: Side) -> u64
         ensures { result ≡ resend_moment side self.now }
     {
         let conn = self.rig.conn(side);
         conn.heard().saturating_add(conn.config().retransmit())
     }
 
-    /// The user at a side has nothing to read.
-    fn waits(&self, side: Side) -> bool
+    /// Whether the user at a side has nothing to read.
+    pub fn waits(&self, side: Side) -> bool
         ensures { result ≡ is_none (front_of (lab_end self.now side).conn) }
     {
         self.rig.conn(side).front().is_none()
