@@ -1,13 +1,10 @@
 //! How FILE settles.
-ghost use Rattle.std.specs.Prelude.{◌≡◌, ◌≤◌, [], ◌∷◌, is_none, IfSome, IfNone, ◌↔◌, IsTrue};
-ghost use Rattle.chaos_lab.specs.Laboratory.{lab_end};
-ghost use Rattle.chaos_lab.specs.Laboratory.Happening.{AnnounceBy, TickOf, DeliverCopy};
-ghost use Rattle.chaos_lab.specs.Settling.{last_moment, resend_moment};
+ghost use Rattle.std.specs.Prelude.{◌≡◌, [], ◌∷◌, IfSome, IfNone};
+ghost use Rattle.chaos_lab.specs.Laboratory.Happening.{DeliverCopy};
 ghost use Rattle.chaos_filelab.specs.Events.{At, file_event};
 ghost use Rattle.chaos_filelab.specs.Exact.{file_happen};
 ghost use Rattle.chaos_filelab.specs.View.{FileLabView};
-ghost use Rattle.chaos_filelab.specs.Progress.{CanServe};
-ghost use Rattle.chaos_filelab.specs.Settling.{file_settling, unread, serving_moment};
+ghost use Rattle.chaos_filelab.specs.Settling.{file_settling};
 ghost use Rattle.chaos_filelab.specs.SettlingLeft.{left, left_at};
 
 use crate::event::FileEvent;
@@ -17,8 +14,14 @@ use chaos_lab::{Event, Side};
 /// Where settling stands.
 #[derive(Clone, Copy, Debug, PartialEq, Eq)]
 pub(crate) enum Place {
-    /// A's user announces its greatest window,
+    /// B's greatest window is announced,
     Start,
+    /// by an STS, this copy, which comes to A.
+    HearB(usize),
+    /// A's clock goes on until it sends again what it has no receipt for.
+    ResendA,
+    /// A's user announces its greatest window,
+    Home,
     /// by an STS, this copy, which comes to B.
     HearA(usize),
     /// B's clock goes on until it sends again what it has no receipt for.
@@ -31,39 +34,45 @@ pub(crate) enum Place {
     Come(usize),
     /// A's user reads what came, if there is something. Then this copy comes, and the others.
     ReadCome(usize),
-    /// A's user, to which all came, has announced its greatest window, by an STS, this copy, which comes to B.
-    HearAll(usize),
-    /// B's server serves what is in front, or B's greatest window is announced,
+    /// The next item comes to B, if none is in front.
     Next,
-    /// by an STS, this copy, which comes to A.
-    HearB(usize),
-    /// A's clock goes on until it sends again what it has no receipt for.
-    ResendA,
-    /// The first of that is this copy, which comes to B.
-    Fetch(usize),
-    /// B's server serves what is in front.
+    /// A's user announces its greatest window,
+    Tell,
+    /// by an STS, this copy, which comes to B.
+    Told(usize),
+    /// B's server serves the item in front.
     Answer,
-    /// What B's server put out comes to A.
+    /// Its reply comes to A, if it has replied.
     Answered,
-    /// All was served, and B's greatest window was announced, by an STS, this copy, which comes to A.
-    End(usize),
+    /// A's user reads the reply.
+    ReadReply,
+    /// All was served, and A's user has announced its greatest window, by an STS, this copy, which comes to B.
+    EndA(usize),
+    /// B's greatest window is announced,
+    EndTell,
+    /// by an STS, this copy, which comes to A.
+    EndB(usize),
     Over,
 }
 
-/// The events by which a laboratory settles whose B serves FILE, one after the other. First A's user reads the replies that B wrote
-/// before. Then B's server serves each item that it hasn't read, and its reply comes to A, whose user reads it. At the end A is told
-/// that all was read.
+/// The events by which a laboratory settles whose B serves FILE, one after the other. Each end tells the other what came to it, and
+/// sends again what it has no receipt for. A's user reads the replies that were written before. Then B's server serves item after
+/// item, and each reply comes to A, whose user reads it. At the end each user tells that all was read.
 ///
 /// Only copies that were sent since are delivered, each once.
 #[derive(Clone, Copy, Debug, PartialEq, Eq)]
 pub struct FileSettling {
     place: Place,
-    /// The copies that come to A: from this number on,
+    /// The copies that B sent again: from this number on,
     from: usize,
     /// up to this one.
     to: usize,
+    /// What A sent again, the last of it just before this copy.
+    before: usize,
     /// How many items of A are left for B's server, behind the present one.
     left: usize,
+    /// How many items B had written when its server last served.
+    wrote: usize,
 }
 
 impl FileSettling {
@@ -75,7 +84,9 @@ impl FileSettling {
             place: Place::Start,
             from: 0,
             to: 0,
+            before: 0,
             left: 0,
+            wrote: 0,
         }
     }
 
@@ -86,20 +97,24 @@ impl FileSettling {
     {
         match self.place {
             Place::Start => Some(self.start(lab)),
+            Place::HearB(copy) => Some(self.deliver(copy, Place::ResendA)),
+            Place::ResendA => Some(self.resend_a(lab)),
+            Place::Home => Some(self.home(lab)),
             Place::HearA(copy) => Some(self.deliver(copy, Place::ResendB)),
             Place::ResendB => Some(self.resend_b(lab)),
             Place::Take => Some(self.take(lab)),
             Place::Read(times) => Some(self.read(lab, times)),
             Place::Come(copy) => Some(self.come(lab, copy)),
             Place::ReadCome(copy) => Some(self.read_come(lab, copy)),
-            Place::HearAll(copy) => Some(self.deliver(copy, Place::Next)),
             Place::Next => Some(self.go_on(lab)),
-            Place::HearB(copy) => Some(self.deliver(copy, Place::ResendA)),
-            Place::ResendA => Some(self.resend_a(lab)),
-            Place::Fetch(copy) => Some(self.deliver(copy, Place::Answer)),
+            Place::Tell => Some(self.tell(lab)),
+            Place::Told(copy) => Some(self.deliver(copy, Place::Answer)),
             Place::Answer => Some(self.answer(lab)),
             Place::Answered => Some(self.answered(lab)),
-            Place::End(copy) => Some(self.deliver(copy, Place::Over)),
+            Place::ReadReply => Some(self.read_reply(lab)),
+            Place::EndA(copy) => Some(self.deliver(copy, Place::EndTell)),
+            Place::EndTell => Some(self.end(lab)),
+            Place::EndB(copy) => Some(self.deliver(copy, Place::Over)),
             Place::Over => None,
         }
     }
@@ -113,12 +128,30 @@ impl FileSettling {
         FileEvent::At(Event::Deliver(copy))
     }
 
-    /// A's user announces its greatest window.
+    /// B's greatest window is announced.
     fn start(&mut self, lab: &FileLab) -> FileEvent<'static>
         ensures { left_at Place.Start self.old lab.now ≡ file_event result ∷ left self.new (file_happen lab.now (file_event result)).view }
     {
+        self.place = Place::HearB(lab.copies().len());
+        lab.announcement(Side::B)
+    }
+
+    /// A sends again.
+    fn resend_a(&mut self, lab: &FileLab) -> FileEvent<'static>
+        ensures { left_at Place.ResendA self.old lab.now ≡ file_event result ∷ left self.new (file_happen lab.now (file_event result)).view }
+    {
+        self.place = Place::Home;
+        lab.resending(Side::A)
+    }
+
+    /// A, which has just sent again, announces its greatest window.
+    fn home(&mut self, lab: &FileLab) -> FileEvent<'static>
+        ensures { left_at Place.Home self.old lab.now ≡ file_event result ∷ left self.new (file_happen lab.now (file_event result)).view }
+    {
+        let copies = lab.copies().len();
+        self.before = copies;
         self.left = lab.unread();
-        self.place = Place::HearA(lab.copies().len());
+        self.place = Place::HearA(copies);
         lab.announcement(Side::A)
     }
 
@@ -136,14 +169,14 @@ impl FileSettling {
         ensures { left_at Place.Take self.old lab.now ≡ file_event result ∷ left self.new (file_happen lab.now (file_event result)).view }
     {
         self.to = lab.copies().len();
-        self.read(lab, lab.lab.recv_cap(Side::A))
+        self.read(lab, lab.recv_cap(Side::A))
     }
 
     /// A's user reads so many times, if there is something; then the copies come.
     fn read(&mut self, lab: &FileLab, times: u16) -> FileEvent<'static>
         ensures { left_at (Place.Read times) self.old lab.now ≡ file_event result ∷ left self.new (file_happen lab.now (file_event result)).view }
     {
-        if times == 0 || lab.lab.waits(Side::A) {
+        if times == 0 || lab.waits(Side::A) {
             return self.come(lab, self.from);
         }
         self.place = Place::Read(times - 1);
@@ -155,8 +188,7 @@ impl FileSettling {
         ensures { left_at (Place.Come copy) self.old lab.now ≡ file_event result ∷ left self.new (file_happen lab.now (file_event result)).view }
     {
         if copy >= self.to {
-            self.place = Place::HearAll(lab.copies().len());
-            return lab.announcement(Side::A);
+            return self.go_on(lab);
         }
         self.place = Place::ReadCome(copy + 1);
         FileEvent::At(Event::Deliver(copy))
@@ -166,98 +198,74 @@ impl FileSettling {
     fn read_come(&mut self, lab: &FileLab, copy: usize) -> FileEvent<'static>
         ensures { left_at (Place.ReadCome copy) self.old lab.now ≡ file_event result ∷ left self.new (file_happen lab.now (file_event result)).view }
     {
-        if lab.lab.waits(Side::A) {
+        if lab.waits(Side::A) {
             return self.come(lab, copy);
         }
         self.place = Place::Come(copy);
         FileEvent::At(Event::Read(Side::A))
     }
 
-    /// The next item is served, or fetched, or all have been served.
+    /// The next item comes to B, if none is in front; or all have been served.
     fn go_on(&mut self, lab: &FileLab) -> FileEvent<'static>
         ensures { left_at Place.Next self.old lab.now ≡ file_event result ∷ left self.new (file_happen lab.now (file_event result)).view }
     {
         if self.left == 0 {
-            self.place = Place::End(lab.copies().len());
-            return lab.announcement(Side::B);
+            self.place = Place::EndA(lab.copies().len());
+            return lab.announcement(Side::A);
         }
+        let copy = self.before.saturating_sub(self.left);
         self.left -= 1;
-        if lab.lab.waits(Side::B) {
-            self.place = Place::HearB(lab.copies().len());
-            return lab.announcement(Side::B);
+        if lab.waits(Side::B) {
+            self.place = Place::Tell;
+            return FileEvent::At(Event::Deliver(copy));
         }
-        self.answer(lab)
+        self.tell(lab)
     }
 
-    /// A sends again.
-    fn resend_a(&mut self, lab: &FileLab) -> FileEvent<'static>
-        ensures { left_at Place.ResendA self.old lab.now ≡ file_event result ∷ left self.new (file_happen lab.now (file_event result)).view }
+    /// A's user announces its greatest window, so that B may reply.
+    fn tell(&mut self, lab: &FileLab) -> FileEvent<'static>
+        ensures { left_at Place.Tell self.old lab.now ≡ file_event result ∷ left self.new (file_happen lab.now (file_event result)).view }
     {
-        self.place = Place::Fetch(lab.copies().len());
-        lab.resending(Side::A)
+        self.place = Place::Told(lab.copies().len());
+        lab.announcement(Side::A)
     }
 
     /// B's server serves what is in front.
     fn answer(&mut self, lab: &FileLab) -> FileEvent<'static>
         ensures { left_at Place.Answer self.old lab.now ≡ file_event result ∷ left self.new (file_happen lab.now (file_event result)).view }
     {
-        self.from = lab.copies().len();
+        self.wrote = lab.wrote();
         self.place = Place::Answered;
         FileEvent::Serve
     }
 
-    /// What B's server has just put out comes to A.
+    /// The reply comes to A, if there is one.
     fn answered(&mut self, lab: &FileLab) -> FileEvent<'static>
         ensures { left_at Place.Answered self.old lab.now ≡ file_event result ∷ left self.new (file_happen lab.now (file_event result)).view }
     {
-        self.to = lab.copies().len();
-        self.come(lab, self.from)
-    }
-}
-
-impl FileLab {
-    /// Whether the laboratory can settle: both ends are open, each sends again before it would count the other as down, there are
-    /// moments left for that, and B wrote no reply for want of memory.
-    pub fn can_settle(&self) -> bool
-        ensures { IsTrue result ↔ CanServe self.now }
-    {
-        self.lab.is_in_time(Side::A)
-            && self.lab.is_in_time(Side::B)
-            && self.has_moments()
-            && !self.wrote_mem()
+        if lab.wrote() <= self.wrote {
+            return self.go_on(lab);
+        }
+        self.place = Place::ReadReply;
+        FileEvent::At(Event::Deliver(lab.copies().len().saturating_sub(1)))
     }
 
-    /// There are moments left at which B can send again, and A for each item of its window.
-    fn has_moments(&self) -> bool
-        ensures { IsTrue result ↔ (serving_moment self.now.lab ≤ last_moment) }
+    /// A's user reads the reply.
+    fn read_reply(&mut self, lab: &FileLab) -> FileEvent<'static>
+        ensures { left_at Place.ReadReply self.old lab.now ≡ file_event result ∷ left self.new (file_happen lab.now (file_event result)).view }
     {
-        let Some(moment) = self.lab.latest().checked_add(self.lab.retransmit(Side::B)) else {
-            return false;
-        };
-        let Some(time) = self.lab.retransmit(Side::A).checked_mul(64) else {
-            return false;
-        };
-        moment.checked_add(time).is_some()
+        if lab.waits(Side::A) {
+            return self.go_on(lab);
+        }
+        self.place = Place::Next;
+        FileEvent::At(Event::Read(Side::A))
     }
 
-    /// How many items that A wrote B's server hasn't read.
-    fn unread(&self) -> usize
-        ensures { result ≡ unread self.now.lab }
+    /// B's greatest window is announced, for the last time.
+    fn end(&mut self, lab: &FileLab) -> FileEvent<'static>
+        ensures { left_at Place.EndTell self.old lab.now ≡ file_event result ∷ left self.new (file_happen lab.now (file_event result)).view }
     {
-        self.lab.written(Side::A).len().saturating_sub(self.lab.read(Side::B).len())
-    }
-
-    /// The event by which the user at a side announces its greatest window.
-    fn announcement(&self, side: Side) -> FileEvent<'static>
-        ensures { file_event result ≡ At (AnnounceBy side (lab_end self.now.lab side).conn.config.recv_cap) }
-    {
-        FileEvent::At(self.lab.announcement(side))
-    }
-
-    /// The event by which a side's clock goes on until it sends again what it has no receipt for.
-    fn resending(&self, side: Side) -> FileEvent<'static>
-        ensures { file_event result ≡ At (TickOf side (resend_moment side self.now.lab)) }
-    {
-        FileEvent::At(Event::Tick(side, self.lab.resend_moment(side)))
+        self.place = Place::EndB(lab.copies().len());
+        lab.announcement(Side::B)
     }
 }
