@@ -79,10 +79,6 @@ a_sending l =
 abbrev pub settling : LabView → List Happening
 settling l = telling B l ++ a_sending (told B l)
 
--- the greatest moment that it or one of its ends was handed
-abbrev pub latest : LabView → ℕ
-latest l = max (max l.a.conn.last l.b.conn.last) l.clock
-
 -- the greatest moment that is ticked then
 abbrev pub settling_moment : LabView → ℕ
-settling_moment l = latest l + l.a.conn.config.retransmit + l.b.conn.config.retransmit
+settling_moment l = max (max l.a.conn.last l.b.conn.last) l.clock + l.a.conn.config.retransmit + l.b.conn.config.retransmit

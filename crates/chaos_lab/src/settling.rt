@@ -1,10 +1,12 @@
 //! How two open ends settle.
 ghost use Rattle.std.specs.Prelude.{◌≡◌, ◌≤◌, [], ◌∷◌, is_none, IfSome, IfNone, IsSomeAnd, OnOk, OnErr, ◌↔◌, IsTrue};
 ghost use Rattle.chaos_conn.specs.Calls.{front_of};
+ghost use Rattle.chaos_conn.specs.View.{IsConn};
+ghost use Rattle.chaos_lab.specs.declared.side.Side.{Side};
 ghost use Rattle.chaos_lab.specs.Inside.{happening_of};
 ghost use Rattle.chaos_lab.specs.Laboratory.{LabView, lab_end, happen, after_all, StopsWithin};
 ghost use Rattle.chaos_lab.specs.Progress.{CanSettle, IsInTime, IsSettled};
-ghost use Rattle.chaos_lab.specs.Settling.{settling, last_moment, latest, settling_moment, resend_moment};
+ghost use Rattle.chaos_lab.specs.Settling.{settling, last_moment, settling_moment, resend_moment};
 ghost use Rattle.chaos_lab.specs.SettlingLeft.{left, left_at, sent_to, next_taking};
 ghost use Rattle.chaos_lab.specs.Laboratory.Happening.{AnnounceBy};
 
@@ -225,8 +227,15 @@ impl Lab {
         Ok(())
     }
 
-    /// Whether an end is open, and sends again before it would count the other as down.
-    pub fn is_in_time(&self, side: Side) -> bool
+    /// What holds of both connections, whatever happened: each is sound.
+    pub fn law_sound(&self)
+        ensures { (x : Side) → IsConn (lab_end self.now x).conn }
+    {
+        self.rig.sound();
+    }
+
+    /// An end is open, and sends again before it would count the other as down.
+    fn is_in_time(&self, side: Side) -> bool
         ensures { IsTrue result ↔ IsInTime (lab_end self.now side).conn }
     {
         let conn = self.rig.conn(side);
@@ -237,25 +246,12 @@ impl Lab {
     fn has_moments(&self) -> bool
         ensures { IsTrue result ↔ (settling_moment self.now ≤ last_moment) }
     {
-        let Some(moment) = self.latest().checked_add(self.retransmit(Side::A)) else {
+        let (a, b) = (self.rig.conn(Side::A), self.rig.conn(Side::B));
+        let last = a.last().max(b.last()).max(self.rig.clock());
+        let Some(moment) = last.checked_add(a.config().retransmit()) else {
             return false;
         };
-        moment.checked_add(self.retransmit(Side::B)).is_some()
-    }
-
-    /// The greatest moment that the laboratory or one of its ends was handed.
-    pub fn latest(&self) -> u64
-        ensures { result ≡ latest self.now }
-    {
-        let (a, b) = (self.rig.conn(Side::A), self.rig.conn(Side::B));
-        a.last().max(b.last()).max(self.rig.clock())
-    }
-
-    /// After how long an end sends again, in milliseconds.
-    pub fn retransmit(&self, side: Side) -> u64
-        ensures { result ≡ (lab_end self.now side).conn.config.retransmit }
-    {
-        self.rig.conn(side).config().retransmit()
+        moment.checked_add(b.config().retransmit()).is_some()
     }
 
     /// The event by which the user at a side announces its greatest window.
