@@ -118,7 +118,7 @@ lines_before ended more = take-append-le (length ended) ended more (omega arith)
 -- ---- what a line does
 
 -- text that waits behind what was written
-waits_more : (held : Option (List ℕ)) (old new more : List ℕ) → new ≡ old ++ more → Appends (written_of held old) (written_of held new) more
+pub waits_more : (held : Option (List ℕ)) (old new more : List ℕ) → new ≡ old ++ more → Appends (written_of held old) (written_of held new) more
 waits_more None old new more e = tt
 waits_more (Some x) old new more e = ap (λ l. x ++ l) e ∙ sym (append_assoc x old more)
 
