@@ -5,6 +5,7 @@ pub mod Calls
 pub mod Config
 pub mod Disposition
 pub mod Inside
+pub mod Names
 pub mod NextDue
 pub mod Opening
 pub mod Sending

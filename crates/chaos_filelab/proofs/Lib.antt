@@ -6,3 +6,4 @@ pub mod RepliesLaw
 pub mod Chains
 pub mod Exactly
 pub mod Passing
+pub mod Stepping

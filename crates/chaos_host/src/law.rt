@@ -1,4 +1,5 @@
 //! Laws of a host's table. A law is a function that does nothing: its contract is the law, and a caller learns it by the call.
+ghost use Rattle.chaos_host.specs.Deeds.{HasDeeds, StaysHost};
 ghost use Rattle.chaos_host.specs.Law.{StaysInUse, IndexNames, IndexIsOf, TakesOne, PendingStays};
 
 /// A connection in use stays so, whatever packets, calls and moments come, until its user answers, rejects, closes or releases
@@ -20,3 +21,11 @@ pub fn law_pending()
     ensures takes { TakesOne }
     ensures stays { PendingStays }
 {}
+
+/// Each step of a host is the call of one connection, or no connection does anything; and it leaves a host.
+pub fn law_deeds()
+    ensures deeds { HasDeeds }
+    ensures host { StaysHost }
+{
+    chaos_conn::law_over();
+}

@@ -86,7 +86,7 @@ after_read B l = refl
 
 -- ---- an open end
 
-open_by : (phase : Phase) (x : Side) (rest : Rest) (b b' : ℕ) (p e : Plain) → is_ended rest.ended ≡ true → (shown_at phase x rest b b' p e).state ≡ st.Open → phase ≡ Open
+pub open_by : (phase : Phase) (x : Side) (rest : Rest) (b b' : ℕ) (p e : Plain) → is_ended rest.ended ≡ true → (shown_at phase x rest b b' p e).state ≡ st.Open → phase ≡ Open
 open_by Inactive x rest b b' p e end h = let no : st.Inactive ≡ st.Open = h in absurd (cc)
 open_by RfcSent x rest b b' p e end h = let no : st.RfcSent ≡ st.Open = h in absurd (cc)
 open_by RfcReceived x rest b b' p e end h = let no : st.RfcReceived ≡ st.Open = h in absurd (cc)

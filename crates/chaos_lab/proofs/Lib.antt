@@ -51,6 +51,7 @@ pub mod Settled
 pub mod Before
 pub mod Fair
 pub mod Answering
+pub mod Plays
 pub mod Asking
 pub mod Accepting
 pub mod Meeting

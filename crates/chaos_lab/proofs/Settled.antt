@@ -113,7 +113,7 @@ settled w v l m t tv k opens done =
       open_ends = λ x. let s = shows x v m tv (opens x) in ap (λ (u : ConnView). u.state) s.is;
     }
 
-timely : (v : ConnView) → IsConn v → IsInTime v → Timely v
+pub timely : (v : ConnView) → IsConn v → IsInTime v → Timely v
 timely v c h = record { again = h.again; resent = c.resent }
 
 -- ---- how many events there are
@@ -121,7 +121,7 @@ timely v c h = record { again = h.again; resent = c.resent }
 reading_few : (y : Side) (l : LabView) → length (reading y l) ≤ 1
 reading_few y l = cond_both (is_none (front_of (conn_at l y))) [] (ReadBy y ∷ []) (λ (es : List Happening). length es ≤ 1) (λ _. omega arith) (λ _. omega arith)
 
-reading_on_few : (k : ℕ) (y : Side) (l : LabView) → length (reading_on y k l) ≤ k
+pub reading_on_few : (k : ℕ) (y : Side) (l : LabView) → length (reading_on y k l) ≤ k
 reading_on_few zero y l = omega arith
 reading_on_few (suc k) y l =
     let one = reading_few y l in
@@ -130,7 +130,7 @@ reading_on_few (suc k) y l =
     let all = length-append (reading y l) (reading_on y k m) in
     omega (arith, one, rest, all)
 
-coming_few : (k : ℕ) (y : Side) (copy : ℕ) (l : LabView) → length (coming y copy k l) ≤ 2 * k
+pub coming_few : (k : ℕ) (y : Side) (copy : ℕ) (l : LabView) → length (coming y copy k l) ≤ 2 * k
 coming_few zero y copy l = omega arith
 coming_few (suc k) y copy l =
     let m : LabView = (happen l (DeliverCopy copy)).lab in

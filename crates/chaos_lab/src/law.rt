@@ -11,6 +11,7 @@ ghost use Rattle.chaos_lab.specs.Machine.Phase.{RfcSent, RfcReceived, Open};
 ghost use Rattle.chaos_lab.specs.Machine.Event.{ReadAt};
 ghost use Rattle.chaos_lab.specs.Numbers.{told_num};
 ghost use Rattle.chaos_packet.specs.Begins.{Begins};
+ghost use Rattle.chaos_lab.specs.Plays.{KeepsPlay, KeepsQuiet, MayBegin, MayReplace, ReadsBegin, RfcIsFirst, AskingWaits, UnaskedIsNew, KnowsSides, OthersNameIndex, OpenHasRead, UnreadIsAlone};
 ghost use Rattle.chaos_lab.specs.Law.{writer, reader, IsThere, DeliversInside, RunUnclosed, ReadsItem, ReadsNext, CanHappen};
 
 /// The delivery law. Over every schedule of deliveries, losses, repeats and orders of fresh copies, and in both directions: what
@@ -99,4 +100,24 @@ pub fn law_numbers()
 pub fn law_limits()
     ensures fresh { fresh_span ≡ 32640 }
     ensures window { greatest_window ≡ 64 }
+{}
+
+/// Each call of a connection of a host is played by an end of a laboratory.
+pub fn law_plays()
+    ensures calls { KeepsPlay }
+    ensures quiet { KeepsQuiet }
+    ensures begins { MayBegin }
+    ensures replaces { MayReplace }
+{}
+
+/// What is true of every laboratory that is tied to a plain machine.
+pub fn law_kept()
+    ensures begins { ReadsBegin }
+    ensures requests { RfcIsFirst }
+    ensures waits { AskingWaits }
+    ensures unasked { UnaskedIsNew }
+    ensures sides { KnowsSides }
+    ensures index { OthersNameIndex }
+    ensures opened { OpenHasRead }
+    ensures alone { UnreadIsAlone }
 {}

@@ -1,6 +1,6 @@
--- What one line does.
+-- What an event does.
 use Rattle.std.proofs.Common.{◌≡◌, ◌≢◌, ℕ, ◌≤◌, Bool, List, [], ◌++◌, length, drop, append_assoc, append-nil, refl, ap, subst, ◌∙◌, sym, inl, inr, arith}
-use Rattle.std.specs.Prelude.{Option, Some, None, Result, Ok, Err, is_err, IfOk, option_map}
+use Rattle.std.specs.Prelude.{◌⊎◌, Option, Some, None, Result, Ok, Err, is_err, IfOk, IfErr, option_map}
 use Rattle.std.proofs.lemmas.List.{drop_all}
 use Rattle.chaos_lab.specs.declared.stamped.Stamped.{Stamped}
 use Rattle.chaos_packet.specs.Item.{ItemView}
@@ -15,9 +15,9 @@ use Rattle.chaos_lab.proofs.Happening.{no_memory}
 use Rattle.chaosd_engines.specs.declared.fault.RunFault.{RunFault}
 use Rattle.chaosd_engines.specs.declared.fault.RunFault.TheVariants as run
 use Rattle.chaosd_lab.specs.Answers.{answer_text, refusal_text, copies_text}
-use Rattle.chaosd_lab.specs.Event.{event_of}
-use Rattle.chaosd_script.specs.Script.{PlaysLine}
-use Rattle.chaosd_lab.specs.Play.{event_text, event_done, lab_script, refused_or_ended}
+use Rattle.chaosd_script.specs.Player.{IsLineFault}
+use Rattle.chaosd_lab.specs.Happen.{event_text, event_done, PlaysEvent}
+use Rattle.chaosd_lab.specs.Play.{refused_or_ended}
 
 by_answer : (answer : Result Stepped LabFault) (P : Bool → Type 0) → P (is_err answer) → IfOk (refused_or_ended answer) P
 by_answer (Ok stepped) P p = p
@@ -27,20 +27,18 @@ by_answer (Err (Refused why)) P p = p
 by_answer (Err NoMemory) P p = tt
 by_answer (Err ByServer) P p = p
 
--- a line whose event was let happen
-pub line_plays : (line : List ℕ) (before after : LabView) (old mid new : List ℕ) (event : Happening) (answer : Result Stepped LabFault) (result : Result Bool RunFault)
-    → event_of line ≡ Some event → Happens before event after answer → mid ≡ old ++ answer_text answer
+-- an event that was let happen
+pub event_plays : (before after : LabView) (old mid new : List ℕ) (event : Happening) (answer : Result Stepped LabFault) (result : Result Bool RunFault)
+    → Happens before event after answer → mid ≡ old ++ answer_text answer
     → new ≡ mid ++ copies_text (length before.copies) (drop (length before.copies) after.copies) → result ≡ refused_or_ended answer
-    → IfOk result (λ refused. PlaysLine lab_script line before after old new refused)
+    → IfOk result (λ refused. PlaysEvent event before after old new refused)
 unfolding event_text
-line_plays line before after old mid new event answer result said happens first last same =
-    let P : Bool → Type 0 = λ refused. PlaysLine lab_script line before after old new refused in
+event_plays before after old mid new event answer result happens first last same =
+    let P : Bool → Type 0 = λ refused. PlaysEvent event before after old new refused in
     let n = length before.copies in
     let joined : List ℕ = copies_text n (drop n after.copies) in
     subst (λ r. IfOk r P) (sym same) (elim happens [
       | inl h ↦ by_answer answer P (record {
-        does = event_done event;
-        said = ap (option_map event_done) said;
         lab = h.0;
         text = last ∙ ap (λ l. l ++ joined) first ∙ append_assoc old (answer_text answer) joined
             ∙ ap (λ a. old ++ (answer_text a ++ joined)) h.1
@@ -69,29 +67,40 @@ no_copies : (copies : List Stamped) (n : ℕ) → length copies ≤ n → copies
 unfolding copies_text
 no_copies copies n le = ap (copies_text n) (drop_all n copies le)
 
-some_said : (said : Option Happening) (event : Happening) → said ≡ Some event → said ≢ None
-some_said None event h none = absurd (cc)
-some_said (Some e) event h none = cc
-
-pub line_wants : (line : List ℕ) (before after : LabView) (old mid new : List ℕ) (event : Happening) (answer : Result Stepped LabFault) (result : Result Bool RunFault)
-    → event_of line ≡ Some event → Happens before event after answer → mid ≡ old ++ answer_text answer
+pub event_wants : (before after : LabView) (old mid new : List ℕ) (event : Happening) (answer : Result Stepped LabFault) (result : Result Bool RunFault)
+    → Happens before event after answer → mid ≡ old ++ answer_text answer
     → new ≡ mid ++ copies_text (length before.copies) (drop (length before.copies) after.copies) → result ≡ refused_or_ended answer → result ≡ Err run.NoMemory
-    → (event_of line ≢ None) × (after ≡ before) × (new ≡ old ++ refusal_text NoMemory)
-line_wants line before after old mid new event answer result said happens first last same wants =
+    → (after ≡ before) × (new ≡ old ++ refusal_text NoMemory)
+event_wants before after old mid new event answer result happens first last same wants =
     let n = length before.copies in
     let none : answer ≡ Err NoMemory = is_want answer (sym same ∙ wants) in
     elim happens [
       | inl h ↦ absurd (no_memory before event (sym h.1 ∙ none))
       | inr h ↦ let (checked, same_lab, ans) = h in (
-        some_said _ event said,
         same_lab,
         last ∙ ap (λ l. mid ++ copies_text n (drop n l.copies)) same_lab ∙ ap (λ l. mid ++ l) (no_copies before.copies n (omega arith)) ∙ append-nil mid
             ∙ first ∙ ap (λ a. old ++ answer_text a) none,
       )
     ]
 
--- ---- a line of no form
+pub some_said : (said : Option Happening) (event : Happening) → said ≡ Some event → said ≢ None
+some_said None event h none = absurd (cc)
+some_said (Some e) event h none = cc
 
-pub no_event : (said : Option Happening) → option_map event_done said ≡ None → said ≡ None
-no_event None h = refl
-no_event (Some event) h = absurd (cc)
+-- ---- faults
+
+-- the faults of an event are those of a line
+pub line_fault : (fault : RunFault) → (fault ≡ run.NoMemory) ⊎ (fault ≡ run.WriteFault) → IsLineFault fault
+line_fault fault (inl is) = subst IsLineFault (sym is) tt
+line_fault fault (inr is) = subst IsLineFault (sym is) tt
+
+by_fault : (answer : Result Stepped LabFault) → IfErr (refused_or_ended answer) (λ fault. (fault ≡ run.NoMemory) ⊎ (fault ≡ run.WriteFault))
+by_fault (Ok stepped) = tt
+by_fault (Err NoSuchCopy) = tt
+by_fault (Err Stale) = tt
+by_fault (Err (Refused why)) = tt
+by_fault (Err NoMemory) = inl refl
+by_fault (Err ByServer) = tt
+
+pub event_faults : (answer : Result Stepped LabFault) (result : Result Bool RunFault) → result ≡ refused_or_ended answer → IfErr result (λ fault. (fault ≡ run.NoMemory) ⊎ (fault ≡ run.WriteFault))
+event_faults answer result same = subst (λ r. IfErr r (λ fault. (fault ≡ run.NoMemory) ⊎ (fault ≡ run.WriteFault))) (sym same) (by_fault answer)

@@ -1,4 +1,5 @@
 pub mod Digits
 pub mod Copies
 pub mod Events
-pub mod Wants
+pub mod Settling
+pub mod Lines

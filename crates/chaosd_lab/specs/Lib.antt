@@ -5,5 +5,8 @@ pub mod Event
 pub mod Start
 pub mod Names
 pub mod Answers
+pub mod Happen
+pub mod Typed
+pub mod Settle
 pub mod Status
 pub mod Play

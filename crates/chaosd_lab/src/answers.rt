@@ -3,7 +3,7 @@ ghost use Rattle.std.specs.Prelude.{◌≡◌, ◌++◌, drop, OnOk};
 ghost use Rattle.chaos_packet.specs.Packet.{PacketView};
 ghost use Rattle.chaos_lab.specs.History.{item};
 ghost use Rattle.chaos_lab.specs.Told.{given_by, in_full, last_of, told};
-ghost use Rattle.chaosd_lab.specs.Answers.{named_line, numbered_line, item_line, read_text, ticked_text, stepped_text, refusal_text, answer_text, op_name, numbers_text, copy_line, copies_text, stored_line};
+ghost use Rattle.chaosd_lab.specs.Answers.{named_line, numbered_line, item_line, read_text, spaced_text, ticked_text, stepped_text, refusal_text, answer_text, op_name, numbers_text, copy_line, copies_text, stored_line};
 
 use crate::names::{conn_fault_name, delivered_name, disposition_name, side_name, state_name};
 use chaos_conn::{ReadDone, ReadEnd, Ticked};
@@ -23,7 +23,7 @@ pub fn put_named(out: &mut WriteBuffer, words: &str, name: &str) -> Result<(), N
 
 /// A word or more, and a number.
 #[tactic(auto, unfolding(crate::specs::Answers::numbered_line))]
-fn put_numbered(out: &mut WriteBuffer, words: &str, n: usize) -> Result<(), NotWritten>
+pub fn put_numbered(out: &mut WriteBuffer, words: &str, n: usize) -> Result<(), NotWritten>
     ensures { OnOk result (out.new ≡ out.old ++ numbered_line words.now n) }
 {
     out.put(words.as_bytes())?;
@@ -39,11 +39,19 @@ fn put_item(out: &mut WriteBuffer, op: Opcode, bytes: &[u8]) -> Result<(), NotWr
 {
     out.put(b"read ")?;
     put_octal_three(out, u16::from(op.0))?;
-    if !bytes.is_empty() {
-        out.put(b" ")?;
-        put_text(out, bytes)?;
-    }
+    put_spaced(out, bytes)?;
     out.put(b"\n")
+}
+
+/// A space and bytes as text, where there are some.
+pub fn put_spaced(out: &mut WriteBuffer, bytes: &[u8]) -> Result<(), NotWritten>
+    ensures { OnOk result (out.new ≡ out.old ++ spaced_text bytes.now) }
+{
+    if bytes.is_empty() {
+        return Ok(());
+    }
+    out.put(b" ")?;
+    put_text(out, bytes)
 }
 
 fn put_read(out: &mut WriteBuffer, read: &ReadEnd) -> Result<(), NotWritten>

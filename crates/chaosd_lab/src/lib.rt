@@ -2,7 +2,8 @@
 //!
 //! It works on a reader and a writer that its caller hands in, with the laboratory of `chaos_lab`, and `chaosd_script` plays its
 //! lines. `fields` divides a line, `numbers` reads what a field says, `command` is what a line asks for and `parse` reads it,
-//! `start` reads the first line, `names` and `answers` print what came of a line, `line` plays it, and `run` is the whole.
+//! `start` reads the first line, `names` and `answers` print what came of a line, `line` plays it,
+//! `typed` prints the line that asks for an event, `settle` lets both ends settle, and `run` is the whole.
 #![tactic(auto)]
 
 mod answers;
@@ -13,8 +14,10 @@ mod names;
 mod numbers;
 mod parse;
 mod run;
+mod settle;
 mod start;
 mod status;
+mod typed;
 
 pub use answers::{put_copies, put_named, put_refusal, put_stepped, put_stored};
 pub use command::Command;
@@ -24,3 +27,4 @@ pub use parse::event_of;
 pub use run::run_lab;
 pub use start::{Start, start_of};
 pub use status::lab_status;
+pub use typed::put_event;

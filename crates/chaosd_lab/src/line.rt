@@ -1,20 +1,25 @@
 //! One line of a laboratory's script.
-ghost use Rattle.std.specs.Prelude.{◌≡◌, ◌++◌, ◌≢◌, ℕ, List, Err, None, Some, IfErr, IfOk, OnOk};
+ghost use Rattle.std.specs.Prelude.{◌≡◌, ◌++◌, ◌≢◌, ◌⊎◌, ℕ, List, Err, None, Some, IfErr, IfOk, OnOk};
 ghost use Rattle.chaosd_lab.specs.Answers.{copies_text, refusal_text};
 ghost use Rattle.chaos_lab.specs.declared.fault.LabFault.TheVariants.{NoMemory};
 ghost use Rattle.chaosd_lab.specs.Event.{event_of};
+ghost use Rattle.chaos_lab.specs.Inside.{happening_of};
+ghost use Rattle.chaos_lab.specs.Laboratory.{Happening};
+ghost use Rattle.chaosd_engines.specs.declared.fault.RunFault.TheVariants as run;
 ghost use Rattle.chaosd_lab.specs.Start.{first_of};
-ghost use Rattle.chaosd_script.specs.Script.{PlaysLine};
+ghost use Rattle.chaosd_lab.specs.Happen.{PlaysEvent};
 ghost use Rattle.chaosd_lab.specs.Play.{lab_script, end_text, refused_or_ended};
 ghost use Rattle.chaosd_script.specs.Player.{IsLineFault};
 
 use crate::answers::{put_answer, put_copies, put_stored};
 use crate::parse::event_of;
+use crate::settle::settle;
 use crate::start::start_of;
-use chaos_lab::{Lab, LabFault, Side};
+use chaos_lab::{Event, Lab, LabFault, Side};
 use chaosd_engines::{Data, NotWritten, RunFault, WriteBuffer, written};
 use chaosd_script::Stage;
 use std::alloc::Global;
+use std::io::Write;
 use std::marker::Model;
 
 /// The laboratory that a script plays in.
@@ -45,13 +50,17 @@ impl Stage for LabStage {
         begin(alloc, out, line, number)
     }
 
-    fn play(
+    fn play<W: Write>(
         &mut self,
         alloc: Global,
         out: &mut WriteBuffer,
+        writer: &mut W,
         line: &[u8],
         number: u64,
     ) -> Result<bool, RunFault> {
+        if line == b"settle".as_slice() {
+            return settle(alloc, &mut self.lab, out, writer);
+        }
         play(alloc, &mut self.lab, &mut self.body, out, line, number)
     }
 
@@ -101,8 +110,8 @@ fn put_ends(out: &mut WriteBuffer, lab: &Lab) -> Result<(), NotWritten>
 /// Lets the event of a line happen, writes what came of it, and says whether it was refused.
 ///
 /// # Errors
-/// `BadScript` with this number where the line is of no form, `NoMemory`, which is written too, and `WriteFault` where the text
-/// doesn't fit.
+/// `BadScript` with this number where the line asks for no event, `NoMemory`, which is written too, and `WriteFault` where the
+/// text doesn't fit.
 fn play(
     alloc: Global,
     lab: &mut Lab,
@@ -111,7 +120,7 @@ fn play(
     line: &[u8],
     number: u64,
 ) -> Result<bool, RunFault>
-    ensures played { IfOk result (λ refused. PlaysLine lab_script line.now lab.old lab.new out.old out.new refused) }
+    ensures played { IfOk result (λ refused. (event : Happening) × (event_of line.now ≡ Some event) × PlaysEvent event lab.old lab.new out.old out.new refused) }
     ensures bad { (n : ℕ) → result ≡ Err (RunFault.BadScript n) → (n ≡ number) × (event_of line.now ≡ None) × (lab.new ≡ lab.old) × (out.new ≡ out.old) }
     ensures no_memory { result ≡ Err RunFault.NoMemory → (event_of line.now ≢ None) × (lab.new ≡ lab.old) × (out.new ≡ out.old ++ refusal_text NoMemory) }
     ensures faults { IfErr result (λ fault. IsLineFault fault) }
@@ -119,10 +128,27 @@ fn play(
     let Some(command) = event_of(line, body) else {
         return Err(RunFault::BadScript(number));
     };
+    play_event(alloc, lab, out, &command.event(body.as_slice()))
+}
+
+/// Lets an event happen, writes what came of it, and says whether it was refused.
+///
+/// # Errors
+/// `NoMemory`, which is written too, and `WriteFault` where the text doesn't fit.
+#[inline]
+pub fn play_event(
+    alloc: Global,
+    lab: &mut Lab,
+    out: &mut WriteBuffer,
+    event: &Event<'_>,
+) -> Result<bool, RunFault>
+    ensures played { IfOk result (λ refused. PlaysEvent (happening_of event.now) lab.old lab.new out.old out.new refused) }
+    ensures no_memory { result ≡ Err RunFault.NoMemory → (lab.new ≡ lab.old) × (out.new ≡ out.old ++ refusal_text NoMemory) }
+    ensures faults { IfErr result (λ fault. (fault ≡ run.NoMemory) ⊎ (fault ≡ run.WriteFault)) }
+{
     let before = lab.copies().len();
-    let event = command.event(body.as_slice());
-    let answer = lab.happen(alloc, &event);
-    written(put_answer(out, answer, lab.read_in(&event)))?;
+    let answer = lab.happen(alloc, event);
+    written(put_answer(out, answer, lab.read_in(event)))?;
     written(put_copies(out, lab.copies(), before))?;
     is_refused(&answer)
 }

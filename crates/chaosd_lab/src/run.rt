@@ -3,9 +3,9 @@ ghost use Rattle.std.specs.Prelude.{◌≡◌, ◌≢◌, ◌<◌, ◌≤◌, �
 ghost use Rattle.std.specs.Io.KnownBytes.{Appends, IsAtEnd};
 ghost use Rattle.chaosd_engines.specs.Lines.{lines_of, ended_lines, IsMet};
 ghost use Rattle.chaosd_script.specs.Script.{Played, play_of, text_of, IsFirstBad, NoneBad};
-ghost use Rattle.chaosd_lab.specs.Play.{lab_script, end_text, want_text};
+ghost use Rattle.chaosd_lab.specs.Play.{lab_script, end_text};
 ghost use Rattle.chaos_lab.specs.Laboratory.{LabView};
-ghost use Rattle.chaosd_script.specs.Player.{PlaysRead};
+ghost use Rattle.chaosd_script.specs.Player.{PlaysRead, Wants};
 
 use crate::line::LabStage;
 use chaosd_engines::{INPUT_LIMIT, RunFault};
@@ -48,11 +48,9 @@ pub fn run_lab<R: Read, W: Write>(
     // Where the reader failed, no line that ended in what it had given is of no form, and those were played, and no more.
     ensures unread { result ≡ Err RunFault.ReadFault → PlaysRead lab_script (R.remaining reader.old) (R.remaining reader.new) (W.contents writer.old) (W.contents writer.new) }
 
-    // At want of memory the lines before were played, and an event that met it is told; the line is of the form of its place, and it
-    // ends within the limit or the input does.
-    ensures no_memory { result ≡ Err RunFault.NoMemory → IfSome (R.remaining reader.old) (λ input. (n : ℕ) × (n < length (lines_of input)) × (play_of lab_script (take (n + 1) (lines_of input)) ≢ None)
-        × IsMet INPUT_LIMIT (n + 1) input
-        × Appends (W.contents writer.old) (W.contents writer.new) (text_of (play_of lab_script (take n (lines_of input))) ++ want_text n)) }
+    // At want of memory the lines before were played, and an event that met it is told, as are those of a line `settle` before it; the
+    // line is of the form of its place, and it ends within the limit or the input does.
+    ensures no_memory { result ≡ Err RunFault.NoMemory → IfSome (R.remaining reader.old) (Wants lab_script (W.contents writer.old) (W.contents writer.new)) }
 {
     run_script::<LabStage, R, W>(alloc, reader, writer)
 }

@@ -85,8 +85,8 @@ last_played script input rest before written written' at at' lines line s (raw, 
 
 -- ---- a line that isn't played
 
-alike_wants : {X : Type 0} (script : Script X) (ended : List (List ℕ)) (f g text : List ℕ) → f ≡ g → IsWantText script (length ended) f text → IsWantText script (length ended) g text
-alike_wants script ended f g text same is = subst (λ l. IsWantText script (length ended) l text) same is
+alike_wants : {X : Type 0} (script : Script X) (ended : List (List ℕ)) (f g text : List ℕ) → f ≡ g → IsWantText script (play_of script ended) f text → IsWantText script (play_of script ended) g text
+alike_wants script ended f g text same is = subst (λ l. IsWantText script (play_of script ended) l text) same is
 
 -- of two lines that begin alike
 stops_alike : {X : Type 0} (script : Script X) (before written : Option (List ℕ)) (ended : List (List ℕ)) (f g : List ℕ) (fault : RunFault) → take KEPT_LEN f ≡ take KEPT_LEN g → StopsLine script before written ended f fault → StopsLine script before written ended g fault
@@ -129,7 +129,7 @@ wants_at script before written ended line input (good, text, is, wrote) (more, a
       λ none. good (ap (play_of script) (sym through) ∙ none),
       met,
       text,
-      is,
+      subst (λ l. IsWantText script (play_of script l) line text) (sym front) is,
       subst (λ l. Appends before written (text_of (play_of script l) ++ text)) (sym front) wrote,
     )
 

@@ -2,8 +2,8 @@
 use Rattle.std.proofs.Common.{◌≡◌, ◌≢◌, ℕ, zero, suc, ◌+◌, ◌<◌, ◌≤◌, Bool, true, false, cond, ltb, List, [], ◌∷◌, ◌++◌, length, take, take_all, refl, sym, ap, ◌∙◌, subst, arith, append_assoc, append-nil, length-take, length-append}
 use Rattle.std.specs.Prelude.{Option, None, Some, Result, Ok, Err, IfErr, IsErrAnd, option_map}
 use Rattle.std.specs.Io.BufRead.{strip_last}
-use Rattle.std.specs.Io.KnownBytes.{Appends}
-use Rattle.std.proofs.KnownBytes.{Appends-trans}
+use Rattle.std.specs.Io.KnownBytes.{Appends, Keeps}
+use Rattle.std.proofs.KnownBytes.{Appends-kept, Appends-trans}
 use Rattle.std.proofs.Math.Seq.{take-append-add}
 use Rattle.std.proofs.lemmas.Bool.{lt-ltb}
 use Rattle.std.proofs.lemmas.Bool.Decides.{nat_tests}
@@ -118,7 +118,7 @@ lines_before ended more = take-append-le (length ended) ended more (omega arith)
 -- ---- what a line does
 
 -- text that waits behind what was written
-waits_more : (held : Option (List ℕ)) (old new more : List ℕ) → new ≡ old ++ more → Appends (written_of held old) (written_of held new) more
+pub waits_more : (held : Option (List ℕ)) (old new more : List ℕ) → new ≡ old ++ more → Appends (written_of held old) (written_of held new) more
 waits_more None old new more e = tt
 waits_more (Some x) old new more e = ap (λ l. x ++ l) e ∙ sym (append_assoc x old more)
 
@@ -143,11 +143,11 @@ begins script before held at at' ended raw old new made none next short said mor
     })
 
 -- an event was let happen
-pub plays_event : {X : Type 0} (script : Script X) (before held : Option (List ℕ)) (at at' : Standing X) (ended : List (List ℕ)) (raw old new : List ℕ) (l l' : X) (was_refused : Bool) → at.lab ≡ Some l
+pub plays_event : {X : Type 0} (script : Script X) (before old new : Option (List ℕ)) (at at' : Standing X) (ended : List (List ℕ)) (raw : List ℕ) (l l' : X) (was_refused : Bool) → at.lab ≡ Some l
     → at' ≡ record { lab = Some l'; lines = at.lines + 1; refused = at.refused + cond was_refused 1 0 }
     → ltb LINE_LIMIT (length (strip_last 13 raw)) ≡ false → (script.ready l → PlaysLine script (strip_last 13 raw) l l' old new was_refused × script.ready l')
-    → PlaysLines script before (written_of held old) at ended → PlaysLines script before (written_of held new) at' (ended ++ raw ∷ [])
-plays_event {X = X} script before held at at' ended raw old new l l' was_refused some next short plays s =
+    → PlaysLines script before old at ended → PlaysLines script before new at' (ended ++ raw ∷ [])
+plays_event {X = X} script before old new at at' ended raw l l' was_refused some next short plays s =
     let (p, is, same, so_far, ready) = subst (λ x. IsAt script x at.refused ended) some s.state in
     let (did, ready') = plays ready in
     let does : X → Done X = did.does in
@@ -157,7 +157,7 @@ plays_event {X = X} script before held at at' ended raw old new l l' was_refused
       refused = p.refused + cond (does p.lab).is_refused 1 0;
     } in
     let played_more : play_of script (ended ++ raw ∷ []) ≡ Some after = play_of-push script ended p raw is ∙ ap (with_reading p) (says script.event raw (Some does) short did.said) in
-    subst (λ n. PlaysLines script before (written_of held new) n (ended ++ raw ∷ [])) (sym next) (record {
+    subst (λ n. PlaysLines script before new n (ended ++ raw ∷ [])) (sym next) (record {
       state = (
         after,
         played_more,
@@ -165,8 +165,8 @@ plays_event {X = X} script before held at at' ended raw old new l l' was_refused
         ap (λ x. p.refused + cond (does x).is_refused 1 0) same ∙ ap (λ b. p.refused + cond b 1 0) (sym did.count) ∙ ap (λ n. n + cond was_refused 1 0) so_far,
         ready',
       );
-      text = subst (Appends before (written_of held new)) (sym (ap text_of played_more))
-          (text_more before held old new p.text _ (subst (Appends before (written_of held old)) (ap text_of is) s.text) (did.text ∙ ap (λ x. old ++ (does x).text) (sym same)));
+      text = subst (Appends before new) (sym (ap text_of played_more))
+          (Appends-trans before old new p.text _ (subst (Appends before old) (ap text_of is) s.text) (subst (λ x. Appends old new (does x).text) (sym same) did.text));
       count = omega (arith, s.count, length-append ended (raw ∷ []));
     })
 
@@ -198,37 +198,36 @@ some_with : {X : Type 0} (p : Played X) (o : Option (X → Done X)) → o ≢ No
 some_with p None some none = some refl
 some_with p (Some does) some none = cc
 
-want_behind : {X : Type 0} (script : Script X) (ended : List (List ℕ)) (p : Played X) (line text : List ℕ) → play_of script ended ≡ Some p → script.wants (strip_last 13 line) text → IsWantText script (length ended) line text
-want_behind script [] p line text is w = absurd (cc)
-want_behind script (first ∷ lines) p line text is w = w
+want_behind : {X : Type 0} (script : Script X) (ended : List (List ℕ)) (p : Played X) (line text : List ℕ) → play_of script ended ≡ Some p → script.wants p.lab (strip_last 13 line) text → IsWantText script (play_of script ended) line text
+want_behind script ended p line text is w = subst (λ played. IsWantText script played line text) (sym is) w
 
 -- an event wasn't let happen
-pub event_stops : {X Y : Type 0} (script : Script X) (fault : RunFault) (before held : Option (List ℕ)) (at : Standing X) (ended : List (List ℕ)) (raw old new : List ℕ) (l : X) → at.lab ≡ Some l
+pub event_stops : {X Y : Type 0} (script : Script X) (fault : RunFault) (before old new : Option (List ℕ)) (at : Standing X) (ended : List (List ℕ)) (raw : List ℕ) (l : X) → at.lab ≡ Some l
     → ltb LINE_LIMIT (length (strip_last 13 raw)) ≡ false → IsLineFault fault
-    → ((n : ℕ) → ◌≡◌ {A = Result Y RunFault} (Err fault) (Err (run.BadScript n)) → (n ≡ at.lines + 1) × (script.event (strip_last 13 raw) ≡ None) × (new ≡ old))
-    → (◌≡◌ {A = Result Y RunFault} (Err fault) (Err run.NoMemory) → (script.event (strip_last 13 raw) ≢ None) × (script.ready l → (text : List ℕ) × script.wants (strip_last 13 raw) text × (new ≡ old ++ text)))
-    → PlaysLines script before (written_of held old) at ended → StopsLine script before (written_of held new) ended raw fault
-event_stops script (run.BadScript n) before held at ended raw old new l some short is bad want s =
+    → ((n : ℕ) → ◌≡◌ {A = Result Y RunFault} (Err fault) (Err (run.BadScript n)) → (n ≡ at.lines + 1) × (script.event (strip_last 13 raw) ≡ None) × Keeps old new)
+    → (◌≡◌ {A = Result Y RunFault} (Err fault) (Err run.NoMemory) → (script.event (strip_last 13 raw) ≢ None) × (script.ready l → (text : List ℕ) × script.wants l (strip_last 13 raw) text × Appends old new text))
+    → PlaysLines script before old at ended → StopsLine script before new ended raw fault
+event_stops script (run.BadScript n) before old new at ended raw l some short is bad want s =
     let (number, said, same) = bad n refl in (
       number ∙ ap (λ k. k + 1) s.count,
       unplayed_event script at.lab at.refused ended raw l some s.state (says script.event raw None short said),
-      subst (λ x. Appends before (written_of held x) (text_of (play_of script ended))) (sym same) s.text,
+      Appends-kept before old new _ s.text same,
     )
-event_stops script run.NoMemory before held at ended raw old new l some short is bad want s =
+event_stops script run.NoMemory before old new at ended raw l some short is bad want s =
     let (said, told) = want refl in
     let (p, is_played, same, so_far, ready) = subst (λ x. IsAt script x at.refused ended) some s.state in
     let (text, wants, more) = told ready in
     let good : says_by script.event raw ≢ None = λ nothing. said (sym (says script.event raw _ short refl) ∙ nothing) in (
       λ nothing. some_with p (says_by script.event raw) good (sym (play_of-push script ended p raw is_played) ∙ nothing),
       text,
-      want_behind script ended p raw text is_played wants,
-      text_more before held old new (text_of (play_of script ended)) text s.text more,
+      want_behind script ended p raw text is_played (subst (λ x. script.wants x (strip_last 13 raw) text) (sym same) wants),
+      Appends-trans before old new (text_of (play_of script ended)) text s.text more,
     )
-event_stops script run.WriteFault before held at ended raw old new l some short is bad want s = tt
-event_stops script run.ReadFault before held at ended raw old new l some short is bad want s = absurd is
-event_stops script run.InputTooLong before held at ended raw old new l some short is bad want s = absurd is
-event_stops script run.LinkFault before held at ended raw old new l some short is bad want s = absurd is
-event_stops script run.ClockFault before held at ended raw old new l some short is bad want s = absurd is
+event_stops script run.WriteFault before old new at ended raw l some short is bad want s = tt
+event_stops script run.ReadFault before old new at ended raw l some short is bad want s = absurd is
+event_stops script run.InputTooLong before old new at ended raw l some short is bad want s = absurd is
+event_stops script run.LinkFault before old new at ended raw l some short is bad want s = absurd is
+event_stops script run.ClockFault before old new at ended raw l some short is bad want s = absurd is
 
 some_made : {X Y : Type 0} (f : X → Y) (o : Option X) → o ≢ None → option_map f o ≢ None
 some_made f None some none = some refl
@@ -252,7 +251,7 @@ first_stops script run.NoMemory before held at ended raw old new none short is b
     let good : says_by script.first raw ≢ None = λ nothing. said (sym (says script.first raw _ short refl) ∙ nothing) in (
       λ nothing. some_made (start_play script) (says_by script.first raw) good (sym (ap (λ l. play_of script (l ++ raw ∷ [])) nil) ∙ nothing),
       [],
-      subst (λ (l : List (List ℕ)). IsWantText script (length l) raw []) (sym nil) refl,
+      subst (λ (l : List (List ℕ)). IsWantText script (play_of script l) raw []) (sym nil) refl,
       text_more before held old new (text_of (play_of script ended)) [] s.text (same ∙ sym (append-nil old)),
     )
 first_stops script run.WriteFault before held at ended raw old new none short is bad want s = tt

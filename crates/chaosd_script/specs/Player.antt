@@ -24,10 +24,10 @@ pub record PlaysLines {X : Type 0} (script : Script X) (before written : Option 
   pub text : Appends before written (text_of (play_of script ended))
   pub count : at.lines ≡ length ended
 
--- what is printed at want of memory of a line behind so many: nothing where the laboratory couldn't be made
-abbrev pub IsWantText : {X : Type 0} → Script X → ℕ → List ℕ → List ℕ → Type 0
-IsWantText script zero line text = text ≡ []
-IsWantText script (suc n) line text = script.wants (strip_last 13 line) text
+-- what is printed at want of memory of a line behind what was played: nothing where the laboratory couldn't be made
+abbrev pub IsWantText : {X : Type 0} → Script X → Option (Played X) → List ℕ → List ℕ → Type 0
+IsWantText script None line text = text ≡ []
+IsWantText script (Some p) line text = script.wants p.lab (strip_last 13 line) text
 
 -- the faults of a line
 abbrev pub IsLineFault : RunFault → Type 0
@@ -40,21 +40,19 @@ IsLineFault _ = ⊥
 -- nothing is said.
 abbrev pub StopsLine : {X : Type 0} → Script X → Option (List ℕ) → Option (List ℕ) → List (List ℕ) → List ℕ → RunFault → Type 0
 StopsLine script before written ended line (run.BadScript number) = (number ≡ length ended + 1) × (play_of script (ended ++ line ∷ []) ≡ None) × Appends before written (text_of (play_of script ended))
-StopsLine script before written ended line run.NoMemory = (play_of script (ended ++ line ∷ []) ≢ None) × (text : List ℕ) × IsWantText script (length ended) line text × Appends before written (text_of (play_of script ended) ++ text)
+StopsLine script before written ended line run.NoMemory = (play_of script (ended ++ line ∷ []) ≢ None) × (text : List ℕ) × IsWantText script (play_of script ended) line text × Appends before written (text_of (play_of script ended) ++ text)
 StopsLine script before written ended line run.WriteFault = ⊤
 StopsLine script before written ended line _ = ⊥
 
--- a line more was played: the text that waits is longer, and the standing is that behind it
-abbrev pub PlaysOn : {X : Type 0} → Script X → (old_text : List ℕ) → (old : Standing X) → (line new_text : List ℕ) → (new : Standing X) → Type 0
-PlaysOn script old_text old line new_text new =
-    (before held : Option (List ℕ)) → (ended : List (List ℕ))
-    → PlaysLines script before (written_of held old_text) old ended → PlaysLines script before (written_of held new_text) new (ended ++ line ∷ [])
+-- a line more was played: more was written, and the standing is that behind it
+abbrev pub PlaysOn : {X : Type 0} → Script X → (old_written : Option (List ℕ)) → (old : Standing X) → (line : List ℕ) → (new_written : Option (List ℕ)) → (new : Standing X) → Type 0
+PlaysOn script old_written old line new_written new =
+    (before : Option (List ℕ)) → (ended : List (List ℕ)) → PlaysLines script before old_written old ended → PlaysLines script before new_written new (ended ++ line ∷ [])
 
 -- why it wasn't
-abbrev pub StopsOn : {X : Type 0} → Script X → (old_text : List ℕ) → (old : Standing X) → (line new_text : List ℕ) → RunFault → Type 0
-StopsOn script old_text old line new_text fault =
-    (before held : Option (List ℕ)) → (ended : List (List ℕ))
-    → PlaysLines script before (written_of held old_text) old ended → StopsLine script before (written_of held new_text) ended line fault
+abbrev pub StopsOn : {X : Type 0} → Script X → (old_written : Option (List ℕ)) → (old : Standing X) → (line : List ℕ) → (new_written : Option (List ℕ)) → RunFault → Type 0
+StopsOn script old_written old line new_written fault =
+    (before : Option (List ℕ)) → (ended : List (List ℕ)) → PlaysLines script before old_written old ended → StopsLine script before new_written ended line fault
 
 -- ---- Inputs
 
@@ -91,7 +89,7 @@ abbrev pub Wants : {X : Type 0} → Script X → Option (List ℕ) → Option (L
 Wants script before written input =
     (n : ℕ) × (line : List ℕ) × (slice_get (lines_of input) n ≡ Some line) × (play_of script (take (n + 1) (lines_of input)) ≢ None)
     × IsMet INPUT_LIMIT (n + 1) input
-    × (text : List ℕ) × IsWantText script n line text × Appends before written (text_of (play_of script (take n (lines_of input))) ++ text)
+    × (text : List ℕ) × IsWantText script (play_of script (take n (lines_of input))) line text × Appends before written (text_of (play_of script (take n (lines_of input))) ++ text)
 
 -- What was written to a writer is the text of the lines that ended in what was read of an input, of which none is of no form.
 abbrev pub PlaysRead : {X : Type 0} → Script X → Option (List ℕ) → Option (List ℕ) → Option (List ℕ) → Option (List ℕ) → Type 0

@@ -1,6 +1,7 @@
 -- Scripts: what their lines say, and their text as a fold over the lines.
 use Rattle.std.specs.Prelude.{◌≡◌, ◌≢◌, ℕ, ◌+◌, ◌<◌, Bool, List, [], ◌∷◌, ◌++◌, length, take, Option, Some, None, option_map, nat_lt, if◌then◌else◌}
 use Rattle.std.specs.Io.BufRead.{strip_last}
+use Rattle.std.specs.Io.KnownBytes.{Appends}
 use Rattle.chaosd_engines.specs.declared.limits.TheConstants.{LINE_LIMIT}
 
 -- what a line did in a laboratory: the laboratory after it, what is printed of it, and whether its event was refused
@@ -20,8 +21,8 @@ pub record Script (X : Type 0) : Type 1 where
   pub ended : X → List ℕ
   -- the laboratories in which lines do what `event` says
   pub ready : X → Type 0
-  -- what is printed of a line whose event meets want of memory
-  pub wants : List ℕ → List ℕ → Type 0
+  -- what is printed of a line that meets want of memory in a laboratory
+  pub wants : X → List ℕ → List ℕ → Type 0
 
 -- what was played: the laboratory, what was printed, and how many events were refused
 pub record Played (X : Type 0) : Type 0 where
@@ -79,10 +80,10 @@ pub record IsFirstBad {X : Type 0} (script : Script X) (number : ℕ) (lines : L
 abbrev pub NoneBad : {X : Type 0} → Script X → List (List ℕ) → Type 0
 NoneBad script lines = lines ≢ [] → play_of script lines ≢ None
 
--- A line did what the language says, and what came of it was printed.
-pub record PlaysLine {X : Type 0} (script : Script X) (line : List ℕ) (before after : X) (old new : List ℕ) (refused : Bool) : Type 0 where
+-- A line did what the language says, and what came of it was written.
+pub record PlaysLine {X : Type 0} (script : Script X) (line : List ℕ) (before after : X) (old new : Option (List ℕ)) (refused : Bool) : Type 0 where
   pub does : X → Done X
   pub said : script.event line ≡ Some does
   pub lab : after ≡ (does before).lab
-  pub text : new ≡ old ++ (does before).text
+  pub text : Appends old new (does before).text
   pub count : refused ≡ (does before).is_refused

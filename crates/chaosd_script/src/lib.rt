@@ -1,14 +1,16 @@
 //! Scripts: lines played one after another in a laboratory of any kind, and what came of each written.
 //!
 //! A laboratory implements [`Stage`], which says what a line does and prints, and [`run_script`] plays a reader's lines in it.
-//! `standing` is where a script stands, `player` plays a line, and `run` takes the lines of a reader one after another and hands on
+//! `standing` is where a script stands, `player` plays a line, `room` makes room for the text of an event, and `run` takes the lines of a reader one after another and hands on
 //! what waits. The engines `lab` and `filelab` stand on it.
 #![tactic(auto)]
 
 mod player;
+mod room;
 mod run;
 mod stage;
 mod standing;
 
+pub use room::make_room;
 pub use run::run_script;
 pub use stage::Stage;

@@ -6,14 +6,12 @@ ghost use Rattle.chaosd_engines.specs.Buffer.{written_of};
 ghost use Rattle.chaosd_engines.specs.declared.fault.RunFault.TheVariants.{WriteFault};
 ghost use Rattle.chaosd_script.specs.Player.{PlaysLines, PlaysOn, StopsLine, StopsOn, PlaysDone, PlaysWithin, StopsRun};
 
+use crate::room::{hand_on, make_room};
 use crate::stage::Stage;
 use crate::standing::Standing;
 use chaosd_engines::{INPUT_LIMIT, LINE_LIMIT, RunFault, WriteBuffer, without_return, written};
 use std::alloc::Global;
 use std::io::Write;
-
-/// No event's text has more bytes: that of a tick that sends 64 copies again, or that of a read of 488 bytes, each as an escape.
-const EVENT_ROOM: usize = 8_192;
 
 /// Where a script stands, and the text that waits to be written.
 #[derive(Drop)]
@@ -47,22 +45,7 @@ impl<S: Stage> Player<S> {
         ensures same { self.new.at ≡ self.old.at }
         ensures fault { IfErr result (λ fault. fault ≡ WriteFault) }
     {
-        match self.out.hand_on(writer) {
-            Ok(()) => Ok(()),
-            Err(_) => Err(RunFault::WriteFault),
-        }
-    }
-
-    /// Hands on the text that waits where that of another event might not fit behind it.
-    fn make_room<W: Write>(&mut self, writer: &mut W) -> Result<(), RunFault>
-        ensures kept { Keeps (written_of (W.contents writer.old) self.old.out) (written_of (W.contents writer.new) self.new.out) }
-        ensures same { self.new.at ≡ self.old.at }
-        ensures fault { IfErr result (λ fault. fault ≡ WriteFault) }
-    {
-        if self.out.room() < EVENT_ROOM {
-            self.hand_on(writer)?;
-        }
-        Ok(())
+        hand_on(&mut self.out, writer)
     }
 
     /// Plays the first line. A function of its own, so that a later line has no room for a laboratory to be made in.
@@ -71,8 +54,8 @@ impl<S: Stage> Player<S> {
         requires few { self.old.at.lines ≤ INPUT_LIMIT }
         requires first { self.old.at.lab ≡ None }
         requires short { length (strip_last 13 raw.now) ≤ LINE_LIMIT }
-        ensures plays { OnOk result (PlaysOn S.script self.old.out self.old.at raw.now self.new.out self.new.at) }
-        ensures stops { IfErr result (StopsOn S.script self.old.out self.old.at raw.now self.new.out) }
+        ensures plays { OnOk result ((held : Option (List ℕ)) → PlaysOn S.script (written_of held self.old.out) self.old.at raw.now (written_of held self.new.out) self.new.at) }
+        ensures stops { IfErr result (λ fault. (held : Option (List ℕ)) → StopsOn S.script (written_of held self.old.out) self.old.at raw.now (written_of held self.new.out) fault) }
         ensures count { OnOk result (self.new.at.lines ≡ self.old.at.lines + 1) }
     {
         let first = without_return(raw);
@@ -84,10 +67,10 @@ impl<S: Stage> Player<S> {
     }
 
     /// Plays a line.
-    fn play_one(&mut self, raw: &[u8]) -> Result<(), RunFault>
+    fn play_one<W: Write>(&mut self, writer: &mut W, raw: &[u8]) -> Result<(), RunFault>
         requires { self.old.at.lines ≤ INPUT_LIMIT }
-        ensures plays { OnOk result (PlaysOn S.script self.old.out self.old.at raw.now self.new.out self.new.at) }
-        ensures stops { IfErr result (StopsOn S.script self.old.out self.old.at raw.now self.new.out) }
+        ensures plays { OnOk result (PlaysOn S.script (written_of (W.contents writer.old) self.old.out) self.old.at raw.now (written_of (W.contents writer.new) self.new.out) self.new.at) }
+        ensures stops { IfErr result (StopsOn S.script (written_of (W.contents writer.old) self.old.out) self.old.at raw.now (written_of (W.contents writer.new) self.new.out)) }
         ensures count { OnOk result (self.new.at.lines ≡ self.old.at.lines + 1) }
     {
         let line = without_return(raw);
@@ -98,7 +81,7 @@ impl<S: Stage> Player<S> {
         let Some(lab) = &mut self.at.lab else {
             return self.play_first(raw);
         };
-        let refused = lab.play(self.alloc, &mut self.out, line, number)?;
+        let refused = lab.play(self.alloc, &mut self.out, writer, line, number)?;
         self.at.refused += u64::from(refused);
         self.at.lines = number;
         Ok(())
@@ -115,8 +98,8 @@ impl<S: Stage> Player<S> {
             → StopsLine S.script before (written_of (W.contents writer.new) self.new.out) ended raw.now fault) }
         ensures count { OnOk result (self.new.at.lines ≡ self.old.at.lines + 1) }
     {
-        self.make_room(writer)?;
-        self.play_one(raw)
+        make_room(&mut self.out, writer)?;
+        self.play_one(writer, raw)
     }
 
     /// Writes what is said at the end.
@@ -128,7 +111,7 @@ impl<S: Stage> Player<S> {
             → PlaysDone S.script input rest before (written_of (W.contents writer.old) self.old.out) self.old.at
             → StopsRun S.script input rest before (written_of (W.contents writer.new) self.new.out) fault) }
     {
-        self.make_room(writer)?;
+        make_room(&mut self.out, writer)?;
         let Some(lab) = &self.at.lab else {
             return Err(RunFault::BadScript(1));
         };

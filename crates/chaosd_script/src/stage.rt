@@ -1,10 +1,13 @@
 //! What scripts are played in.
 ghost use Rattle.std.specs.Prelude.{◌≡◌, ◌≢◌, ◌++◌, ℕ, List, Err, None, Some, IfErr, IfOk, OnOk};
+ghost use Rattle.std.specs.Io.KnownBytes.{Appends, Keeps};
+ghost use Rattle.chaosd_engines.specs.Buffer.{written_of};
 ghost use Rattle.chaosd_script.specs.Script.{Script, PlaysLine};
 ghost use Rattle.chaosd_script.specs.Player.{IsLineFault};
 
 use chaosd_engines::{NotWritten, RunFault, WriteBuffer};
 use std::alloc::Global;
+use std::io::Write;
 
 /// A laboratory that scripts are played in: the first line makes it, and each later one lets an event happen in it.
 pub trait Stage: Drop {
@@ -26,20 +29,26 @@ pub trait Stage: Drop {
         ensures no_memory { result ≡ Err RunFault.NoMemory → (script.first line.now ≢ None) × (out.new ≡ out.old) }
         ensures faults { IfErr result (λ fault. IsLineFault fault) };
 
-    /// Lets the event of a line happen, writes what came of it, and says whether it was refused.
+    /// Does what a line asks for, writes what came of it, and says whether it was refused. There is room for the text of one event;
+    /// before that of each further one [`make_room`](crate::make_room) hands on to the writer what waits.
     ///
     /// # Errors
-    /// `BadScript` with this number where the line is of no form, `NoMemory`, and `WriteFault` where the text doesn't fit.
-    fn play(
+    /// `BadScript` with this number where the line is of no form, `NoMemory`, and `WriteFault` where the text doesn't fit or the
+    /// writer fails.
+    fn play<W: Write>(
         &mut self,
         alloc: Global,
         out: &mut WriteBuffer,
+        writer: &mut W,
         line: &[u8],
         number: u64,
     ) -> Result<bool, RunFault>
-        ensures played { IfOk result (λ refused. script.ready self.old → PlaysLine script line.now self.old self.new out.old out.new refused × script.ready self.new) }
-        ensures bad { (n : ℕ) → result ≡ Err (RunFault.BadScript n) → (n ≡ number) × (script.event line.now ≡ None) × (out.new ≡ out.old) }
-        ensures no_memory { result ≡ Err RunFault.NoMemory → (script.event line.now ≢ None) × (script.ready self.old → (text : List ℕ) × script.wants line.now text × (out.new ≡ out.old ++ text)) }
+        ensures played { IfOk result (λ refused. script.ready self.old
+            → PlaysLine script line.now self.old self.new (written_of (W.contents writer.old) out.old) (written_of (W.contents writer.new) out.new) refused × script.ready self.new) }
+        ensures bad { (n : ℕ) → result ≡ Err (RunFault.BadScript n) → (n ≡ number) × (script.event line.now ≡ None)
+            × Keeps (written_of (W.contents writer.old) out.old) (written_of (W.contents writer.new) out.new) }
+        ensures no_memory { result ≡ Err RunFault.NoMemory → (script.event line.now ≢ None) × (script.ready self.old → (text : List ℕ) × script.wants self.old line.now text
+            × Appends (written_of (W.contents writer.old) out.old) (written_of (W.contents writer.new) out.new) text) }
         ensures faults { IfErr result (λ fault. IsLineFault fault) };
 
     /// Writes what is said at the end.

@@ -1,55 +1,27 @@
-use Rattle.std.proofs.Common.{◌≡◌, ◌++◌, List, length, drop, sym, ◌∙◌, ap, Some}
+use Rattle.std.proofs.Common.{◌≡◌, sym, ◌∙◌, ap, Some}
 use Rattle.std.specs.Prelude.{option_map}
-use Rattle.chaos_packet.specs.Item.{ItemView}
-use Rattle.chaos_packet.specs.Packet.{PacketView}
-use Rattle.chaos_lab.specs.Laboratory.{LabView, Happening}
-use Rattle.chaos_lab.specs.Told.{told, packet_at, items_at}
+use Rattle.std.proofs.lemmas.Result.{IfOk-weaker, IfErr-weaker}
+use Rattle.chaos_lab.specs.Laboratory.{Happening}
 use Rattle.chaos_lab.specs.Inside.{happening_of}
 use Rattle.chaosd_lab.specs.Command.{happening_said}
 use Rattle.chaosd_lab.specs.Event.{event_of}
-use Rattle.chaosd_lab.specs.Answers.{answer_text, copies_text}
-use Rattle.chaosd_engines.proofs.Runs.{went_well}
-use Rattle.chaosd_lab.proofs.Events.{line_plays, line_wants, told_refused}
+use Rattle.chaosd_lab.proofs.Events.{some_said, line_fault}
 use Rattle.chaosd_lab.proofs.line.play.Goals as goal
 
 pub returns-clause-played : goal.returns-clause-played
 returns-clause-played c =
-    let mid = c.put_answer.new.out in
-    let before : LabView = c.args.lab.now in
-    let after : LabView = c.happen-answer.new.self in
-    let n = length before.copies in
-    let event : Happening = happening_of c.event-event.result in
-    let packet : PacketView = packet_at before event in
-    let items : List ItemView = items_at after event in
+    let event : Happening = happening_of c.event.result in
     let said : event_of c.args.line.now ≡ Some event = sym c.event_of.ensures ∙ ap (option_map (happening_said c.event_of.new.body.items)) c.in-Some.is
-    ∙ ap Some (sym (c.event-event.ensures ∙ ap (λ bytes. happening_said bytes c.in-Some.command) c.as_slice.ensures.value)) in
-    line_plays c.args.line.now before after c.args.out.now mid c.put_copies.new.out event (told packet items c.happen-answer.result) _
-    said
-    c.happen-answer.ensures.happens
-    (went_well _ _ _ c.written.ensures c.in_ok-written.was (c.put_answer.ensures packet)
-    ∙ ap (λ (k : List ItemView). c.args.out.now ++ answer_text (told packet k c.happen-answer.result)) c.read_in.ensures)
-    (went_well _ _ _ c.written-2.ensures c.in_ok-written-2.was c.put_copies.ensures
-    ∙ ap (λ k. mid ++ copies_text (length k) (drop (length k) c.copies.result.now)) c.copies-before.ensures
-    ∙ ap (λ k. mid ++ copies_text n (drop n k)) c.copies.ensures)
-    (c.is_refused.ensures ∙ told_refused packet items c.happen-answer.result)
+    ∙ ap Some (sym (c.event.ensures ∙ ap (λ bytes. happening_said bytes c.in-Some.command) c.as_slice.ensures.value)) in
+    IfOk-weaker c.play_event.result _ _ (λ refused plays. (event, said, plays)) c.play_event.ensures.played
 
 pub returns-clause-no_memory : goal.returns-clause-no_memory
-returns-clause-no_memory c =
-    let mid = c.put_answer.new.out in
-    let before : LabView = c.args.lab.now in
-    let after : LabView = c.happen-answer.new.self in
-    let n = length before.copies in
-    let event : Happening = happening_of c.event-event.result in
-    let packet : PacketView = packet_at before event in
-    let items : List ItemView = items_at after event in
+returns-clause-no_memory c is =
+    let event : Happening = happening_of c.event.result in
     let said : event_of c.args.line.now ≡ Some event = sym c.event_of.ensures ∙ ap (option_map (happening_said c.event_of.new.body.items)) c.in-Some.is
-    ∙ ap Some (sym (c.event-event.ensures ∙ ap (λ bytes. happening_said bytes c.in-Some.command) c.as_slice.ensures.value)) in
-    line_wants c.args.line.now before after c.args.out.now mid c.put_copies.new.out event (told packet items c.happen-answer.result) _
-    said
-    c.happen-answer.ensures.happens
-    (went_well _ _ _ c.written.ensures c.in_ok-written.was (c.put_answer.ensures packet)
-    ∙ ap (λ (k : List ItemView). c.args.out.now ++ answer_text (told packet k c.happen-answer.result)) c.read_in.ensures)
-    (went_well _ _ _ c.written-2.ensures c.in_ok-written-2.was c.put_copies.ensures
-    ∙ ap (λ k. mid ++ copies_text (length k) (drop (length k) c.copies.result.now)) c.copies-before.ensures
-    ∙ ap (λ k. mid ++ copies_text n (drop n k)) c.copies.ensures)
-    (c.is_refused.ensures ∙ told_refused packet items c.happen-answer.result)
+    ∙ ap Some (sym (c.event.ensures ∙ ap (λ bytes. happening_said bytes c.in-Some.command) c.as_slice.ensures.value)) in
+    let (same, text) = c.play_event.ensures.no_memory is in
+    (some_said _ event said, same, text)
+
+pub returns-clause-faults : goal.returns-clause-faults
+returns-clause-faults c = IfErr-weaker c.play_event.result _ _ line_fault c.play_event.ensures.faults

@@ -1,13 +1,16 @@
 use Rattle.std.proofs.Common.{◌≡◌, true, false, ltb, length, sym, ap, ◌∙◌, subst, arith, rules}
 use Rattle.std.specs.Io.BufRead.{strip_last}
 use Rattle.std.proofs.lemmas.Bool.Decides.{nat_tests}
+use Rattle.std.proofs.lemmas.Result.{IfErr-weaker}
 use Rattle.chaosd_engines.specs.declared.limits.TheConstants.{LINE_LIMIT}
+use Rattle.chaosd_engines.specs.Buffer.{written_of}
+use Rattle.chaosd_engines.proofs.Steps.{on_ok}
 use Rattle.chaosd_script.specs.Script.{PlaysLine}
 use Rattle.chaosd_script.proofs.Plays.{too_long_stops, plays_event, event_stops, on_fault}
 use Rattle.chaosd_script.proofs.player.Player.play_one.Goals as goal
 
 pub returns-then-line-gt-LINE_LIMIT-clause-stops : goal.returns-then-line-gt-LINE_LIMIT-clause-stops
-returns-then-line-gt-LINE_LIMIT-clause-stops g c before held ended s =
+returns-then-line-gt-LINE_LIMIT-clause-stops g c before ended s =
     let raw = c.args.raw.now in
     let line : c.without_return-line.result.now ≡ strip_last 13 raw = c.without_return-line.ensures in
     let x = c.if-line-gt-LINE_LIMIT.true in
@@ -15,17 +18,24 @@ returns-then-line-gt-LINE_LIMIT-clause-stops g c before held ended s =
 
 pub returns-in_err-refused-clause-stops : goal.returns-in_err-refused-clause-stops
 returns-in_err-refused-clause-stops g c =
-    on_fault c.from_residual.result c.in_err-refused.field-0.0 _ c.from_residual.ensures.1 (λ before held ended s.
+    on_fault c.from_residual.result c.in_err-refused.field-0.0 _ c.from_residual.ensures.1 (λ before ended s.
     let raw = c.args.raw.now in
     let line : c.without_return-line.result.now ≡ strip_last 13 raw = c.without_return-line.ensures in
-    event_stops g.S.Stage.script c.in_err-refused.field-0.0 before held _ ended raw _ _ c.in-Some.lab c.in-Some.is (subst (λ l. ltb LINE_LIMIT (length l) ≡ false) line (grind (arith, nat_tests)))
+    event_stops g.S.Stage.script c.in_err-refused.field-0.0 before _ _ _ ended raw c.in-Some.lab c.in-Some.is (subst (λ l. ltb LINE_LIMIT (length l) ≡ false) line (grind (arith, nat_tests)))
     c.in_err-refused.ensures.faults
     (λ n e. let (number, said, same) = c.in_err-refused.ensures.bad n e in (number, ap g.S.Stage.script.event (sym line) ∙ said, same))
-    (λ e. let (said, more) = c.in_err-refused.ensures.no_memory e in (λ none. said (ap g.S.Stage.script.event line ∙ none), λ ready. let (text, wants, wrote) = more ready in (text, subst (λ l. g.S.Stage.script.wants l text) line wants, wrote))) s)
+    (λ e. let (said, more) = c.in_err-refused.ensures.no_memory e in (λ none. said (ap g.S.Stage.script.event line ∙ none), λ ready. let (text, wants, wrote) = more ready in (text, subst (λ l. g.S.Stage.script.wants c.in-Some.lab l text) line wants, wrote))) s)
 
 pub returns-clause-plays : goal.returns-clause-plays
-returns-clause-plays g c before held ended s =
+returns-clause-plays g c before ended s =
     let raw = c.args.raw.now in
     let line : c.without_return-line.result.now ≡ strip_last 13 raw = c.without_return-line.ensures in
-    plays_event g.S.Stage.script before held _ _ ended raw _ _ c.in-Some.lab c.play.new.self c.in_ok-refused.refused c.in-Some.is (search rules) (subst (λ l. ltb LINE_LIMIT (length l) ≡ false) line (grind (arith, nat_tests)))
-    (subst (λ l. g.S.Stage.script.ready c.in-Some.lab → PlaysLine g.S.Stage.script l c.in-Some.lab c.play.new.self c.args.self.now.out c.play.new.out c.in_ok-refused.refused × g.S.Stage.script.ready c.play.new.self) line c.in_ok-refused.ensures.played) s
+    plays_event g.S.Stage.script before _ _ _ _ ended raw c.in-Some.lab c.play.new.self c.in_ok-refused.refused c.in-Some.is (search rules) (subst (λ l. ltb LINE_LIMIT (length l) ≡ false) line (grind (arith, nat_tests)))
+    (subst (λ l. g.S.Stage.script.ready c.in-Some.lab → PlaysLine g.S.Stage.script l c.in-Some.lab c.play.new.self (written_of (g.W.Write.contents c.args.writer.now) c.args.self.now.out) (written_of (g.W.Write.contents c.play.new.writer) c.play.new.out) c.in_ok-refused.refused × g.S.Stage.script.ready c.play.new.self) line c.in_ok-refused.ensures.played) s
+
+-- the first line, whatever the writer holds
+pub returns-in_default-clause-plays : goal.returns-in_default-clause-plays
+returns-in_default-clause-plays g c = on_ok c.play_first.result (λ plays _. plays (g.W.Write.contents c.args.writer.now)) c.play_first.ensures.plays c.play_first.ensures.plays
+
+pub returns-in_default-clause-stops : goal.returns-in_default-clause-stops
+returns-in_default-clause-stops g c = IfErr-weaker c.play_first.result _ _ (λ fault stops. stops (g.W.Write.contents c.args.writer.now)) c.play_first.ensures.stops
