@@ -13,7 +13,7 @@ use Rattle.chaos_lab.specs.Machine.Phase.{RfcSent, Open}
 use Rattle.chaos_lab.specs.Shown.{place_of}
 use Rattle.chaos_lab.specs.Laboratory.{LabView, Happening, lab_end, happen, after_all, after_call, clock_after}
 use Rattle.chaos_lab.specs.Laboratory.Happening.{AcceptFrom, DeliverCopy}
-use Rattle.chaos_lab.specs.Opening.{again_moment, asking, accepting, repeating, opening_in, opening, SendsInTime, CanOpen, AreOpeningHelp, WritesOpn, Opens, opening_moment, CanGoOn}
+use Rattle.chaos_lab.specs.Opening.{again_moment, asking, accepting, repeating, opening_in, opening, SendsInTime, CanOpen, AreOpeningHelp, WritesOpn, Opens, opening_moment, HasTimeToSettle}
 use Rattle.chaos_lab.specs.Progress.{AreTaken, CanSettle}
 use Rattle.chaos_lab.specs.Tied.{Ties, HasMachine}
 use Rattle.chaos_lab.proofs.Accepting.{OpnAt, WroteOpn, accept_event, repeat_event}
@@ -294,8 +294,8 @@ pub opens : (l : LabView) → HasMachine l → ((x : Side) → IsConn (lab_end l
 opens l h conns start can = (opens_well l start h conns can).opens
 
 -- and then the ends can settle
-pub goes_on : (l : LabView) → HasMachine l → ((x : Side) → IsConn (lab_end l x).conn) → (start : ℕ) → CanOpen l → CanGoOn l → CanSettle (after_all l (opening start l))
-goes_on l h conns start can more =
+pub settles_then : (l : LabView) → HasMachine l → ((x : Side) → IsConn (lab_end l x).conn) → (start : ℕ) → CanOpen l → HasTimeToSettle l → CanSettle (after_all l (opening start l))
+settles_then l h conns start can more =
     let g = opens_well l start h conns can in
     let m : LabView = after_all l (opening start l) in
     let ra : m.a.conn.config.retransmit ≡ l.a.conn.config.retransmit = ap (λ c. c.retransmit) (g.stays.config A) in

@@ -97,6 +97,6 @@ abbrev pub opening_moment : LabView → ℕ
 opening_moment l = max (max (again_moment l.a.conn) (again_moment l.b.conn)) l.clock
 
 -- Both ends send again what was lost before they would count the other as down, and moments are left for that once they have opened.
-pub record CanGoOn (l : LabView) : Type 0 where
+pub record HasTimeToSettle (l : LabView) : Type 0 where
   pub in_time : (x : Side) → (lab_end l x).conn.config.retransmit < (lab_end l x).conn.config.down
   pub moments : opening_moment l + l.a.conn.config.retransmit + l.b.conn.config.retransmit ≤ last_moment

@@ -13,7 +13,7 @@ ghost use Rattle.chaos_lab.specs.Machine.{Machine, Step, Run, other, greatest_wi
 ghost use Rattle.chaos_lab.specs.Laboratory.{LabView, Happening, Happens, happen, check, lab_end, lab_start, start_for, after_all};
 ghost use Rattle.chaos_lab.specs.Laboratory.Happening.{TickOf, DeliverCopy};
 ghost use Rattle.chaos_lab.specs.Headline.{IsCopyOf, ComesInside, Unclosed, ReadsInTurn};
-ghost use Rattle.chaos_lab.specs.Opening.{CanOpen, Opens, CanGoOn, opening};
+ghost use Rattle.chaos_lab.specs.Opening.{CanOpen, Opens, HasTimeToSettle, opening};
 ghost use Rattle.chaos_lab.specs.Progress.{CanSettle, Settles, ReadThrough, Waits, IsDue, Round, GoesOn, Rounds, ComesAgain, IsAnswered, Report, Knows, HadRead, KeepsNone};
 ghost use Rattle.chaos_lab.specs.Settling.{settling};
 ghost use Rattle.chaos_lab.specs.Inside.{happening_of};
@@ -204,7 +204,7 @@ impl Lab {
     /// deliver only what is sent now, and nothing that was written is lost. Then its ends can settle.
     pub fn law_opening(&self)
         ensures opens { (start : ℕ) → CanOpen self.now → Opens self.now (opening start self.now) }
-        ensures settles { (start : ℕ) → CanOpen self.now → CanGoOn self.now → CanSettle (after_all self.now (opening start self.now)) }
+        ensures settles { (start : ℕ) → CanOpen self.now → HasTimeToSettle self.now → CanSettle (after_all self.now (opening start self.now)) }
     {
         self.rig.sound();
     }
