@@ -57,3 +57,4 @@ pub mod Accepting
 pub mod Meeting
 pub mod Opens
 pub mod NewOpens
+pub mod Held
