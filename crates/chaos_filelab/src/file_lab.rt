@@ -3,8 +3,8 @@ ghost use Rattle.std.specs.Prelude.{◌≡◌, ◌||◌, ◌≤◌, length, code
 ghost use Rattle.chaos_conn.specs.Calls.{front_of};
 ghost use Rattle.chaos_lab.specs.Laboratory.Happening.{AnnounceBy, TickOf};
 ghost use Rattle.chaos_lab.specs.Settling.{resend_moment};
-ghost use Rattle.chaos_filelab.specs.Progress.{CanServe};
-ghost use Rattle.chaos_filelab.specs.Settling.{unread};
+ghost use Rattle.chaos_filelab.specs.Progress.{CanServe, Serves};
+ghost use Rattle.chaos_filelab.specs.Settling.{file_settling, unread};
 ghost use Rattle.std.specs.FinMap as files;
 ghost use Rattle.chaos_file.specs.Session.{new_session};
 ghost use Rattle.chaos_conn.specs.Stored.{stored_packets, stored_bytes};
@@ -24,7 +24,7 @@ use chaos_conn::ConnConfig;
 use chaos_file::{MemStore, Session, is_want, law_memory, law_replies, law_want};
 use chaos_lab::{Event, KeptItem, Lab, LabFault, Side, Stamped, law_delivery, law_phases};
 use chaos_packet::{Kind, PktNum};
-use chaos_serve::{CONTACT, Served};
+use chaos_serve::{CONTACT, Served, law_reply_taken};
 use std::alloc::{AllocError, Global};
 use std::marker::Model;
 
@@ -211,6 +211,19 @@ impl FileLab {
     {
         self.lab.law_headline();
         law_replies();
+    }
+
+    /// Progress of FILE: whatever happened in a laboratory that can settle, there are few events after which each command that A wrote
+    /// was served and its reply read, and nothing is left to be read or sent. Nothing that was lost, late or out of order keeps the
+    /// ends from it, and no window that was announced. Where there is no memory for the histories or at the server, it doesn't hold.
+    pub fn law_progress(&self)
+        ensures { CanServe self.now → Serves self.now (file_settling self.now) }
+    {
+        self.lab.law_headline();
+        self.lab.law_sound();
+        law_phases();
+        law_replies();
+        law_reply_taken();
     }
 
     /// Whether it can settle, by the events of [`FileSettling`](crate::FileSettling): both ends are open, each sends again before it

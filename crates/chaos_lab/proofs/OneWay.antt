@@ -1,5 +1,5 @@
 -- One way of settling, step by step: an end is told, sends again, and the other end's user reads what comes.
-use Rattle.std.proofs.Common.{◌≡◌, ℕ, zero, suc, ◌+◌, ◌-◌, ◌<◌, ◌≤◌, max, List, [], ◌∷◌, ◌++◌, length, true, false, Option, Some, None, refl, sym, ap, ◌∙◌, subst, inl, inr, ◌⊎◌, ⊎_elim, arith, map, length-drop, length-append}
+use Rattle.std.proofs.Common.{◌≡◌, ℕ, zero, suc, ◌+◌, ◌-◌, ◌<◌, ◌≤◌, max, List, [], ◌∷◌, ◌++◌, length, true, false, Option, Some, None, refl, sym, ap, ◌∙◌, subst, inl, inr, ◌⊎◌, ⊎_elim, arith, map, length-drop, length-append, append_assoc}
 use Rattle.std.specs.Prelude.{is_none, slice_get}
 use Rattle.std.specs.FinSet.{contains}
 use Rattle.std.proofs.lemmas.Bool.{cond_both, cases_lt, false≢true}
@@ -22,7 +22,7 @@ use Rattle.chaos_lab.specs.Law.{IsThere}
 use Rattle.chaos_lab.specs.Laboratory.{LabView, Happening, lab_end, happen, after_all}
 use Rattle.chaos_lab.specs.Laboratory.Happening.{ReadBy, AnnounceBy, TickOf, DeliverCopy}
 use Rattle.chaos_lab.specs.Tied.{Ties}
-use Rattle.chaos_lab.specs.Settling.{telling, told, last_moment, resend_moment, again, reading, reading_on, coming, bringing, taking}
+use Rattle.chaos_lab.specs.Settling.{telling, told, last_moment, resend_moment, again, reading, reading_on, coming, taking_in, taking}
 use Rattle.chaos_lab.proofs.Total.{received}
 use Rattle.chaos_lab.proofs.Arriving.{heard_there}
 use Rattle.chaos_lab.proofs.Machines.{reached_holds, end_holds}
@@ -32,7 +32,7 @@ use Rattle.chaos_lab.proofs.OnSide.{conn_at}
 use Rattle.chaos_lab.proofs.Keeps.{Keeps, CopyAt, keeps_through}
 use Rattle.chaos_lab.proofs.Helping.{SameTimes, HeardNow, OnTime, Burst, Copies, Announces, Sends, next_moment, read_event, copy_event, announce_event, hears_at, tick_event, packets_count, past_front, burst_keeps, copies_keep, copies_after, stamp_after, same_count, shows}
 use Rattle.chaos_lab.proofs.Waiting.{waiting}
-use Rattle.chaos_lab.proofs.Playing.{Plays, plays_none, plays_one, plays_both, plays_first}
+use Rattle.chaos_lab.proofs.Playing.{Plays, after_both, plays_none, plays_one, plays_both, plays_first}
 
 -- both ends are open
 abbrev pub AreOpen : Machine → Type 0
@@ -397,13 +397,7 @@ arrived_near : (e p : Plain) (r : ℕ) → Sound e p → ((i : ℕ) → i < r �
 arrived_near e p zero d here = omega arith
 arrived_near e p (suc r) d here = let last = d.inside r (here r (omega arith)) in omega (arith, last)
 
--- the copies from the first up to the last come, and its user reads what had come before, and after each
-abbrev pub taking_in : Side → ℕ → ℕ → LabView → List Happening
-taking_in y first last l =
-    let read = reading_on y (lab_end l y).conn.config.recv_cap l in
-    read ++ coming y first (last - first) (after_all l read)
-
--- so it reads all that was written
+-- its user reads all that was written
 pub record TakesIn (n : ℕ) (x : Side) (first last : ℕ) (w : Machine) (l : LabView) : Type 0 where
   pub machine : Machine
   pub plays : Plays n w l (taking_in (other x) first last l) machine
@@ -446,40 +440,27 @@ pub record Takes (n : ℕ) (x : Side) (first last : ℕ) (w : Machine) (l : LabV
   pub plays : Plays n w l (taking (other x) first last l) machine
   pub done : IsDone machine x
 
+taking_is : (y : Side) (first last : ℕ) (l : LabView) → taking_in y first last l ++ telling y (after_all l (taking_in y first last l)) ≡ taking y first last l
+taking_is y first last l =
+    let read : List Happening = reading_on y (lab_end l y).conn.config.recv_cap l in
+    let m : LabView = after_all l read in
+    let come : List Happening = coming y first (last - first) m in
+    ap (λ (k : LabView). (read ++ come) ++ telling y k) (after_both l read come) ∙ append_assoc read come (telling y (after_all m come))
+
 pub takes : (n : ℕ) (x : Side) (first last r : ℕ) (w : Machine) (l : LabView) → Ties w l → AreOpen w → 1 ≤ (end_of w (other x)).announced → Burst w x first r → Copies w x first last → first ≤ last → length (end_of w x).written ≤ r + (last - first) → n ≤ first → n ≤ length l.copies → Takes n x first last w l
 takes n x first last r w l t opens some burst all upto enough from long =
     let y : Side = other x in
-    let count : ℕ = last - first in
-    let h = end_holds w x (reached_holds w t.tied.reached) in
-    let times : ℕ = (lab_end l y).conn.config.recv_cap in
-    let cap : times ≡ (end_of w y).recv_cap = ap (λ (c : ConnView). c.config.recv_cap) (shows y w l t (opens y)).is in
-    let a = reads_on times n y r w l t (opens y) burst.arrived in
-    let u : Machine = a.machine in
-    let ku : Keeps w u = a.plays.keeps in
-    let read : r ≤ length (end_of u y).read =
-    ⊎_elim (λ (q : r ≤ length (end_of u y).read). q)
-    (λ (q : length (end_of w y).read + times ≤ length (end_of u y).read).
-    let far = arrived_near (end_of w x) (end_of w y) r h.writer burst.arrived in
-    omega (arith, q, cap, far))
-    a.read in
-    let m : LabView = after_all l (reading_on y times l) in
-    let b = burst_comes count n x first r 0 last first u m (omega arith) a.plays.ties ((ku.ends y).opened (opens y)) ((ku.ends y).announces some)
-    (burst_keeps w u x first r ku burst) (copies_keep w u x first last ku all) (omega (arith, upto)) from (inr (omega (arith, read))) in
-    let v : Machine = b.machine in
-    let kv : Keeps w v = keeps_through w u v ku b.plays.keeps in
-    let q : LabView = after_all m (coming y first count m) in
+    let a = takes_in n x first last r w l t opens some burst all upto enough from in
+    let v : Machine = a.machine in
+    let es : List Happening = taking_in y first last l in
+    let q : LabView = after_all l es in
     let there : length l.copies ≡ length w.copies = same_count w l t in
-    let here : length q.copies ≡ length v.copies = same_count v q b.plays.ties in
-    let c = told_by n x v q b.plays.ties (stay_open w v kv opens) (omega (arith, there, here, kv.count, long)) in
+    let here : length q.copies ≡ length v.copies = same_count v q a.plays.ties in
+    let c = told_by n x v q a.plays.ties (stay_open w v a.plays.keeps opens) (omega (arith, there, here, a.plays.keeps.count, long)) in
     let z : Machine = c.machine in
-    let before : length (end_of v x).written ≡ length (end_of w x).written = ap length (kv.ends x).written in
     let same : length (end_of z x).written ≡ length (end_of v x).written = ap length (c.plays.keeps.ends x).written in
     record {
       machine = z;
-      plays = plays_both n w u z l (reading_on y times l) (bringing y first last m) a.plays
-          (plays_both n u v z m (coming y first count m) (telling y q) b.plays c.plays);
-      done = ⊎_elim
-          (λ (g : length (end_of v x).written ≤ length (end_of v y).read). omega (arith, g, same, c.heard))
-          (λ (g : r + 0 + count ≤ length (end_of v y).read). omega (arith, g, enough, before, same, c.heard))
-          b.read;
+      plays = subst (λ es. Plays n w l es z) (taking_is y first last l) (plays_both n w v z l es (telling y q) a.plays c.plays);
+      done = omega (arith, a.read, same, c.heard);
     }
