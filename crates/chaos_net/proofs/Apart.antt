@@ -19,7 +19,6 @@ use Rattle.chaos_conn.specs.Act.Call.{TakeRequest, Deliver}
 use Rattle.chaos_conn.specs.Act.Reply.{Came}
 use Rattle.chaos_conn.specs.Names.{Opens, Stays, is_named, is_opened}
 use Rattle.chaos_conn.proofs.Alike.{not_rfc}
-use Rattle.chaos_conn.proofs.ConfigStays.{config_stays}
 use Rattle.chaos_conn.proofs.NamesStay.{opens_or_stays}
 use Rattle.chaos_host.specs.declared.route.Route.{Route}
 use Rattle.chaos_host.specs.declared.route.Route.TheVariants as to
@@ -27,7 +26,7 @@ use Rattle.chaos_host.specs.declared.slot.Slot.{Slot}
 use Rattle.chaos_host.specs.Slot.{is_used}
 use Rattle.chaos_host.specs.View.{HostView}
 use Rattle.chaos_host.specs.Route.{route}
-use Rattle.chaos_host.specs.Deeds.{HostMade, HostEvent, Deed, IsDeed, IsDone, host_made, deed_of, deed_by, by_used, by_free}
+use Rattle.chaos_host.specs.Deeds.{HostEvent, Deed, IsDeed, host_made, deed_of, deed_by, by_used, by_free}
 use Rattle.chaos_host.specs.Deeds.HostEvent.{Comes}
 use Rattle.chaos_host.specs.Deeds.Deed.{Nothing, Does}
 use Rattle.chaos_host.proofs.Deeds.{has_deeds}
@@ -42,7 +41,7 @@ use Rattle.chaos_net.specs.Apart.{ChangesPeerAlone, IsAsBefore, BareAddsNothing}
 use Rattle.chaos_net.proofs.Lists.{some_eq}
 use Rattle.chaos_net.proofs.Holding.{name_eq, twice}
 use Rattle.chaos_net.proofs.Next.{look_own, look_other}
-use Rattle.chaos_net.proofs.Goes.{IsArrival, GoingOn, arrived}
+use Rattle.chaos_net.proofs.Goes.{GoingOn, arrived}
 use Rattle.chaos_net.proofs.Network.{reached_is_played}
 
 -- ---- the deed of a packet that comes
@@ -80,7 +79,7 @@ stories_after : (n : Net) (x : Side) (event : HostEvent) (from : Option Name) (d
 stories_after n A event from d = refl
 stories_after n B event from d = refl
 
-comes_after : (n : Net) (x : Side) (number now : ℕ) (q : Sent) (d : Name) → slice_get (n (other x)).sent number ≡ Some q
+pub comes_after : (n : Net) (x : Side) (number now : ℕ) (q : Sent) (d : Name) → slice_get (n (other x)).sent number ≡ Some q
     → (happens n (Arrives x number now) x).story d ≡ (after_deed (n x) (deed_of (n x).host (Comes q.packet now)) q.by).story d
 comes_after n x number now q d there = ap (λ o. (arrives n x now o x).story d) there ∙ stories_after n x (Comes q.packet now) q.by d
 
@@ -228,18 +227,20 @@ bare_adds_nothing n x number now q d s r there bare at =
         let c0 : Name = present own place in
         let next : Option Story = story_after (own.story c0) k.slot.conn (Deliver p moment) q.by in
         ⊎_elim
-        (λ (same : d ≡ c0).
-        (goes_on s (Deliver p moment) q.by,
-        ap (λ z. (after_slot own place (Deliver p moment) q.by z).story d) k.there
-        ∙ ap (with_story own.story c0 next) same
-        ∙ look_own own.story c0 next
-        ∙ ap (λ z. story_after z k.slot.conn (Deliver p moment) q.by) (ap own.story (sym same) ∙ at),
-        as_before s p moment q.by (ap (λ (z : PacketView). carries_ack (kind_of z.op)) o ∙ bare)))
+        (λ (same : d ≡ c0). (
+          goes_on s (Deliver p moment) q.by,
+          ap (λ z. (after_slot own place (Deliver p moment) q.by z).story d) k.there
+              ∙ ap (with_story own.story c0 next) same
+              ∙ look_own own.story c0 next
+              ∙ ap (λ z. story_after z k.slot.conn (Deliver p moment) q.by) (ap own.story (sym same) ∙ at),
+          as_before s p moment q.by (ap (λ (z : PacketView). carries_ack (kind_of z.op)) o ∙ bare),
+        ))
         (λ (apart : d ≡ c0 → ⊥). (s, kept place (Deliver p moment) k.slot k.there apart, record { written = refl; read = refl; peer = refl }))
         (name_eq d c0)
     by (Does place (TakeRequest p me moment)) o k =
-        let none = ((h x).station.slots place k.slot k.there).free k.fits.0 in
-        (s,
-        kept place (TakeRequest p me moment) k.slot k.there (λ same. let no : None ≡ Some s = sym none ∙ ap own.story (sym same) ∙ at in absurd (cc)),
-        record { written = refl; read = refl; peer = refl })
+        let none = ((h x).station.slots place k.slot k.there).free k.fits.0 in (
+          s,
+          kept place (TakeRequest p me moment) k.slot k.there (λ same. let no : None ≡ Some s = sym none ∙ ap own.story (sym same) ∙ at in absurd (cc)),
+          record { written = refl; read = refl; peer = refl },
+        )
     by (Does place call) o k = absurd o

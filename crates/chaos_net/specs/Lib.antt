@@ -5,3 +5,4 @@ pub mod Lasting
 pub mod Present
 pub mod Hello
 pub mod Apart
+pub mod InTurn

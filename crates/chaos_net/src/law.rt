@@ -4,6 +4,7 @@ ghost use Rattle.std.specs.Prelude.{◌≡◌};
 ghost use Rattle.chaos_lab.specs.declared.side.Side.{Side};
 ghost use Rattle.chaos_net.specs.Apart.{ChangesPeerAlone, BareAddsNothing};
 ghost use Rattle.chaos_net.specs.Hello.{SomethingIsRead};
+ghost use Rattle.chaos_net.specs.InTurn.{ReadsInTurn};
 ghost use Rattle.chaos_net.specs.Lasting.{StoriesLast};
 ghost use Rattle.chaos_net.specs.Net.{Net, Name, Holds, NetworkLaw};
 ghost use Rattle.chaos_net.specs.Played.{ArePlayed};
@@ -21,6 +22,12 @@ pub fn law_network()
 /// Where each pair of connections is played by a laboratory, the law holds: what `law_network` rests on.
 pub fn law_net_holds()
     ensures { (n : Net) (x : Side) (name : Name) → ArePlayed n → Holds n x name }
+{}
+
+/// An item that came is read in its turn. Where item i of a connection comes to its peer, which is open, inside the window that this
+/// announces, a read of the peer hands it out once all items before it are read, whatever happened since, until its user closes.
+pub fn law_in_turn()
+    ensures { ReadsInTurn }
 {}
 
 /// How stories last. Whatever happens, no story is lost, both its lists grow at their ends alone, and a peer that is known never

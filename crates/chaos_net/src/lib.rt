@@ -3,4 +3,7 @@
 
 mod law;
 
-pub use law::{law_apart, law_lasting, law_net_holds, law_network, law_present, law_reached, law_short};
+pub use law::{
+    law_apart, law_in_turn, law_lasting, law_net_holds, law_network, law_present, law_reached,
+    law_short,
+};
