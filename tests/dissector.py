@@ -31,13 +31,14 @@ from program import DONE, Checks, run  # noqa: E402
 ROOT = program.HERE.parent
 DISSECTOR = ROOT / "tools/wireshark/chaosnet.lua"
 PROTOCOL = ROOT / "docs/PROTOCOL.md"
+SCRIPTS = ROOT / "docs/SCRIPTS.md"
 HELLO, LOGIN = ROOT / "examples/hello.file", ROOT / "examples/login.hex"
 
 # The sockets that stand in the captures, as in the README.
 SERVER_PORT, CLIENT_PORT = 9001, 9002
 MARK_1, MARK_2 = b"CH\x01\x00", b"CH\x02"
 FWD, ANS, LSN = 0o4, 0o5, 0o12
-# What the texts of docs/PROTOCOL.md were printed by.
+# What the texts of docs/SCRIPTS.md were printed by.
 DOCUMENTED = "4.0"
 
 COUNT, SEED = 2_000, 1981
@@ -396,7 +397,7 @@ def several_packets(checks, tshark):
     checks.check("and `show` says so too", differences([report.partition("\n")[0] for report in reports], fronts))
 
 
-# docs/PROTOCOL.md.
+# docs/PROTOCOL.md and docs/SCRIPTS.md.
 
 
 def documented_session():
@@ -407,7 +408,7 @@ def documented_session():
 
 def documented_commands():
     """The commands of the section on Wireshark, each with what it prints."""
-    _, _, section = PROTOCOL.read_text().partition("\n## In Wireshark\n")
+    _, _, section = SCRIPTS.read_text().partition("\n## In Wireshark\n")
     for block in re.findall(r"```text\n(.*?)```", section.partition("\n## ")[0], re.S):
         for command in re.split(r"^\$ ", block, flags=re.M)[1:]:
             line, _, text = command.partition("\n")
@@ -415,11 +416,11 @@ def documented_commands():
 
 
 def document(checks, tshark):
-    """docs/PROTOCOL.md shows what its commands print, of the datagrams in its table."""
+    """docs/SCRIPTS.md shows what its commands print, of the datagrams in the table of docs/PROTOCOL.md."""
     hexes = [bytes.fromhex(line) for line in LOGIN.read_text().splitlines()]
     checks.check("examples/login.hex has the datagrams of the table", differences(documented_session(), hexes))
     if not tshark.version().startswith(DOCUMENTED):
-        print(f"(tshark is {tshark.version()}: what docs/PROTOCOL.md shows of {DOCUMENTED} isn't compared)")
+        print(f"(tshark is {tshark.version()}: what docs/SCRIPTS.md shows of {DOCUMENTED} isn't compared)")
         return
     with tempfile.TemporaryDirectory() as home:
         for name in ["examples", "tools"]:

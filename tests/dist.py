@@ -26,6 +26,7 @@ ROOT = program.HERE.parent
 NAMES = {
     "bin/chaosd", "share/man/man1/chaosd.1", "wireshark/chaosnet.lua", "README.md", "CHANGELOG.md", "LICENSE-APACHE", "LICENSE-MIT",
     "examples/hello.file", "examples/chaosd.service", "examples/lab/opening.lab", "docs/PROTOCOL.md",
+    "docs/FILE.md", "docs/SCRIPTS.md", "examples/lisp/chaosd.lisp", "examples/vectors/session.txt",
 }  # fmt: skip
 
 

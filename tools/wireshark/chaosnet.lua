@@ -8,7 +8,7 @@
 -- A datagram is the mark 43 48, then a version:
 --   01 00  and the words of one packet, each high byte first, and nothing more;
 --   02 N   and N packets, from 1 to 8, one after the other, and nothing more, at most 2,020 bytes in all.
--- The format of a packet and the FILE language are told in docs/PROTOCOL.md. The faults are those of `chaosd show`.
+-- The format of a packet and the FILE language are told in docs/PROTOCOL.md and docs/FILE.md. The faults are those of `chaosd show`.
 
 local chaosnet = Proto("chaosnet", "Chaosnet")
 local file = Proto("chaosnet.file", "Chaosnet FILE")
