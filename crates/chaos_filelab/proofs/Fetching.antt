@@ -122,12 +122,14 @@ fetched laws n room before unread w l t opens some saved count =
         let m : LabView = (happen l (DeliverCopy number)).lab in
         let quiet = quiet_all laws (DeliverCopy number ∷ []) l (tt, tt) (record { plain = w; ties = t }) in
         let same : length v.b.read ≡ i = ap length (sym (read_at B v m d.ties) ∙ quiet.read ∙ read_at B w l t) in
-        let there : IsThere v.b i = subst (λ (e : Plain). IsThere e i) (sym d.came.is) (took_there c.copy.kind i c.copy.told w.a w.b c.kind (omega arith) some) in
-        (v, plays_one n w v l (DeliverCopy number) (omega (arith, c.late, place)) d.taken d.ties d.came.keeps,
-        ⊎_elim
-        (λ (u : i < length v.b.read). absurd (omega (arith, u, same)))
-        (λ (u : contains v.b.arrived i ≡ true). ap (contains v.b.arrived) same ∙ u)
-        there)
+        let there : IsThere v.b i = subst (λ (e : Plain). IsThere e i) (sym d.came.is) (took_there c.copy.kind i c.copy.told w.a w.b c.kind (omega arith) some) in (
+          v,
+          plays_one n w v l (DeliverCopy number) (omega (arith, c.late, place)) d.taken d.ties d.came.keeps,
+          ⊎_elim
+              (λ (u : i < length v.b.read). absurd (omega (arith, u, same)))
+              (λ (u : contains v.b.arrived i ≡ true). ap (contains v.b.arrived) same ∙ u)
+              there,
+        )
 
 -- ---- and A's user tells
 

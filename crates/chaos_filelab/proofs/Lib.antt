@@ -14,3 +14,4 @@ pub mod Serving
 pub mod Answered
 pub mod Walk
 pub mod Settles
+pub mod Before

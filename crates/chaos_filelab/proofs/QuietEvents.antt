@@ -9,12 +9,12 @@ use Rattle.chaos_lab.specs.declared.side.Side.TheVariants.{A, B}
 use Rattle.chaos_lab.specs.Machine.{Machine, Reached, Resize, Read, Tick, Step}
 use Rattle.chaos_lab.specs.Laboratory.{LabView, Happening, Done, lab_end, happen, after_all}
 use Rattle.chaos_lab.specs.Laboratory.Happening.{WriteBy, ReadBy, AnnounceBy, TickOf, CloseBy, AcceptFrom, DeliverCopy}
-use Rattle.chaos_lab.specs.Settling.{telling, told, again, reading, reading_on, coming}
+use Rattle.chaos_lab.specs.Settling.{telling, told, again, reading, reading_on, coming, taking_in}
 use Rattle.chaos_lab.specs.Tied.{HasMachine, plain_event}
 use Rattle.chaos_lab.proofs.OnSide.{Outcome, Refuses, Steps}
 use Rattle.chaos_lab.proofs.LabTies.{event_ties}
 use Rattle.chaos_filelab.specs.Events.{is_by_server}
-use Rattle.chaos_filelab.specs.Settling.{fetching, asking, replying, taking_in, b_sending, b_hearing}
+use Rattle.chaos_filelab.specs.Settling.{fetching, asking, replying, b_sending, b_hearing}
 use Rattle.chaos_filelab.proofs.QuietSteps.{PhaseLaws, Stays, at_a, at_b, comes_to, resize_stays, tick_stays}
 
 abbrev pub IsQuiet : Happening → Type 0
@@ -60,7 +60,7 @@ quiet_coming (suc k) copy l =
     let m : LabView = (happen l (DeliverCopy copy)).lab in
     (tt, quiet_both (reading A m) (coming A (copy + 1) k (after_all m (reading A m))) (quiet_reading m) (quiet_coming k (copy + 1) (after_all m (reading A m))))
 
-quiet_taking : (first last : ℕ) (l : LabView) → AreQuiet (taking_in first last l)
+quiet_taking : (first last : ℕ) (l : LabView) → AreQuiet (taking_in A first last l)
 quiet_taking first last l =
     let times : ℕ = (lab_end l A).conn.config.recv_cap in
     let m : LabView = after_all l (reading_on A times l) in

@@ -14,7 +14,7 @@ use Rattle.chaos_lab.specs.Machine.Kind.{Nth}
 use Rattle.chaos_lab.specs.Laboratory.{LabView, Happening, lab_end, after_all}
 use Rattle.chaos_lab.specs.Laboratory.Happening.{AnnounceBy, TickOf, DeliverCopy}
 use Rattle.chaos_lab.specs.Progress.{IsInTime, CanSettle, IsSettled}
-use Rattle.chaos_lab.specs.Settling.{telling, told, last_moment, resend_moment, settling_moment, reading_on, coming}
+use Rattle.chaos_lab.specs.Settling.{telling, told, last_moment, resend_moment, settling_moment, reading_on, coming, taking_in}
 use Rattle.chaos_lab.specs.Tied.{Ties, HasMachine}
 use Rattle.chaos_lab.proofs.Machines.{reached_holds, end_holds}
 use Rattle.chaos_lab.proofs.Lists.{begins_shorter}
@@ -29,7 +29,7 @@ use Rattle.chaos_filelab.specs.Bodies.{data_bodies}
 use Rattle.chaos_filelab.specs.View.{FileLabView, commands_of, commands_at_b, replies_to_a, replies_of_b}
 use Rattle.chaos_filelab.specs.Kept.{AreAnswered}
 use Rattle.chaos_filelab.specs.Events.{FileHappening}
-use Rattle.chaos_filelab.specs.Settling.{after_events, in_lab, then_on, taking_in, b_sending, b_hearing, serving, unread, homing, file_settling}
+use Rattle.chaos_filelab.specs.Settling.{after_events, in_lab, then_on, b_sending, b_hearing, serving, unread, homing, file_settling}
 use Rattle.chaos_filelab.specs.Progress.{CanServe, AllServed, Serves, most_file_events}
 use Rattle.chaos_filelab.proofs.QuietEvents.{AreQuiet, quiet_all, quiet_hearing}
 use Rattle.chaos_filelab.proofs.Passed.{Passes, passes_most, passes_lab}
@@ -107,7 +107,7 @@ sends n w l t opens from time moments =
 
 -- ---- A's user reads the replies that were there
 
-taking_in_fits : (first last : ℕ) (w : Machine) (l : LabView) → Ties w l → (end_of w A).phase ≡ Open → last ≤ first + 64 → length (taking_in first last l) ≤ 192
+taking_in_fits : (first last : ℕ) (w : Machine) (l : LabView) → Ties w l → (end_of w A).phase ≡ Open → last ≤ first + 64 → length (taking_in A first last l) ≤ 192
 taking_in_fits first last w l t at near =
     let times : ℕ = (lab_end l A).conn.config.recv_cap in
     let m : LabView = after_all l (reading_on A times l) in
@@ -140,9 +140,9 @@ brings_home n u m t opens from time moment =
     let taking = taking_in_fits from_b to_b v q b.ties (open_v A) b.few in
     record {
       machine = home.machine;
-      plays = plays_both n u v home.machine m (telling A m ++ TickOf B (resend_moment B (told A m)) ∷ []) (taking_in from_b to_b q) b.plays home.plays;
+      plays = plays_both n u v home.machine m (telling A m ++ TickOf B (resend_moment B (told A m)) ∷ []) (taking_in A from_b to_b q) b.plays home.plays;
       home = home.read;
-      few = three_more (AnnounceBy A (conn_at m A).config.recv_cap) (DeliverCopy (length m.copies)) (TickOf B (resend_moment B (told A m))) (taking_in from_b to_b q) taking;
+      few = three_more (AnnounceBy A (conn_at m A).config.recv_cap) (DeliverCopy (length m.copies)) (TickOf B (resend_moment B (told A m))) (taking_in A from_b to_b q) taking;
     }
 
 -- ---- so B may begin to serve

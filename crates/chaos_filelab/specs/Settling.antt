@@ -1,10 +1,10 @@
 -- How FILE settles: the events of a good network, of a client who reads and of a server that serves.
-use Rattle.std.specs.Prelude.{ℕ, zero, suc, ◌-◌, nat_lt, List, [], ◌∷◌, ◌++◌, length, map, is_none, if◌then◌else◌}
+use Rattle.std.specs.Prelude.{◌≡◌, ◌<◌, ℕ, zero, suc, ◌-◌, nat_lt, take, List, [], ◌∷◌, ◌++◌, length, map, is_none, if◌then◌else◌}
 use Rattle.chaos_conn.specs.Calls.{front_of}
 use Rattle.chaos_lab.specs.declared.side.Side.TheVariants.{A, B}
-use Rattle.chaos_lab.specs.Laboratory.{LabView, Happening, lab_end, happen, after_all}
+use Rattle.chaos_lab.specs.Laboratory.{LabView, Happening, happen, after_all}
 use Rattle.chaos_lab.specs.Laboratory.Happening.{TickOf, DeliverCopy}
-use Rattle.chaos_lab.specs.Settling.{telling, told, resend_moment, again, reading, reading_on, coming}
+use Rattle.chaos_lab.specs.Settling.{telling, told, resend_moment, again, reading, taking_in}
 use Rattle.chaos_filelab.specs.View.{FileLabView}
 use Rattle.chaos_filelab.specs.Events.{FileHappening, At, Serve}
 use Rattle.chaos_filelab.specs.Exact.{file_happen}
@@ -58,23 +58,21 @@ serving before (suc n) l = then_on (asking (before - suc n) l.lab) (λ m. answer
 
 -- ---- the replies that B wrote before
 
--- The copies from the first up to the end come to y, whose user reads what had come, and then after each.
-abbrev pub taking_in : ℕ → ℕ → LabView → List Happening
-taking_in first end l =
-    let read = reading_on A (lab_end l A).conn.config.recv_cap l in
-    read ++ coming A first (end - first) (after_all l read)
-
 -- B sends again what it has no receipt for, and that comes to A.
 abbrev pub b_sending : LabView → List Happening
 b_sending l =
     let m = again B l in
-    TickOf B (resend_moment B l) ∷ taking_in (length l.copies) (length m.copies) m
+    TickOf B (resend_moment B l) ∷ taking_in A (length l.copies) (length m.copies) m
 
 -- First B hears what came to A.
 abbrev pub b_hearing : LabView → List Happening
 b_hearing l = telling A l ++ b_sending (told A l)
 
 -- ---- all of it
+
+-- so many of these happened, and not the next one
+abbrev pub Stopped : FileLabView → List FileHappening → FileLabView → Type 0
+Stopped old events new = (done : ℕ) × (done < length events) × (new ≡ after_events old (take done events))
 
 -- how many items that A wrote B's server hasn't read
 abbrev pub unread : LabView → ℕ

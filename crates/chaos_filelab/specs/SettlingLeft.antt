@@ -3,13 +3,13 @@ use Rattle.std.specs.Prelude.{◌-◌, List, [], ◌∷◌, ◌++◌, length}
 use Rattle.chaos_lab.specs.declared.side.Side.TheVariants.{A, B}
 use Rattle.chaos_lab.specs.Laboratory.{happen, after_all}
 use Rattle.chaos_lab.specs.Laboratory.Happening.{TickOf, DeliverCopy}
-use Rattle.chaos_lab.specs.Settling.{telling, resend_moment, reading, reading_on, coming}
+use Rattle.chaos_lab.specs.Settling.{telling, resend_moment, reading, reading_on, coming, taking_in}
 use Rattle.chaos_filelab.specs.declared.settling.FileSettling.{FileSettling}
 use Rattle.chaos_filelab.specs.declared.settling.Place.{Place}
 use Rattle.chaos_filelab.specs.declared.settling.Place.TheVariants as place
 use Rattle.chaos_filelab.specs.View.{FileLabView}
 use Rattle.chaos_filelab.specs.Events.{FileHappening}
-use Rattle.chaos_filelab.specs.Settling.{then_on, no_more, replying, answering, serving, taking_in, b_sending, homing, file_settling}
+use Rattle.chaos_filelab.specs.Settling.{then_on, no_more, replying, answering, serving, b_sending, homing, file_settling}
 
 -- the items that are left to be served
 abbrev pub others : FileSettling → FileLabView → List FileHappening
@@ -27,7 +27,7 @@ left_at place.ResendA s l = then_on (TickOf A (resend_moment A l.lab) ∷ []) ho
 left_at place.Home s l = homing l
 left_at (place.HearA copy) s l = then_on (DeliverCopy copy ∷ b_sending (happen l.lab (DeliverCopy copy)).lab) (others s) l
 left_at place.ResendB s l = then_on (b_sending l.lab) (others s) l
-left_at place.Take s l = then_on (taking_in s.from (length l.lab.copies) l.lab) (others s) l
+left_at place.Take s l = then_on (taking_in A s.from (length l.lab.copies) l.lab) (others s) l
 left_at (place.Read times) s l =
     let read = reading_on A times l.lab in
     then_on (read ++ coming A s.from (s.to - s.from) (after_all l.lab read)) (others s) l

@@ -1,15 +1,17 @@
 //! How FILE settles.
-ghost use Rattle.std.specs.Prelude.{◌≡◌, [], ◌∷◌, IfSome, IfNone};
+ghost use Rattle.std.specs.Prelude.{◌≡◌, ◌⊎◌, true, [], ◌∷◌, IfSome, IfNone, OnOk, OnErr};
 ghost use Rattle.chaos_lab.specs.Laboratory.Happening.{DeliverCopy};
 ghost use Rattle.chaos_filelab.specs.Events.{At, file_event};
 ghost use Rattle.chaos_filelab.specs.Exact.{file_happen};
-ghost use Rattle.chaos_filelab.specs.View.{FileLabView};
-ghost use Rattle.chaos_filelab.specs.Settling.{file_settling};
+ghost use Rattle.chaos_filelab.specs.View.{FileLabView, wrote_mem};
+ghost use Rattle.chaos_filelab.specs.Progress.{CanServe, AllServed};
+ghost use Rattle.chaos_filelab.specs.Settling.{file_settling, after_events, Stopped};
 ghost use Rattle.chaos_filelab.specs.SettlingLeft.{left, left_at};
 
 use crate::event::FileEvent;
 use crate::file_lab::FileLab;
 use chaos_lab::{Event, Side};
+use std::alloc::{AllocError, Global};
 
 /// Where settling stands.
 #[derive(Clone, Copy, Debug, PartialEq, Eq)]
@@ -267,5 +269,28 @@ impl FileSettling {
     {
         self.place = Place::EndB(lab.copies().len());
         lab.announcement(Side::B)
+    }
+}
+
+impl FileLab {
+    /// Lets all be served that A wrote, by the events of [`FileSettling`]. Then A's user has read the reply to each command, and
+    /// nothing is left to be read or sent at either end.
+    ///
+    /// There are at most 586 events. Where there is no memory it stops, with all as after the events before that one; or B wrote a
+    /// reply for want of memory, which [`FileLab::wrote_mem`] tells.
+    pub fn settle(&mut self, alloc: Global) -> Result<(), AllocError>
+        requires { CanServe self.old }
+        ensures served { OnOk result (AllServed self.old self.new) }
+        ensures events { OnOk result (self.new ≡ after_events self.old (file_settling self.old)) }
+        ensures no_memory { OnErr result ((wrote_mem self.new ≡ true) ⊎ Stopped self.old (file_settling self.old) self.new) }
+    {
+        self.law_progress();
+        let mut events = FileSettling::new();
+        while let Some(event) = events.next(self) {
+            if self.step(alloc, &event).is_err() || self.wrote_mem() {
+                return Err(AllocError);
+            }
+        }
+        Ok(())
     }
 }

@@ -12,6 +12,8 @@ pub enum Fault {
     Missing,
     #[error("a reply for want of memory was written")]
     Wanted,
+    #[error("the laboratory didn't settle")]
+    Unsettled,
     #[error("these windows can't be had")]
     Config,
     #[error("out of memory")]

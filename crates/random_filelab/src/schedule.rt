@@ -4,7 +4,7 @@ use crate::chance::Chance;
 use crate::fault::Fault;
 use crate::session::COMMANDS;
 use chaos_conn::ConnConfig;
-use chaos_filelab::{FileEvent, FileLab, FileStepped};
+use chaos_filelab::{FileEvent, FileLab, FileSettling, FileStepped};
 use chaos_lab::{Event, LabFault, Side, Stepped};
 use chaos_packet::{Opcode, PktNum};
 use std::alloc::Global;
@@ -12,8 +12,11 @@ use std::alloc::Global;
 /// Events that chance picks before everything is let through.
 const BY_CHANCE: u32 = 150;
 
-/// Rounds in which everything is let through.
+/// Rounds in which everything is let through, or settles.
 const ROUNDS: u32 = 60;
+
+/// The most events in which all is served that was written.
+const MOST_EVENTS: u32 = 586;
 
 /// A client with its commands, a server, and what chance makes of the network between them.
 #[derive(Drop)]
@@ -45,18 +48,50 @@ impl Schedule {
         })
     }
 
-    /// Lets chance have its way, and then everything through, until the client has read all replies.
+    /// Lets chance have its way, and then everything through, until the client has read all replies. Every second schedule lets
+    /// everything settle, as soon as both ends are open.
     pub fn run(&mut self) -> Result<(), Fault> {
         for _ in 0..BY_CHANCE {
             self.by_chance()?;
         }
+        let settles = self.chance.below(2) == 0;
         for _ in 0..ROUNDS {
             if self.read >= COMMANDS.len() {
                 return Ok(());
             }
-            self.round()?;
+            if settles && self.lab.can_settle() {
+                self.settle()?;
+                self.write()?;
+            } else {
+                self.round()?;
+            }
         }
         Ok(())
+    }
+
+    /// All is served that the client has written, by few events, of which none is refused, and the client has read the replies.
+    fn settle(&mut self) -> Result<(), Fault> {
+        let mut events = FileSettling::new();
+        for _ in 0..=MOST_EVENTS {
+            let Some(event) = events.next(&self.lab) else {
+                return self.settled();
+            };
+            match self.step(&event)? {
+                Some(stepped) => self.count(&stepped),
+                None => return Err(Fault::Unsettled),
+            }
+        }
+        Err(Fault::Unsettled)
+    }
+
+    /// Nothing is left to be sent, and each command that was written has its reply read.
+    fn settled(&self) -> Result<(), Fault> {
+        let stored = (self.lab.stored(Side::A), self.lab.stored(Side::B));
+        if stored == ((0, 0), (0, 0)) && self.read == self.written {
+            Ok(())
+        } else {
+            Err(Fault::Unsettled)
+        }
     }
 
     /// One event. A refused one changes nothing.
@@ -129,11 +164,17 @@ impl Schedule {
 
     /// The client reads a reply, where one is in front.
     fn read(&mut self) -> Result<(), Fault> {
-        let stepped = self.step(&FileEvent::At(Event::Read(Side::A)))?;
-        if let Some(FileStepped::Lab(Stepped::Read(chaos_conn::ReadEnd::Item(_)))) = stepped {
-            self.read = self.read.saturating_add(1);
+        if let Some(stepped) = self.step(&FileEvent::At(Event::Read(Side::A)))? {
+            self.count(&stepped);
         }
         Ok(())
+    }
+
+    /// Counts a reply that was read.
+    fn count(&mut self, stepped: &FileStepped) {
+        if let FileStepped::Lab(Stepped::Read(chaos_conn::ReadEnd::Item(_))) = stepped {
+            self.read = self.read.saturating_add(1);
+        }
     }
 
     /// Some copy arrives, be it the first time or not; and B accepts, where it was asked.
