@@ -2,4 +2,5 @@ pub mod Command
 pub mod Event
 pub mod Start
 pub mod Answers
+pub mod Happen
 pub mod Play
