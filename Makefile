@@ -1,16 +1,4 @@
-# Proves and builds Poltxegun. Everything is done by the kit's `rt`; this file only names the usual wishes.
-#
-#   make                    proves the program and all that it stands on, and builds bin/chaosd
-#   make demo               shows a FILE session between two hosts in one process: without proof, in a minute, where bin/chaosd is not built
-#   make check              the gate: claims, every proof from nothing, wrong bodies, tests, and the program as a user meets it
-#   make wrong-bodies       the wrong bodies that the gate leaves out, for before a release (about an hour)
-#   make dialogues          random dialogues between two hosts, a million packets from a seed of the clock's; SEED=.. PACKETS=..
-#   make bench              times everything beside the same in plain Rust (rustc and python3)
-#   make bench-show         `chaosd show` alone; likewise bench-lab, bench-loop, bench-calls (strace), bench-copy and bench-stack
-#                           (gdb), and bench-codec, bench-links, bench-window, bench-host, bench-file and bench-turn of the libraries
-#   make pictures           draws the pictures of the documents again (python3)
-#   make dist               packs the program, its manual page, the documents, examples, dissector and licences into a tar file in out/
-#   make install PREFIX=DIR puts the program into DIR/bin, and its manual page into DIR/share/man/man1
+# Proves and builds Poltxegun. Everything is done by the kit's `rt`; this file only names the usual wishes. `make help` lists them.
 
 PREFIX ?= /usr/local
 RT ?= rt
@@ -21,36 +9,49 @@ DIALOGUES := crates/random_dialogues/out/random_dialogues
 SEED ?= $(shell date +%s)
 PACKETS ?= 1000000
 
-.PHONY: all demo check wrong-bodies dialogues pictures bench $(PROGRAM_BENCHES:%=bench-%) $(BENCHES:%=bench-%) dist install clean
+.PHONY: all help demo check fmt fmt-check lint wrong-bodies dialogues pictures bench $(PROGRAM_BENCHES:%=bench-%) $(BENCHES:%=bench-%) dist install clean
 
-all: bin/chaosd
+all: bin/chaosd ## proves the program and all that it stands on, and builds bin/chaosd
+
+help: ## lists these wishes
+	@sed -n 's/^\([a-zA-Z][^:=]*\):[^#]*## \(.*\)/\1\t\2/p' $(MAKEFILE_LIST) | while IFS="$$(printf '\t')" read -r wish what; do printf 'make %-14s %s\n' "$$wish" "$$what"; done
 
 bin/chaosd: $(SOURCES)
+	@echo "Proving and building bin/chaosd takes some $$((80 / $$(nproc) > 20 ? 80 / $$(nproc) : 20)) minutes on these $$(nproc) cores; 'make demo' needs no proof."
 	@RT=$(RT) tools/build chaosd --help
 	@mkdir -p bin
 	cp crates/chaosd/out/chaosd $@
 
-demo:
+demo: ## shows a FILE session between two hosts in one process: without proof, in a minute, where bin/chaosd is not built
 	@RT=$(RT) tools/demo
 
-check:
+check: ## the gate: claims, every proof from nothing, wrong bodies, tests, and the program as a user meets it
 	@RT=$(RT) tools/gate
 
-wrong-bodies:
+fmt: ## lays out all .rt, .antt and .rt.in files
+	@RT=$(RT) tools/fmt
+
+fmt-check: ## names the files that aren't laid out
+	@RT=$(RT) tools/fmt --check
+
+lint: ## looks over documents, links, scripts and tracked files, in seconds
+	@tools/lint
+
+wrong-bodies: ## the wrong bodies that the gate leaves out, for before a release: about an hour
 	@RT=$(RT) tools/wrong-bodies
 
-dialogues: $(DIALOGUES)
+dialogues: $(DIALOGUES) ## random dialogues between two hosts, a million packets from a seed of the clock's; SEED=.. PACKETS=..
 	@$(DIALOGUES) $(SEED) $(PACKETS)
 
 $(DIALOGUES): $(SOURCES)
 	@RT=$(RT) tools/build random_dialogues 1 1
 	@touch $@
 
-pictures:
+pictures: ## draws the pictures of the documents again (python3)
 	@tools/ladder --pictures docs/pictures
 	@tools/layers > docs/pictures/layers.svg.new && mv docs/pictures/layers.svg.new docs/pictures/layers.svg
 
-bench: $(PROGRAM_BENCHES:%=bench-%) $(BENCHES:%=bench-%)
+bench: $(PROGRAM_BENCHES:%=bench-%) $(BENCHES:%=bench-%) ## times everything beside the same in plain Rust; bench-show, bench-lab and so on: one alone
 
 $(PROGRAM_BENCHES:%=bench-%): bench-%: bin/chaosd
 	@python3 bench/$*.py
@@ -58,14 +59,14 @@ $(PROGRAM_BENCHES:%=bench-%): bench-%: bin/chaosd
 $(BENCHES:%=bench-%): bench-%:
 	@RT=$(RT) python3 bench/beside.py $*
 
-dist: bin/chaosd
+dist: bin/chaosd ## packs the program, its manual page, documents, examples, dissector and licences into a tar file in out/
 	@tools/dist bin/chaosd out
 
-install: bin/chaosd
+install: bin/chaosd ## puts the program into PREFIX/bin, and its manual page into PREFIX/share/man/man1
 	install -d $(DESTDIR)$(PREFIX)/bin
 	install -m 755 bin/chaosd $(DESTDIR)$(PREFIX)/bin/chaosd
 	install -d $(DESTDIR)$(PREFIX)/share/man/man1
 	install -m 644 docs/chaosd.1 $(DESTDIR)$(PREFIX)/share/man/man1/chaosd.1
 
-clean:
+clean: ## takes away all that was built
 	rm -rf bin out crates/*/out

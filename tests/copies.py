@@ -27,7 +27,7 @@ import time
 sys.dont_write_bytecode = True
 import files  # noqa: E402
 import program  # noqa: E402
-from files import CLIENT, FILE_LIMIT, LONG, SERVER, Lossy, Serving, at, free_ports, mixed_content, serving, started, stored_problems  # noqa: E402
+from files import CLIENT, FILE_LIMIT, LONG, SERVER, USUAL_WINDOW, Lossy, Serving, at, free_ports, mixed_content, serving, started, stored_problems  # noqa: E402
 from program import BAD_LINE, DONE, FAULT, REFUSED, Checks, Ended, run  # noqa: E402
 
 SIZES = [0, 1, 447, 448, 449, 100_000, FILE_LIMIT]
@@ -546,6 +546,7 @@ def losing_network(checks):
         for version, (subcommand, name, seen) in itertools.product([1, 2], copies):
             seen.unlink(missing_ok=True)
             network.heads.clear()
+            network.windows.clear()
             process = started([subcommand, "--carriage", str(version), *line, name], cwd=here, stderr=subprocess.PIPE)
             try:
                 err = process.communicate(timeout=2 * LONG)[1]
@@ -555,6 +556,8 @@ def losing_network(checks):
                 problems = ["it goes on"]
             several = max((head[3] for head in network.heads if head[2] == 2), default=0)
             problems += [] if (several > 1) == (version == 2) else [f"at most {several} packets went out in a datagram of version 2"]
+            told = network.windows
+            problems += [f"windows of {told} were told"] if version == 1 and told != {USUAL_WINDOW} else []
             checks.check(f"{subcommand} --carriage {version} over a network that loses, repeats and reorders", problems)
         network.socket.close()
         server.end()

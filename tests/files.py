@@ -784,12 +784,17 @@ class Waiting:
             checks.check(f"ask {name}: `no reply` once, status 3, and why on standard error", problems)
 
 
+# The opcodes of packets that tell a status, OPN and STS, and the window that both ends announce: they never announce another.
+STATUSES, USUAL_WINDOW = (0o2, 0o7), 13
+
+
 class Lossy(threading.Thread):
-    """A network between a server and a client that loses, repeats and reorders. It keeps the first four bytes of each datagram."""
+    """A network between a server and a client that loses, repeats and reorders. It keeps the first four bytes of each datagram, and
+    the windows that the statuses tell of those of version 1."""
 
     def __init__(self, port, ends):
         super().__init__(daemon=True)
-        self.heads = []
+        self.heads, self.windows = [], set()
         self.socket = socket.socket(socket.AF_INET, socket.SOCK_DGRAM)
         self.socket.bind(("127.0.0.1", port))
         self.other = {ends[0]: ends[1], ends[1]: ends[0]}
@@ -804,6 +809,8 @@ class Lossy(threading.Thread):
                 chance = self.random.randrange(10)
                 self.count += 1
                 self.heads.append(datagram[:4])
+                if datagram[2] == 1 and datagram[4] in STATUSES:
+                    self.windows.update(struct.unpack(">H", datagram[22:24]))
                 if chance == 0:
                     self.lost += 1
                 elif chance == 1 and late is None:
@@ -850,6 +857,8 @@ class Losing:
         self.server.end()
         self.folder.cleanup()
         problems += [] if self.network.lost > 5 else [f"of {self.network.count} datagrams {self.network.lost} were lost"]
+        told = self.network.windows
+        problems += [f"windows of {told} were told"] if self.version == 1 and told != {USUAL_WINDOW} else []
         others = [head for head in self.network.heads if head[:3] != bytes([0x43, 0x48, self.version])]
         problems += [f"datagrams began with {others[:3]}"] if others else []
         checks.check(f"a file comes whole over a network that loses, repeats and reorders, by carriage {self.version}", problems)

@@ -39,7 +39,7 @@ OPEN_TEXT = (
 def examples(checks):
     """Each script of examples/lab prints its text."""
     scripts = sorted(EXAMPLES.glob("*.lab"))
-    checks.check("there are eight examples", [] if len(scripts) == 8 else [f"there are {len(scripts)}"])
+    checks.check("there are ten examples", [] if len(scripts) == 10 else [f"there are {len(scripts)}"])
     for script in scripts:
         text = script.with_suffix(".txt").read_bytes()
         status = REFUSED if b"\nrefused " in text else DONE

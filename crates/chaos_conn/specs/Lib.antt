@@ -4,7 +4,9 @@ pub mod Arriving
 pub mod Calls
 pub mod Config
 pub mod Disposition
+pub mod Held
 pub mod Inside
+pub mod Names
 pub mod NextDue
 pub mod Opening
 pub mod Sending

@@ -85,6 +85,10 @@ impl Conn {
     /// The STS may be lost, and an older one may come late: the peer uses the window that came last. Where it sends too far, its
     /// items are told `Outside` here, and it sends them again.
     ///
+    /// Only an STS or an OPN tells a window. A peer whose window is 0 and that keeps nothing sends nothing again, and it probes
+    /// only where it heard nothing for `probe`. So where the STS that opens its window is lost, and this end goes on sending, the
+    /// peer's writes stay `Full`. Announce again, now and then, until the peer sends: each time an STS tells the window.
+    ///
     /// Refused, in this order: `NotOpen`; `BadWindow` for more than the configuration's receive window. Nothing changes then.
     pub fn announce(&mut self, window: u16, out: &mut Outbox) -> Result<(), ConnFault>
         requires { 0 < room_of out.old }

@@ -46,6 +46,9 @@ impl ConnConfig {
     /// Give both windows the same size, at both ends of a connection, or the receive window at most three times what the
     /// peer sends at most: a reader that sends nothing tells what it read when that is a third of its own window, so a
     /// sender whose window is smaller than that third waits each time until what it keeps is sent again.
+    ///
+    /// `down` isn't checked against the other times. Let it be well above both. Where it isn't above `retransmit`, an end that
+    /// hears nothing counts its peer as down before it sends anything again: the first packet that is lost ends the connection.
     pub fn new(
         send_cap: u16,
         recv_cap: u16,

@@ -5,3 +5,4 @@ pub mod Replies
 pub mod Spelling
 pub mod Reading
 pub mod NoMemory
+pub mod Fitting

@@ -38,7 +38,7 @@ tail_gives : (t h : List ℕ) (p : ParsedView) → GivesBack t h p → (v : Bool
 tail_gives t h p g true = record { tid = refl; handle = refl }
 tail_gives t h p g false = g
 
-head_gives : (g : Head) → GivesBack g.tid g.handle (parse_of_head (Some g))
+pub head_gives : (g : Head) → GivesBack g.tid g.handle (parse_of_head (Some g))
 head_gives g = tail_gives g.tid g.handle _ (word_gives g.tid g.handle (drop (word_end g.tail) g.tail) (word_of (take (word_end g.tail) g.tail))) (word_end g.tail == 0)
 
 -- names without a space

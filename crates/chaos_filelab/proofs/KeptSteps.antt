@@ -78,13 +78,13 @@ gives_open v item (Some other) is =
     (λ _. ap gave.Item same)
     (λ _. ap gave.Item same)
 
-read_open_is : (v : ConnView) → HasFront v → act_read v ≡ read_at_open v (front_of v)
+pub read_open_is : (v : ConnView) → HasFront v → act_read v ≡ read_at_open v (front_of v)
 read_open_is v h = cond-false _ _ _ (ap is_opening h.is_open) ∙ cond-true _ _ _ (ap is_open h.is_open)
 
 read_gives : (v : ConnView) (h : HasFront v) → (act_read v).answer ≡ gave.Item h.item
 read_gives v h = ap (λ a. a.answer) (read_open_is v h) ∙ gives_open v h.item (front_of v) h.front
 
-reads_one : (l : LabView) (h : HasFront l.b.conn) → (after_call l B Read).b.read ≡ l.b.read ++ h.item ∷ []
+pub reads_one : (l : LabView) (h : HasFront l.b.conn) → (after_call l B Read).b.read ≡ l.b.read ++ h.item ∷ []
 reads_one l h = ap (λ g. with_given g l.b.read) (read_gives l.b.conn h)
 
 -- the item that was read and the item that was written
@@ -140,7 +140,7 @@ front_users beginning l m turn h had t read =
 
 -- ---- bodies of one item more
 
-eof_no_body : (items : List ItemView) (item : ItemView) → kind_of item.op ≡ kind.Eof → data_bodies (items ++ item ∷ []) ≡ data_bodies items
+pub eof_no_body : (items : List ItemView) (item : ItemView) → kind_of item.op ≡ kind.Eof → data_bodies (items ++ item ∷ []) ≡ data_bodies items
 eof_no_body items item is =
     bodies_append items (item ∷ []) ∙ ap (λ k. data_bodies items ++ with_body k item.body []) is ∙ append-nil (data_bodies items)
 
@@ -168,11 +168,11 @@ no_want (y ∷ xs) x h =
     let k = no_want xs x p.1 in
     record { before = both_no (is_want y) (list_any is_want xs) p.0 k.before; last = k.last }
 
-session_more : (m : Files) (s : SessionView) (xs : List (List ℕ)) (c : List ℕ) → session_after m s (xs ++ c ∷ []) ≡ (file_step (files_after m s xs) (session_after m s xs) c).session
+pub session_more : (m : Files) (s : SessionView) (xs : List (List ℕ)) (c : List ℕ) → session_after m s (xs ++ c ∷ []) ≡ (file_step (files_after m s xs) (session_after m s xs) c).session
 session_more m s [] c = refl
 session_more m s (x ∷ xs) c = session_more (file_step m s x).files (file_step m s x).session xs c
 
-files_more : (m : Files) (s : SessionView) (xs : List (List ℕ)) (c : List ℕ) → files_after m s (xs ++ c ∷ []) ≡ (file_step (files_after m s xs) (session_after m s xs) c).files
+pub files_more : (m : Files) (s : SessionView) (xs : List (List ℕ)) (c : List ℕ) → files_after m s (xs ++ c ∷ []) ≡ (file_step (files_after m s xs) (session_after m s xs) c).files
 files_more m s [] c = refl
 files_more m s (x ∷ xs) c = files_more (file_step m s x).files (file_step m s x).session xs c
 

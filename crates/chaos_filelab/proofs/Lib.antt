@@ -6,3 +6,11 @@ pub mod RepliesLaw
 pub mod Chains
 pub mod Exactly
 pub mod Passing
+pub mod Stepping
+pub mod QuietEvents
+pub mod Passed
+pub mod Fetching
+pub mod Serving
+pub mod Answered
+pub mod Walk
+pub mod Settles

@@ -63,11 +63,11 @@ comes_stays c p e f isnt (inr (inr (inl h))) = stays_to e f _ h.3 (through e (he
 comes_stays c p e f isnt (inr (inr (inr (inl h)))) = stays_to e f _ h.2 (heard c.told e)
 comes_stays c p e f isnt (inr (inr (inr (inr h)))) = end_stays p e f h.1
 
-tick_stays : (p e f : Plain) → Tick p e f → Stays e f
+pub tick_stays : (p e f : Plain) → Tick p e f → Stays e f
 tick_stays p e f (inl h) = end_stays p e f h
 tick_stays p e f (inr h) = stays_same e f h
 
-resize_stays : (window : ℕ) (p e f : Plain) → Resize window p e f → Stays e f
+pub resize_stays : (window : ℕ) (p e f : Plain) → Resize window p e f → Stays e f
 resize_stays window p e f h = stays_to e f _ h.2 (record { written = refl; read = refl })
 
 close_stays : (p e f : Plain) → Close p e f → Stays e f
@@ -79,14 +79,14 @@ or_stays row p e f by (inr h) = stays_same e f h.1
 
 -- ---- the machine's step
 
-at_b : (row : Row) (w v : Machine) → ((f : Plain) → row w.a w.b f → Stays w.b f) → Moves row w B v → Stays w.b v.b
+pub at_b : (row : Row) (w v : Machine) → ((f : Plain) → row w.a w.b f → Stays w.b f) → Moves row w B v → Stays w.b v.b
 at_b row w v by m =
     stays_to w.b v.b m.0 (ap (λ n. n.b) m.2.2) (or_stays row w.a w.b m.0 (by m.0) m.1)
 
-at_a : (row : Row) (w v : Machine) → Moves row w A v → Stays w.b v.b
+pub at_a : (row : Row) (w v : Machine) → Moves row w A v → Stays w.b v.b
 at_a row w v m = stays_same w.b v.b (ap (λ n. n.b) m.2.2)
 
-comes_to : (x : Side) (c : Copy) (w v : Machine) → (w.b.phase ≡ RfcSent → ⊥) → Moves (Comes c) w (other x) v → Stays w.b v.b
+pub comes_to : (x : Side) (c : Copy) (w v : Machine) → (w.b.phase ≡ RfcSent → ⊥) → Moves (Comes c) w (other x) v → Stays w.b v.b
 comes_to A c w v isnt m = at_b (Comes c) w v (λ f. comes_stays c w.a w.b f isnt) m
 comes_to B c w v isnt m = at_a (Comes c) w v m
 

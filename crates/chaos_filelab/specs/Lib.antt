@@ -5,3 +5,6 @@ pub mod Events
 pub mod Kept
 pub mod Law
 pub mod Exact
+pub mod Settling
+pub mod SettlingLeft
+pub mod Progress

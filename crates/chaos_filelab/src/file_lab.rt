@@ -1,5 +1,10 @@
 //! The laboratory whose B serves FILE.
-ghost use Rattle.std.specs.Prelude.{◌≡◌, ◌||◌, ◌≤◌, length, codes, map, ◌<◌, ℕ, take, Ok, Err, IfOk, IfErr, OnOk, OnErr, true, false, ◌↔◌};
+ghost use Rattle.std.specs.Prelude.{◌≡◌, ◌||◌, ◌≤◌, length, codes, map, ◌<◌, ℕ, take, Ok, Err, IfOk, IfErr, OnOk, OnErr, true, false, is_none, ◌↔◌, IsTrue};
+ghost use Rattle.chaos_conn.specs.Calls.{front_of};
+ghost use Rattle.chaos_lab.specs.Laboratory.Happening.{AnnounceBy, TickOf};
+ghost use Rattle.chaos_lab.specs.Settling.{resend_moment};
+ghost use Rattle.chaos_filelab.specs.Progress.{CanServe, Serves};
+ghost use Rattle.chaos_filelab.specs.Settling.{file_settling, unread};
 ghost use Rattle.std.specs.FinMap as files;
 ghost use Rattle.chaos_file.specs.Session.{new_session};
 ghost use Rattle.chaos_conn.specs.Stored.{stored_packets, stored_bytes};
@@ -19,7 +24,7 @@ use chaos_conn::ConnConfig;
 use chaos_file::{MemStore, Session, is_want, law_memory, law_replies, law_want};
 use chaos_lab::{Event, KeptItem, Lab, LabFault, Side, Stamped, law_delivery, law_phases};
 use chaos_packet::{Kind, PktNum};
-use chaos_serve::{CONTACT, Served};
+use chaos_serve::{CONTACT, Served, law_reply_taken};
 use std::alloc::{AllocError, Global};
 use std::marker::Model;
 
@@ -206,6 +211,70 @@ impl FileLab {
     {
         self.lab.law_headline();
         law_replies();
+    }
+
+    /// Progress of FILE: whatever happened in a laboratory that can settle, there are few events after which each command that A wrote
+    /// was served and its reply read, and nothing is left to be read or sent. Nothing that was lost, late or out of order keeps the
+    /// ends from it, and no window that was announced. Where there is no memory for the histories or at the server, it doesn't hold.
+    pub fn law_progress(&self)
+        ensures { CanServe self.now → Serves self.now (file_settling self.now) }
+    {
+        self.lab.law_headline();
+        self.lab.law_sound();
+        law_phases();
+        law_replies();
+        law_reply_taken();
+    }
+
+    /// Whether it can settle, by the events of [`FileSettling`](crate::FileSettling): both ends are open, each sends again before it
+    /// would count the other as down, there are moments left for that, and B wrote no reply for want of memory.
+    pub fn can_settle(&self) -> bool
+        ensures { IsTrue result ↔ CanServe self.now }
+    {
+        self.lab.can_settle() && !self.wrote_mem()
+    }
+
+    /// How many items that A wrote B's server hasn't read.
+    pub(crate) fn unread(&self) -> usize
+        ensures { result ≡ unread self.now.lab }
+    {
+        let read = self.lab.read(Side::B).len();
+        self.lab.written(Side::A).len().saturating_sub(read)
+    }
+
+    /// How many items B wrote.
+    pub(crate) fn wrote(&self) -> usize
+        ensures { result ≡ length self.now.lab.b.written }
+    {
+        self.lab.written(Side::B).len()
+    }
+
+    /// Whether the user at a side has nothing to read.
+    pub(crate) fn waits(&self, side: Side) -> bool
+        ensures { result ≡ is_none (front_of (lab_end self.now.lab side).conn) }
+    {
+        self.lab.waits(side)
+    }
+
+    /// The greatest window that an end may announce.
+    pub(crate) fn recv_cap(&self, side: Side) -> u16
+        ensures { result ≡ (lab_end self.now.lab side).conn.config.recv_cap }
+    {
+        self.lab.recv_cap(side)
+    }
+
+    /// The event by which an end announces its greatest window.
+    pub(crate) fn announcement(&self, side: Side) -> FileEvent<'static>
+        ensures { file_event result ≡ At (AnnounceBy side (lab_end self.now.lab side).conn.config.recv_cap) }
+    {
+        FileEvent::At(self.lab.announcement(side))
+    }
+
+    /// The event by which an end sends again what it has no receipt for.
+    pub(crate) fn resending(&self, side: Side) -> FileEvent<'static>
+        ensures { file_event result ≡ At (TickOf side (resend_moment side self.now.lab)) }
+    {
+        FileEvent::At(Event::Tick(side, self.lab.resend_moment(side)))
     }
 }
 

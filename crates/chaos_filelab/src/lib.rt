@@ -8,7 +8,9 @@ mod bodies;
 mod event;
 mod file_lab;
 mod server;
+mod settling;
 
 pub use bodies::Bodies;
 pub use event::{FileEvent, FileStepped};
 pub use file_lab::FileLab;
+pub use settling::FileSettling;

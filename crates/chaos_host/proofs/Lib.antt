@@ -6,3 +6,4 @@ pub mod Places
 pub mod Requests
 pub mod Settled
 pub mod Table
+pub mod Deeds

@@ -49,7 +49,7 @@ free_at : (slots : List Slot) (place : ℕ) (slot : Slot) → is_used_at slots p
 free_at slots place slot vacant there = let e = rw there at vacant in grind (arith, e)
 
 -- the address of a host isn't 0
-not_zero : (n : ℕ) → 1 ≤ n → (n == 0) ≡ false
+pub not_zero : (n : ℕ) → 1 ≤ n → (n == 0) ≡ false
 not_zero n h = grind (arith, nat_tests)
 
 -- a request that was taken is held by the connection with its index

@@ -11,7 +11,7 @@ use Rattle.chaos_host.specs.Slot.{IsTable, HasConfig, IsBlank, HoldsRequestAlone
 use Rattle.chaos_host.proofs.Settled.{IsSettled, stays_settled}
 
 -- what holds of each element holds of the one at a place
-at_place : {X : Type 0} (P : X → Type 0) (xs : List X) (i : ℕ) (x : X) → All P xs → slice_get xs i ≡ Some x → P x
+pub at_place : {X : Type 0} (P : X → Type 0) (xs : List X) (i : ℕ) (x : X) → All P xs → slice_get xs i ≡ Some x → P x
 at_place P xs i x all there = let here = all i x (slice_get_within xs i x there) in rw (get_or_from_slice_get xs i x x there) at here
 
 -- the connection in a slot of a table is settled

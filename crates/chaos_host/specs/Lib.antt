@@ -1,6 +1,7 @@
 pub mod Acted
 pub mod Calls
 pub mod Connect
+pub mod Deeds
 pub mod Deliver
 pub mod Disposition
 pub mod Inside

@@ -1,4 +1,5 @@
 //! Laws of a host's table. A law is a function that does nothing: its contract is the law, and a caller learns it by the call.
+ghost use Rattle.chaos_host.specs.Deeds.{HasDeeds, StaysHost};
 ghost use Rattle.chaos_host.specs.Law.{StaysInUse, IndexNames, IndexIsOf, TakesOne, PendingStays};
 
 /// A connection in use stays so, whatever packets, calls and moments come, until its user answers, rejects, closes or releases
@@ -20,3 +21,14 @@ pub fn law_pending()
     ensures takes { TakesOne }
     ensures stays { PendingStays }
 {}
+
+/// What each step of a host is to its connections.
+pub fn law_deeds()
+    // the connection in one slot does one call, and no other slot changes; or no connection does anything, and the host sends no more
+    // than refusals of its own
+    ensures deeds { HasDeeds }
+    // and it leaves what every host is
+    ensures host { StaysHost }
+{
+    chaos_conn::law_over();
+}

@@ -30,5 +30,5 @@ pub use answers::{HostDelivered, HostDisposition};
 pub use fault::{CallFault, ConnectFault, ListenFault, MakeFault};
 pub use host::Host;
 pub use index::ConnId;
-pub use law::{law_in_use, law_index, law_pending};
+pub use law::{law_deeds, law_in_use, law_index, law_pending};
 pub use limits::{MAX_CONNS, MAX_CONTACT, MAX_LISTENERS, law_limits};

@@ -50,7 +50,7 @@ module _ {X Y : Type 0} where
 -- ---- what is read by a delivery
 
 -- only the OPN's opcode is of that kind
-not_opn : (x : Side) (kind : Kind) (b b' : ℕ) (p : Plain) (pk : PacketView) → HasItems x b p → IsWhat b' p pk kind → (kind ≡ Nth 0 → ⊥) → kind_of pk.op ≡ k.Opn → ⊥
+pub not_opn : (x : Side) (kind : Kind) (b b' : ℕ) (p : Plain) (pk : PacketView) → HasItems x b p → IsWhat b' p pk kind → (kind ≡ Nth 0 → ⊥) → kind_of pk.op ≡ k.Opn → ⊥
 not_opn x (Nth zero) b b' p pk its what apart is = apart refl
 not_opn x (Nth (suc i)) b b' p pk its what apart is =
     ⊎_elim

@@ -67,7 +67,7 @@ ended_leaves state x rest b b' now pk p e not_requested end =
 
 -- ---- at an end that has asked
 
-to_asked : (rest : Rest) (b b' : ℕ) (pk : PacketView) (now : ℕ) (p e : Plain) (kind : Kind) → length e.read ≡ 0 → HasHeader B pk kind → pk.dst_index ≡ 1 → is_rfc (kind_of pk.op) ≡ false → act_deliver (shown_in st.RfcSent A rest b b' p e) pk now ≡ deliver_asking (shown_in st.RfcSent A rest b b' p e) pk now (kind_of pk.op)
+pub to_asked : (rest : Rest) (b b' : ℕ) (pk : PacketView) (now : ℕ) (p e : Plain) (kind : Kind) → length e.read ≡ 0 → HasHeader B pk kind → pk.dst_index ≡ 1 → is_rfc (kind_of pk.op) ≡ false → act_deliver (shown_in st.RfcSent A rest b b' p e) pk now ≡ deliver_asking (shown_in st.RfcSent A rest b b' p e) pk now (kind_of pk.op)
 to_asked rest b b' pk now p e kind none h index not_rfc =
     act_other (shown_in st.RfcSent A rest b b' p e) pk now refl h.dst h.src not_rfc index
     (cond_both (ltb 0 (length e.read)) (Some 1) None (λ (o : Option ℕ). may_be_index o pk.src_index ≡ true) (λ _. eq-eqb 1 pk.src_index (sym h.src_index)) (λ _. refl))

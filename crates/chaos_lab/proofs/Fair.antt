@@ -1,16 +1,16 @@
 -- Rounds, in which whatever may happen meanwhile.
-use Rattle.std.proofs.Common.{◌≡◌, ℕ, zero, suc, ◌+◌, ◌-◌, ◌<◌, ◌≤◌, max, List, [], ◌∷◌, ◌++◌, length, take, true, false, ◌&&◌, leb, ltb, Option, Some, None, Ok, Err, refl, sym, ap, ◌∙◌, subst, inl, inr, ◌⊎◌, ⊎_elim, arith, drop, length-drop}
+use Rattle.std.proofs.Common.{◌≡◌, ℕ, zero, suc, ◌+◌, ◌-◌, ◌<◌, ◌≤◌, List, [], ◌∷◌, ◌++◌, length, take, false, ◌&&◌, leb, ltb, Option, Some, None, Ok, Err, refl, sym, ap, ◌∙◌, subst, inl, inr, ◌⊎◌, ⊎_elim, arith, drop, length-drop}
 use Rattle.std.specs.Prelude.{slice_get}
 use Rattle.std.specs.FinSet.{contains, insert}
-use Rattle.std.proofs.lemmas.Bool.{cond_both, cond-true, cond-false, cases_lt, false≢true, and_right, and_from, lt-leb, lt-ltb, le-leb}
+use Rattle.std.proofs.lemmas.Bool.{cond_both, cond-true, cond-false, cases_lt, false≢true, eq-eqb}
+use Rattle.std.proofs.lemmas.List.{nil_from_length}
 use Rattle.chaos_packet.specs.Item.{ItemView}
 use Rattle.chaos_packet.specs.Begins.{Begins}
 use Rattle.chaos_conn.specs.declared.state.State.TheVariants as st
 use Rattle.chaos_conn.specs.declared.answers.Ticked.TheVariants as ti
 use Rattle.chaos_conn.specs.View.{ConnView, IsConn}
 use Rattle.chaos_conn.specs.Calls.{front_of, read_at_open, act_read}
-use Rattle.chaos_conn.specs.State.{is_opening, is_open as is_open_state, awaits_peer}
-use Rattle.chaos_conn.specs.Time.{is_down, is_resend_due, at_moment, ticked_by}
+use Rattle.chaos_conn.specs.State.{is_opening, is_open as is_open_state}
 use Rattle.chaos_conn.specs.declared.answers.ReadEnd.TheVariants as gave
 use Rattle.chaos_lab.specs.declared.side.Side.{Side}
 use Rattle.chaos_lab.specs.declared.side.Side.TheVariants.{A, B}
@@ -28,7 +28,7 @@ use Rattle.chaos_lab.specs.Tied.{Ties, HasMachine, plain_event, plain_run, sent_
 use Rattle.chaos_conn.specs.Opening.{act_accept}
 use Rattle.chaos_conn.specs.Act.Call.{Read as ReadCall}
 use Rattle.chaos_lab.specs.Headline.{Unclosed, ReadsInTurn}
-use Rattle.chaos_lab.specs.Progress.{IsCalm, Brings, Waits, IsDue, Round, GoesOn, Rounds, Report, Knows}
+use Rattle.chaos_lab.specs.Progress.{IsCalm, Brings, Waits, IsDue, Round, GoesOn, Rounds, Report, Knows, HadRead, KeepsNone}
 use Rattle.std.proofs.lemmas.Option.{slice_get_within}
 use Rattle.chaos_lab.proofs.Lists.{member_at}
 use Rattle.chaos_lab.proofs.Calls.{room_is}
@@ -43,6 +43,7 @@ use Rattle.chaos_lab.proofs.Reading.{CanRead, becomes_same, step_stays}
 use Rattle.chaos_lab.proofs.DeliveryLaw.{beginning, in_turn}
 use Rattle.chaos_lab.proofs.OnSide.{Outcome, Refuses, Steps, Stepped, conn_at, first_at, items_at, read_at, written_at}
 use Rattle.chaos_lab.proofs.UserTies.{read_ties}
+use Rattle.chaos_lab.proofs.Due.{resends_due}
 use Rattle.chaos_lab.proofs.LabTies.{event_ties}
 use Rattle.chaos_lab.proofs.Runs.{runs, unclosed}
 use Rattle.chaos_lab.proofs.HeadlineLaw.{open_at, given_is, after_read}
@@ -582,6 +583,14 @@ knows l h x m r = by (event_ties w l r.event t)
         let read : length (lab_end l y).read ≡ length (end_of h.plain y).read = ap length (read_at y h.plain l h.ties) in
         (omega (arith, kept, left, wrote, read, g.heard, c.told.4, d.writer.in_order), omega (arith, out, wrote, read, g.heard, c.told.4))
 
+-- where that was all, it is drained
+pub keeps_none : (l : LabView) → HasMachine l → (x : Side) (m : LabView) → Report x l m → HadRead x l m → KeepsNone x m
+keeps_none l h x m r all =
+    let k = knows l h x m r in
+    let send = (lab_end m x).conn.send in
+    let out : outstanding_of send ≡ 0 = omega (arith, k.1, all) in
+    (nil_from_length send.kept (omega (arith, k.0, all)), eq-eqb (outstanding_of send) 0 out)
+
 -- ---- while something is unread, the writer keeps something, and sends it again when that is due
 
 pub keeps_some : (l : LabView) → HasMachine l → (x : Side) → ((y : Side) → (lab_end l y).conn.state ≡ st.Open) → Waits l (other x) → length (lab_end l (other x)).read < length (lab_end l x).written → 0 < length (lab_end l x).conn.send.kept
@@ -600,9 +609,4 @@ keeps_some l h x opens waits more =
     omega (arith, kept, left, upto, read, wrote, more)
 
 pub sends_when_due : (l : LabView) (x : Side) (now : ℕ) → IsConn (lab_end l x).conn → IsDue (lab_end l x).conn now → (happen l (TickOf x now)).answer ≡ Ok (stepped.Ticked (ti.Resent (length (lab_end l x).conn.send.kept)))
-sends_when_due l x now c h =
-    let v : ConnView = conn_at l x in
-    let u : ConnView = at_moment v now in
-    let up : is_down u ≡ false = and_right _ _ (lt-leb v.config.down (max v.last now - v.heard) (omega (arith, h.later, h.heard, c.heard))) in
-    let due : is_resend_due u ≡ true = and_from _ _ (ap awaits_peer h.open_end) (and_from _ _ (lt-ltb 0 (length v.send.kept) h.some) (le-leb v.config.retransmit (max v.last now - v.resent) (omega (arith, h.later, h.again)))) in
-    ap (λ d. Ok (stepped.Ticked (ticked_by d u).answer)) (cond-false _ _ _ up ∙ cond-true _ _ _ due)
+sends_when_due l x now c h = ap (λ a. Ok (stepped.Ticked a.answer)) (resends_due (conn_at l x) now c h)

@@ -83,7 +83,7 @@ read_event y w l t at =
 -- ---- a copy comes
 
 module _ {X Y : Type 0} where
-  stamped_of : (R : X → Y → Type 0) (xs : List X) (ys : List Y) (k : ℕ) (y : Y) → AllZip R xs ys → slice_get ys k ≡ Some y → (x : X) × (slice_get xs k ≡ Some x) × R x y
+  pub stamped_of : (R : X → Y → Type 0) (xs : List X) (ys : List Y) (k : ℕ) (y : Y) → AllZip R xs ys → slice_get ys k ≡ Some y → (x : X) × (slice_get xs k ≡ Some x) × R x y
   stamped_of R [] [] k y h at = absurd (cc)
   stamped_of R [] (z ∷ ys) k y h at = absurd h
   stamped_of R (x ∷ xs) [] k y h at = absurd (cc)
@@ -99,7 +99,7 @@ module _ {X Y : Type 0} where
 pub same_count : (w : Machine) (l : LabView) → Ties w l → length l.copies ≡ length w.copies
 same_count w l t = zip_length (StandsCopy l.a.first l.b.first w) l.copies w.copies t.tied.copies
 
-fresh_is : (w : Machine) (l : LabView) (s : Sent) (c : Copy) → Ties w l → Fresh w c → s.len_a ≡ c.len_a → s.len_b ≡ c.len_b → is_fresh l.a l.b s ≡ true
+pub fresh_is : (w : Machine) (l : LabView) (s : Sent) (c : Copy) → Ties w l → Fresh w c → s.len_a ≡ c.len_a → s.len_b ≡ c.len_b → is_fresh l.a l.b s ≡ true
 fresh_is w l s c t fresh is_a is_b =
     let a : length l.a.written ≡ length w.a.written = ap length t.written_a in
     let b : length l.b.written ≡ length w.b.written = ap length t.written_b in
@@ -193,7 +193,7 @@ conn_stays A B l call is = refl
 conn_stays B A l call is = refl
 conn_stays B B l call is = let no : A ≡ B = is in absurd (cc)
 
-put_at : (x : Side) (l : LabView) (call : Call) (n j : ℕ) (packet : PacketView) → n ≡ length l.copies + j → slice_get (act (conn_at l x) call).packets j ≡ Some packet → slice_get (after_call l x call).copies n ≡ Some (stamp_after l x call packet)
+pub put_at : (x : Side) (l : LabView) (call : Call) (n j : ℕ) (packet : PacketView) → n ≡ length l.copies + j → slice_get (act (conn_at l x) call).packets j ≡ Some packet → slice_get (after_call l x call).copies n ≡ Some (stamp_after l x call packet)
 put_at x l call n j packet place at =
     ap (λ cs. slice_get cs n) (copies_after x l call)
     ∙ past_front l.copies (map (stamp_after l x call) (act (conn_at l x) call).packets) n j place
@@ -327,14 +327,15 @@ heard_from x rest b b' p e pk now r f w s =
     (record { config = refl; heard = refl; last = refl; resent = refl })
 
 -- the stamped packet of the end at y stands for it
-stands_at_side : (y z : Side) (w : Machine) (fa fb : ℕ) (pk : PacketView) (kind : Kind) (told : Told) → z ≡ y → StandsFor z (base_of fa fb z) (base_of fa fb (other z)) (end_of w z) pk kind told → StandsFor y (base_of fa fb y) (base_of fa fb (other y)) (end_of w y) pk kind told
+pub stands_at_side : (y z : Side) (w : Machine) (fa fb : ℕ) (pk : PacketView) (kind : Kind) (told : Told) → z ≡ y → StandsFor z (base_of fa fb z) (base_of fa fb (other z)) (end_of w z) pk kind told → StandsFor y (base_of fa fb y) (base_of fa fb (other y)) (end_of w y) pk kind told
 stands_at_side y z w fa fb pk kind told is h = subst (λ (q : Side). StandsFor q (base_of fa fb q) (base_of fa fb (other q)) (end_of w q) pk kind told) is h
 
-pub record Hears (y x : Side) (w : Machine) (l : LabView) (n r : ℕ) : Type 0 where
+pub record Hears (y x : Side) (w : Machine) (l : LabView) (n r window : ℕ) : Type 0 where
   pub machine : Machine
   pub ties : Ties machine (happen l (DeliverCopy n)).lab
   pub keeps : Keeps w machine
   pub heard : r ≤ (end_of machine x).acknowledged
+  pub room : 1 ≤ window → 1 ≤ (end_of machine x).window
   pub own : HeardNow l.clock (conn_at l x) (conn_at (happen l (DeliverCopy n)).lab x)
   pub peers : conn_at (happen l (DeliverCopy n)).lab y ≡ conn_at l y
   pub clock : (happen l (DeliverCopy n)).lab.clock ≡ l.clock
@@ -342,6 +343,9 @@ pub record Hears (y x : Side) (w : Machine) (l : LabView) (n r : ℕ) : Type 0 w
 
 hears_status : (kind : Kind) (told : Told) (r f v : ℕ) (p e : Plain) → kind ≡ Sts → told ≡ Status r f v → r ≤ (received Open kind told p e).acknowledged
 hears_status kind told r f v p e is says = subst (λ (q : Kind × Told). r ≤ (received Open q.0 q.1 p e).acknowledged) (λ j. (sym is j, sym says j)) (omega arith)
+
+hears_window : (kind : Kind) (told : Told) (r f v : ℕ) (p e : Plain) → kind ≡ Sts → told ≡ Status r f v → 1 ≤ e.send_cap → 1 ≤ v → 1 ≤ (received Open kind told p e).window
+hears_window kind told r f v p e is says cap some = subst (λ (q : Kind × Told). 1 ≤ (received Open q.0 q.1 p e).window) (λ j. (sym is j, sym says j)) (omega (arith, cap, some))
 
 pub stands_to : (y : Side) (w : Machine) (l : LabView) (pk : PacketView) (kind : Kind) (told : Told) → StandsFor y (base_of l.a.first l.b.first y) (base_of l.a.first l.b.first (other y)) (end_of w y) pk kind told → StandsFor (other (other y)) (first_at l (other (other y))) (first_at l (other y)) (end_of w (other (other y))) pk kind told
 stands_to A w l pk kind told s = s
@@ -351,7 +355,7 @@ other_apart : (x y : Side) → other x ≡ y → other y ≡ x
 other_apart x y is = ap other (sym is) ∙ other_other x
 
 -- the STS of the end at y comes to that at x
-pub hears_at : (y : Side) (w : Machine) (l : LabView) (n r f v : ℕ) (c : Copy) → Ties w l → CopyAt w y n c → c.kind ≡ Sts → c.told ≡ Status r f v → (end_of w (other y)).phase ≡ Open → Hears y (other y) w l n r
+pub hears_at : (y : Side) (w : Machine) (l : LabView) (n r f v : ℕ) (c : Copy) → Ties w l → CopyAt w y n c → c.kind ≡ Sts → c.told ≡ Status r f v → (end_of w (other y)).phase ≡ Open → Hears y (other y) w l n r v
 hears_at y w l n r f v c t h kind told at =
     let x : Side = other y in
     let d = copy_event y w l n c t h at (λ is. let no : Sts ≡ Cls = sym kind ∙ is in absurd (cc)) in
@@ -370,6 +374,8 @@ hears_at y w l n r f v c t h kind told at =
       ties = d.ties;
       keeps = d.came.keeps;
       heard = subst (λ (e : Plain). r ≤ e.acknowledged) (sym d.came.is) (hears_status c.kind c.told r f v (end_of w (other x)) (end_of w x) kind told);
+      room = λ some. subst (λ (e : Plain). 1 ≤ e.window) (sym d.came.is)
+          (hears_window c.kind c.told r f v (end_of w (other x)) (end_of w x) kind told (end_holds w x (reached_holds w t.tied.reached)).ok.caps.0 some);
       own = subst (HeardNow l.clock (conn_at l x)) (sym now) hears;
       peers = ap (λ (u : LabView). conn_at u y) lab ∙ conn_stays y x l call (other_other y);
       clock = ap (λ (u : LabView). u.clock) lab;
@@ -450,6 +456,7 @@ pub record Sends (x : Side) (w : Machine) (l : LabView) (now : ℕ) : Type 0 whe
   pub step : Step w (TickAt x) machine
   pub burst : Burst machine x (length l.copies) (end_of w x).receipted
   pub all : Copies machine x (length l.copies) (length (happen l (TickOf x now)).lab.copies)
+  pub exact : 0 < length (conn_at l x).send.kept → length (happen l (TickOf x now)).lab.copies ≡ length l.copies + length (conn_at l x).send.kept
   pub peers : (y : Side) → other x ≡ y → conn_at (happen l (TickOf x now)).lab y ≡ conn_at l y
   pub taken : IsTaken l (TickOf x now)
 
@@ -498,6 +505,10 @@ ticked_no_cls x w l now t at =
     one_sns : (u : ConnView) → NoCls (sns_of u ∷ [])
     one_sns u zero packet h is = let same : sns_of u ≡ packet = cc in let no : k.Sns ≡ k.Cls = ap (λ p. kind_of p.op) same ∙ is in absurd (cc)
     one_sns u (suc j) packet h is = absurd (cc)
+
+pub packets_count : (items : List ItemView) (v : ConnView) (n : ℕ) → length (packets_from v n items) ≡ length items
+packets_count [] v n = refl
+packets_count (item ∷ items) v n = ap suc (packets_count items v (num n 1))
 
 not_cls : (kind : Kind) (b : ℕ) (e : Plain) (pk : PacketView) → IsWhat b e pk kind → (kind_of pk.op ≡ k.Cls → ⊥) → kind ≡ Cls → ⊥
 not_cls kind b e pk what none is = let w : IsWhat b e pk Cls = subst (IsWhat b e pk) is what in none (ap kind_of w.0)
@@ -563,6 +574,11 @@ ticked_at x w l now t at opens puts =
           let count : length l.copies ≡ length w.copies = same_count w l t in
           let sent = sent_at x w z e m n j (stamp_after l x call pk) s.ties g.becomes (omega (arith, count, place)) put in
           (sent.copy, sent.at, not_cls sent.copy.kind (first_at m x) (end_of z x) pk (sent_what x z m n (stamp_after l x call pk) sent) (ticked_no_cls x w l now t at j pk found.1));
+      exact = λ some.
+          let packets = (act v call).packets in
+          let long : length m.copies ≡ length l.copies + length packets = ap length (copies_after x l call) ∙ length-append l.copies (map (stamp_after l x call) packets) ∙ ap (λ z. length l.copies + z) (length-map packets (stamp_after l x call)) in
+          let count : length packets ≡ length v.send.kept = ap length (puts some) ∙ packets_count v.send.kept u (num v.send.receipted 1) in
+          omega (arith, long, count);
       peers = λ y is. conn_stays y x l call is;
       taken = (_, refl);
     }

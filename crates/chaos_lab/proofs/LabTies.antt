@@ -28,7 +28,7 @@ use Rattle.chaos_lab.proofs.CopyTies.{CopyKnown, copy_known, comes_to_a, comes_t
 
 -- ---- a copy for B: the RFC asks it, where it took no request yet
 
-is_first : (kind : Kind) (b b' : ℕ) (p : Plain) (pk : PacketView) → HasItems A b p → IsWhat b' p pk kind → is_rfc (kind_of pk.op) ≡ true → kind ≡ Nth 0
+pub is_first : (kind : Kind) (b b' : ℕ) (p : Plain) (pk : PacketView) → HasItems A b p → IsWhat b' p pk kind → is_rfc (kind_of pk.op) ≡ true → kind ≡ Nth 0
 is_first (Nth zero) b b' p pk its what is = refl
 is_first (Nth (suc i)) b b' p pk its what is =
     ⊎_elim
@@ -39,7 +39,7 @@ is_first Sns b b' p pk its what is = absurd (false≢true (sym (ap (λ op. is_rf
 is_first Sts b b' p pk its what is = absurd (false≢true (sym (ap (λ op. is_rfc (kind_of op)) what.0) ∙ is))
 is_first Cls b b' p pk its what is = absurd (false≢true (sym (ap (λ op. is_rfc (kind_of op)) what.0) ∙ is))
 
-first_is : (kind : Kind) (b b' : ℕ) (p : Plain) (pk : PacketView) → HasItems A b p → IsWhat b' p pk kind → kind ≡ Nth 0 → is_rfc (kind_of pk.op) ≡ true
+pub first_is : (kind : Kind) (b b' : ℕ) (p : Plain) (pk : PacketView) → HasItems A b p → IsWhat b' p pk kind → kind ≡ Nth 0 → is_rfc (kind_of pk.op) ≡ true
 first_is kind b b' p pk its what is =
     let first : IsWhat b' p pk (Nth 0) = subst (IsWhat b' p pk) is what in
     ap (λ op. is_rfc (kind_of op)) (its.first (record { op = pk.op; body = pk.body }) first.0)

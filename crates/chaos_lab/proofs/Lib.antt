@@ -40,6 +40,7 @@ pub mod Tells
 pub mod Phases
 pub mod HeadlineLaw
 pub mod Turns
+pub mod Due
 pub mod Keeps
 pub mod Helping
 pub mod Waiting
@@ -50,3 +51,10 @@ pub mod Settled
 pub mod Before
 pub mod Fair
 pub mod Answering
+pub mod Plays
+pub mod Asking
+pub mod Accepting
+pub mod Meeting
+pub mod Opens
+pub mod NewOpens
+pub mod Held

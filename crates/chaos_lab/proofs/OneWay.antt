@@ -1,10 +1,10 @@
 -- One way of settling, step by step: an end is told, sends again, and the other end's user reads what comes.
-use Rattle.std.proofs.Common.{◌≡◌, ℕ, zero, suc, ◌+◌, ◌-◌, ◌<◌, ◌≤◌, max, List, [], ◌∷◌, ◌++◌, length, true, false, Option, Some, None, refl, sym, ap, ◌∙◌, subst, inl, inr, ◌⊎◌, ⊎_elim, arith, map, length-drop, length-append}
-use Rattle.std.specs.Prelude.{is_none}
+use Rattle.std.proofs.Common.{◌≡◌, ℕ, zero, suc, ◌+◌, ◌-◌, ◌<◌, ◌≤◌, max, List, [], ◌∷◌, ◌++◌, length, true, false, Option, Some, None, refl, sym, ap, ◌∙◌, subst, inl, inr, ◌⊎◌, ⊎_elim, arith, map, length-drop, length-append, append_assoc}
+use Rattle.std.specs.Prelude.{is_none, slice_get}
 use Rattle.std.specs.FinSet.{contains}
 use Rattle.std.proofs.lemmas.Bool.{cond_both, cases_lt, false≢true}
 use Rattle.std.proofs.lemmas.List.{length-map}
-use Rattle.std.proofs.lemmas.Option.{slice_get_within}
+use Rattle.std.proofs.lemmas.Option.{slice_get_within, get_or_from_slice_get}
 use Rattle.chaos_packet.specs.Item.{ItemView}
 use Rattle.chaos_conn.specs.View.{ConnView}
 use Rattle.chaos_packet.specs.Number.{num}
@@ -14,14 +14,15 @@ use Rattle.chaos_conn.specs.Time.{is_down, is_resend_due, is_probe_due, at_momen
 use Rattle.chaos_conn.specs.Sending.{packets_from}
 use Rattle.chaos_conn.specs.Calls.{front_of}
 use Rattle.chaos_lab.specs.declared.side.Side.{Side}
-use Rattle.chaos_lab.specs.Machine.{PlainEnd as Plain, Kind, Told, Copy, Machine, other, end_of}
+use Rattle.chaos_lab.specs.Machine.{PlainEnd as Plain, Kind, Told, Copy, Machine, other, end_of, with_end, IsSent, Step}
 use Rattle.chaos_lab.specs.Machine.Phase.{Open}
+use Rattle.chaos_lab.specs.Machine.Event.{TickAt}
 use Rattle.chaos_lab.specs.Machine.Kind.{Nth, Cls}
 use Rattle.chaos_lab.specs.Law.{IsThere}
 use Rattle.chaos_lab.specs.Laboratory.{LabView, Happening, lab_end, happen, after_all}
 use Rattle.chaos_lab.specs.Laboratory.Happening.{ReadBy, AnnounceBy, TickOf, DeliverCopy}
 use Rattle.chaos_lab.specs.Tied.{Ties}
-use Rattle.chaos_lab.specs.Settling.{telling, told, last_moment, resend_moment, again, reading, reading_on, coming, bringing, taking}
+use Rattle.chaos_lab.specs.Settling.{telling, told, last_moment, resend_moment, again, reading, reading_on, coming, taking_in, taking}
 use Rattle.chaos_lab.proofs.Total.{received}
 use Rattle.chaos_lab.proofs.Arriving.{heard_there}
 use Rattle.chaos_lab.proofs.Machines.{reached_holds, end_holds}
@@ -29,9 +30,9 @@ use Rattle.chaos_lab.proofs.Directions.{Sound}
 use Rattle.chaos_lab.proofs.Known.{other_other}
 use Rattle.chaos_lab.proofs.OnSide.{conn_at}
 use Rattle.chaos_lab.proofs.Keeps.{Keeps, CopyAt, keeps_through}
-use Rattle.chaos_lab.proofs.Helping.{SameTimes, HeardNow, OnTime, Burst, Copies, Announces, Sends, next_moment, read_event, copy_event, announce_event, hears_at, tick_event, burst_keeps, copies_keep, copies_after, stamp_after, same_count, shows}
+use Rattle.chaos_lab.proofs.Helping.{SameTimes, HeardNow, OnTime, Burst, Copies, Announces, Sends, next_moment, read_event, copy_event, announce_event, hears_at, tick_event, packets_count, past_front, burst_keeps, copies_keep, copies_after, stamp_after, same_count, shows}
 use Rattle.chaos_lab.proofs.Waiting.{waiting}
-use Rattle.chaos_lab.proofs.Playing.{Plays, plays_none, plays_one, plays_both, plays_first}
+use Rattle.chaos_lab.proofs.Playing.{Plays, after_both, plays_none, plays_one, plays_both, plays_first}
 
 -- both ends are open
 abbrev pub AreOpen : Machine → Type 0
@@ -47,6 +48,7 @@ pub record Hears (n : ℕ) (y x : Side) (w : Machine) (l : LabView) : Type 0 whe
   pub plays : Plays n w l (telling y l) machine
   pub some : 1 ≤ (end_of machine y).announced
   pub heard : length (end_of w y).read ≤ (end_of machine x).acknowledged
+  pub room : 1 ≤ (end_of machine x).window
   pub hears : HeardNow l.clock (conn_at l x) (conn_at (told y l) x)
   pub speaks : SameTimes (conn_at l y) (conn_at (told y l) y)
   pub clock : (told y l).clock ≡ l.clock
@@ -67,6 +69,7 @@ told_other n y w l t opens from =
           (plays_one n a.machine h.machine l1 (DeliverCopy copy) from h.taken h.ties h.keeps);
       some = (h.keeps.ends y).announces a.some;
       heard = omega (arith, (a.keeps.ends y).read, h.heard);
+      room = h.room a.some;
       hears = subst (λ (u : ConnView × ℕ). HeardNow u.1 u.0 (conn_at l2 (other y))) (λ j. (a.peers (other y) refl j, a.clock j)) h.own;
       speaks = subst (λ (u : ConnView). SameTimes (conn_at l y) u) (sym h.peers) a.own;
       clock = h.clock ∙ a.clock;
@@ -95,6 +98,22 @@ on_time t u v s h =
     let down : v.config.down ≡ u.config.down = ap (λ c. c.down) s.config in
     record { heard = s.heard; again = omega (arith, again, down, h.again); resent = omega (arith, s.last, s.resent, h.resent) }
 
+-- a copy is stamped with what both ends have written now
+pub record IsStamped (w : Machine) (c : Copy) : Type 0 where
+  pub len_a : c.len_a ≡ length w.a.written
+  pub len_b : c.len_b ≡ length w.b.written
+
+-- so those are that a tick puts out
+stamped_at : (x : Side) (w v : Machine) (n : ℕ) (c : Copy) → Keeps w v → Step w (TickAt x) v → length w.copies ≤ n → slice_get v.copies n ≡ Some c → IsStamped v c
+stamped_at x w v n c k s from at =
+    let b = s.2 in
+    let j : ℕ = n - length w.copies in
+    let place : n ≡ length w.copies + j = omega (arith, from) in
+    let all : v.copies ≡ w.copies ++ b.0 = ap (λ (u : Machine). u.copies) b.2 in
+    let there : slice_get b.0 j ≡ Some c = sym (past_front w.copies b.0 n j place) ∙ ap (λ cs. slice_get cs n) (sym all) ∙ at in
+    let sent : IsSent (with_end w x s.0) x c = subst (IsSent (with_end w x s.0) x) (get_or_from_slice_get b.0 j c c there) (b.1 j c (slice_get_within b.0 j c there)) in
+    record { len_a = sent.len_a ∙ sym (ap (λ (u : Machine). length u.a.written) b.2); len_b = sent.len_b ∙ sym (ap (λ (u : Machine). length u.b.written) b.2) }
+
 -- it has a moment left for that
 abbrev pub HasMoment : Side → LabView → Type 0
 HasMoment x l = max (conn_at l x).last l.clock + (conn_at l x).config.retransmit ≤ last_moment
@@ -114,6 +133,8 @@ pub record Resends (n : ℕ) (x : Side) (w : Machine) (l : LabView) : Type 0 whe
   pub upto : length (told (other x) l).copies ≤ length (resent x l).copies
   pub enough : length (end_of machine x).written ≤ receipted + (length (resent x l).copies - length (told (other x) l).copies)
   pub few : length (resent x l).copies ≤ length (told (other x) l).copies + 64
+  pub exact : receipted < length (end_of machine x).written → length (resent x l).copies ≡ length (told (other x) l).copies + (length (end_of machine x).written - receipted)
+  pub stamped : (number : ℕ) (c : Copy) → length (told (other x) l).copies ≤ number → slice_get machine.copies number ≡ Some c → IsStamped machine c
   pub from : length l.copies ≤ length (told (other x) l).copies
   pub speaks : SameTimes (conn_at l (other x)) (conn_at (resent x l) (other x))
   pub clock : (resent x l).clock ≡ max (conn_at l x).last l.clock + (conn_at l x).config.retransmit
@@ -130,10 +151,6 @@ all_put v m x number r t burst =
     omega (arith, within, count, less))
     (λ (past : length (end_of v x).written ≤ r). omega (arith, past))
     (cases_lt r (length (end_of v x).written))
-
-packets_count : (items : List ItemView) (v : ConnView) (n : ℕ) → length (packets_from v n items) ≡ length items
-packets_count [] v n = refl
-packets_count (item ∷ items) v n = ap suc (packets_count items v (num n 1))
 
 -- a tick puts out what is kept, or one packet, or none
 tick_count : (v : ConnView) (most : ℕ) → length v.send.kept ≤ most → 1 ≤ most → length (ticked_by (due_of v) v).packets ≤ most
@@ -184,6 +201,12 @@ resends n x w l t opens from timely left =
       upto = omega (arith, before, after, e.keeps.count);
       enough = all_put e.machine z x (length m.copies) (end_of v x).receipted e.ties e.burst;
       few = few_put x v m (resend_moment x m) s.plays.ties (stay_open w v s.plays.keeps opens x);
+      exact = λ less.
+          let kept : length (conn_at m x).send.kept ≡ length (end_of v x).written - (end_of v x).receipted = ap (λ (c : ConnView). length c.send.kept) (shows x v m s.plays.ties (stay_open w v s.plays.keeps opens x)).is ∙ length-drop (end_of v x).receipted (end_of v x).written in
+          let same : length (end_of e.machine x).written ≡ length (end_of v x).written = ap length (e.keeps.ends x).written in
+          let all = e.exact (omega (arith, kept, same, less)) in
+          omega (arith, all, kept, same);
+      stamped = λ number c late at. stamped_at x v e.machine number c e.keeps e.step (omega (arith, before, late)) at;
       from = omega (arith, first, before, s.plays.keeps.count);
       speaks = subst (λ (u : ConnView). SameTimes (conn_at l y) u) (sym (e.peers y refl)) s.speaks;
       clock = ap (λ (k : ℕ). max k (resend_moment x m)) s.clock ∙ (let last : max l.clock (resend_moment x m) ≡ max (conn_at l x).last l.clock + (conn_at l x).config.retransmit = omega (arith, moment) in last);
@@ -191,7 +214,7 @@ resends n x w l t opens from timely left =
 
 -- ---- the other user reads
 
-none_is : (o : Option ItemView) → is_none o ≡ true → o ≡ None
+pub none_is : (o : Option ItemView) → is_none o ≡ true → o ≡ None
 none_is None h = refl
 none_is (Some item) h = absurd (false≢true h)
 
@@ -247,9 +270,9 @@ reads_on (suc k) n y r w l t at here =
 -- ---- copies come
 
 -- a copy of any kind but CLS comes, and the user reads
-record Comes (n : ℕ) (x : Side) (w : Machine) (l : LabView) (copy : ℕ) : Type 0 where
-  machine : Machine
-  plays : Plays n w l (DeliverCopy copy ∷ reading (other x) (happen l (DeliverCopy copy)).lab) machine
+pub record Comes (n : ℕ) (x : Side) (w : Machine) (l : LabView) (copy : ℕ) : Type 0 where
+  pub machine : Machine
+  pub plays : Plays n w l (DeliverCopy copy ∷ reading (other x) (happen l (DeliverCopy copy)).lab) machine
 
 comes : (n : ℕ) (x : Side) (w : Machine) (l : LabView) (copy : ℕ) (c : Copy) → Ties w l → CopyAt w x copy c → (c.kind ≡ Cls → ⊥) → (end_of w (other x)).phase ≡ Open → n ≤ copy → Comes n x w l copy
 comes n x w l copy c t h apart at from =
@@ -262,15 +285,15 @@ comes n x w l copy c t h apart at from =
       plays = plays_first n w d.machine e.machine l (DeliverCopy copy) (reading y m) (plays_one n w d.machine l (DeliverCopy copy) from d.taken d.ties d.came.keeps) e.plays;
     }
 
-took_there : (kind : Kind) (i : ℕ) (told : Told) (p e : Plain) → kind ≡ Nth i → i ≤ length e.read → 1 ≤ e.announced → IsThere (received Open kind told p e) i
+pub took_there : (kind : Kind) (i : ℕ) (told : Told) (p e : Plain) → kind ≡ Nth i → i ≤ length e.read → 1 ≤ e.announced → IsThere (received Open kind told p e) i
 took_there kind i told p e is upto some = subst (λ (q : Kind). IsThere (received Open q told p e) i) (sym is) (heard_there told i e (omega (arith, upto, some)))
 
 -- item i comes, and is read if it wasn't yet
-record ItemComes (n : ℕ) (x : Side) (w : Machine) (l : LabView) (copy i : ℕ) : Type 0 where
-  comes : Comes n x w l copy
-  more : i < length (end_of comes.machine (other x)).read
+pub record ItemComes (n : ℕ) (x : Side) (w : Machine) (l : LabView) (copy i : ℕ) : Type 0 where
+  pub comes : Comes n x w l copy
+  pub more : i < length (end_of comes.machine (other x)).read
 
-item_comes : (n : ℕ) (x : Side) (w : Machine) (l : LabView) (copy i : ℕ) (c : Copy) → Ties w l → CopyAt w x copy c → c.kind ≡ Nth i → (end_of w (other x)).phase ≡ Open → 1 ≤ (end_of w (other x)).announced → i ≤ length (end_of w (other x)).read → n ≤ copy → ItemComes n x w l copy i
+pub item_comes : (n : ℕ) (x : Side) (w : Machine) (l : LabView) (copy i : ℕ) (c : Copy) → Ties w l → CopyAt w x copy c → c.kind ≡ Nth i → (end_of w (other x)).phase ≡ Open → 1 ≤ (end_of w (other x)).announced → i ≤ length (end_of w (other x)).read → n ≤ copy → ItemComes n x w l copy i
 item_comes n x w l copy i c t h kind at some upto from =
     let y : Side = other x in
     let apart : c.kind ≡ Cls → ⊥ = λ is. let no : Nth i ≡ Cls = sym kind ∙ is in absurd (cc) in
@@ -374,13 +397,14 @@ arrived_near : (e p : Plain) (r : ℕ) → Sound e p → ((i : ℕ) → i < r �
 arrived_near e p zero d here = omega arith
 arrived_near e p (suc r) d here = let last = d.inside r (here r (omega arith)) in omega (arith, last)
 
-pub record Takes (n : ℕ) (x : Side) (first last : ℕ) (w : Machine) (l : LabView) : Type 0 where
+-- its user reads all that was written
+pub record TakesIn (n : ℕ) (x : Side) (first last : ℕ) (w : Machine) (l : LabView) : Type 0 where
   pub machine : Machine
-  pub plays : Plays n w l (taking (other x) first last l) machine
-  pub done : IsDone machine x
+  pub plays : Plays n w l (taking_in (other x) first last l) machine
+  pub read : length (end_of machine x).written ≤ length (end_of machine (other x)).read
 
-pub takes : (n : ℕ) (x : Side) (first last r : ℕ) (w : Machine) (l : LabView) → Ties w l → AreOpen w → 1 ≤ (end_of w (other x)).announced → Burst w x first r → Copies w x first last → first ≤ last → length (end_of w x).written ≤ r + (last - first) → n ≤ first → n ≤ length l.copies → Takes n x first last w l
-takes n x first last r w l t opens some burst all upto enough from long =
+pub takes_in : (n : ℕ) (x : Side) (first last r : ℕ) (w : Machine) (l : LabView) → Ties w l → AreOpen w → 1 ≤ (end_of w (other x)).announced → Burst w x first r → Copies w x first last → first ≤ last → length (end_of w x).written ≤ r + (last - first) → n ≤ first → TakesIn n x first last w l
+takes_in n x first last r w l t opens some burst all upto enough from =
     let y : Side = other x in
     let count : ℕ = last - first in
     let h = end_holds w x (reached_holds w t.tied.reached) in
@@ -399,20 +423,44 @@ takes n x first last r w l t opens some burst all upto enough from long =
     let b = burst_comes count n x first r 0 last first u m (omega arith) a.plays.ties ((ku.ends y).opened (opens y)) ((ku.ends y).announces some)
     (burst_keeps w u x first r ku burst) (copies_keep w u x first last ku all) (omega (arith, upto)) from (inr (omega (arith, read))) in
     let v : Machine = b.machine in
-    let kv : Keeps w v = keeps_through w u v ku b.plays.keeps in
-    let q : LabView = after_all m (coming y first count m) in
+    record {
+      machine = v;
+      plays = plays_both n w u v l (reading_on y times l) (coming y first count m) a.plays b.plays;
+      read = ⊎_elim
+          (λ (g : length (end_of v x).written ≤ length (end_of v y).read). g)
+          (λ (g : r + 0 + count ≤ length (end_of v y).read).
+          let kv : Keeps w v = keeps_through w u v ku b.plays.keeps in
+          let same : length (end_of v x).written ≡ length (end_of w x).written = ap length (kv.ends x).written in
+          omega (arith, g, enough, same))
+          b.read;
+    }
+
+pub record Takes (n : ℕ) (x : Side) (first last : ℕ) (w : Machine) (l : LabView) : Type 0 where
+  pub machine : Machine
+  pub plays : Plays n w l (taking (other x) first last l) machine
+  pub done : IsDone machine x
+
+taking_is : (y : Side) (first last : ℕ) (l : LabView) → taking_in y first last l ++ telling y (after_all l (taking_in y first last l)) ≡ taking y first last l
+taking_is y first last l =
+    let read : List Happening = reading_on y (lab_end l y).conn.config.recv_cap l in
+    let m : LabView = after_all l read in
+    let come : List Happening = coming y first (last - first) m in
+    ap (λ (k : LabView). (read ++ come) ++ telling y k) (after_both l read come) ∙ append_assoc read come (telling y (after_all m come))
+
+pub takes : (n : ℕ) (x : Side) (first last r : ℕ) (w : Machine) (l : LabView) → Ties w l → AreOpen w → 1 ≤ (end_of w (other x)).announced → Burst w x first r → Copies w x first last → first ≤ last → length (end_of w x).written ≤ r + (last - first) → n ≤ first → n ≤ length l.copies → Takes n x first last w l
+takes n x first last r w l t opens some burst all upto enough from long =
+    let y : Side = other x in
+    let a = takes_in n x first last r w l t opens some burst all upto enough from in
+    let v : Machine = a.machine in
+    let es : List Happening = taking_in y first last l in
+    let q : LabView = after_all l es in
     let there : length l.copies ≡ length w.copies = same_count w l t in
-    let here : length q.copies ≡ length v.copies = same_count v q b.plays.ties in
-    let c = told_by n x v q b.plays.ties (stay_open w v kv opens) (omega (arith, there, here, kv.count, long)) in
+    let here : length q.copies ≡ length v.copies = same_count v q a.plays.ties in
+    let c = told_by n x v q a.plays.ties (stay_open w v a.plays.keeps opens) (omega (arith, there, here, a.plays.keeps.count, long)) in
     let z : Machine = c.machine in
-    let before : length (end_of v x).written ≡ length (end_of w x).written = ap length (kv.ends x).written in
     let same : length (end_of z x).written ≡ length (end_of v x).written = ap length (c.plays.keeps.ends x).written in
     record {
       machine = z;
-      plays = plays_both n w u z l (reading_on y times l) (bringing y first last m) a.plays
-          (plays_both n u v z m (coming y first count m) (telling y q) b.plays c.plays);
-      done = ⊎_elim
-          (λ (g : length (end_of v x).written ≤ length (end_of v y).read). omega (arith, g, same, c.heard))
-          (λ (g : r + 0 + count ≤ length (end_of v y).read). omega (arith, g, enough, before, same, c.heard))
-          b.read;
+      plays = subst (λ es. Plays n w l es z) (taking_is y first last l) (plays_both n w v z l es (telling y q) a.plays c.plays);
+      done = omega (arith, a.read, same, c.heard);
     }

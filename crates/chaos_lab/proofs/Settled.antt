@@ -20,7 +20,7 @@ use Rattle.chaos_lab.specs.Shown.{Rest, met_view, slots_from, there_at}
 use Rattle.chaos_lab.specs.Laboratory.{LabView, Happening, lab_end, happen, after_all}
 use Rattle.chaos_lab.specs.Laboratory.Happening.{ReadBy, AnnounceBy, TickOf, DeliverCopy}
 use Rattle.chaos_lab.specs.Tied.{Ties, HasMachine}
-use Rattle.chaos_lab.specs.Progress.{IsInTime, IsSettled, CanSettle, Settles, most_events}
+use Rattle.chaos_lab.specs.Progress.{IsInTime, IsSettled, CanSettle, Settles, ReadThrough, most_events}
 use Rattle.chaos_lab.specs.Settling.{telling, told, resend_moment, reading, reading_on, coming, bringing, taking, both_taking, b_hearing, settling}
 use Rattle.chaos_lab.proofs.Machines.{reached_holds, end_holds}
 use Rattle.chaos_lab.proofs.Directions.{Sound}
@@ -113,7 +113,7 @@ settled w v l m t tv k opens done =
       open_ends = λ x. let s = shows x v m tv (opens x) in ap (λ (u : ConnView). u.state) s.is;
     }
 
-timely : (v : ConnView) → IsConn v → IsInTime v → Timely v
+pub timely : (v : ConnView) → IsConn v → IsInTime v → Timely v
 timely v c h = record { again = h.again; resent = c.resent }
 
 -- ---- how many events there are
@@ -121,7 +121,7 @@ timely v c h = record { again = h.again; resent = c.resent }
 reading_few : (y : Side) (l : LabView) → length (reading y l) ≤ 1
 reading_few y l = cond_both (is_none (front_of (conn_at l y))) [] (ReadBy y ∷ []) (λ (es : List Happening). length es ≤ 1) (λ _. omega arith) (λ _. omega arith)
 
-reading_on_few : (k : ℕ) (y : Side) (l : LabView) → length (reading_on y k l) ≤ k
+pub reading_on_few : (k : ℕ) (y : Side) (l : LabView) → length (reading_on y k l) ≤ k
 reading_on_few zero y l = omega arith
 reading_on_few (suc k) y l =
     let one = reading_few y l in
@@ -130,7 +130,7 @@ reading_on_few (suc k) y l =
     let all = length-append (reading y l) (reading_on y k m) in
     omega (arith, one, rest, all)
 
-coming_few : (k : ℕ) (y : Side) (copy : ℕ) (l : LabView) → length (coming y copy k l) ≤ 2 * k
+pub coming_few : (k : ℕ) (y : Side) (copy : ℕ) (l : LabView) → length (coming y copy k l) ≤ 2 * k
 coming_few zero y copy l = omega arith
 coming_few (suc k) y copy l =
     let m : LabView = (happen l (DeliverCopy copy)).lab in
@@ -237,3 +237,9 @@ settles l h conns can =
       taken = g.plays.taken;
       settled = settled w g.machine l (after_all l (settling l)) h.ties g.plays.ties g.plays.keeps (stay_open w g.machine g.plays.keeps opens) g.done;
     }
+
+-- what was written is read in its turn
+pub reads_through : (l : LabView) → HasMachine l → ((x : Side) → IsConn (lab_end l x).conn) → CanSettle l → (x : Side) → ReadThrough x l (after_all l (settling l))
+reads_through l h conns can x =
+    let s = (settles l h conns can).settled in
+    (λ i item at. ap (λ items. slice_get items i) (s.read x) ∙ at, s.drained x)

@@ -68,7 +68,7 @@ read_ties x w l t =
 
 -- ---- a tick
 
-ended_new : (phase : Phase) (e : Plain) → e.phase ≡ phase → SameNew e (record e { phase = ended_phase phase })
+pub ended_new : (phase : Phase) (e : Plain) → e.phase ≡ phase → SameNew e (record e { phase = ended_phase phase })
 ended_new RfcSent e at = not_new e _ (λ t. let no : RfcSent ≡ Inactive = sym at ∙ t in absurd (cc)) (λ t. absurd (cc))
 ended_new Open e at = not_new e _ (λ t. let no : Open ≡ Inactive = sym at ∙ t in absurd (cc)) (λ t. absurd (cc))
 ended_new Inactive e at = same_phase e _ (sym at)

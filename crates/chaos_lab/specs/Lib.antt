@@ -17,3 +17,5 @@ pub mod Turns
 pub mod Progress
 pub mod Settling
 pub mod SettlingLeft
+pub mod Plays
+pub mod Opening

@@ -3,6 +3,7 @@ use Rattle.std.specs.Prelude.{◌≡◌, ◌≢◌, ℕ, zero, suc, ◌+◌, ◌
 use Rattle.chaos_packet.specs.Opcode.{op_sns, op_sts}
 use Rattle.chaos_window.specs.Send.{outstanding_of}
 use Rattle.chaos_conn.specs.declared.state.State.TheVariants.{Open}
+use Rattle.chaos_conn.specs.State.{awaits_peer}
 use Rattle.chaos_conn.specs.View.{ConnView}
 use Rattle.chaos_conn.specs.declared.answers.Ticked.TheVariants.{Resent}
 use Rattle.chaos_conn.specs.Calls.{front_of, is_drained}
@@ -68,6 +69,12 @@ pub record Settles (l : LabView) (events : List Happening) : Type 0 where
   pub taken : AreTaken l events
   pub settled : IsSettled l (after_all l events)
 
+-- Each item that x wrote in l, an EOF too, stands in m at its place in what the other user has read, and x is drained.
+abbrev pub ReadThrough : Side → LabView → LabView → Type 0
+ReadThrough x l m =
+    ((i : ℕ) (item : ItemView) → slice_get (lab_end l x).written i ≡ Some item → slice_get (lab_end m (other x)).read i ≡ Some item)
+    × (is_drained (lab_end m x).conn ≡ true)
+
 -- ---- Rounds: whatever happens
 
 -- the user at y doesn't close its end in these events, and announces no window of nothing
@@ -91,9 +98,10 @@ Brings l (event ∷ events) copy =
 abbrev pub Waits : LabView → Side → Type 0
 Waits l y = front_of (lab_end l y).conn ≡ None
 
--- An open end keeps something, and at this moment it was last sent long ago enough, and the peer heard since not too long.
+-- An end that awaits its peer keeps something, and at this moment it was last sent long ago enough, and the peer heard since not
+-- too long.
 pub record IsDue (v : ConnView) (now : ℕ) : Type 0 where
-  pub open_end : v.state ≡ Open
+  pub awaits : awaits_peer v.state ≡ true
   pub some : 0 < length v.send.kept
   pub later : v.last ≤ now
   pub again : v.resent + v.config.retransmit ≤ now
@@ -161,3 +169,11 @@ abbrev pub Knows : Side → LabView → LabView → Type 0
 Knows x l m =
     let beyond = length (lab_end m x).written - length (lab_end l (other x)).read in
     (length (lab_end m x).conn.send.kept ≤ beyond) × (outstanding_of (lab_end m x).conn.send ≤ beyond)
+
+-- all that x has written by m, an EOF too, had been read by the other user in l
+abbrev pub HadRead : Side → LabView → LabView → Type 0
+HadRead x l m = length (lab_end m x).written ≤ length (lab_end l (other x)).read
+
+-- the end at x keeps nothing, and is drained
+abbrev pub KeepsNone : Side → LabView → Type 0
+KeepsNone x m = ((lab_end m x).conn.send.kept ≡ []) × (is_drained (lab_end m x).conn ≡ true)

@@ -41,6 +41,12 @@ coming y copy (suc n) l =
     let m = (happen l (DeliverCopy copy)).lab in
     DeliverCopy copy ∷ (reading y m ++ coming y (copy + 1) n (after_all m (reading y m)))
 
+-- These copies come to y, from the first up to the end. Before they come, its user reads what had come already.
+abbrev pub taking_in : Side → ℕ → ℕ → LabView → List Happening
+taking_in y first end l =
+    let read = reading_on y (lab_end l y).conn.config.recv_cap l in
+    read ++ coming y first (end - first) (after_all l read)
+
 -- These copies come to y, from the first up to the end, and then it tells its status.
 abbrev pub bringing : Side → ℕ → ℕ → LabView → List Happening
 bringing y first end l =

@@ -13,7 +13,8 @@ ghost use Rattle.chaos_lab.specs.Machine.{Machine, Step, Run, other, greatest_wi
 ghost use Rattle.chaos_lab.specs.Laboratory.{LabView, Happening, Happens, happen, check, lab_end, lab_start, start_for, after_all};
 ghost use Rattle.chaos_lab.specs.Laboratory.Happening.{TickOf, DeliverCopy};
 ghost use Rattle.chaos_lab.specs.Headline.{IsCopyOf, ComesInside, Unclosed, ReadsInTurn};
-ghost use Rattle.chaos_lab.specs.Progress.{CanSettle, Settles, Waits, IsDue, Round, GoesOn, Rounds, ComesAgain, IsAnswered, Report, Knows};
+ghost use Rattle.chaos_lab.specs.Opening.{CanOpen, Opens, HasTimeToSettle, opening};
+ghost use Rattle.chaos_lab.specs.Progress.{CanSettle, Settles, ReadThrough, Waits, IsDue, Round, GoesOn, Rounds, ComesAgain, IsAnswered, Report, Knows, HadRead, KeepsNone};
 ghost use Rattle.chaos_lab.specs.Settling.{settling};
 ghost use Rattle.chaos_lab.specs.Inside.{happening_of};
 ghost use Rattle.chaos_lab.specs.Told.{told_at, items_at};
@@ -199,10 +200,21 @@ impl Lab {
         let _ = &self.rig;
     }
 
+    /// Opening: a laboratory opens in which A has sent its request, where B's user accepts. It takes at most five events, which
+    /// deliver only what is sent now, and nothing that was written is lost. Then its ends can settle.
+    pub fn law_opening(&self)
+        ensures opens { (start : ℕ) → CanOpen self.now → Opens self.now (opening start self.now) }
+        ensures settles { (start : ℕ) → CanOpen self.now → HasTimeToSettle self.now → CanSettle (after_all self.now (opening start self.now)) }
+    {
+        self.rig.sound();
+    }
+
     /// Progress: whatever happened in a laboratory, its open ends can settle, by few events that deliver only what is sent now.
     /// Nothing that was lost, late or out of order keeps them from it, and no window that was announced.
     pub fn law_progress(&self)
-        ensures { CanSettle self.now → Settles self.now (settling self.now) }
+        ensures settles { CanSettle self.now → Settles self.now (settling self.now) }
+        // so an EOF that was written is read in its turn, and its writer finds itself drained
+        ensures closing { CanSettle self.now → (x : Side) → ReadThrough x self.now (after_all self.now (settling self.now)) }
     {
         self.rig.sound();
     }
@@ -224,6 +236,8 @@ impl Lab {
         ensures answers { (copy : ℕ) (s : Stamped) → ComesAgain self.now copy s → IsAnswered self.now copy s }
         // and a status of the reader that comes back frees the writer of all that was read
         ensures report { (x : Side) (m : LabView) → Report x self.now m → Knows x self.now m }
+        // where that was all, its EOF too, the writer is drained and keeps nothing
+        ensures drained { (x : Side) (m : LabView) → Report x self.now m → HadRead x self.now m → KeepsNone x m }
     {
         self.rig.sound();
     }

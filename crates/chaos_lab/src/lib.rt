@@ -30,7 +30,7 @@ pub use fault::LabFault;
 pub use kept_item::KeptItem;
 pub use kept_packet::KeptPacket;
 pub use lab::Lab;
-pub use law::{law_delivery, law_limits, law_numbers, law_phases};
+pub use law::{law_delivery, law_kept, law_limits, law_numbers, law_phases, law_plays};
 pub use settling::Settling;
 pub use side::Side;
 pub use stamped::Stamped;

@@ -1,6 +1,8 @@
 //! How two open ends settle.
 ghost use Rattle.std.specs.Prelude.{◌≡◌, ◌≤◌, [], ◌∷◌, is_none, IfSome, IfNone, IsSomeAnd, OnOk, OnErr, ◌↔◌, IsTrue};
 ghost use Rattle.chaos_conn.specs.Calls.{front_of};
+ghost use Rattle.chaos_conn.specs.View.{IsConn};
+ghost use Rattle.chaos_lab.specs.declared.side.Side.{Side};
 ghost use Rattle.chaos_lab.specs.Inside.{happening_of};
 ghost use Rattle.chaos_lab.specs.Laboratory.{LabView, lab_end, happen, after_all, StopsWithin};
 ghost use Rattle.chaos_lab.specs.Progress.{CanSettle, IsInTime, IsSettled};
@@ -225,6 +227,13 @@ impl Lab {
         Ok(())
     }
 
+    /// What holds of both connections, whatever happened: each is sound.
+    pub fn law_sound(&self)
+        ensures { (x : Side) → IsConn (lab_end self.now x).conn }
+    {
+        self.rig.sound();
+    }
+
     /// An end is open, and sends again before it would count the other as down.
     fn is_in_time(&self, side: Side) -> bool
         ensures { IsTrue result ↔ IsInTime (lab_end self.now side).conn }
@@ -246,29 +255,29 @@ impl Lab {
     }
 
     /// The event by which the user at a side announces its greatest window.
-    fn announcement(&self, side: Side) -> Event<'static>
+    pub fn announcement(&self, side: Side) -> Event<'static>
         ensures { happening_of result ≡ AnnounceBy side (lab_end self.now side).conn.config.recv_cap }
     {
         Event::Announce(side, self.recv_cap(side))
     }
 
     /// The greatest window that an end may announce.
-    fn recv_cap(&self, side: Side) -> u16
+    pub fn recv_cap(&self, side: Side) -> u16
         ensures { result ≡ (lab_end self.now side).conn.config.recv_cap }
     {
         self.rig.conn(side).config().recv_cap()
     }
 
     /// When an end that was just heard sends again, or the last moment that there is.
-    fn resend_moment(&self, side: Side) -> u64
+    pub fn resend_moment(&self, side: Side) -> u64
         ensures { result ≡ resend_moment side self.now }
     {
         let conn = self.rig.conn(side);
         conn.heard().saturating_add(conn.config().retransmit())
     }
 
-    /// The user at a side has nothing to read.
-    fn waits(&self, side: Side) -> bool
+    /// Whether the user at a side has nothing to read.
+    pub fn waits(&self, side: Side) -> bool
         ensures { result ≡ is_none (front_of (lab_end self.now side).conn) }
     {
         self.rig.conn(side).front().is_none()

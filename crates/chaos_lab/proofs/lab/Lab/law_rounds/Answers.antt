@@ -3,7 +3,7 @@ use Rattle.chaos_conn.specs.View.{IsConn}
 use Rattle.chaos_lab.specs.declared.side.Side.{Side}
 use Rattle.chaos_lab.specs.Laboratory.{lab_end}
 use Rattle.chaos_lab.specs.Tied.{HasMachine}
-use Rattle.chaos_lab.proofs.Fair.{goes_on, all_read, knows, keeps_some, sends_when_due}
+use Rattle.chaos_lab.proofs.Fair.{goes_on, all_read, knows, keeps_none, keeps_some, sends_when_due}
 use Rattle.chaos_lab.proofs.Answering.{answered}
 use Rattle.chaos_lab.proofs.lab.Lab.law_rounds.Goals as goal
 
@@ -36,3 +36,8 @@ pub returns-clause-report : goal.returns-clause-report
 returns-clause-report c =
     let machine : HasMachine c.args.self.now = search rules in
     knows c.args.self.now machine
+
+pub returns-clause-drained : goal.returns-clause-drained
+returns-clause-drained c =
+    let machine : HasMachine c.args.self.now = search rules in
+    keeps_none c.args.self.now machine

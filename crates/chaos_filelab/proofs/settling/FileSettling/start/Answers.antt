@@ -1,0 +1,8 @@
+use Rattle.std.proofs.Common.{length, ap}
+use Rattle.chaos_filelab.specs.Events.{file_event}
+use Rattle.chaos_filelab.specs.Settling.{homing}
+use Rattle.chaos_filelab.proofs.Stepping.{starts_as}
+use Rattle.chaos_filelab.proofs.settling.FileSettling.start.Goals as goal
+
+pub returns : goal.returns
+returns c = starts_as homing c.args.lab.now (file_event c.announcement.result) (length c.copies.result.now) c.announcement.ensures (ap length c.copies.ensures)

@@ -1,0 +1,16 @@
+pub mod Holding
+pub mod Lists
+pub mod Moves
+pub mod Pairs
+pub mod Stories
+pub mod Next
+pub mod Goes
+pub mod Gone
+pub mod Begun
+pub mod Steps
+pub mod Network
+pub mod Short
+pub mod Lasting
+pub mod Present
+pub mod Hello
+pub mod Apart
