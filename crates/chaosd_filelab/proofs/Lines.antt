@@ -1,5 +1,5 @@
 -- What one line does.
-use Rattle.std.proofs.Common.{◌≡◌, ◌≢◌, ℕ, ◌≤◌, Bool, true, false, List, [], ◌++◌, length, drop, append_assoc, append-nil, refl, ap, subst, ◌∙◌, sym, inl, inr, arith}
+use Rattle.std.proofs.Common.{◌≡◌, ◌≢◌, ℕ, ◌≤◌, Bool, true, false, cond, List, [], ◌++◌, length, drop, append_assoc, append-nil, refl, ap, subst, ◌∙◌, sym, inl, inr, arith}
 use Rattle.std.specs.Prelude.{◌⊎◌, Option, Some, None, Result, Ok, Err, is_err, IfOk, IfErr, OnErr, option_map}
 use Rattle.std.proofs.lemmas.List.{drop_all}
 use Rattle.chaos_lab.specs.declared.stamped.Stamped.{Stamped}
@@ -20,7 +20,10 @@ use Rattle.chaosd_script.proofs.Plays.{waits_more}
 use Rattle.chaosd_filelab.specs.Answers.{file_answer_text}
 use Rattle.chaosd_filelab.specs.Event.{file_line_of}
 use Rattle.chaosd_filelab.specs.Happen.{event_text, event_done, PlaysFileEvent, WantsEvent}
-use Rattle.chaosd_filelab.specs.Play.{line_done, filelab_script}
+use Rattle.chaosd_filelab.specs.Settle.{settle_done, WantsSettling}
+use Rattle.chaosd_lab.specs.Settle.{settle_word}
+use Rattle.std.specs.Str.{bytes_eq}
+use Rattle.chaosd_filelab.specs.Play.{line_done, WantsBy, filelab_script}
 
 by_answer : (answer : Result FileStepped LabFault) (P : Bool → Type 0) → P (is_err answer) → IfOk (refused_or_ended answer) P
 by_answer (Ok stepped) P p = p
@@ -106,14 +109,39 @@ serve_wants event before after old (inr same) mem ready = absurd (cc)
 
 -- ---- what a line says
 
--- a line that was played
-pub line_plays : (line : List ℕ) (before after : FileLabView) (held : Option (List ℕ)) (old new : List ℕ) (refused : Bool)
+-- the line `settle` was played
+pub settle_plays : (line : List ℕ) (before after : FileLabView) (old new : Option (List ℕ)) (refused : Bool) → bytes_eq line settle_word ≡ true
+    → (after ≡ (settle_done before).lab) × (refused ≡ (settle_done before).is_refused) × Appends old new (settle_done before).text × (wrote_mem before ≡ false → wrote_mem after ≡ false)
+    → wrote_mem before ≡ false → PlaysLine filelab_script line before after old new refused × (wrote_mem after ≡ false)
+settle_plays line before after old new refused is (lab, count, text, none) ready = (
+  record {
+    does = settle_done;
+    said = ap (λ b. cond b (Some settle_done) (option_map event_done (file_line_of line))) is;
+    lab = lab;
+    text = text;
+    count = count;
+  },
+  none ready,
+)
+
+-- it met want of memory
+pub settle_wants : (line : List ℕ) (l : FileLabView) (text : List ℕ) → bytes_eq line settle_word ≡ true → WantsSettling l text → (line_done line ≢ None) × filelab_script.wants l line text
+settle_wants line l text is wants = (
+  λ none. some_done (sym (ap (λ b. cond b (Some settle_done) (option_map event_done (file_line_of line))) is) ∙ none),
+  subst (λ b. WantsBy b l line text) (sym is) wants,
+)
+  where
+    some_done : Some settle_done ≡ None → ⊥
+    some_done h = cc
+
+-- another line was played
+pub line_plays : (line : List ℕ) (before after : FileLabView) (held : Option (List ℕ)) (old new : List ℕ) (refused : Bool) → bytes_eq line settle_word ≡ false
     → (event : FileHappening) × (file_line_of line ≡ Some event) × PlaysFileEvent event before after old new refused × (wrote_mem after ≡ false)
     → PlaysLine filelab_script line before after (written_of held old) (written_of held new) refused × (wrote_mem after ≡ false)
-line_plays line before after held old new refused (event, said, plays, none) = (
+line_plays line before after held old new refused is (event, said, plays, none) = (
   record {
     does = event_done event;
-    said = ap (option_map event_done) said;
+    said = ap (λ b. cond b (Some settle_done) (option_map event_done (file_line_of line))) is ∙ ap (option_map event_done) said;
     lab = plays.lab;
     text = waits_more held old new _ plays.text;
     count = plays.count;
@@ -125,11 +153,15 @@ no_event : (said : Option FileHappening) → option_map event_done said ≡ None
 no_event None h = refl
 no_event (Some event) h = absurd (cc)
 
--- a line that met want of memory
-pub line_wants : (line : List ℕ) (l : FileLabView) (held : Option (List ℕ)) (old new : List ℕ) (event : FileHappening) → file_line_of line ≡ Some event
+-- it asks for no event
+pub bad_line : (line : List ℕ) → bytes_eq line settle_word ≡ false → file_line_of line ≡ None → line_done line ≡ None
+bad_line line is none = ap (λ b. cond b (Some settle_done) (option_map event_done (file_line_of line))) is ∙ ap (option_map event_done) none
+
+-- it met want of memory
+pub line_wants : (line : List ℕ) (l : FileLabView) (held : Option (List ℕ)) (old new : List ℕ) (event : FileHappening) → bytes_eq line settle_word ≡ false → file_line_of line ≡ Some event
     → (line_done line ≢ None)
     × ((text : List ℕ) × WantsEvent event text × (new ≡ old ++ text) → (text : List ℕ) × filelab_script.wants l line text × Appends (written_of held old) (written_of held new) text)
-line_wants line l held old new event said = (
-  λ none. some_said (file_line_of line) event said (no_event (file_line_of line) none),
-  λ (text, wants, more). (text, (event, said, wants), waits_more held old new text more),
+line_wants line l held old new event is said = (
+  λ none. some_said (file_line_of line) event said (no_event (file_line_of line) (sym (ap (λ b. cond b (Some settle_done) (option_map event_done (file_line_of line))) is) ∙ none)),
+  λ (text, wants, more). (text, subst (λ b. WantsBy b l line text) (sym is) (event, said, wants), waits_more held old new text more),
 )

@@ -3,4 +3,5 @@ pub mod Event
 pub mod Start
 pub mod Answers
 pub mod Happen
+pub mod Settle
 pub mod Play

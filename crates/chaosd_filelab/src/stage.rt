@@ -13,6 +13,7 @@ ghost use Rattle.chaosd_filelab.specs.Play.{filelab_script, end_text};
 
 use crate::answers::put_answer;
 use crate::command::{FileCommand, file_line_of};
+use crate::settle::settle;
 use chaos_filelab::{FileEvent, FileLab, FileStepped};
 use chaos_lab::{LabFault, Side};
 use chaosd_engines::{Data, NotWritten, RunFault, WriteBuffer, written};
@@ -58,10 +59,13 @@ impl Stage for FileStage {
         &mut self,
         alloc: Global,
         out: &mut WriteBuffer,
-        _writer: &mut W,
+        writer: &mut W,
         line: &[u8],
         number: u64,
     ) -> Result<bool, RunFault> {
+        if line == b"settle".as_slice() {
+            return settle(alloc, &mut self.lab, out, writer);
+        }
         play(alloc, &mut self.lab, &mut self.body, out, line, number)
     }
 
