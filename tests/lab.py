@@ -49,7 +49,7 @@ def examples(checks):
 def file_examples(checks):
     """Each script of examples/filelab prints its text, and what only the server may do is refused."""
     scripts = sorted(FILE_EXAMPLES.glob("*.lab"))
-    checks.check("there are three examples of FILE", [] if len(scripts) == 3 else [f"there are {len(scripts)}"])
+    checks.check("there are four examples of FILE", [] if len(scripts) == 4 else [f"there are {len(scripts)}"])
     for script in scripts:
         text = script.with_suffix(".txt").read_bytes()
         checks.check(f"filelab {script.name}", run(["filelab"], script.read_bytes()).problems(DONE, text, b""))
@@ -150,6 +150,50 @@ def scripts(checks):
         ("an end that was never asked", START + b"read b\nclose b\n", DONE, START_TEXT + b"read ended Inactive\nclosed\n" + STORED),
     ]:
         checks.check(name, run(["lab"], script).problems(status, text, b""))
+
+
+# what `settle` prints of two ends that are open, with windows of 64, and have nothing to send
+SETTLED_TEXT = (
+    b"window b 64\nannounced 64\ncopy 3 b STS num 0 ack 1\ndeliver 3\ndelivered Status\ntick a 500\nticked quiet\n"
+    b"window a 64\nannounced 64\ncopy 4 a STS num 0 ack 100\ndeliver 4\ndelivered Status\ntick b 1000\nticked quiet\n"
+    b"window a 64\nannounced 64\ncopy 5 a STS num 0 ack 100\ndeliver 5\ndelivered Status\n"
+    b"window b 64\nannounced 64\ncopy 6 b STS num 0 ack 1\ndeliver 6\ndelivered Status\n"
+)
+# and of two ends with windows of 2, where the first of A's two items was lost, and B's
+LOSSES = b"ends 2 2 2 2 1\ndeliver 0\naccept 100\ndeliver 1\ndeliver 2\nwrite a 200 A\nwrite a 200 B\nwrite b 200 C\ndeliver 4\nread b\n"
+LOSSES_TEXT = OPEN_TEXT + (
+    b"wrote 2\ncopy 3 a DAT num 2 ack 100\nwrote 3\ncopy 4 a DAT num 3 ack 100\nwrote 101\ncopy 5 b DAT num 101 ack 1\n"
+    b"delivered Took\nread nothing\n"
+)
+ARRIVED_TEXT = (
+    b"window b 2\nannounced 2\ncopy 6 b STS num 0 ack 1\ndeliver 6\ndelivered Status\n"
+    b"tick a 500\nticked resent 2\ncopy 7 a DAT num 2 ack 100\ncopy 8 a DAT num 3 ack 100\n"
+    b"window a 2\nannounced 2\ncopy 9 a STS num 0 ack 100\ndeliver 9\ndelivered Status\n"
+    b"tick b 1000\nticked resent 1\ncopy 10 b DAT num 101 ack 1\n"
+    b"deliver 10\ndelivered Took\nread a\nread 200 C\ncopy 11 a STS num 0 ack 101\n"
+    b"window a 2\nannounced 2\ncopy 12 a STS num 0 ack 101\ndeliver 12\ndelivered Status\n"
+    b"deliver 7\ndelivered Took\nread b\nread 200 A\ncopy 13 b STS num 0 ack 2\n"
+    b"deliver 8\ndelivered Duplicate\ncopy 14 b STS num 0 ack 2\n"
+    b"read b\nread 200 B\ncopy 15 b STS num 0 ack 3\n"
+    b"window b 2\nannounced 2\ncopy 16 b STS num 0 ack 3\ndeliver 16\ndelivered Status\n"
+)
+
+
+def settling(checks):
+    """Both ends settle, each event is printed as if it were typed, and it is refused where an end isn't open."""
+    none, cannot = b"stored a 0 b 0\n", b"refused 6 CannotSettle\n"
+    for name, script, status, text in [
+        ("two open ends settle", OPEN + b"settle\n", DONE, OPEN_TEXT + SETTLED_TEXT + none),
+        ("what was lost arrives", LOSSES + b"settle\n", DONE, LOSSES_TEXT + ARRIVED_TEXT + none),
+        ("the script goes on behind it", OPEN + b"settle\nread b\ndeliver 9\n", REFUSED, OPEN_TEXT + SETTLED_TEXT + b"read nothing\nrefused 1 NoSuchCopy\n" + none),
+        ("it is refused before the opening", START + b"settle\nread a\n", REFUSED, START_TEXT + cannot + b"read nothing\n" + STORED),
+        ("it is refused behind a close", OPEN + b"close a\nsettle\n", REFUSED, OPEN_TEXT + b"closed\ncopy 3 a CLS num 0 ack 0\n" + cannot + none),
+        ("it is refused at the greatest moment", OPEN + b"tick b 18446744073709551615\nsettle\n", REFUSED, OPEN_TEXT + b"ticked down\n" + cannot + none),
+    ]:
+        checks.check(f"settle: {name}", run(["lab"], script).problems(status, text, b""))
+    for line in [b"settle ", b"settle a", b"Settle", b" settle"]:
+        checks.check(f"{line} is bad", run(["lab"], START + line + b"\n").problems(BAD_LINE, START_TEXT, b"line 2: bad\n"))
+    checks.check("filelab: settle before the opening", run(["filelab"], START + b"settle\n").problems(REFUSED, START_TEXT + cannot + STORED, b""))
 
 
 def shown(byte):
@@ -311,7 +355,7 @@ def main():
     if not program.PROGRAM.is_file():
         sys.exit(f"{program.PROGRAM} isn't there: run make first")
     checks = Checks()
-    for group in [examples, file_examples, demo_twice, scripts, texts, longest_texts, bad_lines, limits, memory, lines, writers, readers, typed_lines]:
+    for group in [examples, file_examples, demo_twice, scripts, texts, longest_texts, settling, bad_lines, limits, memory, lines, writers, readers, typed_lines]:
         group(checks)
     print(f"{checks.count - checks.failed} passed, {checks.failed} failed")
     sys.exit(1 if checks.failed else 0)

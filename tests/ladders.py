@@ -70,7 +70,8 @@ def counted(checks):
         output = script.with_suffix(".txt").read_text()
         svg = drawn(script, script.with_suffix(".txt")).stdout
         count, seen = classes(svg), texts(svg)
-        deliveries = re.findall(r"^deliver (\d+)$", script.read_text(), re.M)
+        # those of the script, and those that `settle` printed
+        deliveries = re.findall(r"^deliver (\d+)$", script.read_text() + output, re.M)
         copies = re.findall(r"^copy (\d+) [ab] (\S+)", output, re.M)
         lost = len({number for number, _ in copies} - set(deliveries))
         refused = len(re.findall(r"^refused [12]", output, re.M))

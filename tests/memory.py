@@ -35,6 +35,9 @@ LOST_ITEM = (
     b"ends 2 2 2 2 65534\ndeliver 0\naccept 100\ndeliver 1\nwrite a 200 A\nwrite a 200 B\ndeliver 4\nread b\ntick a 500\n"
     b"deliver 5\ndeliver 6\nread b\nread b\n"
 )
+OPENING = b"ends 64 64 64 64 1\ndeliver 0\naccept 100\ndeliver 1\ndeliver 2\n"
+SETTLED = OPENING + b"write a 200 a\n" * 9 + b"write b 200 b\n" * 9 + b"deliver 5\nsettle\n"
+SERVED = OPENING + b"write a 200 T1  LOGIN M\nwrite a 200 T2 H1 OPEN WRITE^A\nwrite a 200 T3 H1 WRITE^(A)\nwrite a 200 T4 H1 CLOSE\nsettle\n"
 SESSION = (
     b"T1  LOGIN LISPM\nT2 H1 OPEN WRITE^A.LISP\nT3 H1 WRITE^(A)\nT4 H1 CLOSE\nT5 H2 OPEN READ^A.LISP\nT6 H2 READ\n"
     b"T7 H2 READ\nT8  RENAME^A.LISP^B.LISP\nT9  DELETE^B.LISP\n"
@@ -43,6 +46,8 @@ SERVE = ["serve", "--turns", "0", "401", "127.0.0.1:1", "no/such/folder", "402=1
 RUNS = [
     ("lab, data before the OPN", ["lab"], DATA_BEFORE_THE_OPN),
     ("lab, an item that is lost", ["lab"], LOST_ITEM),
+    ("lab, both ends settle", ["lab"], SETTLED),
+    ("filelab, all is served", ["filelab"], SERVED),
     ("loop", ["loop"], SESSION),
     ("a line of serve, and a folder that isn't there", SERVE, b""),
     ("serve, for a turn", ["serve", "--turns", "1", "401", UDP, FOLDER, "402=127.0.0.1:9"], b""),

@@ -1,6 +1,6 @@
 -- What one line does.
-use Rattle.std.proofs.Common.{◌≡◌, ◌≢◌, ℕ, ◌≤◌, Bool, false, List, [], ◌++◌, length, drop, append_assoc, append-nil, refl, ap, subst, ◌∙◌, sym, inl, inr, arith}
-use Rattle.std.specs.Prelude.{◌⊎◌, Option, Some, None, Result, Ok, Err, is_err, IfOk, OnErr, option_map}
+use Rattle.std.proofs.Common.{◌≡◌, ◌≢◌, ℕ, ◌≤◌, Bool, true, false, cond, List, [], ◌++◌, length, drop, append_assoc, append-nil, refl, ap, subst, ◌∙◌, sym, inl, inr, arith}
+use Rattle.std.specs.Prelude.{◌⊎◌, Option, Some, None, Result, Ok, Err, is_err, IfOk, IfErr, OnErr, option_map}
 use Rattle.std.proofs.lemmas.List.{drop_all}
 use Rattle.chaos_lab.specs.declared.stamped.Stamped.{Stamped}
 use Rattle.chaos_lab.specs.declared.fault.LabFault.{LabFault}
@@ -13,10 +13,17 @@ use Rattle.chaosd_engines.specs.declared.fault.RunFault.{RunFault}
 use Rattle.chaosd_engines.specs.declared.fault.RunFault.TheVariants as run
 use Rattle.chaosd_lab.specs.Answers.{refusal_text, copies_text}
 use Rattle.chaosd_lab.specs.Play.{refused_or_ended}
+use Rattle.chaosd_engines.specs.Buffer.{written_of}
+use Rattle.std.specs.Io.KnownBytes.{Appends}
 use Rattle.chaosd_script.specs.Script.{PlaysLine}
+use Rattle.chaosd_script.proofs.Plays.{waits_more}
 use Rattle.chaosd_filelab.specs.Answers.{file_answer_text}
 use Rattle.chaosd_filelab.specs.Event.{file_line_of}
-use Rattle.chaosd_filelab.specs.Play.{event_text, event_done, filelab_script}
+use Rattle.chaosd_filelab.specs.Happen.{event_text, event_done, PlaysFileEvent, WantsEvent}
+use Rattle.chaosd_filelab.specs.Settle.{settle_done, WantsSettling}
+use Rattle.chaosd_lab.specs.Settle.{settle_word}
+use Rattle.std.specs.Str.{bytes_eq}
+use Rattle.chaosd_filelab.specs.Play.{line_done, WantsBy, filelab_script}
 
 by_answer : (answer : Result FileStepped LabFault) (P : Bool → Type 0) → P (is_err answer) → IfOk (refused_or_ended answer) P
 by_answer (Ok stepped) P p = p
@@ -26,21 +33,19 @@ by_answer (Err (Refused why)) P p = p
 by_answer (Err NoMemory) P p = tt
 by_answer (Err ByServer) P p = p
 
--- a line whose event was let happen
-pub line_plays : (line : List ℕ) (before after : FileLabView) (old mid new : List ℕ) (event : FileHappening) (answer : Result FileStepped LabFault) (result : Result Bool RunFault)
-    → file_line_of line ≡ Some event → IsExact before event after answer → mid ≡ old ++ file_answer_text answer
+-- an event that was let happen
+pub event_plays : (before after : FileLabView) (old mid new : List ℕ) (event : FileHappening) (answer : Result FileStepped LabFault) (result : Result Bool RunFault)
+    → IsExact before event after answer → mid ≡ old ++ file_answer_text answer
     → new ≡ mid ++ copies_text (length before.lab.copies) (drop (length before.lab.copies) after.lab.copies) → result ≡ refused_or_ended answer → wrote_mem after ≡ false
-    → IfOk result (λ refused. PlaysLine filelab_script line before after old new refused × (wrote_mem after ≡ false))
+    → IfOk result (λ refused. PlaysFileEvent event before after old new refused × (wrote_mem after ≡ false))
 unfolding event_text
-line_plays line before after old mid new event answer result said exact first last same none =
-    let P : Bool → Type 0 = λ refused. PlaysLine filelab_script line before after old new refused × (wrote_mem after ≡ false) in
+event_plays before after old mid new event answer result exact first last same none =
+    let P : Bool → Type 0 = λ refused. PlaysFileEvent event before after old new refused × (wrote_mem after ≡ false) in
     let n = length before.lab.copies in
     let joined : List ℕ = copies_text n (drop n after.lab.copies) in
     subst (λ r. IfOk r P) (sym same) (elim exact [
       | inl h ↦ by_answer answer P (
         record {
-          does = event_done event;
-          said = ap (option_map event_done) said;
           lab = h.0;
           text = last ∙ ap (λ l. l ++ joined) first ∙ append_assoc old (file_answer_text answer) joined
               ∙ ap (λ a. old ++ (file_answer_text a ++ joined)) h.1
@@ -75,23 +80,88 @@ pub not_wanted : {X E P : Type 0} (answer : Result X E) (why : E) → OnErr answ
 not_wanted (Ok x) why h is = absurd (cc)
 not_wanted (Err e) why h is = h
 
-pub line_wants : (before after : FileLabView) (old mid new : List ℕ) (answer : Result FileStepped LabFault) (result : Result Bool RunFault)
+pub event_wants : (before after : FileLabView) (old mid new : List ℕ) (answer : Result FileStepped LabFault) (result : Result Bool RunFault)
     → (answer ≡ Err NoMemory → after ≡ before) → mid ≡ old ++ file_answer_text answer
     → new ≡ mid ++ copies_text (length before.lab.copies) (drop (length before.lab.copies) after.lab.copies) → result ≡ refused_or_ended answer → result ≡ Err run.NoMemory
     → new ≡ old ++ refusal_text NoMemory
-line_wants before after old mid new answer result refused first last same wants =
+event_wants before after old mid new answer result refused first last same wants =
     let n = length before.lab.copies in
     let none : answer ≡ Err NoMemory = is_want answer (sym same ∙ wants) in
     last ∙ ap (λ (l : FileLabView). mid ++ copies_text n (drop n l.lab.copies)) (refused none) ∙ ap (λ l. mid ++ l) (no_copies before.lab.copies n (omega arith)) ∙ append-nil mid
     ∙ first ∙ ap (λ a. old ++ file_answer_text a) none
 
--- ---- what the language says
+by_fault : (answer : Result FileStepped LabFault) → IfErr (refused_or_ended answer) (λ fault. (fault ≡ run.NoMemory) ⊎ (fault ≡ run.WriteFault))
+by_fault (Ok stepped) = tt
+by_fault (Err NoSuchCopy) = tt
+by_fault (Err Stale) = tt
+by_fault (Err (Refused why)) = tt
+by_fault (Err NoMemory) = inl refl
+by_fault (Err ByServer) = tt
 
-pub no_event : (said : Option FileHappening) → option_map event_done said ≡ None → said ≡ None
+pub event_faults : (answer : Result FileStepped LabFault) (result : Result Bool RunFault) → result ≡ refused_or_ended answer → IfErr result (λ fault. (fault ≡ run.NoMemory) ⊎ (fault ≡ run.WriteFault))
+event_faults answer result same = subst (λ r. IfErr r (λ fault. (fault ≡ run.NoMemory) ⊎ (fault ≡ run.WriteFault))) (sym same) (by_fault answer)
+
+-- a serve wrote a reply for want of memory
+pub serve_wants : (event : FileHappening) (before after : FileLabView) (old : List ℕ) → (event ≡ Serve) ⊎ (wrote_mem after ≡ wrote_mem before) → wrote_mem after ≡ true → wrote_mem before ≡ false
+    → (text : List ℕ) × WantsEvent event text × (old ≡ old ++ text)
+serve_wants event before after old (inl is) mem ready = ([], inr (is, refl), sym (append-nil old))
+serve_wants event before after old (inr same) mem ready = absurd (cc)
+
+-- ---- what a line says
+
+-- the line `settle` was played
+pub settle_plays : (line : List ℕ) (before after : FileLabView) (old new : Option (List ℕ)) (refused : Bool) → bytes_eq line settle_word ≡ true
+    → (after ≡ (settle_done before).lab) × (refused ≡ (settle_done before).is_refused) × Appends old new (settle_done before).text × (wrote_mem before ≡ false → wrote_mem after ≡ false)
+    → wrote_mem before ≡ false → PlaysLine filelab_script line before after old new refused × (wrote_mem after ≡ false)
+settle_plays line before after old new refused is (lab, count, text, none) ready = (
+  record {
+    does = settle_done;
+    said = ap (λ b. cond b (Some settle_done) (option_map event_done (file_line_of line))) is;
+    lab = lab;
+    text = text;
+    count = count;
+  },
+  none ready,
+)
+
+-- it met want of memory
+pub settle_wants : (line : List ℕ) (l : FileLabView) (text : List ℕ) → bytes_eq line settle_word ≡ true → WantsSettling l text → (line_done line ≢ None) × filelab_script.wants l line text
+settle_wants line l text is wants = (
+  λ none. some_done (sym (ap (λ b. cond b (Some settle_done) (option_map event_done (file_line_of line))) is) ∙ none),
+  subst (λ b. WantsBy b l line text) (sym is) wants,
+)
+  where
+    some_done : Some settle_done ≡ None → ⊥
+    some_done h = cc
+
+-- another line was played
+pub line_plays : (line : List ℕ) (before after : FileLabView) (held : Option (List ℕ)) (old new : List ℕ) (refused : Bool) → bytes_eq line settle_word ≡ false
+    → (event : FileHappening) × (file_line_of line ≡ Some event) × PlaysFileEvent event before after old new refused × (wrote_mem after ≡ false)
+    → PlaysLine filelab_script line before after (written_of held old) (written_of held new) refused × (wrote_mem after ≡ false)
+line_plays line before after held old new refused is (event, said, plays, none) = (
+  record {
+    does = event_done event;
+    said = ap (λ b. cond b (Some settle_done) (option_map event_done (file_line_of line))) is ∙ ap (option_map event_done) said;
+    lab = plays.lab;
+    text = waits_more held old new _ plays.text;
+    count = plays.count;
+  },
+  none,
+)
+
+no_event : (said : Option FileHappening) → option_map event_done said ≡ None → said ≡ None
 no_event None h = refl
 no_event (Some event) h = absurd (cc)
 
--- want of memory is told, or nothing is printed
-pub want_printed : (line old new : List ℕ) → (new ≡ old ++ refusal_text NoMemory) ⊎ ((file_line_of line ≡ Some Serve) × (new ≡ old)) → (text : List ℕ) × filelab_script.wants line text × (new ≡ old ++ text)
-want_printed line old new (inl more) = (refusal_text NoMemory, inl refl, more)
-want_printed line old new (inr (is_serve, same)) = ([], inr (is_serve, refl), same ∙ sym (append-nil old))
+-- it asks for no event
+pub bad_line : (line : List ℕ) → bytes_eq line settle_word ≡ false → file_line_of line ≡ None → line_done line ≡ None
+bad_line line is none = ap (λ b. cond b (Some settle_done) (option_map event_done (file_line_of line))) is ∙ ap (option_map event_done) none
+
+-- it met want of memory
+pub line_wants : (line : List ℕ) (l : FileLabView) (held : Option (List ℕ)) (old new : List ℕ) (event : FileHappening) → bytes_eq line settle_word ≡ false → file_line_of line ≡ Some event
+    → (line_done line ≢ None)
+    × ((text : List ℕ) × WantsEvent event text × (new ≡ old ++ text) → (text : List ℕ) × filelab_script.wants l line text × Appends (written_of held old) (written_of held new) text)
+line_wants line l held old new event is said = (
+  λ none. some_said (file_line_of line) event said (no_event (file_line_of line) (sym (ap (λ b. cond b (Some settle_done) (option_map event_done (file_line_of line))) is) ∙ none)),
+  λ (text, wants, more). (text, subst (λ b. WantsBy b l line text) (sym is) (event, said, wants), waits_more held old new text more),
+)

@@ -2,4 +2,6 @@ pub mod Command
 pub mod Event
 pub mod Start
 pub mod Answers
+pub mod Happen
+pub mod Settle
 pub mod Play

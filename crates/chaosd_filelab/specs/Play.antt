@@ -1,25 +1,15 @@
 -- The script of a laboratory whose B serves FILE.
-use Rattle.std.specs.Prelude.{◌≡◌, ◌⊎◌, ℕ, false, List, [], ◌++◌, length, drop, Option, Some, option_map, is_err}
-use Rattle.chaos_lab.specs.declared.fault.LabFault.TheVariants.{NoMemory}
+use Rattle.std.specs.Prelude.{◌≡◌, ℕ, Bool, true, false, List, Option, Some, option_map, if◌then◌else◌}
+use Rattle.std.specs.Str.{bytes_eq}
 use Rattle.chaos_filelab.specs.View.{FileLabView, wrote_mem}
-use Rattle.chaos_filelab.specs.Events.{FileHappening, Serve}
-use Rattle.chaos_filelab.specs.Exact.{file_happen}
-use Rattle.chaosd_lab.specs.Answers.{refusal_text, copies_text}
+use Rattle.chaos_filelab.specs.Events.{FileHappening}
 use Rattle.chaosd_lab.specs.Play as lab
 use Rattle.chaosd_script.specs.Script.{Done, Script}
-use Rattle.chaosd_filelab.specs.Answers.{file_answer_text}
 use Rattle.chaosd_filelab.specs.Event.{file_line_of}
+use Rattle.chaosd_filelab.specs.Happen.{event_done, WantsEvent}
+use Rattle.chaosd_filelab.specs.Settle.{settle_done, WantsSettling}
 use Rattle.chaosd_filelab.specs.Start.{first_of}
-
--- what an event prints: what came of it, and a line for each packet that it sent, which are the copies that joined
-unfoldable pub event_text : FileLabView → FileHappening → List ℕ
-event_text l event =
-    file_answer_text (file_happen l event).answer
-    ++ copies_text (length l.lab.copies) (drop (length l.lab.copies) (file_happen l event).view.lab.copies)
-
--- what an event does
-abbrev pub event_done : FileHappening → FileLabView → Done FileLabView
-event_done event l = record { lab = (file_happen l event).view; text = event_text l event; is_refused = is_err (file_happen l event).answer }
+use Rattle.chaosd_lab.specs.Settle.{settle_word}
 
 -- what is printed of the laboratory's first copy, and at the end
 abbrev pub begun_text : FileLabView → List ℕ
@@ -28,11 +18,19 @@ begun_text l = lab.begun_text l.lab
 abbrev pub end_text : FileLabView → List ℕ
 end_text l = lab.end_text l.lab
 
+-- what a line does: `settle`, or an event
 abbrev pub line_done : List ℕ → Option (FileLabView → Done FileLabView)
-line_done line = option_map event_done (file_line_of line)
+line_done line = if bytes_eq line settle_word then Some settle_done else option_map event_done (file_line_of line)
 
--- A laboratory is ready where B wrote no reply for want of memory. Want of memory for the histories is told, and of a serve that
--- writes such a reply nothing is.
+-- what is printed at want of memory of a line that asks for an event
+abbrev pub WantsLine : List ℕ → List ℕ → Type 0
+WantsLine line text = (event : FileHappening) × (file_line_of line ≡ Some event) × WantsEvent event text
+
+abbrev pub WantsBy : (is_settle : Bool) → FileLabView → List ℕ → List ℕ → Type 0
+WantsBy true l line text = WantsSettling l text
+WantsBy false l line text = WantsLine line text
+
+-- A laboratory is ready where B wrote no reply for want of memory.
 abbrev pub filelab_script : Script FileLabView
 filelab_script = record {
   first = first_of;
@@ -40,5 +38,5 @@ filelab_script = record {
   event = line_done;
   ended = end_text;
   ready = λ l. wrote_mem l ≡ false;
-  wants = λ line text. (text ≡ refusal_text NoMemory) ⊎ ((file_line_of line ≡ Some Serve) × (text ≡ []));
+  wants = λ l line text. WantsBy (bytes_eq line settle_word) l line text;
 }

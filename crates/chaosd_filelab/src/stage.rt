@@ -1,23 +1,26 @@
 //! One line of a script.
-ghost use Rattle.std.specs.Prelude.{◌≡◌, ◌++◌, ◌≢◌, ◌⊎◌, ℕ, List, false, Err, None, Some, IfErr, IfOk, OnOk};
-ghost use Rattle.chaos_lab.specs.declared.fault.LabFault.TheVariants.{NoMemory};
-ghost use Rattle.chaos_filelab.specs.Events.{Serve};
+ghost use Rattle.std.specs.Prelude.{◌≡◌, ◌++◌, ◌≢◌, ◌⊎◌, ℕ, List, false, Err, None, Some, IfErr, IfOk, OnErr, OnOk};
+ghost use Rattle.chaos_filelab.specs.Events.{FileHappening, Serve, file_event};
+ghost use Rattle.chaos_filelab.specs.Exact.{IsExact};
 ghost use Rattle.chaos_filelab.specs.View.{wrote_mem};
-ghost use Rattle.chaosd_lab.specs.Answers.{copies_text, refusal_text};
-ghost use Rattle.chaosd_script.specs.Script.{PlaysLine};
+ghost use Rattle.chaosd_engines.specs.declared.fault.RunFault.TheVariants as run;
+ghost use Rattle.chaosd_lab.specs.Answers.{copies_text};
 ghost use Rattle.chaosd_script.specs.Player.{IsLineFault};
 ghost use Rattle.chaosd_filelab.specs.Event.{file_line_of};
+ghost use Rattle.chaosd_filelab.specs.Happen.{PlaysFileEvent, WantsEvent};
 ghost use Rattle.chaosd_filelab.specs.Start.{first_of};
 ghost use Rattle.chaosd_filelab.specs.Play.{filelab_script, end_text};
 
 use crate::answers::put_answer;
-use crate::command::file_line_of;
-use chaos_filelab::FileLab;
-use chaos_lab::Side;
+use crate::command::{FileCommand, file_line_of};
+use crate::settle::settle;
+use chaos_filelab::{FileEvent, FileLab, FileStepped};
+use chaos_lab::{LabFault, Side};
 use chaosd_engines::{Data, NotWritten, RunFault, WriteBuffer, written};
 use chaosd_lab::{is_refused, put_copies, put_stored, start_of};
 use chaosd_script::Stage;
 use std::alloc::Global;
+use std::io::Write;
 use std::marker::Model;
 
 /// The laboratory that a script plays in.
@@ -52,13 +55,17 @@ impl Stage for FileStage {
         begin(alloc, out, line, number)
     }
 
-    fn play(
+    fn play<W: Write>(
         &mut self,
         alloc: Global,
         out: &mut WriteBuffer,
+        writer: &mut W,
         line: &[u8],
         number: u64,
     ) -> Result<bool, RunFault> {
+        if line == b"settle".as_slice() {
+            return settle(alloc, &mut self.lab, out, writer);
+        }
         play(alloc, &mut self.lab, &mut self.body, out, line, number)
     }
 
@@ -99,8 +106,8 @@ fn begin(
 /// Lets the event of a line happen, writes what came of it, and says whether it was refused.
 ///
 /// # Errors
-/// `BadScript` with this number where the line is of no form, `NoMemory`, and `WriteFault` where the text doesn't fit. Want of memory
-/// for the histories is written too; of a reply for want of memory nothing is.
+/// `BadScript` with this number where the line asks for no event, `NoMemory`, and `WriteFault` where the text doesn't fit. Want of
+/// memory for the histories is written too; of a reply for want of memory nothing is.
 fn play(
     alloc: Global,
     lab: &mut FileLab,
@@ -109,23 +116,61 @@ fn play(
     line: &[u8],
     number: u64,
 ) -> Result<bool, RunFault>
-    ensures played { IfOk result (λ refused. PlaysLine filelab_script line.now lab.old lab.new out.old out.new refused × (wrote_mem lab.new ≡ false)) }
+    ensures played { IfOk result (λ refused. (event : FileHappening) × (file_line_of line.now ≡ Some event)
+        × PlaysFileEvent event lab.old lab.new out.old out.new refused × (wrote_mem lab.new ≡ false)) }
     ensures bad { (n : ℕ) → result ≡ Err (RunFault.BadScript n) → (n ≡ number) × (file_line_of line.now ≡ None) × (out.new ≡ out.old) }
-    ensures no_memory { result ≡ Err RunFault.NoMemory → (file_line_of line.now ≢ None)
-        × (wrote_mem lab.old ≡ false → (out.new ≡ out.old ++ refusal_text NoMemory) ⊎ ((file_line_of line.now ≡ Some Serve) × (out.new ≡ out.old))) }
+    ensures no_memory { result ≡ Err RunFault.NoMemory → (event : FileHappening) × (file_line_of line.now ≡ Some event)
+        × (wrote_mem lab.old ≡ false → (text : List ℕ) × WantsEvent event text × (out.new ≡ out.old ++ text)) }
     ensures faults { IfErr result (λ fault. IsLineFault fault) }
 {
     let Some(command) = file_line_of(line, body) else {
         return Err(RunFault::BadScript(number));
     };
+    match command {
+        FileCommand::At(command) => {
+            let event = FileEvent::At(command.event(body.as_slice()));
+            play_event(alloc, lab, out, &event)
+        }
+        FileCommand::Serve => play_event(alloc, lab, out, &FileEvent::Serve),
+    }
+}
+
+/// Lets an event happen, writes what came of it, and says whether it was refused.
+///
+/// # Errors
+/// `NoMemory`, and `WriteFault` where the text doesn't fit. Want of memory for the histories is written too; of a reply for want of
+/// memory nothing is.
+pub fn play_event(
+    alloc: Global,
+    lab: &mut FileLab,
+    out: &mut WriteBuffer,
+    event: &FileEvent<'_>,
+) -> Result<bool, RunFault>
+    ensures played { IfOk result (λ refused. PlaysFileEvent (file_event event.now) lab.old lab.new out.old out.new refused × (wrote_mem lab.new ≡ false)) }
+    ensures no_memory { result ≡ Err RunFault.NoMemory → wrote_mem lab.old ≡ false → (text : List ℕ) × WantsEvent (file_event event.now) text × (out.new ≡ out.old ++ text) }
+    ensures faults { IfErr result (λ fault. (fault ≡ run.NoMemory) ⊎ (fault ≡ run.WriteFault)) }
+{
     let before = lab.copies().len();
-    let answer = command.act(alloc, lab, body.as_slice());
+    let answer = act(alloc, lab, event);
     if lab.wrote_mem() {
         return Err(RunFault::NoMemory);
     }
     written(put_answer(out, &answer))?;
     written(put_copies(out, lab.copies(), before))?;
     is_refused(&answer)
+}
+
+/// Lets an event happen.
+fn act(alloc: Global, lab: &mut FileLab, event: &FileEvent<'_>) -> Result<FileStepped, LabFault>
+    ensures refused { OnErr result (lab.new ≡ lab.old) }
+    ensures exact { wrote_mem lab.new ≡ false → IsExact lab.old (file_event event.now) lab.new result }
+    // a reply for want of memory is written by a serve alone
+    ensures mem { (file_event event.now ≡ Serve) ⊎ (wrote_mem lab.new ≡ wrote_mem lab.old) }
+{
+    match event {
+        FileEvent::At(event) => lab.happen(alloc, event),
+        FileEvent::Serve => lab.serve(alloc),
+    }
 }
 
 /// How many packets both ends store.

@@ -39,10 +39,10 @@ both_true false b h = absurd (cc)
 pub and_true : (a b : Bool) → a ≡ true → b ≡ true → (a && b) ≡ true
 and_true a b x y = rw (x, y) refl
 
-pub le_said : (x y : ℕ) → nat_le x y ≡ true → x ≤ y
+le_said : (x y : ℕ) → nat_le x y ≡ true → x ≤ y
 le_said x y h = grind (arith, nat_tests)
 
-pub said_le : (x y : ℕ) → x ≤ y → nat_le x y ≡ true
+said_le : (x y : ℕ) → x ≤ y → nat_le x y ≡ true
 said_le x y h = grind (arith, nat_tests)
 
 lt_said : (x y : ℕ) → nat_lt x y ≡ true → x < y
@@ -51,12 +51,12 @@ lt_said x y h = grind (arith, nat_tests)
 said_lt : (x y : ℕ) → x < y → nat_lt x y ≡ true
 said_lt x y h = grind (arith, nat_tests)
 
-pub in_time : (v : ConnView) → is_in_time v ≡ true → IsInTime v
+in_time : (v : ConnView) → is_in_time v ≡ true → IsInTime v
 in_time v h =
     let (opened, again) = both_true (is_open v.state) (nat_lt v.config.retransmit v.config.down) h in
     record { open_end = open_said v.state opened; again = lt_said v.config.retransmit v.config.down again }
 
-pub said_in_time : (v : ConnView) → IsInTime v → is_in_time v ≡ true
+said_in_time : (v : ConnView) → IsInTime v → is_in_time v ≡ true
 said_in_time v h = and_true (is_open v.state) (nat_lt v.config.retransmit v.config.down) (ap is_open h.open_end) (said_lt v.config.retransmit v.config.down h.again)
 
 -- what two tests say is the same where each says the other
@@ -65,19 +65,22 @@ alike true c there back = sym (there refl)
 alike false true there back = back refl
 alike false false there back = refl
 
-pub says_can_settle : (l : LabView) (said : Bool) → IsTrue said ↔ CanSettle l → said ≡ can_settle l
-says_can_settle l said is =
+pub can_settle_said : (l : LabView) → can_settle l ≡ true → CanSettle l
+can_settle_said l said =
     let a = is_in_time l.a.conn in
     let b = is_in_time l.b.conn in
-    let moments = nat_le (settling_moment l) last_moment in
-    alike said (can_settle l)
-    (λ yes.
-    let can : CanSettle l = is.0 yes in
-    and_true (a && b) moments (and_true a b (said_in_time l.a.conn can.a) (said_in_time l.b.conn can.b)) (said_le (settling_moment l) last_moment can.moments))
-    (λ yes.
-    let (ends, later) = both_true (a && b) moments yes in
+    let (ends, later) = both_true (a && b) (nat_le (settling_moment l) last_moment) said in
     let (of_a, of_b) = both_true a b ends in
-    is.1 (record { a = in_time l.a.conn of_a; b = in_time l.b.conn of_b; moments = le_said (settling_moment l) last_moment later }))
+    record { a = in_time l.a.conn of_a; b = in_time l.b.conn of_b; moments = le_said (settling_moment l) last_moment later }
+
+pub said_can_settle : (l : LabView) → CanSettle l → can_settle l ≡ true
+said_can_settle l can =
+    let a = is_in_time l.a.conn in
+    let b = is_in_time l.b.conn in
+    and_true (a && b) (nat_le (settling_moment l) last_moment) (and_true a b (said_in_time l.a.conn can.a) (said_in_time l.b.conn can.b)) (said_le (settling_moment l) last_moment can.moments)
+
+says_can_settle : (l : LabView) (said : Bool) → IsTrue said ↔ CanSettle l → said ≡ can_settle l
+says_can_settle l said is = alike said (can_settle l) (λ told. said_can_settle l (is.0 told)) (λ told. is.1 (can_settle_said l told))
 
 -- ---- events as if they were typed
 

@@ -1,26 +1,57 @@
-use Rattle.std.proofs.Common.{rules, subst, ap, ◌≡◌, ◌∙◌}
-use Rattle.std.specs.Prelude.{option_map}
+use Rattle.std.proofs.Common.{rules, ◌≡◌, ap, ◌∙◌, subst, true, false}
+use Rattle.std.specs.Str.{bytes_eq}
 use Rattle.std.proofs.lemmas.Result.{IfOk-weaker}
 use Rattle.chaos_filelab.specs.View.{FileLabView, wrote_mem}
+use Rattle.chaosd_engines.specs.Buffer.{written_of}
 use Rattle.chaosd_script.specs.Script.{PlaysLine}
-use Rattle.chaosd_filelab.specs.Play.{event_done, filelab_script}
-use Rattle.chaosd_filelab.proofs.Lines.{no_event, want_printed}
+use Rattle.chaosd_lab.specs.Settle.{settle_word}
+use Rattle.chaosd_lab.proofs.Lines.{keeps_same}
+use Rattle.chaosd_filelab.specs.Play.{filelab_script}
+use Rattle.chaosd_filelab.specs.Settle.{WantsSettling}
+use Rattle.chaosd_filelab.proofs.Lines.{settle_plays, settle_wants, line_plays, line_wants, bad_line}
 use Rattle.chaosd_filelab.proofs.stage.FileStageStage.play.Goals as goal
 
-pub returns-clause-played : goal.returns-clause-played
-returns-clause-played c =
+pub returns-then-eq-clause-played : goal.returns-then-eq-clause-played
+returns-then-eq-clause-played g c =
     let view : c.self.inside.lab ≡ c.args.self.now = search rules in
+    let is : bytes_eq c.args.line.now settle_word ≡ true = search rules in
+    let old = written_of (g.W.Write.contents c.args.writer.now) c.args.out.now in
+    let new = written_of (g.W.Write.contents c.settle.new.writer) c.settle.new.out in
+    IfOk-weaker c.settle.result _ _
+    (λ refused did ready.
+    let p = settle_plays c.args.line.now c.self.inside.lab c.settle.new.lab old new refused is did (ap wrote_mem view ∙ ready) in
+    (subst (λ (l : FileLabView). PlaysLine filelab_script c.args.line.now l c.settle.new.lab old new refused) view p.0, p.1))
+    c.settle.ensures.settled
+
+pub returns-then-eq-clause-no_memory : goal.returns-then-eq-clause-no_memory
+returns-then-eq-clause-no_memory g c wants =
+    let view : c.self.inside.lab ≡ c.args.self.now = search rules in
+    let is : bytes_eq c.args.line.now settle_word ≡ true = search rules in
+    let (text, of_settling, more) = c.settle.ensures.no_memory wants in
+    let (some, told) = settle_wants c.args.line.now c.args.self.now text is (subst (λ (l : FileLabView). WantsSettling l text) view of_settling) in
+    (some, λ ready. (text, told, more))
+
+pub returns-clause-played : goal.returns-clause-played
+returns-clause-played g c =
+    let view : c.self.inside.lab ≡ c.args.self.now = search rules in
+    let is : bytes_eq c.args.line.now settle_word ≡ false = search rules in
+    let held = g.W.Write.contents c.args.writer.now in
     IfOk-weaker c.play.result _ _
-    (λ refused plays ready. (subst (λ (l : FileLabView). PlaysLine filelab_script c.args.line.now l c.play.new.lab c.args.out.now c.play.new.out refused) view plays.0, plays.1))
+    (λ refused did ready.
+    let p = line_plays c.args.line.now c.self.inside.lab c.play.new.lab held c.args.out.now c.play.new.out refused is did in
+    (subst (λ (l : FileLabView). PlaysLine filelab_script c.args.line.now l c.play.new.lab (written_of held c.args.out.now) (written_of held c.play.new.out) refused) view p.0, p.1))
     c.play.ensures.played
 
 pub returns-clause-bad : goal.returns-clause-bad
-returns-clause-bad c n is =
+returns-clause-bad g c n is =
+    let other : bytes_eq c.args.line.now settle_word ≡ false = search rules in
     let (number, said, text) = c.play.ensures.bad n is in
-    (number, ap (option_map event_done) said, text)
+    (number, bad_line c.args.line.now other said, keeps_same (g.W.Write.contents c.args.writer.now) c.args.out.now c.play.new.out text)
 
 pub returns-clause-no_memory : goal.returns-clause-no_memory
-returns-clause-no_memory c is =
+returns-clause-no_memory g c is =
     let view : c.self.inside.lab ≡ c.args.self.now = search rules in
-    let (said, more) = c.play.ensures.no_memory is in
-    ((λ none. said (no_event _ none)), λ ready. want_printed c.args.line.now _ _ (more (ap wrote_mem view ∙ ready)))
+    let other : bytes_eq c.args.line.now settle_word ≡ false = search rules in
+    let (event, said, more) = c.play.ensures.no_memory is in
+    let (some, told) = line_wants c.args.line.now c.args.self.now (g.W.Write.contents c.args.writer.now) c.args.out.now c.play.new.out event other said in
+    (some, λ ready. told (more (ap wrote_mem view ∙ ready)))

@@ -1,0 +1,30 @@
+-- What an event of a laboratory whose B serves FILE does and prints.
+use Rattle.std.specs.Prelude.{◌≡◌, ◌⊎◌, ℕ, Bool, List, [], ◌++◌, length, drop, is_err}
+use Rattle.chaos_lab.specs.declared.fault.LabFault.TheVariants.{NoMemory}
+use Rattle.chaos_filelab.specs.View.{FileLabView}
+use Rattle.chaos_filelab.specs.Events.{FileHappening, Serve}
+use Rattle.chaos_filelab.specs.Exact.{file_happen}
+use Rattle.chaosd_lab.specs.Answers.{refusal_text, copies_text}
+use Rattle.chaosd_script.specs.Script.{Done}
+use Rattle.chaosd_filelab.specs.Answers.{file_answer_text}
+
+-- what an event prints: what came of it, and a line for each packet that it sent, which are the copies that joined
+unfoldable pub event_text : FileLabView → FileHappening → List ℕ
+event_text l event =
+    file_answer_text (file_happen l event).answer
+    ++ copies_text (length l.lab.copies) (drop (length l.lab.copies) (file_happen l event).view.lab.copies)
+
+-- what an event does
+abbrev pub event_done : FileHappening → FileLabView → Done FileLabView
+event_done event l = record { lab = (file_happen l event).view; text = event_text l event; is_refused = is_err (file_happen l event).answer }
+
+-- An event did what it does, and what it prints was written.
+pub record PlaysFileEvent (event : FileHappening) (before after : FileLabView) (old new : List ℕ) (refused : Bool) : Type 0 where
+  pub lab : after ≡ (file_happen before event).view
+  pub text : new ≡ old ++ event_text before event
+  pub count : refused ≡ is_err (file_happen before event).answer
+
+-- What is printed of an event that meets want of memory: that of the histories is told, and of a serve that writes a reply for want of
+-- memory nothing is.
+abbrev pub WantsEvent : FileHappening → List ℕ → Type 0
+WantsEvent event text = (text ≡ refusal_text NoMemory) ⊎ ((event ≡ Serve) × (text ≡ []))
