@@ -69,7 +69,7 @@ impl Data {
 }
 
 /// Sets room aside for the data of so many packets or items: how much data they will have isn't known yet.
-pub(crate) fn set_aside(
+pub fn set_aside(
     alloc: Global,
     spares: &mut Vec<Box<Item, Global>>,
     count: usize,

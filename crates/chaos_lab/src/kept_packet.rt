@@ -46,8 +46,8 @@ impl Model for KeptPacket {
 }
 
 impl KeptPacket {
-    /// A copy of a packet. Where there is no memory for its data, they take a spare room.
-    pub(crate) fn new(alloc: Global, packet: &Packet, spares: &mut Vec<Box<Item, Global>>) -> Self
+    /// A copy of a packet. Where there is no memory for its data, they take a spare room, as [`crate::set_aside`] makes them.
+    pub fn new(alloc: Global, packet: &Packet, spares: &mut Vec<Box<Item, Global>>) -> Self
         requires { 0 < vec_len spares.old }
         ensures value { result ≡ packet.now }
         ensures spares { vec_len spares.old ≤ vec_len spares.new + 1 }
@@ -94,7 +94,7 @@ impl KeptPacket {
     }
 
     /// Writes the packet into a place of the caller's, by a copy of the data over what lay there.
-    pub(crate) fn write_into(&self, packet: &mut Packet)
+    pub fn write_into(&self, packet: &mut Packet)
         ensures { packet.new ≡ self.now }
     {
         packet.op = self.op;

@@ -25,6 +25,7 @@ mod side;
 mod stamped;
 mod user;
 
+pub use data::set_aside;
 pub use event::{Event, StepDone, Stepped};
 pub use fault::LabFault;
 pub use kept_item::KeptItem;

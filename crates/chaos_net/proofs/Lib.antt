@@ -10,6 +10,8 @@ pub mod Begun
 pub mod Steps
 pub mod Network
 pub mod Short
+pub mod Seats
+pub mod Fresh
 pub mod Lasting
 pub mod Present
 pub mod Hello

@@ -4,3 +4,6 @@ pub mod Short
 pub mod Lasting
 pub mod Present
 pub mod Hello
+pub mod Kept
+pub mod Inside
+pub mod Running

@@ -1,0 +1,280 @@
+//! The events of a station: its host does something, and the net keeps what came of it.
+ghost use Rattle.std.specs.Prelude.{◌≡◌, ◌&&◌, if◌then◌else◌, None, Some, is_none, is_some};
+ghost use Rattle.chaos_conn.specs.Act.{Accept, Answer, Reject, Write, Unc, Read, FinishRead, Announce, Close, Did, Wrote, Gave, Finished};
+ghost use Rattle.chaos_host.specs.Calls.{host_call, host_end, host_release, reply_of, plain_reply_of};
+ghost use Rattle.chaos_host.specs.Connect.{host_connect};
+ghost use Rattle.chaos_host.specs.Deliver.{host_deliver};
+ghost use Rattle.chaos_host.specs.Listening.{listen_fault, listen_answer};
+ghost use Rattle.chaos_host.specs.Tick.{host_tick};
+ghost use Rattle.chaos_host.specs.Slot.{named_slot, place_of};
+ghost use Rattle.chaos_host.specs.View.{id_at};
+ghost use Rattle.chaos_host.specs.Deeds.{host_made};
+ghost use Rattle.chaos_host.specs.Deeds.HostEvent.{Calls, Comes, Connects, Ends, Listens, Releases, Ticks};
+ghost use Rattle.chaos_net.specs.Kept.{connect_place, deliver_place, deliver_mark, end_mark};
+ghost use Rattle.chaos_net.specs.Inside.{IsDone, IsReady};
+ghost use Rattle.chaos_net.specs.declared.mark.Mark.TheVariants.{Begins, Frees, Stays};
+
+use crate::desk::Desk;
+use crate::mark::Mark;
+use crate::station::{KeptStation, place_of};
+use chaos_conn::{Delivered, ReadDone, ReadEnd, Ticked};
+use chaos_host::{CallFault, ConnId, ConnectFault, Host, HostDelivered, ListenFault};
+use chaos_packet::{Opcode, Packet, PktNum};
+
+impl KeptStation {
+    /// The host listens to a contact.
+    pub(crate) fn listen(&mut self, desk: &mut Desk, contact: &[u8]) -> Result<(), ListenFault>
+        requires { IsReady self.old desk.old }
+        ensures done { IsDone self.old self.new desk.old desk.new (Listens contact.now) None Stays }
+        ensures answer { result ≡ listen_answer (listen_fault self.old.host.listeners contact.now) }
+    {
+        let done = self.host.listen(contact);
+        self.settle(desk, None, Mark::Stays);
+        done
+    }
+
+    /// The host asks the other for a contact.
+    pub(crate) fn connect(
+        &mut self,
+        desk: &mut Desk,
+        peer: u16,
+        contact: &[u8],
+        start: PktNum,
+        now: u64,
+    ) -> Result<ConnId, ConnectFault>
+        requires { IsReady self.old desk.old }
+        ensures done { IsDone self.old self.new desk.old desk.new (Connects peer contact.now start now) (connect_place result) (Begins None) }
+        ensures answer { result ≡ (host_connect self.old.host peer contact.now start now).answer }
+    {
+        let asked = self.host.connect(peer, contact, start, now, &mut desk.out);
+        let place = connect_place(&asked);
+        self.settle(desk, place, Mark::Begins(None));
+        asked
+    }
+
+    /// A user accepts a request.
+    pub(crate) fn accept(
+        &mut self,
+        desk: &mut Desk,
+        id: ConnId,
+        start: PktNum,
+        now: u64,
+    ) -> Result<(), CallFault>
+        requires { IsReady self.old desk.old }
+        ensures done { IsDone self.old self.new desk.old desk.new (Calls id (Accept start now)) (Some (place_of id)) Stays }
+        ensures answer { reply_of Did result ≡ (host_call self.old.host id (Accept start now)).answer }
+    {
+        let done = self.host.accept(id, start, now, &mut desk.out);
+        self.settle(desk, Some(place_of(id)), Mark::Stays);
+        done
+    }
+
+    /// A user writes.
+    pub(crate) fn write(
+        &mut self,
+        desk: &mut Desk,
+        id: ConnId,
+        op: Opcode,
+        bytes: &[u8],
+        now: u64,
+    ) -> Result<PktNum, CallFault>
+        requires { IsReady self.old desk.old }
+        ensures done { IsDone self.old self.new desk.old desk.new (Calls id (Write op bytes.now now)) (Some (place_of id)) Stays }
+        ensures answer { reply_of Wrote result ≡ (host_call self.old.host id (Write op bytes.now now)).answer }
+    {
+        let done = self.host.write(id, op, bytes, now, &mut desk.out);
+        self.settle(desk, Some(place_of(id)), Mark::Stays);
+        done
+    }
+
+    /// A user sends uncontrolled data.
+    pub(crate) fn unc(&mut self, desk: &mut Desk, id: ConnId, bytes: &[u8]) -> Result<(), CallFault>
+        requires { IsReady self.old desk.old }
+        ensures done { IsDone self.old self.new desk.old desk.new (Calls id (Unc bytes.now)) (Some (place_of id)) Stays }
+        ensures answer { reply_of Did result ≡ (host_call self.old.host id (Unc bytes.now)).answer }
+    {
+        let done = self.host.unc(id, bytes, &mut desk.out);
+        self.settle(desk, Some(place_of(id)), Mark::Stays);
+        done
+    }
+
+    /// A user announces another window.
+    pub(crate) fn announce(
+        &mut self,
+        desk: &mut Desk,
+        id: ConnId,
+        window: u16,
+    ) -> Result<(), CallFault>
+        requires { IsReady self.old desk.old }
+        ensures done { IsDone self.old self.new desk.old desk.new (Calls id (Announce window)) (Some (place_of id)) Stays }
+        ensures answer { reply_of Did result ≡ (host_call self.old.host id (Announce window)).answer }
+    {
+        let done = self.host.announce(id, window, &mut desk.out);
+        self.settle(desk, Some(place_of(id)), Mark::Stays);
+        done
+    }
+
+    /// A user reads.
+    pub(crate) fn read(&mut self, desk: &mut Desk, id: ConnId) -> Result<ReadEnd, CallFault>
+        requires { IsReady self.old desk.old }
+        ensures done { IsDone self.old self.new desk.old desk.new (Calls id Read) (Some (place_of id)) Stays }
+        ensures answer { plain_reply_of Gave result ≡ (host_call self.old.host id Read).answer }
+    {
+        let done = self.host.read(id, &mut desk.out);
+        self.settle(desk, Some(place_of(id)), Mark::Stays);
+        done
+    }
+
+    /// A user passes over the next item.
+    pub(crate) fn read_done(&mut self, desk: &mut Desk, id: ConnId) -> Result<ReadDone, CallFault>
+        requires { IsReady self.old desk.old }
+        ensures done { IsDone self.old self.new desk.old desk.new (Calls id FinishRead) (Some (place_of id)) Stays }
+        ensures answer { plain_reply_of Finished result ≡ (host_call self.old.host id FinishRead).answer }
+    {
+        let done = self.host.read_done(id, &mut desk.out);
+        self.settle(desk, Some(place_of(id)), Mark::Stays);
+        done
+    }
+
+    /// A user answers a request.
+    pub(crate) fn answer(
+        &mut self,
+        desk: &mut Desk,
+        id: ConnId,
+        bytes: &[u8],
+    ) -> Result<(), CallFault>
+        requires { IsReady self.old desk.old }
+        ensures done { IsDone self.old self.new desk.old desk.new (Ends id (Answer bytes.now)) (Some (place_of id)) (end_mark self.old.host (host_made self.old.host (Ends id (Answer bytes.now))).view id) }
+        ensures answer { reply_of Did result ≡ (host_end self.old.host id (Answer bytes.now)).answer }
+    {
+        let named = is_named(&self.host, id);
+        let done = self.host.answer(id, bytes, &mut desk.out);
+        let mark = end_mark(named, &self.host, id);
+        self.settle(desk, Some(place_of(id)), mark);
+        done
+    }
+
+    /// A user rejects a request.
+    pub(crate) fn reject(
+        &mut self,
+        desk: &mut Desk,
+        id: ConnId,
+        text: &[u8],
+    ) -> Result<(), CallFault>
+        requires { IsReady self.old desk.old }
+        ensures done { IsDone self.old self.new desk.old desk.new (Ends id (Reject text.now)) (Some (place_of id)) (end_mark self.old.host (host_made self.old.host (Ends id (Reject text.now))).view id) }
+        ensures answer { reply_of Did result ≡ (host_end self.old.host id (Reject text.now)).answer }
+    {
+        let named = is_named(&self.host, id);
+        let done = self.host.reject(id, text, &mut desk.out);
+        let mark = end_mark(named, &self.host, id);
+        self.settle(desk, Some(place_of(id)), mark);
+        done
+    }
+
+    /// A user gives a connection up.
+    pub(crate) fn close(&mut self, desk: &mut Desk, id: ConnId, text: &[u8]) -> Result<(), CallFault>
+        requires { IsReady self.old desk.old }
+        ensures done { IsDone self.old self.new desk.old desk.new (Ends id (Close text.now)) (Some (place_of id)) (end_mark self.old.host (host_made self.old.host (Ends id (Close text.now))).view id) }
+        ensures answer { reply_of Did result ≡ (host_end self.old.host id (Close text.now)).answer }
+    {
+        let named = is_named(&self.host, id);
+        let done = self.host.close(id, text, &mut desk.out);
+        let mark = end_mark(named, &self.host, id);
+        self.settle(desk, Some(place_of(id)), mark);
+        done
+    }
+
+    /// The slot of an ended connection is freed.
+    pub(crate) fn release(&mut self, desk: &mut Desk, id: ConnId) -> Result<(), CallFault>
+        requires { IsReady self.old desk.old }
+        ensures done { IsDone self.old self.new desk.old desk.new (Releases id) (Some (place_of id)) (end_mark self.old.host (host_made self.old.host (Releases id)).view id) }
+        ensures answer { result ≡ (host_release self.old.host id).answer }
+    {
+        let named = is_named(&self.host, id);
+        let done = self.host.release(id, &mut desk.out);
+        let mark = end_mark(named, &self.host, id);
+        self.settle(desk, Some(place_of(id)), mark);
+        done
+    }
+
+    /// A slot is ticked.
+    pub(crate) fn tick(&mut self, desk: &mut Desk, slot: usize, now: u64) -> Ticked
+        requires { IsReady self.old desk.old }
+        ensures done { IsDone self.old self.new desk.old desk.new (Ticks slot now) (Some slot) Stays }
+        ensures answer { result ≡ (host_tick self.old.host slot now).answer }
+    {
+        let ticked = self.host.tick(slot, now, &mut desk.out);
+        self.settle(desk, Some(slot), Mark::Stays);
+        ticked
+    }
+
+    /// A packet comes, which the connection with this turn sent, or the other host itself.
+    pub(crate) fn deliver(
+        &mut self,
+        desk: &mut Desk,
+        packet: &Packet,
+        by: Option<u64>,
+        now: u64,
+    ) -> HostDelivered
+        requires { IsReady self.old desk.old }
+        ensures done { IsDone self.old self.new desk.old desk.new (Comes packet.now now) (deliver_place result) (deliver_mark result by) }
+        ensures answer { result ≡ (host_deliver self.old.host packet.now now).answer }
+    {
+        let told = self.host.deliver(packet, now, &mut desk.out);
+        let place = deliver_place(&told);
+        let mark = deliver_mark(&told, by);
+        self.settle(desk, place, mark);
+        told
+    }
+}
+
+/// The place of the connection that a connect began.
+fn connect_place(asked: &Result<ConnId, ConnectFault>) -> Option<usize>
+    ensures { result ≡ connect_place asked.now }
+{
+    match asked {
+        Ok(id) => Some(place_of(*id)),
+        Err(_) => None,
+    }
+}
+
+/// Where a packet went.
+fn deliver_place(told: &HostDelivered) -> Option<usize>
+    ensures { result ≡ deliver_place told.now }
+{
+    match told {
+        HostDelivered::Requested(id) => Some(place_of(*id)),
+        HostDelivered::At(id, _) => Some(place_of(*id)),
+        _ => None,
+    }
+}
+
+/// What a packet makes of the seat that it went to.
+fn deliver_mark(told: &HostDelivered, by: Option<u64>) -> Mark
+    ensures { result ≡ deliver_mark told.now by }
+{
+    match told {
+        HostDelivered::Requested(_) => Mark::Begins(by),
+        HostDelivered::At(_, Delivered::Opened) => Mark::Joins(by),
+        _ => Mark::Stays,
+    }
+}
+
+/// What a call that may end a connection, which was there or not, makes of its seat.
+fn end_mark(named: bool, host: &Host, id: ConnId) -> Mark
+    ensures { result ≡ (if named && is_none (id_at host.now (place_of id)) then Frees else Stays) }
+{
+    if named && host.id_of(place_of(id)).is_none() {
+        Mark::Frees
+    } else {
+        Mark::Stays
+    }
+}
+
+/// Whether a connection has this index.
+fn is_named(host: &Host, id: ConnId) -> bool
+    ensures { result ≡ is_some (named_slot host.now.slots id) }
+{
+    host.state(id).is_ok()
+}
