@@ -12,6 +12,8 @@ pub mod Network
 pub mod Short
 pub mod Seats
 pub mod Fresh
+pub mod Marks
 pub mod Lasting
+pub mod Standing
 pub mod Present
 pub mod Hello

@@ -45,6 +45,18 @@ set_back [] place seat h = absurd (cc)
 set_back (x ∷ xs) zero seat h = λ j. sym (some_eq h) j ∷ xs
 set_back (x ∷ xs) (suc place) seat h = ap (λ ys. x ∷ ys) (set_back xs place seat h)
 
+length_set : (seats : List Seat) (place : ℕ) (seat : Seat) → length (slice_set seats place seat) ≡ length seats
+length_set [] place seat = refl
+length_set (x ∷ xs) zero seat = refl
+length_set (x ∷ xs) (suc place) seat = ap suc (length_set xs place seat)
+
+pub alter_length : (f : Seat → Seat) (seats : List Seat) (place : ℕ) → length (alter f seats (Some place)) ≡ length seats
+alter_length f seats place = by (slice_get seats place)
+  where
+    by : (o : Option Seat) → length (alter_at f seats place o) ≡ length seats
+    by None = refl
+    by (Some seat) = length_set seats place (f seat)
+
 -- nothing changes where a seat is set to itself
 pub alter_none : (f : Seat → Seat) (seats : List Seat) (place : ℕ) → ((seat : Seat) → f seat ≡ seat) → alter f seats (Some place) ≡ seats
 alter_none f seats place same = by (slice_get seats place) refl

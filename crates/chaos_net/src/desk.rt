@@ -1,8 +1,7 @@
 //! What both stations of a running net share.
-ghost use Rattle.std.specs.Prelude.{◌≡◌, ◌≤◌, ◌<◌, ◌+◌, [], ◌++◌, length, map, OnOk, OnErr, IfErr, IfOk, ◌⊎◌, vec_len, vec_capacity};
+ghost use Rattle.std.specs.Prelude.{◌≡◌, ◌≤◌, ◌<◌, ◌+◌, [], ◌++◌, length, map, OnOk, OnErr, IfErr, IfOk, vec_len, vec_capacity};
 ghost use Rattle.chaos_net.specs.Kept.{kept_by, by_of, meant_of};
-ghost use Rattle.chaos_net.specs.Inside.{HasSpace, IsEmpty};
-ghost use Rattle.chaos_net.specs.declared.fault.NetFault.{NetFault};
+ghost use Rattle.chaos_net.specs.Inside.{HasSpace, IsEmpty, IsWant};
 
 use crate::fault::NetFault;
 use crate::kept_sent::KeptSent;
@@ -44,7 +43,7 @@ impl Desk {
         ensures space { OnOk result (HasSpace sent.new self.new) }
         ensures counted { OnOk result (self.new.events ≡ self.old.events + 1) }
         ensures same { OnErr result (self.new.events ≡ self.old.events) }
-        ensures why { IfErr result (λ why. ((why ≡ NetFault.Worn) × (self.old.events ≡ u64.MAX)) ⊎ (why ≡ NetFault.NoMemory)) }
+        ensures why { IfErr result (IsWant self.old.events) }
     {
         if self.events == u64::MAX {
             return Err(NetFault::Worn);
