@@ -72,6 +72,13 @@ impl KeptPacket {
         self.op
     }
 
+    /// The index at the host that it is for.
+    pub fn dst_index(&self) -> u16
+        ensures { result ≡ self.now.dst_index }
+    {
+        self.dst_index
+    }
+
     /// The packet's number.
     pub fn num(&self) -> PktNum
         ensures { result ≡ self.now.num }

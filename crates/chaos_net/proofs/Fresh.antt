@@ -47,7 +47,7 @@ place_is d few = by d.place d.turn few
 
 -- ---- a packet that may come
 
-pub may_come_fresh : (v : NetView) (n : Net) (x : Side) (kept : KeptSent) (q : Sent) → Stands v n → IsKept n (other x) v.events kept q → may_come v x kept ≡ true → IsFresh n x q
+pub may_come_fresh : (v : NetView) (n : Net) (x : Side) (kept : KeptSent) (q : Sent) → Stands v n → IsKept n (other x) v.events kept q → may_come v.events (at v x).seats kept ≡ true → IsFresh n x q
 may_come_fresh v n x kept q h k may ack c d s t by from now there index =
     let side = (reached_is_played n h.reached x).station.stories d t there in
     let here = h.stations x in

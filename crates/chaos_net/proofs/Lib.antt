@@ -15,5 +15,8 @@ pub mod Fresh
 pub mod Marks
 pub mod Lasting
 pub mod Standing
+pub mod Events
+pub mod Sides
 pub mod Present
+pub mod Starts
 pub mod Hello

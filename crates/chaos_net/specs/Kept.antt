@@ -8,12 +8,15 @@ use Rattle.chaos_conn.specs.declared.answers.Delivered.TheVariants as came
 use Rattle.chaos_host.specs.declared.answers.HostDelivered.{HostDelivered}
 use Rattle.chaos_host.specs.declared.answers.HostDelivered.TheVariants.{At, Requested}
 use Rattle.chaos_host.specs.Connect.{ConnectAnswer}
+use Rattle.chaos_host.specs.Deliver.{host_deliver}
 use Rattle.chaos_host.specs.Slot.{place_of, named_slot}
 use Rattle.chaos_host.specs.View.{HostView, id_at}
 use Rattle.chaos_host.specs.Deeds.{HostEvent, host_made}
 use Rattle.chaos_lab.specs.Machine.{fresh_span}
 use Rattle.chaos_lab.specs.declared.side.Side.{Side}
 use Rattle.chaos_lab.specs.declared.side.Side.TheVariants.{A, B}
+use Rattle.chaos_net.specs.declared.fault.NetFault.{NetFault}
+use Rattle.chaos_net.specs.declared.fault.NetFault.TheVariants.{NoSuchPacket, Stale}
 use Rattle.chaos_net.specs.declared.kept_sent.KeptSent.{KeptSent}
 use Rattle.chaos_net.specs.declared.mark.Mark.{Mark}
 use Rattle.chaos_net.specs.declared.mark.Mark.TheVariants.{Stays, Begins, Joins, Frees}
@@ -138,6 +141,17 @@ abbrev pub is_fresh_at : ℕ → Option Seat → KeptSent → Bool
 is_fresh_at events None kept = false
 is_fresh_at events (Some seat) kept = nat_lt (events - kept.at) fresh_span && (are_near (Some seat.turn) kept.meant && are_near kept.by seat.peer)
 
--- The test of a running net: a packet that carries an acknowledgement is fresh for the slot that it names.
-abbrev pub may_come : NetView → Side → KeptSent → Bool
-may_come v x kept = if carries_ack (kind_of kept.packet.op) then is_fresh_at v.events (slice_get (at v x).seats (place_of kept.packet.dst_index)) kept else true
+-- The test of a running net, after so many events, at the host with these seats: a packet that carries an acknowledgement is fresh
+-- for the slot that it names.
+abbrev pub may_come : ℕ → List Seat → KeptSent → Bool
+may_come events seats kept = if carries_ack (kind_of kept.packet.op) then is_fresh_at events (slice_get seats (place_of kept.packet.dst_index)) kept else true
+
+-- Why a packet isn't delivered: there is none of this number, or it isn't fresh.
+abbrev pub arrival_fault : ℕ → List Seat → Option KeptSent → Option NetFault
+arrival_fault events seats None = Some NoSuchPacket
+arrival_fault events seats (Some kept) = if may_come events seats kept then None else Some Stale
+
+-- the host did with the packet what a host does
+abbrev pub Delivers : HostView → Option KeptSent → ℕ → HostDelivered → Type 0
+Delivers old None now told = ⊥
+Delivers old (Some kept) now told = told ≡ (host_deliver old kept.packet now).answer

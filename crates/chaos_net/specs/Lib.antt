@@ -7,3 +7,5 @@ pub mod Hello
 pub mod Kept
 pub mod Inside
 pub mod Running
+pub mod New
+pub mod Sound

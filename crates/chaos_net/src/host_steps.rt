@@ -1,5 +1,5 @@
 //! The events of a station: its host does something, and the net keeps what came of it.
-ghost use Rattle.std.specs.Prelude.{◌≡◌, IfOk, IfErr, OnOk, OnErr, ◌&&◌, if◌then◌else◌, None, Some, is_none, is_some};
+ghost use Rattle.std.specs.Prelude.{◌≡◌, ◌<◌, IfOk, IfErr, OnOk, OnErr, ◌&&◌, if◌then◌else◌, None, Some, is_none, is_some};
 ghost use Rattle.chaos_conn.specs.Act.{Accept, Answer, Reject, Write, Unc, Read, FinishRead, Announce, Close, Did, Wrote, Gave, Finished};
 ghost use Rattle.chaos_host.specs.Calls.{host_call, host_end, host_release, reply_of, plain_reply_of};
 ghost use Rattle.chaos_host.specs.Connect.{host_connect};
@@ -24,7 +24,11 @@ use chaos_packet::{Opcode, Packet, PktNum};
 
 impl KeptStation {
     /// The host listens to a contact.
-    pub(crate) fn listen(&mut self, desk: &mut Desk, contact: &[u8]) -> Result<Result<(), ListenFault>, NetFault>
+    pub(crate) fn listen(
+        &mut self,
+        desk: &mut Desk,
+        contact: &[u8],
+    ) -> Result<Result<(), ListenFault>, NetFault>
         requires { MayDo self.old desk.old }
         ensures done { OnOk result (IsDone self.old self.new desk.old desk.new (Listens contact.now) None Stays) }
         ensures same { OnErr result (IsSame self.old self.new desk.old desk.new) }
@@ -51,7 +55,10 @@ impl KeptStation {
         ensures same { OnErr result (IsSame self.old self.new desk.old desk.new) }
         ensures why { IfErr result (IsWant desk.old.events) }
         ensures answer { IfOk result (λ told. told ≡ (host_connect self.old.host peer contact.now start now).answer) }
+        // The number has 16 bits.
+        ensures number { start < 65536 }
     {
+        let _bits = bits_of(start);
         desk.ready(&mut self.sent)?;
         let asked = self.host.connect(peer, contact, start, now, &mut desk.out);
         let place = connect_place(&asked);
@@ -101,7 +108,12 @@ impl KeptStation {
     }
 
     /// A user sends uncontrolled data.
-    pub(crate) fn unc(&mut self, desk: &mut Desk, id: ConnId, bytes: &[u8]) -> Result<Result<(), CallFault>, NetFault>
+    pub(crate) fn unc(
+        &mut self,
+        desk: &mut Desk,
+        id: ConnId,
+        bytes: &[u8],
+    ) -> Result<Result<(), CallFault>, NetFault>
         requires { MayDo self.old desk.old }
         ensures done { OnOk result (IsDone self.old self.new desk.old desk.new (Calls id (Unc bytes.now)) (Some (place_of id)) Stays) }
         ensures same { OnErr result (IsSame self.old self.new desk.old desk.new) }
@@ -134,7 +146,11 @@ impl KeptStation {
     }
 
     /// A user reads.
-    pub(crate) fn read(&mut self, desk: &mut Desk, id: ConnId) -> Result<Result<ReadEnd, CallFault>, NetFault>
+    pub(crate) fn read(
+        &mut self,
+        desk: &mut Desk,
+        id: ConnId,
+    ) -> Result<Result<ReadEnd, CallFault>, NetFault>
         requires { MayDo self.old desk.old }
         ensures done { OnOk result (IsDone self.old self.new desk.old desk.new (Calls id Read) (Some (place_of id)) Stays) }
         ensures same { OnErr result (IsSame self.old self.new desk.old desk.new) }
@@ -148,7 +164,11 @@ impl KeptStation {
     }
 
     /// A user passes over the next item.
-    pub(crate) fn read_done(&mut self, desk: &mut Desk, id: ConnId) -> Result<Result<ReadDone, CallFault>, NetFault>
+    pub(crate) fn read_done(
+        &mut self,
+        desk: &mut Desk,
+        id: ConnId,
+    ) -> Result<Result<ReadDone, CallFault>, NetFault>
         requires { MayDo self.old desk.old }
         ensures done { OnOk result (IsDone self.old self.new desk.old desk.new (Calls id FinishRead) (Some (place_of id)) Stays) }
         ensures same { OnErr result (IsSame self.old self.new desk.old desk.new) }
@@ -204,7 +224,12 @@ impl KeptStation {
     }
 
     /// A user gives a connection up.
-    pub(crate) fn close(&mut self, desk: &mut Desk, id: ConnId, text: &[u8]) -> Result<Result<(), CallFault>, NetFault>
+    pub(crate) fn close(
+        &mut self,
+        desk: &mut Desk,
+        id: ConnId,
+        text: &[u8],
+    ) -> Result<Result<(), CallFault>, NetFault>
         requires { MayDo self.old desk.old }
         ensures done { OnOk result (IsDone self.old self.new desk.old desk.new (Ends id (Close text.now)) (Some (place_of id)) (end_mark self.old.host (host_made self.old.host (Ends id (Close text.now))).view id)) }
         ensures same { OnErr result (IsSame self.old self.new desk.old desk.new) }
@@ -220,7 +245,11 @@ impl KeptStation {
     }
 
     /// The slot of an ended connection is freed.
-    pub(crate) fn release(&mut self, desk: &mut Desk, id: ConnId) -> Result<Result<(), CallFault>, NetFault>
+    pub(crate) fn release(
+        &mut self,
+        desk: &mut Desk,
+        id: ConnId,
+    ) -> Result<Result<(), CallFault>, NetFault>
         requires { MayDo self.old desk.old }
         ensures done { OnOk result (IsDone self.old self.new desk.old desk.new (Releases id) (Some (place_of id)) (end_mark self.old.host (host_made self.old.host (Releases id)).view id)) }
         ensures same { OnErr result (IsSame self.old self.new desk.old desk.new) }
@@ -236,7 +265,12 @@ impl KeptStation {
     }
 
     /// A slot is ticked.
-    pub(crate) fn tick(&mut self, desk: &mut Desk, slot: usize, now: u64) -> Result<Ticked, NetFault>
+    pub(crate) fn tick(
+        &mut self,
+        desk: &mut Desk,
+        slot: usize,
+        now: u64,
+    ) -> Result<Ticked, NetFault>
         requires { MayDo self.old desk.old }
         ensures done { OnOk result (IsDone self.old self.new desk.old desk.new (Ticks slot now) (Some slot) Stays) }
         ensures same { OnErr result (IsSame self.old self.new desk.old desk.new) }
@@ -320,4 +354,12 @@ fn is_named(host: &Host, id: ConnId) -> bool
     ensures { result ≡ is_some (named_slot host.now.slots id) }
 {
     host.state(id).is_ok()
+}
+
+/// The 16 bits of a packet's number.
+fn bits_of(number: PktNum) -> u16
+    ensures value { result ≡ number }
+    ensures below { number < 65536 }
+{
+    number.0
 }
