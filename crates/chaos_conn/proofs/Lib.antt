@@ -5,3 +5,4 @@ pub mod Foreign
 pub mod PutNames
 pub mod ConfigStays
 pub mod NamesStay
+pub mod Held

@@ -4,6 +4,7 @@ pub mod Arriving
 pub mod Calls
 pub mod Config
 pub mod Disposition
+pub mod Held
 pub mod Inside
 pub mod Names
 pub mod NextDue

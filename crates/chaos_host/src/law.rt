@@ -22,9 +22,12 @@ pub fn law_pending()
     ensures stays { PendingStays }
 {}
 
-/// Each step of a host is the call of one connection, or no connection does anything; and it leaves a host.
+/// What each step of a host is to its connections.
 pub fn law_deeds()
+    // the connection in one slot does one call, and no other slot changes; or no connection does anything, and the host sends no more
+    // than refusals of its own
     ensures deeds { HasDeeds }
+    // and it leaves what every host is
     ensures host { StaysHost }
 {
     chaos_conn::law_over();

@@ -104,7 +104,7 @@ opened l x h is =
     (open_met h.plain x h.ties.tied.reached (open_at x h.plain l h.ties is)).1
 
 -- and it announces what its connection does
-window_at : (x : Side) (w : Machine) (l : LabView) → Ties w l → (end_of w x).phase ≡ Open → (conn_at l x).recv.window ≡ (end_of w x).announced
+pub window_at : (x : Side) (w : Machine) (l : LabView) → Ties w l → (end_of w x).phase ≡ Open → (conn_at l x).recv.window ≡ (end_of w x).announced
 window_at x w l t is =
     let s = stands_at x w l t in
     let h = end_holds w x (reached_holds w t.tied.reached) in

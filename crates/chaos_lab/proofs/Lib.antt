@@ -51,3 +51,4 @@ pub mod Before
 pub mod Fair
 pub mod Answering
 pub mod Plays
+pub mod Held

@@ -51,7 +51,7 @@ played w event l done h (Refuses why is) = subst HasMachine (sym (ap (λ d. d.la
 played w event l done h (Steps s) = record { plain = s.machine; ties = s.ties }
 
 -- a copy comes to either end, and isn't an RFC
-copy_comes : (x : Side) (w : Machine) (l : LabView) (p : PacketView) (now : ℕ) → Ties w l → is_rfc (kind_of p.op) ≡ false → (c : IsCopyTo l x p) → Outcome w (Deliver c.number) l (call_at l x (DeliverPacket p now))
+pub copy_comes : (x : Side) (w : Machine) (l : LabView) (p : PacketView) (now : ℕ) → Ties w l → is_rfc (kind_of p.op) ≡ false → (c : IsCopyTo l x p) → Outcome w (Deliver c.number) l (call_at l x (DeliverPacket p now))
 copy_comes A w l p now t no_rfc c =
     let k = copy_known w l c.number c.copy t c.there c.fresh in
     subst (λ (q : PacketView). Outcome w (Deliver c.number) l (call_at l A (DeliverPacket q now))) c.packet

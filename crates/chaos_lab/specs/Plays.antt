@@ -1,6 +1,6 @@
 -- What the laws of two hosts take from the laboratory: each call of a connection of a host is played by an end of a laboratory, whose
 -- connection is the same but for its names.
-use Rattle.std.specs.Prelude.{◌≡◌, ℕ, ◌<◌, ◌≤◌, true, false, List, [], ◌∷◌, length, Some, None, slice_get, ⊤}
+use Rattle.std.specs.Prelude.{◌≡◌, ℕ, ◌+◌, ◌<◌, ◌≤◌, true, false, List, [], ◌∷◌, length, Some, None, slice_get, ⊤}
 use Rattle.std.specs.List.{AllByRecursion}
 use Rattle.chaos_packet.specs.Begins.{Begins}
 use Rattle.chaos_packet.specs.Number.{num}
@@ -13,8 +13,10 @@ use Rattle.chaos_conn.specs.State.{is_inactive}
 use Rattle.chaos_conn.specs.View.{ConnView}
 use Rattle.chaos_conn.specs.Sending.{carries_ack}
 use Rattle.chaos_conn.specs.Opening.{act_request, closed_conn, rfc_item}
+use Rattle.chaos_conn.specs.Arriving.{act_deliver}
 use Rattle.chaos_conn.specs.Act.{Call}
 use Rattle.chaos_conn.specs.Act.Call.{TakeRequest, Accept, Deliver, Write, Read, Announce, Tick}
+use Rattle.chaos_conn.specs.Held.{held_at}
 use Rattle.chaos_conn.specs.Names.{Names, Quiet, MayBe, quiet}
 use Rattle.chaos_lab.specs.declared.side.Side.{Side}
 use Rattle.chaos_lab.specs.declared.side.Side.TheVariants.{A, B}
@@ -22,6 +24,7 @@ use Rattle.chaos_lab.specs.declared.stamped.Stamped.{Stamped}
 use Rattle.chaos_lab.specs.Machine.{other}
 use Rattle.chaos_lab.specs.Shown.{place_of, address_of}
 use Rattle.chaos_lab.specs.Laboratory.{LabView, EndView, lab_end, with_lab_end, with_sent, call_at, is_fresh, start_for}
+use Rattle.chaos_lab.specs.Headline.{IsCopyOf}
 use Rattle.chaos_lab.specs.Tied.{HasMachine}
 
 -- the names of both ends, from one side
@@ -135,3 +138,12 @@ OpenHasRead = (l : LabView) (x : Side) → HasMachine l → (lab_end l x).conn.s
 -- an A that has read nothing has written its RFC alone
 abbrev pub UnreadIsAlone : Type 0
 UnreadIsAlone = (l : LabView) → HasMachine l → l.a.read ≡ [] → length l.a.written ≡ 1
+
+-- ---- an item that comes
+
+-- A fresh copy of item i comes to an open end inside the window that it announces. Where so many items before it are still to be read,
+-- the end holds it at that place then.
+abbrev pub ComesHeld : Type 0
+ComesHeld = (l : LabView) (x : Side) (p : PacketView) (now i place : ℕ) → HasMachine l → is_rfc (kind_of p.op) ≡ false → (c : IsCopyTo l x p) → IsCopyOf l c.copy i
+    → (lab_end l x).conn.state ≡ st.Open → i < length (lab_end l x).read + (lab_end l x).conn.recv.window → length (lab_end l x).read + place ≡ i
+    → held_at (act_deliver (lab_end l x).conn p now).view place ≡ Some (item_of p)

@@ -11,7 +11,7 @@ ghost use Rattle.chaos_lab.specs.Machine.Phase.{RfcSent, RfcReceived, Open};
 ghost use Rattle.chaos_lab.specs.Machine.Event.{ReadAt};
 ghost use Rattle.chaos_lab.specs.Numbers.{told_num};
 ghost use Rattle.chaos_packet.specs.Begins.{Begins};
-ghost use Rattle.chaos_lab.specs.Plays.{KeepsPlay, KeepsQuiet, MayBegin, MayReplace, ReadsBegin, RfcIsFirst, AskingWaits, UnaskedIsNew, KnowsSides, OthersNameIndex, OpenHasRead, UnreadIsAlone};
+ghost use Rattle.chaos_lab.specs.Plays.{KeepsPlay, KeepsQuiet, MayBegin, MayReplace, ReadsBegin, RfcIsFirst, AskingWaits, UnaskedIsNew, KnowsSides, OthersNameIndex, OpenHasRead, UnreadIsAlone, ComesHeld};
 ghost use Rattle.chaos_lab.specs.Law.{writer, reader, IsThere, DeliversInside, RunUnclosed, ReadsItem, ReadsNext, CanHappen};
 
 /// The delivery law. Over every schedule of deliveries, losses, repeats and orders of fresh copies, and in both directions: what
@@ -102,22 +102,37 @@ pub fn law_limits()
     ensures window { greatest_window ≡ 64 }
 {}
 
-/// Each call of a connection of a host is played by an end of a laboratory.
+/// What an end of a laboratory can play. Whoever has a connection that differs from a laboratory's in its names alone learns here
+/// that the laboratory may go on as the connection does.
 pub fn law_plays()
+    // each user's call, tick, acceptance, and copy that comes, keeps the tie to the plain machine
     ensures calls { KeepsPlay }
+    // so does a packet that makes little of the connection
     ensures quiet { KeepsQuiet }
+    // a new or closed connection may ask, for any contact and under any configuration
     ensures begins { MayBegin }
+    // and one that took no request may be replaced by any new or closed one of its configuration
     ensures replaces { MayReplace }
 {}
 
-/// What is true of every laboratory that is tied to a plain machine.
+/// What is true of every laboratory that is tied to a plain machine, however it came about.
 pub fn law_kept()
+    // what was read begins what was written
     ensures begins { ReadsBegin }
+    // each copy of an RFC is A's item 0, from A's place
     ensures requests { RfcIsFirst }
+    // while A waits, it has written its RFC alone and read nothing
     ensures waits { AskingWaits }
+    // while B took no request, nothing was read, and A wrote its RFC alone
     ensures unasked { UnaskedIsNew }
+    // A is never asked, and B never asks
     ensures sides { KnowsSides }
+    // each copy but an RFC's names the index of the other place
     ensures index { OthersNameIndex }
+    // an open end has read the other's item 0
     ensures opened { OpenHasRead }
+    // an A that has read nothing has written its RFC alone
     ensures alone { UnreadIsAlone }
+    // an item that comes to an open end inside its window is held at its place
+    ensures held { ComesHeld }
 {}

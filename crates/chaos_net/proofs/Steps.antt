@@ -390,7 +390,7 @@ quiet_by x own far made from lengths h d sound =
 
 -- ---- a step
 
-not_begins : (v : HostView) (place : ℕ) (slot : Slot) (call : Call) → begins call ≡ false → FitsSlot v place slot call → is_free slot ≡ false
+pub not_begins : (v : HostView) (place : ℕ) (slot : Slot) (call : Call) → begins call ≡ false → FitsSlot v place slot call → is_free slot ≡ false
 not_begins v place slot (Request me peer contact start now) b h = absurd (false≢true (sym b))
 not_begins v place slot (TakeRequest rfc me now) b h = absurd (false≢true (sym b))
 not_begins v place slot (Accept start now) b h = h

@@ -4,6 +4,8 @@ pub mod Short
 pub mod Lasting
 pub mod Present
 pub mod Hello
+pub mod Apart
+pub mod InTurn
 pub mod Kept
 pub mod Inside
 pub mod Running

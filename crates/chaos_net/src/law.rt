@@ -2,7 +2,9 @@
 //! the call.
 ghost use Rattle.std.specs.Prelude.{◌≡◌};
 ghost use Rattle.chaos_lab.specs.declared.side.Side.{Side};
+ghost use Rattle.chaos_net.specs.Apart.{ChangesPeerAlone, BareAddsNothing};
 ghost use Rattle.chaos_net.specs.Hello.{SomethingIsRead};
+ghost use Rattle.chaos_net.specs.InTurn.{ReadsInTurn};
 ghost use Rattle.chaos_net.specs.Lasting.{StoriesLast};
 ghost use Rattle.chaos_net.specs.Net.{Net, Name, Holds, NetworkLaw};
 ghost use Rattle.chaos_net.specs.Played.{ArePlayed};
@@ -22,10 +24,24 @@ pub fn law_net_holds()
     ensures { (n : Net) (x : Side) (name : Name) → ArePlayed n → Holds n x name }
 {}
 
+/// An item that came is read in its turn. Where item i of a connection comes to its peer, which is open, inside the window that this
+/// announces, a read of the peer hands it out once all items before it are read, whatever happened since, until its user closes.
+pub fn law_in_turn()
+    ensures { ReadsInTurn }
+{}
+
 /// How stories last. Whatever happens, no story is lost, both its lists grow at their ends alone, and a peer that is known never
 /// changes.
 pub fn law_lasting()
     ensures { StoriesLast }
+{}
+
+/// No packet of one connection changes another.
+pub fn law_apart()
+    // one that carries an acknowledgement, and is fresh, changes its sender's peer alone
+    ensures peer { ChangesPeerAlone }
+    // every other packet, of whatever age, adds nothing to any connection: it may end one, or begin one
+    ensures bare { BareAddsNothing }
 {}
 
 /// What a caller of a host holds is what the stories tell.

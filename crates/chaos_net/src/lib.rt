@@ -15,5 +15,8 @@ mod station;
 
 pub use fault::NetFault;
 pub use kept_sent::KeptSent;
-pub use law::{law_lasting, law_net_holds, law_network, law_present, law_reached, law_short};
+pub use law::{
+    law_apart, law_in_turn, law_lasting, law_net_holds, law_network, law_present, law_reached,
+    law_short,
+};
 pub use net::{HostKind, Net};

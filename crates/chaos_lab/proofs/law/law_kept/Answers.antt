@@ -1,4 +1,5 @@
 use Rattle.chaos_lab.proofs.Plays.{reads_begin, rfc_is_first, asking_waits, unasked_is_new, knows_sides, others_name_index, open_has_read, unread_is_alone}
+use Rattle.chaos_lab.proofs.Held.{comes_held}
 use Rattle.chaos_lab.proofs.law.law_kept.Goals as goal
 
 pub returns-clause-begins : goal.returns-clause-begins
@@ -24,3 +25,6 @@ returns-clause-opened c = open_has_read
 
 pub returns-clause-alone : goal.returns-clause-alone
 returns-clause-alone c = unread_is_alone
+
+pub returns-clause-held : goal.returns-clause-held
+returns-clause-held c = comes_held
