@@ -43,14 +43,14 @@ use Rattle.chaos_host.proofs.Table.{table_ended}
 
 -- ---- slots
 
-free_of_used : (slot : Slot) → is_used slot ≡ true → is_free slot ≡ false
+pub free_of_used : (slot : Slot) → is_used slot ≡ true → is_free slot ≡ false
 free_of_used slot h = by (is_free slot) h
   where
     by : (b : Bool) → not b ≡ true → b ≡ false
     by false h = refl
     by true h = absurd (false≢true h)
 
-free_of_unused : (slot : Slot) → is_used slot ≡ false → is_free slot ≡ true
+pub free_of_unused : (slot : Slot) → is_used slot ≡ false → is_free slot ≡ true
 free_of_unused slot h = by (is_free slot) h
   where
     by : (b : Bool) → not b ≡ false → b ≡ true
@@ -62,12 +62,12 @@ stays : (slot : Slot) → is_free slot ≡ false → slot ≡ after_ending slot
 stays slot h = sym (cond-false (is_free slot) _ slot h)
 
 -- by the test
-either_where : {A : Type 0} (P : A → Type 0) (b : Bool) (x y : A) → (b ≡ true → P x) → (b ≡ false → P y) → P (if b then x else y)
+pub either_where : {A : Type 0} (P : A → Type 0) (b : Bool) (x y : A) → (b ≡ true → P x) → (b ≡ false → P y) → P (if b then x else y)
 either_where P true x y p q = p refl
 either_where P false x y p q = q refl
 
 -- both by the same test
-both_where : {A B : Type 0} (P : A → B → Type 0) (b : Bool) (x y : A) (u v : B) → (b ≡ true → P x u) → (b ≡ false → P y v) → P (if b then x else y) (if b then u else v)
+pub both_where : {A B : Type 0} (P : A → B → Type 0) (b : Bool) (x y : A) (u v : B) → (b ≡ true → P x u) → (b ≡ false → P y v) → P (if b then x else y) (if b then u else v)
 both_where P true x y u v p q = p refl
 both_where P false x y u v p q = q refl
 
@@ -91,7 +91,7 @@ fits_used v place slot (Close text) b h = h
 fits_used v place slot (Tick now) b h = h
 
 -- what the calls of a user are
-users_go_on : (call : Call) → is_users call ≡ true → (begins call ≡ false) × (may_end call ≡ false)
+pub users_go_on : (call : Call) → is_users call ≡ true → (begins call ≡ false) × (may_end call ≡ false)
 users_go_on (Request me peer contact start now) h = absurd (false≢true h)
 users_go_on (TakeRequest rfc me now) h = absurd (false≢true h)
 users_go_on (Accept start now) h = (refl, refl)
@@ -167,7 +167,7 @@ ticked v place now (Some slot) is =
     (λ _. nothing v)
 
 -- the place of the lowest free slot has a free slot
-free_there : (slots : List Slot) (place : ℕ) (slot : Slot) → free_place slots ≡ Some place → slice_get slots place ≡ Some slot → is_free slot ≡ true
+pub free_there : (slots : List Slot) (place : ℕ) (slot : Slot) → free_place slots ≡ Some place → slice_get slots place ≡ Some slot → is_free slot ≡ true
 free_there slots place slot h there =
     let at = position-Some is_free slots place slot h in
     sym (ap is_free (get_or_from_slice_get slots place slot slot there)) ∙ at.1
@@ -176,7 +176,7 @@ free_there slots place slot h there =
 begun : (v : HostView) (place : ℕ) (slot : Slot) (call : Call) → is_free (slot_after_call slot call) ≡ false → with_slot v place (slot_after_call slot call) ≡ with_slot v place (after_ending (slot_after_call slot call))
 begun v place slot call used = ap (with_slot v place) (stays (slot_after_call slot call) used)
 
-fits_data : (n : ℕ) → nat_lt MAX_DATA n ≡ false → n ≤ MAX_DATA
+pub fits_data : (n : ℕ) → nat_lt MAX_DATA n ≡ false → n ≤ MAX_DATA
 fits_data n h = grind (arith, nat_tests)
 
 asked : (v : HostView) (place peer : ℕ) (contact : List ℕ) (start now : ℕ) (o : Option Slot) → IsHost v → free_place v.slots ≡ Some place → slice_get v.slots place ≡ o → nat_lt MAX_DATA (length contact) ≡ false → (peer == 0) ≡ false
@@ -209,7 +209,7 @@ listened v contact (Some fault) = record { address = refl; config = refl; slots 
 -- ---- a packet that comes
 
 -- a new request is an RFC, and the place of the lowest free slot is told
-abbrev Routed : HostView → PacketView → Route → Type 0
+abbrev pub Routed : HostView → PacketView → Route → Type 0
 Routed v p (to.Request place) = (free_place v.slots ≡ Some place) × ((p.src == 0) ≡ false) × (is_rfc (kind_of p.op) ≡ true)
 Routed v p _ = Unit {0}
 
@@ -229,7 +229,7 @@ routed_named : (v : HostView) (p : PacketView) (o : Option Slot) → Routed v p 
 routed_named v p None = routed_none v p
 routed_named v p (Some slot) = either_where (Routed v p) (comes_from p slot) _ _ (λ _. tt) (λ _. routed_none v p)
 
-routed : (v : HostView) (p : PacketView) → Routed v p (route v p)
+pub routed : (v : HostView) (p : PacketView) → Routed v p (route v p)
 routed v p =
     either_where (Routed v p) (not (p.dst == v.address)) _ _ (λ _. tt)
     (λ _. either_where (Routed v p) (p.src == 0) _ _ (λ _. tt)
@@ -237,7 +237,7 @@ routed v p =
     (λ rfc. routed_taken v p (position (took_from p) v.slots) far rfc)
     (λ _. routed_named v p (named_slot v.slots p.dst_index))))
 
-not_live : (s : State) → is_inactive s ≡ true → is_live s ≡ false
+pub not_live : (s : State) → is_inactive s ≡ true → is_live s ≡ false
 not_live st.Inactive h = refl
 not_live st.RfcSent h = absurd (false≢true h)
 not_live st.RfcReceived h = absurd (false≢true h)

@@ -122,7 +122,7 @@ deed_lasts st (Does place call) from name s there = slot_lasts st place call fro
 
 -- ---- a net
 
-event_lasts : (n : Net) (x : Side) (event : HostEvent) (from : Option Name) (y : Side) (name : Name) (s : Story) → (n y).story name ≡ Some s → Lasts (after_event n x event from y).story name s
+pub event_lasts : (n : Net) (x : Side) (event : HostEvent) (from : Option Name) (y : Side) (name : Name) (s : Story) → (n y).story name ≡ Some s → Lasts (after_event n x event from y).story name s
 event_lasts n A event from A name s there = deed_lasts (n A) (deed_of (n A).host event) from name s there
 event_lasts n A event from B name s there = (s, there, same_lasts s)
 event_lasts n B event from A name s there = (s, there, same_lasts s)

@@ -25,6 +25,15 @@
 --   Apart     no packet of one connection changes another: law_apart
 --   Coming    an item that comes to its peer is held there
 --   InTurn    and read in its turn: law_in_turn
+--
+--   a net as it runs
+--   Seats     what an event makes of the seats, which tell turns and peers
+--   Fresh     what a running net lets come is fresh
+--   Marks     the mark that a seat gets is right, for each event of a host
+--   Standing  what is kept stands for the net after an event
+--   Events    each event of a running net is that event of the definition
+--   Starts    a new running net; what holds of each
+--   Sides     what an event of one station is for the whole
 pub mod Lists
 pub mod Holding
 pub mod Moves
@@ -43,3 +52,10 @@ pub mod Present
 pub mod Apart
 pub mod Coming
 pub mod InTurn
+pub mod Seats
+pub mod Fresh
+pub mod Marks
+pub mod Standing
+pub mod Events
+pub mod Starts
+pub mod Sides

@@ -181,12 +181,12 @@ all_same : {X : Type 0} (P : X → Type 0) (n : ℕ) (x : X) → P x → AllByRe
 all_same P zero x h = tt
 all_same P (suc n) x h = (h, all_same P n x h)
 
-get_same : {X : Type 0} (n k : ℕ) (x y : X) → slice_get (replicate n x) k ≡ Some y → x ≡ y
+pub get_same : {X : Type 0} (n k : ℕ) (x y : X) → slice_get (replicate n x) k ≡ Some y → x ≡ y
 get_same zero k x y h = absurd (cc)
 get_same (suc n) zero x y h = some_eq h
 get_same (suc n) (suc k) x y h = get_same n k x y h
 
-length_same : {X : Type 0} (n : ℕ) (x : X) → length (replicate n x) ≡ n
+pub length_same : {X : Type 0} (n : ℕ) (x : X) → length (replicate n x) ≡ n
 length_same zero x = refl
 length_same (suc n) x = ap suc (length_same n x)
 

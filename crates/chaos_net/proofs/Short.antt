@@ -86,7 +86,7 @@ begun conn (Announce window) from k = omega arith
 begun conn (Close text) from k = omega arith
 begun conn (Tick now) from k = omega arith
 
-grown : (o : Option Story) (conn : ConnView) (call : Call) (from : Option Name) (k : ℕ) → length_of o ≤ k → length_of (story_after o conn call from) ≤ k + 1
+pub grown : (o : Option Story) (conn : ConnView) (call : Call) (from : Option Name) (k : ℕ) → length_of o ≤ k → length_of (story_after o conn call from) ≤ k + 1
 grown None conn call from k h = begun conn call from k
 grown (Some s) conn call from k h =
     length_below (is_refused (act s.end.conn (as_read call)).answer) s.end.written _ (k + 1) (omega (arith, h)) (wrote s.end.conn (as_read call) s.end.written k h)

@@ -6,3 +6,8 @@ pub mod Present
 pub mod Hello
 pub mod Apart
 pub mod InTurn
+pub mod Kept
+pub mod Inside
+pub mod Running
+pub mod New
+pub mod Sound

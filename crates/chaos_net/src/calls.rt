@@ -1,0 +1,276 @@
+//! The events that users and clocks make.
+ghost use Rattle.std.specs.Prelude.{◌≡◌, IfOk, IfErr, OnOk, OnErr};
+ghost use Rattle.chaos_conn.specs.Act.{Accept, Answer, Reject, Write, Unc, Read, FinishRead, Announce, Close, Did, Wrote, Gave, Finished};
+ghost use Rattle.chaos_host.specs.Calls.{host_call, host_end, host_release, reply_of, plain_reply_of};
+ghost use Rattle.chaos_host.specs.Connect.{host_connect};
+ghost use Rattle.chaos_host.specs.Listening.{listen_fault, listen_answer};
+ghost use Rattle.chaos_host.specs.Tick.{host_tick};
+ghost use Rattle.chaos_host.specs.Deeds.HostEvent.{Calls, Connects, Ends, Listens, Releases, Ticks};
+ghost use Rattle.chaos_net.specs.Kept.{at};
+ghost use Rattle.chaos_net.specs.Inside.{IsWant};
+ghost use Rattle.chaos_net.specs.Net.NetEvent.{At};
+ghost use Rattle.chaos_net.specs.Running.{Happens, ReadIsTold, FrontIsRead, WriteIsTold};
+
+use crate::fault::NetFault;
+use crate::net::Net;
+use chaos_conn::{ReadDone, ReadEnd, Ticked};
+use chaos_host::{CallFault, ConnId, ConnectFault, ListenFault};
+use chaos_lab::Side;
+use chaos_packet::{Opcode, PktNum};
+use std::alloc::Global;
+
+impl Net {
+    /// The host at a side listens to a contact.
+    pub fn listen(
+        &mut self,
+        _alloc: Global,
+        side: Side,
+        contact: &[u8],
+    ) -> Result<Result<(), ListenFault>, NetFault>
+        ensures happens { OnOk result (Happens self.old (At side (Listens contact.now)) self.new) }
+        ensures answer { IfOk result (λ told. told ≡ listen_answer (listen_fault (at self.old side).host.listeners contact.now)) }
+        ensures same { OnErr result (self.new ≡ self.old) }
+        ensures why { IfErr result (IsWant self.old.events) }
+    {
+        match side {
+            Side::A => self.a.listen(&mut self.desk, contact),
+            Side::B => self.b.listen(&mut self.desk, contact),
+        }
+    }
+
+    /// The host at a side asks for a contact, as [`chaos_host::Host::connect`] does.
+    pub fn connect(
+        &mut self,
+        _alloc: Global,
+        side: Side,
+        peer: u16,
+        contact: &[u8],
+        start: PktNum,
+        now: u64,
+    ) -> Result<Result<ConnId, ConnectFault>, NetFault>
+        ensures happens { OnOk result (Happens self.old (At side (Connects peer contact.now start now)) self.new) }
+        ensures answer { IfOk result (λ told. told ≡ (host_connect (at self.old side).host peer contact.now start now).answer) }
+        ensures same { OnErr result (self.new ≡ self.old) }
+        ensures why { IfErr result (IsWant self.old.events) }
+    {
+        match side {
+            Side::A => self.a.connect(&mut self.desk, peer, contact, start, now),
+            Side::B => self.b.connect(&mut self.desk, peer, contact, start, now),
+        }
+    }
+
+    /// A user accepts the request that a connection holds.
+    pub fn accept(
+        &mut self,
+        _alloc: Global,
+        side: Side,
+        id: ConnId,
+        start: PktNum,
+        now: u64,
+    ) -> Result<Result<(), CallFault>, NetFault>
+        ensures happens { OnOk result (Happens self.old (At side (Calls id (Accept start now))) self.new) }
+        ensures answer { IfOk result (λ told. reply_of Did told ≡ (host_call (at self.old side).host id (Accept start now)).answer) }
+        ensures same { OnErr result (self.new ≡ self.old) }
+        ensures why { IfErr result (IsWant self.old.events) }
+    {
+        match side {
+            Side::A => self.a.accept(&mut self.desk, id, start, now),
+            Side::B => self.b.accept(&mut self.desk, id, start, now),
+        }
+    }
+
+    /// A user writes.
+    pub fn write(
+        &mut self,
+        _alloc: Global,
+        side: Side,
+        id: ConnId,
+        op: Opcode,
+        bytes: &[u8],
+        now: u64,
+    ) -> Result<Result<PktNum, CallFault>, NetFault>
+        ensures happens { OnOk result (Happens self.old (At side (Calls id (Write op bytes.now now))) self.new) }
+        ensures answer { IfOk result (λ told. reply_of Wrote told ≡ (host_call (at self.old side).host id (Write op bytes.now now)).answer) }
+        // what it takes joins what the connection has written
+        ensures told { IfOk result (λ told. WriteIsTold self.old side id op bytes.now now told) }
+        ensures same { OnErr result (self.new ≡ self.old) }
+        ensures why { IfErr result (IsWant self.old.events) }
+    {
+        match side {
+            Side::A => self.a.write(&mut self.desk, id, op, bytes, now),
+            Side::B => self.b.write(&mut self.desk, id, op, bytes, now),
+        }
+    }
+
+    /// A user sends uncontrolled data.
+    pub fn unc(
+        &mut self,
+        _alloc: Global,
+        side: Side,
+        id: ConnId,
+        bytes: &[u8],
+    ) -> Result<Result<(), CallFault>, NetFault>
+        ensures happens { OnOk result (Happens self.old (At side (Calls id (Unc bytes.now))) self.new) }
+        ensures answer { IfOk result (λ told. reply_of Did told ≡ (host_call (at self.old side).host id (Unc bytes.now)).answer) }
+        ensures same { OnErr result (self.new ≡ self.old) }
+        ensures why { IfErr result (IsWant self.old.events) }
+    {
+        match side {
+            Side::A => self.a.unc(&mut self.desk, id, bytes),
+            Side::B => self.b.unc(&mut self.desk, id, bytes),
+        }
+    }
+
+    /// A user announces another window.
+    pub fn announce(
+        &mut self,
+        _alloc: Global,
+        side: Side,
+        id: ConnId,
+        window: u16,
+    ) -> Result<Result<(), CallFault>, NetFault>
+        ensures happens { OnOk result (Happens self.old (At side (Calls id (Announce window))) self.new) }
+        ensures answer { IfOk result (λ told. reply_of Did told ≡ (host_call (at self.old side).host id (Announce window)).answer) }
+        ensures same { OnErr result (self.new ≡ self.old) }
+        ensures why { IfErr result (IsWant self.old.events) }
+    {
+        match side {
+            Side::A => self.a.announce(&mut self.desk, id, window),
+            Side::B => self.b.announce(&mut self.desk, id, window),
+        }
+    }
+
+    /// A user reads the next item, and gets it.
+    pub fn read(
+        &mut self,
+        _alloc: Global,
+        side: Side,
+        id: ConnId,
+    ) -> Result<Result<ReadEnd, CallFault>, NetFault>
+        ensures happens { OnOk result (Happens self.old (At side (Calls id Read)) self.new) }
+        ensures answer { IfOk result (λ told. plain_reply_of Gave told ≡ (host_call (at self.old side).host id Read).answer) }
+        // what it hands out joins what the connection has read
+        ensures told { IfOk result (λ told. ReadIsTold self.old side id told) }
+        ensures same { OnErr result (self.new ≡ self.old) }
+        ensures why { IfErr result (IsWant self.old.events) }
+    {
+        match side {
+            Side::A => self.a.read(&mut self.desk, id),
+            Side::B => self.b.read(&mut self.desk, id),
+        }
+    }
+
+    /// A user reads the next item, which [`chaos_host::Host::front`] lends before, and gets nothing.
+    pub fn read_done(
+        &mut self,
+        _alloc: Global,
+        side: Side,
+        id: ConnId,
+    ) -> Result<Result<ReadDone, CallFault>, NetFault>
+        ensures happens { OnOk result (Happens self.old (At side (Calls id FinishRead)) self.new) }
+        ensures answer { IfOk result (λ told. plain_reply_of Finished told ≡ (host_call (at self.old side).host id FinishRead).answer) }
+        // what was in front joins what the connection has read
+        ensures told { IfOk result (λ told. FrontIsRead self.old side id told) }
+        ensures same { OnErr result (self.new ≡ self.old) }
+        ensures why { IfErr result (IsWant self.old.events) }
+    {
+        match side {
+            Side::A => self.a.read_done(&mut self.desk, id),
+            Side::B => self.b.read_done(&mut self.desk, id),
+        }
+    }
+
+    /// A user answers the request that a connection holds, whose slot is freed.
+    pub fn answer(
+        &mut self,
+        _alloc: Global,
+        side: Side,
+        id: ConnId,
+        bytes: &[u8],
+    ) -> Result<Result<(), CallFault>, NetFault>
+        ensures happens { OnOk result (Happens self.old (At side (Ends id (Answer bytes.now))) self.new) }
+        ensures answer { IfOk result (λ told. reply_of Did told ≡ (host_end (at self.old side).host id (Answer bytes.now)).answer) }
+        ensures same { OnErr result (self.new ≡ self.old) }
+        ensures why { IfErr result (IsWant self.old.events) }
+    {
+        match side {
+            Side::A => self.a.answer(&mut self.desk, id, bytes),
+            Side::B => self.b.answer(&mut self.desk, id, bytes),
+        }
+    }
+
+    /// A user refuses the request that a connection holds, whose slot is freed.
+    pub fn reject(
+        &mut self,
+        _alloc: Global,
+        side: Side,
+        id: ConnId,
+        text: &[u8],
+    ) -> Result<Result<(), CallFault>, NetFault>
+        ensures happens { OnOk result (Happens self.old (At side (Ends id (Reject text.now))) self.new) }
+        ensures answer { IfOk result (λ told. reply_of Did told ≡ (host_end (at self.old side).host id (Reject text.now)).answer) }
+        ensures same { OnErr result (self.new ≡ self.old) }
+        ensures why { IfErr result (IsWant self.old.events) }
+    {
+        match side {
+            Side::A => self.a.reject(&mut self.desk, id, text),
+            Side::B => self.b.reject(&mut self.desk, id, text),
+        }
+    }
+
+    /// A user gives a connection up, whose slot is freed.
+    pub fn close(
+        &mut self,
+        _alloc: Global,
+        side: Side,
+        id: ConnId,
+        text: &[u8],
+    ) -> Result<Result<(), CallFault>, NetFault>
+        ensures happens { OnOk result (Happens self.old (At side (Ends id (Close text.now))) self.new) }
+        ensures answer { IfOk result (λ told. reply_of Did told ≡ (host_end (at self.old side).host id (Close text.now)).answer) }
+        ensures same { OnErr result (self.new ≡ self.old) }
+        ensures why { IfErr result (IsWant self.old.events) }
+    {
+        match side {
+            Side::A => self.a.close(&mut self.desk, id, text),
+            Side::B => self.b.close(&mut self.desk, id, text),
+        }
+    }
+
+    /// The slot of an ended connection is freed.
+    pub fn release(
+        &mut self,
+        _alloc: Global,
+        side: Side,
+        id: ConnId,
+    ) -> Result<Result<(), CallFault>, NetFault>
+        ensures happens { OnOk result (Happens self.old (At side (Releases id)) self.new) }
+        ensures answer { IfOk result (λ told. told ≡ (host_release (at self.old side).host id).answer) }
+        ensures same { OnErr result (self.new ≡ self.old) }
+        ensures why { IfErr result (IsWant self.old.events) }
+    {
+        match side {
+            Side::A => self.a.release(&mut self.desk, id),
+            Side::B => self.b.release(&mut self.desk, id),
+        }
+    }
+
+    /// What is due in a slot is done.
+    pub fn tick(
+        &mut self,
+        _alloc: Global,
+        side: Side,
+        slot: usize,
+        now: u64,
+    ) -> Result<Ticked, NetFault>
+        ensures happens { OnOk result (Happens self.old (At side (Ticks slot now)) self.new) }
+        ensures answer { IfOk result (λ told. told ≡ (host_tick (at self.old side).host slot now).answer) }
+        ensures same { OnErr result (self.new ≡ self.old) }
+        ensures why { IfErr result (IsWant self.old.events) }
+    {
+        match side {
+            Side::A => self.a.tick(&mut self.desk, slot, now),
+            Side::B => self.b.tick(&mut self.desk, slot, now),
+        }
+    }
+}
