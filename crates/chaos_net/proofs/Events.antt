@@ -13,10 +13,8 @@ use Rattle.chaos_host.specs.Deeds.HostEvent.{Comes, Calls, Ends, Releases, Conne
 use Rattle.chaos_lab.specs.declared.side.Side.{Side}
 use Rattle.chaos_lab.specs.Machine.{other}
 use Rattle.chaos_net.specs.declared.kept_sent.KeptSent.{KeptSent}
-use Rattle.chaos_net.specs.declared.mark.Mark.{Mark}
 use Rattle.chaos_net.specs.declared.mark.Mark.TheVariants.{Stays, Begins}
-use Rattle.chaos_net.specs.declared.seat.Seat.{Seat}
-use Rattle.chaos_net.specs.Net.{Net, Sent, IsFresh, Reached, after_event, arrives, happens}
+use Rattle.chaos_net.specs.Net.{Net, Sent, IsFresh, Reached, after_event, arrives}
 use Rattle.chaos_net.specs.Net.NetEvent.{At, Arrives}
 use Rattle.chaos_net.specs.Played.{IsStation}
 use Rattle.chaos_net.specs.Kept.{NetView, at, may_come, connect_place, deliver_place, deliver_mark, end_mark}

@@ -1,5 +1,5 @@
 -- What a running net lets come is fresh.
-use Rattle.std.proofs.Common.{◌≡◌, ℕ, zero, suc, ◌+◌, ◌-◌, ◌*◌, ◌%◌, ◌<◌, ◌≤◌, ◌&&◌, nat_lt, List, [], ◌∷◌, length, Bool, true, false, if◌then◌else◌, Option, Some, None, refl, sym, ap, ◌∙◌, subst, arith}
+use Rattle.std.proofs.Common.{◌≡◌, ℕ, zero, suc, ◌+◌, ◌-◌, ◌*◌, ◌%◌, ◌<◌, ◌&&◌, nat_lt, List, [], ◌∷◌, length, Bool, true, false, Option, Some, None, refl, sym, ap, ◌∙◌, subst, arith}
 use Rattle.std.specs.Prelude.{slice_get}
 use Rattle.std.proofs.lemmas.Bool.{false≢true, cond-true}
 use Rattle.std.proofs.lemmas.Bool.Decides.{nat_tests}
@@ -10,9 +10,9 @@ use Rattle.chaos_lab.specs.declared.side.Side.{Side}
 use Rattle.chaos_lab.specs.Machine.{other, fresh_span}
 use Rattle.chaos_net.specs.declared.kept_sent.KeptSent.{KeptSent}
 use Rattle.chaos_net.specs.declared.seat.Seat.{Seat}
-use Rattle.chaos_net.specs.Net.{Name, Story, Sent, Station, Net, IsFresh, IsFreshFor, Near, index_of, present, length_of, lengths_of}
+use Rattle.chaos_net.specs.Net.{Name, Sent, Net, IsFresh, IsFreshFor, Near, index_of, present, length_of, lengths_of}
 use Rattle.chaos_net.specs.Kept.{NetView, at, is_near, are_near, is_fresh_at, may_come}
-use Rattle.chaos_net.specs.Running.{turn_of, IsSeatOf, IsKept, AreKept, StandsAt, Stands}
+use Rattle.chaos_net.specs.Running.{turn_of, IsSeatOf, IsKept, AreKept, Stands}
 use Rattle.chaos_net.proofs.Lists.{some_eq}
 use Rattle.chaos_net.proofs.Network.{reached_is_played}
 

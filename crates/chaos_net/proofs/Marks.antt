@@ -1,5 +1,5 @@
 -- The mark that a running net gives a seat is right, for each event of a host.
-use Rattle.std.proofs.Common.{◌≡◌, ℕ, ◌+◌, ◌-◌, ◌*◌, ◌%◌, ◌<◌, ◌≤◌, ◌==◌, ◌&&◌, not, nat_lt, List, [], ◌∷◌, length, Bool, true, false, if◌then◌else◌, Option, Some, None, Result, Ok, Err, position, refl, sym, ap, ◌∙◌, subst, arith}
+use Rattle.std.proofs.Common.{◌≡◌, ℕ, ◌+◌, ◌-◌, ◌*◌, ◌%◌, ◌<◌, ◌==◌, ◌&&◌, not, nat_lt, List, [], length, Bool, true, false, if◌then◌else◌, Option, Some, None, refl, sym, ap, ◌∙◌, subst, arith}
 use Rattle.std.specs.Prelude.{slice_get, is_some, is_none}
 use Rattle.std.proofs.lemmas.Bool.{false≢true, cond-true}
 use Rattle.std.proofs.lemmas.Option.{slice_get_within}
@@ -12,21 +12,19 @@ use Rattle.chaos_conn.specs.declared.answers.Delivered.{Delivered}
 use Rattle.chaos_conn.specs.declared.answers.Delivered.TheVariants as came
 use Rattle.chaos_conn.specs.declared.answers.Why.TheVariants as why
 use Rattle.chaos_conn.specs.Act.{Call, Reply, act}
-use Rattle.chaos_conn.specs.Act.Call.{Request, TakeRequest, Accept, Answer, Reject, Deliver, Write, Unc, Read, FinishRead, Announce, Close, Tick}
+use Rattle.chaos_conn.specs.Act.Call.{Request, TakeRequest, Deliver, Close, Tick}
 use Rattle.chaos_conn.specs.Act.Reply.{Came}
 use Rattle.chaos_conn.specs.Names.{is_opened}
 use Rattle.chaos_host.specs.declared.slot.Slot.{Slot}
 use Rattle.chaos_host.specs.declared.route.Route.{Route}
 use Rattle.chaos_host.specs.declared.route.Route.TheVariants as to
-use Rattle.chaos_host.specs.Law.{may_end}
 use Rattle.chaos_host.specs.Slot.{is_free, is_used, index_of, place_of, named_slot, free_place, after_ending}
-use Rattle.chaos_host.specs.View.{HostView, IsHost, own_end, id_in, id_at}
+use Rattle.chaos_host.specs.View.{own_end, id_in, id_at}
 use Rattle.chaos_host.specs.Acted.{HostActed, slot_after_call, with_slot}
 use Rattle.chaos_host.specs.Route.{route}
 use Rattle.chaos_host.specs.Deliver.{deliver_by, deliver_slot, take_request_slot}
 use Rattle.chaos_host.specs.Connect.{ConnectAnswer, connect_at, connect_slot}
 use Rattle.chaos_host.specs.Calls.{call_slot, end_slot, release_slot}
-use Rattle.chaos_host.specs.declared.answers.HostDelivered.{HostDelivered}
 use Rattle.chaos_host.specs.Tick.{tick_slot}
 use Rattle.chaos_host.specs.Deeds.{Deed, is_users, made_of, deed_by, by_used, by_free, by_named, by_ended, by_asking, by_lowest}
 use Rattle.chaos_host.specs.Deeds.Deed.{Nothing, Does}

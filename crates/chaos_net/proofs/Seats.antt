@@ -1,10 +1,9 @@
 -- The seats of a station after an event: they tell the turns of the connections that are there, and of their peers.
-use Rattle.std.proofs.Common.{◌≡◌, ◌≢◌, ℕ, zero, suc, ◌+◌, ◌*◌, ◌<◌, ◌≤◌, ◌==◌, ◌&&◌, not, nat_lt, List, [], ◌∷◌, ◌++◌, length, map, Bool, true, false, if◌then◌else◌, Option, Some, None, slice_set, refl, sym, ap, ◌∙◌, subst, inl, inr, ◌⊎◌, ⊎_elim, arith}
+use Rattle.std.proofs.Common.{◌≡◌, ℕ, zero, suc, ◌+◌, ◌≤◌, ◌==◌, List, [], ◌∷◌, length, Bool, true, false, if◌then◌else◌, Option, Some, None, slice_set, refl, sym, ap, ◌∙◌, subst, inl, inr, ◌⊎◌, ⊎_elim, arith}
 use Rattle.std.specs.Prelude.{slice_get}
 use Rattle.std.proofs.lemmas.Bool.{false≢true, cond-true, cond-false, eq-eqb, eqb-true, cases_Bool}
 use Rattle.chaos_packet.specs.Packet.{PacketView}
-use Rattle.chaos_conn.specs.View.{ConnView}
-use Rattle.chaos_conn.specs.Act.{Call, Reply, act}
+use Rattle.chaos_conn.specs.Act.{Call}
 use Rattle.chaos_host.specs.declared.slot.Slot.{Slot}
 use Rattle.chaos_host.specs.Slot.{is_free}
 use Rattle.chaos_host.specs.Acted.{slot_after_call}
@@ -13,7 +12,7 @@ use Rattle.chaos_host.specs.Deeds.Deed.{Nothing, Does}
 use Rattle.chaos_net.specs.declared.mark.Mark.{Mark}
 use Rattle.chaos_net.specs.declared.mark.Mark.TheVariants.{Stays, Begins, Joins, Frees}
 use Rattle.chaos_net.specs.declared.seat.Seat.{Seat}
-use Rattle.chaos_net.specs.Net.{Name, Story, Station, present, sender, is_name, with_story, with_turn, story_after, after_slot, after_deed}
+use Rattle.chaos_net.specs.Net.{Name, Story, Station, present, sender, story_after, after_slot, after_deed}
 use Rattle.chaos_net.specs.Kept.{before, after, alter, alter_at, seat_in, by_of, meant_of}
 use Rattle.chaos_net.specs.Running.{turn_of, IsSeatOf}
 use Rattle.chaos_net.proofs.Lists.{some_eq}

@@ -1,8 +1,6 @@
 -- An event of one station of a running net, and what follows for the whole.
-use Rattle.std.proofs.Common.{◌≡◌, ℕ, suc, ◌+◌, ◌<◌, ◌≤◌, List, Bool, true, false, if◌then◌else◌, Option, Some, None, Result, Ok, Err, refl, sym, ap, ◌∙◌, subst, arith}
+use Rattle.std.proofs.Common.{◌≡◌, ℕ, ◌+◌, ◌≤◌, List, Bool, true, false, if◌then◌else◌, Option, Some, None, Result, Ok, Err, refl, sym, ap, ◌∙◌, subst, arith}
 use Rattle.std.specs.Prelude.{slice_get, IfOk, OnOk, OnErr}
-use Rattle.std.proofs.lemmas.Bool.{false≢true}
-use Rattle.chaos_packet.specs.Item.{ItemView}
 use Rattle.chaos_window.specs.declared.limits.TheConstants.{MAX_WINDOW}
 use Rattle.chaos_conn.specs.declared.answers.ReadEnd.{ReadEnd}
 use Rattle.chaos_conn.specs.declared.answers.ReadDone.{ReadDone}
@@ -20,17 +18,16 @@ use Rattle.chaos_lab.specs.declared.side.Side.TheVariants.{A, B}
 use Rattle.chaos_lab.specs.Machine.{other}
 use Rattle.chaos_net.specs.declared.desk.Desk.{Desk}
 use Rattle.chaos_net.specs.declared.fault.NetFault.{NetFault}
-use Rattle.chaos_net.specs.declared.fault.NetFault.TheVariants.{Stale, NoSuchPacket}
+use Rattle.chaos_net.specs.declared.fault.NetFault.TheVariants.{Stale}
 use Rattle.chaos_net.specs.declared.kept_sent.KeptSent.{KeptSent}
 use Rattle.chaos_net.specs.declared.mark.Mark.{Mark}
 use Rattle.chaos_net.specs.declared.net.Net.TheInside.{Inside}
-use Rattle.chaos_net.specs.declared.seat.Seat.{Seat}
 use Rattle.chaos_net.specs.declared.station.KeptStation.{KeptStation}
 use Rattle.chaos_net.specs.Inside.{IsEmpty, IsDone, IsSame, MayDo, station_view}
 use Rattle.chaos_net.specs.Kept.{NetView, StationView, AreBelow, at, may_come, arrival_fault, Delivers, deliver_place, deliver_mark}
 use Rattle.chaos_net.specs.Net.{NetEvent, happens}
 use Rattle.chaos_net.specs.Net.NetEvent.{Arrives}
-use Rattle.chaos_net.specs.Running.{Stands, Happens, HasNet, ReadIsTold, FrontIsRead, WriteIsTold}
+use Rattle.chaos_net.specs.Running.{Happens, HasNet, ReadIsTold, FrontIsRead, WriteIsTold}
 use Rattle.chaos_net.specs.Sound.{net_view, IsSound}
 use Rattle.chaos_net.proofs.Events.{did_arrive}
 use Rattle.chaos_net.proofs.Present.{reads_are_told, front_is_told, writes_are_told}

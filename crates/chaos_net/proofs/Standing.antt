@@ -1,10 +1,8 @@
 -- A running net stands for the net that the same events lead to.
-use Rattle.std.proofs.Common.{◌≡◌, ℕ, zero, suc, ◌+◌, ◌*◌, ◌<◌, ◌≤◌, ◌==◌, List, [], ◌∷◌, ◌++◌, length, map, Bool, true, false, if◌then◌else◌, Option, Some, None, refl, sym, ap, ◌∙◌, subst, ◌⊎◌, inl, inr, ⊎_elim, arith}
+use Rattle.std.proofs.Common.{◌≡◌, ℕ, suc, ◌+◌, ◌≤◌, ◌==◌, List, [], ◌∷◌, ◌++◌, length, map, Bool, true, false, if◌then◌else◌, Option, Some, None, refl, sym, ap, ◌∙◌, subst, ◌⊎◌, inl, inr, ⊎_elim, arith}
 use Rattle.std.specs.Prelude.{slice_get}
 use Rattle.std.proofs.lemmas.Bool.{eqb-true}
-use Rattle.chaos_packet.specs.Opcode.{kind_of}
 use Rattle.chaos_packet.specs.Packet.{PacketView}
-use Rattle.chaos_conn.specs.Sending.{carries_ack}
 use Rattle.chaos_conn.specs.Act.{Call}
 use Rattle.chaos_host.specs.declared.slot.Slot.{Slot}
 use Rattle.chaos_host.specs.Slot.{is_free}
@@ -17,18 +15,18 @@ use Rattle.chaos_lab.specs.Machine.{other}
 use Rattle.chaos_net.specs.declared.kept_sent.KeptSent.{KeptSent}
 use Rattle.chaos_net.specs.declared.mark.Mark.{Mark}
 use Rattle.chaos_net.specs.declared.seat.Seat.{Seat}
-use Rattle.chaos_net.specs.Net.{Name, Story, Sent, Station, Net, NetEvent, CanHappen, Run, Reached, present, sender, story_after, length_of, lengths_of, sent_by, with_station, moved, after_slot, after_deed, after_event, happens, is_name}
+use Rattle.chaos_net.specs.Net.{Name, Story, Sent, Station, Net, NetEvent, CanHappen, Run, Reached, present, sender, story_after, length_of, lengths_of, sent_by, with_station, moved, after_slot, after_deed, after_event, happens}
 use Rattle.chaos_net.specs.Lasting.{LastsAs}
 use Rattle.chaos_net.specs.Played.{IsSentOf}
 use Rattle.chaos_net.specs.Kept.{StationView, NetView, at, before, after, alter, seat_in, by_of, meant_of, kept_by, station_after}
 use Rattle.chaos_net.specs.Running.{turn_of, IsSeatOf, IsKept, AreKept, StandsAt, Stands}
 use Rattle.chaos_net.proofs.Lists.{some_eq}
-use Rattle.chaos_net.proofs.Holding.{name_eq, twice}
+use Rattle.chaos_net.proofs.Holding.{name_eq}
 use Rattle.chaos_net.proofs.Next.{look_own, look_other}
 use Rattle.chaos_net.proofs.Network.{reached_is_played}
 use Rattle.chaos_net.proofs.Short.{grown}
 use Rattle.chaos_net.proofs.Lasting.{event_lasts}
-use Rattle.chaos_net.proofs.Seats.{AreSeats, IsMarked, alter_length}
+use Rattle.chaos_net.proofs.Seats.{IsMarked, alter_length}
 
 -- ---- a net after one more event is reached
 

@@ -1,7 +1,5 @@
 -- A new running net stands for two new hosts; and what holds of each.
-use Rattle.std.proofs.Common.{◌≡◌, ℕ, ◌≤◌, List, [], length, replicate, Option, Some, None, Ok, Err, Result, refl, sym, ap, ◌∙◌, subst, arith}
-use Rattle.std.specs.Prelude.{slice_get}
-use Rattle.chaos_packet.specs.Item.{ItemView}
+use Rattle.std.proofs.Common.{◌≡◌, ◌≤◌, [], Some, None, refl, sym, ap, ◌∙◌, subst, arith}
 use Rattle.chaos_window.specs.declared.limits.TheConstants.{MAX_WINDOW}
 use Rattle.chaos_conn.specs.Config.{IsConfig}
 use Rattle.chaos_host.specs.Slot.{named_slot}
@@ -11,11 +9,11 @@ use Rattle.chaos_lab.specs.declared.side.Side.TheVariants.{A, B}
 use Rattle.chaos_net.specs.declared.net.HostKind.{HostKind}
 use Rattle.chaos_net.specs.declared.net.Net.TheInside.{Inside}
 use Rattle.chaos_net.specs.declared.seat.Seat.{Seat}
-use Rattle.chaos_net.specs.Net.{Net, Station, IsNew, Reached, new_station, length_of}
+use Rattle.chaos_net.specs.Net.{Net, Station, IsNew, new_station, length_of}
 use Rattle.chaos_net.specs.Kept.{StationView, NetView, at}
 use Rattle.chaos_net.specs.Inside.{IsEmpty, station_view}
 use Rattle.chaos_net.specs.New.{new_seat, station_of, new_view}
-use Rattle.chaos_net.specs.Running.{AreKept, StandsAt, Stands, HasNet, HasLaw}
+use Rattle.chaos_net.specs.Running.{AreKept, StandsAt, HasNet, HasLaw}
 use Rattle.chaos_net.specs.Sound.{IsSound}
 use Rattle.chaos_net.proofs.Network.{network, get_same, length_same}
 use Rattle.chaos_net.proofs.Present.{named_is_present}

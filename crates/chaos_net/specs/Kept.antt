@@ -1,5 +1,5 @@
 -- What a running net keeps: a host, what it knows of each slot, and all that was sent.
-use Rattle.std.specs.Prelude.{◌≡◌, ℕ, ◌+◌, ◌-◌, ◌<◌, ◌%◌, nat_lt, Bool, true, false, ◌&&◌, if◌then◌else◌, List, [], ◌∷◌, ◌++◌, length, map, Option, Some, None, slice_get, slice_set, is_some, is_none, Result, Ok, Err}
+use Rattle.std.specs.Prelude.{◌≡◌, ℕ, ◌+◌, ◌-◌, ◌<◌, nat_lt, Bool, true, false, ◌&&◌, if◌then◌else◌, List, ◌++◌, map, Option, Some, None, slice_get, slice_set, is_some, is_none, Ok, Err}
 use Rattle.chaos_packet.specs.Packet.{PacketView}
 use Rattle.chaos_packet.specs.Opcode.{kind_of}
 use Rattle.chaos_conn.specs.Sending.{carries_ack}

@@ -1,7 +1,6 @@
 use Rattle.std.proofs.Common.{◌≡◌, Option, Some, None, refl, ap, ◌∙◌}
 use Rattle.std.specs.Prelude.{is_some, is_ok}
 use Rattle.chaos_conn.specs.View.{ConnView}
-use Rattle.chaos_conn.specs.declared.state.State.{State}
 use Rattle.chaos_host.specs.declared.slot.Slot.{Slot}
 use Rattle.chaos_host.specs.Slot.{named_slot}
 use Rattle.chaos_host.specs.View.{look_slot}

@@ -1,14 +1,13 @@
-use Rattle.std.proofs.Common.{◌≡◌, None, refl}
-use Rattle.std.specs.Prelude.{slice_get, IfOk, OnOk, OnErr}
-use Rattle.chaos_conn.specs.Act.Call.{Accept, Answer, Reject, Write, Unc, Read, FinishRead, Announce, Close}
-use Rattle.chaos_host.specs.Deeds.HostEvent.{Calls, Connects, Ends, Listens, Releases, Ticks}
+use Rattle.std.proofs.Common.{refl}
+use Rattle.std.specs.Prelude.{IfOk, OnOk}
+use Rattle.chaos_conn.specs.Act.Call.{FinishRead}
+use Rattle.chaos_host.specs.Deeds.HostEvent.{Calls}
 use Rattle.chaos_lab.specs.declared.side.Side.TheVariants.{A, B}
-use Rattle.chaos_net.specs.Kept.{arrival_fault, Delivers}
-use Rattle.chaos_net.specs.Net.NetEvent.{At, Arrives}
-use Rattle.chaos_net.specs.Running.{Happens, ReadIsTold, FrontIsRead, WriteIsTold}
+use Rattle.chaos_net.specs.Net.NetEvent.{At}
+use Rattle.chaos_net.specs.Running.{Happens, FrontIsRead}
 use Rattle.chaos_net.specs.Sound.{net_view}
-use Rattle.chaos_net.proofs.Events.{did_listen, did_call, did_tick, did_end, did_release, did_connect}
-use Rattle.chaos_net.proofs.Sides.{if_map, if_map2, moved, made_a, made_b, may_a, may_b, sound_a, sound_b, done_keeps, arrived, arrived_keeps, write_told, read_told, front_told}
+use Rattle.chaos_net.proofs.Events.{did_call}
+use Rattle.chaos_net.proofs.Sides.{if_map, moved, made_a, made_b, may_a, may_b, sound_a, sound_b, done_keeps, front_told}
 use Rattle.chaos_net.proofs.net.Net.read_done.Goals as goal
 
 pub read_done-requires : goal.read_done-requires
