@@ -1,6 +1,6 @@
 -- What an event does.
 use Rattle.std.proofs.Common.{◌≡◌, ◌≢◌, ℕ, ◌≤◌, Bool, List, [], ◌++◌, length, drop, append_assoc, append-nil, refl, ap, subst, ◌∙◌, sym, inl, inr, arith}
-use Rattle.std.specs.Prelude.{◌⊎◌, Option, Some, None, Result, Ok, Err, is_err, IfOk, IfErr, option_map}
+use Rattle.std.specs.Prelude.{◌⊎◌, Option, Some, None, Result, Ok, Err, is_err, IfOk, IfErr}
 use Rattle.std.proofs.lemmas.List.{drop_all}
 use Rattle.chaos_lab.specs.declared.stamped.Stamped.{Stamped}
 use Rattle.chaos_packet.specs.Item.{ItemView}
@@ -16,7 +16,7 @@ use Rattle.chaosd_engines.specs.declared.fault.RunFault.{RunFault}
 use Rattle.chaosd_engines.specs.declared.fault.RunFault.TheVariants as run
 use Rattle.chaosd_lab.specs.Answers.{answer_text, refusal_text, copies_text}
 use Rattle.chaosd_script.specs.Player.{IsLineFault}
-use Rattle.chaosd_lab.specs.Happen.{event_text, event_done, PlaysEvent}
+use Rattle.chaosd_lab.specs.Happen.{event_text, PlaysEvent}
 use Rattle.chaosd_lab.specs.Play.{refused_or_ended}
 
 by_answer : (answer : Result Stepped LabFault) (P : Bool → Type 0) → P (is_err answer) → IfOk (refused_or_ended answer) P

@@ -1,4 +1,4 @@
-use Rattle.std.proofs.Common.{◌≡◌, ◌++◌, List, length, drop, ◌∙◌, ap}
+use Rattle.std.proofs.Common.{◌++◌, List, length, drop, ◌∙◌, ap}
 use Rattle.chaos_packet.specs.Item.{ItemView}
 use Rattle.chaos_packet.specs.Packet.{PacketView}
 use Rattle.chaos_lab.specs.Laboratory.{LabView, Happening}
@@ -6,7 +6,7 @@ use Rattle.chaos_lab.specs.Told.{told, packet_at, items_at}
 use Rattle.chaos_lab.specs.Inside.{happening_of}
 use Rattle.chaosd_lab.specs.Answers.{answer_text, copies_text}
 use Rattle.chaosd_engines.proofs.Runs.{went_well}
-use Rattle.chaosd_lab.proofs.Events.{event_plays, event_wants, event_faults, told_refused}
+use Rattle.chaosd_lab.proofs.Events.{event_plays, event_wants, told_refused}
 use Rattle.chaosd_lab.proofs.line.play_event.Goals as goal
 
 pub returns-clause-played : goal.returns-clause-played

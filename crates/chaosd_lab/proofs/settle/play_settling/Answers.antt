@@ -8,7 +8,7 @@ use Rattle.chaosd_script.proofs.Plays.{waits_more}
 use Rattle.chaosd_lab.specs.Answers.{refusal_text}
 use Rattle.chaosd_lab.specs.Happen.{event_text}
 use Rattle.chaosd_lab.specs.Typed.{event_line}
-use Rattle.chaosd_lab.proofs.Settling.{typed_none, typed_one, typed_all, typed_wants, err_told}
+use Rattle.chaosd_lab.proofs.Settling.{typed_none, typed_one, typed_wants, err_told}
 use Rattle.chaosd_lab.proofs.settle.play_settling.Goals as goal
 
 pub loop-event-init : goal.loop-event-init
