@@ -1,26 +1,22 @@
 -- The next item comes to B's server, and A's user tells its status, so that B may reply.
-use Rattle.std.proofs.Common.{◌≡◌, ℕ, zero, suc, ◌+◌, ◌-◌, ◌<◌, ◌≤◌, List, [], ◌∷◌, ◌++◌, length, true, false, Option, Some, None, refl, sym, ap, ◌∙◌, subst, inl, inr, ⊎_elim, arith}
+use Rattle.std.proofs.Common.{◌≡◌, ℕ, suc, ◌+◌, ◌-◌, ◌<◌, ◌≤◌, List, [], ◌∷◌, length, true, false, Some, None, sym, ap, ◌∙◌, subst, ⊎_elim, arith}
 use Rattle.std.specs.Prelude.{is_none, slice_get}
 use Rattle.std.specs.FinSet.{contains}
-use Rattle.std.proofs.lemmas.Bool.{cond_both, cond-true, cond-false, cases_lt, cases_Bool, false≢true}
-use Rattle.chaos_packet.specs.Item.{ItemView}
+use Rattle.std.proofs.lemmas.Bool.{cond_both, cond-false, cases_lt, cases_Bool, false≢true}
 use Rattle.chaos_conn.specs.Calls.{front_of}
-use Rattle.chaos_lab.specs.declared.side.Side.{Side}
 use Rattle.chaos_lab.specs.declared.side.Side.TheVariants.{A, B}
-use Rattle.chaos_lab.specs.Machine.{PlainEnd as Plain, Kind, Copy, Machine, other, end_of}
+use Rattle.chaos_lab.specs.Machine.{PlainEnd as Plain, Copy, Machine}
 use Rattle.chaos_lab.specs.Machine.Kind.{Nth, Cls}
-use Rattle.chaos_lab.specs.Machine.Phase.{Open}
 use Rattle.chaos_lab.specs.Law.{IsThere}
 use Rattle.chaos_lab.specs.Shown.{there_at}
 use Rattle.chaos_lab.specs.Laboratory.{LabView, Happening, happen, after_all}
 use Rattle.chaos_lab.specs.Laboratory.Happening.{DeliverCopy}
 use Rattle.chaos_lab.specs.Tied.{Ties}
 use Rattle.chaos_lab.specs.Settling.{telling}
-use Rattle.chaos_lab.proofs.Total.{received}
 use Rattle.chaos_lab.proofs.Machines.{reached_holds, end_holds}
 use Rattle.chaos_lab.proofs.RecvTie.{front_is}
 use Rattle.chaos_lab.proofs.OnSide.{conn_at, first_at, read_at}
-use Rattle.chaos_lab.proofs.Keeps.{Keeps, CopyAt, keeps_through}
+use Rattle.chaos_lab.proofs.Keeps.{Keeps, CopyAt}
 use Rattle.chaos_lab.proofs.Helping.{copy_event, shows, same_count}
 use Rattle.chaos_lab.proofs.Waiting.{waiting}
 use Rattle.chaos_lab.proofs.Playing.{Plays, plays_none, plays_one, plays_both}

@@ -1,5 +1,5 @@
 -- Each event keeps what B's server has done.
-use Rattle.std.proofs.Common.{◌≡◌, ℕ, ◌≤◌, suc, zero, List, [], ◌∷◌, ◌++◌, drop, length, Bool, true, false, Option, Some, None, Result, Ok, Err, refl, sym, ap, ◌∙◌, subst, inl, inr, arith, length-append}
+use Rattle.std.proofs.Common.{◌≡◌, ℕ, ◌≤◌, suc, zero, List, [], ◌∷◌, ◌++◌, drop, length, Bool, true, false, Option, Some, None, Result, Err, refl, sym, ap, ◌∙◌, subst, inl, inr, arith, length-append}
 use Rattle.std.specs.Prelude.{◌||◌, slice_get, nat_le, ◌+◌, ◌*◌}
 use Rattle.std.specs.List.{list_any}
 use Rattle.std.specs.FinMap as map
@@ -45,9 +45,6 @@ use Rattle.chaos_lab.specs.Turns.{TurnHappens}
 use Rattle.chaos_filelab.specs.Bodies.{with_body, data_bodies, told_want}
 use Rattle.chaos_filelab.specs.View.{FileLabView, commands_at_b, replies_of_b, wrote_mem}
 use Rattle.chaos_filelab.specs.Serving.{ServesBy}
-use Rattle.chaos_filelab.specs.declared.event.FileStepped.{FileStepped}
-use Rattle.chaos_filelab.specs.declared.event.FileStepped.TheVariants as stepped
-use Rattle.chaos_lab.specs.declared.fault.LabFault.{LabFault}
 use Rattle.chaos_lab.specs.declared.fault.LabFault.TheVariants as fault
 use Rattle.chaos_filelab.specs.Events.{Serving, ServeHappens, service_of}
 use Rattle.chaos_filelab.specs.declared.file_lab.FileLab.TheInside.{Inside}

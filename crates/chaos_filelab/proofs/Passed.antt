@@ -1,17 +1,14 @@
 -- Lists of events of FILE that help and are taken.
-use Rattle.std.proofs.Common.{◌≡◌, ℕ, ◌+◌, ◌≤◌, List, [], ◌∷◌, ◌++◌, length, map, true, false, Result, Ok, Err, refl, sym, ap, ◌∙◌, subst, arith, length-append}
+use Rattle.std.proofs.Common.{◌≡◌, ℕ, ◌+◌, ◌≤◌, List, [], ◌∷◌, ◌++◌, length, map, Result, Ok, Err, refl, sym, ap, subst, arith}
 use Rattle.std.proofs.lemmas.Bool.{cond-false}
-use Rattle.std.proofs.lemmas.List.{length-map}
-use Rattle.chaos_lab.specs.Laboratory.{LabView, Happening, happen, after_all}
+use Rattle.chaos_lab.specs.Laboratory.{Happening, happen}
 use Rattle.chaos_lab.specs.declared.fault.LabFault.{LabFault}
 use Rattle.chaos_lab.specs.declared.event.Stepped.{Stepped}
 use Rattle.chaos_lab.specs.Progress.{AreHelp, AreTaken}
-use Rattle.chaos_filelab.specs.declared.event.FileStepped.{FileStepped}
-use Rattle.chaos_filelab.specs.declared.event.FileStepped.TheVariants as stepped
 use Rattle.chaos_filelab.specs.View.{FileLabView}
-use Rattle.chaos_filelab.specs.Events.{FileHappening, At, Serve, is_by_server, lab_answer}
+use Rattle.chaos_filelab.specs.Events.{FileHappening, At, lab_answer}
 use Rattle.chaos_filelab.specs.Exact.{FileDone, file_happen, lab_done}
-use Rattle.chaos_filelab.specs.Settling.{after_events, in_lab, then_on}
+use Rattle.chaos_filelab.specs.Settling.{after_events, in_lab}
 use Rattle.chaos_filelab.specs.Progress.{AreFileHelp, IsDone, AreDone}
 use Rattle.chaos_filelab.proofs.QuietEvents.{IsQuiet, AreQuiet, quiet_served}
 

@@ -1,8 +1,7 @@
 -- Events that are none of B's server, and neither a write nor a close, leave what B has written and read.
-use Rattle.std.proofs.Common.{◌≡◌, ℕ, zero, suc, ◌+◌, ◌-◌, List, [], ◌∷◌, ◌++◌, length, Bool, true, false, sym, ap, ◌∙◌, subst, refl}
+use Rattle.std.proofs.Common.{◌≡◌, ℕ, zero, suc, ◌+◌, ◌-◌, List, [], ◌∷◌, ◌++◌, length, false, sym, ap, ◌∙◌, subst, refl}
 use Rattle.std.specs.Prelude.{is_none, nat_lt}
 use Rattle.std.proofs.lemmas.Bool.{cond_both}
-use Rattle.chaos_packet.specs.Item.{ItemView}
 use Rattle.chaos_conn.specs.Calls.{front_of}
 use Rattle.chaos_lab.specs.declared.side.Side.{Side}
 use Rattle.chaos_lab.specs.declared.side.Side.TheVariants.{A, B}
@@ -14,7 +13,7 @@ use Rattle.chaos_lab.specs.Tied.{HasMachine, plain_event}
 use Rattle.chaos_lab.proofs.OnSide.{Outcome, Refuses, Steps}
 use Rattle.chaos_lab.proofs.LabTies.{event_ties}
 use Rattle.chaos_filelab.specs.Events.{is_by_server}
-use Rattle.chaos_filelab.specs.Settling.{fetching, asking, replying, b_sending, b_hearing}
+use Rattle.chaos_filelab.specs.Settling.{fetching, replying, b_hearing}
 use Rattle.chaos_filelab.proofs.QuietSteps.{PhaseLaws, Stays, at_a, at_b, comes_to, resize_stays, tick_stays}
 
 abbrev pub IsQuiet : Happening → Type 0

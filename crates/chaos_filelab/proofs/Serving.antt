@@ -1,20 +1,17 @@
 -- B's server serves the item in front of it: it reads it, and writes its reply to a command.
-use Rattle.std.proofs.Common.{◌≡◌, ℕ, zero, suc, ◌+◌, ◌-◌, ◌*◌, ◌<◌, ◌≤◌, List, [], ◌∷◌, ◌++◌, length, map, true, false, Option, Some, None, Result, Ok, Err, refl, sym, ap, ◌∙◌, subst, inl, inr, ◌⊎◌, ⊎_elim, arith, length-append}
-use Rattle.std.specs.Prelude.{is_none, slice_get, nat_le, nat_lt, ◌&&◌}
+use Rattle.std.proofs.Common.{◌≡◌, ℕ, zero, suc, ◌+◌, ◌-◌, ◌*◌, ◌≤◌, List, [], ◌∷◌, ◌++◌, length, map, true, Option, Some, None, Ok, refl, sym, ap, ◌∙◌, subst, inl, inr, arith, length-append}
+use Rattle.std.specs.Prelude.{slice_get, nat_le, nat_lt}
 use Rattle.std.specs.FinSet.{contains}
-use Rattle.std.specs.FinMap as map
 use Rattle.std.proofs.lemmas.Bool.{cond_both, cond-true, cond-false, lt-ltb, le-ltb, and_from}
-use Rattle.std.proofs.lemmas.List.{length-map}
 use Rattle.chaos_packet.specs.Item.{ItemView}
 use Rattle.chaos_packet.specs.Number.{num, off}
 use Rattle.chaos_packet.specs.Opcode.{op_data, kind_of}
-use Rattle.chaos_packet.specs.Packet.{PacketView, item_of}
+use Rattle.chaos_packet.specs.Packet.{PacketView}
 use Rattle.chaos_packet.specs.declared.limits.TheConstants.{MAX_DATA}
 use Rattle.chaos_packet.specs.declared.opcode.Kind.TheVariants as k
-use Rattle.chaos_window.specs.Send.{next_of, outstanding_of}
+use Rattle.chaos_window.specs.Send.{next_of}
 use Rattle.chaos_window.specs.Receive.{after_advance}
 use Rattle.chaos_conn.specs.declared.state.State.TheVariants as st
-use Rattle.chaos_conn.specs.declared.fault.ConnFault.{ConnFault}
 use Rattle.chaos_conn.specs.declared.answers.ReadEnd.{ReadEnd}
 use Rattle.chaos_conn.specs.declared.answers.ReadEnd.TheVariants as gave
 use Rattle.chaos_conn.specs.State.{is_open}
@@ -25,18 +22,18 @@ use Rattle.chaos_conn.specs.Act.{Call, act}
 use Rattle.chaos_conn.specs.Act.Call.{Read, Write}
 use Rattle.chaos_conn.specs.Calls.{can_write, has_window, front_of, act_read, act_write, read_at_open, write_at_most, write_item}
 use Rattle.chaos_serve.specs.Serve.{IsReplyTaken}
-use Rattle.chaos_serve.specs.Work.{Work, LastItem, Command, work_of, work_by, work_of_kind}
+use Rattle.chaos_serve.specs.Work.{LastItem, Command, work_of, work_by, work_of_kind}
 use Rattle.chaos_lab.specs.declared.side.Side.{Side}
 use Rattle.chaos_lab.specs.declared.side.Side.TheVariants.{A, B}
 use Rattle.chaos_lab.specs.declared.stamped.Stamped.{Stamped as Sent}
-use Rattle.chaos_lab.specs.Machine.{PlainEnd as Plain, Kind, Copy, Machine, other, end_of, with_end, OrNothing, Row, Becomes, Step, Write as WriteRow}
+use Rattle.chaos_lab.specs.Machine.{PlainEnd as Plain, Copy, Machine, end_of, OrNothing, Step, Write as WriteRow}
 use Rattle.chaos_lab.specs.Machine.Kind.{Nth}
 use Rattle.chaos_lab.specs.Machine.Event.{WriteAt}
 use Rattle.chaos_lab.specs.Machine.Phase.{Open}
 use Rattle.chaos_lab.specs.Numbers.{told_num}
-use Rattle.chaos_lab.specs.Shown.{IsUsers, there_at}
-use Rattle.chaos_lab.specs.Laboratory.{LabView, Happening, Done, happen, after_all, after_call, call_effect, refusal_of}
-use Rattle.chaos_lab.specs.Laboratory.Happening.{ReadBy, WriteBy}
+use Rattle.chaos_lab.specs.Shown.{IsUsers}
+use Rattle.chaos_lab.specs.Laboratory.{LabView, happen, after_all, after_call, call_effect, refusal_of}
+use Rattle.chaos_lab.specs.Laboratory.Happening.{ReadBy}
 use Rattle.chaos_lab.specs.Tied.{Ties}
 use Rattle.chaos_lab.specs.Turn.{Replies, HasFront, IsTaken, turn_events}
 use Rattle.chaos_lab.proofs.Copies.{KindOk, len_of}
@@ -47,7 +44,7 @@ use Rattle.chaos_lab.proofs.RecvTie.{front_is}
 use Rattle.chaos_lab.proofs.OnSide.{Stepped, conn_at, first_at, items_at, read_at, written_at, refusal_at}
 use Rattle.chaos_lab.proofs.HeadlineLaw.{opened, nth_of}
 use Rattle.chaos_lab.proofs.UserTies.{Refuses, write_ties}
-use Rattle.chaos_lab.proofs.Keeps.{EndKeeps, Keeps, CopyAt, end_same, end_through, front_stays}
+use Rattle.chaos_lab.proofs.Keeps.{EndKeeps, Keeps, CopyAt, front_stays}
 use Rattle.chaos_lab.proofs.Helping.{shows, same_count, read_event, put_at, copies_after, stamp_after, sent_at, sent_what}
 use Rattle.chaos_lab.proofs.OneWay.{AreOpen}
 use Rattle.chaos_file.proofs.Spelling.{both_left}

@@ -1,5 +1,5 @@
 -- From each state in which both ends can settle, all that A wrote is served.
-use Rattle.std.proofs.Common.{◌≡◌, ℕ, zero, suc, ◌+◌, ◌-◌, ◌*◌, ◌<◌, ◌≤◌, max, List, [], ◌∷◌, ◌++◌, length, map, true, refl, sym, ap, ◌∙◌, subst, arith, length-append}
+use Rattle.std.proofs.Common.{◌≡◌, ℕ, ◌+◌, ◌-◌, ◌*◌, ◌≤◌, List, [], ◌∷◌, ◌++◌, length, sym, ap, ◌∙◌, subst, arith, length-append}
 use Rattle.std.specs.Prelude.{slice_get}
 use Rattle.std.specs.FinMap as map
 use Rattle.chaos_conn.specs.View.{ConnView, IsConn}
@@ -8,7 +8,7 @@ use Rattle.chaos_file.specs.Replies.{replies_of}
 use Rattle.chaos_file.proofs.Fitting.{AreSmall, small_after}
 use Rattle.chaos_lab.specs.declared.side.Side.{Side}
 use Rattle.chaos_lab.specs.declared.side.Side.TheVariants.{A, B}
-use Rattle.chaos_lab.specs.Machine.{Machine, other, end_of}
+use Rattle.chaos_lab.specs.Machine.{Machine, end_of}
 use Rattle.chaos_lab.specs.Machine.Phase.{Open}
 use Rattle.chaos_lab.specs.Machine.Kind.{Nth}
 use Rattle.chaos_lab.specs.Laboratory.{LabView, Happening, lab_end, after_all}
@@ -20,20 +20,20 @@ use Rattle.chaos_lab.proofs.Machines.{reached_holds, end_holds}
 use Rattle.chaos_lab.proofs.Lists.{begins_shorter}
 use Rattle.chaos_lab.proofs.OnSide.{conn_at, read_at, written_at}
 use Rattle.chaos_lab.proofs.HeadlineLaw.{open_at}
-use Rattle.chaos_lab.proofs.Keeps.{Keeps, CopyAt, keeps_same, keeps_through}
-use Rattle.chaos_lab.proofs.Helping.{Burst, same_count, shows}
+use Rattle.chaos_lab.proofs.Keeps.{Keeps, keeps_same}
+use Rattle.chaos_lab.proofs.Helping.{same_count, shows}
 use Rattle.chaos_lab.proofs.Playing.{Plays, plays_both}
 use Rattle.chaos_lab.proofs.OneWay.{Timely, HasMoment, AreOpen, Resends, stay_open, same_timely, resent, resends, takes_in}
 use Rattle.chaos_lab.proofs.Settled.{timely, settled, reading_on_few, coming_few}
 use Rattle.chaos_filelab.specs.Bodies.{data_bodies}
-use Rattle.chaos_filelab.specs.View.{FileLabView, commands_of, commands_at_b, replies_to_a, replies_of_b}
+use Rattle.chaos_filelab.specs.View.{FileLabView, commands_at_b}
 use Rattle.chaos_filelab.specs.Kept.{AreAnswered}
 use Rattle.chaos_filelab.specs.Events.{FileHappening}
-use Rattle.chaos_filelab.specs.Settling.{after_events, in_lab, then_on, b_sending, b_hearing, serving, unread, homing, file_settling}
-use Rattle.chaos_filelab.specs.Progress.{CanServe, AllServed, Serves, most_file_events}
+use Rattle.chaos_filelab.specs.Settling.{after_events, in_lab, b_hearing, serving, unread, homing, file_settling}
+use Rattle.chaos_filelab.specs.Progress.{AllServed, Serves, most_file_events}
 use Rattle.chaos_filelab.proofs.QuietEvents.{AreQuiet, quiet_all, quiet_hearing}
-use Rattle.chaos_filelab.proofs.Passed.{Passes, passes_most, passes_lab}
-use Rattle.chaos_filelab.proofs.Fetching.{SavedCopy, Saved, saved_keeps}
+use Rattle.chaos_filelab.proofs.Passed.{passes_most, passes_lab}
+use Rattle.chaos_filelab.proofs.Fetching.{Saved, saved_keeps}
 use Rattle.chaos_filelab.proofs.Walk.{Rests, Ready, Finished, answered_lab, walks}
 
 -- ---- what A sent again

@@ -5,7 +5,7 @@ use Rattle.std.proofs.lemmas.Bool.{cond-true, cond-false}
 use Rattle.chaos_conn.specs.Calls.{front_of}
 use Rattle.chaos_lab.specs.declared.side.Side.{Side}
 use Rattle.chaos_lab.specs.declared.side.Side.TheVariants.{A, B}
-use Rattle.chaos_lab.specs.Laboratory.{LabView, Happening, lab_end, happen, after_all}
+use Rattle.chaos_lab.specs.Laboratory.{LabView, lab_end, happen, after_all}
 use Rattle.chaos_lab.specs.Laboratory.Happening.{ReadBy, AnnounceBy, TickOf, DeliverCopy}
 use Rattle.chaos_lab.specs.Settling.{telling, told, resend_moment, reading, reading_on, coming}
 use Rattle.chaos_filelab.specs.View.{FileLabView}

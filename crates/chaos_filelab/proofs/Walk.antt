@@ -1,7 +1,6 @@
 -- How FILE settles, from the state in which A has sent again what it has no receipt for.
-use Rattle.std.proofs.Common.{◌≡◌, ℕ, zero, suc, ◌+◌, ◌-◌, ◌*◌, ◌<◌, ◌≤◌, List, [], ◌∷◌, ◌++◌, length, map, true, false, Result, Ok, Err, refl, sym, ap, ◌∙◌, subst, inl, inr, ◌⊎◌, ⊎_elim, arith, length-append}
+use Rattle.std.proofs.Common.{◌≡◌, ℕ, zero, suc, ◌+◌, ◌-◌, ◌*◌, ◌≤◌, List, [], ◌∷◌, ◌++◌, length, map, refl, sym, ap, ◌∙◌, subst, inl, inr, ◌⊎◌, ⊎_elim, arith, length-append}
 use Rattle.std.specs.Prelude.{slice_get, nat_lt, is_none}
-use Rattle.std.specs.FinSet.{contains}
 use Rattle.std.proofs.lemmas.Bool.{cond_both, cond-true, cond-false, lt-ltb, le-ltb}
 use Rattle.chaos_packet.specs.Item.{ItemView}
 use Rattle.chaos_packet.specs.Opcode.{op_data, kind_of}
@@ -9,39 +8,33 @@ use Rattle.chaos_packet.specs.declared.opcode.Kind.TheVariants as k
 use Rattle.chaos_conn.specs.Calls.{front_of}
 use Rattle.chaos_file.specs.Step.{file_step}
 use Rattle.chaos_serve.specs.Serve.{IsReplyTaken}
-use Rattle.chaos_serve.specs.Work.{LastItem, Command, work_of}
+use Rattle.chaos_serve.specs.Work.{LastItem, Command}
 use Rattle.chaos_lab.specs.declared.side.Side.{Side}
 use Rattle.chaos_lab.specs.declared.side.Side.TheVariants.{A, B}
-use Rattle.chaos_lab.specs.Machine.{PlainEnd as Plain, Copy, Machine, other, end_of}
-use Rattle.chaos_lab.specs.Machine.Kind.{Nth}
+use Rattle.chaos_lab.specs.Machine.{Machine}
 use Rattle.chaos_lab.specs.Machine.Phase.{Open}
-use Rattle.chaos_lab.specs.Shown.{IsUsers}
 use Rattle.chaos_lab.specs.Laboratory.{LabView, Happening, happen, after_all}
 use Rattle.chaos_lab.specs.Laboratory.Happening.{ReadBy, DeliverCopy}
 use Rattle.chaos_lab.specs.Settling.{telling, told, reading}
 use Rattle.chaos_lab.specs.Tied.{Ties}
-use Rattle.chaos_lab.specs.Turn.{Reads, Replies, turn_events}
-use Rattle.chaos_lab.proofs.Machines.{reached_holds, end_holds}
-use Rattle.chaos_lab.proofs.Lists.{begins_shorter}
 use Rattle.chaos_lab.proofs.OnSide.{read_at, written_at}
-use Rattle.chaos_lab.proofs.Keeps.{EndKeeps, Keeps, CopyAt, keeps_through}
 use Rattle.chaos_lab.proofs.Helping.{same_count}
 use Rattle.chaos_lab.proofs.Playing.{Plays, plays_none, plays_both}
-use Rattle.chaos_lab.proofs.OneWay.{AreOpen, IsDone as KnowsAll, stay_open, done_keeps, item_comes, told_by}
+use Rattle.chaos_lab.proofs.OneWay.{AreOpen, IsDone as KnowsAll, stay_open, item_comes, told_by}
 use Rattle.chaos_filelab.specs.Bodies.{data_bodies}
 use Rattle.chaos_filelab.specs.View.{FileLabView}
 use Rattle.chaos_filelab.specs.Kept.{AreAnswered}
 use Rattle.chaos_filelab.specs.Events.{FileHappening, At, Serve}
 use Rattle.chaos_filelab.specs.Exact.{FileDone, serve_work, file_happen}
-use Rattle.chaos_filelab.specs.Settling.{after_events, in_lab, then_on, no_more, fetching, asking, replying, answering, serving}
+use Rattle.chaos_filelab.specs.Settling.{in_lab, then_on, fetching, asking, replying, answering, serving}
 use Rattle.chaos_filelab.specs.Progress.{IsDone}
 use Rattle.chaos_filelab.proofs.RepliesLaw.{GoOn}
 use Rattle.chaos_filelab.proofs.QuietSteps.{PhaseLaws}
-use Rattle.chaos_filelab.proofs.QuietEvents.{AreQuiet, quiet_all, quiet_both, quiet_telling, quiet_replying}
+use Rattle.chaos_filelab.proofs.QuietEvents.{AreQuiet, quiet_all, quiet_replying}
 use Rattle.chaos_filelab.proofs.Passed.{Passes, passes_none, passes_most, passes_first, passes_lab}
 use Rattle.chaos_file.proofs.Fitting.{AreSmall, fits}
-use Rattle.chaos_filelab.proofs.Fetching.{SavedCopy, Saved, saved_keeps, asked}
-use Rattle.chaos_filelab.proofs.Serving.{AtFront, Goes, Served, IsReply, at_front, work_eof, work_data, serves_eof, serves_command}
+use Rattle.chaos_filelab.proofs.Fetching.{Saved, saved_keeps, asked}
+use Rattle.chaos_filelab.proofs.Serving.{AtFront, Goes, IsReply, at_front, work_eof, work_data, serves_eof, serves_command}
 use Rattle.chaos_filelab.proofs.Answered.{answered_same, answered_eof, answered_more}
 
 -- the laws that this rests on

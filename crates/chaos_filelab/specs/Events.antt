@@ -1,5 +1,5 @@
 -- The events of a laboratory whose B serves FILE.
-use Rattle.std.specs.Prelude.{◌≡◌, ◌≢◌, ℕ, Bool, true, false, List, [], ◌∷◌, take, Option, Some, None, slice_get, Result, Ok, Err, ◌⊎◌, ⊤}
+use Rattle.std.specs.Prelude.{◌≡◌, ◌≢◌, ℕ, Bool, true, false, List, [], ◌∷◌, take, Some, None, slice_get, Result, Ok, Err, ◌⊎◌, ⊤}
 use Rattle.std.specs.Bool.{MatchBool}
 use Rattle.chaos_serve.specs.Work.{work_of}
 use Rattle.chaos_serve.specs.declared.served.Served.{Served}

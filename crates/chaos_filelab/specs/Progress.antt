@@ -1,5 +1,5 @@
 -- Words of the law of progress of FILE.
-use Rattle.std.specs.Prelude.{◌≡◌, ◌≤◌, ℕ, false, List, [], ◌∷◌, length, Result, Ok, Err, ⊤}
+use Rattle.std.specs.Prelude.{◌≡◌, ◌≤◌, ℕ, false, List, [], ◌∷◌, length, Result, Ok, ⊤}
 use Rattle.std.specs.FinMap as map
 use Rattle.chaos_file.specs.Replies.{replies_of}
 use Rattle.chaos_serve.specs.declared.served.Served.TheVariants as told

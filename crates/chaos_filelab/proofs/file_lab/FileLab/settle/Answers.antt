@@ -1,4 +1,4 @@
-use Rattle.std.proofs.Common.{rules, ◌≡◌, ◌∷◌, true, false, inl, inr, sym, ap, ◌∙◌}
+use Rattle.std.proofs.Common.{◌≡◌, ◌∷◌, false, inl, inr, sym, ap, ◌∙◌}
 use Rattle.std.specs.Prelude.{is_err}
 use Rattle.chaos_filelab.specs.View.{FileLabView, wrote_mem}
 use Rattle.chaos_filelab.specs.Events.{FileHappening, file_event}
