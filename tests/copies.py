@@ -30,6 +30,9 @@ import program  # noqa: E402
 from files import CLIENT, FILE_LIMIT, LONG, SERVER, USUAL_WINDOW, Lossy, Serving, at, free_ports, mixed_content, serving, started, stored_problems  # noqa: E402
 from program import BAD_LINE, DONE, FAULT, REFUSED, Checks, Ended, run  # noqa: E402
 
+# The window that a copy announces where none is asked for; the server's is the usual one. Neither announces another later.
+COPYING_WINDOW = 64
+
 SIZES = [0, 1, 447, 448, 449, 100_000, FILE_LIMIT]
 NOBODY = 65534
 NO_FILE = b"chaosd: %s: FNF No such file.\n"
@@ -557,7 +560,7 @@ def losing_network(checks):
             several = max((head[3] for head in network.heads if head[2] == 2), default=0)
             problems += [] if (several > 1) == (version == 2) else [f"at most {several} packets went out in a datagram of version 2"]
             told = network.windows
-            problems += [f"windows of {told} were told"] if version == 1 and told != {USUAL_WINDOW} else []
+            problems += [f"windows of {told} were told"] if version == 1 and told != {USUAL_WINDOW, COPYING_WINDOW} else []
             checks.check(f"{subcommand} --carriage {version} over a network that loses, repeats and reorders", problems)
         network.socket.close()
         server.end()

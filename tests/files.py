@@ -784,7 +784,7 @@ class Waiting:
             checks.check(f"ask {name}: `no reply` once, status 3, and why on standard error", problems)
 
 
-# The opcodes of packets that tell a status, OPN and STS, and the window that both ends announce: they never announce another.
+# The opcodes of packets that tell a status, OPN and STS, and the window that `serve` and `ask` announce: they never announce another.
 STATUSES, USUAL_WINDOW = (0o2, 0o7), 13
 
 
