@@ -4,8 +4,10 @@ import os
 import resource
 import select
 import subprocess
+import unittest
 
-from tests.support import BAD_LINE, DONE, FAULT, INPUT_LIMIT, NO_MEMORY, PATIENCE, PROGRAM, REFUSED, ROOT, Case, Ended, folder, run, within
+from tests.support import BAD_LINE, DONE, FAULT, INPUT_LIMIT, IS_CHECKED, NO_MEMORY, PATIENCE, PROGRAM, REFUSED, ROOT
+from tests.support import Case, Ended, folder, run, within
 
 EXAMPLES = ROOT / "examples/lab"
 FILE_EXAMPLES = ROOT / "examples/filelab"
@@ -259,6 +261,7 @@ class Limits(Case):
         ended = run(["lab"], script[:-7] + b"read c\n" + b"read a\n")
         self.check("a bad line within the limit is met first", ended.problems(BAD_LINE, text[:-13], [b"line %d: bad\n" % (count + 1)]))
 
+    @unittest.skipIf(IS_CHECKED, "checks reserve more memory than the limit")
     def test_a_script_ends_at_an_event_that_finds_no_memory(self):
         """With little memory a long script ends at an event that finds none."""
         script = OPEN + b"".join(b"write a 200 x\ndeliver %d\nread b\n" % (3 + n) for n in range(3))

@@ -35,8 +35,10 @@ SERVER, CLIENT = 0o401, 0o402
 # The window that `serve` and `ask` announce, and the one of a copy. They never announce another.
 USUAL_WINDOW, COPYING_WINDOW = 13, 64
 
+# Whether the program is one that `tools/checked` compiled: it takes ten times as long, and reserves memory of its own.
+IS_CHECKED = PROGRAM.parent.name == "checked"
 # Seconds: no check of one process waits longer; what may wait for a thousand turns; what must not wait.
-PATIENCE, LONG, SOON = 20, 60, 5
+PATIENCE, LONG, SOON = (120, 180, 15) if IS_CHECKED else (20, 60, 5)
 
 
 class Case(unittest.TestCase):
