@@ -13,17 +13,19 @@ REFUSED = re.compile(r"^(?:rt: )?must-fail \w+/(\S+)\.edit: refused, as it must 
 
 
 class Verdict:
-    """What a check says of a crate: whether it came to a verdict, and at which places goals aren't proved."""
+    """What a check says of a crate: whether it came to a verdict, which it was, and at which places goals aren't proved."""
 
     def __init__(self, said):
         found = VERDICT.search(said)
-        self.is_there, self.is_proved = bool(found), bool(found) and found[1] == "proved"
+        self.is_there = bool(found)
+        self.is_proved = self.is_there and found[1] == "proved"
         self.lines = {(path, int(line)) for path, line in GOAL.findall(said)}
         self.folders = {folder for folder, why in ANSWER.findall(said) if not UNREAD.search(why)}
 
     def refuses(self, span):
-        """Whether a goal isn't proved of the function that stands at this span."""
-        return span.folder in self.folders or any(path == span.path and span.first <= line <= span.last for path, line in self.lines)
+        """Whether the check came to a verdict, in which a goal isn't proved of the function that stands at this span."""
+        in_source = any(path == span.path and span.first <= line <= span.last for path, line in self.lines)
+        return self.is_there and (in_source or span.folder in self.folders)
 
     def blames(self, spans):
         """Whether each goal that isn't proved is one of these functions."""

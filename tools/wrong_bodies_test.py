@@ -1,7 +1,7 @@
 """Tests of tools/wrong-bodies: what it reads of kept outputs of `rt`, what its sums cover, and how it tries wrong bodies.
 
 `tools/wrong-bodies --self-test` runs them. In the place of `rt` stands a program that takes each line with the word WRONG for a goal
-that isn't proved.
+that isn't proved, and can't read the word BROKEN.
 """
 
 import os
@@ -66,6 +66,7 @@ EDITS = {
     "limit": ("pub const MOST: u8 = twice(8);", "pub const MOST: u8 = WRONG;"),
     "const": ("    n + n", "    WRONG"),
     "harmless": ("    let one = n;", "    let one = n + 0;"),
+    "broken": ("    let one = n;", "    let one = BROKEN;"),
 }
 
 RT = """#!/usr/bin/env python3
@@ -81,7 +82,10 @@ if sys.argv[1] == "must-fail":
         print(f"rt: must-fail {sys.argv[2]}/{edit.name}: " + ("refused, as it must be" if is_wrong else "NOT REFUSED: the crate is proved"))
     sys.exit()
 (here / "out/incremental").mkdir(parents=True, exist_ok=True)
-lines = (here / "src/lib.rt").read_text().split("\\n")
+text = (here / "src/lib.rt").read_text()
+if "BROKEN" in text:
+    sys.exit("error[name]: src/lib.rt:11:15: there is no BROKEN")
+lines = text.split("\\n")
 wrong = [number for number, line in enumerate(lines, 1) if "WRONG" in line]
 for number in wrong:
     print(f"note: src/lib.rt:{number}:5: it is not proved that what the function ensures holds")
@@ -247,6 +251,19 @@ class Refused(Example):
         (self.top / "crates/high/wrong-bodies/one.edit").unlink()
         self.tried()
         self.assertNotIn("high one ", (self.top / "docs/wrong-bodies.sums").read_text())
+
+
+class Unread(Example):
+    """One that can't be compiled, beside others."""
+
+    names = ("two", "broken")
+
+    def test_it_fails_and_the_others_are_tried_without_it(self):
+        status, lines, asked = self.tried()
+        self.assertEqual((1, "1 passed, 1 failed"), (status, lines[-1]))
+        self.assertIn("high/broken: NOT REFUSED", lines)
+        # the crate as it stands; both; each of the two; broken once more, and alone
+        self.assertEqual(["check"] * 5 + ["must-fail"], asked)
 
 
 class Passed(Example):
