@@ -37,7 +37,7 @@ fmt-check: ## names the files that aren't laid out
 lint: ## looks over documents, links, scripts and tracked files, in seconds
 	@tools/lint
 
-wrong-bodies: ## the wrong bodies that the gate leaves out, for before a release: about an hour
+wrong-bodies: ## tries each wrong body of wrong-bodies/, of which the gate tries those that a change bears on: for before a release, and for a new kit
 	@RT=$(RT) tools/wrong-bodies
 
 dialogues: $(DIALOGUES) ## random dialogues between two hosts, a million packets from a seed of the clock's; SEED=.. PACKETS=..

@@ -32,6 +32,8 @@ class Function:
         self.clauses = []
         # its text up to its first clause
         self.head = ""
+        # the places in its file between which its body stands, where it has one
+        self.body = None
 
     def ensures(self):
         return [clause for clause in self.clauses if clause.word == "ensures"]
@@ -188,6 +190,7 @@ class Crate:
             function.head = function.head or self.readable[found.start() : clause.start() if clause else ends.start()]
             at = end_of_braces(text, ends.start())
             if not clause:
+                function.body = ends.start(), at
                 return at
             if clause.group("word") != "ghost":
                 # The text begins with the blanks before it, so that its lines keep their places to each other.
