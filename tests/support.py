@@ -1,7 +1,7 @@
 """What the tests of the program share: checks, runs of the program, ports, folders, servers and networks of 127.0.0.1.
 
     python3 -m unittest tests.copies            the tests of one file, from the top of the repository
-    python3 -m unittest tests.copies -k lost    those with a word in their names
+    python3 -m unittest tests.copies -k window  those with a word in their names
     make test NAME=copies                       the same, and what they need is compiled first
 
 The program is bin/chaosd, or the one that CHAOSD names.
@@ -203,15 +203,15 @@ def free_ports(count):
 
 
 class Serving:
-    """`serve` as host 000401 on a folder, with peers from 000402 on."""
+    """`serve` as host 000401 on a folder, with peers from 000402 on, and others that are given as words of its line."""
 
-    def __init__(self, folder, peers=1, options=(), prepare=lambda: None):
+    def __init__(self, folder, peers=1, options=(), prepare=lambda: None, others=()):
         self.folder = pathlib.Path(folder)
         self.port, *self.peers = free_ports(1 + peers)
         words = [f"{CLIENT + n:o}={at(port)}" for n, port in enumerate(self.peers)]
-        line = ["serve", *options, "401", at(self.port), folder, *words]
+        line = ["serve", *options, "401", at(self.port), folder, *words, *others]
         self.process = started(line, prepare, stderr=subprocess.PIPE, stdout=subprocess.PIPE)
-        self.told = [b"401", at(self.port).encode(), str(folder).encode()]
+        self.told = [] if "--quiet" in options else [b"401", at(self.port).encode(), str(folder).encode()]
         self.said = b""
         while self.untold() and (line := line_of(self.process.stderr)):
             self.said += line
@@ -249,12 +249,13 @@ def serving(peers=1, options=(), prepare=lambda: None):
 
 class Relay(threading.Thread):
     """A network between a server and a client, each at a port. What becomes of each datagram is what `passed` says: by default it is
-    handed on."""
+    handed on. To the client the network stands for the server: it has a port, and a peer at another."""
 
     def __init__(self, port, ends):
         super().__init__(daemon=True)
         self.socket = socket.socket(socket.AF_INET, socket.SOCK_DGRAM)
         self.socket.bind(("127.0.0.1", port))
+        self.port, self.peers = port, [ends[1]]
         self.other = {ends[0]: ends[1], ends[1]: ends[0]}
 
     def run(self):
@@ -299,3 +300,15 @@ class Lossy(Relay):
             return []
         late, self.late = self.late, None
         return [(datagram, port)] * (2 if chance == 2 else 1) + ([late] if late else [])
+
+
+@contextlib.contextmanager
+def network_before(server, make=Relay):
+    """A network between a server and its first peer."""
+    (client,) = free_ports(1)
+    network = make(server.peers[0], (server.port, client))
+    network.start()
+    try:
+        yield network
+    finally:
+        network.close()
