@@ -1,34 +1,24 @@
-#!/usr/bin/env python3
 """Tests tools/wireshark/chaosnet.lua by tshark: a FILE session between `serve` and `ask`, and 2,000 datagrams, good and bad,
 which tshark and `chaosd show` have to read alike, field by field.
 
-    make && tests/dissector.py [PROGRAM]
-
-PROGRAM is bin/chaosd by default. Captures are written by the test itself, from datagrams that it made or that a relay between the
-two programs saw, so that no right to capture is needed. Where tshark isn't installed all is left out, and 0 checks are counted.
-One line is printed for each check, and the count at the end. The status is 0 where all checks held, and else 1.
+Captures are written by the test itself, from datagrams that it made or that a relay between the two programs saw, so that no right
+to capture is needed.
 """
 
-import contextlib
 import os
 import pathlib
 import random
 import re
 import shutil
-import socket
 import struct
 import subprocess
-import sys
 import tempfile
-import threading
+import unittest
 
-sys.dont_write_bytecode = True
-import files  # noqa: E402
-import program  # noqa: E402
-from files import CLIENT, CLS, DATA, DATA_LIMIT, EOF, LOS, OPN, RFC, SERVER, SNS, STS, datagram  # noqa: E402
-from program import DONE, Checks, run  # noqa: E402
+from tests.packets import ANS, CLS, DATA, EOF, FWD, LOS, LSN, OPN, RFC, SNS, STS, datagram
+from tests.scripts import text_of
+from tests.support import CLIENT, DATA_LIMIT, DONE, LONG, PROGRAM, ROOT, SERVER, Case, Relay, at, folder, free_ports, run, serving
 
-ROOT = program.HERE.parent
 DISSECTOR = ROOT / "tools/wireshark/chaosnet.lua"
 PROTOCOL = ROOT / "docs/PROTOCOL.md"
 SCRIPTS = ROOT / "docs/SCRIPTS.md"
@@ -36,8 +26,8 @@ HELLO, LOGIN = ROOT / "examples/hello.file", ROOT / "examples/login.hex"
 
 # The sockets that stand in the captures, as in the README.
 SERVER_PORT, CLIENT_PORT = 9001, 9002
+NO_SERVER = b"No server for this contact name."
 MARK_1, MARK_2 = b"CH\x01\x00", b"CH\x02"
-FWD, ANS, LSN = 0o4, 0o5, 0o12
 # What the texts of docs/SCRIPTS.md were printed by.
 DOCUMENTED = "4.0"
 
@@ -73,7 +63,7 @@ class Tshark:
         capture = self.home / "capture.pcap"
         capture.write_bytes(datagrams if isinstance(datagrams, bytes) else captured(datagrams))
         line = ["tshark", "-r", capture, "-X", f"lua_script:{DISSECTOR}", *words]
-        ended = subprocess.run(line, env=self.environment, capture_output=True, text=True, timeout=program.PATIENCE * 6)
+        ended = subprocess.run(line, env=self.environment, capture_output=True, text=True, timeout=2 * LONG)
         self.said += "".join(line + "\n" for line in ended.stderr.splitlines() if "Running as" not in line)
         return ended.stdout
 
@@ -100,34 +90,28 @@ def differences(seen, wanted, limit=3):
 # A session between `serve` and `ask`.
 
 
-class Relay(threading.Thread):
-    """A network between a server and a client that writes down each datagram."""
+class Noting(Relay):
+    """A network that notes each datagram, with the two sockets that stand for its ends in the captures."""
 
     def __init__(self, port, server, client):
-        super().__init__(daemon=True)
-        self.socket = socket.socket(socket.AF_INET, socket.SOCK_DGRAM)
-        self.socket.bind(("127.0.0.1", port))
-        self.other = {server: client, client: server}
+        super().__init__(port, (server, client))
         self.name_of = {server: SERVER_PORT, client: CLIENT_PORT}
         self.seen = []
 
-    def run(self):
-        with contextlib.suppress(OSError, KeyError):
-            while True:
-                payload, (_, port) = self.socket.recvfrom(2_048)
-                self.seen.append((self.name_of[port], self.name_of[self.other[port]], payload))
-                self.socket.sendto(payload, ("127.0.0.1", self.other[port]))
+    def passed(self, datagram, port):
+        self.seen.append((self.name_of[self.other[port]], self.name_of[port], datagram))
+        return super().passed(datagram, port)
 
 
 def session(script):
     """What `ask` printed for a script, and the datagrams between it and `serve`."""
-    with files.serving() as server:
-        (client,) = files.free_ports(1)
-        relay = Relay(server.peers[0], server.port, client)
-        relay.start()
-        ended = run(["ask", "402", files.at(client), "401", f"401={files.at(server.peers[0])}"], script)
-        relay.socket.close()
-    return ended, relay.seen
+    with serving() as server:
+        (client,) = free_ports(1)
+        network = Noting(server.peers[0], server.port, client)
+        network.start()
+        ended = run(["ask", "402", at(client), "401", f"401={at(server.peers[0])}"], script)
+        network.close()
+    return ended, network.seen
 
 
 PARTS = ["tid", "handle", "command", "answer", "user", "mode", "path", "length", "bytes"]
@@ -143,71 +127,6 @@ HELLO_PARTS = [
     (["T7", "H2", "READ", "", "", "", "", "", ""], ["T7", "H2", "", "EOF", "", "", "", "", ""]),
     (["T8", "H2", "CLOSE", "", "", "", "", "", ""], ["T8", "H2", "", "CLOSE", "", "", "", "39", ""]),
 ]
-
-
-def hello(checks, tshark):
-    """The session of examples/hello.file: nothing is given but the capture."""
-    ended, seen = session(HELLO.read_bytes())
-    checks.check("ask and serve speak through the relay", ended.problems(DONE))
-    names = ["chaosnet.file.line", *(f"chaosnet.file.{part}" for part in PARTS)]
-    rows = tshark.fields(seen, names, "-Y", "chaosnet.file and not chaosnet.analysis.retransmission")
-    lines = [line for pair in zip(HELLO.read_text().splitlines(), ended.out.decode().splitlines()) for line in pair]
-    checks.check("FILE's commands and replies are those of the script and of `ask`", differences([row[0] for row in rows], lines))
-    checks.check("and so are their parts", differences([row[1:] for row in rows], [row for pair in HELLO_PARTS for row in pair]))
-    ops = [int(payload[4]) for _, _, payload in seen]
-    rows = tshark.fields(seen, ["chaosnet.op", "chaosnet.stream", "chaosnet.contact", "chaosnet.fault"])
-    wanted = [[str(op), "0", "FILE" if op == RFC else "", ""] for op in ops]
-    checks.check("each datagram is recognized by its mark, and of one stream", differences(rows, wanted))
-    first = {kind: n for n, kind in reversed(list(enumerate(ops, 1)))}
-    problems = [] if {RFC, OPN, STS, DATA, EOF, CLS} <= set(first) else [f"there are {ops}"]
-    checks.check("there are RFC, OPN, STS, data, EOF and CLS", problems)
-
-
-def matching(checks, tshark):
-    """A reply names its command's frame, and in a second pass the other way round; what comes again is told."""
-    me, host, new = (CLIENT, 0o1405), (SERVER, 0), (SERVER, 1)
-    up = [datagram(RFC, host, me, 65_535, 0, b"FILE 1 2"), datagram(DATA, new, me, 0, 7, b"T  LOGIN M"), datagram(DATA, new, me, 1, 7, b"T  X")]
-    down = [datagram(OPN, me, new, 7, 65_535, bytes(4)), datagram(DATA, me, new, 8, 0, b"T  LOGIN M")]
-    down += [datagram(DATA, me, new, 9, 1, b"T  ERROR UKC Unknown command.")]
-    order = [up[0], down[0], up[1], up[1], up[2], down[2], down[1], down[1]]
-    seen = [(CLIENT_PORT, SERVER_PORT, each) if each in up else (SERVER_PORT, CLIENT_PORT, each) for each in order]
-    names = ["chaosnet.file.command_in", "chaosnet.file.reply_in", "chaosnet.analysis.first_in", "chaosnet.args", "chaosnet.file.error.code"]
-    wanted = [["", "", "", "1 2", ""], ["", "", "", "", ""], ["", "7", "", "", ""], ["", "7", "3", "", ""], ["", "6", "", "", ""]]
-    wanted += [["5", "", "", "", "UKC"], ["3", "", "", "", ""], ["3", "", "7", "", ""]]
-    checks.check("commands and replies find each other, and what comes again is told", differences(tshark.fields(seen, names, "-2"), wanted))
-    for wanted, frames in [
-        ("chaosnet.op == 0200 and chaosnet.file.command", [3, 4, 5]),
-        ("chaosnet.op >= 0200 and chaosnet.file.answer", [6, 7, 8]),
-        ("chaosnet.dst.addr == 0401", [1, 3, 4, 5]),
-        ("chaosnet.src.index == 01405", [1, 3, 4, 5]),
-        ("chaosnet.addr == 0402 and chaosnet.index == 01405", list(range(1, 9))),
-        ("chaosnet.op == OPN", [2]),
-        ("chaosnet.op == 1", [1]),
-        ("chaosnet.analysis.retransmission", [4, 8]),
-        ("chaosnet.file.form", [5]),
-        ("chaosnet.file.error", [6]),
-        ("chaosnet.file.error.code == \"UKC\"", [6]),
-    ]:
-        checks.check(f"the filter {wanted}", differences(tshark.frames(seen, wanted), frames))
-
-
-def texts(checks, tshark):
-    """What the data of a packet is by its opcode: typed."""
-    me, host = (CLIENT, 1), (SERVER, 0)
-    rows = [
-        (RFC, b"TIME", ["TIME", "", "", "", "", "54494d45"]),
-        (LSN, b"FILE a\x8d b", ["FILE", "a^ b", "", "", "", b"FILE a\x8d b".hex()]),
-        (CLS, b"No server for this contact name.", ["", "", "No server for this contact name.", "", "", b"No server for this contact name.".hex()]),
-        (LOS, b"gone", ["", "", "gone", "", "", "676f6e65"]),
-        (FWD, b"^\\", ["", "", r"\5e\5c", "", "", "5e5c"]),
-        (ANS, b"A", ["", "", "", "", "", "41"]),
-        (OPN, b"\x01\x00\x0d\x01\xff", ["", "", "", "1", "269", ""]),
-        (STS, b"\x01\x00\x0d", ["", "", "", "", "", "01000d"]),
-        (SNS, b"", [""] * 6),
-    ]
-    seen = [(CLIENT_PORT, SERVER_PORT, datagram(op, host, me, 0, 0, body)) for op, body, _ in rows]
-    names = [f"chaosnet.{name}" for name in ["contact", "args", "text", "receipt", "window", "data"]]
-    checks.check("contact, arguments, text and status, typed", differences(tshark.fields(seen, names), [row for _, _, row in rows]))
 
 
 LINE_PARTS = [*PARTS, "path.to", "error.code", "error.text"]
@@ -233,45 +152,12 @@ REPLIES = [
 ]
 
 
-def file_lines(checks, tshark):
-    """Typed commands and replies, with their parts."""
-    me, host, new = (CLIENT, 1), (SERVER, 0), (SERVER, 1)
-    front = [datagram(RFC, host, me, 0, 0, b"FILE"), datagram(OPN, me, new, 0, 0, bytes(4))]
-    up = [datagram(DATA, new, me, n, 0, line) for n, (line, _) in enumerate(COMMANDS, 1)]
-    down = [datagram(DATA, me, new, n, 0, line) for n, (line, _) in enumerate(REPLIES, 1)]
-    seen = [(CLIENT_PORT, SERVER_PORT, each) for each in front + up + down]
-    rows = tshark.fields(seen, [f"chaosnet.file.{part}" for part in ["line", "form", *LINE_PARTS]])[2:]
-    for (line, parts), (shown, *row) in zip(COMMANDS + REPLIES, rows):
-        wanted = ["", *(parts.get(part, "") for part in LINE_PARTS)] if parts else ["1"]
-        text = files.text_of(line).decode()
-        checks.check(f"{line!r}", differences([shown, row if parts else row[:1]], [text, wanted]))
-    checks.check("each is a line of FILE", differences([len(rows)], [len(COMMANDS + REPLIES)]))
-
-
-def recognition(checks, tshark):
-    """What is taken for Chaosnet: by the mark and a version, after one such, and on a port that was named."""
-    good = datagram(STS, (SERVER, 1), (CLIENT, 1), 0, 0, bytes(4))
-    other = with_bytes(good, 0, b"XY")
-    seen = [(CLIENT_PORT, SERVER_PORT, each) for each in (other, good[:2], with_bytes(good, 2, b"\x03"), b"")]
-    seen += [(CLIENT_PORT, SERVER_PORT, good), (SERVER_PORT, CLIENT_PORT, other), (CLIENT_PORT + 1, SERVER_PORT, other)]
-    for name, words, frames in [
-        ("the mark and a version, and what goes between the same sockets later", [], [5, 6]),
-        ("all but the empty one, on a port of the preference", ["-o", f"chaosnet.ports:{SERVER_PORT}"], [1, 2, 3, 5, 6, 7]),
-        ("and on a port that is decoded as it", ["-d", f"udp.port=={SERVER_PORT},chaosnet"], [1, 2, 3, 5, 6, 7]),
-    ]:
-        checks.check(f"recognized: {name}", differences(tshark.frames(seen, "chaosnet", *words), frames))
-    for kept in (4, 19, len(good) - 1):
-        rows = tshark.fields(captured(seen[4:5], 28 + kept), ["chaosnet.cut", "chaosnet.fault"])
-        checks.check(f"a datagram of which {kept} bytes were kept is cut, and has no fault", differences(rows, [["1", ""]]))
-
-
 # The same datagrams through tshark and `show`.
 
 KNOWN = [1, 2, 3, 4, 5, 6, 7, 9, 10, 12, 13, 0o200, 0o201, 0o277, 0o300, 0o377]
 ENDS = [(0o401, 0), (0o401, 0o1001), (0o402, 0o1405), (0o402, 0), (0o177777, 0o177777)]
 TEXTS = [b"FILE", b"FILE 1 2", b"T1  LOGIN LISPM", b"T2 H OPEN READ\x8dA.LISP", b"T  ERROR SYN Bad command syntax.", b"T H WRITE\x8d^\\\x00"]
 TEXTS += [b"T H OPEN 9999999999999999999999", b"T H RENAME\x8dA\x8dB\x8dC", b"T  LOGIN \xff", b"FILE\x00 \x8d", b"  ERROR  "]
-
 
 
 def random_words(dice):
@@ -326,7 +212,8 @@ def packets_of(values, name_list):
     for name in name_list:
         op, fwd, count, *ends, num, ack = (int(take[field]()) for field in FIELDS[:9])
         named = f"op {op:03o}" + ("" if name == f"{op:03o}" else f" {name}")
-        lines = [named, f"fwd {fwd} count {count}", "to {:06o} {:06o}".format(*ends[:2]), "from {:06o} {:06o}".format(*ends[2:]), f"num {num} ack {ack}"]
+        lines = [named, f"fwd {fwd} count {count}", "to {:06o} {:06o}".format(*ends[:2]), "from {:06o} {:06o}".format(*ends[2:])]
+        lines.append(f"num {num} ack {ack}")
         if op in (OPN, STS) and count >= 4:
             lines.append(f"receipt {take['receipt']()} window {take['window']()}")
         elif count:
@@ -347,54 +234,12 @@ def reports_of(rows):
 def shown(datagrams):
     """The report of each datagram, by `show`, in several runs, since an input has a limit. One of several packets begins with their
     number."""
-    for at in range(0, len(datagrams), 200):
-        ended = run(["show"], "\n".join(payload.hex() for payload in datagrams[at : at + 200]).encode())
+    for first in range(0, len(datagrams), 200):
+        ended = run(["show"], "\n".join(payload.hex() for payload in datagrams[first : first + 200]).encode())
         blocks = iter(ended.out.decode().removesuffix("\n").split("\n\n"))
         for block in blocks:
             several = re.fullmatch(r"carriage 2 packets (\d)", block)
             yield "\n\n".join([block] + [next(blocks) for _ in range(int(several[1]) if several else 0)])
-
-
-def both_ways(checks, tshark):
-    """The same datagrams, field by field."""
-    datagrams = made_up()
-    seen = [(CLIENT_PORT, SERVER_PORT, each) for each in datagrams]
-    names = ["chaosnet.fault", "chaosnet.packets", "_ws.col.Info", *(f"chaosnet.{name}" for name in FIELDS)]
-    rows = tshark.fields(seen, names, "-d", f"udp.port=={SERVER_PORT},chaosnet")
-    wanted = list(shown(datagrams))
-    faults = [report.split()[1] for report in wanted if report.startswith("fault")]
-    problems = [] if set(faults) == set("12345678") and len(faults) > COUNT / 4 else [f"{len(faults)}, only {set(faults)}"]
-    checks.check(f"among {COUNT} datagrams each fault stands", problems)
-    checks.check("and several of version 2 that are read", [] if sum(report.startswith("carriage 2") for report in wanted) > COUNT / 20 else ["too few"])
-    checks.check(f"{COUNT} datagrams are read by tshark and by `show` alike", differences(list(reports_of(rows)), wanted))
-    checks.check("nothing stops the dissector", differences(tshark.frames(seen, "_ws.lua.error", "-d", f"udp.port=={SERVER_PORT},chaosnet"), []))
-    piped = tshark.run(seen, "-T", "fields", "-e", "udp.payload")
-    checks.check("`show` reads what tshark prints of udp.payload", differences(piped.split(), [each.hex() for each in datagrams]))
-
-
-def several_packets(checks, tshark):
-    """Version 2: two packets in a datagram, and each of its faults, typed."""
-    sts = bytes.fromhex("0700 0004 0101 0201 0102 0305 0000 0010 0012 000D")
-    dat = bytes.fromhex("8000 0001 0101 0201 0102 0305 0005 0010 0041")
-    greatest = bytes.fromhex("8000 01E8 0101 0201 0102 0305 0005 0010") + bytes(DATA_LIMIT)
-    rows = [
-        (b"\x02" + sts + dat, "", "7,128"),
-        (b"\x03" + sts + dat, "fault 8 PacketAt 3 1 Short", "7,128"),
-        (b"\x01" + sts + dat, "fault 5 Trailing", "7"),
-        (b"\x00" + sts + dat, "fault 6 BadNumber", ""),
-        (b"\x09" + sts + dat, "fault 6 BadNumber", ""),
-        (b"\x04" + greatest * 4, "", "128,128,128,128"),
-        (b"\x04" + greatest * 4 + b"x", "fault 7 TooLong", ""),
-        (b"\x02" + sts + dat[:2] + b"\x01\xe9" + dat[4:], "fault 8 PacketAt 2 2 BadCount", "7,128"),
-        (b"\x02" + sts + dat[:-1], "fault 8 PacketAt 2 3 Truncated", "7,128"),
-        (b"", "fault 1 Short", ""),
-    ]
-    seen = [(CLIENT_PORT, SERVER_PORT, MARK_2 + rest) for rest, _, _ in rows]
-    table = tshark.fields(seen, ["chaosnet.fault", "chaosnet.op"])
-    checks.check("datagrams of version 2, typed", differences(table, [[fault, ops] for _, fault, ops in rows]))
-    reports = list(shown([payload for _, _, payload in seen]))
-    fronts = [fault or f"carriage 2 packets {len(ops.split(','))}" for _, fault, ops in rows]
-    checks.check("and `show` says so too", differences([report.partition("\n")[0] for report in reports], fronts))
 
 
 # docs/PROTOCOL.md and docs/SCRIPTS.md.
@@ -415,46 +260,167 @@ def documented_commands():
             yield line, text
 
 
-def document(checks, tshark):
-    """docs/SCRIPTS.md shows what its commands print, of the datagrams in the table of docs/PROTOCOL.md."""
-    hexes = [bytes.fromhex(line) for line in LOGIN.read_text().splitlines()]
-    checks.check("examples/login.hex has the datagrams of the table", differences(documented_session(), hexes))
-    if not tshark.version().startswith(DOCUMENTED):
-        print(f"(tshark is {tshark.version()}: what docs/SCRIPTS.md shows of {DOCUMENTED} isn't compared)")
-        return
-    with tempfile.TemporaryDirectory() as home:
-        for name in ["examples", "tools"]:
-            (pathlib.Path(home) / name).symlink_to(ROOT / name)
-        (pathlib.Path(home) / "bin").mkdir()
-        (pathlib.Path(home) / "bin/chaosd").symlink_to(program.PROGRAM)
-        environment = {"HOME": home, "PATH": os.environ["PATH"], "LC_ALL": "C.UTF-8"}
-        commands = list(documented_commands())
-        for line, text in commands:
-            out = subprocess.run(["bash", "-c", line], cwd=home, env=environment, capture_output=True, text=True).stdout
-            checks.check(f"$ {line}", differences(out.strip().splitlines(), text.splitlines()))
-        checks.check("the section has commands", [] if commands else ["it has none"])
+@unittest.skipUnless(shutil.which("tshark"), "tshark isn't there: `apt-get install tshark` gives it")
+class Dissector(Case):
+    """What tshark shows by the dissector."""
 
+    seconds = 20
 
-GROUPS = [hello, matching, texts, file_lines, recognition, both_ways, several_packets, document]
+    def setUp(self):
+        home = tempfile.TemporaryDirectory()
+        self.addCleanup(home.cleanup)
+        self.tshark = Tshark(home.name)
 
+    def tearDown(self):
+        self.check("tshark has nothing to say of the dissector", self.tshark.said.splitlines())
 
-def main():
-    if len(sys.argv) > 1:
-        program.PROGRAM = pathlib.Path(sys.argv[1]).resolve()
-    if not program.PROGRAM.is_file():
-        sys.exit(f"{program.PROGRAM} isn't there: run make first")
-    checks = Checks()
-    if shutil.which("tshark"):
-        with tempfile.TemporaryDirectory() as home:
-            tshark = Tshark(home)
-            for group in GROUPS:
-                group(checks, tshark)
-            checks.check("tshark has nothing to say of the dissector", tshark.said.splitlines())
-    else:
-        print("tshark isn't installed: the dissector is not tested")
-    print(f"{checks.count - checks.failed} passed, {checks.failed} failed")
-    sys.exit(1 if checks.failed else 0)
+    def test_the_session_of_the_example_is_shown_line_by_line(self):
+        """The session of examples/hello.file: nothing is given but the capture."""
+        ended, seen = session(HELLO.read_bytes())
+        self.check("ask and serve speak through the relay", ended.problems(DONE))
+        names = ["chaosnet.file.line", *(f"chaosnet.file.{part}" for part in PARTS)]
+        rows = self.tshark.fields(seen, names, "-Y", "chaosnet.file and not chaosnet.analysis.retransmission")
+        lines = [line for pair in zip(HELLO.read_text().splitlines(), ended.out.decode().splitlines()) for line in pair]
+        self.check("FILE's commands and replies are those of the script and of `ask`", differences([row[0] for row in rows], lines))
+        self.check("and so are their parts", differences([row[1:] for row in rows], [row for pair in HELLO_PARTS for row in pair]))
+        ops = [int(payload[4]) for _, _, payload in seen]
+        rows = self.tshark.fields(seen, ["chaosnet.op", "chaosnet.stream", "chaosnet.contact", "chaosnet.fault"])
+        wanted = [[str(op), "0", "FILE" if op == RFC else "", ""] for op in ops]
+        self.check("each datagram is recognized by its mark, and of one stream", differences(rows, wanted))
+        first = {kind: n for n, kind in reversed(list(enumerate(ops, 1)))}
+        problems = [] if {RFC, OPN, STS, DATA, EOF, CLS} <= set(first) else [f"there are {ops}"]
+        self.check("there are RFC, OPN, STS, data, EOF and CLS", problems)
 
+    def test_a_reply_names_its_command_and_what_comes_again_is_told(self):
+        me, host, new = (CLIENT, 0o1405), (SERVER, 0), (SERVER, 1)
+        up = [datagram(RFC, host, me, 65_535, 0, b"FILE 1 2"), datagram(DATA, new, me, 0, 7, b"T  LOGIN M"), datagram(DATA, new, me, 1, 7, b"T  X")]
+        down = [datagram(OPN, me, new, 7, 65_535, bytes(4)), datagram(DATA, me, new, 8, 0, b"T  LOGIN M")]
+        down += [datagram(DATA, me, new, 9, 1, b"T  ERROR UKC Unknown command.")]
+        order = [up[0], down[0], up[1], up[1], up[2], down[2], down[1], down[1]]
+        seen = [(CLIENT_PORT, SERVER_PORT, each) if each in up else (SERVER_PORT, CLIENT_PORT, each) for each in order]
+        names = ["chaosnet.file.command_in", "chaosnet.file.reply_in", "chaosnet.analysis.first_in", "chaosnet.args", "chaosnet.file.error.code"]
+        wanted = [["", "", "", "1 2", ""], ["", "", "", "", ""], ["", "7", "", "", ""], ["", "7", "3", "", ""], ["", "6", "", "", ""]]
+        wanted += [["5", "", "", "", "UKC"], ["3", "", "", "", ""], ["3", "", "7", "", ""]]
+        self.check("commands and replies find each other, and what comes again is told", differences(self.tshark.fields(seen, names, "-2"), wanted))
+        for wanted, frames in [
+            ("chaosnet.op == 0200 and chaosnet.file.command", [3, 4, 5]),
+            ("chaosnet.op >= 0200 and chaosnet.file.answer", [6, 7, 8]),
+            ("chaosnet.dst.addr == 0401", [1, 3, 4, 5]),
+            ("chaosnet.src.index == 01405", [1, 3, 4, 5]),
+            ("chaosnet.addr == 0402 and chaosnet.index == 01405", list(range(1, 9))),
+            ("chaosnet.op == OPN", [2]),
+            ("chaosnet.op == 1", [1]),
+            ("chaosnet.analysis.retransmission", [4, 8]),
+            ("chaosnet.file.form", [5]),
+            ("chaosnet.file.error", [6]),
+            ("chaosnet.file.error.code == \"UKC\"", [6]),
+        ]:
+            self.check(f"the filter {wanted}", differences(self.tshark.frames(seen, wanted), frames))
 
-if __name__ == "__main__":
-    main()
+    def test_the_data_of_a_packet_is_shown_by_its_opcode(self):
+        me, host = (CLIENT, 1), (SERVER, 0)
+        rows = [
+            (RFC, b"TIME", ["TIME", "", "", "", "", "54494d45"]),
+            (LSN, b"FILE a\x8d b", ["FILE", "a^ b", "", "", "", b"FILE a\x8d b".hex()]),
+            (CLS, NO_SERVER, ["", "", "No server for this contact name.", "", "", NO_SERVER.hex()]),
+            (LOS, b"gone", ["", "", "gone", "", "", "676f6e65"]),
+            (FWD, b"^\\", ["", "", r"\5e\5c", "", "", "5e5c"]),
+            (ANS, b"A", ["", "", "", "", "", "41"]),
+            (OPN, b"\x01\x00\x0d\x01\xff", ["", "", "", "1", "269", ""]),
+            (STS, b"\x01\x00\x0d", ["", "", "", "", "", "01000d"]),
+            (SNS, b"", [""] * 6),
+        ]
+        seen = [(CLIENT_PORT, SERVER_PORT, datagram(op, host, me, 0, 0, body)) for op, body, _ in rows]
+        names = [f"chaosnet.{name}" for name in ["contact", "args", "text", "receipt", "window", "data"]]
+        self.check("contact, arguments, text and status, typed", differences(self.tshark.fields(seen, names), [row for _, _, row in rows]))
+
+    def test_commands_and_replies_are_shown_with_their_parts(self):
+        me, host, new = (CLIENT, 1), (SERVER, 0), (SERVER, 1)
+        front = [datagram(RFC, host, me, 0, 0, b"FILE"), datagram(OPN, me, new, 0, 0, bytes(4))]
+        up = [datagram(DATA, new, me, n, 0, line) for n, (line, _) in enumerate(COMMANDS, 1)]
+        down = [datagram(DATA, me, new, n, 0, line) for n, (line, _) in enumerate(REPLIES, 1)]
+        seen = [(CLIENT_PORT, SERVER_PORT, each) for each in front + up + down]
+        rows = self.tshark.fields(seen, [f"chaosnet.file.{part}" for part in ["line", "form", *LINE_PARTS]])[2:]
+        for (line, parts), (shown, *row) in zip(COMMANDS + REPLIES, rows):
+            wanted = ["", *(parts.get(part, "") for part in LINE_PARTS)] if parts else ["1"]
+            text = text_of(line).decode()
+            self.check(f"{line!r}", differences([shown, row if parts else row[:1]], [text, wanted]))
+        self.check("each is a line of FILE", differences([len(rows)], [len(COMMANDS + REPLIES)]))
+
+    def test_a_datagram_is_recognized_by_its_mark_by_what_went_before_and_by_its_port(self):
+        """What is taken for Chaosnet: by the mark and a version, after one such, and on a port that was named."""
+        good = datagram(STS, (SERVER, 1), (CLIENT, 1), 0, 0, bytes(4))
+        other = with_bytes(good, 0, b"XY")
+        seen = [(CLIENT_PORT, SERVER_PORT, each) for each in (other, good[:2], with_bytes(good, 2, b"\x03"), b"")]
+        seen += [(CLIENT_PORT, SERVER_PORT, good), (SERVER_PORT, CLIENT_PORT, other), (CLIENT_PORT + 1, SERVER_PORT, other)]
+        for name, words, frames in [
+            ("the mark and a version, and what goes between the same sockets later", [], [5, 6]),
+            ("all but the empty one, on a port of the preference", ["-o", f"chaosnet.ports:{SERVER_PORT}"], [1, 2, 3, 5, 6, 7]),
+            ("and on a port that is decoded as it", ["-d", f"udp.port=={SERVER_PORT},chaosnet"], [1, 2, 3, 5, 6, 7]),
+        ]:
+            self.check(f"recognized: {name}", differences(self.tshark.frames(seen, "chaosnet", *words), frames))
+        for kept in (4, 19, len(good) - 1):
+            rows = self.tshark.fields(captured(seen[4:5], 28 + kept), ["chaosnet.cut", "chaosnet.fault"])
+            self.check(f"a datagram of which {kept} bytes were kept is cut, and has no fault", differences(rows, [["1", ""]]))
+
+    def test_what_tshark_and_show_read_is_alike(self):
+        """The same datagrams, field by field."""
+        datagrams = made_up()
+        seen = [(CLIENT_PORT, SERVER_PORT, each) for each in datagrams]
+        names = ["chaosnet.fault", "chaosnet.packets", "_ws.col.Info", *(f"chaosnet.{name}" for name in FIELDS)]
+        rows = self.tshark.fields(seen, names, "-d", f"udp.port=={SERVER_PORT},chaosnet")
+        wanted = list(shown(datagrams))
+        faults = [report.split()[1] for report in wanted if report.startswith("fault")]
+        problems = [] if set(faults) == set("12345678") and len(faults) > COUNT / 4 else [f"{len(faults)}, only {set(faults)}"]
+        self.check(f"among {COUNT} datagrams each fault stands", problems)
+        several = sum(report.startswith("carriage 2") for report in wanted)
+        self.check("and several of version 2 that are read", [] if several > COUNT / 20 else [f"{several} are too few"])
+        self.check(f"{COUNT} datagrams are read by tshark and by `show` alike", differences(list(reports_of(rows)), wanted))
+        stopped = self.tshark.frames(seen, "_ws.lua.error", "-d", f"udp.port=={SERVER_PORT},chaosnet")
+        self.check("nothing stops the dissector", differences(stopped, []))
+        piped = self.tshark.run(seen, "-T", "fields", "-e", "udp.payload")
+        self.check("`show` reads what tshark prints of udp.payload", differences(piped.split(), [each.hex() for each in datagrams]))
+
+    def test_the_packets_of_version_2_are_read_each_and_its_faults_told(self):
+        """Version 2: two packets in a datagram, and each of its faults, typed."""
+        sts = bytes.fromhex("0700 0004 0101 0201 0102 0305 0000 0010 0012 000D")
+        dat = bytes.fromhex("8000 0001 0101 0201 0102 0305 0005 0010 0041")
+        greatest = bytes.fromhex("8000 01E8 0101 0201 0102 0305 0005 0010") + bytes(DATA_LIMIT)
+        rows = [
+            (b"\x02" + sts + dat, "", "7,128"),
+            (b"\x03" + sts + dat, "fault 8 PacketAt 3 1 Short", "7,128"),
+            (b"\x01" + sts + dat, "fault 5 Trailing", "7"),
+            (b"\x00" + sts + dat, "fault 6 BadNumber", ""),
+            (b"\x09" + sts + dat, "fault 6 BadNumber", ""),
+            (b"\x04" + greatest * 4, "", "128,128,128,128"),
+            (b"\x04" + greatest * 4 + b"x", "fault 7 TooLong", ""),
+            (b"\x02" + sts + dat[:2] + b"\x01\xe9" + dat[4:], "fault 8 PacketAt 2 2 BadCount", "7,128"),
+            (b"\x02" + sts + dat[:-1], "fault 8 PacketAt 2 3 Truncated", "7,128"),
+            (b"", "fault 1 Short", ""),
+        ]
+        seen = [(CLIENT_PORT, SERVER_PORT, MARK_2 + rest) for rest, _, _ in rows]
+        table = self.tshark.fields(seen, ["chaosnet.fault", "chaosnet.op"])
+        self.check("datagrams of version 2, typed", differences(table, [[fault, ops] for _, fault, ops in rows]))
+        reports = list(shown([payload for _, _, payload in seen]))
+        fronts = [fault or f"carriage 2 packets {len(ops.split(','))}" for _, fault, ops in rows]
+        self.check("and `show` says so too", differences([report.partition("\n")[0] for report in reports], fronts))
+
+    def test_the_datagrams_of_the_example_are_those_of_the_documents(self):
+        hexes = [bytes.fromhex(line) for line in LOGIN.read_text().splitlines()]
+        self.check("examples/login.hex has the datagrams of the table", differences(documented_session(), hexes))
+
+    def test_the_documents_show_what_their_commands_print(self):
+        """Where tshark is the one by which they were printed."""
+        if not self.tshark.version().startswith(DOCUMENTED):
+            self.skipTest(f"tshark is {self.tshark.version()}, and docs/SCRIPTS.md shows what {DOCUMENTED} prints")
+        with folder() as home:
+            for name in ["examples", "tools"]:
+                (home / name).symlink_to(ROOT / name)
+            (home / "bin").mkdir()
+            (home / "bin/chaosd").symlink_to(PROGRAM)
+            environment = {"HOME": str(home), "PATH": os.environ["PATH"], "LC_ALL": "C.UTF-8"}
+            commands = list(documented_commands())
+            for line, text in commands:
+                out = subprocess.run(["bash", "-c", line], cwd=home, env=environment, capture_output=True, text=True).stdout
+                self.check(f"$ {line}", differences(out.strip().splitlines(), text.splitlines()))
+            self.check("the section has commands", [] if commands else ["it has none"])

@@ -1,14 +1,8 @@
-#!/usr/bin/env python3
-"""Shows what a folder's store makes of what std can't make, by a proved test of world_tests that plays the rows it is given:
-entries that are no file, what may not be read or written, a disk that takes no more and is full, one that fails, and a folder that
-is another's.
-
-    rt ci && tests/folders.py
-
-It needs what the gate leaves of that crate's tests, and cc. A disk is filled where this user may mount one in memory. A test that
-waits is a failure. The last line is 'N passed, M failed'.
+"""Tests what a folder's store makes of what std can't make: entries that are no file, what may not be read or written, a disk that takes
+no more and is full, one that fails, and a folder that is another's. A test of crates/world_tests plays the rows that it is given.
 """
 
+import contextlib
 import errno
 import fcntl
 import os
@@ -18,11 +12,11 @@ import shutil
 import socket
 import stat
 import subprocess
-import sys
 import tempfile
+import unittest
 
-HERE = pathlib.Path(__file__).resolve().parent
-PROGRAM = HERE.parent / "crates/world_tests/out/world_tests_tests"
+from tests.support import Checking, checked, preloaded
+
 TEST = "tests::folders::dialogue_over_a_folder_made_outside"
 PATIENCE = 10
 NOBODY = 65534
@@ -130,56 +124,22 @@ def make_file(at):
     at.write_bytes(b"outside")
 
 
-def run(program, folder, rows, **options):
-    """Plays the rows over the folder. Gives what it wrote to standard error, and what went wrong, or nothing."""
-    (folder.parent / "rows").write_text(rows)
-    try:
-        ended = subprocess.run([program, TEST], cwd=folder.parent, capture_output=True, text=True, timeout=PATIENCE, **options)
-    except subprocess.TimeoutExpired:
-        return "", f"no end within {PATIENCE} seconds"
-    if ended.returncode or "met" not in ended.stdout:
-        return ended.stderr, (ended.stdout + ended.stderr).strip()[-300:] or f"status {ended.returncode}"
-    return ended.stderr, None
+def entries():
+    """What may stand at a path and is no file: a name, how it is made, and whether it may stand at `.new` too."""
+    makes = [("a fifo", make_fifo), ("a socket", make_socket), ("a device", make_device)]
+    for name, make in makes:
+        yield name, make, True
+        yield f"a link to {name}", link_to(make), True
+    yield "a link to a file", link_to(make_file), True
+    yield "a link to a folder", link_to(pathlib.Path.mkdir), True
+    yield "a link to nothing", lambda at: at.symlink_to("nothing"), True
+    yield "a folder", pathlib.Path.mkdir, False
 
 
-def entry_problem(program, folder, make, at_new):
-    """An entry that is no file is refused and stays, and one at `.new` is taken away and leads nowhere."""
-    entry = folder / "X"
-    make(entry)
-    before = shown(entry)
-    if at_new:
-        make(folder / ".new")
-    _, problem = run(program, folder, REFUSED + GOES_ON)
-    if problem:
-        return problem
-    if shown(entry) != before:
-        return "the entry isn't what it was"
-    for outside in folder.parent.glob("outside*"):
-        if outside.is_file() and outside.read_bytes() != b"outside":
-            return f"{outside.name} was written to"
-    kept = (folder / "A").read_bytes() == b"(A)" and (folder / "B").read_bytes() == b"(B)"
-    return None if kept else "other bytes are there"
-
-
-def bound(folder):
-    """A user whom modes bind, who owns the folder then."""
-    if os.geteuid():
-        return {}
-    for path in (folder, folder / "A"):
-        os.chown(path, NOBODY, NOBODY)
-    return {"user": NOBODY, "group": NOBODY, "extra_groups": []}
-
-
-def leave_problem(program, folder, rows, of_folder, of_file):
-    """The rows over a folder and a file of these modes, as a user whom they bind. Nothing changes."""
-    options = bound(folder)
-    (folder / "A").chmod(of_file)
-    folder.chmod(of_folder)
-    _, problem = run(program, folder, rows, **options)
-    folder.chmod(0o700)
-    (folder / "A").chmod(0o600)
-    kept = (folder / "A").read_bytes() == b"(A)" and not (folder / ".new").exists()
-    return problem or (None if kept else "the folder was changed")
+def shown(at):
+    """What a name of a folder is, and not what a link leads to."""
+    info = at.lstat()
+    return stat.S_IFMT(info.st_mode), info.st_ino
 
 
 def written(handle, path, chunks, told):
@@ -194,155 +154,202 @@ def free_of(folder):
     return disk.f_bfree * disk.f_frsize
 
 
-def disk_problem(program, folder):
-    """A put that a full disk ends gives the disk's room back, and can be done again where there is room."""
-    size = 448 * CHUNKS
-    mounted = subprocess.run(["mount", "-t", "tmpfs", "-o", f"size={DISK},mode=700", "tmpfs", folder], capture_output=True, text=True)
-    if mounted.returncode:
-        raise PermissionError(errno.EPERM, mounted.stderr.strip())
+@contextlib.contextmanager
+def if_allowed():
+    """What not every user may do: where it is refused, the test is skipped."""
     try:
-        _, problem = run(program, folder, LOGIN + written("W", "A", CHUNKS, f"CLOSE {size}"))
-        before = free_of(folder)
+        yield
+    except OSError as refused:
+        if refused.errno not in (errno.EPERM, errno.EACCES, errno.EINVAL):
+            raise
+        raise unittest.SkipTest(f"this user may not do it: {refused.strerror}") from None
+
+
+def limit_files():
+    """No file of this process may have more bytes."""
+    resource.setrlimit(resource.RLIMIT_FSIZE, (FULL_AT, FULL_AT))
+
+
+class Store(Checking):
+    """A folder with a file A, which a store is made of, and rows that are played over it."""
+
+    def setUp(self):
+        self.make_room()
+
+    def tearDown(self):
+        self.assertFalse(os.path.lexists(self.folder / ".new"), "`.new` was left")
+
+    def make_room(self):
+        """A room for the program and the folder, which another user reaches too."""
+        program = checked("world_tests", "--test")
+        room = tempfile.TemporaryDirectory()
+        self.addCleanup(room.cleanup)
+        self.room = pathlib.Path(room.name)
+        self.room.chmod(0o755)
+        self.program = shutil.copy(program, self.room)
+        self.folder = self.room / "folder"
+        self.folder.mkdir()
+        self.file = self.folder / "A"
+        self.file.write_bytes(b"(A)")
+
+    def problem(self, rows, **options):
+        """What went wrong where the rows are played over the folder, or nothing; what it wrote to standard error is kept."""
+        (self.room / "rows").write_text(rows)
+        ended = subprocess.run([self.program, TEST], cwd=self.room, capture_output=True, text=True, timeout=PATIENCE, **options)
+        self.said = ended.stderr
+        if ended.returncode or "met" not in ended.stdout:
+            return (ended.stdout + ended.stderr).strip()[-300:] or f"status {ended.returncode}"
+        return None
+
+    def play(self, rows, **options):
+        """The rows over the folder, each of which draws what it says."""
+        problem = self.problem(rows, **options)
+        self.assertIsNone(problem, problem)
+
+    def assert_not_opened(self, why, **options):
+        """The folder isn't opened, for this reason."""
+        self.assertIn(why, self.problem(LOGIN, **options) or "it was opened")
+
+
+class Entries(Store):
+    """What stands in a folder and is no file."""
+
+    seconds = 3
+
+    def test_an_entry_that_is_no_file_is_a_store_fault_and_stays(self):
+        for name, make, at_new in entries():
+            beside = ", and one at `.new` is taken away" if at_new else ""
+            with self.subTest(f"{name} at a path is a store fault to each command, and stays{beside}"):
+                self.make_room()
+                self.play_beside(make, at_new)
+
+    def play_beside(self, make, at_new):
+        """An entry that is no file is refused and stays, and one at `.new` is taken away and leads nowhere."""
+        entry = self.folder / "X"
+        with if_allowed():
+            make(entry)
+            if at_new:
+                make(self.folder / ".new")
+        before = shown(entry)
+        self.play(REFUSED + GOES_ON)
+        self.assertEqual(before, shown(entry), "the entry isn't what it was")
+        for outside in self.room.glob("outside*"):
+            self.assertTrue(not outside.is_file() or outside.read_bytes() == b"outside", f"{outside.name} was written to")
+        self.assertEqual((b"(A)", b"(B)"), (self.file.read_bytes(), (self.folder / "B").read_bytes()))
+        self.assertFalse(os.path.lexists(self.folder / ".new"), "`.new` was left")
+
+    def test_what_lies_at_new_of_a_folder_that_is_opened_is_taken_away(self):
+        (self.folder / ".new").write_bytes(b"left")
+        self.play(LOGIN)
+
+
+class Leave(Store):
+    """Folders and files that this user may not read or write, and one that another has locked."""
+
+    def bound(self):
+        """The options of a run by a user whom modes bind, who owns the folder then."""
+        if os.geteuid():
+            return {}
+        with if_allowed():
+            for path in (self.folder, self.file):
+                os.chown(path, NOBODY, NOBODY)
+        return {"user": NOBODY, "group": NOBODY, "extra_groups": []}
+
+    def play_bound(self, rows, of_folder, of_file):
+        """The rows over a folder and a file of these modes, as a user whom they bind. Nothing changes."""
+        options = self.bound()
+        self.file.chmod(of_file)
+        self.folder.chmod(of_folder)
+        problem = self.problem(rows, **options)
+        self.folder.chmod(0o700)
+        self.file.chmod(0o600)
+        self.assertIsNone(problem, problem)
+        self.assertEqual(b"(A)", self.file.read_bytes())
+
+    def assert_shut(self, of_folder):
+        """A folder of this mode isn't opened by a user whom it binds."""
+        options = self.bound()
+        self.folder.chmod(of_folder)
+        self.assert_not_opened("PermissionDenied", **options)
+        self.folder.chmod(0o700)
+
+    def test_a_folder_without_leave_to_write_is_a_store_fault_and_its_files_can_be_read(self):
+        self.play_bound(READ_ONLY, 0o500, 0o600)
+
+    def test_a_file_without_leave_to_read_is_a_store_fault(self):
+        self.play_bound(UNREADABLE, 0o700, 0o000)
+
+    def test_a_folder_that_may_not_be_read_is_not_opened(self):
+        self.assert_shut(0o300)
+
+    def test_a_folder_without_any_leave_is_not_opened(self):
+        self.assert_shut(0o000)
+
+    def test_a_folder_that_another_process_has_locked_is_not_opened_and_stays_as_it_is(self):
+        new = self.folder / ".new"
+        new.write_bytes(b"another's")
+        held = os.open(self.folder, os.O_RDONLY)
+        fcntl.flock(held, fcntl.LOCK_EX)
+        self.assert_not_opened("another server")
+        os.close(held)
+        self.assertTrue(new.exists(), "`.new` is gone")
+        new.unlink()
+
+    def test_a_file_that_is_replaced_leaves_its_mode_to_the_new_one(self):
+        """And a new one has what the user's mask leaves."""
+        self.file.chmod(0o604)
+        self.play(PUT + GOES_ON, umask=0o027)
+        modes = [stat.S_IMODE(path.stat().st_mode) for path in (self.file, self.folder / "B")]
+        self.assertEqual([0o604, 0o640], modes)
+
+
+class Disk(Store):
+    """A disk that takes no more, is full, or fails."""
+
+    seconds = 2
+
+    def test_a_disk_that_takes_no_more_is_a_store_fault_and_leaves_the_file_and_the_handle(self):
+        """No signal ends who writes more: python ignores it, and so does what it starts."""
+        limited = {"restore_signals": False, "preexec_fn": limit_files}
+        self.play(FULL, **limited)
+        self.assertFalse((self.folder / ".new").exists(), "`.new` was left")
+        self.play(LOGIN + GOES_ON, **limited)
+
+    def test_a_full_disk_is_a_store_fault_its_room_is_given_back_and_there_is_room_again_once_a_file_is_gone(self):
+        self.mount()
+        size = 448 * CHUNKS
+        self.play(LOGIN + written("W", "A", CHUNKS, f"CLOSE {size}"))
+        before = free_of(self.folder)
         full = written("V", "B", CHUNKS, "ERROR STF Store fault.")
-        problem = problem or run(program, folder, LOGIN + full)[1]
-        if not problem and (free_of(folder) != before or (folder / ".new").exists()):
-            problem = "the disk is fuller than before"
-        emptied = f"T3  DELETE^A => T3  DELETE\nT4 V CLOSE => T4 V CLOSE {size}\n"
-        problem = problem or run(program, folder, LOGIN + full + emptied)[1]
-        return problem or (None if (folder / "B").read_bytes() == b"A" * size else "other bytes are there")
-    finally:
-        subprocess.run(["umount", folder], check=True)
+        self.play(LOGIN + full)
+        self.assertEqual(before, free_of(self.folder), "the disk is fuller than before")
+        self.assertFalse((self.folder / ".new").exists(), "`.new` was left")
+        self.play(LOGIN + full + f"T3  DELETE^A => T3  DELETE\nT4 V CLOSE => T4 V CLOSE {size}\n")
+        self.assertEqual(b"A" * size, (self.folder / "B").read_bytes())
 
+    def mount(self):
+        """A disk of few bytes in the place of the folder."""
+        words = ["mount", "-t", "tmpfs", "-o", f"size={DISK},mode=700", "tmpfs", self.folder]
+        mounted = subprocess.run(words, capture_output=True, text=True)
+        if mounted.returncode:
+            self.skipTest(f"this user may mount no disk in memory: {mounted.stderr.strip()}")
+        self.addCleanup(subprocess.run, ["umount", self.folder], check=True)
 
-def left_problem(program, folder):
-    """What lies at `.new` when the folder is opened is taken away, and so is its room."""
-    (folder / ".new").write_bytes(b"left")
-    return run(program, folder, LOGIN)[1]
+    def test_a_file_is_flushed_before_it_has_its_path_and_then_the_folder_is(self):
+        self.play_flushed(PUT, 0, FLUSHED, b"new")
 
+    def test_a_file_that_can_not_be_flushed_is_a_store_fault_and_can_be_put_again(self):
+        self.play_flushed(FAILED + AGAIN, 1, FLUSHED, b"new")
 
-def locked_problem(program, folder):
-    """A folder that another process has locked isn't opened, and nothing of it is taken away."""
-    (folder / ".new").write_bytes(b"another's")
-    held = os.open(folder, os.O_RDONLY)
-    fcntl.flock(held, fcntl.LOCK_EX)
-    problem = refused_problem(program, folder, "another server")
-    os.close(held)
-    kept = (folder / ".new").exists()
-    (folder / ".new").unlink(missing_ok=True)
-    return problem or (None if kept else "`.new` is gone")
+    def test_until_a_file_is_flushed_its_path_is_as_it_was(self):
+        self.play_flushed(FAILED, 1, "", b"(A)")
 
+    def test_a_folder_that_can_not_be_flushed_is_a_store_fault_of_a_file_that_was_put(self):
+        self.play_flushed(FAILED, 2, FLUSHED_FILE, b"new")
 
-def refused_problem(program, folder, why, **options):
-    """The folder isn't opened, for this reason."""
-    _, problem = run(program, folder, LOGIN, **options)
-    return None if problem and why in problem else f"it was opened, or it said: {problem}"
-
-
-def shut_problem(program, folder, of_folder):
-    """A folder of this mode isn't opened by a user whom it binds."""
-    options = bound(folder)
-    folder.chmod(of_folder)
-    problem = refused_problem(program, folder, "PermissionDenied", **options)
-    folder.chmod(0o700)
-    return problem
-
-
-def mode_problem(program, folder):
-    """A file that is replaced leaves its mode to the new one, and a new one has what the user's mask leaves."""
-    (folder / "A").chmod(0o604)
-    _, problem = run(program, folder, PUT + GOES_ON, umask=0o027)
-    modes = [stat.S_IMODE((folder / name).stat().st_mode) for name in ("A", "B")]
-    return problem or (None if modes == [0o604, 0o640] else f"the modes are {modes}")
-
-
-def full_problem(program, folder):
-    """The rows where a file may have so many bytes. No signal ends who writes more: python ignores it, and so does what it starts."""
-
-    def limit():
-        resource.setrlimit(resource.RLIMIT_FSIZE, (FULL_AT, FULL_AT))
-
-    problem = run(program, folder, FULL, restore_signals=False, preexec_fn=limit)[1]
-    problem = problem or ("`.new` was left" if (folder / ".new").exists() else None)
-    return problem or run(program, folder, LOGIN + GOES_ON, restore_signals=False, preexec_fn=limit)[1]
-
-
-def flush_problem(program, folder, rows, fail_at, noted, left):
-    """The rows where one flush fails, none at 0: what was flushed and renamed, and what the file has then."""
-    library = folder.parent / "failflush.so"
-    subprocess.run(["cc", "-shared", "-fPIC", "-O1", "-o", library, HERE / "failflush.c", "-ldl"], check=True)
-    said, problem = run(program, folder, rows, env={**os.environ, "LD_PRELOAD": str(library), "FAIL_AT": str(fail_at)})
-    if problem:
-        return problem
-    return None if said == noted and (folder / "A").read_bytes() == left else f"it did: {said}"
-
-
-def shown(at):
-    """What a name of a folder is, and not what a link leads to."""
-    info = at.lstat()
-    return stat.S_IFMT(info.st_mode), info.st_ino
-
-
-def entries():
-    """What may stand at a path and is no file: a name, how it is made, and whether it may stand at `.new` too."""
-    makes = [("a fifo", make_fifo), ("a socket", make_socket), ("a device", make_device)]
-    for name, make in makes:
-        yield name, make, True
-        yield f"a link to {name}", link_to(make), True
-    yield "a link to a file", link_to(make_file), True
-    yield "a link to a folder", link_to(pathlib.Path.mkdir), True
-    yield "a link to nothing", lambda at: at.symlink_to("nothing"), True
-    yield "a folder", pathlib.Path.mkdir, False
-
-
-def checks():
-    """What is shown: a sentence, and its check."""
-    for name, make, at_new in entries():
-        beside = ", and one at `.new` is taken away" if at_new else ""
-        yield f"{name} at a path is a store fault to each command, and stays{beside}", entry_problem, make, at_new
-    yield "a folder without leave to write is a store fault, and its files can be read", leave_problem, READ_ONLY, 0o500, 0o600
-    yield "a folder that may not be read isn't opened", shut_problem, 0o300
-    yield "a folder without any leave isn't opened", shut_problem, 0o000
-    yield "a folder that another process has locked isn't opened, and stays as it is", locked_problem
-    yield "what lies at `.new` of a folder that is opened is taken away", left_problem
-    yield "a file without leave to read is a store fault", leave_problem, UNREADABLE, 0o700, 0o000
-    yield "a disk that takes no more is a store fault, and leaves the file and the handle", full_problem
-    yield "a full disk is a store fault, its room is given back, and there is room again once a file is gone", disk_problem
-    yield "a file that is replaced leaves its mode to the new one", mode_problem
-    yield "a file is flushed before it has its path, and then the folder is", flush_problem, PUT, 0, FLUSHED, b"new"
-    yield "a file that can't be flushed is a store fault, and can be put again", flush_problem, FAILED + AGAIN, 1, FLUSHED, b"new"
-    yield "and until then its path is as it was", flush_problem, FAILED, 1, "", b"(A)"
-    yield "a folder that can't be flushed is a store fault of a file that was put", flush_problem, FAILED, 2, FLUSHED_FILE, b"new"
-
-
-def main():
-    if not PROGRAM.is_file():
-        sys.exit(f"{PROGRAM} isn't there: run the gate first")
-    failed = passed = 0
-    for sentence, problem_of, *given in checks():
-        with tempfile.TemporaryDirectory() as room:
-            # another user has to reach it
-            os.chmod(room, 0o755)
-            program = shutil.copy(PROGRAM, room)
-            folder = pathlib.Path(room) / "folder"
-            folder.mkdir()
-            (folder / "A").write_bytes(b"(A)")
-            try:
-                problem = problem_of(program, folder, *given)
-                if not problem and os.path.lexists(folder / ".new"):
-                    problem = "`.new` was left"
-            except OSError as refused:
-                if refused.errno not in (errno.EPERM, errno.EACCES, errno.EINVAL):
-                    raise
-                print(f"not tried, since this user may not make it: {sentence}")
-                continue
-        print(f"{'not ok' if problem else 'ok'}: {sentence}")
-        if problem:
-            print(f"    {problem}")
-        failed += bool(problem)
-        passed += not problem
-    print(f"{passed} passed, {failed} failed")
-    sys.exit(1 if failed else 0)
-
-
-if __name__ == "__main__":
-    main()
+    def play_flushed(self, rows, fail_at, noted, left):
+        """The rows where one flush fails, none at 0: what was flushed and renamed, and what the file has then."""
+        library = preloaded(self.room, "failflush")
+        self.play(rows, env={**os.environ, "LD_PRELOAD": str(library), "FAIL_AT": str(fail_at)})
+        self.assertEqual(noted, self.said)
+        self.assertEqual(left, self.file.read_bytes())

@@ -1,17 +1,16 @@
 """The rows of the table of a connection, and what else can be seen of an end from outside, played against `chaosd` and against the end
-in Lisp alike, for tests/lisp.py."""
+in Lisp alike."""
 
 import random
 import socket
 import struct
+import subprocess
 import time
 
-import files
-from files import CLIENT, CLS, DATA, EOF, LOS, OPN, RFC, SERVER, SNS, STS, at, free_ports
-from program import DONE, REFUSED
-from second import FIRST, SECOND, Peer, begun, finished, folder, packets_of, ran, same, serving
+from tests.packets import ANS, CLS, DATA, EOF, FWD, LOS, LSN, NO_NAME, OPN, RFC, SNS, STS, UNC, datagram
+from tests.second import FIRST, SECOND, Peer, begun, finished, needs_lisp, packets_of, ran, serving
+from tests.support import CLIENT, DONE, REFUSED, SERVER, USUAL_WINDOW, Case, at, folder, free_ports, stored_problems
 
-FWD, ANS, LSN, UNC, NO_NAME = 0o4, 0o5, 0o12, 0o15, 0o16
 NO_SERVER, NO_CONNECTION = b"No server for this contact name.", b"No such connection."
 FULL = b"Connection table full."
 # Seconds in which nothing comes, and in which something has to.
@@ -19,15 +18,15 @@ QUIET, SOON = 0.3, 10
 COMMANDS = 160
 
 
-def status(receipt, window=13):
+def status(receipt, window=USUAL_WINDOW):
     return struct.pack("<2H", receipt % 65_536, window)
 
 
 class Rows:
     """What is sent to a server, and what has to come for it."""
 
-    def __init__(self, server, own=0o1405):
-        self.peer, self.problems = Peer(server, own=own), []
+    def __init__(self, server):
+        self.peer, self.problems = Peer(server), []
 
     def expect(self, name, *wanted):
         """The next packets are these, each an opcode, a number, an acknowledgement and data, and no more come."""
@@ -45,70 +44,8 @@ class Rows:
         self.expect(name, *wanted)
 
 
-def strangers(which):
-    """What comes to no connection is answered to the byte, or not at all."""
-    with serving(which) as (host, _):
-        rows = Rows(host)
-        none = {"to": (SERVER, 0o401)}
-        rows.row("a contact that nobody has", (RFC, 7, 0, b"NONE"), (CLS, 0, 0, NO_SERVER), to=(SERVER, 0))
-        rows.row("a contact in small letters", (RFC, 7, 0, b"file"), (CLS, 0, 0, NO_SERVER), to=(SERVER, 0))
-        rows.row("the front of a contact", (RFC, 7, 0, b"FIL"), (CLS, 0, 0, NO_SERVER), to=(SERVER, 0))
-        for op in [OPN, SNS, STS, EOF, DATA, 0o377]:
-            rows.row(f"opcode {op:o} without a connection", (op, 1, 2, b"1234"), (LOS, 0, 0, NO_CONNECTION), **none)
-        for op in [CLS, LOS, ANS, FWD, LSN, UNC, NO_NAME]:
-            rows.row(f"opcode {op:o} without a connection", (op, 1, 2, b"1234"), **none)
-        rows.row("a packet for another host", (RFC, 5, 0, b"FILE"), to=(SERVER + 1, 0))
-        rows.row("a packet from address 0", (RFC, 5, 0, b"FILE"), to=(SERVER, 0), me=(0, 1))
-        rows.row("an answer to a host that is no peer goes nowhere", (DATA, 1, 2, b"A"), to=(SERVER, 0o401), me=(0o777, 1))
-        for rubbish in [b"", b"CH", b"CH\x01\x00", bytes(2_000), files.datagram(RFC, (SERVER, 0), rows.peer.me, 5, 0, b"FILE") + b"\x00"]:
-            rows.peer.socket.sendto(rubbish, rows.peer.server)
-        rows.expect("what is no datagram")
-        rows.peer.close()
-        yield f"{which}: what comes to no connection is answered to the byte, or not at all", rows.problems + host.problems()
-
-
-def server_rows(which):
-    """The rows of an end that is open."""
-    with serving(which) as (host, _):
-        rows = Rows(host)
-        peer = rows.peer
-        rows.problems += peer.open(5)
-        first, second, third = peer.first, (peer.first + 1) % 65_536, (peer.first + 2) % 65_536
-        told = (STS, 0, 5, status(5))
-        rows.expect("a status")
-        rows.row("the request again", (RFC, 5, 0, b"FILE"), told, to=(SERVER, 0))
-        rows.row("the request again, to its index", (RFC, 5, 0, b"FILE"), told)
-        rows.row("a request with another number", (RFC, 6, 0, b"FILE"), to=(SERVER, 0))
-        rows.row("a probe", (SNS, 0, first), told)
-        rows.row("an OPN", (OPN, 9, first, status(first)), told)
-        rows.row("an OPN without a status", (OPN, 9, first, b"123"))
-        rows.row("a status", (STS, 0, first, status(first)))
-        rows.row("a status without its bytes", (STS, 0, first, b"123"))
-        rows.row("a status of what was never sent", (STS, 0, first + 9, status(first + 9)))
-        for op in [UNC, ANS, FWD, LSN, NO_NAME]:
-            rows.row(f"opcode {op:o}", (op, 0, first, b"1234"))
-        rows.row("data that was read before", (DATA, 5, first, b"T  LOGIN X"), told)
-        rows.row("data half a circle behind", (DATA, 5 + 32_768, first, b"T  LOGIN X"), told)
-        rows.row("data past the window", (DATA, 5 + 14, first, b"T  LOGIN X"), told)
-        rows.row("data from another index", (DATA, 6, first, b"T  LOGIN X"), (LOS, 0, 0, NO_CONNECTION), me=(CLIENT, 0o1406))
-        rows.row("data to another index", (DATA, 6, first, b"T  LOGIN X"), (LOS, 0, 0, NO_CONNECTION), to=(SERVER, peer.at[1] ^ 0o400))
-        rows.row("data behind a gap is held", (0o300, 7, first, b"T  DELETE\x8dA"))
-        rows.row("and comes again", (0o300, 7, first, b"T  DELETE\x8dA"), told)
-        login, gone = (DATA, second, 6, b"T  LOGIN M"), (DATA, third, 7, b"T  ERROR FNF No such file.")
-        rows.row("the gap is filled, by data of opcode 277: replies come in order", (0o277, 6, first, b"T  LOGIN M"), login, gone)
-        rows.row("EOF, which acknowledges all", (EOF, 8, third), (CLS, 0, 0, b""))
-        rows.row("data after that", (DATA, 9, third, b"T"), (LOS, 0, 0, NO_CONNECTION))
-        yield f"{which}: the rows of an open end, each packet to the byte", rows.problems + host.problems()
-        for op in [CLS, LOS]:
-            rows.problems = peer.open(5)
-            rows.row(f"opcode {op:o} ends it", (op, 0, 0, b"Bye."))
-            rows.row("data after that", (DATA, 6, peer.first, b"T"), (LOS, 0, 0, NO_CONNECTION))
-            yield f"{which}: opcode {op:o} ends an open end", rows.problems
-        peer.close()
-
-
 class Played:
-    """A server that a check plays to a client, which gets the files A and B."""
+    """A server that a test plays to a client, which gets the files A and B."""
 
     def __init__(self, which, here):
         self.port, client = free_ports(2)
@@ -132,85 +69,12 @@ class Played:
         return None
 
     def send(self, op, num=0, ack=0, body=b"", index=1):
-        self.socket.sendto(files.datagram(op, (CLIENT, self.index), (SERVER, index), num, ack, body), self.client)
+        self.socket.sendto(datagram(op, (CLIENT, self.index), (SERVER, index), num, ack, body), self.client)
 
     def end(self):
         ended = finished(self.process)
         self.socket.close()
         return ended
-
-
-def client_rows(which):
-    """What an end that asked does with each answer."""
-    answers = [(CLS, b"it refused the connection"), (ANS, b"it answered in place of opening a connection")]
-    answers += [(FWD, b"it says to ask elsewhere"), (LOS, b"it knows no such connection")]
-    with folder() as here:
-        for op, told in answers:
-            server = Played(which, here)
-            server.send(op, body=b"Go away.", index=0)
-            ended = server.end()
-            wanted = b"chaosd: A: %s: Go away.\nchaosd: B: not tried\n" % told
-            yield f"{which}: a request that opcode {op:o} answers", ended.problems(REFUSED, b"", wanted)
-        server = Played(which, here)
-        request = server.request
-        problems = [] if request[0] == RFC and request[1][:3] == (SERVER, 0, CLIENT) and request[2] == b"FILE" else [f"{request}"]
-        server.send(OPN, 100, server.number, b"123")
-        server.send(DATA, 101, server.number, b"early")
-        again = server.next()
-        problems += [] if again == request else [f"what is no opening drew {again}"]
-        server.send(OPN, 100, server.number, status(server.number), index=0o1001)
-        opened = server.next_of(STS)
-        told = opened and (opened[1][:2], opened[1][4:], opened[2][:2])
-        problems += [] if told == ((SERVER, 0o1001), (0, 100), status(100)[:2]) else [f"the opening drew {opened}"]
-        server.send(OPN, 100, server.number, status(server.number), index=0o1001)
-        login = server.next_of(DATA)
-        problems += [] if login and login[2].endswith(b"  LOGIN CHAOSD") and login[1][4] == (server.number + 1) % 65_536 else [f"{login}"]
-        problems += [] if server.next_of(STS) else ["the second opening drew no status"]
-        server.send(DATA, 101, login[1][4], b"X  LOGIN CHAOSD", index=0o1001)
-        told = b"chaosd: A: not an answer of FILE: X  LOGIN CHAOSD\nchaosd: B: not tried\n"
-        yield f"{which}: an end that asked, row by row", problems + server.end().problems(REFUSED, b"", told)
-
-
-def table_full(which):
-    """Sixteen connections are taken, and the next is told so."""
-    with serving(which) as (host, _):
-        peers = Rows(host)
-        for n in range(17):
-            peers.peer.send(RFC, 5, 0, b"FILE", to=(SERVER, 0), me=(CLIENT, n + 1))
-        opened, refused, end = set(), [], time.monotonic() + 30
-        while len(opened) + len(refused) < 17 and time.monotonic() < end:
-            seen = peers.peer.receive(SOON)
-            opened |= {seen[1][1]} if seen and seen[0] == OPN else set()
-            refused += [seen[1][1]] if seen and seen[0] == CLS and seen[2] == FULL else []
-        problems = [] if len(opened) == 16 and len(refused) == 1 and refused[0] not in opened else [f"{opened} and {refused}"]
-        peers.peer.close()
-        yield f"{which}: of 17 connections 16 are taken", problems
-
-
-def silence(which):
-    """What a silent peer draws: the reply again, probes, and the end."""
-    with serving(which) as (host, _):
-        rows = Rows(host)
-        peer = rows.peer
-        problems = peer.open(5)
-        reply = (peer.first + 1) % 65_536
-        peer.send(DATA, 6, peer.first, b"T  LOGIN X")
-        one, since = peer.receive(), time.monotonic()
-        other, took = peer.receive(again=True), time.monotonic() - since
-        problems += [] if one and one == other and 0.3 < took < 5 else [f"{one}, and after {took:.2f} s {other}"]
-        peer.send(STS, 0, reply, status(reply))
-        since, seen = time.monotonic(), []
-        yield f"{which}: what isn't receipted is sent again after half a second", problems
-        while time.monotonic() - since < 93:
-            packet = peer.receive(93 - (time.monotonic() - since))
-            seen += [(packet, time.monotonic() - since)] if packet else []
-        probes = [moment for packet, moment in seen if packet[0] == SNS]
-        problems = [] if len(probes) == len(seen) and 7 <= len(probes) <= 9 and 9 < probes[0] < 15 else [f"{seen}"]
-        yield f"{which}: a silent peer is probed every ten seconds", problems
-        peer.send(SNS, 0, reply)
-        last = peer.receive()
-        yield f"{which}: and given up after ninety", [] if last and last[0] == LOS else [f"{last}"]
-        peer.close()
 
 
 def odd_commands():
@@ -225,33 +89,16 @@ def odd_commands():
         handle = pick("", "", "", "H1", "H2", "H3", "H4", "h", "12345678", "123456789", "H.")
         word = pick("OPEN", "OPEN", "OPEN", "READ", "WRITE", "CLOSE", "RENAME", "DELETE", "LOGIN", "login", "LIST", "")
         path = pick("A", "B", "A.LISP", "A.", "A..B", "-", "_", ".A", "A/B", "A B", "", "x" * 64, "x" * 65, "B^A", "A^B", "Z^Z")
-        rest = {"OPEN": pick(" READ^", " WRITE^", " READ^", " APPEND^", " READ", "^") + path, "LOGIN": pick(" M", " ", "", " A-B", " " + "u" * 17, "^M")}
+        rest = {"OPEN": pick(" READ^", " WRITE^", " READ^", " APPEND^", " READ", "^") + path}
+        rest |= {"LOGIN": pick(" M", " ", "", " A-B", " " + "u" * 17, "^M")}
         rest |= {"READ": pick("", "", "", " ", "^"), "CLOSE": pick("", "", "^", " X")}
         rest |= {"WRITE": pick("^", "^abc", "^" + "w" * 448, "^" + "w" * 449, "", " x", r"^\00\ff^")}
         script.append(f"{tid} {handle} {word}" + rest.get(word, pick("^", "^", "^", "", " ") + path))
     return "".join(line + "\n" for line in script).encode()
 
 
-def commands():
-    """Odd commands draw the same replies from both servers, and leave the same folder."""
-    script, seen = odd_commands(), {}
-    for which in (FIRST, SECOND):
-        with serving(which) as (host, _):
-            address, own, server = host.words()
-            process = begun(FIRST, ["ask", address, own, "401", server], stdin=-1)
-            ended = finished(process, script)
-            kept = {path.name: path.read_bytes() for path in host.folder.iterdir() if path.name != ".new"}
-            seen[which] = (ended.out.splitlines(), kept, ended.problems(DONE, None, b""))
-    first, other = seen[FIRST], seen[SECOND]
-    lines = script.splitlines()
-    problems = first[2] + other[2] + ([] if len(first[0]) == len(lines) else [f"{len(first[0])} replies"])
-    pairs = zip(lines, first[0], other[0])
-    problems += [f"{line!r}: {one!r} and {another!r}" for line, one, another in pairs if one != another][:3]
-    codes = {reply.split(b" ERROR ")[1][:3] for reply in first[0] if b" ERROR " in reply}
-    wanted = {b"SYN", b"UKC", b"ILP", b"HIU", b"NOH", b"WRK", b"NMH", b"FNF", b"FAE"}
-    problems += [f"no {wanted - codes} among them"] if wanted - codes else []
-    yield f"{len(lines)} odd commands draw the same replies from chaosd and from Lisp", problems
-    yield "and leave the same folder", [] if first[1] == other[1] else [f"{sorted(first[1])} and {sorted(other[1])}"]
+def pick_front(chance):
+    return chance.choice([b"CH\x01\x00", b"CH\x02\x01", b"CH\x02\x02", b"CH\x03\x00"])
 
 
 def random_datagram(chance):
@@ -265,20 +112,208 @@ def random_datagram(chance):
     return datagram[: chance.randrange(len(datagram))] if kind == 1 else datagram
 
 
-def pick_front(chance):
-    return chance.choice([b"CH\x01\x00", b"CH\x02\x01", b"CH\x02\x02", b"CH\x03\x00"])
+class Ends:
+    """An end that is seen from outside: `which` says whose."""
+
+    def test_what_comes_to_no_connection_is_answered_to_the_byte_or_not_at_all(self):
+        with serving(self.which) as (host, _):
+            rows = Rows(host)
+            none = {"to": (SERVER, 0o401)}
+            rows.row("a contact that nobody has", (RFC, 7, 0, b"NONE"), (CLS, 0, 0, NO_SERVER), to=(SERVER, 0))
+            rows.row("a contact in small letters", (RFC, 7, 0, b"file"), (CLS, 0, 0, NO_SERVER), to=(SERVER, 0))
+            rows.row("the front of a contact", (RFC, 7, 0, b"FIL"), (CLS, 0, 0, NO_SERVER), to=(SERVER, 0))
+            for op in [OPN, SNS, STS, EOF, DATA, 0o377]:
+                rows.row(f"opcode {op:o} without a connection", (op, 1, 2, b"1234"), (LOS, 0, 0, NO_CONNECTION), **none)
+            for op in [CLS, LOS, ANS, FWD, LSN, UNC, NO_NAME]:
+                rows.row(f"opcode {op:o} without a connection", (op, 1, 2, b"1234"), **none)
+            rows.row("a packet for another host", (RFC, 5, 0, b"FILE"), to=(SERVER + 1, 0))
+            rows.row("a packet from address 0", (RFC, 5, 0, b"FILE"), to=(SERVER, 0), me=(0, 1))
+            rows.row("an answer to a host that is no peer goes nowhere", (DATA, 1, 2, b"A"), to=(SERVER, 0o401), me=(0o777, 1))
+            for rubbish in [b"", b"CH", b"CH\x01\x00", bytes(2_000), datagram(RFC, (SERVER, 0), rows.peer.me, 5, 0, b"FILE") + b"\x00"]:
+                rows.peer.socket.sendto(rubbish, rows.peer.server)
+            rows.expect("what is no datagram")
+            rows.peer.close()
+            self.check(f"{self.which}: what comes to no connection is answered to the byte, or not at all", rows.problems + host.problems())
+
+    def test_the_rows_of_an_end_that_is_open(self):
+        with serving(self.which) as (host, _):
+            rows = Rows(host)
+            peer = rows.peer
+            rows.problems += peer.open(5)
+            first, second, third = peer.first, (peer.first + 1) % 65_536, (peer.first + 2) % 65_536
+            told = (STS, 0, 5, status(5))
+            rows.expect("a status")
+            rows.row("the request again", (RFC, 5, 0, b"FILE"), told, to=(SERVER, 0))
+            rows.row("the request again, to its index", (RFC, 5, 0, b"FILE"), told)
+            rows.row("a request with another number", (RFC, 6, 0, b"FILE"), to=(SERVER, 0))
+            rows.row("a probe", (SNS, 0, first), told)
+            rows.row("an OPN", (OPN, 9, first, status(first)), told)
+            rows.row("an OPN without a status", (OPN, 9, first, b"123"))
+            rows.row("a status", (STS, 0, first, status(first)))
+            rows.row("a status without its bytes", (STS, 0, first, b"123"))
+            rows.row("a status of what was never sent", (STS, 0, first + 9, status(first + 9)))
+            for op in [UNC, ANS, FWD, LSN, NO_NAME]:
+                rows.row(f"opcode {op:o}", (op, 0, first, b"1234"))
+            rows.row("data that was read before", (DATA, 5, first, b"T  LOGIN X"), told)
+            rows.row("data half a circle behind", (DATA, 5 + 32_768, first, b"T  LOGIN X"), told)
+            rows.row("data past the window", (DATA, 5 + 14, first, b"T  LOGIN X"), told)
+            rows.row("data from another index", (DATA, 6, first, b"T  LOGIN X"), (LOS, 0, 0, NO_CONNECTION), me=(CLIENT, 0o1406))
+            rows.row("data to another index", (DATA, 6, first, b"T  LOGIN X"), (LOS, 0, 0, NO_CONNECTION), to=(SERVER, peer.at[1] ^ 0o400))
+            rows.row("data behind a gap is held", (0o300, 7, first, b"T  DELETE\x8dA"))
+            rows.row("and comes again", (0o300, 7, first, b"T  DELETE\x8dA"), told)
+            login, gone = (DATA, second, 6, b"T  LOGIN M"), (DATA, third, 7, b"T  ERROR FNF No such file.")
+            rows.row("the gap is filled, by data of opcode 277: replies come in order", (0o277, 6, first, b"T  LOGIN M"), login, gone)
+            rows.row("EOF, which acknowledges all", (EOF, 8, third), (CLS, 0, 0, b""))
+            rows.row("data after that", (DATA, 9, third, b"T"), (LOS, 0, 0, NO_CONNECTION))
+            self.check(f"{self.which}: the rows of an open end, each packet to the byte", rows.problems + host.problems())
+            peer.close()
+
+    def test_opcodes_that_end_an_end_that_is_open(self):
+        with serving(self.which) as (host, _):
+            rows = Rows(host)
+            peer = rows.peer
+            for op in [CLS, LOS]:
+                rows.problems = peer.open(5)
+                rows.row(f"opcode {op:o} ends it", (op, 0, 0, b"Bye."))
+                rows.row("data after that", (DATA, 6, peer.first, b"T"), (LOS, 0, 0, NO_CONNECTION))
+                self.check(f"{self.which}: opcode {op:o} ends an open end", rows.problems)
+            peer.close()
+
+    def test_a_request_that_is_answered_by_no_opening_is_told(self):
+        answers = [(CLS, b"it refused the connection"), (ANS, b"it answered in place of opening a connection")]
+        answers += [(FWD, b"it says to ask elsewhere"), (LOS, b"it knows no such connection")]
+        with folder() as here:
+            for op, told in answers:
+                server = Played(self.which, here)
+                server.send(op, body=b"Go away.", index=0)
+                ended = server.end()
+                wanted = b"chaosd: A: %s: Go away.\nchaosd: B: not tried\n" % told
+                self.check(f"{self.which}: a request that opcode {op:o} answers", ended.problems(REFUSED, b"", wanted))
+
+    def test_the_rows_of_an_end_that_asked(self):
+        with folder() as here:
+            server = Played(self.which, here)
+            request = server.request
+            problems = [] if request[0] == RFC and request[1][:3] == (SERVER, 0, CLIENT) and request[2] == b"FILE" else [f"{request}"]
+            server.send(OPN, 100, server.number, b"123")
+            server.send(DATA, 101, server.number, b"early")
+            again = server.next()
+            problems += [] if again == request else [f"what is no opening drew {again}"]
+            server.send(OPN, 100, server.number, status(server.number), index=0o1001)
+            opened = server.next_of(STS)
+            told = opened and (opened[1][:2], opened[1][4:], opened[2][:2])
+            problems += [] if told == ((SERVER, 0o1001), (0, 100), status(100)[:2]) else [f"the opening drew {opened}"]
+            server.send(OPN, 100, server.number, status(server.number), index=0o1001)
+            login = server.next_of(DATA)
+            problems += [] if login and login[2].endswith(b"  LOGIN CHAOSD") and login[1][4] == (server.number + 1) % 65_536 else [f"{login}"]
+            problems += [] if server.next_of(STS) else ["the second opening drew no status"]
+            server.send(DATA, 101, login[1][4], b"X  LOGIN CHAOSD", index=0o1001)
+            told = b"chaosd: A: not an answer of FILE: X  LOGIN CHAOSD\nchaosd: B: not tried\n"
+            self.check(f"{self.which}: an end that asked, row by row", problems + server.end().problems(REFUSED, b"", told))
+
+    def test_of_17_connections_16_are_taken(self):
+        """And the last is told so."""
+        with serving(self.which) as (host, _):
+            peer = Peer(host)
+            for n in range(17):
+                peer.send(RFC, 5, 0, b"FILE", to=(SERVER, 0), me=(CLIENT, n + 1))
+            opened, refused, end = set(), [], time.monotonic() + 30
+            while len(opened) + len(refused) < 17 and time.monotonic() < end:
+                seen = peer.receive(SOON)
+                opened |= {seen[1][1]} if seen and seen[0] == OPN else set()
+                refused += [seen[1][1]] if seen and seen[0] == CLS and seen[2] == FULL else []
+            problems = [] if len(opened) == 16 and len(refused) == 1 and refused[0] not in opened else [f"{opened} and {refused}"]
+            peer.close()
+            self.check(f"{self.which}: of 17 connections 16 are taken", problems)
 
 
-def flood():
-    """10,000 random datagrams leave the Lisp server serving."""
-    chance = random.Random(10_000)
-    with serving(SECOND, peers=2) as (host, here):
-        (host.folder / "A").write_bytes(b"a")
-        peer = Peer(host, 1)
-        for n in range(10_000):
-            peer.socket.sendto(random_datagram(chance), peer.server)
-            if n % 50 == 0:
-                time.sleep(0.01)
-        peer.close()
-        problems = ran(FIRST, ["get", *host.words(), "A"], cwd=here).problems(DONE, b"", b"") + same(here / "A", b"a")
-        yield "10,000 random datagrams leave the Lisp server serving", problems + host.problems()
+class EndOfChaosd(Ends, Case):
+    seconds = 20
+    which = FIRST
+
+
+@needs_lisp
+class EndOfLisp(Ends, Case):
+    seconds = 30
+    which = SECOND
+
+
+class Silence:
+    """A peer that falls silent, and the end that waits for it."""
+
+    def test_a_silent_peer_is_sent_the_reply_again_probed_and_given_up(self):
+        """What a silent peer draws: the reply again, probes, and the end."""
+        with serving(self.which) as (host, _):
+            rows = Rows(host)
+            peer = rows.peer
+            problems = peer.open(5)
+            reply = (peer.first + 1) % 65_536
+            peer.send(DATA, 6, peer.first, b"T  LOGIN X")
+            one, since = peer.receive(), time.monotonic()
+            other, took = peer.receive(again=True), time.monotonic() - since
+            problems += [] if one and one == other and 0.3 < took < 5 else [f"{one}, and after {took:.2f} s {other}"]
+            peer.send(STS, 0, reply, status(reply))
+            since, seen = time.monotonic(), []
+            self.check(f"{self.which}: what isn't receipted is sent again after half a second", problems)
+            while time.monotonic() - since < 93:
+                packet = peer.receive(93 - (time.monotonic() - since))
+                seen += [(packet, time.monotonic() - since)] if packet else []
+            probes = [moment for packet, moment in seen if packet[0] == SNS]
+            problems = [] if len(probes) == len(seen) and 7 <= len(probes) <= 9 and 9 < probes[0] < 15 else [f"{seen}"]
+            self.check(f"{self.which}: a silent peer is probed every ten seconds", problems)
+            peer.send(SNS, 0, reply)
+            last = peer.receive()
+            self.check(f"{self.which}: and given up after ninety", [] if last and last[0] == LOS else [f"{last}"])
+            peer.close()
+
+
+class SilenceToChaosd(Silence, Case):
+    seconds = 95
+    which = FIRST
+
+
+@needs_lisp
+class SilenceToLisp(Silence, Case):
+    seconds = 97
+    which = SECOND
+
+
+@needs_lisp
+class Alike(Case):
+    """What both ends do alike."""
+
+    seconds = 15
+
+    def test_odd_commands_draw_the_same_replies_and_leave_the_same_folder(self):
+        script, seen = odd_commands(), {}
+        for which in (FIRST, SECOND):
+            with serving(which) as (host, _):
+                address, own, server = host.words()
+                process = begun(FIRST, ["ask", address, own, "401", server], stdin=subprocess.PIPE)
+                ended = finished(process, script)
+                kept = {path.name: path.read_bytes() for path in host.folder.iterdir() if path.name != ".new"}
+                seen[which] = (ended.out.splitlines(), kept, ended.problems(DONE, None, b""))
+        first, other = seen[FIRST], seen[SECOND]
+        lines = script.splitlines()
+        problems = first[2] + other[2] + ([] if len(first[0]) == len(lines) else [f"{len(first[0])} replies"])
+        pairs = zip(lines, first[0], other[0])
+        problems += [f"{line!r}: {one!r} and {another!r}" for line, one, another in pairs if one != another][:3]
+        codes = {reply.split(b" ERROR ")[1][:3] for reply in first[0] if b" ERROR " in reply}
+        wanted = {b"SYN", b"UKC", b"ILP", b"HIU", b"NOH", b"WRK", b"NMH", b"FNF", b"FAE"}
+        problems += [f"no {wanted - codes} among them"] if wanted - codes else []
+        self.check(f"{len(lines)} odd commands draw the same replies from chaosd and from Lisp", problems)
+        self.check("and leave the same folder", [] if first[1] == other[1] else [f"{sorted(first[1])} and {sorted(other[1])}"])
+
+    def test_random_datagrams_leave_the_lisp_server_serving(self):
+        """10,000 random datagrams leave the Lisp server serving."""
+        chance = random.Random(10_000)
+        with serving(SECOND, peers=2) as (host, here):
+            (host.folder / "A").write_bytes(b"a")
+            peer = Peer(host, 1)
+            for n in range(10_000):
+                peer.socket.sendto(random_datagram(chance), peer.server)
+                if n % 50 == 0:
+                    time.sleep(0.01)
+            peer.close()
+            problems = ran(FIRST, ["get", *host.words(), "A"], cwd=here).problems(DONE, b"", b"") + stored_problems(here / "A", b"a")
+            self.check("10,000 random datagrams leave the Lisp server serving", problems + host.problems())

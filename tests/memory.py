@@ -1,24 +1,14 @@
-#!/usr/bin/env python3
-"""Refuses memory to proved test programs and to the program itself, each allocation in turn, until a run meets no refusal.
+"""Refuses memory to tests of crates/world_tests and to the program itself, each allocation in turn, until a run meets no refusal.
 
-    rt ci && tests/memory.py [PROGRAM]
-
-It needs what the gate leaves of world_tests, PROGRAM (crates/chaosd/out/chaosd by default), and cc. A test below goes on
-after a refusal and looks at what it left; where its own preparations are refused, it ends with that fault. The program ends with
-status 4 and says so, and what it wrote is a beginning of what it writes with ample memory; a FILE command that finds no memory
-is answered so, and its session goes on. At the end of each run all memory is given back. The last line is 'N passed, M failed'.
+A test goes on after a refusal and looks at what it left; where its own preparations are refused, it ends with that fault. The
+program ends with status 4 and says so, and what it wrote is a beginning of what it writes with ample memory; a FILE command that
+finds no memory is answered so, and its session goes on. At the end of each run all memory is given back.
 """
 
 import os
-import pathlib
-import socket
 import subprocess
-import sys
-import tempfile
 
-HERE = pathlib.Path(__file__).resolve().parent
-CRATES = HERE.parent / "crates"
-TEST_PROGRAM = CRATES / "world_tests/out/world_tests_tests"
+from tests.support import LONG, NO_MEMORY, PROGRAM, Case, Checking, at, checked, folder, free_ports, preloaded
 
 # a test of world_tests, and how many refusals it is to meet at least and go on after
 TESTS = [
@@ -54,60 +44,45 @@ RUNS = [
     ("a bad line", ["serve", "0", "127.0.0.1:1", "."], b""),
     ("help", ["ask", "--help"], b""),
 ]
-NO_MEMORY = 4
-PATIENCE = 60
+# a run that is refused so many allocations in turn has no end
 MOST = 1_000
 
 
-def run(program, test, folder, library, place):
-    """Runs the test with one allocation refused, and gives the status and both outputs."""
-    env = {**os.environ, "LD_PRELOAD": str(library), "FAIL_AT": str(place)}
-    ended = subprocess.run([program, test], cwd=folder, env=env, capture_output=True, text=True, timeout=PATIENCE)
+def refuses(program):
+    """Whether a program refuses memory by itself, as `tools/checked` compiles it."""
+    return b"REFUSE_AT" in program.read_bytes()
+
+
+def run(line, here, library, place, given=b""):
+    """Runs a line with one allocation refused (none at place 0), by a library, if any. Gives the status and both outputs."""
+    environment = {**os.environ, "REFUSE_AT": str(place)} | ({"LD_PRELOAD": str(library)} if library else {})
+    ended = subprocess.run(line, cwd=here, env=environment, input=given, capture_output=True, timeout=LONG)
     return ended.returncode, ended.stdout, ended.stderr
 
 
 def problem_of(status, out, err):
     """What is wrong with a run, or nothing."""
-    own_fault = "AllocError" in out + err or "OutOfMemory" in out + err
+    own_fault = b"AllocError" in out + err or b"OutOfMemory" in out + err
     if status and not own_fault:
-        return f"status {status}: {(out + err).strip()[-300:]}"
-    if "held 0\n" not in err and not status:
-        return f"memory isn't given back: {err.strip()[-100:]}"
+        return f"status {status}: {(out + err).strip()[-300:]!r}"
+    if b"held 0\n" not in err and not status:
+        return f"memory isn't given back: {err.strip()[-100:]!r}"
     return None
 
 
-def try_each(test, least, library):
-    """Refuses each allocation in turn. Gives a line for a person, and whether all went well."""
-    if not TEST_PROGRAM.is_file():
-        return f"{test}: {TEST_PROGRAM} isn't there: run the gate first", False
+def try_each(program, test, least):
+    """Refuses a test each allocation in turn. Gives a line for a person, and what is wrong."""
     met = 0
-    with tempfile.TemporaryDirectory() as folder:
+    with folder() as here:
         for place in range(1, MOST):
-            status, out, err = run(TEST_PROGRAM, test, folder, library, place)
-            problem = problem_of(status, out, err)
-            if problem:
-                return f"{test}, allocation {place}: {problem}", False
-            if "refused" not in err:
-                well = met >= least and "ok" in out
-                return f"{test}: {place - 1} allocations refused in turn, {met} met and gone on after", well
-            met += "met" in out and not status
-    return f"{test}: still refused at allocation {MOST}", False
-
-
-def free_place():
-    """A port of this machine that nobody has."""
-    with socket.socket(socket.AF_INET, socket.SOCK_DGRAM) as it:
-        it.bind(("127.0.0.1", 0))
-        return f"127.0.0.1:{it.getsockname()[1]}"
-
-
-def run_program(program, words, given, library, place):
-    """Runs the program with one allocation refused (none at place 0), and gives the status and both outputs."""
-    env = {**os.environ, "LD_PRELOAD": str(library), "FAIL_AT": str(place)}
-    with tempfile.TemporaryDirectory() as folder:
-        words = [{FOLDER: folder, UDP: free_place()}.get(it, it) for it in words]
-        ended = subprocess.run([program, *words], input=given, env=env, capture_output=True, timeout=PATIENCE)
-    return ended.returncode, ended.stdout, ended.stderr
+            status, out, err = run([program, test], here, None, place)
+            if problem := problem_of(status, out, err):
+                return f"{test}, allocation {place}", [problem]
+            if b"refused" not in err:
+                problems = [] if met >= least and b"ok" in out else [f"it is to meet {least}: {out[-300:]!r}"]
+                return f"{test}: {place - 1} allocations refused in turn, {met} met and gone on after", problems
+            met += b"met" in out and not status
+    return test, [f"still refused at allocation {MOST}"]
 
 
 def is_cut(out, whole):
@@ -136,35 +111,45 @@ def problem_of_run(ended, whole):
     return f"status {status}, output {out[-200:]!r}, error output {err[-200:]!r}"
 
 
-def try_program(program, name, words, given, library):
-    """Refuses each allocation of a run of the program in turn. Gives a line for a person, and whether all went well."""
-    whole = run_program(program, words, given, library, 0)
+def run_program(words, given, library, place):
+    """Runs the program over a folder of its own."""
+    with folder() as here:
+        places = {FOLDER: here, UDP: at(*free_ports(1))}
+        return run([PROGRAM, *(places.get(word, word) for word in words)], here, library, place, given)
+
+
+def try_program(name, words, given, library):
+    """Refuses a run of the program each allocation in turn. Gives a line for a person, and what is wrong."""
+    whole = run_program(words, given, library, 0)
     for place in range(1, MOST):
-        ended = run_program(program, words, given, library, place)
+        ended = run_program(words, given, library, place)
         if b"refused\n" not in ended[2]:
-            return f"{name}: {place - 1} allocations refused in turn", place > 1
-        problem = problem_of_run(ended, whole)
-        if problem:
-            return f"{name}, allocation {place}: {problem}", False
-    return f"{name}: still refused at allocation {MOST}", False
+            return f"{name}: {place - 1} allocations refused in turn", [] if place > 1 else ["it asks for no memory"]
+        if problem := problem_of_run(ended, whole):
+            return f"{name}, allocation {place}", [problem]
+    return name, [f"still refused at allocation {MOST}"]
 
 
-def main():
-    program = pathlib.Path(sys.argv[1] if len(sys.argv) > 1 else CRATES / "chaosd/out/chaosd").resolve()
-    lines = []
-    with tempfile.TemporaryDirectory() as folder:
-        library = pathlib.Path(folder) / "failmalloc.so"
-        subprocess.run(["cc", "-shared", "-fPIC", "-O1", "-o", library, HERE / "failmalloc.c", "-ldl"], check=True)
-        for test in TESTS:
-            lines.append(try_each(*test, library))
-        for wanted in RUNS:
-            lines.append(try_program(program, *wanted, library))
-    for line, well in lines:
-        print(f"{'ok' if well else 'not ok'}: {line}", flush=True)
-    failed = sum(not well for _, well in lines)
-    print(f"{len(lines) - failed} passed, {failed} failed")
-    sys.exit(1 if failed else 0)
+class Tests(Checking):
+    """Tests of world_tests, which go on after a refusal."""
+
+    seconds = 10
+
+    def test_a_call_that_finds_no_memory_changes_nothing(self):
+        program = checked("world_tests", "--test")
+        if not refuses(program):
+            self.skipTest("out/checked/world_tests was compiled where cc isn't, and refuses no memory")
+        for test, least in TESTS:
+            self.check(*try_each(program, test, least))
 
 
-if __name__ == "__main__":
-    main()
+class Runs(Case):
+    """Runs of the program."""
+
+    seconds = 10
+
+    def test_a_run_that_finds_no_memory_tells_it_or_goes_on(self):
+        with folder() as here:
+            library = None if refuses(PROGRAM) else preloaded(here, "failmalloc")
+            for name, words, given in RUNS:
+                self.check(*try_program(name, words, given, library))

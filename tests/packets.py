@@ -7,6 +7,7 @@ import struct
 from tests.support import CLIENT, SOON
 
 RFC, OPN, CLS, SNS, STS, LOS, EOF, DATA = 0o1, 0o2, 0o3, 0o6, 0o7, 0o11, 0o14, 0o200
+FWD, ANS, LSN, UNC, NO_NAME = 0o4, 0o5, 0o12, 0o15, 0o16
 
 
 def turned(data):

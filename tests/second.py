@@ -1,4 +1,4 @@
-"""Two programs that speak to each other, for tests/lisp.py: `chaosd`, and the end in Lisp, in each other's place."""
+"""Two programs that speak to each other: `chaosd`, and the end in Lisp, in each other's place."""
 
 import contextlib
 import pathlib
@@ -9,55 +9,43 @@ import signal
 import socket
 import struct
 import subprocess
-import tempfile
 import threading
 import time
+import unittest
 
-import files
-import program
-from files import CLIENT, SERVER, at, free_ports
-from program import Ended
+from tests import support
+from tests.packets import DATA, OPN, RFC, STS, datagram, turned
+from tests.support import CLIENT, DONE, PROGRAM, ROOT, SERVER, USUAL_WINDOW, at, folder, free_ports, line_of, run
 
-ROOT = program.HERE.parent
 LISP = ROOT / "examples/lisp"
 SBCL = shutil.which("sbcl")
 # Seconds: a Lisp takes one to start, and more on a machine that does much else.
-LONG = 150
+LONG = 300
 
 FIRST, SECOND = "chaosd", "Lisp"
 
+needs_lisp = unittest.skipUnless(SBCL, "sbcl isn't there: `apt-get install sbcl` gives it")
 
-def line_of(which):
+
+def words_of(which):
     """The words that start a program."""
-    return [str(program.PROGRAM)] if which == FIRST else [SBCL, "--script", str(LISP / "chaosd.lisp")]
+    return [str(PROGRAM)] if which == FIRST else [SBCL, "--script", str(LISP / "chaosd.lisp")]
 
 
 def begun(which, words, **streams):
     """A program that runs. SIGINT ends it, as by default."""
     streams = {"stdin": subprocess.DEVNULL, "stdout": subprocess.PIPE, "stderr": subprocess.PIPE, **streams}
-    return subprocess.Popen([*line_of(which), *words], preexec_fn=lambda: signal.signal(signal.SIGINT, signal.SIG_DFL), **streams)
+    return subprocess.Popen([*words_of(which), *words], preexec_fn=lambda: signal.signal(signal.SIGINT, signal.SIG_DFL), **streams)
 
 
 def finished(process, given=None):
     """How a run ended."""
-    try:
-        out, err = process.communicate(given, timeout=LONG)
-    except subprocess.TimeoutExpired:
-        process.kill()
-        out, err = process.communicate()
-        return Ended("after its time", out or b"", err or b"")
-    return Ended(process.returncode, out or b"", err or b"")
+    return support.finished(process, given, LONG)
 
 
 def ran(which, words, **streams):
     """A run to its end."""
     return finished(begun(which, words, **streams))
-
-
-@contextlib.contextmanager
-def folder():
-    with tempfile.TemporaryDirectory() as name:
-        yield pathlib.Path(name)
 
 
 class Server:
@@ -72,11 +60,11 @@ class Server:
     def start(self):
         words = [f"{CLIENT + n:o}={at(port)}" for n, port in enumerate(self.peers)]
         self.process = begun(self.which, ["serve", *self.options, "401", at(self.port), str(self.folder), *words])
-        self.said = files.line_of(self.process.stderr, LONG)
+        self.said = line_of(self.process.stderr, LONG)
         threading.Thread(target=self.drain, args=(self.process.stderr,), daemon=True).start()
 
     def drain(self, stream):
-        with contextlib.suppress(ValueError, OSError):
+        with stream:
             for line in stream:
                 self.said += line
 
@@ -103,11 +91,6 @@ def serving(which, **options):
             yield server, here
         finally:
             server.end()
-
-
-def same(seen, content):
-    """What differs from the content in a file."""
-    return files.stored_problems(pathlib.Path(seen), content)
 
 
 class Network(threading.Thread):
@@ -171,7 +154,7 @@ def packets_of(datagram):
         ends = struct.unpack(">6H", datagram[place + 4 : place + 16])
         size = (count & 0xFFF) + count % 2
         words = datagram[place + 16 : place + 16 + size]
-        data = b"".join(words[n : n + 2][::-1] for n in range(0, size, 2))
+        data = turned(words)
         packets.append((op, ends, data[: count & 0xFFF], free == 0 and count < 0x1000 and not any(data[count & 0xFFF :])))
         place += 16 + size
     return packets
@@ -180,23 +163,22 @@ def packets_of(datagram):
 def canonical_problems(datagrams):
     """What is wrong with what an end sent: `show` refuses none, nothing is in what is free, and nothing was forwarded."""
     given = b"".join(datagram.hex().encode() + b"\n" for datagram in datagrams)
-    shown = program.run(["show"], given)
-    problems = shown.problems(program.DONE, None, b"")
+    shown = run(["show"], given)
+    problems = shown.problems(DONE, None, b"")
     return problems + [datagram.hex(" ") for datagram in datagrams if not all(packet[3] for packet in packets_of(datagram))][:1]
 
 
 class Peer:
-    """One that speaks datagrams to a server, and notes no program's state: it sends what a check says."""
+    """One that speaks packets to a server, and notes no program's state: it sends what a test says."""
 
-    def __init__(self, server, peer=0, own=0o1405):
+    def __init__(self, server, peer=0):
         self.socket = socket.socket(socket.AF_INET, socket.SOCK_DGRAM)
         self.socket.bind(("127.0.0.1", server.peers[peer]))
-        self.socket.settimeout(10)
-        self.server, self.me = ("127.0.0.1", server.port), (CLIENT + peer, own)
+        self.server, self.me = ("127.0.0.1", server.port), (CLIENT + peer, 0o1405)
         self.at, self.first, self.seen = (SERVER, 0), 0, set()
 
     def send(self, op, num=0, ack=0, body=b"", to=None, me=None):
-        self.socket.sendto(files.datagram(op, to or self.at, me or self.me, num, ack, body), self.server)
+        self.socket.sendto(datagram(op, to or self.at, me or self.me, num, ack, body), self.server)
 
     def receive(self, patience=10, again=False):
         """The next packet, or None where none comes in time. An item that was seen before, as it is sent again where the machine is
@@ -207,7 +189,7 @@ class Peer:
                 self.socket.settimeout(left)
                 packet = packets_of(self.socket.recv(2_048))[0]
                 item = (packet[0], packet[1][:5])
-                is_new = item not in self.seen or packet[0] not in (files.OPN, files.DATA)
+                is_new = item not in self.seen or packet[0] not in (OPN, DATA)
                 self.seen.add(item)
                 if is_new or again:
                     return packet
@@ -215,12 +197,12 @@ class Peer:
 
     def open(self, number=5):
         """Asks for FILE and is opened. Gives what is wrong."""
-        self.send(files.RFC, number, 0, b"FILE", to=(SERVER, 0))
+        self.send(RFC, number, 0, b"FILE", to=(SERVER, 0))
         seen = self.receive()
-        if seen is None or seen[0] != files.OPN:
+        if seen is None or seen[0] != OPN:
             return [f"no OPN but {seen}"]
         self.at, self.first = (SERVER, seen[1][3]), seen[1][4]
-        self.send(files.STS, 0, self.first, struct.pack("<2H", self.first, 13))
+        self.send(STS, 0, self.first, struct.pack("<2H", self.first, USUAL_WINDOW))
         return []
 
     def close(self):

@@ -12,6 +12,7 @@ import os
 import pathlib
 import random
 import select
+import shutil
 import signal
 import socket
 import struct
@@ -41,21 +42,42 @@ IS_CHECKED = PROGRAM.parent.name == "checked"
 PATIENCE, LONG, SOON = (120, 180, 15) if IS_CHECKED else (20, 60, 5)
 
 
-class Case(unittest.TestCase):
-    """Tests of the program. Classes run side by side, those first that say that they take the most seconds."""
+class Checking(unittest.TestCase):
+    """Tests of several checks. Classes run side by side, those first that say that they take the most seconds."""
 
     seconds = 1
-
-    @classmethod
-    def setUpClass(cls):
-        if not PROGRAM.is_file():
-            raise FileNotFoundError(f"{PROGRAM} isn't there: `make` builds bin/chaosd, `tools/checked chaosd` one without proof, for CHAOSD")
 
     def check(self, name, problems):
         """One check of several in a test, which holds where there are no problems. The others follow in either case."""
         with self.subTest(name):
             if problems:
                 self.fail("\n".join(problems))
+
+
+class Case(Checking):
+    """Tests of the program."""
+
+    @classmethod
+    def setUpClass(cls):
+        if not PROGRAM.is_file():
+            raise FileNotFoundError(f"{PROGRAM} isn't there: `make` builds bin/chaosd, `tools/checked chaosd` one without proof, for CHAOSD")
+
+
+def checked(name, *words):
+    """A program that `tools/checked` compiles, with checks and without proof. Where it isn't there, the test is skipped."""
+    program = ROOT / "out/checked" / name
+    if not program.is_file():
+        raise unittest.SkipTest(f"out/checked/{name} isn't there: `{' '.join(['tools/checked', *words, name])}` compiles it")
+    return program
+
+
+def preloaded(folder, name):
+    """The library of tests/NAME.c, which is loaded before the C library of a program. Where cc isn't there, the test is skipped."""
+    if not shutil.which("cc"):
+        raise unittest.SkipTest(f"cc isn't there, which tests/{name}.c wants")
+    library = pathlib.Path(folder) / f"{name}.so"
+    subprocess.run(["cc", "-shared", "-fPIC", "-O1", "-o", library, ROOT / f"tests/{name}.c", "-ldl"], check=True)
+    return library
 
 
 # Runs of the program.
