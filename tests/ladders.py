@@ -1,25 +1,13 @@
-#!/usr/bin/env python3
-"""Tests tools/ladder and tools/layers: draws the pictures of the documents again, and counts what stands in each ladder.
-
-    make && tests/ladders.py [PROGRAM]
-
-PROGRAM is bin/chaosd by default. One line is printed for each check, and the count at the end. The status is 0 where all checks
-held, and else 1.
-"""
+"""Tests tools/ladder and tools/layers: draws the pictures of the documents again, and counts what stands in each ladder."""
 
 import collections
-import pathlib
 import re
 import subprocess
 import sys
-import tempfile
 from xml.etree import ElementTree
 
-sys.dont_write_bytecode = True
-import program  # noqa: E402
-from program import DONE, Checks, run  # noqa: E402
+from tests.support import DONE, PATIENCE, ROOT, Case, folder, run
 
-ROOT = program.HERE.parent
 LADDER = ROOT / "tools/ladder"
 LAYERS = ROOT / "tools/layers"
 PICTURES = ROOT / "docs/pictures"
@@ -30,7 +18,7 @@ SCRIPTS = sorted(path for path in ROOT.glob("examples/*lab/*") if path.suffix !=
 
 def drawn(*words):
     """What the tool does with these words."""
-    return subprocess.run([sys.executable, LADDER, *words], capture_output=True, text=True, timeout=program.PATIENCE)
+    return subprocess.run([sys.executable, LADDER, *words], capture_output=True, text=True, timeout=PATIENCE)
 
 
 def texts(svg):
@@ -42,45 +30,6 @@ def classes(svg):
     """How often each class stands in it."""
     elements = ElementTree.fromstring(svg).iter()
     return collections.Counter(name for each in elements for name in each.get("class", "").split())
-
-
-def documented(checks):
-    """The pictures of docs/pictures are those that the tool draws, and each stands in a document."""
-    with tempfile.TemporaryDirectory() as folder:
-        ended = drawn("--pictures", folder)
-        checks.check("the tool draws all pictures", [ended.stderr] * bool(ended.returncode or ended.stderr))
-        made = {path.name: path.read_text() for path in pathlib.Path(folder).iterdir()}
-    layers = subprocess.run([LAYERS], capture_output=True, text=True, timeout=program.PATIENCE)
-    checks.check("the layers are drawn as crates.txt has them", [layers.stderr] * bool(layers.returncode or layers.stderr))
-    there = {path.name for path in PICTURES.iterdir()}
-    checks.check("there is a picture of each script", [] if len(made) == len(SCRIPTS) + 1 else [f"{sorted(made)} of {len(SCRIPTS)} scripts"])
-    made["layers.svg"] = layers.stdout
-    checks.check("no others are there", [f"{name}" for name in sorted(there ^ set(made))])
-    for name in sorted(there & set(made)):
-        same = (PICTURES / name).read_text() == made[name]
-        checks.check(f"{name} is drawn as it is there", [] if same else ["another is drawn: `make pictures`"])
-    shown = {name for document in DOCUMENTS for name in re.findall(r"\]\((?:docs/)?pictures/([\w.]+)\)", document.read_text())}
-    checks.check("documents show pictures that are there", sorted(shown - there))
-    checks.check("each picture stands in a document", sorted(there - shown))
-
-
-def counted(checks):
-    """Each picture has an arrow for each delivery, a cross for each copy that never comes, and what was written and read."""
-    for script in SCRIPTS:
-        output = script.with_suffix(".txt").read_text()
-        svg = drawn(script, script.with_suffix(".txt")).stdout
-        count, seen = classes(svg), texts(svg)
-        # those of the script, and those that `settle` printed
-        deliveries = re.findall(r"^deliver (\d+)$", script.read_text() + output, re.M)
-        copies = re.findall(r"^copy (\d+) [ab] (\S+)", output, re.M)
-        lost = len({number for number, _ in copies} - set(deliveries))
-        refused = len(re.findall(r"^refused [12]", output, re.M))
-        wanted = {"arrow": len(deliveries) - refused + lost, "cross": 2 * lost, "label": len(copies)}
-        problems = [f"{count[name]} of {name} and not {number}" for name, number in wanted.items() if count[name] != number]
-        problems += [f"no label of copy {number}" for number, kind in copies if not any(text.startswith(f"{number} {kind}") for text in seen)]
-        for line in re.findall(r"^read \d{3} (.*)$", output, re.M):
-            problems += [] if any(f"“{line[:36]}" in text for text in seen) else [f"nobody reads {line}"]
-        checks.check(f"{script.name}: arrows, crosses and texts", problems)
 
 
 ALL_FORMS = """ends 2 1 3 2 7
@@ -121,46 +70,71 @@ stored a 2 b 1
 """
 
 
-def forms(checks):
-    """A script of every form, and of a form that isn't known."""
-    with tempfile.TemporaryDirectory() as folder:
-        script, output = pathlib.Path(folder) / "all.lab", pathlib.Path(folder) / "all.txt"
-        script.write_text(ALL_FORMS)
-        output.write_text(ALL_RESULTS)
-        svg = drawn(script, output).stdout
-    count, seen = classes(svg), texts(svg)
-    wanted = ["A", "sends 2, receives 1", "B", "sends 3, receives 2", "2 stored", "1 stored", "0 RFC 7", "1 OPN 100 ack 7", "2 STS ack 7"]
-    wanted += ["4 EOF 9 ack 100", "5 OPN 100 ack 7 again", "6 DWD 101 ack 7", "7 CLS", "request", "Requested", "accept 100", "Dropped NotOpen"]
-    wanted += ["window 1", "serve → ended Open", "write 201 “<&>” → 8", "write EOF → 9", "500 ms → resent 2", "deliver 9 → refused: NoSuchCopy"]
-    wanted += ["deliver 2 → refused: Stale", "later than ever → so be it", "close “good\\20bye”"]
-    checks.check("a script of every form: its texts", [f"no {text!r} in {seen}" for text in wanted if text not in seen])
-    checks.check("its refusals are red", [] if count["refused"] == 3 else [f"{count['refused']} are"])
-    checks.check("its lost copies end in a cross", [] if count["cross"] == 2 * 6 else [f"{count['cross'] // 2} do"])
+class Ladders(Case):
+    """The pictures of the documents, and the tools that draw them."""
 
+    seconds = 3
 
-def of_reports(checks):
-    """What `show` says of examples/login.hex is what that picture is drawn from, through a file or a pipe."""
-    reports = LOGIN.with_suffix(".txt").read_bytes()
-    checks.check("show < examples/login.hex", run(["show"], LOGIN.with_suffix(".hex").read_bytes()).problems(DONE, reports, b""))
-    seen = texts(drawn(LOGIN.with_suffix(".txt")).stdout)
-    wanted = ["000401", "000402", "“FILE”", "“T1  LOGIN LISPM”", "receipt 65534, window 13", "1 RFC 65534", "7 CLS"]
-    checks.check("its picture: texts", [f"no {text!r} in {seen}" for text in wanted if text not in seen])
-    for name, words in [("no words", []), ("three words", ["a", "b", "c"]), ("a file of no packets", [ROOT / "crates.txt"]), ("no script", [ROOT / "crates.txt"] * 2)]:
-        ended = drawn(*words)
-        checks.check(f"{name}: told on standard error", [] if ended.returncode == 1 and ended.stderr and not ended.stdout else [f"{ended}"])
+    def test_the_pictures_are_those_that_the_tools_draw_and_stand_in_documents(self):
+        """The pictures of docs/pictures are those that the tool draws, and each stands in a document."""
+        with folder() as here:
+            ended = drawn("--pictures", here)
+            self.check("the tool draws all pictures", [ended.stderr] * bool(ended.returncode or ended.stderr))
+            made = {path.name: path.read_text() for path in here.iterdir()}
+        layers = subprocess.run([LAYERS], capture_output=True, text=True, timeout=PATIENCE)
+        self.check("the layers are drawn as crates.txt has them", [layers.stderr] * bool(layers.returncode or layers.stderr))
+        there = {path.name for path in PICTURES.iterdir()}
+        self.check("there is a picture of each script", [] if len(made) == len(SCRIPTS) + 1 else [f"{sorted(made)} of {len(SCRIPTS)} scripts"])
+        made["layers.svg"] = layers.stdout
+        self.check("no others are there", [f"{name}" for name in sorted(there ^ set(made))])
+        for name in sorted(there & set(made)):
+            same = (PICTURES / name).read_text() == made[name]
+            self.check(f"{name} is drawn as it is there", [] if same else ["another is drawn: `make pictures`"])
+        shown = {name for document in DOCUMENTS for name in re.findall(r"\]\((?:docs/)?pictures/([\w.]+)\)", document.read_text())}
+        self.check("documents show pictures that are there", sorted(shown - there))
+        self.check("each picture stands in a document", sorted(there - shown))
 
+    def test_a_picture_has_each_delivery_each_loss_and_each_text(self):
+        """Each picture has an arrow for each delivery, a cross for each copy that never comes, and what was written and read."""
+        for script in SCRIPTS:
+            output = script.with_suffix(".txt").read_text()
+            svg = drawn(script, script.with_suffix(".txt")).stdout
+            count, seen = classes(svg), texts(svg)
+            # those of the script, and those that `settle` printed
+            deliveries = re.findall(r"^deliver (\d+)$", script.read_text() + output, re.M)
+            copies = re.findall(r"^copy (\d+) [ab] (\S+)", output, re.M)
+            lost = len({number for number, _ in copies} - set(deliveries))
+            refused = len(re.findall(r"^refused [12]", output, re.M))
+            wanted = {"arrow": len(deliveries) - refused + lost, "cross": 2 * lost, "label": len(copies)}
+            problems = [f"{count[name]} of {name} and not {number}" for name, number in wanted.items() if count[name] != number]
+            problems += [f"no label of copy {number}" for number, kind in copies if not any(text.startswith(f"{number} {kind}") for text in seen)]
+            for line in re.findall(r"^read \d{3} (.*)$", output, re.M):
+                problems += [] if any(f"“{line[:36]}" in text for text in seen) else [f"nobody reads {line}"]
+            self.check(f"{script.name}: arrows, crosses and texts", problems)
 
-def main():
-    if len(sys.argv) > 1:
-        program.PROGRAM = pathlib.Path(sys.argv[1]).resolve()
-    if not program.PROGRAM.is_file():
-        sys.exit(f"{program.PROGRAM} isn't there: run make first")
-    checks = Checks()
-    for group in [documented, counted, forms, of_reports]:
-        group(checks)
-    print(f"{checks.count - checks.failed} passed, {checks.failed} failed")
-    sys.exit(1 if checks.failed else 0)
+    def test_a_script_of_every_form_is_drawn(self):
+        """A script of every form, and of a form that isn't known."""
+        with folder() as here:
+            script, output = here / "all.lab", here / "all.txt"
+            script.write_text(ALL_FORMS)
+            output.write_text(ALL_RESULTS)
+            svg = drawn(script, output).stdout
+        count, seen = classes(svg), texts(svg)
+        wanted = ["A", "sends 2, receives 1", "B", "sends 3, receives 2", "2 stored", "1 stored", "0 RFC 7", "1 OPN 100 ack 7", "2 STS ack 7"]
+        wanted += ["4 EOF 9 ack 100", "5 OPN 100 ack 7 again", "6 DWD 101 ack 7", "7 CLS", "request", "Requested", "accept 100", "Dropped NotOpen"]
+        wanted += ["window 1", "serve → ended Open", "write 201 “<&>” → 8", "write EOF → 9", "500 ms → resent 2", "deliver 9 → refused: NoSuchCopy"]
+        wanted += ["deliver 2 → refused: Stale", "later than ever → so be it", "close “good\\20bye”"]
+        self.check("a script of every form: its texts", [f"no {text!r} in {seen}" for text in wanted if text not in seen])
+        self.check("its refusals are red", [] if count["refused"] == 3 else [f"{count['refused']} are"])
+        self.check("its lost copies end in a cross", [] if count["cross"] == 2 * 6 else [f"{count['cross'] // 2} do"])
 
-
-if __name__ == "__main__":
-    main()
+    def test_reports_of_show_are_drawn_and_a_mistake_is_told(self):
+        """What `show` says of examples/login.hex is what that picture is drawn from, through a file or a pipe."""
+        reports = LOGIN.with_suffix(".txt").read_bytes()
+        self.check("show < examples/login.hex", run(["show"], LOGIN.with_suffix(".hex").read_bytes()).problems(DONE, reports, b""))
+        seen = texts(drawn(LOGIN.with_suffix(".txt")).stdout)
+        wanted = ["000401", "000402", "“FILE”", "“T1  LOGIN LISPM”", "receipt 65534, window 13", "1 RFC 65534", "7 CLS"]
+        self.check("its picture: texts", [f"no {text!r} in {seen}" for text in wanted if text not in seen])
+        for name, words in [("no words", []), ("three words", ["a", "b", "c"]), ("a file of no packets", [ROOT / "crates.txt"]), ("no script", [ROOT / "crates.txt"] * 2)]:
+            ended = drawn(*words)
+            self.check(f"{name}: told on standard error", [] if ended.returncode == 1 and ended.stderr and not ended.stdout else [f"{ended}"])

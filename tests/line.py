@@ -1,19 +1,6 @@
-#!/usr/bin/env python3
-"""Tests the command line of `chaosd` as a user meets it: what help says, and what is told of words that are not of their form.
+"""Tests the command line of `chaosd`: what help says, and what is told of words that are not of their form."""
 
-    make && tests/line.py [PROGRAM]
-
-PROGRAM is bin/chaosd by default. One line is printed for each check, and the count at the end. The status is 0 where all
-checks held, and else 1.
-"""
-
-import pathlib
-import sys
-
-sys.dont_write_bytecode = True
-
-import program
-from program import BAD_LINE, DONE, Checks, run
+from tests.support import BAD_LINE, DONE, Case, run
 
 ADDRESS_FORM = "1 to 6 octal digits, from 1 to 177777"
 SOCKET_FORM = "a.b.c.d:port in decimal without leading zeros, the port from 1 to 65535"
@@ -102,123 +89,107 @@ HELP = {
 }
 
 
-def is_told(checks, words, text, place, form):
+def is_told(case, words, text, place, form):
     """A line whose one bad word is this text at this place: what is told begins with it, the place and what is wanted."""
     ended = run(words)
     problems = ended.problems(BAD_LINE, b"", None)
     wanted = f"error: invalid value '{text}' for '{place}': wanted {form}\n"
     if not ended.err.startswith(wanted.encode()):
         problems.append(f"error output {ended.err!r}")
-    checks.check(f"{text!r} at {place} of {words[0]} is told, status 2", problems)
-
-
-def words_out_of_form(checks):
-    """Each word that is not of its form is named, with its place and what is wanted."""
-    for text in BAD_ADDRESSES:
-        is_told(checks, ["serve", text, "127.0.0.1:1", "d"], text, "ADDRESS", ADDRESS_FORM)
-        is_told(checks, ["ask", text, "127.0.0.1:1", "401"], text, "ADDRESS", ADDRESS_FORM)
-        is_told(checks, ["ask", "402", "127.0.0.1:1", text], text, "TO", ADDRESS_FORM)
-    for text in BAD_SOCKETS:
-        is_told(checks, ["serve", "401", text, "d"], text, "UDP", SOCKET_FORM)
-        is_told(checks, ["ask", "402", text, "401"], text, "UDP", SOCKET_FORM)
-    for text in BAD_TURNS:
-        is_told(checks, ["serve", "--turns", text, "401", "127.0.0.1:1", "d"], text, "--turns", TURNS_FORM)
-    for text in BAD_WINDOWS:
-        is_told(checks, ["serve", "--window", text, "401", "127.0.0.1:1", "d"], text, "--window", WINDOW_FORM)
-
-
-def peers_out_of_form(checks):
-    """Likewise peers, one too many, and a second one of an address."""
-    for text in BAD_PEERS:
-        is_told(checks, ["serve", "401", "127.0.0.1:1", "d", text], text, "PEER", PEER_FORM)
-        is_told(checks, ["ask", "402", "127.0.0.1:1", "401", "403=127.0.0.1:3", text], text, "PEER", PEER_FORM)
-    for words in [
-        ["serve", "401", "127.0.0.1:1", "d", "402=127.0.0.1:2", "000402=127.0.0.1:3"],
-        ["ask", "402", "127.0.0.1:1", "401", "401=127.0.0.1:2", "401=127.0.0.1:2"],
-    ]:
-        is_told(checks, words, words[-1], "PEER", "each Chaosnet address once")
-    many = [f"{address:o}=127.0.0.1:9002" for address in range(1, 34)]
-    is_told(checks, ["serve", "401", "127.0.0.1:9001", "d", *many], "41=127.0.0.1:9002", "PEER", "at most 32 peers")
+    case.check(f"{text!r} at {place} of {words[0]} is told, status 2", problems)
 
 
 ADDRESSES = ["402", "127.0.0.1:9002", "401=127.0.0.1:9001"]
 
 
-def copies_out_of_form(checks):
-    """Likewise the words of `get` and `put`."""
-    for command in ["get", "put"]:
+class Line(Case):
+    """Words out of their form, mistakes and help."""
+
+    seconds = 4
+
+    def test_a_word_out_of_form_is_named_with_what_is_wanted(self):
+        """Each word that is not of its form is named, with its place and what is wanted."""
         for text in BAD_ADDRESSES:
-            is_told(checks, [command, text, *ADDRESSES[1:], "A"], text, "ADDRESS", ADDRESS_FORM)
+            is_told(self, ["serve", text, "127.0.0.1:1", "d"], text, "ADDRESS", ADDRESS_FORM)
+            is_told(self, ["ask", text, "127.0.0.1:1", "401"], text, "ADDRESS", ADDRESS_FORM)
+            is_told(self, ["ask", "402", "127.0.0.1:1", text], text, "TO", ADDRESS_FORM)
         for text in BAD_SOCKETS:
-            is_told(checks, [command, "402", text, ADDRESSES[2], "A"], text, "UDP", SOCKET_FORM)
-        for text in BAD_PEERS:
-            is_told(checks, [command, *ADDRESSES[:2], text, "A"], text, "SERVER", PEER_FORM)
+            is_told(self, ["serve", "401", text, "d"], text, "UDP", SOCKET_FORM)
+            is_told(self, ["ask", "402", text, "401"], text, "UDP", SOCKET_FORM)
+        for text in BAD_TURNS:
+            is_told(self, ["serve", "--turns", text, "401", "127.0.0.1:1", "d"], text, "--turns", TURNS_FORM)
         for text in BAD_WINDOWS:
-            is_told(checks, [command, "--window", text, *ADDRESSES, "A"], text, "--window", WINDOW_FORM)
-        for text in BAD_LOGINS:
-            is_told(checks, [command, "--login", text, *ADDRESSES, "A"], text, "--login", LOGIN_FORM)
-    for text in BAD_PATHS:
-        is_told(checks, ["get", *ADDRESSES, text], text, "PATH", PATHS_FORM)
-        is_told(checks, ["get", *ADDRESSES, "A", text, "B"], text, "PATH", PATHS_FORM)
-        is_told(checks, ["put", "--as", text, *ADDRESSES, "A"], text, "--as", AS_FORM)
-    is_told(checks, ["get", *ADDRESSES, "B", "A", "C", "A"], "A", "PATH", PATHS_FORM)
-    is_told(checks, ["get", "--output", "x", *ADDRESSES, "A", "B"], "x", "--output", OUTPUT_FORM)
-    for text in ["", "-", "a b", "d/", "d/.A", "d/a b", "d/" + "A" * 65]:
-        is_told(checks, ["put", *ADDRESSES, text], text, "LOCAL", LOCALS_FORM)
-        is_told(checks, ["put", *ADDRESSES, "A", text, "B"], text, "LOCAL", LOCALS_FORM)
-    is_told(checks, ["put", *ADDRESSES, "a/Y", "a/X", "b/X"], "a/X", "LOCAL", LOCALS_FORM)
-    is_told(checks, ["put", "--as", "X", *ADDRESSES, "A", "B"], "X", "--as", AS_FORM)
+            is_told(self, ["serve", "--window", text, "401", "127.0.0.1:1", "d"], text, "--window", WINDOW_FORM)
 
-
-def carriages_out_of_form(checks):
-    """Likewise the carriage, of each command that has one."""
-    for text in BAD_CARRIAGES:
+    def test_a_peer_out_of_form_is_named_and_so_is_one_too_many(self):
+        """Likewise peers, one too many, and a second one of an address."""
+        for text in BAD_PEERS:
+            is_told(self, ["serve", "401", "127.0.0.1:1", "d", text], text, "PEER", PEER_FORM)
+            is_told(self, ["ask", "402", "127.0.0.1:1", "401", "403=127.0.0.1:3", text], text, "PEER", PEER_FORM)
         for words in [
-            ["loop"],
-            ["serve", "401", "127.0.0.1:1", "d"],
-            ["ask", "402", "127.0.0.1:1", "401"],
-            ["get", *ADDRESSES, "A"],
-            ["put", *ADDRESSES, "A"],
+            ["serve", "401", "127.0.0.1:1", "d", "402=127.0.0.1:2", "000402=127.0.0.1:3"],
+            ["ask", "402", "127.0.0.1:1", "401", "401=127.0.0.1:2", "401=127.0.0.1:2"],
         ]:
-            is_told(checks, [words[0], "--carriage", text, *words[1:]], text, "--carriage", CARRIAGE_FORM)
+            is_told(self, words, words[-1], "PEER", "each Chaosnet address once")
+        many = [f"{address:o}=127.0.0.1:9002" for address in range(1, 34)]
+        is_told(self, ["serve", "401", "127.0.0.1:9001", "d", *many], "41=127.0.0.1:9002", "PEER", "at most 32 peers")
 
+    def test_a_word_of_a_copy_out_of_form_is_named(self):
+        """Likewise the words of `get` and `put`."""
+        for command in ["get", "put"]:
+            for text in BAD_ADDRESSES:
+                is_told(self, [command, text, *ADDRESSES[1:], "A"], text, "ADDRESS", ADDRESS_FORM)
+            for text in BAD_SOCKETS:
+                is_told(self, [command, "402", text, ADDRESSES[2], "A"], text, "UDP", SOCKET_FORM)
+            for text in BAD_PEERS:
+                is_told(self, [command, *ADDRESSES[:2], text, "A"], text, "SERVER", PEER_FORM)
+            for text in BAD_WINDOWS:
+                is_told(self, [command, "--window", text, *ADDRESSES, "A"], text, "--window", WINDOW_FORM)
+            for text in BAD_LOGINS:
+                is_told(self, [command, "--login", text, *ADDRESSES, "A"], text, "--login", LOGIN_FORM)
+        for text in BAD_PATHS:
+            is_told(self, ["get", *ADDRESSES, text], text, "PATH", PATHS_FORM)
+            is_told(self, ["get", *ADDRESSES, "A", text, "B"], text, "PATH", PATHS_FORM)
+            is_told(self, ["put", "--as", text, *ADDRESSES, "A"], text, "--as", AS_FORM)
+        is_told(self, ["get", *ADDRESSES, "B", "A", "C", "A"], "A", "PATH", PATHS_FORM)
+        is_told(self, ["get", "--output", "x", *ADDRESSES, "A", "B"], "x", "--output", OUTPUT_FORM)
+        for text in ["", "-", "a b", "d/", "d/.A", "d/a b", "d/" + "A" * 65]:
+            is_told(self, ["put", *ADDRESSES, text], text, "LOCAL", LOCALS_FORM)
+            is_told(self, ["put", *ADDRESSES, "A", text, "B"], text, "LOCAL", LOCALS_FORM)
+        is_told(self, ["put", *ADDRESSES, "a/Y", "a/X", "b/X"], "a/X", "LOCAL", LOCALS_FORM)
+        is_told(self, ["put", "--as", "X", *ADDRESSES, "A", "B"], "X", "--as", AS_FORM)
 
-def mistakes(checks):
-    """The first bad word is told with the usage of its subcommand; what clap finds is told in its words."""
-    wanted = (
-        f"error: invalid value 'x' for '--turns': wanted {TURNS_FORM}\n\n"
-        "Usage: chaosd serve [OPTIONS] <ADDRESS> <UDP> <FOLDER> [PEER]...\n\nFor more information, try '--help'.\n"
-    )
-    ended = run(["serve", "--turns", "x", "0", "u", "d", "p"])
-    checks.check("the first bad word is told with its usage", ended.problems(BAD_LINE, b"", wanted.encode()))
-    for words, piece in [
-        (["nonsense"], b"unrecognized subcommand 'nonsense'"),
-        (["serve", "401", "127.0.0.1:1"], b"  <FOLDER>\n"),
-        (["get", *ADDRESSES], b"  <PATH>...\n"),
-        (["put", *ADDRESSES], b"  <LOCAL>...\n"),
-        (["get", "--version"], b"unexpected argument '--version' found"),
-    ]:
-        checks.check(f"`chaosd {' '.join(words)}`: a mistake is told", run(words).problems(BAD_LINE, b"", [piece]))
+    def test_a_carriage_is_1_or_2(self):
+        """Likewise the carriage, of each command that has one."""
+        for text in BAD_CARRIAGES:
+            for words in [
+                ["loop"],
+                ["serve", "401", "127.0.0.1:1", "d"],
+                ["ask", "402", "127.0.0.1:1", "401"],
+                ["get", *ADDRESSES, "A"],
+                ["put", *ADDRESSES, "A"],
+            ]:
+                is_told(self, [words[0], "--carriage", text, *words[1:]], text, "--carriage", CARRIAGE_FORM)
 
+    def test_the_first_mistake_is_told_with_the_usage(self):
+        """The first bad word is told with the usage of its subcommand; what clap finds is told in its words."""
+        wanted = (
+            f"error: invalid value 'x' for '--turns': wanted {TURNS_FORM}\n\n"
+            "Usage: chaosd serve [OPTIONS] <ADDRESS> <UDP> <FOLDER> [PEER]...\n\nFor more information, try '--help'.\n"
+        )
+        ended = run(["serve", "--turns", "x", "0", "u", "d", "p"])
+        self.check("the first bad word is told with its usage", ended.problems(BAD_LINE, b"", wanted.encode()))
+        for words, piece in [
+            (["nonsense"], b"unrecognized subcommand 'nonsense'"),
+            (["serve", "401", "127.0.0.1:1"], b"  <FOLDER>\n"),
+            (["get", *ADDRESSES], b"  <PATH>...\n"),
+            (["put", *ADDRESSES], b"  <LOCAL>...\n"),
+            (["get", "--version"], b"unexpected argument '--version' found"),
+        ]:
+            self.check(f"`chaosd {' '.join(words)}`: a mistake is told", run(words).problems(BAD_LINE, b"", [piece]))
 
-def helps(checks):
-    """Help says what each subcommand does, and what each word is."""
-    for words, pieces in HELP.items():
-        ended = run(words.split())
-        checks.check(f"`chaosd {words}` says it", ended.problems(DONE, [piece.encode() for piece in pieces], b""))
-
-
-def main():
-    if len(sys.argv) > 1:
-        program.PROGRAM = pathlib.Path(sys.argv[1]).resolve()
-    if not program.PROGRAM.is_file():
-        sys.exit(f"{program.PROGRAM} isn't there: run make first")
-    checks = Checks()
-    for group in [words_out_of_form, peers_out_of_form, copies_out_of_form, carriages_out_of_form, mistakes, helps]:
-        group(checks)
-    print(f"{checks.count - checks.failed} passed, {checks.failed} failed")
-    sys.exit(1 if checks.failed else 0)
-
-
-if __name__ == "__main__":
-    main()
+    def test_help_says_what_each_subcommand_does_and_what_each_word_is(self):
+        """Help says what each subcommand does, and what each word is."""
+        for words, pieces in HELP.items():
+            ended = run(words.split())
+            self.check(f"`chaosd {words}` says it", ended.problems(DONE, [piece.encode() for piece in pieces], b""))

@@ -1,25 +1,19 @@
-#!/usr/bin/env python3
 """Random schedules that end in `settle`: writes, reads, windows, ticks, losses, late and repeated copies, and then all arrives.
 
-    make && tests/settling.py [PROGRAM [FIRST [COUNT]]]
-
-PROGRAM is bin/chaosd by default. There are COUNT schedules of `chaosd lab`, 1,000 by default, each made from a seed of its own, from
+There are COUNT schedules of `chaosd lab`, 1,000 where the environment names no other number, each made from a seed of its own, from
 FIRST on, which is 1; and a tenth of that of `chaosd filelab`. What each user wrote and read is counted here, from what the program
-printed. One line is printed for each check, with the seed where one failed, and the count at the end. The status is 0 where all held,
-and else 1.
+printed.
 """
 
-import pathlib
+import os
 import random
 import re
 import subprocess
-import sys
 
-sys.dont_write_bytecode = True
-import program  # noqa: E402
-from program import REFUSED, Checks, run  # noqa: E402
+from tests.support import PATIENCE, PROGRAM, REFUSED, Case, run
 
-SCHEDULES = 1_000
+FIRST = int(os.environ.get("FIRST", 1))
+COUNT = int(os.environ.get("COUNT", 1_000))
 # No schedule settles by more events, of `lab` and of `filelab`.
 MOST_EVENTS, MOST_FILE_EVENTS = 394, 586
 # Every so many schedules the events that `settle` printed are typed.
@@ -38,7 +32,7 @@ class Laboratory:
     """A run of the program whose answers are read as soon as they are there."""
 
     def __init__(self, word, first):
-        self.process = subprocess.Popen([program.PROGRAM, word], stdin=subprocess.PIPE, stdout=subprocess.PIPE, text=True)
+        self.process = subprocess.Popen([PROGRAM, word], stdin=subprocess.PIPE, stdout=subprocess.PIPE, text=True)
         self.lines, self.copies = [first, *OPENING], 3
         self.process.stdin.write("\n".join(self.lines) + "\n")
         self.process.stdin.flush()
@@ -62,7 +56,7 @@ class Laboratory:
         """The last line, and the status."""
         self.process.stdin.close()
         last = self.process.stdout.read()
-        return last, self.process.wait(program.PATIENCE)
+        return last, self.process.wait(PATIENCE)
 
 
 class Users:
@@ -190,23 +184,28 @@ def served(seed, word):
     return [f"seed {seed}: {problem}" for problem in problems], len(events)
 
 
-def main():
-    words = sys.argv[1:]
-    if words:
-        program.PROGRAM = pathlib.Path(words[0]).resolve()
-    if not program.PROGRAM.is_file():
-        sys.exit(f"{program.PROGRAM} isn't there: run make first")
-    first, count = int(words[1]) if len(words) > 1 else 1, int(words[2]) if len(words) > 2 else SCHEDULES
-    checks = Checks()
-    for word, of_one, many in [("lab", settled, count), ("filelab", served, count // 10)]:
-        problems, most = [], 0
-        for seed in range(first, first + many):
-            found, events = of_one(seed, word)
-            problems, most = problems + found, max(most, events)
-        checks.check(f"{many} schedules of {word} settle, by {most} events at most", problems[:20])
-    print(f"{checks.count - checks.failed} passed, {checks.failed} failed")
-    sys.exit(1 if checks.failed else 0)
+def settle_all(case, word, of_one, many):
+    """So many schedules, each of which settles, are one check."""
+    problems, most = [], 0
+    for seed in range(FIRST, FIRST + many):
+        found, events = of_one(seed, word)
+        problems, most = problems + found, max(most, events)
+    case.check(f"{many} schedules of {word} settle, by {most} events at most", problems[:20])
 
 
-if __name__ == "__main__":
-    main()
+class Settling(Case):
+    """Two connections."""
+
+    seconds = 30
+
+    def test_all_that_was_written_is_read_and_nothing_is_stored(self):
+        settle_all(self, "lab", settled, COUNT)
+
+
+class FileSettling(Case):
+    """A client of FILE and its server."""
+
+    seconds = 10
+
+    def test_each_command_that_was_written_has_its_reply_read(self):
+        settle_all(self, "filelab", served, COUNT // 10)

@@ -1,23 +1,10 @@
-#!/usr/bin/env python3
-"""Tests the vectors of examples/vectors: what the program reports and sends now is what stands there.
+"""Tests the vectors of examples/vectors: what the program reports and sends now is what stands there."""
 
-    make && tests/vectors.py [PROGRAM]
-
-PROGRAM is bin/chaosd by default. One line is printed for each check, and the count at the end. The status is 0 where all checks
-held, and else 1.
-"""
-
-import pathlib
 import re
 import subprocess
-import sys
-import tempfile
 
-sys.dont_write_bytecode = True
-import program  # noqa: E402
-from program import Checks  # noqa: E402
+from tests.support import PROGRAM, ROOT, Case, folder
 
-ROOT = program.HERE.parent
 VECTORS = ROOT / "examples/vectors"
 TOOL = ROOT / "tools/vectors"
 PATIENCE = 120
@@ -26,24 +13,8 @@ FAULTS += ["6 BadNumber", "7 TooLong", "8 PacketAt 2 1 Short", "8 PacketAt 2 2 B
 NAMES = ["RFC", "OPN", "CLS", "FWD", "ANS", "SNS", "STS", "LOS", "LSN", "EOF", "UNC", "DAT", "DWD"]
 
 
-def files_of(folder):
-    return {path.name: path.read_text() for path in pathlib.Path(folder).glob("*.txt")}
-
-
-def made(checks):
-    """The tool makes the very files that are there. Once more where it doesn't: the timers of two processes may cross."""
-    old = files_of(VECTORS)
-    for _ in range(3):
-        with tempfile.TemporaryDirectory() as folder:
-            ran = subprocess.run([TOOL, program.PROGRAM, folder], capture_output=True, text=True, timeout=PATIENCE)
-            new = files_of(folder)
-        if new == old:
-            break
-    checks.check("tools/vectors runs to its end", [ran.stderr] * bool(ran.returncode or ran.stderr))
-    for name in sorted(old.keys() | new.keys()):
-        problems = [] if old.get(name) == new.get(name) else [difference(old.get(name, ""), new.get(name, ""))]
-        checks.check(f"{name} is what the program reports and sends", problems)
-    return old
+def files_of(place):
+    return {path.name: path.read_text() for path in place.glob("*.txt")}
 
 
 def difference(old, new):
@@ -53,29 +24,38 @@ def difference(old, new):
     return f"line {line} is new: {(new.splitlines() + [''] * line)[line - 1]!r}"
 
 
-def complete(checks, texts):
-    """Each fault and each named opcode stands there, and each session begins with a request and ends with a CLS."""
-    single = texts.get("datagrams.txt", "")
-    missing = [fault for fault in FAULTS if f"\n  fault {fault}\n" not in single]
-    checks.check("each fault of a datagram stands there", missing)
-    missing = [name for name in NAMES if not re.search(rf"^  op \d{{3}} {name}$", single, re.M)]
-    checks.check("each opcode with a name stands there", missing)
-    for name in ["session.txt", "recovery.txt"]:
-        ops = re.findall(r"^  op \d{3} (\w+)$", texts.get(name, ""), re.M)
-        problems = [] if ops and ops[0] == "RFC" and ops[-1] == "CLS" and "EOF" in ops else [f"{ops}"]
-        checks.check(f"{name} is a whole connection", problems)
+def remade(old):
+    """What the tool makes, and what it says where it fails. It is made again where it differs: the timers of two processes may cross."""
+    for _ in range(3):
+        with folder() as here:
+            ran = subprocess.run([TOOL, PROGRAM, here], capture_output=True, text=True, timeout=PATIENCE)
+            new = files_of(here)
+        if new == old:
+            break
+    return new, [ran.stderr] * bool(ran.returncode or ran.stderr)
 
 
-def main():
-    if len(sys.argv) > 1:
-        program.PROGRAM = pathlib.Path(sys.argv[1]).resolve()
-    if not program.PROGRAM.is_file():
-        sys.exit(f"{program.PROGRAM} isn't there: run make first")
-    checks = Checks()
-    complete(checks, made(checks))
-    print(f"{checks.count - checks.failed} passed, {checks.failed} failed")
-    sys.exit(1 if checks.failed else 0)
+class Vectors(Case):
+    """The files of examples/vectors."""
 
+    seconds = 8
 
-if __name__ == "__main__":
-    main()
+    def test_they_are_what_the_program_reports_and_sends(self):
+        old = files_of(VECTORS)
+        new, problems = remade(old)
+        self.check("tools/vectors runs to its end", problems)
+        for name in sorted(old.keys() | new.keys()):
+            problems = [] if old.get(name) == new.get(name) else [difference(old.get(name, ""), new.get(name, ""))]
+            self.check(f"{name} is what the program reports and sends", problems)
+
+    def test_each_fault_and_each_named_opcode_stands_there(self):
+        single = files_of(VECTORS).get("datagrams.txt", "")
+        self.check("each fault of a datagram stands there", [fault for fault in FAULTS if f"\n  fault {fault}\n" not in single])
+        missing = [name for name in NAMES if not re.search(rf"^  op \d{{3}} {name}$", single, re.M)]
+        self.check("each opcode with a name stands there", missing)
+
+    def test_each_session_begins_with_a_request_and_ends_with_a_cls(self):
+        for name in ["session.txt", "recovery.txt"]:
+            ops = re.findall(r"^  op \d{3} (\w+)$", files_of(VECTORS).get(name, ""), re.M)
+            problems = [] if ops and ops[0] == "RFC" and ops[-1] == "CLS" and "EOF" in ops else [f"{ops}"]
+            self.check(f"{name} is a whole connection", problems)

@@ -1,6 +1,7 @@
 """Sums of what the refusal of a wrong body rests on, kept in docs/wrong-bodies.sums by whoever saw it refused.
 
-A line is a crate, a wrong body of it, and eight hexadecimal digits over what the proof of its crate reads, and its own text. A proof
+A line is a crate, a wrong body of it, and eight hexadecimal digits over what the proof of its crate reads, and its own text. Behind them
+`untried` says that it was refused when it was written, before this file was, and not tried since; it counts as kept. A proof
 reads src/, specs/ and proofs/ of its crate; of each crate below it specs/, the contracts of public functions, the types and the
 constants. Only words count, so neither a comment nor a layout changes a sum, nor the body of a function of another crate. The kit
 isn't in it: with another kit all are to be tried again.
@@ -11,6 +12,7 @@ import re
 from definitions import sum_of
 from sources import Sources, without_comments
 
+UNTRIED = "untried"
 COMMENT = re.compile(r"--(?=\s|-|$)[^\n]*")
 
 
@@ -38,8 +40,9 @@ class Sums:
         self.kept = self.read()
 
     def read(self):
+        """By crate and name what stands behind them."""
         lines = self.file.read_text().split("\n") if self.file.exists() else []
-        return {(crate, name): kept for crate, name, kept in (it.split() for it in lines if it)}
+        return {(crate, name): words for crate, name, *words in (it.split() for it in lines if it)}
 
     def all_below(self, crate):
         """The crates of this repository that a crate stands on."""
@@ -68,11 +71,14 @@ class Sums:
         return sum_of([self.of_crate(crate), *edit.text.split("\n")])
 
     def is_kept(self, crate, edit):
-        return self.kept.get((crate, edit.name)) == self.of(crate, edit)
+        return self.kept.get((crate, edit.name), [])[:1] == [self.of(crate, edit)]
+
+    def is_untried(self, crate, edit):
+        return self.kept.get((crate, edit.name), [])[1:] == [UNTRIED]
 
     def note(self, crate, edits):
         """Notes that these wrong bodies of a crate were refused, and drops the lines of those that are gone."""
-        kept = self.read() | {(crate, it.name): self.of(crate, it) for it in edits}
+        kept = self.read() | {(crate, it.name): [self.of(crate, it)] for it in edits}
         there = lambda crate, name: (self.top / "crates" / crate / "wrong-bodies" / f"{name}.edit").is_file()
-        lines = [f"{crate} {name} {kept}\n" for (crate, name), kept in sorted(kept.items()) if there(crate, name)]
+        lines = [f"{' '.join([*key, *words])}\n" for key, words in sorted(kept.items()) if there(*key)]
         self.file.write_text("".join(lines))
