@@ -1,7 +1,9 @@
-/* Refuses one allocation of a program, and counts those that it doesn't give back: a library to be loaded before the C library.
+/* Refuses one allocation of a program, and counts those that it doesn't give back: a library to be loaded before the C library, or,
+ * with LINKED, a part of a program that is compiled with checks, since such a program has a malloc of its own, which checks.
  *
- * FAIL_AT=N refuses the Nth allocation that the program itself asks for (none without it), and says so on standard error. At the
- * end it says how many are still held. What the C library asks for its own use isn't counted.
+ * REFUSE_AT=N refuses the Nth allocation that the program itself asks for (none at 0), and says so on standard error. At the end of
+ * a program that asked for any it says how many are still held. Without REFUSE_AT it does and says nothing. What the C library asks
+ * for its own use isn't counted.
  */
 #define _GNU_SOURCE
 #include <dlfcn.h>
@@ -13,6 +15,7 @@
 static void *(*real_malloc)(size_t);
 static void *(*real_realloc)(void *, size_t);
 static void (*real_free)(void *);
+static int is_asked; /* whether REFUSE_AT is there */
 static unsigned long low, high; /* where the program's own code lies */
 static long left, held;
 static void *kept[4096]; /* what the program holds; as many as these tests need */
@@ -29,18 +32,35 @@ static int find_program(struct dl_phdr_info *info, size_t size, void *data) {
     return 1; /* the program comes first, and no other is wanted */
 }
 
-static void begin(void) {
+#ifdef LINKED
+void *__interceptor_malloc(size_t);
+void *__interceptor_realloc(void *, size_t);
+void __interceptor_free(void *);
+
+static void find_real(void) {
+    real_malloc = __interceptor_malloc;
+    real_realloc = __interceptor_realloc;
+    real_free = __interceptor_free;
+}
+#else
+static void find_real(void) {
     real_malloc = dlsym(RTLD_NEXT, "malloc");
     real_realloc = dlsym(RTLD_NEXT, "realloc");
     real_free = dlsym(RTLD_NEXT, "free");
+}
+#endif
+
+/* Runs before the program does, but not before its first allocations, which are the system's. */
+__attribute__((constructor)) static void begin(void) {
     dl_iterate_phdr(find_program, NULL);
-    const char *at = getenv("FAIL_AT");
+    const char *at = getenv("REFUSE_AT");
+    is_asked = at != NULL;
     left = at ? atol(at) : 0;
 }
 
 static int is_own(void *caller) {
-    if (!real_malloc) begin();
-    return (unsigned long)caller >= low && (unsigned long)caller < high;
+    if (!real_malloc) find_real();
+    return is_asked && (unsigned long)caller >= low && (unsigned long)caller < high;
 }
 
 static int is_refused(void) {
@@ -85,11 +105,11 @@ void *realloc(void *place, size_t size) {
 }
 
 void free(void *place) {
-    if (!real_free) begin();
+    if (!real_free) find_real();
     let_go(place);
     real_free(place);
 }
 
 __attribute__((destructor)) static void tell(void) {
-    fprintf(stderr, "held %ld\n", held);
+    if (is_asked && real_malloc) fprintf(stderr, "held %ld\n", held);
 }

@@ -61,7 +61,7 @@ MOST = 1_000
 
 def run(program, test, folder, library, place):
     """Runs the test with one allocation refused, and gives the status and both outputs."""
-    env = {**os.environ, "LD_PRELOAD": str(library), "FAIL_AT": str(place)}
+    env = {**os.environ, "LD_PRELOAD": str(library), "REFUSE_AT": str(place)}
     ended = subprocess.run([program, test], cwd=folder, env=env, capture_output=True, text=True, timeout=PATIENCE)
     return ended.returncode, ended.stdout, ended.stderr
 
@@ -103,7 +103,7 @@ def free_place():
 
 def run_program(program, words, given, library, place):
     """Runs the program with one allocation refused (none at place 0), and gives the status and both outputs."""
-    env = {**os.environ, "LD_PRELOAD": str(library), "FAIL_AT": str(place)}
+    env = {**os.environ, "LD_PRELOAD": str(library), "REFUSE_AT": str(place)}
     with tempfile.TemporaryDirectory() as folder:
         words = [{FOLDER: folder, UDP: free_place()}.get(it, it) for it in words]
         ended = subprocess.run([program, *words], input=given, env=env, capture_output=True, timeout=PATIENCE)
