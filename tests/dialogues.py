@@ -3,7 +3,7 @@
 
     rt ci && tests/dialogues.py
 
-It needs what the gate leaves of crates/random_dialogues. One of the seeds is the clock's; `make dialogues SEED=..` runs any of
+It needs what `tools/checked random_dialogues` leaves. One of the seeds is the clock's; `make dialogues SEED=..` runs any of
 them again, at length. The last line is 'N passed, M failed'.
 """
 
@@ -13,7 +13,7 @@ import sys
 import time
 
 HERE = pathlib.Path(__file__).resolve().parent
-PROGRAM = HERE.parent / "crates/random_dialogues/out/random_dialogues"
+PROGRAM = HERE.parent / "out/checked/random_dialogues"
 
 SEEDS = [2, 3, 4, 5, 6, 7, 8]
 PACKETS = 50_000
@@ -44,7 +44,7 @@ def problems_of(seed):
 
 def main():
     if not PROGRAM.is_file():
-        sys.exit(f"{PROGRAM} isn't there: run the gate first")
+        sys.exit(f"{PROGRAM} isn't there: `tools/checked random_dialogues` makes it")
     count, failed = 0, 0
 
     def check(name, problems):

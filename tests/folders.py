@@ -1,11 +1,11 @@
 #!/usr/bin/env python3
-"""Shows what a folder's store makes of what std can't make, by a proved test of world_tests that plays the rows it is given:
+"""Shows what a folder's store makes of what std can't make, by a test of world_tests that plays the rows it is given:
 entries that are no file, what may not be read or written, a disk that takes no more and is full, one that fails, and a folder that
 is another's.
 
     rt ci && tests/folders.py
 
-It needs what the gate leaves of that crate's tests, and cc. A disk is filled where this user may mount one in memory. A test that
+It needs what `tools/checked --test world_tests` leaves, and cc. A disk is filled where this user may mount one in memory. A test that
 waits is a failure. The last line is 'N passed, M failed'.
 """
 
@@ -22,7 +22,7 @@ import sys
 import tempfile
 
 HERE = pathlib.Path(__file__).resolve().parent
-PROGRAM = HERE.parent / "crates/world_tests/out/world_tests_tests"
+PROGRAM = HERE.parent / "out/checked/world_tests"
 TEST = "tests::folders::dialogue_over_a_folder_made_outside"
 PATIENCE = 10
 NOBODY = 65534
@@ -316,7 +316,7 @@ def checks():
 
 def main():
     if not PROGRAM.is_file():
-        sys.exit(f"{PROGRAM} isn't there: run the gate first")
+        sys.exit(f"{PROGRAM} isn't there: `tools/checked --test world_tests` makes it")
     failed = passed = 0
     for sentence, problem_of, *given in checks():
         with tempfile.TemporaryDirectory() as room:

@@ -1,9 +1,9 @@
 #!/usr/bin/env python3
-"""Refuses memory to proved test programs and to the program itself, each allocation in turn, until a run meets no refusal.
+"""Refuses memory to tests and to the program itself, each allocation in turn, until a run meets no refusal.
 
     rt ci && tests/memory.py [PROGRAM]
 
-It needs what the gate leaves of world_tests, PROGRAM (crates/chaosd/out/chaosd by default), and cc. A test below goes on
+It needs what `tools/checked --test world_tests` leaves, PROGRAM (crates/chaosd/out/chaosd by default), and cc. A test below goes on
 after a refusal and looks at what it left; where its own preparations are refused, it ends with that fault. The program ends with
 status 4 and says so, and what it wrote is a beginning of what it writes with ample memory; a FILE command that finds no memory
 is answered so, and its session goes on. At the end of each run all memory is given back. The last line is 'N passed, M failed'.
@@ -18,7 +18,7 @@ import tempfile
 
 HERE = pathlib.Path(__file__).resolve().parent
 CRATES = HERE.parent / "crates"
-TEST_PROGRAM = CRATES / "world_tests/out/world_tests_tests"
+TEST_PROGRAM = HERE.parent / "out/checked/world_tests"
 
 # a test of world_tests, and how many refusals it is to meet at least and go on after
 TESTS = [
@@ -79,7 +79,7 @@ def problem_of(status, out, err):
 def try_each(test, least, library):
     """Refuses each allocation in turn. Gives a line for a person, and whether all went well."""
     if not TEST_PROGRAM.is_file():
-        return f"{test}: {TEST_PROGRAM} isn't there: run the gate first", False
+        return f"{test}: {TEST_PROGRAM} isn't there: `tools/checked --test world_tests` makes it", False
     met = 0
     with tempfile.TemporaryDirectory() as folder:
         for place in range(1, MOST):
