@@ -5,7 +5,7 @@ RT ?= rt
 SOURCES := crates.txt HANDLES $(shell find crates \( -name out -o -name must-fail -o -name wrong-bodies \) -prune -o -type f -print)
 BENCHES := codec links window host file turn
 PROGRAM_BENCHES := show lab loop calls copy stack
-DIALOGUES := crates/random_dialogues/out/random_dialogues
+DIALOGUES := out/checked/random_dialogues
 SEED ?= $(shell date +%s)
 PACKETS ?= 1000000
 
@@ -40,12 +40,9 @@ lint: ## looks over documents, links, scripts and tracked files, in seconds
 wrong-bodies: ## tries each wrong body of wrong-bodies/, of which the gate tries those that a change bears on: for before a release, and for a new kit
 	@RT=$(RT) tools/wrong-bodies
 
-dialogues: $(DIALOGUES) ## random dialogues between two hosts, a million packets from a seed of the clock's; SEED=.. PACKETS=..
+dialogues: ## random dialogues between two hosts, a million packets from a seed of the clock's; SEED=.. PACKETS=..
+	@RT=$(RT) tools/checked random_dialogues
 	@$(DIALOGUES) $(SEED) $(PACKETS)
-
-$(DIALOGUES): $(SOURCES)
-	@RT=$(RT) tools/build random_dialogues 1 1
-	@touch $@
 
 pictures: ## draws the pictures of the documents again (python3)
 	@tools/ladder --pictures docs/pictures

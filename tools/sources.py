@@ -106,8 +106,8 @@ class Crate:
         self.types, self.ghosts = {}, {}
         self.traits = set()
         self.exports = set()
-        # Not a program, and not what tests stand in.
-        self.is_library = (folder / "src/lib.rt").is_file() and not re.search(r"_tests$|_dialogues$|^random_", folder.name)
+        # not a program, and not what second bodies stand in
+        self.is_library = (folder / "src/lib.rt").is_file() and not folder.name.endswith("_tests")
         for file in sorted((folder / "src").rglob("*.rt")):
             if file.stem == "tests" or "tests" in file.parts:
                 continue

@@ -1,8 +1,8 @@
-//! Packets in words, and queues of packets, as tests: worked rows by hand, and the clauses of an outbox over a Vec too.
+//! A second body of an outbox, over a plain list, that meets the clauses of the ring, so that these name no representation.
 //!
-//! They stand in a crate of their own, since a crate with tests is proved twice; and they are proved, as other tests are not, for the
-//! second bodies.
+//! It is proved, as tests are not. Worked rows on both bodies are tests of chaos_packet_rows.
 #![tactic(auto)]
 
-#[cfg(test)]
-mod tests;
+mod queues;
+
+pub use queues::{PlainOutbox, Queue};

@@ -1,8 +1,14 @@
-//! The windows' worked rows, as tests: on the rings, and on plain bodies under the same clauses.
+//! Second bodies of both windows, over plain lists, that meet the clauses of the rings, so that these name no representation.
 //!
-//! They stand in a crate of their own, since a crate with tests is proved twice; and they are proved, as other tests are not, for the
-//! second bodies.
+//! They are proved, as tests are not. Worked rows on both bodies are the tests of chaos_window_rows.
 #![tactic(auto)]
 
-#[cfg(test)]
-mod tests;
+mod plain_receive;
+mod plain_send;
+mod receives;
+mod sends;
+
+pub use plain_receive::PlainReceive;
+pub use plain_send::PlainSend;
+pub use receives::Receives;
+pub use sends::Sends;

@@ -2,7 +2,7 @@
 ghost use Rattle.std.specs.Prelude.{◌≡◌, ◌≤◌, [], length, replicate, None, is_some, vec_capacity};
 ghost use Rattle.std.specs.List.{prefix_len};
 
-use crate::tests::receives::Receives;
+use crate::receives::Receives;
 use chaos_packet::{Item, Opcode, PktNum};
 use chaos_window::{Arrived, MAX_WINDOW};
 use std::alloc::{AllocError, Global};

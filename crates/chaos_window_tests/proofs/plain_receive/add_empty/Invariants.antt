@@ -1,5 +1,5 @@
 use Rattle.std.proofs.Common.{◌≡◌, ◌≤◌, replicate, None, vec_capacity}
-use Rattle.chaos_window_tests.proofs.tests.plain_receive.add_empty.Given as goal
+use Rattle.chaos_window_tests.proofs.plain_receive.add_empty.Given as goal
 
 abbrev pub invariant-loop-i : goal.invariant-loop-i
 invariant-loop-i l = record {

@@ -4,15 +4,12 @@ ghost use Rattle.std.specs.Option.{option_copied};
 ghost use Rattle.chaos_packet.specs.Header.{packet_of};
 ghost use Rattle.chaos_packet.specs.Outbox.{OutboxView, room_of, with_put, without_oldest};
 
-use super::LETTER;
-use arrayvec::ArrayVec;
-use chaos_packet::{Header, MAX_DATA, Outbox, Packet, PktNum, body_of, from_words};
+use chaos_packet::{Header, MAX_DATA, Outbox, Packet, body_of};
 use std::alloc::{AllocError, Global};
 use std::marker::Model;
-use std::test::Fail;
 
 /// The calls of an outbox.
-trait Queue {
+pub trait Queue {
     /// What the outbox's clauses speak of.
     ghost seen: { Self → OutboxView };
 
@@ -77,7 +74,7 @@ impl Queue for Outbox {
 
 /// An outbox as one would first write it: a Vec whose packets move when the first one goes.
 #[derive(Drop)]
-struct PlainOutbox {
+pub struct PlainOutbox {
     packets: Vec<Packet>,
     cap: usize,
 }
@@ -138,88 +135,4 @@ impl Queue for PlainOutbox {
         }
         Some(self.packets.remove(0))
     }
-}
-
-/// The header of the packet, which no host forwarded.
-fn header_of(packet: &Packet) -> Header {
-    Header {
-        op: packet.op,
-        dst: packet.dst,
-        dst_index: packet.dst_index,
-        src: packet.src,
-        src_index: packet.src_index,
-        num: packet.num,
-        ack: packet.ack,
-    }
-}
-
-/// Puts a packet, and then its header with other data, and a shorter and a longer one over each other: what comes out.
-fn lent_packets<Q: Queue + Drop>(mut out: Q) -> Result<ArrayVec<Packet, 3>, Fail> {
-    let (packet, _) = from_words(&LETTER)?;
-    let mut taken = ArrayVec::new();
-    for bytes in [
-        &b"longer than the one behind it"[..],
-        b"x",
-        b"and a longer one again",
-    ] {
-        if out.room() > 0 {
-            out.put_lent(header_of(&packet), bytes);
-        }
-        if let Some(oldest) = out.take() {
-            let _fits = taken.try_push(oldest);
-        }
-    }
-    Ok(taken)
-}
-
-#[test]
-fn a_lent_packet_is_its_header_and_its_data(rt: HostRuntime) -> Result<(), Fail> {
-    let (mut letter, _) = from_words(&LETTER)?;
-    letter.fwd = 0;
-    let lent = lent_packets(Outbox::empty(rt.alloc(), 1)?)?;
-    assert!(rt; lent == lent_packets(PlainOutbox::empty(rt.alloc(), 1)?)?);
-    assert_eq!(rt; lent.len(), 3);
-    for (packet, bytes) in lent.iter().zip([
-        &b"longer than the one behind it"[..],
-        b"x",
-        b"and a longer one again",
-    ]) {
-        assert!(rt; packet.bytes() == bytes);
-        assert!(rt; packet.header()[2..] == letter.header()[2..]);
-    }
-    Ok(())
-}
-
-/// Puts three packets through a queue of two, past its end: the numbers that come out, and the room in between.
-fn numbers_taken<Q: Queue + Drop>(mut out: Q) -> Result<[u16; 4], Fail> {
-    let mut taken = [0; 4];
-    let (mut packet, _) = from_words(&LETTER)?;
-    for round in 0..3_u16 {
-        packet.num = PktNum(round + 1);
-        if out.room() > 0 {
-            out.put(packet.copy());
-        }
-        packet.num = PktNum(round + 10);
-        if out.room() > 0 {
-            out.put(packet.copy());
-        }
-        taken[round as usize] = out.take().map_or(0, |packet| packet.num.0);
-    }
-    taken[3] = out.front().map_or(0, |packet| packet.num.0);
-    out.drop_front();
-    Ok(taken)
-}
-
-#[test]
-fn ring_and_vec_give_the_oldest_packet_first(rt: HostRuntime) -> Result<(), Fail> {
-    // 1 and 10 are put, 1 is taken; 2 fits and 11 doesn't, 10 is taken; 3 fits and 12 doesn't, 2 and then 3 are taken
-    assert_eq!(rt;
-        numbers_taken(Outbox::empty(rt.alloc(), 2)?)?,
-        [1, 10, 2, 3]
-    );
-    assert_eq!(rt;
-        numbers_taken(PlainOutbox::empty(rt.alloc(), 2)?)?,
-        [1, 10, 2, 3]
-    );
-    Ok(())
 }

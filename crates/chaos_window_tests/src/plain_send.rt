@@ -1,7 +1,7 @@
 //! A send window as one would first write it: a Vec of the items kept, which move when the first ones go.
 ghost use Rattle.std.specs.Prelude.{◌≡◌, ◌≤◌, drop, vec_len, vec_capacity};
 
-use crate::tests::sends::Sends;
+use crate::sends::Sends;
 use chaos_packet::{Item, Opcode, PktNum};
 use chaos_window::Full;
 use std::alloc::{AllocError, Global};
