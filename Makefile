@@ -9,7 +9,7 @@ DIALOGUES := out/checked/random_dialogues
 SEED ?= $(shell date +%s)
 PACKETS ?= 1000000
 
-.PHONY: all help demo check fmt fmt-check lint wrong-bodies dialogues pictures bench $(PROGRAM_BENCHES:%=bench-%) $(BENCHES:%=bench-%) dist install clean
+.PHONY: all help demo test check fmt fmt-check lint wrong-bodies dialogues pictures bench $(PROGRAM_BENCHES:%=bench-%) $(BENCHES:%=bench-%) dist install clean
 
 all: bin/chaosd ## proves the program and all that it stands on, and builds bin/chaosd
 
@@ -24,6 +24,9 @@ bin/chaosd: $(SOURCES)
 
 demo: ## shows a FILE session between two hosts in one process: without proof, in a minute, where bin/chaosd is not built
 	@RT=$(RT) tools/demo
+
+test: ## runs all tests, without proof, in some minutes: NAME=.. a crate of tests, a file or class of tests/, a word of a name
+	@RT=$(RT) tools/test $(NAME)
 
 check: ## the gate: claims, every proof from nothing, wrong bodies, tests, and the program as a user meets it
 	@RT=$(RT) tools/gate
