@@ -3,7 +3,7 @@ use Rattle.std.proofs.Common.{◌≡◌, ◌∙◌, ◌+◌, ◌<◌, ◌++◌, 
 use Rattle.std.proofs.lemmas.List.{map_more, take_more}
 use Rattle.clap.specs.Words.{App, Rule, with_rule, with_subcommand}
 use Rattle.chaosd_line.specs.Plan.{app_of_sub, with_rules, with_subs}
-use Rattle.chaosd_line.specs.declared.command.Sub.{Sub}
+use Rattle.chaosd_line.specs.declared.sub.Sub.{Sub}
 
 -- one word more
 pub rules_step : {X : Type 0} (f : X → Rule) (xs : List X) (i : ℕ) (d : X) (start mid new : App) → i < length xs

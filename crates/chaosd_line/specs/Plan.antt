@@ -1,10 +1,9 @@
 -- The words of the subcommands, and the rules that clap reads them by.
-use Rattle.std.specs.Prelude.{◌++◌, ◌∷◌, List, [], Some, codes}
+use Rattle.std.specs.Prelude.{◌++◌, ◌∷◌, List, [], Some, map}
 use Rattle.clap.specs.Lexer.{usize_max}
 use Rattle.clap.specs.Words.{App, Rule, Text, new_app, new_rule, with_subcommand}
-use Rattle.chaosd_line.specs.CommandLine.{ask_command, carriage_option, file_words, flag, get_command, loop_command, needed, optional, put_command, serve_command, with_default}
-use Rattle.chaosd_line.specs.declared.command.Sub.{Sub}
-use Rattle.chaosd_line.specs.declared.command.Sub.TheVariants as sub
+use Rattle.chaosd_line.specs.CommandLine.{file_words, flag, needed, optional, with_default}
+use Rattle.chaosd_line.specs.declared.sub.Sub.{Sub}
 use Rattle.chaosd_line.specs.declared.word.Wanted.{Wanted}
 use Rattle.chaosd_line.specs.declared.word.Wanted.TheVariants as wanted
 use Rattle.chaosd_line.specs.declared.word.Word.{Word}
@@ -30,20 +29,8 @@ rule_of_word word = rule_wanted word.0.now word.1
 abbrev pub with_rules : App → List Rule → App
 with_rules app rules = record app { top = record app.top { rules = app.top.rules ++ rules } }
 
--- the rules of a copy, with its own option and its files
-abbrev pub copying_rules : Rule → Rule → List Rule
-copying_rules own files = carriage_option ∷ with_default (codes "login") (codes "CHAOSD") ∷ with_default (codes "window") (codes "64")
-    ∷ flag (codes "text") ∷ flag (codes "quiet") ∷ own ∷ needed (codes "ADDRESS") ∷ needed (codes "UDP") ∷ needed (codes "SERVER") ∷ files ∷ []
-
 abbrev pub app_of_sub : Sub → App
-app_of_sub sub.Show = new_app (codes "show")
-app_of_sub sub.Lab = new_app (codes "lab")
-app_of_sub sub.FileLab = new_app (codes "filelab")
-app_of_sub sub.Loop = loop_command
-app_of_sub sub.Serve = serve_command
-app_of_sub sub.Ask = ask_command
-app_of_sub sub.Get = get_command
-app_of_sub sub.Put = put_command
+app_of_sub sub = with_rules (new_app sub.name.now) (map rule_of_word sub.words.now)
 
 -- these subcommands, one after another
 abbrev pub with_subs : App → List Sub → App

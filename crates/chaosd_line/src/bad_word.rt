@@ -1,6 +1,6 @@
 //! A word that is not of the form that its place wants.
 
-use thiserror::Error;
+use std::alloc::{AllocError, Global};
 
 /// What is wanted of an address.
 pub(crate) const ADDRESS_FORM: &str = "1 to 6 octal digits, from 1 to 177777";
@@ -48,9 +48,8 @@ pub(crate) const OUTPUT_FORM: &str = "one PATH alone";
 pub(crate) const AS_FORM: &str =
     "a path of FILE (1 to 64 letters, digits, dots, hyphens and underscores, no dot in front), and one LOCAL alone";
 
-/// A word that is not of the form that its place wants. Its text names all three.
-#[derive(Clone, Copy, Debug, Error)]
-#[error("invalid value '{text}' for '{place}': wanted {form}")]
+/// A word that is not of the form that its place wants.
+#[derive(Clone, Copy)]
 pub(crate) struct BadWord<'a> {
     /// The word as it was given.
     pub(crate) text: &'a str,
@@ -58,4 +57,12 @@ pub(crate) struct BadWord<'a> {
     pub(crate) place: &'a str,
     /// What the place wants.
     pub(crate) form: &'a str,
+}
+
+impl BadWord<'_> {
+    /// What the user is told of it: all three.
+    pub(crate) fn message(&self, alloc: Global) -> Result<String, AllocError> {
+        let BadWord { text, place, form } = *self;
+        format!(in alloc; "invalid value '{text}' for '{place}': wanted {form}")
+    }
 }

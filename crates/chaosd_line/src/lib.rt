@@ -20,6 +20,7 @@ mod line;
 mod names;
 mod parse;
 mod peers;
+mod sub;
 mod unread;
 mod values;
 mod word;

@@ -45,7 +45,7 @@ fn found<'a, S: AsStr>(alloc: Global, words: &'a [S]) -> Result<ArgMatches<'a>, 
 fn error_of(alloc: Global, bad: &BadWord<'_>, subcommand: Option<&str>) -> Result<Error, AllocError>
     ensures { IfOk result (λ error. kind_of error ≡ ValueValidation) }
 {
-    let text = format!(in alloc; "{bad}")?;
+    let text = bad.message(alloc)?;
     command_of(alloc, subcommand)?.error(ErrorKind::ValueValidation, text.as_str())
 }
 

@@ -7,7 +7,6 @@ use clap::{Arg, ArgAction};
 use std::alloc::Global;
 
 /// What clap wants of a word.
-#[derive(Clone, Copy)]
 pub(crate) enum Wanted<'a> {
     /// One that has to be given.
     Needed,
@@ -24,7 +23,6 @@ pub(crate) enum Wanted<'a> {
 }
 
 /// A word of a subcommand: its place or its option's name, what is wanted of it, and what the help says of it.
-#[derive(Clone, Copy)]
 pub(crate) struct Word<'a>(
     pub(crate) &'a str,
     pub(crate) Wanted<'a>,
@@ -32,8 +30,8 @@ pub(crate) struct Word<'a>(
 );
 
 /// What clap is told of a word.
-pub(crate) fn arg_of<'a>(alloc: Global, word: Word<'a>) -> Arg<'a>
-    ensures rule { rule_of result ≡ rule_of_word word.entry }
+pub(crate) fn arg_of<'a>(alloc: Global, word: &Word<'a>) -> Arg<'a>
+    ensures rule { rule_of result ≡ rule_of_word word.now }
     ensures local { result.global ≡ false }
 {
     let arg = Arg::new(alloc, word.0).help(word.2);

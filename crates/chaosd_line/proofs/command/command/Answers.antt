@@ -1,11 +1,10 @@
--- Each subcommand in its turn.
+-- The subcommands of the table, behind the bare command.
 use Rattle.std.proofs.Common.{◌∙◌, ap}
-use Rattle.clap.specs.Words.{app_of, with_subcommand}
-use Rattle.chaosd_line.proofs.Planned.{subs_step}
+use Rattle.std.proofs.lemmas.Result.{IfOk-weaker}
+use Rattle.chaosd_line.specs.Plan.{with_subs}
 use Rattle.chaosd_line.proofs.command.command.Goals as goal
 
-pub loop-sub-preserved : goal.loop-sub-preserved
-loop-sub-preserved c =
-    let added = c.in_ok-full.ensures.shape c.in_ok-nested.ensures.local
-    ∙ ap (λ a. with_subcommand (app_of c.loop-sub.full) a.top) c.in_ok-nested.ensures.app in
-    subs_step _ c.loop-sub.sub-index _ _ _ _ c.loop-sub-test.true c.loop-sub.invariant added
+pub returns : goal.returns
+returns c = IfOk-weaker c.with_subs.result _ _
+    (λ full made. made ∙ ap (λ app. with_subs app c.all_subs.result.now) c.in_ok-top.ensures ∙ c.all_subs.ensures)
+    c.with_subs.ensures
