@@ -33,11 +33,13 @@ SESSION = (
     b"T7 H2 READ\nT8  RENAME^A.LISP^B.LISP\nT9  DELETE^B.LISP\n"
 )
 SERVE = ["serve", "--turns", "0", "401", "127.0.0.1:1", "no/such/folder", "402=127.0.0.1:2"]
-RUNS = [
+LABORATORIES = [
     ("lab, data before the OPN", ["lab"], DATA_BEFORE_THE_OPN),
     ("lab, an item that is lost", ["lab"], LOST_ITEM),
     ("lab, both ends settle", ["lab"], SETTLED),
     ("filelab, all is served", ["filelab"], SERVED),
+]
+LINES = [
     ("loop", ["loop"], SESSION),
     ("a line of serve, and a folder that isn't there", SERVE, b""),
     ("serve, for a turn", ["serve", "--turns", "1", "401", UDP, FOLDER, "402=127.0.0.1:9"], b""),
@@ -133,7 +135,7 @@ def try_program(name, words, given, library):
 class Tests(Checking):
     """Tests of world_tests, which go on after a refusal."""
 
-    seconds = 10
+    seconds = 15
 
     def test_a_call_that_finds_no_memory_changes_nothing(self):
         program = checked("world_tests", "--test")
@@ -146,10 +148,20 @@ class Tests(Checking):
 class Runs(Case):
     """Runs of the program."""
 
-    seconds = 10
+    seconds = 25
 
-    def test_a_run_that_finds_no_memory_tells_it_or_goes_on(self):
+    def check_runs(self, runs):
         with folder() as here:
             library = None if refuses(PROGRAM) else preloaded(here, "failmalloc")
-            for name, words, given in RUNS:
+            for name, words, given in runs:
                 self.check(*try_program(name, words, given, library))
+
+
+class Laboratories(Runs):
+    def test_a_laboratory_that_finds_no_memory_tells_it(self):
+        self.check_runs(LABORATORIES)
+
+
+class Lines(Runs):
+    def test_a_line_that_finds_no_memory_tells_it_or_goes_on(self):
+        self.check_runs(LINES)
