@@ -13,6 +13,8 @@ from tests.support import BAD_LINE, DONE, FILE_LIMIT, REFUSED, Case, Checking, a
 SIZES = [0, 1, 447, 448, 449, 100_000, FILE_LIMIT]
 TEXT, LISP_TEXT = b"(A)\n\tB\x08\x0c", b"(A)\x8d\x89B\x88\x8c"
 MOST_LINES, MOST_COLUMNS = 1_200, 100
+# Seconds in which a client starts and is served at once, on a busy machine too: a connection is given up after ninety.
+AT_ONCE = 60
 OF_TESTS = ["tests.lisp", "memory.lisp"]
 TESTS = LISP / "tests.lisp"
 
@@ -195,7 +197,7 @@ class Anew:
                 process.communicate()
                 since = time.monotonic()
                 problems += ran(self.client, ["get", *line, "B"], cwd=here).problems(DONE, b"", b"") + stored_problems(here / "B", b"b")
-                problems += ["it took long"] if time.monotonic() - since > 30 else []
+                problems += ["it took long"] if time.monotonic() - since > AT_ONCE else []
             self.check(self.named("the client is killed and begins again"), problems)
 
 

@@ -22,6 +22,9 @@ SBCL = shutil.which("sbcl")
 # Seconds: a Lisp takes one to start, and more on a machine that does much else.
 LONG = 300
 
+# So many datagrams are no more than an input of `show` may be.
+SHOWN = 200
+
 FIRST, SECOND = "chaosd", "Lisp"
 
 needs_lisp = unittest.skipUnless(SBCL, "sbcl isn't there: `apt-get install sbcl` gives it")
@@ -162,10 +165,11 @@ def packets_of(datagram):
 
 def canonical_problems(datagrams):
     """What is wrong with what an end sent: `show` refuses none, nothing is in what is free, and nothing was forwarded."""
-    given = b"".join(datagram.hex().encode() + b"\n" for datagram in datagrams)
-    shown = run(["show"], given)
-    problems = shown.problems(DONE, None, b"")
-    return problems + [datagram.hex(" ") for datagram in datagrams if not all(packet[3] for packet in packets_of(datagram))][:1]
+    problems = [datagram.hex(" ") for datagram in datagrams if not all(packet[3] for packet in packets_of(datagram))][:1]
+    for first in range(0, len(datagrams), SHOWN):
+        given = b"".join(datagram.hex().encode() + b"\n" for datagram in datagrams[first : first + SHOWN])
+        problems += run(["show"], given).problems(DONE, None, b"")
+    return problems
 
 
 class Peer:
