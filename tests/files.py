@@ -81,9 +81,9 @@ class Scripts(Case):
         count = INPUT_LIMIT // len(line)
         longest = line * count + b"\\58" * ((INPUT_LIMIT - count * len(line)) // 3)
         longest += b"X" * (INPUT_LIMIT - len(longest))
-        ended = run(["loop"], longest)
+        ended = run(["loop"], longest, patience=LONG)
         self.check("loop: a script of 1,048,576 bytes is run", ended.problems(DONE, EMPTY_REPLY * (count + 1), b""))
-        ended = run(["loop"], longest + b"X")
+        ended = run(["loop"], longest + b"X", patience=LONG)
         name = "loop: one byte more is a fault behind the replies, status 1"
         self.check(name, ended.problems(FAULT, EMPTY_REPLY * count, [b"chaosd: ", b"1048576"]))
         ended = run(["loop"], b"x" * INPUT_LIMIT)

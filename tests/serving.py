@@ -10,7 +10,7 @@ import time
 from tests.packets import CLS, DATA, EOF, LOS, OPN, RFC, SNS, STS, Peer, datagram
 from tests.scripts import EMPTY_REPLY, FILE_REPLIES, FILE_SCRIPT, HELLO_REPLIES, NO_REPLY, content_read, get_script, put_script
 from tests.support import (
-    BAD_LINE, CLIENT, DONE, FILE_DATA, FILE_LIMIT, REFUSED, ROOT, SERVER, SOON, USUAL_WINDOW,
+    BAD_LINE, CLIENT, DONE, FILE_DATA, FILE_LIMIT, LONG, REFUSED, ROOT, SERVER, SOON, USUAL_WINDOW,
     Case, finished, line_of, mixed_content, plain_content, run, serving, started, stored_problems,
 )  # fmt: skip
 
@@ -49,7 +49,7 @@ class Asking:
 
 def got_problems(server, path, content):
     """What differs from the content where `ask` reads the file."""
-    ended = run(server.words(), get_script(path, len(content)))
+    ended = run(server.words(), get_script(path, len(content)), patience=LONG)
     told, rest = content_read(ended.out)
     size = len(content)
     wanted = [b"T  LOGIN LISPM", b"T H OPEN %d" % size, b"T H EOF", b"T H CLOSE %d" % size]
@@ -75,7 +75,7 @@ class Sessions(Case):
                 content = plain_content(size) if size > 100_000 else mixed_content(size)
                 path = b"put-%d" % size
                 script, replies = put_script(path, content)
-                problems = run(server.words(), script).problems(DONE, replies, b"")
+                problems = run(server.words(), script, patience=LONG).problems(DONE, replies, b"")
                 problems += stored_problems(server.folder / path.decode(), content)
                 self.check(f"ask: {size} bytes are put", problems or got_problems(server, path, content))
 
@@ -148,7 +148,7 @@ class Several(Case):
                 process.stdin.flush()
             problems = []
             for n in (3, 2, 1, 0):
-                problems += finished(running[n], scripts[n][0][50:]).problems(DONE, scripts[n][1], b"")
+                problems += finished(running[n], scripts[n][0][50:], LONG).problems(DONE, scripts[n][1], b"")
                 problems += stored_problems(server.folder / f"G{n}", mixed_content(100_000 + n))
             self.check("four clients write 100,000 bytes each", problems)
 

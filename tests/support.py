@@ -115,7 +115,7 @@ def finished(process, given=None, patience=PATIENCE):
     return Ended(process.returncode, out or b"", err or b"")
 
 
-def run(words, given=b"", stdin=None, stdout=None, closed=()):
+def run(words, given=b"", stdin=None, stdout=None, closed=(), patience=PATIENCE):
     """Runs the program on the words. What it is given comes through a pipe, or from the file `stdin`; what it writes goes
     to a pipe, or to the file `stdout`. The file descriptors in `closed` are closed before it starts."""
 
@@ -126,7 +126,7 @@ def run(words, given=b"", stdin=None, stdout=None, closed=()):
     pipe = subprocess.PIPE
     streams = {"stdin": pipe if stdin is None else stdin, "stdout": pipe if stdout is None else stdout, "stderr": pipe}
     process = subprocess.Popen([PROGRAM, *words], preexec_fn=close, **streams)
-    return finished(process, given if stdin is None else None)
+    return finished(process, given if stdin is None else None, patience)
 
 
 def started(words, prepare=lambda: None, **streams):
