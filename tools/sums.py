@@ -53,10 +53,11 @@ class Sums:
     def of_contracts(self, name):
         """The sum of what proofs of other crates read of a crate."""
         if name not in self.contracts:
-            crate, words = self.sources.crate(name), words_below(self.sources.folder / name, ["specs"])
+            crate = self.sources.crate(name)
             public = [it for each in crate.functions.values() for it in each if it.is_public]
-            words += [word for it in public for text in (it.owner or "", it.trait or "", it.head, *(c.text for c in it.clauses)) for word in text.split()]
-            words += [word for texts in (*crate.types.values(), *crate.ghosts.values()) for _, text in texts for word in text.split()]
+            texts = [text for it in public for text in (it.owner or "", it.trait or "", it.head, *(clause.text for clause in it.clauses))]
+            texts += [text for declared in (*crate.types.values(), *crate.ghosts.values()) for _, text in declared]
+            words = words_below(self.sources.folder / name, ["specs"]) + [word for text in texts for word in text.split()]
             self.contracts[name] = sum_of(words)
         return self.contracts[name]
 

@@ -141,7 +141,8 @@ class Outputs(unittest.TestCase):
         verdict = Verdict((SAID / "check.txt").read_text())
         self.assertTrue(verdict.is_there)
         self.assertFalse(verdict.is_proved)
-        self.assertEqual({("src/number.rt", 21), ("src/number.rt", 28), ("src/number.rt", 35), ("src/outbox.rt", 61), ("src/writing.rt", 10)}, verdict.lines)
+        lines = {("src/number.rt", 21), ("src/number.rt", 28), ("src/number.rt", 35), ("src/outbox.rt", 61), ("src/writing.rt", 10)}
+        self.assertEqual(lines, verdict.lines)
         self.assertEqual({f"proofs/{it}" for it in ("writing/pack", "reading/data_of", "reading/from_words")}, verdict.folders)
 
     def test_what_calls_a_function_that_is_not_proved_is_not_told(self):
@@ -238,7 +239,8 @@ class Refused(Example):
 
     def test_what_was_refused_is_not_tried_again_where_nothing_changed(self):
         self.tried()
-        self.assertEqual((0, ["5 were refused before, and nothing that they stand on has changed", "0 passed, 0 failed"], []), self.tried("--changed"))
+        lines = ["5 were refused before, and nothing that they stand on has changed", "0 passed, 0 failed"]
+        self.assertEqual((0, lines, []), self.tried("--changed"))
 
     def test_what_was_refused_is_tried_again_where_its_crate_changed(self):
         self.tried()
@@ -250,7 +252,8 @@ class Refused(Example):
         self.tried()
         kept = self.top / "docs/wrong-bodies.sums"
         kept.write_text("".join(f"{it} untried\n" for it in kept.read_text().split("\n") if it))
-        self.assertIn("5 of them were refused when they were written, and not tried since: `make wrong-bodies` tries them", self.tried("--changed")[1])
+        told = "5 of them were refused when they were written, and not tried since: `make wrong-bodies` tries them"
+        self.assertIn(told, self.tried("--changed")[1])
         self.tried()
         self.assertNotIn("untried", kept.read_text())
 
