@@ -107,6 +107,7 @@ pub fn put_stepped(out: &mut WriteBuffer, stepped: &Stepped) -> Result<(), NotWr
 }
 
 /// What an event did that was taken, where the user whom it let read has read these items.
+#[inline(always)]
 fn put_done(out: &mut WriteBuffer, done: StepDone, items: &[KeptItem]) -> Result<(), NotWritten>
     ensures { (packet : PacketView) → OnOk result (out.new ≡ out.old ++ stepped_text (in_full packet items.now done)) }
 {
@@ -138,6 +139,7 @@ pub fn put_refusal(out: &mut WriteBuffer, fault: LabFault) -> Result<(), NotWrit
 }
 
 /// What came of an event, where the user whom it let read has read these items.
+#[inline(always)]
 pub fn put_answer(
     out: &mut WriteBuffer,
     answer: Result<StepDone, LabFault>,

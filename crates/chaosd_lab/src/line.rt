@@ -6,6 +6,8 @@ ghost use Rattle.chaosd_lab.specs.Event.{event_of};
 ghost use Rattle.chaos_lab.specs.Inside.{happening_of};
 ghost use Rattle.chaos_lab.specs.Laboratory.{Happening};
 ghost use Rattle.chaosd_engines.specs.declared.fault.RunFault.TheVariants as run;
+ghost use Rattle.std.specs.Str.{bytes_eq};
+ghost use Rattle.chaosd_lab.specs.Settle.{settle_word};
 ghost use Rattle.chaosd_lab.specs.Start.{first_of};
 ghost use Rattle.chaosd_lab.specs.Happen.{PlaysEvent};
 ghost use Rattle.chaosd_lab.specs.Play.{lab_script, end_text, refused_or_ended};
@@ -58,7 +60,7 @@ impl Stage for LabStage {
         line: &[u8],
         number: u64,
     ) -> Result<bool, RunFault> {
-        if line == b"settle".as_slice() {
+        if is_settle(line) {
             return settle(alloc, &mut self.lab, out, writer);
         }
         play(alloc, &mut self.lab, &mut self.body, out, line, number)
@@ -67,6 +69,14 @@ impl Stage for LabStage {
     fn end(&self, out: &mut WriteBuffer) -> Result<(), NotWritten> {
         put_ends(out, &self.lab)
     }
+}
+
+/// Whether a line is `settle`. Most lines are told from it by their length, without a call of the comparison.
+#[inline(always)]
+fn is_settle(line: &[u8]) -> bool
+    ensures { result ≡ bytes_eq line.now settle_word }
+{
+    line.len() == 6 && line == b"settle".as_slice()
 }
 
 /// The laboratory of a first line, and the line of its first copy.
@@ -135,7 +145,8 @@ fn play(
 ///
 /// # Errors
 /// `NoMemory`, which is written too, and `WriteFault` where the text doesn't fit.
-#[inline]
+// inlined although `settle` plays events too: a call for each line of a script takes some instructions more
+#[inline(always)]
 pub fn play_event(
     alloc: Global,
     lab: &mut Lab,

@@ -21,13 +21,21 @@ pub(crate) struct Sub {
 }
 
 const CARRIAGE: Word<'static> = Word("carriage", Wanted::Default("N", "1"), help::CARRIAGE);
+
 const ADDRESS: Word<'static> = Word("ADDRESS", Wanted::Needed, help::ADDRESS);
+
 const UDP: Word<'static> = Word("UDP", Wanted::Needed, help::UDP);
+
 const PEER: Word<'static> = Word("PEER", Wanted::Any, help::PEER);
+
 const LOGIN: Word<'static> = Word("login", Wanted::Default("NAME", "CHAOSD"), help::LOGIN);
+
 const WINDOW: Word<'static> = Word("window", Wanted::Default("N", "64"), help::WINDOW);
+
 const TEXT: Word<'static> = Word("text", Wanted::Flag, help::TEXT);
+
 const QUIET: Word<'static> = Word("quiet", Wanted::Flag, help::QUIET);
+
 const SERVER: Word<'static> = Word("SERVER", Wanted::Needed, help::SERVER);
 
 /// The subcommands, in the order of the help.

@@ -9,8 +9,8 @@ use Rattle.chaosd_lab.specs.Settle.{settle_word, WantsSettling}
 use Rattle.chaosd_lab.proofs.Lines.{keeps_same, settle_plays, settle_wants, event_line_plays, event_line_wants, bad_line}
 use Rattle.chaosd_lab.proofs.line.LabStageStage.play.Goals as goal
 
-pub returns-then-eq-clause-played : goal.returns-then-eq-clause-played
-returns-then-eq-clause-played g c =
+pub returns-then-is_settle-clause-played : goal.returns-then-is_settle-clause-played
+returns-then-is_settle-clause-played g c =
     let view : c.self.inside.lab ≡ c.args.self.now = search rules in
     let is : bytes_eq c.args.line.now settle_word ≡ true = search rules in
     let old = written_of (g.W.Write.contents c.args.writer.now) c.args.out.now in
@@ -19,8 +19,8 @@ returns-then-eq-clause-played g c =
     (λ refused did ready. (subst (λ (l : LabView). PlaysLine lab_script c.args.line.now l c.settle.new.lab old new refused) view (settle_plays c.args.line.now c.self.inside.lab c.settle.new.lab old new refused is did), tt))
     c.settle.ensures.settled
 
-pub returns-then-eq-clause-no_memory : goal.returns-then-eq-clause-no_memory
-returns-then-eq-clause-no_memory g c wants =
+pub returns-then-is_settle-clause-no_memory : goal.returns-then-is_settle-clause-no_memory
+returns-then-is_settle-clause-no_memory g c wants =
     let view : c.self.inside.lab ≡ c.args.self.now = search rules in
     let is : bytes_eq c.args.line.now settle_word ≡ true = search rules in
     let (text, of_settling, more) = c.settle.ensures.no_memory wants in
