@@ -194,7 +194,8 @@ class Several(Case):
             problems = []
             for process in running:
                 problems += finished(process, patience=LONG).problems(DONE, b"", b"")
-            problems += [] if (server.folder / "F").read_bytes() in (one, other) else ["it is neither"]
+            is_one = any(not stored_problems(server.folder / "F", content) for content in (one, other))
+            problems += [] if is_one else ["it is neither"]
             self.check("two puts at once on one path", problems)
 
     def test_sixteen_clients_get_a_file_each(self):
