@@ -244,17 +244,21 @@ class Slots(Case):
 
     def test_a_connection_is_served_where_requests_take_all_other_slots(self):
         name = "65,536 requests of strangers for FILE"
+        made, quarter = requests(b"FILE", STRANGER), FLOOD // 4
         with service() as server:
             self.check(f"{name}: a client is answered before", server.answered())
             index = server.open_connection()
             is_replied = server.is_replied(index, 11, b"T1  LOGIN LISPM")
             self.check(f"{name}: a connection is there", [] if is_replied else ["no reply to the first LOGIN"])
-            first, _ = server.flood(requests(b"FILE", STRANGER)[: 4 * CONNECTIONS])
-            before = server.memory()
-            problems, _ = server.flood(requests(b"FILE", STRANGER))
-            self.check(f"{name}: the server takes all", first + problems)
-            is_replied = server.is_replied(index, 12, b"T2  LOGIN LISPM")
-            self.check(f"{name}: the connection is served", [] if is_replied else ["no reply to the second LOGIN"])
+            problems, _ = server.flood(made[: 4 * CONNECTIONS])
+            before, unserved = server.memory(), []
+            # A peer that says nothing for 90 seconds is given up: this one asks behind each quarter of the flood.
+            for n in range(4):
+                problems += server.flood(made[n * quarter : (n + 1) * quarter])[0]
+                is_replied = server.is_replied(index, 12 + n, b"T%d  LOGIN LISPM" % (2 + n))
+                unserved += [] if is_replied else [f"no reply to the LOGIN behind quarter {n + 1}"]
+            self.check(f"{name}: the server takes all", problems)
+            self.check(f"{name}: the connection is served", unserved)
             self.check(f"{name}: the memory stays flat", server.growth_problems(before))
             self.check(f"{name}: the service goes on", server.ended())
 
