@@ -10,7 +10,7 @@ import time
 
 from tests.copying import NO_FILE, changing, copied, copying, left_problems
 from tests.support import (
-    BAD_LINE, DONE, FAULT, FILE_LIMIT, LONG, REFUSED,
+    BAD_LINE, DONE, FAULT, FILE_LIMIT, IS_CHECKED, LONG, REFUSED,
     Case, Ended, finished, folder, mixed_content, run, serving, stored_problems,
 )  # fmt: skip
 
@@ -116,7 +116,7 @@ class Windows(Case):
                 begun = time.monotonic()
                 problems = copied(server, subcommand, *names, options=["--window", window], cwd=here).problems(DONE, b"", b"")
                 spent = time.monotonic() - begun
-                problems += [f"it took {spent:.2f} s"] if spent > len(names) / 3 else []
+                problems += [f"it took {spent:.2f} s"] if spent > len(names) / (2 if IS_CHECKED else 3) else []
                 for name in names:
                     problems += stored_problems(target / name, content)
                 self.check(f"serve --window {own}, {subcommand} --window {window}", problems)
