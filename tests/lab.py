@@ -261,6 +261,25 @@ class Limits(Case):
         ended = run(["lab"], script[:-7] + b"read c\n" + b"read a\n")
         self.check("a bad line within the limit is met first", ended.problems(BAD_LINE, text[:-13], [b"line %d: bad\n" % (count + 1)]))
 
+    def test_a_copy_is_stale_once_32_640_items_were_written_since_it_was_sent(self):
+        """A copy is delivered while one end has written 32,639 items since it was sent, and is stale behind one more."""
+        eof, count = b"write a 014\n", 32_639
+        settled = (64 * eof + b"settle\n") * (count // 64) + eof * (count % 64)
+        served, copies, heard, status = [], 3, 0, None
+        for item in range(1, count + 1):
+            if item - heard > 64:
+                # A hears the last status of B, which has sent one behind each 22 items that were read
+                served.append(b"deliver %d\n" % status)
+                heard = (item - 1) // 22 * 22
+            served.append(eof + b"deliver %d\nserve\n" % copies)
+            copies += 1
+            if item % 22 == 0:
+                status, copies = copies, copies + 1
+        for mode, script in [("lab", settled), ("filelab", b"".join(served))]:
+            ended = run([mode], OPEN + script + b"deliver 2\n" + eof + b"deliver 2\n")
+            told = [b"delivered Status\nwrote 32641\n", b" a EOF num 32641 ack 100\nrefused 2 Stale\nstored a "]
+            self.check(f"{mode}: {len(script)} bytes", ended.problems(REFUSED, told, b""))
+
     @unittest.skipIf(IS_CHECKED, "checks reserve more memory than the limit")
     def test_a_script_ends_at_an_event_that_finds_no_memory(self):
         """With little memory a long script ends at an event that finds none."""

@@ -1,6 +1,11 @@
--- An event as a function, where memory is not wanted.
-use Rattle.std.specs.Prelude.{◌≡◌, Result, Ok, Err, ◌⊎◌, if◌then◌else◌}
+-- An event as a function, and what want of memory makes of it.
+use Rattle.std.specs.Prelude.{◌≡◌, ℕ, List, true, Result, Ok, Err, ◌⊎◌, if◌then◌else◌}
 use Rattle.chaos_packet.specs.Opcode.{op_data}
+use Rattle.chaos_file.specs.declared.error.FileError.TheVariants as e
+use Rattle.chaos_file.specs.Answer.{reply_to}
+use Rattle.chaos_file.specs.Apply.{MayGrow}
+use Rattle.chaos_file.specs.Grammar.{parse_of}
+use Rattle.chaos_file.specs.Plan.{plan_of}
 use Rattle.chaos_file.specs.Step.{file_step}
 use Rattle.chaos_serve.specs.Work.{Work, NotOpen, Nothing, Full, LastItem, Command, work_of}
 use Rattle.chaos_serve.specs.declared.served.Served.TheVariants as told
@@ -10,7 +15,7 @@ use Rattle.chaos_lab.specs.Laboratory.{Happening, happen, after_all}
 use Rattle.chaos_lab.specs.Turn.{Reads, Replies, turn_events}
 use Rattle.chaos_filelab.specs.declared.event.FileStepped.{FileStepped}
 use Rattle.chaos_filelab.specs.declared.event.FileStepped.TheVariants as stepped
-use Rattle.chaos_filelab.specs.View.{FileLabView}
+use Rattle.chaos_filelab.specs.View.{FileLabView, wrote_mem}
 use Rattle.chaos_filelab.specs.Events.{FileHappening, At, Serve, is_by_server, lab_answer}
 
 -- all after an event, and what it answers
@@ -42,7 +47,22 @@ abbrev pub file_happen : FileLabView → FileHappening → FileDone
 file_happen l (At event) = if is_by_server event then refused_done l fault.ByServer else lab_done l event
 file_happen l Serve = serve_work l (work_of l.lab.b.conn)
 
--- an event did that, unless there was no memory for the histories
+-- an event did that; or there was no memory for the histories, and nothing changed
 abbrev pub IsExact : FileLabView → FileHappening → FileLabView → Result FileStepped LabFault → Type 0
 IsExact old event new answer =
     ((new ≡ (file_happen old event).view) × (answer ≡ (file_happen old event).answer)) ⊎ ((new ≡ old) × (answer ≡ Err fault.NoMemory))
+
+-- B's server found no memory for the command in front, one that may take some: its reply says so, and is written as any other;
+-- neither the session nor the files changed
+pub record ServeWants (old new : FileLabView) (answer : Result FileStepped LabFault) : Type 0 where
+  pub body : List ℕ
+  pub front : work_of old.lab.b.conn ≡ Command body
+  pub may_grow : MayGrow (plan_of old.session (parse_of body))
+  pub after : new ≡ record old { lab = after_all old.lab (turn_events (Replies op_data (reply_to (parse_of body) (Err e.NoMemory)))) }
+  pub answered : answer ≡ Ok (stepped.Served told.Replied)
+  pub wrote : wrote_mem new ≡ true
+
+-- no other event is B's server's
+abbrev pub Wants : FileLabView → FileHappening → FileLabView → Result FileStepped LabFault → Type 0
+Wants old (At event) new answer = ⊥
+Wants old Serve new answer = ServeWants old new answer

@@ -50,11 +50,12 @@ impl<'a> Bodies<'a> {
 fn first_data(items: &[KeptItem]) -> Option<(&[u8], &[KeptItem])>
     ensures { option_map (λ p. (p.0.now, data_bodies p.1.now)) result ≡ first_of (data_bodies items.now) }
 {
-    let [item, rest @ ..] = items else {
-        return None;
-    };
-    match item.op().kind() {
-        Kind::Data => Some((item.bytes(), rest)),
-        _ => first_data(rest),
+    let mut left = items;
+    while let [item, rest @ ..] = left {
+        if item.op().kind() == Kind::Data {
+            return Some((item.bytes(), rest));
+        }
+        left = rest;
     }
+    None
 }

@@ -1,5 +1,5 @@
 //! The laboratory whose B serves FILE.
-ghost use Rattle.std.specs.Prelude.{◌≡◌, ◌||◌, ◌≤◌, length, codes, map, ◌<◌, ℕ, take, Ok, Err, IfOk, IfErr, OnOk, OnErr, true, false, is_none, ◌↔◌, IsTrue};
+ghost use Rattle.std.specs.Prelude.{◌≡◌, ◌||◌, ◌⊎◌, ◌≤◌, length, codes, map, ◌<◌, ℕ, take, Ok, Err, IfOk, IfErr, OnOk, OnErr, true, false, is_none, ◌↔◌, IsTrue};
 ghost use Rattle.chaos_conn.specs.Calls.{front_of};
 ghost use Rattle.chaos_lab.specs.Laboratory.Happening.{AnnounceBy, TickOf};
 ghost use Rattle.chaos_lab.specs.Settling.{resend_moment};
@@ -14,7 +14,7 @@ ghost use Rattle.chaos_lab.specs.Tied.{HasMachine};
 ghost use Rattle.chaos_filelab.specs.View.{FileLabView, commands_of, replies_to_a, wrote_mem};
 ghost use Rattle.chaos_filelab.specs.Events.{At, Serve, FileHappens, LabHappens, ServeHappens, HasPassed, Passes, Runs, Stops, file_event, is_by_server};
 ghost use Rattle.chaos_filelab.specs.Bodies.{is_mem, told_want};
-ghost use Rattle.chaos_filelab.specs.Exact.{IsExact};
+ghost use Rattle.chaos_filelab.specs.Exact.{IsExact, ServeWants, Wants};
 ghost use Rattle.chaos_filelab.specs.Law.{RepliesBegin};
 
 use crate::bodies::Bodies;
@@ -78,12 +78,13 @@ impl FileLab {
     }
 
     /// Lets an event happen. Refused, in this order: `ByServer` for a write and a read at B; what [`Lab::step`] refuses.
-    /// Nothing changes then.
+    /// Nothing changes then. Where B's server has no memory for a command, it replies so, and its session and files stay.
     pub fn step(&mut self, alloc: Global, event: &FileEvent<'_>) -> Result<FileStepped, LabFault>
         ensures happens { FileHappens self.old (file_event event.now) self.new result }
         ensures refused { OnErr result (self.new ≡ self.old) }
-        // unless B wrote a reply for want of memory, an event is a function of what was before
-        ensures exact { wrote_mem self.new ≡ false → IsExact self.old (file_event event.now) self.new result }
+        // an event is a function of what was before, but for want of memory: for the histories it is refused, and B's server writes a
+        // reply that says so
+        ensures exact { IsExact self.old (file_event event.now) self.new result ⊎ Wants self.old (file_event event.now) self.new result }
     {
         match event {
             FileEvent::Serve => self.serve(alloc),
@@ -96,7 +97,7 @@ impl FileLab {
     pub fn happen(&mut self, alloc: Global, event: &Event<'_>) -> Result<FileStepped, LabFault>
         ensures happens { FileHappens self.old (At (happening_of event.now)) self.new result }
         ensures refused { OnErr result (self.new ≡ self.old) }
-        ensures exact { wrote_mem self.new ≡ false → IsExact self.old (At (happening_of event.now)) self.new result }
+        ensures exact { IsExact self.old (At (happening_of event.now)) self.new result }
         // a reply for want of memory is written by a serve alone
         ensures mem { wrote_mem self.new ≡ wrote_mem self.old }
     {
@@ -152,7 +153,7 @@ impl FileLab {
     #[tactic(auto, using(crate::proofs::KeptSteps::serves_not, crate::proofs::KeptSteps::stays_sound))]
     pub fn serve(&mut self, alloc: Global) -> Result<FileStepped, LabFault>
         ensures happens { ServeHappens self.old self.new result }
-        ensures exact { wrote_mem self.new ≡ false → IsExact self.old Serve self.new result }
+        ensures exact { IsExact self.old Serve self.new result ⊎ ServeWants self.old self.new result }
     {
         self.lab.law_headline();
         law_delivery();

@@ -1,7 +1,7 @@
 //! One line of a script.
 ghost use Rattle.std.specs.Prelude.{◌≡◌, ◌++◌, ◌≢◌, ◌⊎◌, ℕ, List, false, Err, None, Some, IfErr, IfOk, OnErr, OnOk};
 ghost use Rattle.chaos_filelab.specs.Events.{FileHappening, Serve, file_event};
-ghost use Rattle.chaos_filelab.specs.Exact.{IsExact};
+ghost use Rattle.chaos_filelab.specs.Exact.{IsExact, Wants};
 ghost use Rattle.chaos_filelab.specs.View.{wrote_mem};
 ghost use Rattle.chaosd_engines.specs.declared.fault.RunFault.TheVariants as run;
 ghost use Rattle.chaosd_lab.specs.Answers.{copies_text};
@@ -163,7 +163,7 @@ pub fn play_event(
 /// Lets an event happen.
 fn act(alloc: Global, lab: &mut FileLab, event: &FileEvent<'_>) -> Result<FileStepped, LabFault>
     ensures refused { OnErr result (lab.new ≡ lab.old) }
-    ensures exact { wrote_mem lab.new ≡ false → IsExact lab.old (file_event event.now) lab.new result }
+    ensures exact { IsExact lab.old (file_event event.now) lab.new result ⊎ Wants lab.old (file_event event.now) lab.new result }
     // a reply for want of memory is written by a serve alone
     ensures mem { (file_event event.now ≡ Serve) ⊎ (wrote_mem lab.new ≡ wrote_mem lab.old) }
 {

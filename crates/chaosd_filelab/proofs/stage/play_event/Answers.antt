@@ -1,9 +1,10 @@
 use Rattle.std.proofs.Common.{rules, ◌≡◌, ◌++◌, length, drop, ◌∙◌, ap, false, inl, refl}
 use Rattle.chaos_filelab.specs.Events.{file_event}
 use Rattle.chaos_filelab.specs.View.{wrote_mem}
+use Rattle.chaos_filelab.proofs.Exactly.{exact_unless}
 use Rattle.chaosd_lab.specs.Answers.{copies_text}
 use Rattle.chaosd_engines.proofs.Runs.{went_well}
-use Rattle.chaosd_filelab.proofs.Lines.{event_plays, event_wants, not_wanted, serve_wants}
+use Rattle.chaosd_filelab.proofs.Lines.{event_plays, event_wants, not_wanted}
 use Rattle.chaosd_filelab.proofs.stage.play_event.Goals as goal
 
 pub returns-clause-played : goal.returns-clause-played
@@ -12,7 +13,7 @@ returns-clause-played c =
     let n = length c.args.lab.now.lab.copies in
     let none : wrote_mem c.act-answer.new.lab ≡ false = search rules in
     event_plays c.args.lab.now c.act-answer.new.lab c.args.out.now mid c.put_copies.new.out (file_event c.args.event.now) c.act-answer.result _
-    (c.act-answer.ensures.exact none)
+    (exact_unless c.args.lab.now c.act-answer.new.lab (file_event c.args.event.now) c.act-answer.result c.act-answer.ensures.exact none)
     (went_well _ _ _ c.written.ensures c.in_ok-written.was c.put_answer.ensures)
     (went_well _ _ _ c.written-2.ensures c.in_ok-written-2.was c.put_copies.ensures
     ∙ ap (λ k. mid ++ copies_text (length k) (drop (length k) c.copies.result.now)) c.copies-before.ensures

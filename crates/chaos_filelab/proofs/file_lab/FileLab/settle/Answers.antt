@@ -5,6 +5,7 @@ use Rattle.chaos_filelab.specs.Events.{FileHappening, file_event}
 use Rattle.chaos_filelab.specs.Exact.{file_happen}
 use Rattle.chaos_filelab.specs.Settling.{file_settling}
 use Rattle.chaos_filelab.specs.SettlingLeft.{left}
+use Rattle.chaos_filelab.proofs.Exactly.{exact_unless}
 use Rattle.chaos_filelab.proofs.Before.{before_one, stopped_before, exact_goes, refused_by}
 use Rattle.chaos_filelab.proofs.file_lab.FileLab.settle.Goals.{then-is_err-via-then-is_err, then-is_err-via-else-is_err+then-wrote_mem}
 use Rattle.chaos_filelab.proofs.file_lab.FileLab.settle.Goals as goal
@@ -17,7 +18,7 @@ loop-event-preserved c =
     let m : FileLabView = c.step.new.self in
     let few : wrote_mem m ≡ false = sym c.wrote_mem.ensures ∙ c.if-wrote_mem.false in
     let ok : is_err c.step.result ≡ false = sym c.is_err.ensures.value ∙ c.if-is_err.false in
-    let ran : m ≡ (file_happen l event).view = exact_goes l m event c.step.result (c.step.ensures.exact few) ok in
+    let ran : m ≡ (file_happen l event).view = exact_goes l m event c.step.result (exact_unless l m event c.step.result c.step.ensures.exact few) ok in
     before_one c.args.self.now (file_settling c.args.self.now) l m event (left c.loop-event.events l) (left c.next.new.self m)
     c.loop-event.invariant
     (c.in-Some.ensures.some ∙ ap (λ (k : FileLabView). event ∷ left c.next.new.self k) (sym ran))
