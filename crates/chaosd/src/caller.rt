@@ -7,7 +7,7 @@ use chaos_link::UdpLink;
 use chaosd_call::Call;
 use chaosd_client::NoReply;
 use chaosd_copy::{CopyEnd, get_file, log_in, put_file};
-use chaosd_engines::RunFault;
+use chaosd_io::RunFault;
 use chaosd_line::Copying;
 use std::alloc::Global;
 use std::time::Clock;

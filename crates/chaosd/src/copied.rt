@@ -5,7 +5,7 @@ ghost use Rattle.chaosd.specs.Status.{weight, worse_status};
 use chaos_file::{MAX_FILE, MAX_PATH, Reply};
 use chaosd_client::{NoReply, Shown};
 use chaosd_copy::CopyEnd;
-use chaosd_engines::{DONE, FAULT, NO_MEMORY, REFUSED, RunFault};
+use chaosd_io::{DONE, FAULT, NO_MEMORY, REFUSED, RunFault};
 use std::io;
 
 /// What came of a file, or of those so far.

@@ -12,7 +12,7 @@ use crate::progress::Viewer;
 use crate::told::tell_unopened;
 use chaos_file::MAX_PATH;
 use chaosd_copy::{Charset, CopyEnd, read_whole, write_whole};
-use chaosd_engines::RunFault;
+use chaosd_io::RunFault;
 use chaosd_line::{Copying, Get, Put, last_name};
 use std::fs::File;
 use std::io::Write;

@@ -1,4 +1,4 @@
-//! `chaosd`: a thin main over the command line (`chaosd_line`) and the engines (`chaosd_engines`, `chaosd_lab`,
+//! `chaosd`: a thin main over the command line (`chaosd_line`) and the engines (`chaosd_show`, `chaosd_lab`,
 //! `chaosd_filelab`, `chaosd_file`, `chaosd_copy` over `chaosd_call`).
 //! It hands the words to the one, opens the folder and the sockets that they name, hands these with standard input and output to
 //! the others, and ends with their status.
@@ -22,7 +22,7 @@ use crate::network::{run_ask_line, run_loop_line, run_serve_line};
 use crate::runs::{run_filelab_line, run_lab_line, run_show_line};
 use crate::status::refused_status;
 use crate::words::words_of;
-use chaosd_engines::RunFault;
+use chaosd_io::RunFault;
 use chaosd_line::{Line, LineFault, parse_line};
 use clap::Error;
 use std::fs::{File, Files};

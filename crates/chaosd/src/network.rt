@@ -6,11 +6,11 @@ use crate::told::{tell_script, tell_served, tell_unopened};
 use chaos_conn::ConnConfig;
 use chaos_file::DirStore;
 use chaos_link::{Carriage, Peer, Peers, UdpLink};
-use chaosd_engines::RunFault;
 use chaosd_file::{
     LOOP_CLIENT, LOOP_SERVER, NOBODY, ScriptEnd, Why, run_ask, run_loop, run_serve_by,
     script_status, serve_status,
 };
+use chaosd_io::RunFault;
 use chaosd_line::{Ask, Serve};
 use std::fs::{File, Files};
 use std::io;

@@ -4,7 +4,7 @@ ghost use Rattle.chaos_file.specs.declared.limits.TheConstants.{MAX_REPLY};
 
 use chaos_file::{MAX_CHUNK, Reply};
 use chaosd_copy::Talk;
-use chaosd_engines::RunFault;
+use chaosd_io::RunFault;
 
 /// So many milliseconds lie between two moments at which a user is told how far a file has come.
 const PACE: u64 = 250;

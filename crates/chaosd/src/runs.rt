@@ -1,8 +1,8 @@
 //! The runs over standard input and output alone: `show`, `lab` and `filelab`.
 use crate::told::tell_end;
-use chaosd_engines::{run_show, show_status};
 use chaosd_filelab::run_filelab;
 use chaosd_lab::{lab_status, run_lab};
+use chaosd_show::{run_show, show_status};
 use std::io;
 
 /// Runs `show` from standard input to standard output.

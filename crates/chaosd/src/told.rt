@@ -1,8 +1,8 @@
 //! What a user is told on standard error of a run that ended, or that could not begin.
 ghost use Rattle.std.specs.Prelude.{◌≡◌, ◌⊎◌};
 
-use chaosd_engines::{FAULT, NO_MEMORY, RunFault};
 use chaosd_file::{ScriptEnd, Why};
+use chaosd_io::{FAULT, NO_MEMORY, RunFault};
 use std::fmt::Display;
 use std::io;
 

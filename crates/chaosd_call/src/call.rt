@@ -16,7 +16,7 @@ use chaos_serve::CONTACT;
 use chaos_turn::{TURN_ROOM, TurnEnd, client_turn};
 use chaosd_client::{Beginning, NoReply, Patience, is_over, pass_indices, take_reply, write_item};
 use chaosd_copy::Talk;
-use chaosd_engines::RunFault;
+use chaosd_io::RunFault;
 use std::alloc::Global;
 use std::time::Clock;
 

@@ -1,7 +1,7 @@
 -- Which faults a turn meets.
 use Rattle.std.specs.Prelude.{ℕ, ◌<◌}
-use Rattle.chaosd_engines.specs.declared.fault.RunFault.{RunFault}
-use Rattle.chaosd_engines.specs.declared.fault.RunFault.TheVariants.{ReadFault, WriteFault, InputTooLong, NoMemory, BadScript, LinkFault, ClockFault}
+use Rattle.chaosd_io.specs.declared.fault.RunFault.{RunFault}
+use Rattle.chaosd_io.specs.declared.fault.RunFault.TheVariants.{ReadFault, WriteFault, InputTooLong, NoMemory, BadScript, LinkFault, ClockFault}
 
 -- a turn meets a fault of the clock, or of a link, where so many failures are counted then
 abbrev pub IsTurnFault : ℕ → RunFault → Type 0

@@ -2,7 +2,7 @@
 ghost use Rattle.std.specs.Prelude.{◌≡◌, ◌+◌, ◌%◌, IfErr};
 
 use chaos_packet::PktNum;
-use chaosd_engines::RunFault;
+use chaosd_io::RunFault;
 use std::io;
 use std::time::{Clock, Instant, SystemTime, UNIX_EPOCH};
 

@@ -17,7 +17,7 @@ use crate::talk::Talk;
 use crate::window::{NO_LIMIT, Row, ask_one, next_reply, refusal, settled};
 use crate::words::{counted, spelled};
 use chaos_file::{MAX_CHUNK, MAX_FILE, Reply};
-use chaosd_engines::RunFault;
+use chaosd_io::RunFault;
 use std::str;
 
 /// The length of a file that decimal digits write.

@@ -14,7 +14,7 @@ ghost use Rattle.chaosd_copy.specs.Talk.{Talked};
 use crate::talk::Talk;
 use crate::words::put;
 use chaos_file::{MemStore, Reply, Session, parse_command};
-use chaosd_engines::RunFault;
+use chaosd_io::RunFault;
 use std::alloc::Global;
 
 /// A talk with a FILE server in memory, which begins without files and answers each command at once, as FILE's definition says. It

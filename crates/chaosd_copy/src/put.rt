@@ -14,7 +14,7 @@ use crate::talk::Talk;
 use crate::window::{NO_LIMIT, Row, ask_one, next_reply, settled};
 use crate::words::counted;
 use chaos_file::MAX_CHUNK;
-use chaosd_engines::RunFault;
+use chaosd_io::RunFault;
 
 /// How many pieces a file of so many bytes has.
 pub fn chunk_count(length: usize) -> usize

@@ -2,10 +2,10 @@
 ghost use Rattle.std.specs.Prelude.{◌≡◌, ◌≤◌, Option, option_map, length, IfErr, IfSome};
 ghost use Rattle.chaosd_copy.specs.Talk.{Talked, after_say, after_hear};
 ghost use Rattle.chaos_file.specs.declared.limits.TheConstants.{MAX_REPLY};
-ghost use Rattle.chaosd_engines.specs.declared.fault.RunFault.{RunFault};
+ghost use Rattle.chaosd_io.specs.declared.fault.RunFault.{RunFault};
 
 use chaos_file::Reply;
-use chaosd_engines::RunFault;
+use chaosd_io::RunFault;
 
 /// A talk with a FILE server: commands go out, and replies come back in the same order.
 pub trait Talk {

@@ -14,7 +14,7 @@ use crate::limits::{REPLY_MILLIS, REPLY_TURNS};
 use crate::talk::Talk;
 use crate::words::spelled;
 use chaos_file::Reply;
-use chaosd_engines::RunFault;
+use chaosd_io::RunFault;
 
 /// As many commands without a reply as there is room for.
 pub const NO_LIMIT: usize = usize::MAX;

@@ -10,13 +10,13 @@ use Rattle.std.proofs.Math.Seq.{take-append-add, take-append_seam}
 use Rattle.std.proofs.lemmas.List.Concat.{flat_map-append}
 use Rattle.std.proofs.lemmas.List.Elements.{All-nil, All-push}
 use Rattle.std.proofs.lemmas.List.Splits.{length-slice_split}
-use Rattle.chaosd_engines.specs.declared.fault.RunFault.{RunFault}
-use Rattle.chaosd_engines.specs.declared.fault.RunFault.TheVariants.{ReadFault, WriteFault, InputTooLong, NoMemory, BadScript, LinkFault, ClockFault}
-use Rattle.chaosd_engines.specs.declared.limits.TheConstants.{INPUT_LIMIT, KEPT_LEN, LINE_LIMIT}
-use Rattle.chaosd_engines.specs.Escapes.{data_of}
-use Rattle.chaosd_engines.specs.Lines.{all_but_last, is_newline, pieces_of, without_empty_last, ended_lines, lines_of}
-use Rattle.chaosd_engines.specs.Reader.{LinesView, Gives, Done, GivesMore, GivesNext, GivesLast}
-use Rattle.chaosd_engines.proofs.Steps.{length-strip_last}
+use Rattle.chaosd_io.specs.declared.fault.RunFault.{RunFault}
+use Rattle.chaosd_io.specs.declared.fault.RunFault.TheVariants.{ReadFault, WriteFault, InputTooLong, NoMemory, BadScript, LinkFault, ClockFault}
+use Rattle.chaosd_io.specs.declared.limits.TheConstants.{INPUT_LIMIT, KEPT_LEN, LINE_LIMIT}
+use Rattle.chaosd_io.specs.Escapes.{data_of}
+use Rattle.chaosd_io.specs.Lines.{all_but_last, is_newline, pieces_of, without_empty_last, ended_lines, lines_of}
+use Rattle.chaosd_io.specs.Reader.{LinesView, Gives, Done, GivesMore, GivesNext, GivesLast}
+use Rattle.chaosd_io.proofs.Steps.{length-strip_last}
 use Rattle.chaosd_file.specs.Command.{command_of}
 use Rattle.chaosd_client.specs.Fault.{IsTurnFault}
 use Rattle.chaosd_file.specs.Printed.{ending_of, reply_line, replies_text, no_reply_line, PrintsReplies}

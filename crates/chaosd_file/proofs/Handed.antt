@@ -3,16 +3,16 @@ use Rattle.std.proofs.Common.{◌≡◌, ℕ, Bool, true, false, List, [], ◌++
 use Rattle.std.specs.Prelude.{Option, None, Some, IfOk, Result, Ok, Err}
 use Rattle.std.specs.Io.KnownBytes.{Keeps}
 use Rattle.std.proofs.KnownBytes.{Appends-kept}
-use Rattle.chaosd_engines.specs.Buffer.{written_of}
-use Rattle.chaosd_engines.specs.declared.fault.RunFault.{RunFault}
-use Rattle.chaosd_engines.specs.declared.fault.RunFault.TheVariants.{ReadFault, WriteFault, InputTooLong, NoMemory, BadScript, LinkFault, ClockFault}
+use Rattle.chaosd_io.specs.Buffer.{written_of}
+use Rattle.chaosd_io.specs.declared.fault.RunFault.{RunFault}
+use Rattle.chaosd_io.specs.declared.fault.RunFault.TheVariants.{ReadFault, WriteFault, InputTooLong, NoMemory, BadScript, LinkFault, ClockFault}
 use Rattle.chaosd_file.specs.Asking.{Asked, AskedGiven}
 use Rattle.chaosd_file.specs.Conversation.{AsksAll}
 use Rattle.chaosd_file.specs.Printed.{PrintsReplies}
 use Rattle.chaosd_file.specs.Script.{PrintsRepliesTo, Ran, Runs}
 use Rattle.chaosd_file.specs.Talk.{Talker}
 use Rattle.chaosd_file.specs.declared.end.ScriptEnd.{ScriptEnd}
-use Rattle.chaosd_engines.specs.Reader.{LinesView, Gives, GivesMore}
+use Rattle.chaosd_io.specs.Reader.{LinesView, Gives, GivesMore}
 
 prints_kept : (count : ℕ) (before between after : Option (List ℕ)) → PrintsReplies count before between → Keeps between after → PrintsReplies count before after
 prints_kept count before between after s kept = record { replies = s.replies; number = s.number; text = Appends-kept before between after _ s.text kept }

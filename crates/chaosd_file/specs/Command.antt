@@ -1,8 +1,8 @@
 -- The command that a line of a script stands for.
 use Rattle.std.specs.Prelude.{ℕ, List, length, Option, None, nat_lt, if◌then◌else◌}
 use Rattle.std.specs.Io.BufRead.{strip_last}
-use Rattle.chaosd_engines.specs.Escapes.{data_of}
-use Rattle.chaosd_engines.specs.declared.limits.TheConstants.{LINE_LIMIT}
+use Rattle.chaosd_io.specs.Escapes.{data_of}
+use Rattle.chaosd_io.specs.declared.limits.TheConstants.{LINE_LIMIT}
 
 -- the bytes of a text that isn't too long
 abbrev pub command_of_text : List ℕ → Option (List ℕ)

@@ -2,8 +2,8 @@
 use Rattle.std.specs.Prelude.{◌≡◌, ℕ, List, [], ◌++◌, length, codes, Option, ◌==◌, if◌then◌else◌}
 use Rattle.std.specs.List.{flat_map}
 use Rattle.std.specs.Io.KnownBytes.{Appends}
-use Rattle.chaosd_engines.specs.Escapes.{shown_byte}
-use Rattle.chaosd_engines.specs.Report.{line}
+use Rattle.chaosd_io.specs.Escapes.{shown_byte}
+use Rattle.chaosd_io.specs.Texts.{line}
 use Rattle.chaosd_file.specs.declared.end.ScriptEnd.{ScriptEnd}
 
 -- a reply, its bytes written as text, and the end of its line

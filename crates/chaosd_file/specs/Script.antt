@@ -1,10 +1,10 @@
 -- A run over a FILE script.
 use Rattle.std.specs.Prelude.{◌≡◌, ℕ, ◌+◌, ◌-◌, ◌<◌, ◌≤◌, nat_lt, if◌then◌else◌, true, List, ◌∷◌, ◌++◌, All, length, take, Option, None, is_some, IfSome, Result, Ok, Err}
 use Rattle.std.specs.Io.KnownBytes.{Consumes, IsAtEnd}
-use Rattle.chaosd_engines.specs.declared.fault.RunFault.{RunFault}
-use Rattle.chaosd_engines.specs.declared.fault.RunFault.TheVariants.{ReadFault, WriteFault, InputTooLong, NoMemory, BadScript, LinkFault, ClockFault}
-use Rattle.chaosd_engines.specs.declared.limits.TheConstants.{INPUT_LIMIT}
-use Rattle.chaosd_engines.specs.Lines.{lines_of, ended_lines}
+use Rattle.chaosd_io.specs.declared.fault.RunFault.{RunFault}
+use Rattle.chaosd_io.specs.declared.fault.RunFault.TheVariants.{ReadFault, WriteFault, InputTooLong, NoMemory, BadScript, LinkFault, ClockFault}
+use Rattle.chaosd_io.specs.declared.limits.TheConstants.{INPUT_LIMIT}
+use Rattle.chaosd_io.specs.Lines.{lines_of, ended_lines}
 use Rattle.chaosd_file.specs.declared.end.ScriptEnd.{ScriptEnd}
 use Rattle.chaosd_file.specs.Command.{command_of}
 use Rattle.chaosd_file.specs.Printed.{PrintsReplies, PrintsScript}

@@ -15,7 +15,7 @@ use chaos_packet::{Opcode, Outbox, PktNum};
 use chaos_serve::CONTACT;
 use chaos_turn::TURN_ROOM;
 use chaosd_client::{NoReply, Patience, is_over, pass_indices, take_reply, write_item};
-use chaosd_engines::{Data, RunFault};
+use chaosd_io::{Data, RunFault};
 use std::alloc::Global;
 
 /// A host with one connection, whose user is a script, and what waits to be sent.

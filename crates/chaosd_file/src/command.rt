@@ -2,7 +2,7 @@
 ghost use Rattle.std.specs.Prelude.{◌≡◌, option_map};
 ghost use Rattle.chaosd_file.specs.Command.{command_of};
 
-use chaosd_engines::{Data, LINE_LIMIT, read_data, without_return};
+use chaosd_io::{Data, LINE_LIMIT, read_data, without_return};
 
 /// The places of a command and of its reply, which are kept from line to line.
 #[derive(Drop)]

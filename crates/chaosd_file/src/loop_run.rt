@@ -1,8 +1,8 @@
 //! The engine `loop`.
 ghost use Rattle.std.specs.Prelude.{◌≡◌, ◌<◌, ◌≤◌, ◌+◌, ◌-◌, ℕ, Err, length, take, IfOk, IfSome, OnOk};
 ghost use Rattle.std.specs.Io.KnownBytes.{IsAtEnd};
-ghost use Rattle.chaosd_engines.specs.declared.limits.TheConstants.{INPUT_LIMIT};
-ghost use Rattle.chaosd_engines.specs.Lines.{lines_of, ended_lines};
+ghost use Rattle.chaosd_io.specs.declared.limits.TheConstants.{INPUT_LIMIT};
+ghost use Rattle.chaosd_io.specs.Lines.{lines_of, ended_lines};
 ghost use Rattle.chaosd_file.specs.Conversation.{Converses};
 ghost use Rattle.chaosd_file.specs.Talk.{new_talker};
 ghost use Rattle.chaosd_file.specs.Printed.{PrintsReplies, PrintsScript};
@@ -21,7 +21,7 @@ use chaos_host::{Host, HostDelivered};
 use chaos_link::{Carriage, LINK_ROOM, Link};
 use chaos_packet::Outbox;
 use chaos_turn::{TURN_ROOM, TurnEnd, client_turn};
-use chaosd_engines::RunFault;
+use chaosd_io::RunFault;
 use std::alloc::Global;
 use std::io::{Read, Write};
 

@@ -1,10 +1,10 @@
 //! What a script prints.
 ghost use Rattle.std.specs.Prelude.{◌≡◌, ◌++◌, [], OnOk, IfErr};
 ghost use Rattle.std.specs.Io.KnownBytes.{Appends, Keeps};
-ghost use Rattle.chaosd_engines.specs.Buffer.{written_of};
+ghost use Rattle.chaosd_io.specs.Buffer.{written_of};
 ghost use Rattle.chaosd_file.specs.Printed.{reply_line, no_reply_line};
 
-use chaosd_engines::{NotWritten, RunFault, WriteBuffer, put_line, put_text, written};
+use chaosd_io::{NotWritten, RunFault, WriteBuffer, put_line, put_text, written};
 use std::io::Write;
 
 /// Writes a reply as a line.

@@ -1,7 +1,7 @@
 //! The run over a script.
 ghost use Rattle.std.specs.Prelude.{◌≡◌, ◌<◌, ◌≤◌, Err, IfOk, OnOk};
-ghost use Rattle.chaosd_engines.specs.Buffer.{written_of};
-ghost use Rattle.chaosd_engines.specs.declared.limits.TheConstants.{INPUT_LIMIT};
+ghost use Rattle.chaosd_io.specs.Buffer.{written_of};
+ghost use Rattle.chaosd_io.specs.declared.limits.TheConstants.{INPUT_LIMIT};
 ghost use Rattle.chaosd_file.specs.Asking.{AsksLine};
 ghost use Rattle.chaosd_file.specs.Conversation.{AsksAll, Converses};
 ghost use Rattle.chaosd_file.specs.Exchange.{talker_of};
@@ -13,7 +13,7 @@ use crate::end::ScriptEnd;
 use crate::replies::{hand_on, print_none, print_reply};
 use crate::turns::Turns;
 use crate::why::{Why, bad_line};
-use chaosd_engines::{Data, INPUT_LIMIT, KEPT_LEN, LineReader, RunFault, WriteBuffer};
+use chaosd_io::{Data, INPUT_LIMIT, KEPT_LEN, LineReader, RunFault, WriteBuffer};
 use std::io::{Read, Write};
 
 /// Asks each command of a script, and closes the connection however that ends, but for a fault of a link or of the clock: no turn

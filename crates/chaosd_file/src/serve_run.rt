@@ -12,7 +12,7 @@ use chaos_file::Store;
 use chaos_link::{Carriage, Link};
 use chaos_turn::TurnEnd;
 use chaosd_client::Beginning;
-use chaosd_engines::RunFault;
+use chaosd_io::RunFault;
 use std::alloc::Global;
 use std::time::Clock;
 

@@ -12,7 +12,7 @@ use chaos_link::{Carriage, LINK_ROOM, Link};
 use chaos_packet::{Outbox, PktNum};
 use chaos_serve::CONTACT;
 use chaos_turn::{Sessions, TURN_ROOM, TurnEnd, can_serve_any, run_turn};
-use chaosd_engines::RunFault;
+use chaosd_io::RunFault;
 use std::alloc::Global;
 
 /// A host that listens to FILE, with a session for each of its connections and what waits to be sent.

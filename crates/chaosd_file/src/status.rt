@@ -3,7 +3,7 @@ ghost use Rattle.std.specs.Prelude.{◌≡◌};
 ghost use Rattle.chaosd_file.specs.Status.{script_status, serve_status};
 
 use crate::end::ScriptEnd;
-use chaosd_engines::{DONE, REFUSED, RunFault, fault_status};
+use chaosd_io::{DONE, REFUSED, RunFault, fault_status};
 
 /// The exit status of a program that ran [`crate::run_loop`] or [`crate::run_ask`]: 0 where each command was replied to, also by
 /// an error of FILE, 3 where one was not, else that of the fault.

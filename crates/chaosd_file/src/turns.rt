@@ -9,7 +9,7 @@ use chaos_host::{Host, HostDelivered};
 use chaos_link::Carriage;
 use chaos_packet::Outbox;
 use chaos_turn::TURN_ROOM;
-use chaosd_engines::RunFault;
+use chaosd_io::RunFault;
 
 /// The turns of a client: what takes part in them beside its host, and the moments.
 pub trait Turns {

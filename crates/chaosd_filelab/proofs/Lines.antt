@@ -9,11 +9,11 @@ use Rattle.chaos_filelab.specs.declared.event.FileStepped.{FileStepped}
 use Rattle.chaos_filelab.specs.View.{FileLabView, wrote_mem}
 use Rattle.chaos_filelab.specs.Events.{FileHappening, Serve}
 use Rattle.chaos_filelab.specs.Exact.{file_happen, IsExact}
-use Rattle.chaosd_engines.specs.declared.fault.RunFault.{RunFault}
-use Rattle.chaosd_engines.specs.declared.fault.RunFault.TheVariants as run
+use Rattle.chaosd_io.specs.declared.fault.RunFault.{RunFault}
+use Rattle.chaosd_io.specs.declared.fault.RunFault.TheVariants as run
 use Rattle.chaosd_lab.specs.Answers.{refusal_text, copies_text}
 use Rattle.chaosd_lab.specs.Play.{refused_or_ended}
-use Rattle.chaosd_engines.specs.Buffer.{written_of}
+use Rattle.chaosd_io.specs.Buffer.{written_of}
 use Rattle.std.specs.Io.KnownBytes.{Appends}
 use Rattle.chaosd_script.specs.Script.{PlaysLine}
 use Rattle.chaosd_script.proofs.Plays.{waits_more}

@@ -5,7 +5,7 @@ use Rattle.chaos_serve.specs.declared.served.Served.{Served}
 use Rattle.chaos_serve.specs.declared.served.Served.TheVariants as told
 use Rattle.chaos_filelab.specs.declared.event.FileStepped.{FileStepped}
 use Rattle.chaos_filelab.specs.declared.event.FileStepped.TheVariants as stepped
-use Rattle.chaosd_engines.specs.Report.{line}
+use Rattle.chaosd_io.specs.Texts.{line}
 use Rattle.chaosd_lab.specs.Names.{state_name}
 use Rattle.chaosd_lab.specs.Answers.{named_line, stepped_text, refusal_text}
 

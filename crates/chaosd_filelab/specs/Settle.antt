@@ -4,7 +4,7 @@ use Rattle.chaos_filelab.specs.View.{FileLabView, wrote_mem}
 use Rattle.chaos_filelab.specs.Events.{FileHappening, At, Serve}
 use Rattle.chaos_filelab.specs.Exact.{file_happen}
 use Rattle.chaos_filelab.specs.Settling.{after_events, file_settling}
-use Rattle.chaosd_engines.specs.Report.{line}
+use Rattle.chaosd_io.specs.Texts.{line}
 use Rattle.chaosd_script.specs.Script.{Done}
 use Rattle.chaosd_lab.specs.Typed.{event_line}
 use Rattle.chaosd_lab.specs.Settle as lab

@@ -7,7 +7,7 @@ ghost use Rattle.chaosd_filelab.specs.Settle.{file_line};
 use chaos_filelab::{FileEvent, FileStepped};
 use chaos_lab::LabFault;
 use chaos_serve::Served;
-use chaosd_engines::{NotWritten, WriteBuffer, put_line};
+use chaosd_io::{NotWritten, WriteBuffer, put_line};
 use chaosd_lab::{put_event, put_named, put_refusal, put_stepped, state_name};
 
 /// What became of the item in front.

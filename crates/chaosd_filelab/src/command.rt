@@ -3,7 +3,7 @@ ghost use Rattle.std.specs.Prelude.{◌≡◌, option_map};
 ghost use Rattle.chaosd_filelab.specs.Command.{file_said};
 ghost use Rattle.chaosd_filelab.specs.Event.{file_line_of};
 
-use chaosd_engines::Data;
+use chaosd_io::Data;
 use chaosd_lab::{Command, event_of};
 
 /// An event without the bytes of its text, which lie with the caller.

@@ -1,14 +1,14 @@
 //! The run over a script.
 ghost use Rattle.std.specs.Prelude.{◌≡◌, ◌≢◌, ◌<◌, ◌≤◌, ◌+◌, ◌-◌, ◌++◌, ℕ, List, Err, Some, length, take, OnOk, IfOk, IfSome};
 ghost use Rattle.std.specs.Io.KnownBytes.{Appends, IsAtEnd};
-ghost use Rattle.chaosd_engines.specs.Lines.{lines_of, ended_lines, IsMet};
+ghost use Rattle.chaosd_io.specs.Lines.{lines_of, ended_lines, IsMet};
 ghost use Rattle.chaos_filelab.specs.View.{FileLabView};
 ghost use Rattle.chaosd_script.specs.Script.{Played, play_of, text_of, IsFirstBad, NoneBad};
 ghost use Rattle.chaosd_script.specs.Player.{PlaysRead, Wants};
 ghost use Rattle.chaosd_filelab.specs.Play.{filelab_script, end_text};
 
 use crate::stage::FileStage;
-use chaosd_engines::{INPUT_LIMIT, RunFault};
+use chaosd_io::{INPUT_LIMIT, RunFault};
 use chaosd_script::run_script;
 use std::alloc::Global;
 use std::io::{Read, Write};

@@ -1,8 +1,8 @@
 //! The line `settle`.
 ghost use Rattle.std.specs.Prelude.{◌≡◌, ◌++◌, ◌⊎◌, List, ℕ, false, Err, IfErr, IfOk, OnOk};
 ghost use Rattle.std.specs.Io.KnownBytes.{Appends};
-ghost use Rattle.chaosd_engines.specs.Buffer.{written_of};
-ghost use Rattle.chaosd_engines.specs.declared.fault.RunFault.TheVariants as run;
+ghost use Rattle.chaosd_io.specs.Buffer.{written_of};
+ghost use Rattle.chaosd_io.specs.declared.fault.RunFault.TheVariants as run;
 ghost use Rattle.chaos_filelab.specs.Events.{file_event};
 ghost use Rattle.chaos_filelab.specs.Exact.{file_happen};
 ghost use Rattle.chaos_filelab.specs.Settling.{after_events, file_settling};
@@ -13,7 +13,7 @@ ghost use Rattle.chaosd_filelab.specs.Settle.{file_line, settle_done, typed_text
 use crate::answers::put_file_event;
 use crate::stage::play_event;
 use chaos_filelab::{FileEvent, FileLab, FileSettling};
-use chaosd_engines::{RunFault, WriteBuffer, put_line, written};
+use chaosd_io::{RunFault, WriteBuffer, put_line, written};
 use chaosd_script::make_room;
 use std::alloc::Global;
 use std::io::Write;

@@ -3,7 +3,7 @@ ghost use Rattle.std.specs.Prelude.{◌≡◌, ◌++◌, ◌≢◌, ◌⊎◌, �
 ghost use Rattle.chaos_filelab.specs.Events.{FileHappening, Serve, file_event};
 ghost use Rattle.chaos_filelab.specs.Exact.{IsExact, Wants};
 ghost use Rattle.chaos_filelab.specs.View.{wrote_mem};
-ghost use Rattle.chaosd_engines.specs.declared.fault.RunFault.TheVariants as run;
+ghost use Rattle.chaosd_io.specs.declared.fault.RunFault.TheVariants as run;
 ghost use Rattle.chaosd_lab.specs.Answers.{copies_text};
 ghost use Rattle.chaosd_script.specs.Player.{IsLineFault};
 ghost use Rattle.chaosd_filelab.specs.Event.{file_line_of};
@@ -16,7 +16,7 @@ use crate::command::{FileCommand, file_line_of};
 use crate::settle::settle;
 use chaos_filelab::{FileEvent, FileLab, FileStepped};
 use chaos_lab::{LabFault, Side};
-use chaosd_engines::{Data, NotWritten, RunFault, WriteBuffer, written};
+use chaosd_io::{Data, NotWritten, RunFault, WriteBuffer, written};
 use chaosd_lab::{is_refused, put_copies, put_stored, start_of};
 use chaosd_script::Stage;
 use std::alloc::Global;

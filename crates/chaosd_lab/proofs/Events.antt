@@ -12,8 +12,8 @@ use Rattle.chaos_lab.specs.declared.fault.LabFault.TheVariants.{NoSuchCopy, Stal
 use Rattle.chaos_lab.specs.Laboratory.{LabView, Happening, Happens, happen}
 use Rattle.chaos_lab.specs.Told.{told}
 use Rattle.chaos_lab.proofs.Happening.{no_memory}
-use Rattle.chaosd_engines.specs.declared.fault.RunFault.{RunFault}
-use Rattle.chaosd_engines.specs.declared.fault.RunFault.TheVariants as run
+use Rattle.chaosd_io.specs.declared.fault.RunFault.{RunFault}
+use Rattle.chaosd_io.specs.declared.fault.RunFault.TheVariants as run
 use Rattle.chaosd_lab.specs.Answers.{answer_text, refusal_text, copies_text}
 use Rattle.chaosd_script.specs.Player.{IsLineFault}
 use Rattle.chaosd_lab.specs.Happen.{event_text, PlaysEvent}

@@ -5,7 +5,7 @@ use Rattle.std.specs.Str.{bytes_eq}
 use Rattle.std.specs.Io.KnownBytes.{Appends, Keeps}
 use Rattle.chaos_lab.specs.declared.fault.LabFault.TheVariants.{NoMemory}
 use Rattle.chaos_lab.specs.Laboratory.{LabView, Happening}
-use Rattle.chaosd_engines.specs.Buffer.{written_of}
+use Rattle.chaosd_io.specs.Buffer.{written_of}
 use Rattle.chaosd_script.specs.Script.{PlaysLine}
 use Rattle.chaosd_script.proofs.Plays.{waits_more}
 use Rattle.chaosd_lab.specs.Answers.{refusal_text}

@@ -13,7 +13,7 @@ use Rattle.chaos_lab.specs.Laboratory.{LabView, Happening, happen, after_all}
 use Rattle.chaos_lab.specs.Progress.{IsInTime, CanSettle}
 use Rattle.chaos_lab.specs.Settling.{settling, settling_moment, last_moment}
 use Rattle.chaos_lab.proofs.Playing.{after_both}
-use Rattle.chaosd_engines.specs.declared.fault.RunFault.{RunFault}
+use Rattle.chaosd_io.specs.declared.fault.RunFault.{RunFault}
 use Rattle.chaosd_lab.specs.Answers.{refusal_text}
 use Rattle.chaosd_lab.specs.Happen.{event_text}
 use Rattle.chaosd_lab.specs.Typed.{event_line}

@@ -13,9 +13,9 @@ use Rattle.chaos_lab.specs.declared.event.Stepped.{Stepped}
 use Rattle.chaos_lab.specs.declared.event.Stepped.TheVariants as did
 use Rattle.chaos_lab.specs.declared.fault.LabFault.{LabFault}
 use Rattle.chaos_lab.specs.declared.fault.LabFault.TheVariants as fault
-use Rattle.chaosd_engines.specs.Report.{line, octal_three}
+use Rattle.chaosd_io.specs.Texts.{line, octal_three}
 use Rattle.chaosd_lab.specs.Names.{side_name, state_name, delivered_name, conn_fault_name}
-use Rattle.chaosd_engines.specs.Escapes.{shown_byte}
+use Rattle.chaosd_io.specs.Escapes.{shown_byte}
 
 -- words, and a name
 unfoldable pub named_line : List ℕ → List ℕ → List ℕ

@@ -6,7 +6,7 @@ use Rattle.chaos_lab.specs.Laboratory.{Happening}
 use Rattle.chaos_lab.specs.Laboratory.Happening.{WriteBy, ReadBy, AnnounceBy, TickOf, CloseBy, AcceptFrom, DeliverCopy}
 use Rattle.chaosd_lab.specs.Fields.{cut, field_and_text}
 use Rattle.chaosd_lab.specs.Numbers.{side_of, number_of, opcode_of}
-use Rattle.chaosd_engines.specs.Escapes.{data_of}
+use Rattle.chaosd_io.specs.Escapes.{data_of}
 
 -- numbers of 64 bits, and of 16
 abbrev pub greatest_moment : ℕ

@@ -3,8 +3,8 @@ use Rattle.std.specs.Prelude.{◌≡◌, Bool, true, false, List, if◌then◌el
 use Rattle.std.specs.Str.{bytes_eq}
 use Rattle.chaos_lab.specs.declared.fault.LabFault.{LabFault}
 use Rattle.chaos_lab.specs.declared.fault.LabFault.TheVariants.{NoMemory}
-use Rattle.chaosd_engines.specs.declared.fault.RunFault.{RunFault}
-use Rattle.chaosd_engines.specs.declared.fault.RunFault.TheVariants as run
+use Rattle.chaosd_io.specs.declared.fault.RunFault.{RunFault}
+use Rattle.chaosd_io.specs.declared.fault.RunFault.TheVariants as run
 use Rattle.chaos_lab.specs.Laboratory.{LabView}
 use Rattle.chaosd_lab.specs.Answers.{refusal_text, copies_text, stored_line}
 use Rattle.chaosd_lab.specs.Event.{event_of}

@@ -5,7 +5,7 @@ use Rattle.chaos_conn.specs.State.{is_open}
 use Rattle.chaos_lab.specs.declared.fault.LabFault.TheVariants.{NoMemory}
 use Rattle.chaos_lab.specs.Laboratory.{LabView, Happening, happen, after_all}
 use Rattle.chaos_lab.specs.Settling.{settling, settling_moment, last_moment}
-use Rattle.chaosd_engines.specs.Report.{line}
+use Rattle.chaosd_io.specs.Texts.{line}
 use Rattle.chaosd_script.specs.Script.{Done}
 use Rattle.chaosd_lab.specs.Answers.{refusal_text}
 use Rattle.chaosd_lab.specs.Happen.{event_text}

@@ -3,7 +3,7 @@ use Rattle.std.specs.Prelude.{ℕ, List, ◌∷◌, ◌++◌, codes}
 use Rattle.chaos_lab.specs.declared.side.Side.{Side}
 use Rattle.chaos_lab.specs.Laboratory.{Happening}
 use Rattle.chaos_lab.specs.Laboratory.Happening.{WriteBy, ReadBy, AnnounceBy, TickOf, CloseBy, AcceptFrom, DeliverCopy}
-use Rattle.chaosd_engines.specs.Report.{line, octal_three}
+use Rattle.chaosd_io.specs.Texts.{line, octal_three}
 use Rattle.chaosd_lab.specs.Names.{side_name}
 use Rattle.chaosd_lab.specs.Answers.{named_line, numbered_line, spaced_text}
 

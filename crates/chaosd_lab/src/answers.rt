@@ -9,7 +9,7 @@ use crate::names::{conn_fault_name, delivered_name, disposition_name, side_name,
 use chaos_conn::{ReadDone, ReadEnd, Ticked};
 use chaos_lab::{KeptItem, LabFault, Stamped, StepDone, Stepped};
 use chaos_packet::Opcode;
-use chaosd_engines::{NotWritten, WriteBuffer, put_decimal, put_line, put_octal_three, put_text};
+use chaosd_io::{NotWritten, WriteBuffer, put_decimal, put_line, put_octal_three, put_text};
 
 /// A word or more, and a name.
 #[tactic(auto, unfolding(crate::specs::Answers::named_line))]

@@ -8,7 +8,7 @@ use crate::fields::{cut, field_and_text};
 use crate::numbers::{number_of, opcode_of, side_of};
 use chaos_lab::Side;
 use chaos_packet::PktNum;
-use chaosd_engines::{Data, read_data};
+use chaosd_io::{Data, read_data};
 
 /// `S OOO TEXT`, or without the text and the space before it.
 fn write_of(rest: &[u8], body: &mut Data) -> Option<Command>

@@ -1,14 +1,14 @@
 //! The run over a script.
 ghost use Rattle.std.specs.Prelude.{◌≡◌, ◌≢◌, ◌<◌, ◌≤◌, ◌+◌, ◌-◌, ◌++◌, [], ℕ, List, Option, Err, Some, None, length, take, OnOk, IfOk, IfErr, IfSome};
 ghost use Rattle.std.specs.Io.KnownBytes.{Appends, IsAtEnd};
-ghost use Rattle.chaosd_engines.specs.Lines.{lines_of, ended_lines, IsMet};
+ghost use Rattle.chaosd_io.specs.Lines.{lines_of, ended_lines, IsMet};
 ghost use Rattle.chaosd_script.specs.Script.{Played, play_of, text_of, IsFirstBad, NoneBad};
 ghost use Rattle.chaosd_lab.specs.Play.{lab_script, end_text};
 ghost use Rattle.chaos_lab.specs.Laboratory.{LabView};
 ghost use Rattle.chaosd_script.specs.Player.{PlaysRead, Wants};
 
 use crate::line::LabStage;
-use chaosd_engines::{INPUT_LIMIT, RunFault};
+use chaosd_io::{INPUT_LIMIT, RunFault};
 use chaosd_script::run_script;
 use std::alloc::Global;
 use std::io::{Read, Write};

@@ -1,8 +1,8 @@
 //! The line `settle`.
 ghost use Rattle.std.specs.Prelude.{◌≡◌, ◌++◌, ◌⊎◌, List, ℕ, Err, IfErr, IfOk, OnOk};
 ghost use Rattle.std.specs.Io.KnownBytes.{Appends};
-ghost use Rattle.chaosd_engines.specs.Buffer.{written_of};
-ghost use Rattle.chaosd_engines.specs.declared.fault.RunFault.TheVariants as run;
+ghost use Rattle.chaosd_io.specs.Buffer.{written_of};
+ghost use Rattle.chaosd_io.specs.declared.fault.RunFault.TheVariants as run;
 ghost use Rattle.chaos_lab.specs.declared.fault.LabFault.TheVariants.{NoMemory};
 ghost use Rattle.chaos_lab.specs.Inside.{happening_of};
 ghost use Rattle.chaos_lab.specs.Laboratory.{after_all, happen};
@@ -15,7 +15,7 @@ ghost use Rattle.chaosd_lab.specs.Typed.{event_line};
 use crate::line::play_event;
 use crate::typed::put_event;
 use chaos_lab::{Event, Lab, Settling};
-use chaosd_engines::{RunFault, WriteBuffer, put_line, written};
+use chaosd_io::{RunFault, WriteBuffer, put_line, written};
 use chaosd_script::make_room;
 use std::alloc::Global;
 use std::io::Write;

@@ -2,7 +2,7 @@
 ghost use Rattle.std.specs.Prelude.{◌≡◌};
 ghost use Rattle.chaosd_lab.specs.Status.{lab_status};
 
-use chaosd_engines::{DONE, REFUSED, RunFault, fault_status};
+use chaosd_io::{DONE, REFUSED, RunFault, fault_status};
 
 /// The exit status of a program that ran [`crate::run_lab`].
 pub fn lab_status(end: &Result<u64, RunFault>) -> u8

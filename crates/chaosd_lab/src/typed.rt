@@ -7,7 +7,7 @@ use crate::answers::{put_named, put_numbered, put_spaced};
 use crate::names::side_name;
 use chaos_lab::{Event, Side};
 use chaos_packet::Opcode;
-use chaosd_engines::{NotWritten, WriteBuffer, put_octal_three};
+use chaosd_io::{NotWritten, WriteBuffer, put_octal_three};
 
 /// The line that asks for an event.
 pub fn put_event(out: &mut WriteBuffer, event: &Event<'_>) -> Result<(), NotWritten>

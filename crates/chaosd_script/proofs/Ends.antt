@@ -3,14 +3,14 @@ use Rattle.std.proofs.Common.{◌≡◌, ℕ, ◌<◌, ◌≤◌, List, [], leng
 use Rattle.std.specs.Prelude.{Option, None, Some, Result, Ok, Err, IfSome, IsErrAnd}
 use Rattle.std.specs.Io.KnownBytes.{Appends, Keeps}
 use Rattle.std.proofs.KnownBytes.{Appends-kept}
-use Rattle.chaosd_engines.specs.declared.fault.RunFault.{RunFault}
-use Rattle.chaosd_engines.specs.declared.fault.RunFault.TheVariants as run
-use Rattle.chaosd_engines.specs.declared.limits.TheConstants.{INPUT_LIMIT, KEPT_LEN}
-use Rattle.chaosd_engines.specs.Buffer.{written_of}
-use Rattle.chaosd_engines.specs.Lines.{ended_lines}
-use Rattle.chaosd_engines.specs.Reader.{LinesView, GivesMore}
-use Rattle.chaosd_engines.proofs.Cutting.{if_some}
-use Rattle.chaosd_engines.proofs.Runs.{handed}
+use Rattle.chaosd_io.specs.declared.fault.RunFault.{RunFault}
+use Rattle.chaosd_io.specs.declared.fault.RunFault.TheVariants as run
+use Rattle.chaosd_io.specs.declared.limits.TheConstants.{INPUT_LIMIT, KEPT_LEN}
+use Rattle.chaosd_io.specs.Buffer.{written_of}
+use Rattle.chaosd_io.specs.Lines.{ended_lines}
+use Rattle.chaosd_io.specs.Reader.{LinesView, GivesMore}
+use Rattle.chaosd_io.proofs.Cutting.{if_some}
+use Rattle.chaosd_io.proofs.Runs.{handed}
 use Rattle.chaosd_script.specs.declared.standing.Standing.{Standing}
 use Rattle.chaosd_script.specs.Script.{Script, text_of, play_of, NoneBad}
 use Rattle.chaosd_script.specs.Player.{IsAt, PlaysGiven, PlaysAll, PlaysWithin, StopsAt, Wants, PlaysFront, StopsRun}

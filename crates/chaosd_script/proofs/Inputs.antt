@@ -4,13 +4,13 @@ use Rattle.std.specs.Prelude.{Option, None, Some, Result, Ok, Err, OnOk, IsOk, I
 use Rattle.std.specs.Io.KnownBytes.{Appends, Keeps}
 use Rattle.std.proofs.KnownBytes.{Appends-kept}
 use Rattle.std.proofs.Math.Seq.{take-append-add}
-use Rattle.chaosd_engines.specs.declared.fault.RunFault.{RunFault}
-use Rattle.chaosd_engines.specs.declared.fault.RunFault.TheVariants as run
-use Rattle.chaosd_engines.specs.declared.limits.TheConstants.{INPUT_LIMIT, KEPT_LEN}
-use Rattle.chaosd_engines.specs.Buffer.{written_of}
-use Rattle.chaosd_engines.specs.Lines.{lines_of, IsMet}
-use Rattle.chaosd_engines.specs.Reader.{LinesView, Gives, GivesNext, GivesLast}
-use Rattle.chaosd_engines.proofs.Cutting.{IsGiven, given_met, last_met, if_some}
+use Rattle.chaosd_io.specs.declared.fault.RunFault.{RunFault}
+use Rattle.chaosd_io.specs.declared.fault.RunFault.TheVariants as run
+use Rattle.chaosd_io.specs.declared.limits.TheConstants.{INPUT_LIMIT, KEPT_LEN}
+use Rattle.chaosd_io.specs.Buffer.{written_of}
+use Rattle.chaosd_io.specs.Lines.{lines_of, IsMet}
+use Rattle.chaosd_io.specs.Reader.{LinesView, Gives, GivesNext, GivesLast}
+use Rattle.chaosd_io.proofs.Cutting.{IsGiven, given_met, last_met, if_some}
 use Rattle.chaosd_script.specs.declared.standing.Standing.{Standing}
 use Rattle.chaosd_script.specs.Script.{Script, play_of, text_of, IsFirstBad}
 use Rattle.chaosd_script.specs.Player.{IsAt, PlaysLines, IsWantText, StopsLine, PlaysGiven, PlaysDone, StopsAt, Wants, StopsRun, PlaysWithin}

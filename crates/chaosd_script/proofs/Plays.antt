@@ -8,11 +8,11 @@ use Rattle.std.proofs.Math.Seq.{take-append-add}
 use Rattle.std.proofs.lemmas.Bool.{lt-ltb}
 use Rattle.std.proofs.lemmas.Bool.Decides.{nat_tests}
 use Rattle.std.proofs.lemmas.List.{take-append-le}
-use Rattle.chaosd_engines.specs.declared.fault.RunFault.{RunFault}
-use Rattle.chaosd_engines.specs.declared.fault.RunFault.TheVariants as run
-use Rattle.chaosd_engines.specs.declared.limits.TheConstants.{KEPT_LEN, LINE_LIMIT}
-use Rattle.chaosd_engines.specs.Buffer.{written_of}
-use Rattle.chaosd_engines.proofs.Steps.{length-strip_last}
+use Rattle.chaosd_io.specs.declared.fault.RunFault.{RunFault}
+use Rattle.chaosd_io.specs.declared.fault.RunFault.TheVariants as run
+use Rattle.chaosd_io.specs.declared.limits.TheConstants.{KEPT_LEN, LINE_LIMIT}
+use Rattle.chaosd_io.specs.Buffer.{written_of}
+use Rattle.chaosd_io.proofs.Steps.{length-strip_last}
 use Rattle.chaosd_script.specs.Script.{Done, Script, Played, start_play, says_by, with_reading, with_line, play_on, play_of, text_of, IsFirstBad, PlaysLine}
 use Rattle.chaosd_script.specs.declared.standing.Standing.{Standing}
 use Rattle.chaosd_script.specs.Player.{IsAt, PlaysLines, IsLineFault, StopsLine, IsWantText}

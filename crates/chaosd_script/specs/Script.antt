@@ -2,7 +2,7 @@
 use Rattle.std.specs.Prelude.{◌≡◌, ◌≢◌, ℕ, ◌+◌, ◌<◌, Bool, List, [], ◌∷◌, ◌++◌, length, take, Option, Some, None, option_map, nat_lt, if◌then◌else◌}
 use Rattle.std.specs.Io.BufRead.{strip_last}
 use Rattle.std.specs.Io.KnownBytes.{Appends}
-use Rattle.chaosd_engines.specs.declared.limits.TheConstants.{LINE_LIMIT}
+use Rattle.chaosd_io.specs.declared.limits.TheConstants.{LINE_LIMIT}
 
 -- what a line did in a laboratory: the laboratory after it, what is printed of it, and whether its event was refused
 pub record Done (X : Type 0) : Type 0 where

@@ -2,14 +2,14 @@
 ghost use Rattle.std.specs.Prelude.{◌≡◌, ◌+◌, ◌≤◌, ◌++◌, ◌∷◌, [], List, None, Option, OnOk, IfErr, IfSome, length, ℕ};
 ghost use Rattle.std.specs.Io.BufRead.{strip_last};
 ghost use Rattle.std.specs.Io.KnownBytes.{Keeps};
-ghost use Rattle.chaosd_engines.specs.Buffer.{written_of};
-ghost use Rattle.chaosd_engines.specs.declared.fault.RunFault.TheVariants.{WriteFault};
+ghost use Rattle.chaosd_io.specs.Buffer.{written_of};
+ghost use Rattle.chaosd_io.specs.declared.fault.RunFault.TheVariants.{WriteFault};
 ghost use Rattle.chaosd_script.specs.Player.{PlaysLines, PlaysOn, StopsLine, StopsOn, PlaysDone, PlaysWithin, StopsRun};
 
 use crate::room::{hand_on, make_room};
 use crate::stage::Stage;
 use crate::standing::Standing;
-use chaosd_engines::{INPUT_LIMIT, LINE_LIMIT, RunFault, WriteBuffer, without_return, written};
+use chaosd_io::{INPUT_LIMIT, LINE_LIMIT, RunFault, WriteBuffer, without_return, written};
 use std::alloc::Global;
 use std::io::Write;
 

@@ -1,10 +1,10 @@
 //! Room for the text of an event.
 ghost use Rattle.std.specs.Prelude.{◌≡◌, [], IfErr, OnOk};
 ghost use Rattle.std.specs.Io.KnownBytes.{Keeps};
-ghost use Rattle.chaosd_engines.specs.Buffer.{written_of};
-ghost use Rattle.chaosd_engines.specs.declared.fault.RunFault.TheVariants.{WriteFault};
+ghost use Rattle.chaosd_io.specs.Buffer.{written_of};
+ghost use Rattle.chaosd_io.specs.declared.fault.RunFault.TheVariants.{WriteFault};
 
-use chaosd_engines::{RunFault, WriteBuffer};
+use chaosd_io::{RunFault, WriteBuffer};
 use std::io::Write;
 
 /// No event's text has more bytes: that of a tick that sends 64 copies again, or that of a read of 488 bytes, each as an escape;

@@ -1,13 +1,13 @@
 //! The run over a script.
 ghost use Rattle.std.specs.Prelude.{◌≡◌, ◌≤◌, ◌+◌, [], ℕ, List, Option, Err, length, OnOk, IfOk, IfErr, IfSome};
 ghost use Rattle.std.specs.Io.KnownBytes.{Appends, IsAtEnd};
-ghost use Rattle.chaosd_engines.specs.Buffer.{written_of};
-ghost use Rattle.chaosd_engines.specs.Reader.{left_of};
+ghost use Rattle.chaosd_io.specs.Buffer.{written_of};
+ghost use Rattle.chaosd_io.specs.Reader.{left_of};
 ghost use Rattle.chaosd_script.specs.Player.{PlaysLines, PlaysGiven, PlaysDone, PlaysRead, PlaysFront, PlaysAll, PlaysWithin, StopsAt, StopsRun, Wants};
 
 use crate::player::Player;
 use crate::stage::Stage;
-use chaosd_engines::{INPUT_LIMIT, KEPT_LEN, LineReader, RunFault};
+use chaosd_io::{INPUT_LIMIT, KEPT_LEN, LineReader, RunFault};
 use std::alloc::Global;
 use std::io::{Read, Write};
 

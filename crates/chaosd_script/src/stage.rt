@@ -1,11 +1,11 @@
 //! What scripts are played in.
 ghost use Rattle.std.specs.Prelude.{◌≡◌, ◌≢◌, ◌++◌, ℕ, List, Err, None, Some, IfErr, IfOk, OnOk};
 ghost use Rattle.std.specs.Io.KnownBytes.{Appends, Keeps};
-ghost use Rattle.chaosd_engines.specs.Buffer.{written_of};
+ghost use Rattle.chaosd_io.specs.Buffer.{written_of};
 ghost use Rattle.chaosd_script.specs.Script.{Script, PlaysLine};
 ghost use Rattle.chaosd_script.specs.Player.{IsLineFault};
 
-use chaosd_engines::{NotWritten, RunFault, WriteBuffer};
+use chaosd_io::{NotWritten, RunFault, WriteBuffer};
 use std::alloc::Global;
 use std::io::Write;
 

@@ -1,10 +1,10 @@
 use Rattle.std.proofs.Common.{◌++◌, ◌∷◌, [], ◌∙◌, refl, ap, length, take, arith}
 use Rattle.std.specs.Prelude.{Err}
 use Rattle.std.proofs.lemmas.Result.{err_from_is_err_and}
-use Rattle.chaosd_engines.specs.declared.fault.RunFault.TheVariants.{LinkFault}
-use Rattle.chaosd_engines.specs.declared.limits.TheConstants.{INPUT_LIMIT, KEPT_LEN}
-use Rattle.chaosd_engines.specs.Reader.{GivesMore}
-use Rattle.chaosd_engines.proofs.Cutting.{none_came, told}
+use Rattle.chaosd_io.specs.declared.fault.RunFault.TheVariants.{LinkFault}
+use Rattle.chaosd_io.specs.declared.limits.TheConstants.{INPUT_LIMIT, KEPT_LEN}
+use Rattle.chaosd_io.specs.Reader.{GivesMore}
+use Rattle.chaosd_io.proofs.Cutting.{none_came, told}
 use Rattle.chaosd_file.specs.Exchange.{talker_of}
 use Rattle.chaosd_file.proofs.Asking.{nothing_asked, next_is, last_is, asked_more, last_asked, line_runs, unread_runs, ran_in_part, ran_to_end, asks_in_part, asks_to_end}
 use Rattle.chaosd_file.proofs.Handed.{given_kept, some_came}

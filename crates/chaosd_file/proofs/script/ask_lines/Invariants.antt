@@ -1,7 +1,7 @@
 use Rattle.std.proofs.Common.{◌≡◌, ◌≤◌, ◌+◌, length}
-use Rattle.chaosd_engines.specs.declared.limits.TheConstants.{INPUT_LIMIT}
-use Rattle.chaosd_engines.specs.Buffer.{written_of}
-use Rattle.chaosd_engines.specs.Reader.{left_of}
+use Rattle.chaosd_io.specs.declared.limits.TheConstants.{INPUT_LIMIT}
+use Rattle.chaosd_io.specs.Buffer.{written_of}
+use Rattle.chaosd_io.specs.Reader.{left_of}
 use Rattle.chaosd_file.specs.Asking.{AskedGiven}
 use Rattle.chaosd_file.specs.Exchange.{talker_of}
 use Rattle.chaosd_file.proofs.script.ask_lines.Given as goal

@@ -1,5 +1,5 @@
 use Rattle.std.proofs.Common.{◌∷◌, ◌++◌, ◌∙◌, ap, sym}
-use Rattle.chaosd_engines.specs.declared.fault.RunFault.TheVariants as run
+use Rattle.chaosd_io.specs.declared.fault.RunFault.TheVariants as run
 use Rattle.chaos_filelab.specs.Events.{FileHappening, file_event}
 use Rattle.chaos_filelab.specs.SettlingLeft.{left}
 use Rattle.chaos_filelab.specs.View.{FileLabView}

@@ -1,7 +1,7 @@
 use Rattle.std.proofs.Common.{◌≡◌, false, length}
 use Rattle.chaos_filelab.specs.SettlingLeft.{left}
 use Rattle.chaos_filelab.specs.View.{wrote_mem}
-use Rattle.chaosd_engines.specs.Buffer.{written_of}
+use Rattle.chaosd_io.specs.Buffer.{written_of}
 use Rattle.chaosd_filelab.proofs.Settling.{Typed}
 use Rattle.chaosd_filelab.proofs.settle.play_settling.Given as goal
 

@@ -3,7 +3,7 @@ use Rattle.chaos_filelab.specs.Events.{file_event}
 use Rattle.chaos_filelab.specs.View.{wrote_mem}
 use Rattle.chaos_filelab.proofs.Exactly.{exact_unless}
 use Rattle.chaosd_lab.specs.Answers.{copies_text}
-use Rattle.chaosd_engines.proofs.Runs.{went_well}
+use Rattle.chaosd_io.proofs.Runs.{went_well}
 use Rattle.chaosd_filelab.proofs.Lines.{event_plays, event_wants, not_wanted}
 use Rattle.chaosd_filelab.proofs.stage.play_event.Goals as goal
 

@@ -5,7 +5,7 @@ use Rattle.chaos_lab.specs.Laboratory.{LabView, Happening}
 use Rattle.chaos_lab.specs.Told.{told, packet_at, items_at}
 use Rattle.chaos_lab.specs.Inside.{happening_of}
 use Rattle.chaosd_lab.specs.Answers.{answer_text, copies_text}
-use Rattle.chaosd_engines.proofs.Runs.{went_well}
+use Rattle.chaosd_io.proofs.Runs.{went_well}
 use Rattle.chaosd_lab.proofs.Events.{event_plays, event_wants, told_refused}
 use Rattle.chaosd_lab.proofs.line.play_event.Goals as goal
 

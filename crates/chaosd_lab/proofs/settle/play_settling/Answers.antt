@@ -1,5 +1,5 @@
 use Rattle.std.proofs.Common.{◌∷◌, ◌++◌, ◌∙◌, ap, sym}
-use Rattle.chaosd_engines.specs.declared.fault.RunFault.TheVariants as run
+use Rattle.chaosd_io.specs.declared.fault.RunFault.TheVariants as run
 use Rattle.chaos_lab.specs.declared.fault.LabFault.TheVariants.{NoMemory}
 use Rattle.chaos_lab.specs.Inside.{happening_of}
 use Rattle.chaos_lab.specs.Laboratory.{LabView, Happening}

@@ -1,5 +1,5 @@
 use Rattle.std.proofs.Common.{length}
-use Rattle.chaosd_engines.specs.Buffer.{written_of}
+use Rattle.chaosd_io.specs.Buffer.{written_of}
 use Rattle.chaos_lab.specs.SettlingLeft.{left}
 use Rattle.chaosd_lab.proofs.Settling.{Typed}
 use Rattle.chaosd_lab.proofs.settle.play_settling.Given as goal

@@ -1,6 +1,6 @@
 use Rattle.std.proofs.lemmas.Result.{IfErr-weaker}
-use Rattle.chaosd_engines.proofs.Cutting.{none_came}
-use Rattle.chaosd_engines.proofs.Steps.{on_ok}
+use Rattle.chaosd_io.proofs.Cutting.{none_came}
+use Rattle.chaosd_io.proofs.Steps.{on_ok}
 use Rattle.chaosd_script.proofs.Plays.{on_fault}
 use Rattle.chaosd_script.proofs.Inputs.{given_of, given_kept}
 use Rattle.chaosd_script.proofs.Ends.{reading_stops}

@@ -1,8 +1,8 @@
 use Rattle.std.proofs.Common.{◌≡◌, ◌+◌, ◌≤◌, ℕ, List, length}
 use Rattle.std.specs.Prelude.{Option}
-use Rattle.chaosd_engines.specs.declared.limits.TheConstants.{INPUT_LIMIT}
-use Rattle.chaosd_engines.specs.Buffer.{written_of}
-use Rattle.chaosd_engines.specs.Reader.{left_of}
+use Rattle.chaosd_io.specs.declared.limits.TheConstants.{INPUT_LIMIT}
+use Rattle.chaosd_io.specs.Buffer.{written_of}
+use Rattle.chaosd_io.specs.Reader.{left_of}
 use Rattle.chaosd_script.specs.Player.{PlaysGiven}
 use Rattle.chaosd_script.proofs.run.play_ended.Given as goal
 

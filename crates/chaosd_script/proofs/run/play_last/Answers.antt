@@ -1,5 +1,5 @@
 use Rattle.std.proofs.lemmas.Result.{IfErr-weaker}
-use Rattle.chaosd_engines.proofs.Steps.{on_ok}
+use Rattle.chaosd_io.proofs.Steps.{on_ok}
 use Rattle.chaosd_script.proofs.Inputs.{none_played, last_played, last_stops}
 use Rattle.chaosd_script.proofs.run.play_last.Goals as goal
 

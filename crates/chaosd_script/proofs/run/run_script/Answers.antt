@@ -1,5 +1,5 @@
 use Rattle.std.proofs.Common.{ap}
-use Rattle.chaosd_engines.specs.declared.fault.RunFault.TheVariants.{BadScript, InputTooLong, ReadFault, NoMemory}
+use Rattle.chaosd_io.specs.declared.fault.RunFault.TheVariants.{BadScript, InputTooLong, ReadFault, NoMemory}
 use Rattle.chaosd_script.proofs.Ends.{all_handed, within, stops_handed, stops_told}
 use Rattle.chaosd_script.proofs.run.run_script.Goals as goal
 

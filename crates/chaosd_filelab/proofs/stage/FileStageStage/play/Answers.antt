@@ -2,7 +2,7 @@ use Rattle.std.proofs.Common.{rules, ◌≡◌, ap, ◌∙◌, subst, true, fals
 use Rattle.std.specs.Str.{bytes_eq}
 use Rattle.std.proofs.lemmas.Result.{IfOk-weaker}
 use Rattle.chaos_filelab.specs.View.{FileLabView, wrote_mem}
-use Rattle.chaosd_engines.specs.Buffer.{written_of}
+use Rattle.chaosd_io.specs.Buffer.{written_of}
 use Rattle.chaosd_script.specs.Script.{PlaysLine}
 use Rattle.chaosd_lab.specs.Settle.{settle_word}
 use Rattle.chaosd_lab.proofs.Lines.{keeps_same}

@@ -2,7 +2,7 @@ use Rattle.std.proofs.Common.{rules, ◌≡◌, true, false, subst}
 use Rattle.std.specs.Str.{bytes_eq}
 use Rattle.std.proofs.lemmas.Result.{IfOk-weaker}
 use Rattle.chaos_lab.specs.Laboratory.{LabView}
-use Rattle.chaosd_engines.specs.Buffer.{written_of}
+use Rattle.chaosd_io.specs.Buffer.{written_of}
 use Rattle.chaosd_script.specs.Script.{PlaysLine}
 use Rattle.chaosd_lab.specs.Play.{lab_script}
 use Rattle.chaosd_lab.specs.Settle.{settle_word, WantsSettling}

@@ -1,7 +1,7 @@
 use Rattle.std.proofs.Common.{◌≡◌, refl, sym, ap, ◌∙◌}
 use Rattle.std.specs.Io.BufRead.{strip_last}
 use Rattle.std.proofs.lemmas.Bool.{le-ltb}
-use Rattle.chaosd_engines.specs.declared.limits.TheConstants.{LINE_LIMIT}
+use Rattle.chaosd_io.specs.declared.limits.TheConstants.{LINE_LIMIT}
 use Rattle.chaosd_script.proofs.Plays.{begins, first_stops, on_fault}
 use Rattle.chaosd_script.proofs.player.Player.play_first.Goals as goal
 

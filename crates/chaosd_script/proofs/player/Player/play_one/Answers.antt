@@ -2,9 +2,9 @@ use Rattle.std.proofs.Common.{◌≡◌, true, false, ltb, length, sym, ap, ◌�
 use Rattle.std.specs.Io.BufRead.{strip_last}
 use Rattle.std.proofs.lemmas.Bool.Decides.{nat_tests}
 use Rattle.std.proofs.lemmas.Result.{IfErr-weaker}
-use Rattle.chaosd_engines.specs.declared.limits.TheConstants.{LINE_LIMIT}
-use Rattle.chaosd_engines.specs.Buffer.{written_of}
-use Rattle.chaosd_engines.proofs.Steps.{on_ok}
+use Rattle.chaosd_io.specs.declared.limits.TheConstants.{LINE_LIMIT}
+use Rattle.chaosd_io.specs.Buffer.{written_of}
+use Rattle.chaosd_io.proofs.Steps.{on_ok}
 use Rattle.chaosd_script.specs.Script.{PlaysLine}
 use Rattle.chaosd_script.proofs.Plays.{too_long_stops, plays_event, event_stops, on_fault}
 use Rattle.chaosd_script.proofs.player.Player.play_one.Goals as goal

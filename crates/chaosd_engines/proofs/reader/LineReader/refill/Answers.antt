@@ -1,5 +1,0 @@
-use Rattle.chaosd_engines.proofs.Cutting.{more_given}
-use Rattle.chaosd_engines.proofs.reader.LineReader.refill.Goals as goal
-
-pub returns-clause-given : goal.returns-clause-given
-returns-clause-given g c limit input given s = more_given _ limit input _ _ given _ _ _ c.requires.waiting c.read_on.ensures s

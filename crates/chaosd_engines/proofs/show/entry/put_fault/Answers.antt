@@ -1,4 +1,0 @@
-use Rattle.chaosd_engines.proofs.show.entry.put_fault.Goals as goal
-
-pub returns-in-BadNumber : goal.returns-in-BadNumber
-returns-in-BadNumber c = rw c.in-BadNumber.is c.put_line-in-BadNumber.ensures

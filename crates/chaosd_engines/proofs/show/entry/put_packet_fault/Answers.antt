@@ -1,9 +1,0 @@
-use Rattle.std.proofs.Common.{codes}
-use Rattle.chaosd_engines.specs.Entry.{packet_fault_text}
-use Rattle.chaosd_engines.proofs.Faults.{behind_front}
-use Rattle.chaosd_engines.proofs.show.entry.put_packet_fault.Goals as goal
-
-pub returns : goal.returns
-returns c =
-    behind_front c.put_line.result c.args.out.now c.put.new.self c.put_line.new.out (codes "fault 4 Packet ") (packet_fault_text c.args.fault) c.in_ok-put.ensures.taken
-    (rw c.packet_fault_text.ensures at c.put_line.ensures)

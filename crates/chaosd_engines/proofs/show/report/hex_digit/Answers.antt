@@ -1,6 +1,0 @@
-use Rattle.std.proofs.Common.{arith}
-use Rattle.chaosd_engines.proofs.Digits.{digit_at}
-use Rattle.chaosd_engines.proofs.show.report.hex_digit.Goals as goal
-
-pub returns : goal.returns
-returns c = digit_at c.args.digit (omega arith)

@@ -1,7 +1,0 @@
-use Rattle.std.proofs.Common.{◌≡◌, ◌++◌, codes, take}
-use Rattle.std.specs.List.{flat_map}
-use Rattle.chaosd_engines.specs.Report.{hex_byte}
-use Rattle.chaosd_engines.proofs.show.report.put_data.Given as goal
-
-abbrev pub invariant-loop-byte : goal.invariant-loop-byte
-invariant-loop-byte l = l.out ≡ l.fn.out ++ (codes "data" ++ flat_map hex_byte (take l.byte-index l.body))

@@ -1,0 +1,7 @@
+pub mod FirstByte
+pub mod ReadBack
+pub mod TextBytes
+pub mod Interruptions
+pub mod Steps
+pub mod Cutting
+pub mod Runs

@@ -1,0 +1,174 @@
+//! Bytes that wait to be written.
+ghost use Rattle.std.specs.Prelude.{◌≡◌, ◌+◌, ◌-◌, ◌≤◌, ◌↔◌, ◌++◌, [], ℕ, List, Some, Ok, length, min, take, drop, IsOk, OnOk, OnErr, IfOk};
+ghost use Rattle.std.specs.Io.{WritesAtMost};
+ghost use Rattle.std.specs.Io.KnownBytes.{Appends, Keeps, WriteAppends};
+ghost use Rattle.chaosd_io.specs.Buffer.{written_of};
+
+use crate::limits::BUFFER_LEN;
+use arrayvec::ArrayVec;
+use std::io;
+use std::io::{Error, ErrorKind, Write};
+use std::marker::Model;
+
+/// What didn't fit, or wasn't taken by the writer.
+///
+/// It is the fault of all that writes here, in place of an `io::Error`: that one is some 90 bytes, which each call that may
+/// answer it has to fill.
+#[derive(Clone, Copy)]
+pub struct NotWritten;
+
+/// Bytes that wait to be written: a writer of a fixed size, whose contents are handed on to another writer in one piece.
+/// A contract sees the bytes. It allocates nothing.
+///
+/// An engine writes its text here, asks [`WriteBuffer::room`] before each text of bounded length, and hands on what waits
+/// where there is too little, before each read and at its end.
+///
+/// Nothing is handed on when the value is dropped.
+#[derive(Drop)]
+pub struct WriteBuffer {
+    bytes: ArrayVec<u8, BUFFER_LEN>,
+}
+
+impl Model for WriteBuffer {
+    ghost Value = { List ℕ };
+
+    ghost view = { λ b. b.bytes.items };
+}
+
+impl WriteBuffer {
+    /// An empty buffer.
+    pub fn new() -> Self
+        ensures { result ≡ [] }
+    {
+        WriteBuffer {
+            bytes: ArrayVec::new(),
+        }
+    }
+
+    /// How many bytes fit before some have to be handed on.
+    pub fn room(&self) -> usize
+        ensures { result + length self.now ≡ BUFFER_LEN }
+    {
+        self.bytes.remaining_capacity()
+    }
+
+    /// Takes all bytes where they fit.
+    ///
+    /// # Errors
+    /// `NotWritten` where they don't; nothing is taken then.
+    #[inline]
+    pub fn put(&mut self, bytes: &[u8]) -> Result<(), NotWritten>
+        ensures taken { OnOk result (self.new ≡ self.old ++ bytes.now) }
+        ensures fits { IsOk result ↔ (length self.old + length bytes.now ≤ BUFFER_LEN) }
+        ensures refused { OnErr result (self.new ≡ self.old) }
+    {
+        match self.bytes.try_extend_from_slice(bytes) {
+            Ok(()) => Ok(()),
+            Err(_) => Err(NotWritten),
+        }
+    }
+
+    /// Hands on all bytes, and flushes the writer that takes them. The cost is the writer's.
+    ///
+    /// # Errors
+    /// The writer's first fault, or `WriteZero` where it takes nothing. Nothing is lost: what the writer didn't take is
+    /// still here.
+    pub fn hand_on<W: Write>(&mut self, writer: &mut W) -> io::Result<()>
+        // What the writer holds, with what waits behind it, stays the same.
+        ensures kept { Keeps (written_of (W.contents writer.old) self.old) (written_of (W.contents writer.new) self.new) }
+        ensures empty { OnOk result (self.new ≡ []) }
+    {
+        let (count, end) = write_out(writer, self.bytes.as_slice());
+        remove_front(&mut self.bytes, count);
+        end?;
+        writer.flush()
+    }
+}
+
+impl Write for WriteBuffer {
+    ghost contents = { λ b. Some b };
+
+    /// Takes what fits.
+    fn write(&mut self, bytes: &[u8]) -> io::Result<usize>
+        ensures bound { WritesAtMost result bytes.now }
+        ensures bytes { WriteAppends (Some self.old) (Some self.new) result bytes.now }
+        ensures count { result ≡ Ok (min (length bytes.now) (BUFFER_LEN - length self.old)) }
+    {
+        let count = bytes.len().min(self.room());
+        let _fits = self.bytes.try_extend_from_slice(&bytes[..count]);
+        Ok(count)
+    }
+
+    /// Does nothing: only [`WriteBuffer::hand_on`] has a writer to hand on to.
+    fn flush(&mut self) -> io::Result<()>
+        ensures bytes { Keeps (Some self.old) (Some self.new) }
+        ensures done { IsOk result }
+    {
+        Ok(())
+    }
+
+    /// Takes all bytes where they fit.
+    ///
+    /// # Errors
+    /// `WriteZero` where they don't; nothing is taken then.
+    #[inline]
+    fn write_all(&mut self, bytes: &[u8]) -> io::Result<()>
+        ensures bytes { OnOk result (Appends (Some self.old) (Some self.new) bytes.now) }
+        ensures fits { IsOk result ↔ (length self.old + length bytes.now ≤ BUFFER_LEN) }
+        ensures refused { OnErr result (self.new ≡ self.old) }
+    {
+        match self.put(bytes) {
+            Ok(()) => Ok(()),
+            Err(NotWritten) => Err(Error::from(ErrorKind::WriteZero)),
+        }
+    }
+}
+
+/// Writes until all is written or a write fails, and says how many bytes were written.
+fn write_out<W: Write>(writer: &mut W, bytes: &[u8]) -> (usize, io::Result<()>)
+    ensures within { result.0 ≤ length bytes.now }
+    ensures all { OnOk result.1 (result.0 ≡ length bytes.now) }
+    ensures written { Appends (W.contents writer.old) (W.contents writer.new) (take result.0 bytes.now) }
+{
+    let mut count = 0;
+    while count < bytes.len() {
+        match write_some(writer, &bytes[count..]) {
+            Ok(more) => count += more,
+            Err(error) => return (count, Err(error)),
+        }
+    }
+    (count, Ok(()))
+}
+
+/// How many of these bytes, at least one, the writer took.
+fn write_some<W: Write>(writer: &mut W, bytes: &[u8]) -> io::Result<usize>
+    ensures some { IfOk result (λ count. (1 ≤ count) × (count ≤ length bytes.now)) }
+    ensures taken { WriteAppends (W.contents writer.old) (W.contents writer.new) result bytes.now }
+{
+    for _ in 0..u64::MAX {
+        match writer.write(bytes) {
+            Ok(0) => break,
+            Ok(count) => return Ok(count),
+            Err(error) => {
+                if error.kind() != ErrorKind::Interrupted {
+                    return Err(error);
+                }
+            }
+        }
+    }
+    Err(Error::from(ErrorKind::WriteZero))
+}
+
+/// Takes that many bytes off the front.
+fn remove_front(bytes: &mut ArrayVec<u8, BUFFER_LEN>, count: usize)
+    requires { count ≤ length bytes.old.items }
+    ensures { bytes.new.items ≡ drop count bytes.old.items }
+{
+    if count == bytes.len() {
+        bytes.clear();
+        return;
+    }
+    let mut rest = ArrayVec::new();
+    let _fits = rest.try_extend_from_slice(&bytes.as_slice()[count..]);
+    *bytes = rest;
+}

@@ -1,0 +1,7 @@
+pub mod Digits
+pub mod Faults
+pub mod Pairs
+pub mod Steps
+pub mod Versions
+pub mod Runs
+pub mod Laws

@@ -1,0 +1,6 @@
+pub mod Hex
+pub mod Report
+pub mod Entry
+pub mod Show
+pub mod Shown
+pub mod Status

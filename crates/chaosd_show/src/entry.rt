@@ -1,0 +1,153 @@
+//! The report of a line.
+ghost use Rattle.std.specs.Prelude.{◌≡◌, ◌≤◌, ◌++◌, length, OnOk, IfOk, Some};
+ghost use Rattle.chaos_link.specs.Datagram.{fault_of};
+ghost use Rattle.chaosd_show.specs.Entry.{fault_text, packet_fault_text, entry_of, entry_of_datagram, entry_of_text, entry_text, is_refusal};
+ghost use Rattle.chaosd_io.specs.Texts.{line};
+ghost use Rattle.chaosd_show.specs.Show.{gap, line_report};
+
+use crate::hex::{MOST_BYTES, read_hex};
+use crate::limits::SHOW_LINE_LIMIT;
+use crate::report::{put_packet, put_several};
+use chaos_link::{LinkFault, from_datagram, open_datagram};
+use chaos_packet::PacketFault;
+use chaosd_io::{NotWritten, WriteBuffer, put_decimal, put_line, without_return};
+
+/// Writes the report of a line behind an empty line, or behind nothing where it is the first, and says whether it is a
+/// refusal.
+pub fn put_report(
+    out: &mut WriteBuffer,
+    is_first: bool,
+    raw: &[u8],
+    datagram: &mut [u8; MOST_BYTES],
+) -> Result<bool, NotWritten>
+    ensures text { OnOk result (out.new ≡ out.old ++ (gap is_first ++ line_report raw.now)) }
+    ensures refused { IfOk result (λ refused. refused ≡ is_refusal (entry_of raw.now)) }
+{
+    if !is_first {
+        out.put(b"\n")?;
+    }
+    put_entry(out, raw, datagram)
+}
+
+/// Writes the report of a line, and says whether it is a refusal. `datagram` holds the line's bytes meanwhile.
+#[tactic(auto, using(crate::proofs::Steps::empty_text), unfolding(crate::specs::Entry::entry_of, crate::specs::Entry::entry_text))]
+fn put_entry(
+    out: &mut WriteBuffer,
+    raw: &[u8],
+    datagram: &mut [u8; MOST_BYTES],
+) -> Result<bool, NotWritten>
+    ensures text { OnOk result (out.new ≡ out.old ++ line_report raw.now) }
+    ensures refused { IfOk result (λ refused. refused ≡ is_refusal (entry_of raw.now)) }
+{
+    let line = without_return(raw);
+    // An empty line is the empty datagram: no place is made for a packet, as `from_datagram` does.
+    if line.is_empty() {
+        put_fault(out, LinkFault::Short)?;
+        return Ok(true);
+    }
+    put_text(out, line, datagram)
+}
+
+/// Writes the report of a line without a carriage return, and says whether it is a refusal.
+#[tactic(auto, unfolding(crate::specs::Entry::entry_text))]
+fn put_text(
+    out: &mut WriteBuffer,
+    text: &[u8],
+    datagram: &mut [u8; MOST_BYTES],
+) -> Result<bool, NotWritten>
+    ensures text { OnOk result (out.new ≡ out.old ++ entry_text (entry_of_text text.now)) }
+    ensures refused { IfOk result (λ refused. refused ≡ is_refusal (entry_of_text text.now)) }
+{
+    if text.len() > SHOW_LINE_LIMIT {
+        out.put(b"fault 0 Line\n")?;
+        return Ok(true);
+    }
+    let Some(count) = read_hex(text, datagram) else {
+        out.put(b"fault 0 Line\n")?;
+        return Ok(true);
+    };
+    put_datagram(out, &datagram[..count])
+}
+
+/// Writes the report of a datagram, and says whether it is a refusal.
+#[tactic(auto, unfolding(crate::specs::Entry::entry_text))]
+fn put_datagram(out: &mut WriteBuffer, bytes: &[u8]) -> Result<bool, NotWritten>
+    ensures text { OnOk result (out.new ≡ out.old ++ entry_text (entry_of_datagram bytes.now)) }
+    ensures refused { IfOk result (λ refused. refused ≡ is_refusal (entry_of_datagram bytes.now)) }
+{
+    match from_datagram(bytes) {
+        Ok(packet) => {
+            put_packet(out, &packet)?;
+            Ok(false)
+        }
+        Err(LinkFault::BadVersion) => put_of_another_version(out, bytes),
+        Err(fault) => {
+            put_fault(out, fault)?;
+            Ok(true)
+        }
+    }
+}
+
+/// Writes the report of a datagram that isn't of version 1, and says whether it is a refusal.
+#[tactic(auto, unfolding(crate::specs::Entry::entry_text))]
+fn put_of_another_version(out: &mut WriteBuffer, bytes: &[u8]) -> Result<bool, NotWritten>
+    requires { fault_of bytes.now ≡ Some LinkFault.BadVersion }
+    ensures text { OnOk result (out.new ≡ out.old ++ entry_text (entry_of_datagram bytes.now)) }
+    ensures refused { IfOk result (λ refused. refused ≡ is_refusal (entry_of_datagram bytes.now)) }
+{
+    match open_datagram(bytes) {
+        Ok(packets) => {
+            put_several(out, bytes[3], packets)?;
+            Ok(false)
+        }
+        Err(fault) => {
+            put_fault(out, fault)?;
+            Ok(true)
+        }
+    }
+}
+
+/// Writes how a datagram's fault is reported.
+fn put_fault(out: &mut WriteBuffer, fault: LinkFault) -> Result<(), NotWritten>
+    ensures { OnOk result (out.new ≡ out.old ++ line (fault_text fault)) }
+{
+    match fault {
+        LinkFault::Short => put_line(out, "fault 1 Short"),
+        LinkFault::BadMark => put_line(out, "fault 2 BadMark"),
+        LinkFault::BadVersion => put_line(out, "fault 3 BadVersion"),
+        LinkFault::Packet(fault) => put_packet_fault(out, fault),
+        LinkFault::Trailing => put_line(out, "fault 5 Trailing"),
+        LinkFault::BadNumber => put_line(out, "fault 6 BadNumber"),
+        LinkFault::TooLong => put_line(out, "fault 7 TooLong"),
+        LinkFault::PacketAt(place, fault) => put_fault_at(out, place, fault),
+    }
+}
+
+/// The report of a fault of the one packet.
+fn put_packet_fault(out: &mut WriteBuffer, fault: PacketFault) -> Result<(), NotWritten>
+    ensures { OnOk result (out.new ≡ out.old ++ line (fault_text (LinkFault.Packet fault))) }
+{
+    out.put(b"fault 4 Packet ")?;
+    put_line(out, packet_fault_text(fault))
+}
+
+/// The report of a fault of one packet of several, by its place.
+fn put_fault_at(out: &mut WriteBuffer, place: u8, fault: PacketFault) -> Result<(), NotWritten>
+    ensures { OnOk result (out.new ≡ out.old ++ line (fault_text (LinkFault.PacketAt place fault))) }
+{
+    out.put(b"fault 8 PacketAt ")?;
+    put_decimal(out, usize::from(place))?;
+    out.put(b" ")?;
+    put_line(out, packet_fault_text(fault))
+}
+
+/// How a packet's fault is reported.
+fn packet_fault_text(fault: PacketFault) -> &'static str
+    ensures { result.now ≡ packet_fault_text fault }
+{
+    match fault {
+        PacketFault::Short => "1 Short",
+        PacketFault::BadCount => "2 BadCount",
+        PacketFault::Truncated => "3 Truncated",
+    }
+}

@@ -1,0 +1,21 @@
+//! The engine `show` of the program `chaosd`: lines of hexadecimal digits in, a report of each out.
+//!
+//! `run` takes the lines of an input one after another, `reporter` reports a line and counts it, `entry` says what a line is,
+//! `hex` reads its digits, and `report` prints a packet. It allocates nothing.
+#![tactic(auto)]
+
+mod entry;
+mod hex;
+mod law;
+mod limits;
+mod report;
+mod reporter;
+mod run;
+mod status;
+mod tally;
+
+pub use law::law_report;
+pub use limits::{SHOW_KEPT_LEN, SHOW_LINE_LIMIT, law_limits};
+pub use run::run_show;
+pub use status::show_status;
+pub use tally::Tally;

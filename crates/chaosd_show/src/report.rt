@@ -1,0 +1,165 @@
+//! The report of a packet, and of several.
+ghost use Rattle.std.specs.Prelude.{◌≡◌, ◌<◌, ◌++◌, length, OnOk};
+ghost use Rattle.chaos_packet.specs.Packet.{status_of};
+ghost use Rattle.chaosd_show.specs.Report.{octal_six, hex_digit, op_line, count_line, end_line, pair_line, data_line, body_text, packet_text, carriage_line, packets_text, several_text};
+
+use chaos_link::Packets;
+use chaos_packet::{Opcode, Packet};
+use chaosd_io::{NotWritten, WriteBuffer, put_decimal, put_octal_three};
+
+/// Writes the lines of the packets of a datagram of version 2, which are so many. Each is written as it is taken out of the
+/// datagram, so the cost is that of their data bytes; nothing is allocated.
+#[tactic(auto, unfolding(crate::specs::Report::several_text))]
+pub fn put_several(
+    out: &mut WriteBuffer,
+    number: u8,
+    packets: Packets<'_>,
+) -> Result<(), NotWritten>
+    requires { number ≡ length packets }
+    ensures { OnOk result (out.new ≡ out.old ++ several_text packets.entry) }
+{
+    put_carriage(out, number)?;
+    put_packets(out, packets)
+}
+
+/// The carriage's version, and how many packets there are.
+#[tactic(auto, unfolding(crate::specs::Report::carriage_line))]
+fn put_carriage(out: &mut WriteBuffer, number: u8) -> Result<(), NotWritten>
+    ensures { OnOk result (out.new ≡ out.old ++ carriage_line number) }
+{
+    out.put(b"carriage 2 packets ")?;
+    put_decimal(out, usize::from(number))?;
+    out.put(b"\n")
+}
+
+/// Behind an empty line each packet.
+fn put_packets(out: &mut WriteBuffer, mut packets: Packets<'_>) -> Result<(), NotWritten>
+    ensures { OnOk result (out.new ≡ out.old ++ packets_text packets.entry) }
+{
+    while let Some(packet) = packets.next() {
+        out.put(b"\n")?;
+        put_packet(out, &packet)?;
+    }
+    Ok(())
+}
+
+/// Writes the lines of a packet. The cost is that of its data bytes; nothing is allocated.
+#[tactic(auto, unfolding(crate::specs::Report::packet_text))]
+pub fn put_packet(out: &mut WriteBuffer, packet: &Packet) -> Result<(), NotWritten>
+    ensures { OnOk result (out.new ≡ out.old ++ packet_text packet.now) }
+{
+    put_op(out, packet.op)?;
+    put_counts(out, packet.fwd, packet.body.len())?;
+    put_end(out, "to", packet.dst, packet.dst_index)?;
+    put_end(out, "from", packet.src, packet.src_index)?;
+    put_pair(out, "num", packet.num.0, "ack", packet.ack.0)?;
+    put_body(out, packet)
+}
+
+/// The first line: the opcode, and its name where it has one.
+#[tactic(auto, unfolding(crate::specs::Report::op_line))]
+fn put_op(out: &mut WriteBuffer, op: Opcode) -> Result<(), NotWritten>
+    ensures { OnOk result (out.new ≡ out.old ++ op_line op) }
+{
+    out.put(b"op ")?;
+    put_octal_three(out, u16::from(op.0))?;
+    if let Some(name) = op.name() {
+        out.put(b" ")?;
+        out.put(name.as_bytes())?;
+    }
+    out.put(b"\n")
+}
+
+/// The forwarding count and the number of data bytes.
+#[tactic(auto, unfolding(crate::specs::Report::count_line))]
+fn put_counts(out: &mut WriteBuffer, fwd: u8, count: usize) -> Result<(), NotWritten>
+    ensures { OnOk result (out.new ≡ out.old ++ count_line fwd count) }
+{
+    out.put(b"fwd ")?;
+    put_decimal(out, usize::from(fwd))?;
+    out.put(b" count ")?;
+    put_decimal(out, count)?;
+    out.put(b"\n")
+}
+
+/// One end of the connection, behind its word.
+#[tactic(auto, unfolding(crate::specs::Report::end_line))]
+fn put_end(out: &mut WriteBuffer, word: &str, address: u16, index: u16) -> Result<(), NotWritten>
+    ensures { OnOk result (out.new ≡ out.old ++ end_line word.now address index) }
+{
+    out.put(word.as_bytes())?;
+    out.put(b" ")?;
+    put_octal_six(out, address)?;
+    out.put(b" ")?;
+    put_octal_six(out, index)?;
+    out.put(b"\n")
+}
+
+/// Two numbers, each behind its word.
+#[tactic(auto, unfolding(crate::specs::Report::pair_line))]
+fn put_pair(
+    out: &mut WriteBuffer,
+    first: &str,
+    m: u16,
+    second: &str,
+    n: u16,
+) -> Result<(), NotWritten>
+    ensures { OnOk result (out.new ≡ out.old ++ pair_line first.now m second.now n) }
+{
+    out.put(first.as_bytes())?;
+    out.put(b" ")?;
+    put_decimal(out, usize::from(m))?;
+    out.put(b" ")?;
+    out.put(second.as_bytes())?;
+    out.put(b" ")?;
+    put_decimal(out, usize::from(n))?;
+    out.put(b"\n")
+}
+
+/// The status that the packet tells, else its data, else nothing.
+#[tactic(auto, unfolding(crate::specs::Report::body_text))]
+fn put_body(out: &mut WriteBuffer, packet: &Packet) -> Result<(), NotWritten>
+    ensures { OnOk result (out.new ≡ out.old ++ body_text (status_of packet.now) packet.now.body) }
+{
+    match packet.status() {
+        Some((receipt, window)) => put_pair(out, "receipt", receipt.0, "window", window),
+        None if packet.body.is_empty() => Ok(()),
+        None => put_data(out, packet.body.as_slice()),
+    }
+}
+
+/// The data bytes.
+#[tactic(auto, unfolding(crate::specs::Report::data_line))]
+fn put_data(out: &mut WriteBuffer, body: &[u8]) -> Result<(), NotWritten>
+    ensures { OnOk result (out.new ≡ out.old ++ data_line body.now) }
+{
+    out.put(b"data")?;
+    for byte in body {
+        out.put(&[b' ', hex_digit(*byte / 16), hex_digit(*byte % 16)])?;
+    }
+    out.put(b"\n")
+}
+
+/// Six octal digits.
+fn put_octal_six(out: &mut WriteBuffer, n: u16) -> Result<(), NotWritten>
+    ensures { OnOk result (out.new ≡ out.old ++ octal_six n) }
+{
+    out.put(&[
+        b'0' + (n / 32768) as u8,
+        b'0' + (n / 4096 % 8) as u8,
+        b'0' + (n / 512 % 8) as u8,
+    ])?;
+    put_octal_three(out, n % 512)
+}
+
+/// The upper-case hexadecimal digits.
+static DIGITS: [u8; 16] = *b"0123456789ABCDEF";
+
+/// An upper-case hexadecimal digit.
+#[inline]
+fn hex_digit(digit: u8) -> u8
+    requires { digit < 16 }
+    ensures { result ≡ hex_digit digit }
+{
+    DIGITS[digit as usize]
+}
