@@ -1,7 +1,6 @@
 -- A link with a fuse, by which one call fails.
 use Rattle.std.specs.Prelude.{ℕ, ◌+◌, ◌-◌, ◌==◌, min, if◌then◌else◌, Option, None}
 use Rattle.chaos_packet.specs.Count.{max_count, with_failure}
-use Rattle.chaos_link.specs.Link.{QueueView}
 
 -- the link behind the fuse, how many calls are left up to and with the one that fails (0 where none fails any more), and how
 -- many failed by the fuse
@@ -20,7 +19,7 @@ module _ {L : Type 0} where
   count_with count fuse = min (count fuse.inner + fuse.own_failures) max_count
 
   -- the queue that the link is, where no call fails by the fuse any more
-  abbrev pub queue_with : (L → Option QueueView) → FuseView L → Option QueueView
+  abbrev pub queue_with : {Q : Type 0} → (L → Option Q) → FuseView L → Option Q
   queue_with queue fuse = if fuse.calls_left == 0 then queue fuse.inner else None
 
   -- after the call that fails: the link isn't reached

@@ -19,6 +19,7 @@ mod packets;
 mod pair;
 mod pairs;
 mod peers;
+mod socket;
 mod udp;
 
 pub use bundle::{fits, to_datagram2, write_datagram2};
@@ -36,4 +37,5 @@ pub use mem::MemLink;
 pub use packets::{Packets, is_version_two, law_carries2, open_datagram, read_datagram};
 pub use pair::{MemPair, PairEnd, Side};
 pub use peers::{Peer, Peers};
+pub use socket::DatagramSocket;
 pub use udp::UdpLink;

@@ -1,6 +1,6 @@
 //! A link in memory.
-ghost use Rattle.std.specs.Prelude.{◌≡◌, ◌≤◌, length, Some, IfOk, map, []};
-ghost use Rattle.chaos_link.specs.Link.{QueueView};
+ghost use Rattle.std.specs.Prelude.{◌≡◌, ◌≤◌, length, Some, IfOk, []};
+ghost use Rattle.chaos_link.specs.Addressed.{bytes_alone};
 
 use crate::limits::LINK_ROOM;
 use crate::link::{Link, Received, Sent};
@@ -10,18 +10,36 @@ use std::alloc::{AllocError, Global};
 use std::marker::Model;
 
 /// One queue of datagrams, whatever address they are sent to: what is sent into it is received from it, in order. A
-/// contract sees the datagrams, the oldest first, and how many there may be.
+/// contract sees the datagrams, the oldest first, each with its address, and how many there may be.
 ///
 /// `new` takes the memory for all of them, and no later call takes any.
 #[derive(Drop)]
 pub struct MemLink {
-    ring: HeapCircularBuffer<ArrayVec<u8, LINK_ROOM>>,
+    ring: HeapCircularBuffer<Datagram>,
 }
 
 impl Model for MemLink {
-    ghost Value = { QueueView };
+    ghost use Rattle.chaos_link.specs.Addressed.{AddressedQueue};
 
-    ghost view = { λ link. record { datagrams = map (λ d. d.items) link.ring.items; cap = link.ring.capacity } };
+    ghost Value = { AddressedQueue };
+
+    ghost view = { λ link. record { datagrams = link.ring.items; cap = link.ring.capacity } };
+}
+
+/// A datagram that waits.
+#[derive(Drop)]
+struct Datagram {
+    /// The Chaosnet address that it was sent to, of which contracts speak alone.
+    to: u16,
+    bytes: ArrayVec<u8, LINK_ROOM>,
+}
+
+impl Model for Datagram {
+    ghost use Rattle.chaos_link.specs.Addressed.{Addressed};
+
+    ghost Value = { Addressed };
+
+    ghost view = { λ datagram. record { to = datagram.to; bytes = datagram.bytes.items } };
 }
 
 impl MemLink {
@@ -37,24 +55,26 @@ impl MemLink {
     }
 }
 
-/// A datagram with a copy of these bytes. It takes no memory.
-fn datagram_of(bytes: &[u8]) -> ArrayVec<u8, LINK_ROOM>
+/// A datagram to this address with a copy of these bytes. It takes no memory.
+fn datagram_to(to: u16, bytes: &[u8]) -> Datagram
     requires { length bytes.now ≤ LINK_ROOM }
-    ensures { result.items ≡ bytes.now }
+    ensures { result ≡ record { to = to; bytes = bytes.now } }
 {
-    let mut datagram = ArrayVec::new();
-    let _fits = datagram.try_extend_from_slice(bytes);
-    datagram
+    let mut copy = ArrayVec::new();
+    let _fits = copy.try_extend_from_slice(bytes);
+    Datagram { to, bytes: copy }
 }
 
 impl Link for MemLink {
     ghost count = { λ _. 0 };
 
-    ghost queue = { λ link. Some link };
+    ghost queue = { λ link. Some (bytes_alone link) };
+
+    ghost addressed = { λ link. Some link };
 
     /// Puts the datagram behind those that wait. One that finds the queue full is lost, and answered as sent.
-    fn send(&mut self, _to_address: u16, bytes: &[u8]) -> Sent {
-        let _lost = self.ring.try_push_back(datagram_of(bytes));
+    fn send(&mut self, to_address: u16, bytes: &[u8]) -> Sent {
+        let _lost = self.ring.try_push_back(datagram_to(to_address, bytes));
         Sent::Sent
     }
 
@@ -62,8 +82,8 @@ impl Link for MemLink {
     fn receive(&mut self, buffer: &mut [u8; LINK_ROOM], _may_wait: bool) -> Received {
         match self.ring.pop_front() {
             Some(datagram) => {
-                let count = datagram.len();
-                buffer[..count].copy_from_slice(datagram.as_slice());
+                let count = datagram.bytes.len();
+                buffer[..count].copy_from_slice(datagram.bytes.as_slice());
                 Received::Got(count)
             }
             None => Received::Nothing,

@@ -20,7 +20,7 @@ pub enum Side {
 }
 
 /// Two queues in memory between two ends: what one end sends the other receives, in order, and never the end itself. A
-/// contract sees the datagrams that wait for each end.
+/// contract sees the datagrams that wait for each end, each with the address that it was sent to.
 ///
 /// [`MemPair::end`] lends one end, a [`Link`], for as long as it is used, as for a turn of its host; then the other may be
 /// lent. `new` takes the memory for all datagrams, and no later call takes any.
@@ -66,7 +66,7 @@ impl MemPair {
     /// Sends from one end to the other.
     fn send_from(&mut self, side: Side, to_address: u16, bytes: &[u8]) -> Sent
         requires { length bytes.now ≤ LINK_ROOM }
-        ensures { SendsAcross side bytes.now result self.old self.new }
+        ensures { SendsAcross side to_address bytes.now result self.old self.new }
     {
         match side {
             Side::Near => self.far.send(to_address, bytes),
@@ -107,7 +107,7 @@ impl Link for PairEnd<'_> {
         requires { length bytes.now ≤ LINK_ROOM }
         ensures failed { result ≡ Sent.Failed → Rose 0 0 }
         ensures queued { Unit {0} }
-        ensures across { SendsAcross self.old.side bytes.now result self.old.pair.now self.new.pair.now }
+        ensures across { SendsAcross self.old.side to_address bytes.now result self.old.pair.now self.new.pair.now }
         // It is an end of the same pair still.
         ensures pair { self.new.pair.ghost_name ≡ self.old.pair.ghost_name }
         ensures side { self.new.side ≡ self.old.side }

@@ -1,21 +1,23 @@
 //! A link over a UDP socket.
-ghost use Rattle.std.specs.Prelude.{◌≡◌, ◌≢◌, ◌↔◌, ◌≤◌, length, Some, None, OnOk, OnErr};
+ghost use Rattle.std.specs.Prelude.{◌≡◌, ◌≢◌, ◌↔◌, ◌≤◌, length, Some, None, IfSome, OnOk, OnErr};
 ghost use Rattle.chaos_packet.specs.Count.{Rose, with_failure};
 ghost use Rattle.chaos_link.specs.Link.{IsWithin};
 ghost use Rattle.chaos_link.specs.Peers.{socket_of};
-ghost use Rattle.chaos_link.specs.Udp.{after_send, failures_after};
+ghost use Rattle.chaos_link.specs.Udp.{WasAsked, WasAskedOf, after_send, failures_after};
 
 use crate::limits::{LINK_ROOM, MAX_WAIT};
 use crate::link::{Link, Received, Sent};
 use crate::peers::Peers;
+use crate::socket::DatagramSocket;
 use std::io;
 use std::io::ErrorKind;
 use std::marker::Model;
-use std::net::{SocketAddr, SocketAddrV4, UdpSocket};
+use std::net::{SocketAddrV4, UdpSocket};
 use std::time::Duration;
 
-/// A link over a UDP socket: datagrams go to the sockets of its peers, and come from anybody. A contract sees the peers,
-/// the failures and whether the last receive waited; of what the socket carries it says nothing.
+/// A link over a UDP socket: datagrams go to the sockets of its peers, and come from anybody. A contract sees the socket,
+/// the peers, the failures and whether the last receive waited; it says what the socket is asked to send, and nothing of
+/// what the system makes of that.
 ///
 /// A receive that may wait does so for at most 10 milliseconds (the system may round that up), where no datagram is there;
 /// any other polls. To change from one to the other is a call of the system, so who always waits, or never, makes none.
@@ -24,26 +26,26 @@ use std::time::Duration;
 /// it, can't reach its address or doesn't allow it, or tells that a socket is gone: a network may lose any, and one peer
 /// that can't be reached stops nobody's service of the others. What fails is the socket itself.
 #[derive(Drop)]
-pub struct UdpLink {
-    socket: UdpSocket,
+pub struct UdpLink<S = UdpSocket> {
+    socket: S,
     peers: Peers,
     failures: u64,
     /// Whether the socket's receives wait, once a receive has set that.
     waits: Option<bool>,
 }
 
-impl Model for UdpLink {
+impl<S> Model for UdpLink<S> {
     ghost use Rattle.chaos_link.specs.Udp.{UdpView};
 
-    ghost Value = { UdpView };
+    ghost Value = { UdpView S };
 
-    ghost view = { λ link. record { peers = link.peers; failures = link.failures; waits = link.waits } };
+    ghost view = { λ link. record { socket = link.socket; peers = link.peers; failures = link.failures; waits = link.waits } };
 }
 
-impl UdpLink {
+impl<S> UdpLink<S> {
     /// A link over this socket to these peers. It touches nothing.
-    pub fn new(socket: UdpSocket, peers: Peers) -> Self
-        ensures { result ≡ record { peers = peers; failures = 0; waits = None } }
+    pub fn new(socket: S, peers: Peers) -> Self
+        ensures { result ≡ record { socket = socket; peers = peers; failures = 0; waits = None } }
     {
         UdpLink {
             socket,
@@ -54,7 +56,7 @@ impl UdpLink {
     }
 }
 
-impl Link for UdpLink {
+impl<S: DatagramSocket> Link for UdpLink<S> {
     ghost count = { λ link. link.failures };
 
     ghost queue = { λ _. None };
@@ -67,13 +69,15 @@ impl Link for UdpLink {
         ensures queued { Unit {0} }
         // An address is unknown exactly where no peer has it.
         ensures unknown { (result ≡ Sent.Unknown) ↔ (socket_of to_address self.old.peers ≡ None) }
+        // The socket is asked once to send these bytes, to the UDP address of that peer; of no peer, it is asked nothing.
+        ensures asked { IfSome (S.asked self.old.socket) (WasAskedOf (socket_of to_address self.old.peers) bytes.now (S.asked self.new.socket)) }
         // A failure is counted; nothing else changes.
-        ensures link { self.new ≡ after_send result self.old }
+        ensures link { self.new ≡ after_send result self.new.socket self.old }
     {
         let Some(peer) = self.peers.find(to_address) else {
             return Sent::Unknown;
         };
-        match send_to(&self.socket, bytes, peer) {
+        match send_to(&mut self.socket, bytes, peer) {
             Ok(()) => Sent::Sent,
             Err(_) => {
                 count_failure(&mut self.failures);
@@ -88,14 +92,15 @@ impl Link for UdpLink {
         ensures failed { result ≡ Received.Failed → Rose self.old.failures self.new.failures }
         ensures within { IsWithin LINK_ROOM result }
         ensures queued { Unit {0} }
+        ensures asked { S.asked self.new.socket ≡ S.asked self.old.socket }
         ensures peers { self.new.peers ≡ self.old.peers }
         // A failure is counted, and nothing else is.
         ensures counted { self.new.failures ≡ failures_after result self.old.failures }
         // It waits exactly where it may.
         ensures waits { result ≢ Received.Failed → self.new.waits ≡ Some may_wait }
     {
-        let received = match set_wait(&self.socket, &mut self.waits, may_wait) {
-            Ok(()) => receive_from(&self.socket, buffer),
+        let received = match set_wait(&mut self.socket, &mut self.waits, may_wait) {
+            Ok(()) => receive_from(&mut self.socket, buffer),
             Err(_) => Received::Failed,
         };
         if received == Received::Failed {
@@ -117,9 +122,11 @@ fn count_failure(failures: &mut u64)
 }
 
 /// Sends a datagram, which may be lost at once.
-fn send_to(socket: &UdpSocket, bytes: &[u8], peer: SocketAddrV4) -> io::Result<()> {
-    match socket.send_to(bytes, SocketAddr::V4(peer)) {
-        Ok(_) => Ok(()),
+fn send_to<S: DatagramSocket>(socket: &mut S, bytes: &[u8], peer: SocketAddrV4) -> io::Result<()>
+    ensures { IfSome (S.asked socket.old) (WasAsked peer bytes.now (S.asked socket.new)) }
+{
+    match socket.send_datagram(bytes, peer) {
+        Ok(()) => Ok(()),
         Err(e) if is_loss(e.kind()) => Ok(()),
         Err(e) => Err(e),
     }
@@ -142,11 +149,12 @@ fn is_loss(kind: ErrorKind) -> bool {
 }
 
 /// Receives a datagram, or nothing where none came in time.
-fn receive_from(socket: &UdpSocket, buffer: &mut [u8; LINK_ROOM]) -> Received
-    ensures { IsWithin LINK_ROOM result }
+fn receive_from<S: DatagramSocket>(socket: &mut S, buffer: &mut [u8; LINK_ROOM]) -> Received
+    ensures within { IsWithin LINK_ROOM result }
+    ensures asked { S.asked socket.new ≡ S.asked socket.old }
 {
-    match socket.recv_from(buffer) {
-        Ok((count, _from)) => Received::Got(count),
+    match socket.receive_datagram(buffer) {
+        Ok(count) => Received::Got(count),
         Err(e) if is_nothing(e.kind()) => Received::Nothing,
         Err(_) => Received::Failed,
     }
@@ -165,7 +173,12 @@ fn is_nothing(kind: ErrorKind) -> bool {
 }
 
 /// Sets whether the socket's receives wait, where `set` says that they do otherwise.
-fn set_wait(socket: &UdpSocket, set: &mut Option<bool>, waits: bool) -> io::Result<()>
+fn set_wait<S: DatagramSocket>(
+    socket: &mut S,
+    set: &mut Option<bool>,
+    waits: bool,
+) -> io::Result<()>
+    ensures asked { S.asked socket.new ≡ S.asked socket.old }
     ensures ok { OnOk result (set.new ≡ Some waits) }
     ensures err { OnErr result (set.new ≡ set.old) }
 {
@@ -173,11 +186,9 @@ fn set_wait(socket: &UdpSocket, set: &mut Option<bool>, waits: bool) -> io::Resu
         return Ok(());
     }
     if set.is_none() {
-        let wait = Some(Duration::from_millis(MAX_WAIT));
-        socket.set_read_timeout(wait)?;
-        socket.set_write_timeout(wait)?;
+        socket.set_wait(Duration::from_millis(MAX_WAIT))?;
     }
-    socket.set_nonblocking(!waits)?;
+    socket.set_waits(waits)?;
     *set = Some(waits);
     Ok(())
 }
