@@ -132,10 +132,10 @@ settle_plays line before after old new refused is (lab, count, text, none) ready
 )
 
 -- it met want of memory
-pub settle_wants : (line : List ℕ) (l after : FileLabView) (text : List ℕ) → bytes_eq line settle_word ≡ true → WantsSettling l after text → (line_done line ≢ None) × filelab_script.wants l line text
+pub settle_wants : (line : List ℕ) (l after : FileLabView) (text : List ℕ) → bytes_eq line settle_word ≡ true → WantsSettling l after text → (line_done line ≢ None) × filelab_script.wants l line after text
 settle_wants line l after text is wants = (
   λ none. some_done (sym (ap (λ b. cond b (Some settle_done) (option_map event_done (file_line_of line))) is) ∙ none),
-  (after, subst (λ b. WantsBy b line l after text) (sym is) wants),
+  subst (λ b. WantsBy b line l after text) (sym is) wants,
 )
   where
     some_done : Some settle_done ≡ None → ⊥
@@ -167,8 +167,8 @@ bad_line line is none = ap (λ b. cond b (Some settle_done) (option_map event_do
 -- it met want of memory
 pub line_wants : (line : List ℕ) (l after : FileLabView) (held : Option (List ℕ)) (old new : List ℕ) (event : FileHappening) → bytes_eq line settle_word ≡ false → file_line_of line ≡ Some event
     → (line_done line ≢ None)
-    × ((text : List ℕ) × WantsEvent l event after text × (new ≡ old ++ text) → (text : List ℕ) × filelab_script.wants l line text × Appends (written_of held old) (written_of held new) text)
+    × ((text : List ℕ) × WantsEvent l event after text × (new ≡ old ++ text) → (text : List ℕ) × filelab_script.wants l line after text × Appends (written_of held old) (written_of held new) text)
 line_wants line l after held old new event is said = (
   λ none. some_said (file_line_of line) event said (no_event (file_line_of line) (sym (ap (λ b. cond b (Some settle_done) (option_map event_done (file_line_of line))) is) ∙ none)),
-  λ (text, wants, more). (text, (after, subst (λ b. WantsBy b line l after text) (sym is) (event, said, wants)), waits_more held old new text more),
+  λ (text, wants, more). (text, subst (λ b. WantsBy b line l after text) (sym is) (event, said, wants), waits_more held old new text more),
 )

@@ -1,9 +1,8 @@
 -- The line `settle`.
 use Rattle.std.proofs.Common.{◌≡◌, ℕ, Bool, true, false, List, [], ◌∷◌, ◌++◌, length, take, append_assoc, append-nil, refl, ap, subst, ◌∙◌, sym}
-use Rattle.std.specs.Prelude.{◌↔◌, ◌&&◌, not, IsTrue, Option, None, Some, slice_get}
+use Rattle.std.specs.Prelude.{◌↔◌, not, IsTrue, Option, None, Some, slice_get}
 use Rattle.std.specs.Io.KnownBytes.{Appends, Keeps}
 use Rattle.std.proofs.KnownBytes.{Appends-kept, Appends-trans}
-use Rattle.chaos_lab.specs.Progress.{CanSettle}
 use Rattle.chaos_filelab.specs.Events.{FileHappening}
 use Rattle.chaos_filelab.specs.Exact.{file_happen}
 use Rattle.chaos_filelab.specs.Progress.{CanServe}

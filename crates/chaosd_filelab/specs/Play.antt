@@ -22,7 +22,7 @@ end_text l = lab.end_text l.lab
 abbrev pub line_done : List ℕ → Option (FileLabView → Done FileLabView)
 line_done line = if bytes_eq line settle_word then Some settle_done else option_map event_done (file_line_of line)
 
--- what is printed at want of memory of a line that asks for an event
+-- what a line that asks for an event leaves at want of memory, and what is printed of it
 abbrev pub WantsLine : List ℕ → (before after : FileLabView) → List ℕ → Type 0
 WantsLine line l after text = (event : FileHappening) × (file_line_of line ≡ Some event) × WantsEvent l event after text
 
@@ -38,5 +38,5 @@ filelab_script = record {
   event = line_done;
   ended = end_text;
   ready = λ l. wrote_mem l ≡ false;
-  wants = λ l line text. (after : FileLabView) × WantsBy (bytes_eq line settle_word) line l after text;
+  wants = λ l line after text. WantsBy (bytes_eq line settle_word) line l after text;
 }

@@ -7,7 +7,7 @@ use Rattle.chaosd_script.proofs.Plays.{waits_more}
 use Rattle.chaosd_lab.proofs.Settling.{err_told}
 use Rattle.chaosd_filelab.specs.Happen.{event_text}
 use Rattle.chaosd_filelab.specs.Settle.{file_line}
-use Rattle.chaosd_filelab.proofs.Settling.{typed_none, typed_one, typed_all, typed_wants}
+use Rattle.chaosd_filelab.proofs.Settling.{typed_none, typed_one, typed_wants}
 use Rattle.chaosd_filelab.proofs.settle.play_settling.Goals as goal
 
 pub loop-event-init : goal.loop-event-init

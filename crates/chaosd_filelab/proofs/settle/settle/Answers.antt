@@ -1,7 +1,7 @@
-use Rattle.std.proofs.Common.{rules, ◌≡◌, true, false}
+use Rattle.std.proofs.Common.{rules, ◌≡◌, false}
 use Rattle.chaosd_engines.proofs.Runs.{went_well}
 use Rattle.chaosd_script.proofs.Plays.{waits_more}
-use Rattle.chaosd_filelab.proofs.Settling.{refused_line, settled_line, wants_line}
+use Rattle.chaosd_filelab.proofs.Settling.{refused_line}
 use Rattle.chaosd_filelab.proofs.settle.settle.Goals as goal
 
 pub returns-then-not-can_settle-clause-settled : goal.returns-then-not-can_settle-clause-settled

@@ -56,4 +56,4 @@ returns-clause-no_memory g c is =
     let (event, said, more) = c.play.ensures.no_memory is in
     let (some, told) = line_wants c.args.line.now c.self.inside.lab c.play.new.lab (g.W.Write.contents c.args.writer.now) c.args.out.now c.play.new.out event other said in
     let new = written_of (g.W.Write.contents c.args.writer.now) c.play.new.out in
-    (some, λ ready. subst (λ (l : FileLabView). (text : List ℕ) × filelab_script.wants l c.args.line.now text × Appends (written_of (g.W.Write.contents c.args.writer.now) c.args.out.now) new text) view (told (more (ap wrote_mem view ∙ ready))))
+    (some, λ ready. subst (λ (l : FileLabView). (text : List ℕ) × filelab_script.wants l c.args.line.now c.play.new.lab text × Appends (written_of (g.W.Write.contents c.args.writer.now) c.args.out.now) new text) view (told (more (ap wrote_mem view ∙ ready))))
