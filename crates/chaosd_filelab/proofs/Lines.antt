@@ -7,7 +7,7 @@ use Rattle.chaos_lab.specs.declared.fault.LabFault.{LabFault}
 use Rattle.chaos_lab.specs.declared.fault.LabFault.TheVariants.{NoSuchCopy, Stale, Refused, NoMemory, ByServer}
 use Rattle.chaos_filelab.specs.declared.event.FileStepped.{FileStepped}
 use Rattle.chaos_filelab.specs.View.{FileLabView, wrote_mem}
-use Rattle.chaos_filelab.specs.Events.{FileHappening, Serve}
+use Rattle.chaos_filelab.specs.Events.{FileHappening, FileHappens, At, Serve}
 use Rattle.chaos_filelab.specs.Exact.{file_happen, IsExact}
 use Rattle.chaosd_io.specs.declared.fault.RunFault.{RunFault}
 use Rattle.chaosd_io.specs.declared.fault.RunFault.TheVariants as run
@@ -83,12 +83,14 @@ not_wanted (Err e) why h is = h
 pub event_wants : (before after : FileLabView) (old mid new : List ℕ) (answer : Result FileStepped LabFault) (result : Result Bool RunFault)
     → (answer ≡ Err NoMemory → after ≡ before) → mid ≡ old ++ file_answer_text answer
     → new ≡ mid ++ copies_text (length before.lab.copies) (drop (length before.lab.copies) after.lab.copies) → result ≡ refused_or_ended answer → result ≡ Err run.NoMemory
-    → new ≡ old ++ refusal_text NoMemory
+    → (after ≡ before) × (new ≡ old ++ refusal_text NoMemory)
 event_wants before after old mid new answer result refused first last same wants =
     let n = length before.lab.copies in
-    let none : answer ≡ Err NoMemory = is_want answer (sym same ∙ wants) in
-    last ∙ ap (λ (l : FileLabView). mid ++ copies_text n (drop n l.lab.copies)) (refused none) ∙ ap (λ l. mid ++ l) (no_copies before.lab.copies n (omega arith)) ∙ append-nil mid
-    ∙ first ∙ ap (λ a. old ++ file_answer_text a) none
+    let none : answer ≡ Err NoMemory = is_want answer (sym same ∙ wants) in (
+      refused none,
+      last ∙ ap (λ (l : FileLabView). mid ++ copies_text n (drop n l.lab.copies)) (refused none) ∙ ap (λ l. mid ++ l) (no_copies before.lab.copies n (omega arith)) ∙ append-nil mid
+          ∙ first ∙ ap (λ a. old ++ file_answer_text a) none,
+    )
 
 by_fault : (answer : Result FileStepped LabFault) → IfErr (refused_or_ended answer) (λ fault. (fault ≡ run.NoMemory) ⊎ (fault ≡ run.WriteFault))
 by_fault (Ok stepped) = tt
@@ -102,10 +104,15 @@ pub event_faults : (answer : Result FileStepped LabFault) (result : Result Bool 
 event_faults answer result same = subst (λ r. IfErr r (λ fault. (fault ≡ run.NoMemory) ⊎ (fault ≡ run.WriteFault))) (sym same) (by_fault answer)
 
 -- a serve wrote a reply for want of memory
-pub serve_wants : (event : FileHappening) (before after : FileLabView) (old : List ℕ) → (event ≡ Serve) ⊎ (wrote_mem after ≡ wrote_mem before) → wrote_mem after ≡ true → wrote_mem before ≡ false
-    → (text : List ℕ) × WantsEvent event text × (old ≡ old ++ text)
-serve_wants event before after old (inl is) mem ready = ([], inr (is, refl), sym (append-nil old))
-serve_wants event before after old (inr same) mem ready = absurd (cc)
+pub serve_wants : (event : FileHappening) (before after : FileLabView) (old : List ℕ) (answer : Result FileStepped LabFault) → FileHappens before event after answer
+    → (event ≡ Serve) ⊎ (wrote_mem after ≡ wrote_mem before) → wrote_mem after ≡ true → wrote_mem before ≡ false → (text : List ℕ) × WantsEvent before event after text × (old ≡ old ++ text)
+serve_wants event before after old answer happens (inr same) mem ready = absurd (cc)
+serve_wants (At event) before after old answer happens (inl is) mem ready = absurd (cc)
+serve_wants Serve before after old answer (inl (served, serves, told)) (inl is) mem ready = ([], inr (refl, (served, serves, mem), refl), sym (append-nil old))
+serve_wants Serve before after old answer (inr (same, told)) (inl is) mem ready = absurd (no_want (sym mem ∙ ap wrote_mem same ∙ ready))
+  where
+    no_want : true ≡ false → ⊥
+    no_want h = cc
 
 -- ---- what a line says
 
@@ -125,10 +132,10 @@ settle_plays line before after old new refused is (lab, count, text, none) ready
 )
 
 -- it met want of memory
-pub settle_wants : (line : List ℕ) (l : FileLabView) (text : List ℕ) → bytes_eq line settle_word ≡ true → WantsSettling l text → (line_done line ≢ None) × filelab_script.wants l line text
-settle_wants line l text is wants = (
+pub settle_wants : (line : List ℕ) (l after : FileLabView) (text : List ℕ) → bytes_eq line settle_word ≡ true → WantsSettling l after text → (line_done line ≢ None) × filelab_script.wants l line after text
+settle_wants line l after text is wants = (
   λ none. some_done (sym (ap (λ b. cond b (Some settle_done) (option_map event_done (file_line_of line))) is) ∙ none),
-  subst (λ b. WantsBy b l line text) (sym is) wants,
+  subst (λ b. WantsBy b line l after text) (sym is) wants,
 )
   where
     some_done : Some settle_done ≡ None → ⊥
@@ -158,10 +165,10 @@ pub bad_line : (line : List ℕ) → bytes_eq line settle_word ≡ false → fil
 bad_line line is none = ap (λ b. cond b (Some settle_done) (option_map event_done (file_line_of line))) is ∙ ap (option_map event_done) none
 
 -- it met want of memory
-pub line_wants : (line : List ℕ) (l : FileLabView) (held : Option (List ℕ)) (old new : List ℕ) (event : FileHappening) → bytes_eq line settle_word ≡ false → file_line_of line ≡ Some event
+pub line_wants : (line : List ℕ) (l after : FileLabView) (held : Option (List ℕ)) (old new : List ℕ) (event : FileHappening) → bytes_eq line settle_word ≡ false → file_line_of line ≡ Some event
     → (line_done line ≢ None)
-    × ((text : List ℕ) × WantsEvent event text × (new ≡ old ++ text) → (text : List ℕ) × filelab_script.wants l line text × Appends (written_of held old) (written_of held new) text)
-line_wants line l held old new event is said = (
+    × ((text : List ℕ) × WantsEvent l event after text × (new ≡ old ++ text) → (text : List ℕ) × filelab_script.wants l line after text × Appends (written_of held old) (written_of held new) text)
+line_wants line l after held old new event is said = (
   λ none. some_said (file_line_of line) event said (no_event (file_line_of line) (sym (ap (λ b. cond b (Some settle_done) (option_map event_done (file_line_of line))) is) ∙ none)),
-  λ (text, wants, more). (text, subst (λ b. WantsBy b l line text) (sym is) (event, said, wants), waits_more held old new text more),
+  λ (text, wants, more). (text, subst (λ b. WantsBy b line l after text) (sym is) (event, said, wants), waits_more held old new text more),
 )

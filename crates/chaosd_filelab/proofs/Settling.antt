@@ -88,18 +88,19 @@ done_is [] rest = refl
 done_is (e ∷ done) rest = ap (λ es. e ∷ es) (done_is done rest)
 
 -- the next one met want of memory
-pub typed_wants : (start now : FileLabView) (event : FileHappening) (rest others : List FileHappening) (old mid ready new : Option (List ℕ)) → Typed start now rest old mid → rest ≡ event ∷ others
-    → Keeps mid ready → (told : List ℕ) → WantsEvent event told → Appends ready new (file_line event ++ told) → (text : List ℕ) × WantsEvents start text × Appends old new text
-typed_wants start now event rest others old mid ready new t is keeps told wants text =
-    let all : file_settling start ≡ t.done ++ event ∷ others = t.all ∙ ap (λ es. t.done ++ es) is in (
+pub typed_wants : (start now after : FileLabView) (event : FileHappening) (rest others : List FileHappening) (old mid ready new : Option (List ℕ)) → Typed start now rest old mid → rest ≡ event ∷ others
+    → Keeps mid ready → (told : List ℕ) → WantsEvent now event after told → Appends ready new (file_line event ++ told) → (text : List ℕ) × WantsEvents start after text × Appends old new text
+typed_wants start now after event rest others old mid ready new t is keeps told wants text =
+    let all : file_settling start ≡ t.done ++ event ∷ others = t.all ∙ ap (λ es. t.done ++ es) is in
+    let before : take (length t.done) (file_settling start) ≡ t.done = ap (take (length t.done)) all ∙ done_is t.done (event ∷ others) in (
       typed_text start t.done ++ (file_line event ++ told),
       (
         length t.done,
         event,
         ap (λ es. slice_get es (length t.done)) all ∙ next_is t.done others event,
         told,
-        wants,
-        ap (λ es. typed_text start es ++ (file_line event ++ told)) (sym (ap (take (length t.done)) all ∙ done_is t.done (event ∷ others)))
+        subst (λ (l : FileLabView). WantsEvent l event after told) (t.at ∙ ap (after_events start) (sym before)) wants,
+        ap (λ es. typed_text start es ++ (file_line event ++ told)) (sym before)
             ∙ sym (append_assoc (typed_text start (take (length t.done) (file_settling start))) (file_line event) told),
       ),
       Appends-trans old ready new _ _ (Appends-kept old mid ready _ t.text keeps) text,
@@ -124,5 +125,5 @@ settled_line l m said old new is so (after, none, text) =
     subst (λ b. (m ≡ (settle_by b l).lab) × (false ≡ (settle_by b l).is_refused) × Appends old new (settle_by b l).text) (sym can) (after, refl, text) in
     (done.0, done.1, done.2, λ ready. none)
 
-pub wants_line : (l : FileLabView) (said : Bool) (old new : Option (List ℕ)) → IsTrue said ↔ CanServe l → said ≡ true → (text : List ℕ) × WantsEvents l text × Appends old new text → (text : List ℕ) × WantsSettling l text × Appends old new text
-wants_line l said old new is so (text, wants, more) = (text, (sym (says_can_serve l said is) ∙ so, wants), more)
+pub wants_line : (l after : FileLabView) (said : Bool) (old new : Option (List ℕ)) → IsTrue said ↔ CanServe l → said ≡ true → (text : List ℕ) × WantsEvents l after text × Appends old new text → (text : List ℕ) × WantsSettling l after text × Appends old new text
+wants_line l after said old new is so (text, wants, more) = (text, (sym (says_can_serve l said is) ∙ so, wants), more)

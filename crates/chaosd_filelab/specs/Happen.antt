@@ -1,8 +1,9 @@
 -- What an event of a laboratory whose B serves FILE does and prints.
-use Rattle.std.specs.Prelude.{◌≡◌, ◌⊎◌, ℕ, Bool, List, [], ◌++◌, length, drop, is_err}
+use Rattle.std.specs.Prelude.{◌≡◌, ◌⊎◌, ℕ, Bool, true, List, [], ◌++◌, length, drop, is_err}
 use Rattle.chaos_lab.specs.declared.fault.LabFault.TheVariants.{NoMemory}
-use Rattle.chaos_filelab.specs.View.{FileLabView}
-use Rattle.chaos_filelab.specs.Events.{FileHappening, Serve}
+use Rattle.chaos_serve.specs.declared.served.Served.{Served}
+use Rattle.chaos_filelab.specs.View.{FileLabView, wrote_mem}
+use Rattle.chaos_filelab.specs.Events.{FileHappening, Serve, Serving}
 use Rattle.chaos_filelab.specs.Exact.{file_happen}
 use Rattle.chaosd_lab.specs.Answers.{refusal_text, copies_text}
 use Rattle.chaosd_script.specs.Script.{Done}
@@ -24,7 +25,11 @@ pub record PlaysFileEvent (event : FileHappening) (before after : FileLabView) (
   pub text : new ≡ old ++ event_text before event
   pub count : refused ≡ is_err (file_happen before event).answer
 
--- What is printed of an event that meets want of memory: that of the histories is told, and of a serve that writes a reply for want of
--- memory nothing is.
-abbrev pub WantsEvent : FileHappening → List ℕ → Type 0
-WantsEvent event text = (text ≡ refusal_text NoMemory) ⊎ ((event ≡ Serve) × (text ≡ []))
+-- B's server served, and wrote a reply for want of memory.
+abbrev pub ServesForWant : (before after : FileLabView) → Type 0
+ServesForWant before after = (served : Served) × Serving before after served × (wrote_mem after ≡ true)
+
+-- What is printed of an event that meets want of memory: where the histories did, and nothing happened, the refusal; where a serve wrote a
+-- reply for want of memory, nothing. It is never both, where B has written no such reply before.
+abbrev pub WantsEvent : (before : FileLabView) → FileHappening → (after : FileLabView) → List ℕ → Type 0
+WantsEvent before event after text = ((after ≡ before) × (text ≡ refusal_text NoMemory)) ⊎ ((event ≡ Serve) × ServesForWant before after × (text ≡ []))

@@ -22,13 +22,13 @@ end_text l = lab.end_text l.lab
 abbrev pub line_done : List ℕ → Option (FileLabView → Done FileLabView)
 line_done line = if bytes_eq line settle_word then Some settle_done else option_map event_done (file_line_of line)
 
--- what is printed at want of memory of a line that asks for an event
-abbrev pub WantsLine : List ℕ → List ℕ → Type 0
-WantsLine line text = (event : FileHappening) × (file_line_of line ≡ Some event) × WantsEvent event text
+-- what a line that asks for an event leaves at want of memory, and what is printed of it
+abbrev pub WantsLine : List ℕ → (before after : FileLabView) → List ℕ → Type 0
+WantsLine line l after text = (event : FileHappening) × (file_line_of line ≡ Some event) × WantsEvent l event after text
 
-abbrev pub WantsBy : (is_settle : Bool) → FileLabView → List ℕ → List ℕ → Type 0
-WantsBy true l line text = WantsSettling l text
-WantsBy false l line text = WantsLine line text
+abbrev pub WantsBy : (is_settle : Bool) → List ℕ → (before after : FileLabView) → List ℕ → Type 0
+WantsBy true line l after text = WantsSettling l after text
+WantsBy false line l after text = WantsLine line l after text
 
 -- A laboratory is ready where B wrote no reply for want of memory.
 abbrev pub filelab_script : Script FileLabView
@@ -38,5 +38,5 @@ filelab_script = record {
   event = line_done;
   ended = end_text;
   ready = λ l. wrote_mem l ≡ false;
-  wants = λ l line text. WantsBy (bytes_eq line settle_word) l line text;
+  wants = λ l line after text. WantsBy (bytes_eq line settle_word) line l after text;
 }

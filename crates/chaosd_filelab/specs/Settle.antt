@@ -32,13 +32,14 @@ settle_by false l = record { lab = l; text = lab.unsettled_text; is_refused = tr
 abbrev pub settle_done : FileLabView → Done FileLabView
 settle_done l = settle_by (can_serve l) l
 
--- What is printed at want of memory in the midst of settling: the events before the one that met it, that one's line, and what is printed
--- of that.
-abbrev pub WantsEvents : FileLabView → List ℕ → Type 0
-WantsEvents l text =
-    (n : ℕ) × (event : FileHappening) × (slice_get (file_settling l) n ≡ Some event) × (told : List ℕ) × WantsEvent event told
+-- At want of memory in the midst of settling the events before the one that met it happened, and they are printed, that one's line, and
+-- what is printed of that one.
+abbrev pub WantsEvents : (before after : FileLabView) → List ℕ → Type 0
+WantsEvents l after text =
+    (n : ℕ) × (event : FileHappening) × (slice_get (file_settling l) n ≡ Some event)
+    × (told : List ℕ) × WantsEvent (after_events l (take n (file_settling l))) event after told
     × (text ≡ typed_text l (take n (file_settling l)) ++ file_line event ++ told)
 
--- what is printed of the line then
-abbrev pub WantsSettling : FileLabView → List ℕ → Type 0
-WantsSettling l text = IsTrue (can_serve l) × WantsEvents l text
+-- what the line leaves then, and what is printed of it
+abbrev pub WantsSettling : (before after : FileLabView) → List ℕ → Type 0
+WantsSettling l after text = IsTrue (can_serve l) × WantsEvents l after text

@@ -1,6 +1,6 @@
 //! One line of a script.
 ghost use Rattle.std.specs.Prelude.{◌≡◌, ◌++◌, ◌≢◌, ◌⊎◌, ℕ, List, false, Err, None, Some, IfErr, IfOk, OnErr, OnOk};
-ghost use Rattle.chaos_filelab.specs.Events.{FileHappening, Serve, file_event};
+ghost use Rattle.chaos_filelab.specs.Events.{FileHappening, FileHappens, Serve, file_event};
 ghost use Rattle.chaos_filelab.specs.Exact.{IsExact, Wants};
 ghost use Rattle.chaos_filelab.specs.View.{wrote_mem};
 ghost use Rattle.chaosd_io.specs.declared.fault.RunFault.TheVariants as run;
@@ -120,7 +120,7 @@ fn play(
         × PlaysFileEvent event lab.old lab.new out.old out.new refused × (wrote_mem lab.new ≡ false)) }
     ensures bad { (n : ℕ) → result ≡ Err (RunFault.BadScript n) → (n ≡ number) × (file_line_of line.now ≡ None) × (out.new ≡ out.old) }
     ensures no_memory { result ≡ Err RunFault.NoMemory → (event : FileHappening) × (file_line_of line.now ≡ Some event)
-        × (wrote_mem lab.old ≡ false → (text : List ℕ) × WantsEvent event text × (out.new ≡ out.old ++ text)) }
+        × (wrote_mem lab.old ≡ false → (text : List ℕ) × WantsEvent lab.old event lab.new text × (out.new ≡ out.old ++ text)) }
     ensures faults { IfErr result (λ fault. IsLineFault fault) }
 {
     let Some(command) = file_line_of(line, body) else {
@@ -147,7 +147,7 @@ pub fn play_event(
     event: &FileEvent<'_>,
 ) -> Result<bool, RunFault>
     ensures played { IfOk result (λ refused. PlaysFileEvent (file_event event.now) lab.old lab.new out.old out.new refused × (wrote_mem lab.new ≡ false)) }
-    ensures no_memory { result ≡ Err RunFault.NoMemory → wrote_mem lab.old ≡ false → (text : List ℕ) × WantsEvent (file_event event.now) text × (out.new ≡ out.old ++ text) }
+    ensures no_memory { result ≡ Err RunFault.NoMemory → wrote_mem lab.old ≡ false → (text : List ℕ) × WantsEvent lab.old (file_event event.now) lab.new text × (out.new ≡ out.old ++ text) }
     ensures faults { IfErr result (λ fault. (fault ≡ run.NoMemory) ⊎ (fault ≡ run.WriteFault)) }
 {
     let before = lab.copies().len();
@@ -162,6 +162,7 @@ pub fn play_event(
 
 /// Lets an event happen.
 fn act(alloc: Global, lab: &mut FileLab, event: &FileEvent<'_>) -> Result<FileStepped, LabFault>
+    ensures happens { FileHappens lab.old (file_event event.now) lab.new result }
     ensures refused { OnErr result (lab.new ≡ lab.old) }
     ensures exact { IsExact lab.old (file_event event.now) lab.new result ⊎ Wants lab.old (file_event event.now) lab.new result }
     // a reply for want of memory is written by a serve alone

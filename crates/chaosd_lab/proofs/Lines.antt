@@ -30,10 +30,10 @@ settle_plays line before after old new refused is (lab, count, text) = record {
 }
 
 -- it met want of memory
-pub settle_wants : (line : List ℕ) (l : LabView) (text : List ℕ) → bytes_eq line settle_word ≡ true → WantsSettling l text → (line_done line ≢ None) × lab_script.wants l line text
-settle_wants line l text is wants = (
+pub settle_wants : (line : List ℕ) (l after : LabView) (text : List ℕ) → bytes_eq line settle_word ≡ true → WantsSettling l after text → (line_done line ≢ None) × lab_script.wants l line after text
+settle_wants line l after text is wants = (
   λ none. some_done (sym (ap (λ b. cond b (Some settle_done) (option_map event_done (event_of line))) is) ∙ none),
-  subst (λ b. WantsBy b l text) (sym is) wants,
+  subst (λ b. WantsBy b l after text) (sym is) wants,
 )
   where
     some_done : Some settle_done ≡ None → ⊥
@@ -59,9 +59,9 @@ pub bad_line : (line : List ℕ) → bytes_eq line settle_word ≡ false → eve
 bad_line line is none = ap (λ b. cond b (Some settle_done) (option_map event_done (event_of line))) is ∙ ap (option_map event_done) none
 
 -- it met want of memory
-pub event_line_wants : (line : List ℕ) (l : LabView) (held : Option (List ℕ)) (old new : List ℕ) → bytes_eq line settle_word ≡ false → event_of line ≢ None → new ≡ old ++ refusal_text NoMemory
-    → (line_done line ≢ None) × ((text : List ℕ) × lab_script.wants l line text × Appends (written_of held old) (written_of held new) text)
-event_line_wants line l held old new is said text = (
+pub event_line_wants : (line : List ℕ) (l after : LabView) (held : Option (List ℕ)) (old new : List ℕ) → bytes_eq line settle_word ≡ false → event_of line ≢ None → after ≡ l → new ≡ old ++ refusal_text NoMemory
+    → (line_done line ≢ None) × ((text : List ℕ) × lab_script.wants l line after text × Appends (written_of held old) (written_of held new) text)
+event_line_wants line l after held old new is said same text = (
   λ none. said (no_event (event_of line) (sym (ap (λ b. cond b (Some settle_done) (option_map event_done (event_of line))) is) ∙ none)),
-  (refusal_text NoMemory, subst (λ b. WantsBy b l (refusal_text NoMemory)) (sym is) refl, waits_more held old new (refusal_text NoMemory) text),
+  (refusal_text NoMemory, subst (λ b. WantsBy b l after (refusal_text NoMemory)) (sym is) (same, refl), waits_more held old new (refusal_text NoMemory) text),
 )

@@ -136,16 +136,18 @@ done_is [] rest = refl
 done_is (e ∷ done) rest = ap (λ es. e ∷ es) (done_is done rest)
 
 -- there was no memory for the next one
-pub typed_wants : (start now : LabView) (event : Happening) (rest others : List Happening) (old mid ready new : Option (List ℕ)) → Typed start now rest old mid → rest ≡ event ∷ others
-    → Keeps mid ready → Appends ready new (event_line event ++ refusal_text NoMemory) → (text : List ℕ) × WantsEvents start text × Appends old new text
-typed_wants start now event rest others old mid ready new t is keeps text =
-    let all : settling start ≡ t.done ++ event ∷ others = t.all ∙ ap (λ es. t.done ++ es) is in (
+pub typed_wants : (start now after : LabView) (event : Happening) (rest others : List Happening) (old mid ready new : Option (List ℕ)) → Typed start now rest old mid → rest ≡ event ∷ others
+    → Keeps mid ready → after ≡ now → Appends ready new (event_line event ++ refusal_text NoMemory) → (text : List ℕ) × WantsEvents start after text × Appends old new text
+typed_wants start now after event rest others old mid ready new t is keeps same text =
+    let all : settling start ≡ t.done ++ event ∷ others = t.all ∙ ap (λ es. t.done ++ es) is in
+    let before : take (length t.done) (settling start) ≡ t.done = ap (take (length t.done)) all ∙ done_is t.done (event ∷ others) in (
       typed_text start t.done ++ (event_line event ++ refusal_text NoMemory),
       (
         length t.done,
         event,
         ap (λ es. slice_get es (length t.done)) all ∙ next_is t.done others event,
-        ap (λ es. typed_text start es ++ (event_line event ++ refusal_text NoMemory)) (sym (ap (take (length t.done)) all ∙ done_is t.done (event ∷ others)))
+        same ∙ t.at ∙ ap (after_all start) (sym before),
+        ap (λ es. typed_text start es ++ (event_line event ++ refusal_text NoMemory)) (sym before)
             ∙ sym (append_assoc (typed_text start (take (length t.done) (settling start))) (event_line event) (refusal_text NoMemory)),
       ),
       Appends-trans old ready new _ _ (Appends-kept old mid ready _ t.text keeps) text,
@@ -167,8 +169,8 @@ settled_line l m said old new is so (after, text) =
     let can : can_settle l ≡ true = sym (says_can_settle l said is) ∙ so in
     subst (λ b. (m ≡ (settle_by b l).lab) × (false ≡ (settle_by b l).is_refused) × Appends old new (settle_by b l).text) (sym can) (after, refl, text)
 
-pub wants_line : (l : LabView) (said : Bool) (old new : Option (List ℕ)) → IsTrue said ↔ CanSettle l → said ≡ true → (text : List ℕ) × WantsEvents l text × Appends old new text → (text : List ℕ) × WantsSettling l text × Appends old new text
-wants_line l said old new is so (text, wants, more) = (text, (sym (says_can_settle l said is) ∙ so, wants), more)
+pub wants_line : (l after : LabView) (said : Bool) (old new : Option (List ℕ)) → IsTrue said ↔ CanSettle l → said ≡ true → (text : List ℕ) × WantsEvents l after text × Appends old new text → (text : List ℕ) × WantsSettling l after text × Appends old new text
+wants_line l after said old new is so (text, wants, more) = (text, (sym (says_can_settle l said is) ∙ so, wants), more)
 
 -- what was told is the fault
 pub err_told : {X Y : Type 0} (r : Result X RunFault) (e f : RunFault) → IsErrAnd r (λ y. y ≡ e) → r ≡ Err f → ◌≡◌ {A = Result Y RunFault} (Err e) (Err f)

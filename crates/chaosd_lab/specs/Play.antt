@@ -26,9 +26,10 @@ end_text l = stored_line (stored_packets l.a.conn) (stored_packets l.b.conn)
 abbrev pub line_done : List ℕ → Option (LabView → Done LabView)
 line_done line = if bytes_eq line settle_word then Some settle_done else option_map event_done (event_of line)
 
-abbrev pub WantsBy : (is_settle : Bool) → LabView → List ℕ → Type 0
-WantsBy true l text = WantsSettling l text
-WantsBy false l text = text ≡ refusal_text NoMemory
+-- what a line that meets want of memory leaves, and what is printed of it: an event changes nothing
+abbrev pub WantsBy : (is_settle : Bool) → (before after : LabView) → List ℕ → Type 0
+WantsBy true l after text = WantsSettling l after text
+WantsBy false l after text = (after ≡ l) × (text ≡ refusal_text NoMemory)
 
 -- every laboratory is ready, and want of memory is told
 abbrev pub lab_script : Script LabView
@@ -38,7 +39,7 @@ lab_script = record {
   event = line_done;
   ended = end_text;
   ready = λ l. ⊤;
-  wants = λ l line text. WantsBy (bytes_eq line settle_word) l text;
+  wants = λ l line after text. WantsBy (bytes_eq line settle_word) l after text;
 }
 
 -- whether an answer refuses; that there was no memory ends the run

@@ -36,15 +36,16 @@ settle_by false l = record { lab = l; text = unsettled_text; is_refused = true }
 abbrev pub settle_done : LabView → Done LabView
 settle_done l = settle_by (can_settle l) l
 
--- What is printed at want of memory in the midst of settling: the events before the one that met it, that one's line, and the refusal.
-abbrev pub WantsEvents : LabView → List ℕ → Type 0
-WantsEvents l text =
-    (n : ℕ) × (event : Happening) × (slice_get (settling l) n ≡ Some event)
+-- At want of memory in the midst of settling the events before the one that met it happened, and they are printed, that one's line, and
+-- the refusal.
+abbrev pub WantsEvents : (before after : LabView) → List ℕ → Type 0
+WantsEvents l after text =
+    (n : ℕ) × (event : Happening) × (slice_get (settling l) n ≡ Some event) × (after ≡ after_all l (take n (settling l)))
     × (text ≡ typed_text l (take n (settling l)) ++ event_line event ++ refusal_text NoMemory)
 
--- what is printed of the line then
-abbrev pub WantsSettling : LabView → List ℕ → Type 0
-WantsSettling l text = IsTrue (can_settle l) × WantsEvents l text
+-- what the line leaves then, and what is printed of it
+abbrev pub WantsSettling : (before after : LabView) → List ℕ → Type 0
+WantsSettling l after text = IsTrue (can_settle l) × WantsEvents l after text
 
 -- the one word
 abbrev pub settle_word : List ℕ

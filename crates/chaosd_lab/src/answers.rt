@@ -44,6 +44,7 @@ fn put_item(out: &mut WriteBuffer, op: Opcode, bytes: &[u8]) -> Result<(), NotWr
 }
 
 /// A space and bytes as text, where there are some.
+#[inline(always)]
 pub fn put_spaced(out: &mut WriteBuffer, bytes: &[u8]) -> Result<(), NotWritten>
     ensures { OnOk result (out.new ≡ out.old ++ spaced_text bytes.now) }
 {
@@ -65,6 +66,7 @@ fn put_read(out: &mut WriteBuffer, read: &ReadEnd) -> Result<(), NotWritten>
 }
 
 /// What a read gave, of these items the last where it gave one.
+#[inline(always)]
 fn put_read_done(
     out: &mut WriteBuffer,
     done: ReadDone,

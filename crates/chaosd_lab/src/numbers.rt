@@ -31,6 +31,7 @@ fn digit_of(b: u8) -> Option<u8>
 }
 
 /// A decimal number without leading zeros that isn't over `most`.
+#[inline(always)]
 pub fn number_of(most: u64, field: &[u8]) -> Option<u64>
     ensures value { result ≡ number_of most field.now }
     ensures within { IfSome result (λ n. n ≤ most) }

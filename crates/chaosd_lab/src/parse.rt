@@ -11,6 +11,8 @@ use chaos_packet::PktNum;
 use chaosd_io::{Data, read_data};
 
 /// `S OOO TEXT`, or without the text and the space before it.
+// what most lines of a script are read by is inlined where they are played: calls take some instructions more for each line
+#[inline(always)]
 fn write_of(rest: &[u8], body: &mut Data) -> Option<Command>
     ensures { option_map (happening_said body.new.items) result ≡ write_of rest.now }
 {
@@ -71,6 +73,7 @@ fn accept_of(rest: &[u8]) -> Option<Command>
 }
 
 /// `K`, the number of a copy.
+#[inline(always)]
 fn deliver_of(rest: &[u8]) -> Option<Command>
     ensures { (bytes : List ℕ) → option_map (happening_said bytes) result ≡ deliver_of rest.now }
 {
@@ -81,6 +84,7 @@ fn deliver_of(rest: &[u8]) -> Option<Command>
 /// The event that a line asks for, where it is of the form of one, with the bytes of its text in `body`. A line without a text
 /// leaves them as they are.
 #[tactic(auto, unfolding(crate::specs::Event::event_of))]
+#[inline(always)]
 pub fn event_of(line: &[u8], body: &mut Data) -> Option<Command>
     ensures { option_map (happening_said body.new.items) result ≡ event_of line.now }
 {

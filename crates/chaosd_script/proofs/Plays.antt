@@ -198,36 +198,36 @@ some_with : {X : Type 0} (p : Played X) (o : Option (X → Done X)) → o ≢ No
 some_with p None some none = some refl
 some_with p (Some does) some none = cc
 
-want_behind : {X : Type 0} (script : Script X) (ended : List (List ℕ)) (p : Played X) (line text : List ℕ) → play_of script ended ≡ Some p → script.wants p.lab (strip_last 13 line) text → IsWantText script (play_of script ended) line text
-want_behind script ended p line text is w = subst (λ played. IsWantText script played line text) (sym is) w
+want_behind : {X : Type 0} (script : Script X) (ended : List (List ℕ)) (p : Played X) (line : List ℕ) (after : X) (text : List ℕ) → play_of script ended ≡ Some p → script.wants p.lab (strip_last 13 line) after text → IsWantText script (play_of script ended) line text
+want_behind script ended p line after text is w = subst (λ played. IsWantText script played line text) (sym is) (after, w)
 
 -- an event wasn't let happen
-pub event_stops : {X Y : Type 0} (script : Script X) (fault : RunFault) (before old new : Option (List ℕ)) (at : Standing X) (ended : List (List ℕ)) (raw : List ℕ) (l : X) → at.lab ≡ Some l
+pub event_stops : {X Y : Type 0} (script : Script X) (fault : RunFault) (before old new : Option (List ℕ)) (at : Standing X) (ended : List (List ℕ)) (raw : List ℕ) (l after : X) → at.lab ≡ Some l
     → ltb LINE_LIMIT (length (strip_last 13 raw)) ≡ false → IsLineFault fault
     → ((n : ℕ) → ◌≡◌ {A = Result Y RunFault} (Err fault) (Err (run.BadScript n)) → (n ≡ at.lines + 1) × (script.event (strip_last 13 raw) ≡ None) × Keeps old new)
-    → (◌≡◌ {A = Result Y RunFault} (Err fault) (Err run.NoMemory) → (script.event (strip_last 13 raw) ≢ None) × (script.ready l → (text : List ℕ) × script.wants l (strip_last 13 raw) text × Appends old new text))
+    → (◌≡◌ {A = Result Y RunFault} (Err fault) (Err run.NoMemory) → (script.event (strip_last 13 raw) ≢ None) × (script.ready l → (text : List ℕ) × script.wants l (strip_last 13 raw) after text × Appends old new text))
     → PlaysLines script before old at ended → StopsLine script before new ended raw fault
-event_stops script (run.BadScript n) before old new at ended raw l some short is bad want s =
+event_stops script (run.BadScript n) before old new at ended raw l after some short is bad want s =
     let (number, said, same) = bad n refl in (
       number ∙ ap (λ k. k + 1) s.count,
       unplayed_event script at.lab at.refused ended raw l some s.state (says script.event raw None short said),
       Appends-kept before old new _ s.text same,
     )
-event_stops script run.NoMemory before old new at ended raw l some short is bad want s =
+event_stops script run.NoMemory before old new at ended raw l after some short is bad want s =
     let (said, told) = want refl in
     let (p, is_played, same, so_far, ready) = subst (λ x. IsAt script x at.refused ended) some s.state in
     let (text, wants, more) = told ready in
     let good : says_by script.event raw ≢ None = λ nothing. said (sym (says script.event raw _ short refl) ∙ nothing) in (
       λ nothing. some_with p (says_by script.event raw) good (sym (play_of-push script ended p raw is_played) ∙ nothing),
       text,
-      want_behind script ended p raw text is_played (subst (λ x. script.wants x (strip_last 13 raw) text) (sym same) wants),
+      want_behind script ended p raw after text is_played (subst (λ x. script.wants x (strip_last 13 raw) after text) (sym same) wants),
       Appends-trans before old new (text_of (play_of script ended)) text s.text more,
     )
-event_stops script run.WriteFault before old new at ended raw l some short is bad want s = tt
-event_stops script run.ReadFault before old new at ended raw l some short is bad want s = absurd is
-event_stops script run.InputTooLong before old new at ended raw l some short is bad want s = absurd is
-event_stops script run.LinkFault before old new at ended raw l some short is bad want s = absurd is
-event_stops script run.ClockFault before old new at ended raw l some short is bad want s = absurd is
+event_stops script run.WriteFault before old new at ended raw l after some short is bad want s = tt
+event_stops script run.ReadFault before old new at ended raw l after some short is bad want s = absurd is
+event_stops script run.InputTooLong before old new at ended raw l after some short is bad want s = absurd is
+event_stops script run.LinkFault before old new at ended raw l after some short is bad want s = absurd is
+event_stops script run.ClockFault before old new at ended raw l after some short is bad want s = absurd is
 
 some_made : {X Y : Type 0} (f : X → Y) (o : Option X) → o ≢ None → option_map f o ≢ None
 some_made f None some none = some refl

@@ -26,7 +26,7 @@ pub record PlaysLines {X : Type 0} (script : Script X) (before written : Option 
 -- what is printed at want of memory of a line behind what was played: nothing where the laboratory couldn't be made
 abbrev pub IsWantText : {X : Type 0} → Script X → Option (Played X) → List ℕ → List ℕ → Type 0
 IsWantText script None line text = text ≡ []
-IsWantText script (Some p) line text = script.wants p.lab (strip_last 13 line) text
+IsWantText {X = X} script (Some p) line text = (after : X) × script.wants p.lab (strip_last 13 line) after text
 
 -- the faults of a line
 abbrev pub IsLineFault : RunFault → Type 0

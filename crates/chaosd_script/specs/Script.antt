@@ -21,8 +21,8 @@ pub record Script (X : Type 0) : Type 1 where
   pub ended : X → List ℕ
   -- the laboratories in which lines do what `event` says
   pub ready : X → Type 0
-  -- what is printed of a line that meets want of memory in a laboratory
-  pub wants : X → List ℕ → List ℕ → Type 0
+  -- what a line that meets want of memory in a laboratory leaves of it, and what is printed
+  pub wants : (before : X) → List ℕ → (after : X) → List ℕ → Type 0
 
 -- what was played: the laboratory, what was printed, and how many events were refused
 pub record Played (X : Type 0) : Type 0 where

@@ -47,7 +47,7 @@ pub trait Stage: Drop {
             → PlaysLine script line.now self.old self.new (written_of (W.contents writer.old) out.old) (written_of (W.contents writer.new) out.new) refused × script.ready self.new) }
         ensures bad { (n : ℕ) → result ≡ Err (RunFault.BadScript n) → (n ≡ number) × (script.event line.now ≡ None)
             × Keeps (written_of (W.contents writer.old) out.old) (written_of (W.contents writer.new) out.new) }
-        ensures no_memory { result ≡ Err RunFault.NoMemory → (script.event line.now ≢ None) × (script.ready self.old → (text : List ℕ) × script.wants self.old line.now text
+        ensures no_memory { result ≡ Err RunFault.NoMemory → (script.event line.now ≢ None) × (script.ready self.old → (text : List ℕ) × script.wants self.old line.now self.new text
             × Appends (written_of (W.contents writer.old) out.old) (written_of (W.contents writer.new) out.new) text) }
         ensures faults { IfErr result (λ fault. IsLineFault fault) };
 

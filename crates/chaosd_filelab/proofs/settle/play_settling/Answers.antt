@@ -30,5 +30,5 @@ returns-in_err-play_typed-clause-no_memory g c is =
     let event : FileHappening = file_event c.in-Some.event in
     let l : FileLabView = c.loop-event.lab in
     let (told, wants, text) = c.in_err-play_typed.ensures.no_memory (err_told c.from_residual-in_err-play_typed.result c.in_err-play_typed.field-0.0 run.NoMemory c.from_residual-in_err-play_typed.ensures.1 is) c.loop-event.invariant.1 in
-    typed_wants c.args.lab.now l event (left c.loop-event.events l) _ _ _ _ _ c.loop-event.invariant.0 c.in-Some.ensures.some c.in_ok-make_room.ensures.kept told wants
+    typed_wants c.args.lab.now l c.play_typed.new.lab event (left c.loop-event.events l) _ _ _ _ _ c.loop-event.invariant.0 c.in-Some.ensures.some c.in_ok-make_room.ensures.kept told wants
     (waits_more (g.W.Write.contents c.make_room.new.writer) c.make_room.new.out c.play_typed.new.out (file_line event ++ told) text)

@@ -1,10 +1,10 @@
-use Rattle.std.proofs.Common.{rules, ◌≡◌, ◌++◌, length, drop, ◌∙◌, ap, false, inl, refl}
+use Rattle.std.proofs.Common.{rules, ◌≡◌, ◌++◌, length, drop, ◌∙◌, ap, true, false, inl, refl}
 use Rattle.chaos_filelab.specs.Events.{file_event}
 use Rattle.chaos_filelab.specs.View.{wrote_mem}
 use Rattle.chaos_filelab.proofs.Exactly.{exact_unless}
 use Rattle.chaosd_lab.specs.Answers.{copies_text}
 use Rattle.chaosd_io.proofs.Runs.{went_well}
-use Rattle.chaosd_filelab.proofs.Lines.{event_plays, event_wants, not_wanted}
+use Rattle.chaosd_filelab.proofs.Lines.{event_plays, event_wants, not_wanted, serve_wants}
 use Rattle.chaosd_filelab.proofs.stage.play_event.Goals as goal
 
 pub returns-clause-played : goal.returns-clause-played
@@ -24,11 +24,16 @@ pub returns-clause-no_memory : goal.returns-clause-no_memory
 returns-clause-no_memory c wants ready =
     let mid = c.put_answer.new.out in
     let n = length c.args.lab.now.lab.copies in
-    let more = event_wants c.args.lab.now c.act-answer.new.lab c.args.out.now mid c.put_copies.new.out c.act-answer.result _
+    let (same, more) = event_wants c.args.lab.now c.act-answer.new.lab c.args.out.now mid c.put_copies.new.out c.act-answer.result _
     (not_wanted c.act-answer.result _ c.act-answer.ensures.refused)
     (went_well _ _ _ c.written.ensures c.in_ok-written.was c.put_answer.ensures)
     (went_well _ _ _ c.written-2.ensures c.in_ok-written-2.was c.put_copies.ensures
     ∙ ap (λ k. mid ++ copies_text (length k) (drop (length k) c.copies.result.now)) c.copies-before.ensures
     ∙ ap (λ k. mid ++ copies_text n (drop n k)) c.copies.ensures)
     c.is_refused.ensures wants in
-    (_, inl refl, more)
+    (_, inl (same, refl), more)
+
+pub returns-then-wrote_mem-clause-no_memory : goal.returns-then-wrote_mem-clause-no_memory
+returns-then-wrote_mem-clause-no_memory c wants ready =
+    let mem : wrote_mem c.act-answer.new.lab ≡ true = search rules in
+    serve_wants (file_event c.args.event.now) c.args.lab.now c.act-answer.new.lab c.args.out.now c.act-answer.result c.act-answer.ensures.happens c.act-answer.ensures.mem mem ready

@@ -28,6 +28,6 @@ pub returns-in_err-play_typed-clause-no_memory : goal.returns-in_err-play_typed-
 returns-in_err-play_typed-clause-no_memory g c is =
     let event : Happening = happening_of c.in-Some.event in
     let l : LabView = c.loop-event.lab in
-    let text = c.in_err-play_typed.ensures.no_memory (err_told c.from_residual-in_err-play_typed.result c.in_err-play_typed.field-0.0 run.NoMemory c.from_residual-in_err-play_typed.ensures.1 is) in
-    typed_wants c.args.lab.now l event (left c.loop-event.events l) _ _ _ _ _ c.loop-event.invariant c.in-Some.ensures.some c.in_ok-make_room.ensures.kept
+    let (same, text) = c.in_err-play_typed.ensures.no_memory (err_told c.from_residual-in_err-play_typed.result c.in_err-play_typed.field-0.0 run.NoMemory c.from_residual-in_err-play_typed.ensures.1 is) in
+    typed_wants c.args.lab.now l c.play_typed.new.lab event (left c.loop-event.events l) _ _ _ _ _ c.loop-event.invariant c.in-Some.ensures.some c.in_ok-make_room.ensures.kept same
     (waits_more (g.W.Write.contents c.make_room.new.writer) c.make_room.new.out c.play_typed.new.out (event_line event ++ refusal_text NoMemory) text)

@@ -1,5 +1,6 @@
-use Rattle.std.proofs.Common.{rules, ◌≡◌, ap, ◌∙◌, subst, true, false}
+use Rattle.std.proofs.Common.{rules, ◌≡◌, ℕ, List, ap, ◌∙◌, subst, true, false}
 use Rattle.std.specs.Str.{bytes_eq}
+use Rattle.std.specs.Io.KnownBytes.{Appends}
 use Rattle.std.proofs.lemmas.Result.{IfOk-weaker}
 use Rattle.chaos_filelab.specs.View.{FileLabView, wrote_mem}
 use Rattle.chaosd_io.specs.Buffer.{written_of}
@@ -28,7 +29,7 @@ returns-then-eq-clause-no_memory g c wants =
     let view : c.self.inside.lab ≡ c.args.self.now = search rules in
     let is : bytes_eq c.args.line.now settle_word ≡ true = search rules in
     let (text, of_settling, more) = c.settle.ensures.no_memory wants in
-    let (some, told) = settle_wants c.args.line.now c.args.self.now text is (subst (λ (l : FileLabView). WantsSettling l text) view of_settling) in
+    let (some, told) = settle_wants c.args.line.now c.args.self.now c.settle.new.lab text is (subst (λ (l : FileLabView). WantsSettling l c.settle.new.lab text) view of_settling) in
     (some, λ ready. (text, told, more))
 
 pub returns-clause-played : goal.returns-clause-played
@@ -53,5 +54,6 @@ returns-clause-no_memory g c is =
     let view : c.self.inside.lab ≡ c.args.self.now = search rules in
     let other : bytes_eq c.args.line.now settle_word ≡ false = search rules in
     let (event, said, more) = c.play.ensures.no_memory is in
-    let (some, told) = line_wants c.args.line.now c.args.self.now (g.W.Write.contents c.args.writer.now) c.args.out.now c.play.new.out event other said in
-    (some, λ ready. told (more (ap wrote_mem view ∙ ready)))
+    let (some, told) = line_wants c.args.line.now c.self.inside.lab c.play.new.lab (g.W.Write.contents c.args.writer.now) c.args.out.now c.play.new.out event other said in
+    let new = written_of (g.W.Write.contents c.args.writer.now) c.play.new.out in
+    (some, λ ready. subst (λ (l : FileLabView). (text : List ℕ) × filelab_script.wants l c.args.line.now c.play.new.lab text × Appends (written_of (g.W.Write.contents c.args.writer.now) c.args.out.now) new text) view (told (more (ap wrote_mem view ∙ ready))))

@@ -1,4 +1,4 @@
-use Rattle.std.proofs.Common.{rules, ◌≡◌, true, false, subst}
+use Rattle.std.proofs.Common.{rules, ◌≡◌, ◌∙◌, true, false, subst}
 use Rattle.std.specs.Str.{bytes_eq}
 use Rattle.std.proofs.lemmas.Result.{IfOk-weaker}
 use Rattle.chaos_lab.specs.Laboratory.{LabView}
@@ -24,7 +24,7 @@ returns-then-is_settle-clause-no_memory g c wants =
     let view : c.self.inside.lab ≡ c.args.self.now = search rules in
     let is : bytes_eq c.args.line.now settle_word ≡ true = search rules in
     let (text, of_settling, more) = c.settle.ensures.no_memory wants in
-    let (some, told) = settle_wants c.args.line.now c.args.self.now text is (subst (λ (l : LabView). WantsSettling l text) view of_settling) in
+    let (some, told) = settle_wants c.args.line.now c.args.self.now c.settle.new.lab text is (subst (λ (l : LabView). WantsSettling l c.settle.new.lab text) view of_settling) in
     (some, λ ready. (text, told, more))
 
 pub returns-clause-played : goal.returns-clause-played
@@ -48,7 +48,8 @@ returns-clause-bad g c n is =
 
 pub returns-clause-no_memory : goal.returns-clause-no_memory
 returns-clause-no_memory g c is =
+    let view : c.self.inside.lab ≡ c.args.self.now = search rules in
     let other : bytes_eq c.args.line.now settle_word ≡ false = search rules in
     let (said, lab, text) = c.play.ensures.no_memory is in
-    let (some, told) = event_line_wants c.args.line.now c.args.self.now (g.W.Write.contents c.args.writer.now) c.args.out.now c.play.new.out other said text in
+    let (some, told) = event_line_wants c.args.line.now c.args.self.now c.play.new.lab (g.W.Write.contents c.args.writer.now) c.args.out.now c.play.new.out other said (lab ∙ view) text in
     (some, λ ready. told)

@@ -21,10 +21,10 @@ returns-in_err-refused-clause-stops g c =
     on_fault c.from_residual.result c.in_err-refused.field-0.0 _ c.from_residual.ensures.1 (λ before ended s.
     let raw = c.args.raw.now in
     let line : c.without_return-line.result.now ≡ strip_last 13 raw = c.without_return-line.ensures in
-    event_stops g.S.Stage.script c.in_err-refused.field-0.0 before _ _ _ ended raw c.in-Some.lab c.in-Some.is (subst (λ l. ltb LINE_LIMIT (length l) ≡ false) line (grind (arith, nat_tests)))
+    event_stops g.S.Stage.script c.in_err-refused.field-0.0 before _ _ _ ended raw c.in-Some.lab c.play.new.self c.in-Some.is (subst (λ l. ltb LINE_LIMIT (length l) ≡ false) line (grind (arith, nat_tests)))
     c.in_err-refused.ensures.faults
     (λ n e. let (number, said, same) = c.in_err-refused.ensures.bad n e in (number, ap g.S.Stage.script.event (sym line) ∙ said, same))
-    (λ e. let (said, more) = c.in_err-refused.ensures.no_memory e in (λ none. said (ap g.S.Stage.script.event line ∙ none), λ ready. let (text, wants, wrote) = more ready in (text, subst (λ l. g.S.Stage.script.wants c.in-Some.lab l text) line wants, wrote))) s)
+    (λ e. let (said, more) = c.in_err-refused.ensures.no_memory e in (λ none. said (ap g.S.Stage.script.event line ∙ none), λ ready. let (text, wants, wrote) = more ready in (text, subst (λ l. g.S.Stage.script.wants c.in-Some.lab l c.play.new.self text) line wants, wrote))) s)
 
 pub returns-clause-plays : goal.returns-clause-plays
 returns-clause-plays g c before ended s =
