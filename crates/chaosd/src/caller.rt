@@ -5,12 +5,11 @@ ghost use Rattle.chaos_file.specs.declared.limits.TheConstants.{MAX_FILE, MAX_NA
 use crate::progress::{Viewer, Watched};
 use chaos_link::UdpLink;
 use chaosd_call::Call;
-use chaosd_client::NoReply;
+use chaosd_client::{Dial, NoReply};
 use chaosd_copy::{CopyEnd, get_file, log_in, put_file};
 use chaosd_io::RunFault;
 use chaosd_line::Copying;
 use std::alloc::Global;
-use std::time::Clock;
 
 /// The number from which on a file's commands are named. Each file begins with it: a reply that is still on its way finds a
 /// connection that is gone, since one is made anew after each file whose replies were not all heard.
@@ -18,7 +17,7 @@ const FIRST: u32 = 1;
 
 /// A user who copies files over a connection, which is made anew after a file that was refused: then replies may still be on their way.
 #[derive(Drop)]
-pub(crate) struct Caller<'a, C: Clock> {
+pub(crate) struct Caller<'a, C: Dial> {
     call: Call<'a, C, UdpLink>,
     login: &'a str,
     /// Whether the user has logged in, and every reply was heard.
@@ -26,7 +25,7 @@ pub(crate) struct Caller<'a, C: Clock> {
     ghost login_fits: { length login.now ≤ MAX_NAME },
 }
 
-impl<'a, C: Clock> Caller<'a, C> {
+impl<'a, C: Dial> Caller<'a, C> {
     /// Nothing is sent yet.
     pub(crate) fn new(
         clock: &'a C,

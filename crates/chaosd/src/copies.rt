@@ -11,6 +11,7 @@ use crate::network::{has_input, link_to_server};
 use crate::progress::Viewer;
 use crate::told::tell_unopened;
 use chaos_file::MAX_PATH;
+use chaosd_client::Dial;
 use chaosd_copy::{Charset, CopyEnd, read_whole, write_whole};
 use chaosd_io::RunFault;
 use chaosd_line::{Copying, Get, Put, last_name};
@@ -18,7 +19,6 @@ use std::fs::File;
 use std::io::Write;
 use std::net::Net;
 use std::rt::Files;
-use std::time::Clock;
 use std::{fs, io};
 
 /// The name of standard input and output.
@@ -91,7 +91,7 @@ fn end_get<R: AllocGlobal + Eprint + Files<File = File> + Print>(
 /// Gets one file.
 fn get_one<R>(rt: &R, caller: &mut Caller<'_, R>, path: &str, local: &str, way: Way) -> Copied
 where
-    R: AllocGlobal + Clock + Eprint + Files<File = File> + Print,
+    R: AllocGlobal + Dial + Eprint + Files<File = File> + Print,
 {
     let name = path.as_bytes();
     if name.len() > MAX_PATH {
@@ -108,7 +108,7 @@ where
 /// Runs `get`.
 pub(crate) fn run_get_line<R>(rt: &R, line: Get<'_>, is_terminal: bool) -> u8
 where
-    R: AllocGlobal + Clock + Eprint + Files<File = File> + Net + Print,
+    R: AllocGlobal + Dial + Eprint + Files<File = File> + Net + Print,
 {
     let Get {
         copying,
@@ -165,7 +165,7 @@ fn as_sent(bytes: &mut [u8], is_text: bool) -> Result<(), u8>
 /// Puts one file, which is read whole before anything of it is sent.
 fn put_one<R>(rt: &R, caller: &mut Caller<'_, R>, local: &str, path: &[u8], way: Way) -> Copied
 where
-    R: AllocGlobal + Clock + Eprint + Files<File = File> + Input,
+    R: AllocGlobal + Dial + Eprint + Files<File = File> + Input,
 {
     if path.len() > MAX_PATH {
         return tell_too_long(rt, local);
@@ -202,7 +202,7 @@ fn lacks_input<R: Input>(rt: &R, locals: &[&str]) -> bool {
 /// Runs `put`.
 pub(crate) fn run_put_line<R>(rt: &R, line: Put<'_>, is_terminal: bool) -> u8
 where
-    R: AllocGlobal + Clock + Eprint + Files<File = File> + Input + Net,
+    R: AllocGlobal + Dial + Eprint + Files<File = File> + Input + Net,
 {
     let Put {
         copying,

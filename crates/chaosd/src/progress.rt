@@ -125,6 +125,8 @@ impl<'a, R: Eprint, T: Talk> Watched<'a, R, T> {
 impl<R: Eprint, T: Talk> Talk for Watched<'_, R, T> {
     ghost talked = { λ watched. T.talked watched.inner.now };
 
+    ghost course = { λ watched. T.course watched.inner.now };
+
     ghost failed_by = { λ watched. T.failed_by watched.inner.now };
 
     fn say(&mut self, command: &[u8]) -> bool {

@@ -13,6 +13,8 @@ use Rattle.chaos_host.specs.Connect.{ConnectAnswer, host_connect}
 use Rattle.chaos_host.specs.View.{HostView, new_host}
 use Rattle.chaos_turn.specs.declared.limits.TheConstants.{TURN_ROOM}
 use Rattle.chaosd_client.specs.Calls.{after_passing, call_by, data_read, is_wrote}
+use Rattle.chaosd_client.specs.declared.clock.Beginning.{Beginning}
+use Rattle.chaosd_client.specs.Clock.{number_of}
 use Rattle.chaosd_client.specs.Turn.{TakesTurn}
 
 -- A host that calls, its connection, and what waits to be sent.
@@ -47,9 +49,9 @@ Says command now taken c d = Acts 2 false (is_wrote (write_of command now c).ans
 abbrev pub Hears : Option (List ℕ) → Caller → Caller → Type 0
 Hears got c d = Acts 1 None (data_read (read_of c).answer) got (read_of c) c d
 
--- A client's turn was taken at some moment, over the link and by this carriage.
-abbrev pub TurnsBy : Carriage → Option QueueView → Option QueueView → Caller → Caller → Type 0
-TurnsBy carriage before after c d = (d.id ≡ c.id) × ((now : ℕ) × TakesTurn carriage now c.host d.host before after c.out d.out)
+-- A client's turn was taken at this moment, over the link and by this carriage.
+abbrev pub TurnsAt : Carriage → ℕ → Option QueueView → Option QueueView → Caller → Caller → Type 0
+TurnsAt carriage now before after c d = (d.id ≡ c.id) × TakesTurn carriage now c.host d.host before after c.out d.out
 
 -- ---- a call's beginning and end
 
@@ -64,13 +66,18 @@ close_of id host = host_end host id (Close [])
 abbrev pub closed : ℕ → HostView → OutboxView → Caller
 closed id host out = if nat_lt 0 (room_of out) then caller (close_of id host).view None (with_put out (close_of id host).packets) else caller host None out
 
--- The connection was closed and a turn was taken, where there was one, and else nothing was done.
-abbrev pub HangsUpBy : Option ℕ → Carriage → Option QueueView → Option QueueView → Caller → Caller → Type 0
-HangsUpBy None carriage before after c d = d ≡ c
-HangsUpBy (Some id) carriage before after c d = TurnsBy carriage before after (closed id c.host c.out) d
+-- The connection was closed and a turn was taken at this moment, where there was one, and else nothing was done.
+abbrev pub HangsUpBy : Option ℕ → Carriage → ℕ → Option QueueView → Option QueueView → Caller → Caller → Type 0
+HangsUpBy None carriage now before after c d = d ≡ c
+HangsUpBy (Some id) carriage now before after c d = TurnsAt carriage now before after (closed id c.host c.out) d
 
-abbrev pub HangsUp : Carriage → Option QueueView → Option QueueView → Caller → Caller → Type 0
-HangsUp carriage before after c d = HangsUpBy c.id carriage before after c d
+abbrev pub HangsUp : Carriage → ℕ → Option QueueView → Option QueueView → Caller → Caller → Type 0
+HangsUp carriage now before after c d = HangsUpBy c.id carriage now before after c d
+
+-- that moment is such a one, where there was a connection
+abbrev pub WhereAny : Option ℕ → Type 0 → Type 0
+WhereAny None P = Unit {0}
+WhereAny (Some id) P = P
 
 abbrev pub connect_of : ℕ → ℕ → ℕ → HostView → HostActed ConnectAnswer
 connect_of to start now host = host_connect host to (codes "FILE") start now
@@ -81,6 +88,7 @@ asked to start now host out = if nat_lt 0 (room_of out)
     then caller (connect_of to start now host).view (result_ok (connect_of to start now host).answer) (with_put out (connect_of to start now host).packets)
     else caller host None out
 
--- The caller hung up, and then asked for a connection that begins with some number.
-abbrev pub Connects : ℕ → Carriage → Option QueueView → Option QueueView → Caller → Caller → Type 0
-Connects to carriage before after c d = (b : Caller) × (start : ℕ) × (now : ℕ) × HangsUp carriage before after c b × (d ≡ asked to start now b.host b.out)
+-- The caller hung up at a moment such as these, and then asked at this one for a connection that begins with the number of this moment.
+abbrev pub Connects : (ℕ → Type 0) → Beginning → ℕ → Carriage → ℕ → Option QueueView → Option QueueView → Caller → Caller → Type 0
+Connects At beginning to carriage now before after c d = (b : Caller) × (hung : ℕ) × WhereAny c.id (At hung) × HangsUp carriage hung before after c b
+    × (d ≡ asked to (number_of beginning now) now b.host b.out)

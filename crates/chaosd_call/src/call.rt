@@ -1,11 +1,12 @@
 //! A call to a FILE server over a link.
-ghost use Rattle.std.specs.Prelude.{◌≡◌, ◌<◌, ◌⊎◌, ◌%◌, ℕ, None, Err, option_map, IfErr, IfOk, OnOk};
+ghost use Rattle.std.specs.Prelude.{◌≡◌, ◌<◌, ◌≤◌, ◌⊎◌, None, Err, option_map, IfErr, IfOk, OnOk};
 ghost use Rattle.chaos_packet.specs.Count.{Rose};
 ghost use Rattle.chaos_turn.specs.declared.limits.TheConstants.{TURN_ROOM};
 ghost use Rattle.chaosd_copy.specs.Talk.{after_hear, after_say};
 ghost use Rattle.chaosd_client.specs.Calls.{is_over};
+ghost use Rattle.chaosd_client.specs.Clock.{BeginsBy, IsMoment, low_bits_of};
 ghost use Rattle.chaosd_client.specs.Fault.{IsTurnFault};
-ghost use Rattle.chaosd_call.specs.Call.{Connects, HangsUp, Hears, Says, TurnsBy, asked, caller, closed, new_caller};
+ghost use Rattle.chaosd_call.specs.Call.{Connects, HangsUp, Hears, Says, TurnsAt, WhereAny, asked, caller, closed, new_caller};
 
 use chaos_conn::ConnConfig;
 use chaos_file::Reply;
@@ -14,16 +15,17 @@ use chaos_link::{Carriage, LINK_ROOM, Link};
 use chaos_packet::{Opcode, Outbox, PktNum};
 use chaos_serve::CONTACT;
 use chaos_turn::{TURN_ROOM, TurnEnd, client_turn};
-use chaosd_client::{Beginning, NoReply, Patience, is_over, pass_indices, take_reply, write_item};
+use chaosd_client::{
+    Beginning, Dial, NoReply, Patience, is_over, pass_indices, take_reply, write_item,
+};
 use chaosd_copy::Talk;
 use chaosd_io::RunFault;
 use std::alloc::Global;
-use std::time::Clock;
 
 /// A connection to a FILE server, over a link and by a clock. It tells nothing of what was said and heard, since a network can't be known:
 /// what it does at a link is what `Host` and `client_turn` say.
 #[derive(Drop)]
-pub struct Call<'a, C: Clock, L: Link> {
+pub struct Call<'a, C: Dial, L: Link> {
     clock: &'a C,
     link: &'a mut L,
     beginning: Beginning,
@@ -42,7 +44,7 @@ pub struct Call<'a, C: Clock, L: Link> {
     ghost room: { out.cap ≡ TURN_ROOM },
 }
 
-impl<'a, C: Clock, L: Link> Call<'a, C, L> {
+impl<'a, C: Dial, L: Link> Call<'a, C, L> {
     /// The host `me`, which will ask the host `to` for connections, one at a time, and has none yet. Both windows have `window` packets,
     /// from 1 to 64; any other number stands for the usual 13. So as many commands are in flight as the lesser of this and the server's
     /// window allows. What it sends goes out by the carriage; datagrams of both versions are read.
@@ -63,7 +65,8 @@ impl<'a, C: Clock, L: Link> Call<'a, C, L> {
     ) -> Result<Self, RunFault>
         requires { 0 < me }
         ensures faults { IfErr result (λ fault. (fault ≡ RunFault.ClockFault) ⊎ (fault ≡ RunFault.NoMemory)) }
-        ensures made { (millis : ℕ) × IfOk result (λ call. caller call.host call.id call.out ≡ new_caller me to window (millis % 256)) }
+        ensures begins { IfOk result (λ call. (call.clock.now ≡ clock.now) × BeginsBy (C.shows clock.now) (C.dates clock.now) call.beginning) }
+        ensures made { IfOk result (λ call. caller call.host call.id call.out ≡ new_caller me to window (low_bits_of call.beginning)) }
         ensures server { IfOk result (λ call. (call.to ≡ to) × (call.carriage ≡ carriage)) }
     {
         let beginning = Beginning::new(clock)?;
@@ -95,8 +98,13 @@ impl<'a, C: Clock, L: Link> Call<'a, C, L> {
     /// `ClockFault`, and what `hang_up` gives.
     pub fn connect(&mut self) -> Result<(), RunFault>
         ensures faults { IfErr result (λ fault. (fault ≡ RunFault.ClockFault) ⊎ (fault ≡ RunFault.LinkFault)) }
-        ensures well { OnOk result (Connects self.old.to self.old.carriage (L.queue self.old.link.now) (L.queue self.new.link.now)
+        ensures well { OnOk result (Connects (IsMoment (C.shows self.old.clock.now) self.old.beginning) self.old.beginning self.old.to self.old.carriage self.new.now
+            (L.queue self.old.link.now) (L.queue self.new.link.now)
             (caller self.old.host self.old.id self.old.out) (caller self.new.host self.new.id self.new.out)) }
+        ensures moment { OnOk result (IsMoment (C.shows self.old.clock.now) self.old.beginning self.new.now) }
+        ensures unfailed { OnOk result (L.count self.new.link.now ≤ L.count self.old.link.now) }
+        ensures same_server { (self.new.to ≡ self.old.to) × (self.new.carriage ≡ self.old.carriage) }
+        ensures same_clock { (self.new.clock ≡ self.old.clock) × (self.new.beginning ≡ self.old.beginning) }
     {
         self.hang_up()?;
         self.now = self.beginning.moment(self.clock)?;
@@ -114,9 +122,12 @@ impl<'a, C: Clock, L: Link> Call<'a, C, L> {
     /// `LinkFault` and `ClockFault`.
     pub fn hang_up(&mut self) -> Result<(), RunFault>
         ensures faults { IfErr result (λ fault. (fault ≡ RunFault.ClockFault) ⊎ (fault ≡ RunFault.LinkFault)) }
-        ensures well { OnOk result (HangsUp self.old.carriage (L.queue self.old.link.now) (L.queue self.new.link.now)
+        ensures well { OnOk result (HangsUp self.old.carriage self.new.now (L.queue self.old.link.now) (L.queue self.new.link.now)
             (caller self.old.host self.old.id self.old.out) (caller self.new.host self.new.id self.new.out)) }
         ensures same_server { (self.new.to ≡ self.old.to) × (self.new.carriage ≡ self.old.carriage) }
+        ensures same_clock { (self.new.clock ≡ self.old.clock) × (self.new.beginning ≡ self.old.beginning) }
+        ensures moment { OnOk result (WhereAny self.old.id (IsMoment (C.shows self.old.clock.now) self.old.beginning self.new.now)) }
+        ensures unfailed { OnOk result (L.count self.new.link.now ≤ L.count self.old.link.now) }
         ensures gone { OnOk result (self.new.id ≡ None) }
     {
         let Some(id) = self.id else {
@@ -138,9 +149,12 @@ impl<'a, C: Clock, L: Link> Call<'a, C, L> {
     fn take_turn(&mut self, may_wait: bool) -> Result<(), RunFault>
         ensures faults { IfErr result (λ fault. (fault ≡ RunFault.ClockFault) ⊎ (fault ≡ RunFault.LinkFault)) }
         ensures failed { result ≡ Err RunFault.LinkFault → Rose (L.count self.old.link.now) (L.count self.new.link.now) }
-        ensures well { OnOk result (TurnsBy self.old.carriage (L.queue self.old.link.now) (L.queue self.new.link.now)
+        ensures well { OnOk result (TurnsAt self.old.carriage self.new.now (L.queue self.old.link.now) (L.queue self.new.link.now)
             (caller self.old.host self.old.id self.old.out) (caller self.new.host self.new.id self.new.out)) }
+        ensures moment { OnOk result (IsMoment (C.shows self.old.clock.now) self.old.beginning self.new.now) }
+        ensures unfailed { OnOk result (L.count self.new.link.now ≤ L.count self.old.link.now) }
         ensures same_server { (self.new.to ≡ self.old.to) × (self.new.carriage ≡ self.old.carriage) }
+        ensures same_clock { (self.new.clock ≡ self.old.clock) × (self.new.beginning ≡ self.old.beginning) }
     {
         self.now = self.beginning.moment(self.clock)?;
         let mut told = None;
@@ -181,8 +195,11 @@ fn close(host: &mut Host, id: ConnId, out: &mut Outbox)
     }
 }
 
-impl<C: Clock, L: Link> Talk for Call<'_, C, L> {
+impl<C: Dial, L: Link> Talk for Call<'_, C, L> {
     ghost talked = { λ _. None };
+
+    /// It counts no turns.
+    ghost course = { λ call. record { turns = None; moment = call.now; is_over = is_over call.host call.id } };
 
     /// A fault of the clock, or of the link, where it counts a failure.
     ghost failed_by = { λ call. IsTurnFault (L.count call.link.now) };
@@ -191,6 +208,8 @@ impl<C: Clock, L: Link> Talk for Call<'_, C, L> {
         ensures talk { after_say result command.now None ≡ None }
         ensures said { Says command.now self.old.now result
             (caller self.old.host self.old.id self.old.out) (caller self.new.host self.new.id self.new.out) }
+        ensures same_server { (self.new.to ≡ self.old.to) × (self.new.carriage ≡ self.old.carriage) }
+        ensures same_clock { (self.new.now ≡ self.old.now) × (self.new.clock ≡ self.old.clock) × (self.new.beginning ≡ self.old.beginning) }
     {
         if self.out.room() < 2 {
             return false;
@@ -209,6 +228,8 @@ impl<C: Clock, L: Link> Talk for Call<'_, C, L> {
         ensures talk { after_hear (option_map (λ v. v.items) result) None ≡ None }
         ensures heard { Hears (option_map (λ v. v.items) result)
             (caller self.old.host self.old.id self.old.out) (caller self.new.host self.new.id self.new.out) }
+        ensures same_server { (self.new.to ≡ self.old.to) × (self.new.carriage ≡ self.old.carriage) }
+        ensures same_clock { (self.new.now ≡ self.old.now) × (self.new.clock ≡ self.old.clock) × (self.new.beginning ≡ self.old.beginning) }
     {
         if self.out.room() == 0 {
             return None;
@@ -224,8 +245,12 @@ impl<C: Clock, L: Link> Talk for Call<'_, C, L> {
     fn turn(&mut self) -> Result<(), RunFault>
         ensures faults { IfErr result (IsTurnFault (L.count self.new.link.now)) }
         ensures failed { result ≡ Err RunFault.LinkFault → Rose (L.count self.old.link.now) (L.count self.new.link.now) }
-        ensures well { OnOk result (TurnsBy self.old.carriage (L.queue self.old.link.now) (L.queue self.new.link.now)
+        ensures well { OnOk result (TurnsAt self.old.carriage self.new.now (L.queue self.old.link.now) (L.queue self.new.link.now)
             (caller self.old.host self.old.id self.old.out) (caller self.new.host self.new.id self.new.out)) }
+        ensures moment { OnOk result (IsMoment (C.shows self.old.clock.now) self.old.beginning self.new.now) }
+        ensures unfailed { OnOk result (L.count self.new.link.now ≤ L.count self.old.link.now) }
+        ensures same_server { (self.new.to ≡ self.old.to) × (self.new.carriage ≡ self.old.carriage) }
+        ensures same_clock { (self.new.clock ≡ self.old.clock) × (self.new.beginning ≡ self.old.beginning) }
     {
         self.take_turn(true)
     }

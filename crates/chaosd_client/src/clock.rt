@@ -1,39 +1,51 @@
 //! Moments and numbers from a clock.
-ghost use Rattle.std.specs.Prelude.{◌≡◌, ◌+◌, ◌%◌, IfErr};
+ghost use Rattle.std.specs.Prelude.{◌≡◌, IfErr, IfOk};
+ghost use Rattle.chaosd_client.specs.Clock.{BeginsBy, IsMoment, low_bits_of, millis_of, number_of};
+ghost use Rattle.std.specs.Duration.{as_nanos};
 
+use crate::dial::Dial;
 use chaos_packet::PktNum;
 use chaosd_io::RunFault;
-use std::io;
-use std::time::{Clock, Instant, SystemTime, UNIX_EPOCH};
+use std::time::Duration;
 
-/// A clock's milliseconds when a run began, and when that was.
+/// What a clock showed when a run began.
 #[derive(Drop)]
 pub struct Beginning {
+    /// The milliseconds since 1970.
     millis: u64,
-    start: Instant,
+    /// The time since the clock's own start.
+    start: Duration,
 }
 
 impl Beginning {
     /// Now.
-    pub fn new<C: Clock>(clock: &C) -> Result<Self, RunFault>
-        ensures { IfErr result (λ fault. fault ≡ RunFault.ClockFault) }
+    pub fn new<C: Dial>(clock: &C) -> Result<Self, RunFault>
+        ensures begins { IfOk result (BeginsBy (C.shows clock.now) (C.dates clock.now)) }
+        ensures faults { IfErr result (λ fault. fault ≡ RunFault.ClockFault) }
     {
-        read(clock).map_err(|_| RunFault::ClockFault)
+        match (clock.since_start(), clock.date()) {
+            (Ok(start), Ok(date)) => Ok(Beginning {
+                millis: millis_of(date),
+                start,
+            }),
+            _ => Err(RunFault::ClockFault),
+        }
     }
 
     /// The milliseconds since then.
-    pub fn moment<C: Clock>(&self, clock: &C) -> Result<u64, RunFault>
-        ensures { IfErr result (λ fault. fault ≡ RunFault.ClockFault) }
+    pub fn moment<C: Dial>(&self, clock: &C) -> Result<u64, RunFault>
+        ensures moment { IfOk result (IsMoment (C.shows clock.now) self.now) }
+        ensures faults { IfErr result (λ fault. fault ≡ RunFault.ClockFault) }
     {
-        match self.start.elapsed(clock) {
-            Ok(spent) => Ok(u64::try_from(spent.as_millis()).unwrap_or(u64::MAX)),
+        match clock.since_start() {
+            Ok(time) => Ok(millis_of(time.saturating_sub(self.start))),
             Err(_) => Err(RunFault::ClockFault),
         }
     }
 
     /// The number that a connection of this moment begins with: the low 16 bits of the clock's milliseconds.
     pub fn number(&self, moment: u64) -> PktNum
-        ensures { result ≡ (self.now.millis + moment) % 65536 }
+        ensures { result ≡ number_of self.now moment }
     {
         let low = self.millis % 65_536 + moment % 65_536;
         PktNum((low % 65_536) as u16)
@@ -41,20 +53,15 @@ impl Beginning {
 
     /// The low 8 bits of the clock's milliseconds.
     pub fn low_bits(&self) -> u8
-        ensures { result ≡ self.now.millis % 256 }
+        ensures { result ≡ low_bits_of self.now }
     {
         (self.millis % 256) as u8
     }
 }
 
-fn read<C: Clock>(clock: &C) -> io::Result<Beginning> {
-    let start = Instant::now(clock)?;
-    let since = match SystemTime::now(clock)?.duration_since(UNIX_EPOCH) {
-        Ok(since) => since.as_millis(),
-        Err(_) => 0,
-    };
-    Ok(Beginning {
-        millis: u64::try_from(since).unwrap_or(u64::MAX),
-        start,
-    })
+/// A time in whole milliseconds.
+fn millis_of(time: Duration) -> u64
+    ensures { result ≡ millis_of (as_nanos time) }
+{
+    u64::try_from(time.as_millis()).unwrap_or(u64::MAX)
 }

@@ -62,7 +62,7 @@ put_writing a b c first path bytes reply h (k, l, rs, g) =
           (since_same b c _ _ rs rs (writes_named first bytes k) refl g),
     ))
 
-put_written : (a b c : Option Talked) (first : ℕ) (path bytes : List ℕ)
+pub put_written : (a b c : Option Talked) (first : ℕ) (path bytes : List ℕ)
     → Since a b (spelling_of (decimal first) file_handle (OpenWrite path) ∷ []) (reply_of (decimal first) file_handle (Opened 0) ∷ [])
     → Since b c (upto (write_said (first + 1) bytes) (chunk_count (length bytes))) (upto (write_heard (first + 1) bytes) (chunk_count (length bytes)))
     → Since a c (put_front (tids_from first) file_handle path bytes (chunk_count (length bytes))) (put_front_replies (tids_from first) file_handle bytes (chunk_count (length bytes)))

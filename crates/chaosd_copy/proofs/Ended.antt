@@ -1,5 +1,5 @@
 -- How a copy ended that wasn't done.
-use Rattle.std.proofs.Common.{◌≡◌, ℕ, ◌+◌, ◌-◌, ◌*◌, ◌<◌, ◌≤◌, Bool, false, List, [], ◌∷◌, ◌++◌, length, take, drop, Option, Some, None, refl, ap, ◌∙◌, sym, subst, arith, inl, inr}
+use Rattle.std.proofs.Common.{◌≡◌, ℕ, ◌+◌, ◌-◌, ◌*◌, ◌<◌, ◌≤◌, Bool, true, false, List, [], ◌∷◌, ◌++◌, length, take, drop, Option, Some, None, refl, ap, ◌∙◌, sym, subst, arith, inl, inr}
 use Rattle.std.specs.Prelude.{min, codes, not, is_some, option_map, Decides, Result, Ok, Err, IfOk}
 use Rattle.std.specs.Fmt.{decimal}
 use Rattle.std.proofs.lemmas.List.{append_assoc, append-nil, take-append-drop}
@@ -7,15 +7,17 @@ use Rattle.std.proofs.lemmas.Slice.Eq.{bytes_eq-Decides}
 use Rattle.std.proofs.Math.Seq.{take-append_seam}
 use Rattle.std.specs.Str.{bytes_eq}
 use Rattle.chaos_file.specs.declared.limits.TheConstants.{MAX_CHUNK, MAX_FILE}
+use Rattle.chaos_file.specs.Command.{OpenWrite, Close}
+use Rattle.chaos_file.specs.Spelling.{spelling_of}
 use Rattle.chaos_file.specs.Answer.{AtEnd, Opened, Wrote, Closed, read_answer, reply_front}
 use Rattle.chaosd_copy.specs.declared.end.CopyEnd.{CopyEnd}
 use Rattle.chaosd_copy.specs.declared.end.CopyEnd.TheVariants as e
-use Rattle.chaosd_copy.specs.Copy.{upto, chunk, chunk_count, reply_of, put_reply, put_front_replies, get_front_replies}
-use Rattle.chaosd_copy.specs.Talk.{Talked, Since, Heard}
+use Rattle.chaosd_copy.specs.Copy.{upto, chunk, chunk_count, reply_of, put_reply, put_front, put_front_replies, get_front_replies}
+use Rattle.chaosd_copy.specs.Talk.{Talked, Since, Heard, said_if}
 use Rattle.chaosd_copy.specs.Row.{file_handle, heard_in}
-use Rattle.chaosd_copy.specs.Ends.{UnlessCopied, IsErrorTo, EndedBy, EndedAt, WritesEnded, PutEnded, IsOpened, IsGiven, IsPiece, ReadsEnded, GetEnded, tids_from, write_heard, read_heard}
+use Rattle.chaosd_copy.specs.Ends.{UnlessCopied, IsErrorTo, EndedBy, EndedAt, WritesEnded, PutEnded, IsOpened, IsGiven, IsPiece, ReadsEnded, GetEnded, tids_from, unanswered, write_said, write_heard, read_heard}
 use Rattle.chaosd_copy.proofs.Talks.{since_then, none_some}
-use Rattle.chaosd_copy.proofs.Begun.{open_named}
+use Rattle.chaosd_copy.proofs.Begun.{open_named, put_written}
 use Rattle.chaosd_copy.proofs.Joined.{upto_same, next_tid}
 use Rattle.chaosd_copy.proofs.Growing.{given}
 
@@ -71,10 +73,10 @@ heard_then a b c cs rs qs h (ds, k) = (cs ++ ds, since_then a b c cs rs ds qs h 
 writes_ended_named : (first i : ℕ) (bytes : List ℕ) → write_heard (first + 1) bytes i ≡ put_reply (tids_from first) file_handle bytes i
 writes_ended_named first i bytes = ap (λ t. reply_of (decimal t) file_handle (Wrote (min (MAX_CHUNK * (1 + i)) (length bytes)))) (next_tid first i)
 
-pub put_ended_opening : (a b : Option Talked) (first : ℕ) (bytes : List ℕ) (last : Option (List ℕ)) (end : CopyEnd) → Heard a b (heard_in last)
+pub put_ended_opening : (a b : Option Talked) (first : ℕ) (path bytes : List ℕ) (last : Option (List ℕ)) (end : CopyEnd) → Heard a b (heard_in last)
     → EndedBy (decimal first) file_handle (λ r. r ≡ reply_of (decimal first) file_handle (Opened 0)) last end
-    → PutEnded a b (tids_from first) file_handle bytes end
-put_ended_opening a b first bytes last end h k =
+    → PutEnded a b (tids_from first) file_handle path bytes end
+put_ended_opening a b first path bytes last end h k =
     inl (subst (λ n. EndedAt a b [] (decimal n) file_handle (λ r. r ≡ reply_of (decimal n) file_handle (Opened 0)) end) (open_named first) (last, h, k))
 
 -- OPEN was answered well
@@ -89,10 +91,10 @@ front_heard a b c first bytes cs qs i h k =
     heard_then a b c cs (reply_of (tids_from first 0) file_handle (Opened 0) ∷ []) _ (opened_put a b first cs h)
     (subst (λ rs. Heard b c (rs ++ qs)) (upto_same (write_heard (first + 1) bytes) (put_reply (tids_from first) file_handle bytes) i (λ j m. writes_ended_named first j bytes)) k)
 
-pub put_ended_writing : (a b c : Option Talked) (first : ℕ) (bytes : List ℕ) (cs : List (List ℕ)) (end : CopyEnd) → Since a b cs (reply_of (decimal first) file_handle (Opened 0) ∷ [])
+pub put_ended_writing : (a b c : Option Talked) (first : ℕ) (path bytes : List ℕ) (cs : List (List ℕ)) (end : CopyEnd) → Since a b cs (reply_of (decimal first) file_handle (Opened 0) ∷ [])
     → WritesEnded b c (first + 1) bytes end
-    → PutEnded a c (tids_from first) file_handle bytes end
-put_ended_writing a b c first bytes cs end h (i, below, (last, heard, ended)) =
+    → PutEnded a c (tids_from first) file_handle path bytes end
+put_ended_writing a b c first path bytes cs end h (i, below, (last, heard, ended)) =
     inr (inl (
       i,
       below,
@@ -109,14 +111,14 @@ pub front_closing : (a b c d : Option Talked) (first : ℕ) (bytes : List ℕ) (
     → Heard a d (put_front_replies (tids_from first) file_handle bytes (chunk_count (length bytes)) ++ qs)
 front_closing a b c d first bytes cs ds qs h k l = front_heard a b d first bytes cs qs (chunk_count (length bytes)) h (heard_then b c d ds _ qs k l)
 
-pub put_ended_closing : (a b c d : Option Talked) (first tid : ℕ) (bytes : List ℕ) (cs ds : List (List ℕ)) (last : Option (List ℕ)) (end : CopyEnd) → (last ≡ None → ⊥)
+pub put_ended_closing : (a b c d : Option Talked) (first tid : ℕ) (path bytes : List ℕ) (cs ds : List (List ℕ)) (last : Option (List ℕ)) (end : CopyEnd) → (last ≡ None → ⊥)
     → tid ≡ chunk_count (length bytes)
     → Since a b cs (reply_of (decimal first) file_handle (Opened 0) ∷ [])
     → Since b c ds (upto (write_heard (first + 1) bytes) (chunk_count (length bytes))) → Heard c d (heard_in last)
     → EndedBy (decimal (first + 1 + tid)) file_handle (λ r. r ≡ reply_of (decimal (first + 1 + tid)) file_handle (Closed (length bytes))) last end
-    → PutEnded a d (tids_from first) file_handle bytes end
-put_ended_closing a b c d first tid bytes cs ds None end some same h k l ended = absurd (some refl)
-put_ended_closing a b c d first tid bytes cs ds (Some reply) end some same h k l ended =
+    → PutEnded a d (tids_from first) file_handle path bytes end
+put_ended_closing a b c d first tid path bytes cs ds None end some same h k l ended = absurd (some refl)
+put_ended_closing a b c d first tid path bytes cs ds (Some reply) end some same h k l ended =
     inr (inr (inl (
       reply,
       front_closing a b c d first bytes cs ds (reply ∷ []) h k l,
@@ -124,13 +126,29 @@ put_ended_closing a b c d first tid bytes cs ds (Some reply) end some same h k l
           (ap (λ n. first + 1 + n) same ∙ next_tid first (chunk_count (length bytes))) ended,
     )))
 
-pub put_ended_unknown : (a b c d : Option Talked) (first : ℕ) (bytes : List ℕ) (cs ds : List (List ℕ)) (last : Option (List ℕ)) → last ≡ None
-    → Since a b cs (reply_of (decimal first) file_handle (Opened 0) ∷ [])
-    → Since b c ds (upto (write_heard (first + 1) bytes) (chunk_count (length bytes))) → Heard c d (heard_in last)
-    → PutEnded a d (tids_from first) file_handle bytes e.Unknown
-put_ended_unknown a b c d first bytes cs ds (Some reply) none h k l = cc
-put_ended_unknown a b c d first bytes cs ds None none h k l =
-    inr (inr (inr (refl, subst (λ rs. Heard a d rs) (append-nil (put_front_replies (tids_from first) file_handle bytes (chunk_count (length bytes)))) (front_closing a b c d first bytes cs ds [] h k l))))
+-- CLOSE got no reply
+pub put_ended_unanswered : (a b c d : Option Talked) (first tid : ℕ) (path bytes : List ℕ) (is_said : Bool) → tid ≡ chunk_count (length bytes)
+    → Since a b (spelling_of (decimal first) file_handle (OpenWrite path) ∷ []) (reply_of (decimal first) file_handle (Opened 0) ∷ [])
+    → Since b c (upto (write_said (first + 1) bytes) (chunk_count (length bytes))) (upto (write_heard (first + 1) bytes) (chunk_count (length bytes)))
+    → Since c d (said_if is_said (spelling_of (decimal (first + 1 + tid)) file_handle Close)) []
+    → PutEnded a d (tids_from first) file_handle path bytes (unanswered is_said)
+put_ended_unanswered a b c d first tid path bytes true same h g k =
+    let n = chunk_count (length bytes) in
+    inr (inr (inr (inl (
+      refl,
+      subst (λ rs. Since a d (put_front (tids_from first) file_handle path bytes n ++ spelling_of (tids_from first (1 + n)) file_handle Close ∷ []) rs)
+          (append-nil (put_front_replies (tids_from first) file_handle bytes n))
+          (since_then a c d _ _ _ [] (put_written a b c first path bytes h g)
+          (subst (λ t. Since c d (spelling_of (decimal t) file_handle Close ∷ []) []) (ap (λ m. first + 1 + m) same ∙ next_tid first n) k)),
+    ))))
+put_ended_unanswered a b c d first tid path bytes false same h g k =
+    let n = chunk_count (length bytes) in
+    inr (inr (inr (inr (
+      refl,
+      subst (λ rs. Since a d (put_front (tids_from first) file_handle path bytes n) rs) (append-nil (put_front_replies (tids_from first) file_handle bytes n))
+          (subst (λ cs. Since a d cs (put_front_replies (tids_from first) file_handle bytes n ++ [])) (append-nil (put_front (tids_from first) file_handle path bytes n))
+          (since_then a c d _ _ [] [] (put_written a b c first path bytes h g) k)),
+    ))))
 
 pub writes_not_done : (a b : Option Talked) (cs : List (List ℕ)) (first i : ℕ) (bytes wanted : List ℕ) (last : Option (List ℕ)) (end : CopyEnd) → i < chunk_count (length bytes)
     → wanted ≡ write_heard first bytes i → Since a b cs (upto (write_heard first bytes) i ++ heard_in last)
@@ -138,22 +156,22 @@ pub writes_not_done : (a b : Option Talked) (cs : List (List ℕ)) (first i : �
 writes_not_done a b cs first i bytes wanted last end below same h =
     unless_then end _ _ (λ k. (i, below, (last, (cs, h), subst (λ w. EndedBy (decimal (first + i)) file_handle (λ r. r ≡ w) last end) same k)))
 
-pub put_not_opened : (a b : Option Talked) (first : ℕ) (bytes wanted : List ℕ) (last : Option (List ℕ)) (end : CopyEnd) → wanted ≡ reply_of (decimal first) file_handle (Opened 0)
-    → Heard a b (heard_in last) → UnlessCopied end (EndedBy (decimal first) file_handle (λ r. r ≡ wanted) last) → UnlessCopied end (PutEnded a b (tids_from first) file_handle bytes)
-put_not_opened a b first bytes wanted last end same h =
-    unless_then end _ _ (λ k. put_ended_opening a b first bytes last end h (subst (λ w. EndedBy (decimal first) file_handle (λ r. r ≡ w) last end) same k))
+pub put_not_opened : (a b : Option Talked) (first : ℕ) (path bytes wanted : List ℕ) (last : Option (List ℕ)) (end : CopyEnd) → wanted ≡ reply_of (decimal first) file_handle (Opened 0)
+    → Heard a b (heard_in last) → UnlessCopied end (EndedBy (decimal first) file_handle (λ r. r ≡ wanted) last) → UnlessCopied end (PutEnded a b (tids_from first) file_handle path bytes)
+put_not_opened a b first path bytes wanted last end same h =
+    unless_then end _ _ (λ k. put_ended_opening a b first path bytes last end h (subst (λ w. EndedBy (decimal first) file_handle (λ r. r ≡ w) last end) same k))
 
-pub put_not_written : (a b c : Option Talked) (first : ℕ) (bytes : List ℕ) (cs : List (List ℕ)) (end : CopyEnd) → Since a b cs (reply_of (decimal first) file_handle (Opened 0) ∷ [])
-    → UnlessCopied end (WritesEnded b c (first + 1) bytes) → UnlessCopied end (PutEnded a c (tids_from first) file_handle bytes)
-put_not_written a b c first bytes cs end h = unless_then end _ _ (put_ended_writing a b c first bytes cs end h)
+pub put_not_written : (a b c : Option Talked) (first : ℕ) (path bytes : List ℕ) (cs : List (List ℕ)) (end : CopyEnd) → Since a b cs (reply_of (decimal first) file_handle (Opened 0) ∷ [])
+    → UnlessCopied end (WritesEnded b c (first + 1) bytes) → UnlessCopied end (PutEnded a c (tids_from first) file_handle path bytes)
+put_not_written a b c first path bytes cs end h = unless_then end _ _ (put_ended_writing a b c first path bytes cs end h)
 
-pub put_not_closed : (a b c d : Option Talked) (first tid : ℕ) (bytes wanted : List ℕ) (cs ds : List (List ℕ)) (last : Option (List ℕ)) (end : CopyEnd) → (last ≡ None → ⊥)
+pub put_not_closed : (a b c d : Option Talked) (first tid : ℕ) (path bytes wanted : List ℕ) (cs ds : List (List ℕ)) (last : Option (List ℕ)) (end : CopyEnd) → (last ≡ None → ⊥)
     → tid ≡ chunk_count (length bytes) → wanted ≡ reply_of (decimal (first + 1 + tid)) file_handle (Closed (length bytes))
     → Since a b cs (reply_of (decimal first) file_handle (Opened 0) ∷ [])
     → Since b c ds (upto (write_heard (first + 1) bytes) (chunk_count (length bytes))) → Heard c d (heard_in last)
-    → UnlessCopied end (EndedBy (decimal (first + 1 + tid)) file_handle (λ r. r ≡ wanted) last) → UnlessCopied end (PutEnded a d (tids_from first) file_handle bytes)
-put_not_closed a b c d first tid bytes wanted cs ds last end some count same h k l =
-    unless_then end _ _ (λ m. put_ended_closing a b c d first tid bytes cs ds last end some count h k l
+    → UnlessCopied end (EndedBy (decimal (first + 1 + tid)) file_handle (λ r. r ≡ wanted) last) → UnlessCopied end (PutEnded a d (tids_from first) file_handle path bytes)
+put_not_closed a b c d first tid path bytes wanted cs ds last end some count same h k l =
+    unless_then end _ _ (λ m. put_ended_closing a b c d first tid path bytes cs ds last end some count h k l
     (subst (λ w. EndedBy (decimal (first + 1 + tid)) file_handle (λ r. r ≡ w) last end) same m))
 
 pub unheard : {R : Type 0} (items : R → List ℕ) (r : Option R) → r ≡ None → option_map items r ≡ None

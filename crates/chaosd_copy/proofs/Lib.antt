@@ -14,3 +14,4 @@ pub mod Memory
 pub mod Begun
 pub mod LocalFiles
 pub mod Ended
+pub mod Quiet

@@ -47,14 +47,14 @@ hears_more a b c cs rs r h e =
 one_upto : (f : ℕ → List ℕ) (said : ℕ) → 0 < said → said ≤ 1 → upto f said ≡ f 0 ∷ []
 one_upto f said l m = let e : said ≡ 1 = omega arith in ap (upto f) e
 
-pub asked_one : {R F : Type 0} (items : R → List ℕ) (a b : Option Talked) (f : ℕ → List ℕ) (said : ℕ) (command : List ℕ) (result : Result (Option R) F) → f 0 ≡ command
-    → IfOk result (λ r. IfSome r (λ _. 0 < said)) → said ≤ 1
+pub asked_one : {R F : Type 0} (items : R → List ℕ) (a b : Option Talked) (f : ℕ → List ℕ) (said heard : ℕ) (command : List ℕ) (result : Result (Option R) F) → f 0 ≡ command
+    → IfOk result (λ r. IfSome r (λ _. (0 < said) × (heard ≡ 0 + 1))) → said ≤ 1
     → IfOk result (λ r. Since a b (upto f said) ([] ++ heard_in (option_map items r)))
     → IfOk result (λ r. IfSome r (λ reply. Since a b (command ∷ []) (items reply ∷ [])))
-asked_one items a b f said command (Err fault) e asked within h = tt
-asked_one items a b f said command (Ok None) e asked within h = tt
-asked_one items a b f said command (Ok (Some reply)) e asked within h =
-    subst (λ cs. Since a b cs (items reply ∷ [])) (one_upto f said asked within ∙ ap (λ c. c ∷ []) e) h
+asked_one items a b f said heard command (Err fault) e asked within h = tt
+asked_one items a b f said heard command (Ok None) e asked within h = tt
+asked_one items a b f said heard command (Ok (Some reply)) e asked within h =
+    subst (λ cs. Since a b cs (items reply ∷ [])) (one_upto f said asked.0 within ∙ ap (λ c. c ∷ []) e) h
 
 -- ---- by the answers of the calls
 

@@ -1,5 +1,5 @@
 -- How a copy ended, and what was said and heard in it.
-use Rattle.std.specs.Prelude.{◌≡◌, ◌≤◌, ◌<◌, ◌⊎◌, ℕ, ◌+◌, ◌-◌, ◌*◌, List, [], ◌∷◌, ◌++◌, codes, length, min, Option, Some, None, Result, Ok, Err}
+use Rattle.std.specs.Prelude.{◌≡◌, ◌≤◌, ◌<◌, ◌⊎◌, ℕ, ◌+◌, ◌-◌, ◌*◌, Bool, true, false, List, [], ◌∷◌, ◌++◌, codes, length, min, Option, Some, None, Result, Ok, Err}
 use Rattle.std.specs.Fmt.{decimal}
 use Rattle.chaos_file.specs.declared.limits.TheConstants.{MAX_CHUNK, MAX_FILE}
 use Rattle.chaos_file.specs.Command.{Login, Read, Write}
@@ -81,6 +81,24 @@ abbrev pub UnlessDone : Result CopyEnd RunFault → (CopyEnd → Type 0) → Typ
 UnlessDone (Ok end) P = UnlessCopied end P
 UnlessDone (Err fault) P = Unit {0}
 
+-- where no reply came
+abbrev pub UnlessAnswered : CopyEnd → Type 0 → Type 0
+UnlessAnswered e.Done P = Unit {0}
+UnlessAnswered (e.Refused reply) P = Unit {0}
+UnlessAnswered (e.Strange reply) P = Unit {0}
+UnlessAnswered e.NoReply P = P
+UnlessAnswered e.Unknown P = P
+
+-- where a copy came to an end without a fault since no reply came
+abbrev pub IfUnanswered : Result CopyEnd RunFault → Type 0 → Type 0
+IfUnanswered (Ok end) P = UnlessAnswered end P
+IfUnanswered (Err fault) P = Unit {0}
+
+-- how a put ends where CLOSE got no reply, and was said or wasn't
+abbrev pub unanswered : Bool → CopyEnd
+unanswered true = e.Unknown
+unanswered false = e.NoReply
+
 -- an error reply to the command of this name
 abbrev pub IsErrorTo : List ℕ → List ℕ → List ℕ → Type 0
 IsErrorTo tid handle reply = (text : List ℕ) × (reply ≡ reply_front tid handle ++ (codes "ERROR " ++ text))
@@ -103,14 +121,16 @@ WritesEnded start now first bytes end = (i : ℕ) × (i < chunk_count (length by
     × EndedAt start now (upto (write_heard first bytes) i) (decimal (first + i)) file_handle (λ r. r ≡ write_heard first bytes i) end
 
 -- A put ended by the reply to OPEN; or OPEN was answered well, and it ended by the reply to a WRITE, and those before it were answered
--- well; or so were all, and it ended by the reply to CLOSE; or that got none, and whether the file was put isn't known.
-abbrev pub PutEnded : Option Talked → Option Talked → Tids → List ℕ → List ℕ → CopyEnd → Type 0
-PutEnded start now tid handle bytes end =
+-- well; or so were all, and it ended by the reply to CLOSE; or CLOSE was said, got none, and whether the file was put isn't known; or it
+-- could not be said.
+abbrev pub PutEnded : Option Talked → Option Talked → Tids → List ℕ → List ℕ → List ℕ → CopyEnd → Type 0
+PutEnded start now tid handle path bytes end =
     EndedAt start now [] (tid 0) handle (λ r. r ≡ reply_of (tid 0) handle (Opened 0)) end
     ⊎ (((i : ℕ) × (i < chunk_count (length bytes)) × EndedAt start now (put_front_replies tid handle bytes i) (tid (1 + i)) handle (λ r. r ≡ put_reply tid handle bytes i) end)
     ⊎ (((reply : List ℕ) × Heard start now (put_front_replies tid handle bytes (chunk_count (length bytes)) ++ reply ∷ [])
     × EndedBy (tid (1 + chunk_count (length bytes))) handle (λ r. r ≡ reply_of (tid (1 + chunk_count (length bytes))) handle (Closed (length bytes))) (Some reply) end)
-    ⊎ ((end ≡ e.Unknown) × Heard start now (put_front_replies tid handle bytes (chunk_count (length bytes))))))
+    ⊎ (((end ≡ e.Unknown) × Since start now (put_commands tid handle path bytes) (put_front_replies tid handle bytes (chunk_count (length bytes))))
+    ⊎ ((end ≡ e.NoReply) × Since start now (put_front tid handle path bytes (chunk_count (length bytes))) (put_front_replies tid handle bytes (chunk_count (length bytes)))))))
 
 -- the reply to the OPEN of a file of some length that FILE allows
 abbrev pub IsOpened : List ℕ → List ℕ → List ℕ → Type 0

@@ -1,5 +1,6 @@
 -- What was said and heard in a talk with a FILE server.
-use Rattle.std.specs.Prelude.{◌≡◌, ◌≤◌, ◌⊎◌, ℕ, Bool, true, false, List, [], ◌∷◌, ◌++◌, Option, Some, None, option_map}
+use Rattle.std.specs.Prelude.{◌≡◌, ◌≤◌, ◌⊎◌, ℕ, ◌+◌, ◌-◌, Bool, true, false, List, [], ◌∷◌, ◌++◌, Option, Some, None, option_map}
+use Rattle.chaosd_copy.specs.declared.limits.TheConstants.{REPLY_TURNS, REPLY_MILLIS, MOST_TURNS}
 use Rattle.chaosd_copy.specs.Copy.{upto}
 
 pub record Talked : Type 0 where
@@ -35,3 +36,36 @@ SaidOrNot start now command = (replies : List (List ℕ)) × (Since start now []
 -- Since then some of the commands f 0, f 1, .. were said, from the first on and at most so many, and no others.
 abbrev pub SaidUpTo : Option Talked → Option Talked → (ℕ → List ℕ) → ℕ → Type 0
 SaidUpTo start now f most = (said : ℕ) × (said ≤ most) × (replies : List (List ℕ)) × Since start now (upto f said) replies
+
+-- a command, where it was said
+abbrev pub said_if : Bool → List ℕ → List (List ℕ)
+said_if true command = command ∷ []
+said_if false command = []
+
+-- ---- how far a talk has come
+
+pub record Course : Type 0 where
+  -- the turns that were made, where they are counted
+  pub turns : Option ℕ
+  -- the moment of the last
+  pub moment : ℕ
+  -- no more replies come than are there
+  pub is_over : Bool
+
+-- So many turns were made between these counts, where they were counted.
+abbrev pub Turned : ℕ → Option ℕ → Option ℕ → Type 0
+Turned n before None = Unit {0}
+Turned n before (Some k) = (n ≤ k) × (before ≡ Some (k - n))
+
+abbrev pub heard_of : Option Talked → Option (List (List ℕ))
+heard_of talk = option_map (λ t. t.heard) talk
+
+-- That many turns, from the one moment to the other, are long enough to wait for a reply: 1,000, and 10 seconds; where the clock stands
+-- still, 4,294,967,295.
+abbrev pub IsLong : ℕ → ℕ → ℕ → Type 0
+IsLong turns since moment = (REPLY_TURNS ≤ turns) × ((since + REPLY_MILLIS ≤ moment) ⊎ (turns ≡ MOST_TURNS))
+
+-- Since then nothing was heard, and the talk is over or has gone on for long enough.
+abbrev pub InVain : Option Talked → Course → Option Talked → Course → Type 0
+InVain start since now course = (heard_of now ≡ heard_of start)
+    × ((course.is_over ≡ true) ⊎ ((turns : ℕ) × Turned turns since.turns course.turns × IsLong turns since.moment course.moment))

@@ -6,15 +6,15 @@ ghost use Rattle.chaos_file.specs.Answer.{Given, Opened};
 ghost use Rattle.chaosd_copy.specs.declared.limits.TheConstants.{MAX_FIRST};
 ghost use Rattle.chaosd_copy.specs.Copy.{upto, chunk_count, reply_of, get_commands, get_replies};
 ghost use Rattle.chaosd_copy.specs.Row.{file_handle};
-ghost use Rattle.chaosd_copy.specs.Talk.{Since, SaidUpTo};
-ghost use Rattle.chaosd_copy.specs.Ends.{IfDone, UnlessDone, EndedBy, IsGiven, ReadsEnded, GetBegun, GetEnded, tids_from, read_said, read_heard};
+ghost use Rattle.chaosd_copy.specs.Talk.{Since, SaidUpTo, InVain};
+ghost use Rattle.chaosd_copy.specs.Ends.{IfDone, IfUnanswered, UnlessDone, EndedBy, IsGiven, ReadsEnded, GetBegun, GetEnded, tids_from, read_said, read_heard};
 
 use crate::end::CopyEnd;
 use crate::errand::Errand;
 use crate::limits::HANDLE;
 use crate::put::chunk_count;
 use crate::talk::Talk;
-use crate::window::{NO_LIMIT, Row, ask_one, next_reply, refusal, settled};
+use crate::window::{Flight, Row, ask_one, next_reply, refusal, settled};
 use crate::words::{counted, spelled};
 use chaos_file::{MAX_CHUNK, MAX_FILE, Reply};
 use chaosd_io::RunFault;
@@ -111,6 +111,7 @@ fn read_all<T: Talk>(
     ensures done { IfDone result ((length bytes.new.items ≡ len) × Since (T.talked talk.old) (T.talked talk.new)
         (upto (read_said first) (1 + chunk_count len)) (upto (read_heard first bytes.new.items) (1 + chunk_count len))) }
     ensures ended { UnlessDone result (ReadsEnded (T.talked talk.old) (T.talked talk.new) first len bytes.new.items) }
+    ensures waited { IfUnanswered result ((t : T) × InVain (T.talked t) (T.course t) (T.talked talk.new) (T.course talk.new)) }
     ensures faults { IfErr result (λ fault. (fault ≡ RunFault.NoMemory) ⊎ T.failed_by talk.new fault) }
 {
     let count = chunk_count(len);
@@ -119,10 +120,9 @@ fn read_all<T: Talk>(
         count: 1 + count,
         errand: Errand::Read,
     };
-    let mut said = 0;
-    let mut flight = NO_LIMIT;
+    let mut flight = Flight::new();
     for i in 0..count {
-        let reply = next_reply(talk, &row, &mut said, &mut flight, i)?;
+        let reply = next_reply(talk, &row, &mut flight)?;
         match take_piece(
             reply,
             first + i as u32,
@@ -133,7 +133,7 @@ fn read_all<T: Talk>(
             end => return Ok(end),
         }
     }
-    let last = next_reply(talk, &row, &mut said, &mut flight, count)?;
+    let last = next_reply(talk, &row, &mut flight)?;
     let tid = first + count as u32;
     let wanted = spelled(tid, HANDLE, b"EOF", b"");
     Ok(settled(last, &wanted, tid, HANDLE))
@@ -160,6 +160,8 @@ pub fn get_file<T: Talk>(
     ensures ended { UnlessDone result (GetEnded (T.talked talk.old) (T.talked talk.new) (tids_from first) file_handle bytes.new.items) }
     // However it ended, what was said begins the commands that get a file of some length.
     ensures begun { GetBegun (T.talked talk.old) (T.talked talk.new) (tids_from first) file_handle path.now }
+    // It got no reply only where one was waited for long enough, or no more come.
+    ensures waited { IfUnanswered result ((t : T) × InVain (T.talked t) (T.course t) (T.talked talk.new) (T.course talk.new)) }
     // It fails for want of memory, or by a turn that did, by the same fault.
     ensures faults { IfErr result (λ fault. (fault ≡ RunFault.NoMemory) ⊎ T.failed_by talk.new fault) }
 {

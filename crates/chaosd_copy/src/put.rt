@@ -4,14 +4,14 @@ ghost use Rattle.chaos_file.specs.declared.limits.TheConstants.{MAX_FILE, MAX_PA
 ghost use Rattle.chaosd_copy.specs.declared.limits.TheConstants.{MAX_FIRST};
 ghost use Rattle.chaosd_copy.specs.Copy.{upto, chunk_count, put_commands, put_replies};
 ghost use Rattle.chaosd_copy.specs.Row.{file_handle};
-ghost use Rattle.chaosd_copy.specs.Talk.{Since, SaidUpTo};
-ghost use Rattle.chaosd_copy.specs.Ends.{IfDone, UnlessDone, PutBegun, PutEnded, WritesEnded, tids_from, write_said, write_heard};
+ghost use Rattle.chaosd_copy.specs.Talk.{Since, SaidUpTo, InVain};
+ghost use Rattle.chaosd_copy.specs.Ends.{IfDone, IfUnanswered, UnlessDone, unanswered, PutBegun, PutEnded, WritesEnded, tids_from, write_said, write_heard};
 
 use crate::end::CopyEnd;
 use crate::errand::Errand;
 use crate::limits::HANDLE;
 use crate::talk::Talk;
-use crate::window::{NO_LIMIT, Row, ask_one, next_reply, settled};
+use crate::window::{Flight, Row, ask_one, ask_telling, next_reply, settled};
 use crate::words::counted;
 use chaos_file::MAX_CHUNK;
 use chaosd_io::RunFault;
@@ -33,6 +33,7 @@ fn write_all<T: Talk>(talk: &mut T, first: u32, bytes: &[u8]) -> Result<CopyEnd,
     ensures done { IfDone result (Since (T.talked talk.old) (T.talked talk.new)
         (upto (write_said first bytes.now) (chunk_count (length bytes.now))) (upto (write_heard first bytes.now) (chunk_count (length bytes.now)))) }
     ensures ended { UnlessDone result (WritesEnded (T.talked talk.old) (T.talked talk.new) first bytes.now) }
+    ensures waited { IfUnanswered result ((t : T) × InVain (T.talked t) (T.course t) (T.talked talk.new) (T.course talk.new)) }
     ensures faults { IfErr result (T.failed_by talk.new) }
 {
     let count = chunk_count(bytes.len());
@@ -41,10 +42,9 @@ fn write_all<T: Talk>(talk: &mut T, first: u32, bytes: &[u8]) -> Result<CopyEnd,
         count,
         errand: Errand::Write(bytes),
     };
-    let mut said = 0;
-    let mut flight = NO_LIMIT;
+    let mut flight = Flight::new();
     for i in 0..count {
-        let reply = next_reply(talk, &row, &mut said, &mut flight, i)?;
+        let reply = next_reply(talk, &row, &mut flight)?;
         let tid = first + i as u32;
         let wanted = counted(
             tid,
@@ -60,9 +60,20 @@ fn write_all<T: Talk>(talk: &mut T, first: u32, bytes: &[u8]) -> Result<CopyEnd,
     Ok(CopyEnd::Done)
 }
 
+/// How a put ends whose CLOSE got no reply, and was said or wasn't.
+fn unanswered(is_said: bool) -> CopyEnd
+    ensures { result ≡ unanswered is_said }
+{
+    if is_said {
+        CopyEnd::Unknown
+    } else {
+        CopyEnd::NoReply
+    }
+}
+
 /// Puts a file. Where the answer is `Done`, the commands that were said are OPEN, the file in WRITEs and CLOSE, and the server
-/// answered that it has the whole file. Where no reply to the CLOSE came it is `Unknown` whether the file was put; CLOSE is said only after each
-/// WRITE was answered by its count.
+/// answered that it has the whole file. Where the CLOSE was said and got no reply it is `Unknown` whether the file was put; CLOSE is said only after
+/// each WRITE was answered by its count.
 ///
 /// # Errors
 /// Those of the talk's turns.
@@ -78,9 +89,11 @@ pub fn put_file<T: Talk>(
     ensures done { IfDone result (Since (T.talked talk.old) (T.talked talk.new)
         (put_commands (tids_from first) file_handle path.now bytes.now) (put_replies (tids_from first) file_handle bytes.now)) }
     // Where it wasn't done, it ended by the first reply that was another than those, or by none.
-    ensures ended { UnlessDone result (PutEnded (T.talked talk.old) (T.talked talk.new) (tids_from first) file_handle bytes.now) }
+    ensures ended { UnlessDone result (PutEnded (T.talked talk.old) (T.talked talk.new) (tids_from first) file_handle path.now bytes.now) }
     // However it ended, what was said begins those commands, and CLOSE was said only where all before it was answered as it should be.
     ensures begun { PutBegun (T.talked talk.old) (T.talked talk.new) (tids_from first) file_handle path.now bytes.now }
+    // It got no reply only where one was waited for long enough, or no more come.
+    ensures waited { IfUnanswered result ((t : T) × InVain (T.talked t) (T.course t) (T.talked talk.new) (T.course talk.new)) }
     // It fails only by a turn that did, by the same fault.
     ensures faults { IfErr result (T.failed_by talk.new) }
 {
@@ -95,9 +108,10 @@ pub fn put_file<T: Talk>(
         end => return Ok(end),
     }
     let last = first + 1 + chunk_count(bytes.len()) as u32;
-    let closed = ask_one(talk, Errand::Close, last)?;
+    let mut is_said = false;
+    let closed = ask_telling(talk, Errand::Close, last, &mut is_said)?;
     if closed.is_none() {
-        return Ok(CopyEnd::Unknown);
+        return Ok(unanswered(is_said));
     }
     let all = counted(last, HANDLE, b"CLOSE ", bytes.len());
     Ok(settled(closed, &all, last, HANDLE))

@@ -1,6 +1,6 @@
 //! A talk with a FILE server.
 ghost use Rattle.std.specs.Prelude.{◌≡◌, ◌≤◌, Option, option_map, length, IfErr, IfSome};
-ghost use Rattle.chaosd_copy.specs.Talk.{Talked, after_say, after_hear};
+ghost use Rattle.chaosd_copy.specs.Talk.{Talked, Course, Turned, after_say, after_hear};
 ghost use Rattle.chaos_file.specs.declared.limits.TheConstants.{MAX_REPLY};
 ghost use Rattle.chaosd_io.specs.declared.fault.RunFault.{RunFault};
 
@@ -12,17 +12,23 @@ pub trait Talk {
     /// The commands that were said and the replies that were heard so far, each in order, where the talk can tell them.
     ghost talked: { Self → Option Talked };
 
+    /// How far it has come: the turns that were made, where the talk counts them, the moment of the last, and whether no more replies
+    /// come than are there.
+    ghost course: { Self → Course };
+
     /// The faults that may have ended the last turn.
     ghost failed_by: { Self → RunFault → Type 0 };
 
     /// Says a command where there is room for it on its way, and says whether it did.
     fn say(&mut self, command: &[u8]) -> bool
         requires { length command.now ≤ MAX_REPLY }
-        ensures { talked self.new ≡ after_say result command.now (talked self.old) };
+        ensures said { talked self.new ≡ after_say result command.now (talked self.old) }
+        ensures still { (course self.new).turns ≡ (course self.old).turns };
 
     /// The next reply, where it is there.
     fn hear(&mut self) -> Option<Reply>
-        ensures { talked self.new ≡ after_hear (option_map (λ v. v.items) result) (talked self.old) };
+        ensures heard { talked self.new ≡ after_hear (option_map (λ v. v.items) result) (talked self.old) }
+        ensures still { (course self.new).turns ≡ (course self.old).turns };
 
     /// Goes on: what was said is sent, and one that comes is taken, for which it may wait a moment.
     ///
@@ -30,11 +36,14 @@ pub trait Talk {
     /// `LinkFault` and `ClockFault`.
     fn turn(&mut self) -> Result<(), RunFault>
         ensures silent { talked self.new ≡ talked self.old }
+        ensures counted { Turned 1 (course self.old).turns (course self.new).turns }
         ensures faults { IfErr result (failed_by self.new) };
 
     /// The moment of the last turn, in milliseconds since some beginning.
-    fn moment(&self) -> u64;
+    fn moment(&self) -> u64
+        ensures { result ≡ (course self.now).moment };
 
     /// Whether no more replies come than are there.
-    fn is_over(&self) -> bool;
+    fn is_over(&self) -> bool
+        ensures { result ≡ (course self.now).is_over };
 }

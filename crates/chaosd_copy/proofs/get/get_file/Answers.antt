@@ -12,6 +12,7 @@ use Rattle.chaosd_copy.proofs.Joined.{copied_then, when_copied, get_joined}
 use Rattle.chaosd_copy.proofs.Talks.{wanted_heard}
 use Rattle.chaosd_copy.proofs.Begun.{get_reading, get_closing}
 use Rattle.chaosd_copy.proofs.Ended.{unless, no_length, one_length, get_not_opened, get_not_read, get_not_closed}
+use Rattle.chaosd_copy.proofs.Quiet.{unanswered_by}
 use Rattle.chaosd_copy.proofs.get.get_file.Goals as goal
 
 pub returns-clause-done : goal.returns-clause-done
@@ -50,6 +51,7 @@ returns-in_default-2 g c =
           (wanted_heard (λ v. v.items) (λ x. Since (g.T.Talk.talked c.args.talk.now) (g.T.Talk.talked c.ask_one.new.talk) (spelling_of (decimal c.args.first) file_handle (OpenRead c.args.path.now) ∷ []) (x ∷ []))
           c.in_ok-opened.opened _ _ c.in-Done.ensures.done c.counted-wanted.ensures c.in_ok-opened.ensures.heard)
           c.in_ok-end.ensures.ended;
+      waited = c.in_ok-end.ensures.waited;
       faults = tt;
       begun = get_reading _ _ _ c.args.first c.in-Some.len c.args.path.now _ fits
           (wanted_heard (λ v. v.items) (λ x. Since (g.T.Talk.talked c.args.talk.now) (g.T.Talk.talked c.ask_one.new.talk) (spelling_of (decimal c.args.first) file_handle (OpenRead c.args.path.now) ∷ []) (x ∷ []))
@@ -95,3 +97,15 @@ returns-clause-ended g c =
     (wanted_heard (λ v. v.items) (λ x. Since (g.T.Talk.talked c.args.talk.now) (g.T.Talk.talked c.ask_one.new.talk) (spelling_of (decimal c.args.first) file_handle (OpenRead c.args.path.now) ∷ []) (x ∷ []))
     c.in_ok-opened.opened _ _ c.in-Done.ensures.done c.counted-wanted.ensures c.in_ok-opened.ensures.heard)
     (when_copied _ _ c.in-Done-2.is c.in_ok-end.ensures.done).1 c.in_ok-closed.ensures.all c.settled-2.ensures.ended
+
+pub returns-in_default-clause-waited : goal.returns-in_default-clause-waited
+returns-in_default-clause-waited g c =
+    unanswered_by (λ v. v.items) c.in_ok-opened.opened _ _ _ c.refusal.result _ _ (unless c.refusal.result _ c.refusal.ensures) c.in_ok-opened.ensures.waited (λ w. (c.args.talk.now, w))
+
+pub returns-in_default-settled-clause-waited : goal.returns-in_default-settled-clause-waited
+returns-in_default-settled-clause-waited g c =
+    unanswered_by (λ v. v.items) c.in_ok-opened.opened _ _ _ c.settled.result _ _ c.settled.ensures.ended c.in_ok-opened.ensures.waited (λ w. (c.args.talk.now, w))
+
+pub returns-clause-waited : goal.returns-clause-waited
+returns-clause-waited g c =
+    unanswered_by (λ v. v.items) c.in_ok-closed.closed _ _ _ c.settled-2.result _ _ c.settled-2.ensures.ended c.in_ok-closed.ensures.waited (λ w. (c.read_all.new.talk, w))

@@ -9,8 +9,9 @@ use Rattle.chaosd_copy.proofs.get.read_all.Given as goal
 
 abbrev pub invariant-loop-i : goal.invariant-loop-i
 invariant-loop-i g l = record {
-  said : l.said ≤ l.row.count;
-  asked : l.i ≤ l.said;
+  said : l.flight.said ≤ l.row.count;
+  asked : l.i ≤ l.flight.said;
+  place : l.flight.heard ≡ l.i;
   size : length l.bytes.items ≡ min (MAX_CHUNK * l.i) l.len;
-  talk : Since (g.T.Talk.talked l.fn.talk) (g.T.Talk.talked l.talk) (upto (row_command l.row) l.said) (upto (read_heard l.first l.bytes.items) l.i);
+  talk : Since (g.T.Talk.talked l.fn.talk) (g.T.Talk.talked l.talk) (upto (row_command l.row) l.flight.said) (upto (read_heard l.first l.bytes.items) l.i);
 }

@@ -1,4 +1,4 @@
-use Rattle.std.proofs.Common.{◌≤◌}
+use Rattle.std.proofs.Common.{◌≤◌, ◌≡◌}
 use Rattle.chaosd_copy.specs.Copy.{upto}
 use Rattle.chaosd_copy.specs.Talk.{Since}
 use Rattle.chaosd_copy.specs.Row.{row_command}
@@ -7,7 +7,8 @@ use Rattle.chaosd_copy.proofs.put.write_all.Given as goal
 
 abbrev pub invariant-loop-i : goal.invariant-loop-i
 invariant-loop-i g l = record {
-  said : l.said ≤ l.row.count;
-  asked : l.i ≤ l.said;
-  talk : Since (g.T.Talk.talked l.fn.talk) (g.T.Talk.talked l.talk) (upto (row_command l.row) l.said) (upto (write_heard l.first l.bytes) l.i);
+  said : l.flight.said ≤ l.row.count;
+  asked : l.i ≤ l.flight.said;
+  place : l.flight.heard ≡ l.i;
+  talk : Since (g.T.Talk.talked l.fn.talk) (g.T.Talk.talked l.talk) (upto (row_command l.row) l.flight.said) (upto (write_heard l.first l.bytes) l.i);
 }

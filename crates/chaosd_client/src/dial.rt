@@ -1,0 +1,43 @@
+//! What a clock shows.
+ghost use Rattle.std.specs.Prelude.{ℕ, IfOk};
+ghost use Rattle.std.specs.Duration.{as_nanos};
+
+use std::io;
+use std::time::{Clock, Duration};
+
+/// A clock that can be read. Any [`Clock`] is one, of which nothing is claimed, as nobody knows what the time is.
+pub trait Dial {
+    /// The nanoseconds, since a start of its own, that it may show.
+    ghost shows: { Self → ℕ → Type 0 };
+
+    /// The nanoseconds since 1970 that it may show.
+    ghost dates: { Self → ℕ → Type 0 };
+
+    /// The time since a start of its own.
+    ///
+    /// # Errors
+    /// Where the clock can't be read.
+    fn since_start(&self) -> io::Result<Duration>
+        ensures { IfOk result (λ time. shows self.now (as_nanos time)) };
+
+    /// The time since 1970.
+    ///
+    /// # Errors
+    /// Where the clock can't be read.
+    fn date(&self) -> io::Result<Duration>
+        ensures { IfOk result (λ time. dates self.now (as_nanos time)) };
+}
+
+impl<C: Clock> Dial for C {
+    ghost shows = { λ _ _. Unit {0} };
+
+    ghost dates = { λ _ _. Unit {0} };
+
+    fn since_start(&self) -> io::Result<Duration> {
+        self.monotonic()
+    }
+
+    fn date(&self) -> io::Result<Duration> {
+        self.since_1970()
+    }
+}

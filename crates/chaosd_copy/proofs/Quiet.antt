@@ -1,0 +1,78 @@
+-- Turns in which nothing is heard.
+use Rattle.std.proofs.Common.{◌≡◌, ℕ, ◌+◌, ◌-◌, ◌<◌, ◌≤◌, Bool, true, false, List, [], ◌∷◌, ◌++◌, Option, Some, None, refl, ap, ◌∙◌, sym, subst, arith, inl, inr}
+use Rattle.std.specs.Prelude.{option_map, Result, Ok, Err, IfOk, MatchOption}
+use Rattle.chaosd_copy.specs.declared.limits.TheConstants.{REPLY_TURNS, REPLY_MILLIS, MOST_TURNS}
+use Rattle.chaosd_copy.specs.Copy.{upto}
+use Rattle.chaosd_copy.specs.Row.{heard_in}
+use Rattle.chaosd_copy.specs.Talk.{Talked, Since, Turned, IsLong, after_say, after_hear, heard_of, said_if}
+use Rattle.chaosd_copy.specs.declared.end.CopyEnd.{CopyEnd}
+use Rattle.chaosd_copy.specs.declared.end.CopyEnd.TheVariants as e
+use Rattle.chaosd_copy.specs.Ends.{EndedBy, UnlessCopied, UnlessAnswered, unanswered}
+use Rattle.chaosd_copy.proofs.Talks.{none_some}
+
+-- a command that is said is none that is heard
+pub said_is_quiet : (r : Bool) (command : List ℕ) (a : Option Talked) → heard_of (after_say r command a) ≡ heard_of a
+said_is_quiet true command None = refl
+said_is_quiet true command (Some a) = refl
+said_is_quiet false command a = refl
+
+pub quiet_say : (r : Bool) (command : List ℕ) (a b c : Option Talked) → heard_of b ≡ heard_of a → c ≡ after_say r command b → heard_of c ≡ heard_of a
+quiet_say r command a b c h e = ap heard_of e ∙ said_is_quiet r command b ∙ h
+
+pub unheard_is_quiet : {R : Type 0} (items : R → List ℕ) (r : Option R) (a b : Option Talked) → r ≡ None → b ≡ after_hear (option_map items r) a → heard_of b ≡ heard_of a
+unheard_is_quiet items None a b none e = ap heard_of e
+unheard_is_quiet items (Some x) a b none e = cc
+
+pub turned_none : (a : Option ℕ) → Turned 0 a a
+turned_none None = tt
+turned_none (Some k) = let e : k ≡ k - 0 = omega arith in (omega arith, ap Some e)
+
+pub turned_more : (n : ℕ) (a b c : Option ℕ) → Turned n a b → Turned 1 b c → Turned (n + 1) a c
+turned_more n a b None h k = tt
+turned_more n a b (Some k) h (one, same) =
+    let t : Turned n a (Some (k - 1)) = subst (Turned n a) same h in
+    let less : k - 1 - n ≡ k - (n + 1) = omega arith in
+    (omega (arith, t.0, one), t.1 ∙ ap Some less)
+
+-- one command, of which it is known whether it was said
+pub known : {R F : Type 0} (items : R → List ℕ) (a b : Option Talked) (f : ℕ → List ℕ) (k : ℕ) (is_said : Bool) (command : List ℕ) (result : Result (Option R) F) → f 0 ≡ command → k ≤ 1
+    → (is_said ≡ true → 0 < k) → (is_said ≡ false → k ≤ 0)
+    → IfOk result (λ r. Since a b (upto f k) ([] ++ heard_in (option_map items r)))
+    → IfOk result (λ r. MatchOption r (Since a b (said_if is_said command) []) (λ _. Unit {0}))
+known items a b f k s command (Err fault) e l m n h = tt
+known items a b f k s command (Ok (Some r)) e l m n h = tt
+known items a b f k true command (Ok None) e l m n h =
+    let more : 0 < k = m refl in
+    let one : k ≡ 1 = omega (arith, more) in
+    subst (λ cs. Since a b cs []) (ap (upto f) one ∙ ap (λ c. c ∷ []) e) h
+known items a b f k false command (Ok None) e l m n h =
+    let less : k ≤ 0 = n refl in
+    let none : k ≡ 0 = omega (arith, less) in
+    subst (λ cs. Since a b cs []) (ap (upto f) none) h
+
+-- who got no reply waited for one
+pub unanswered_by : {R : Type 0} (items : R → List ℕ) (r : Option R) (tid handle : List ℕ) (W : List ℕ → Type 0) (end : CopyEnd) (P Q : Type 0)
+    → UnlessCopied end (EndedBy tid handle W (option_map items r)) → MatchOption r P (λ _. Unit {0}) → (P → Q) → UnlessAnswered end Q
+unanswered_by items r tid handle W e.Done P Q h w f = tt
+unanswered_by items r tid handle W (e.Refused reply) P Q h w f = tt
+unanswered_by items r tid handle W (e.Strange reply) P Q h w f = tt
+unanswered_by items None tid handle W e.NoReply P Q h w f = f w
+unanswered_by items (Some x) tid handle W e.NoReply P Q h w f = absurd (none_some (items x) (sym h))
+unanswered_by items r tid handle W e.Unknown P Q h w f = absurd h
+
+pub unanswered_waited : {R : Type 0} (r : Option R) (end : CopyEnd) (is_said : Bool) (P Q : Type 0) → end ≡ unanswered is_said → r ≡ None → MatchOption r P (λ _. Unit {0}) → (P → Q) → UnlessAnswered end Q
+unanswered_waited None end true P Q same e w f = subst (λ x. UnlessAnswered x Q) (sym same) (f w)
+unanswered_waited None end false P Q same e w f = subst (λ x. UnlessAnswered x Q) (sym same) (f w)
+unanswered_waited (Some x) end s P Q same e w f = cc
+
+pub where_none : {R : Type 0} (r : Option R) (P : Type 0) → r ≡ None → MatchOption r P (λ _. Unit {0}) → P
+where_none None P e h = h
+where_none (Some x) P e h = cc
+
+-- it was waited for long enough
+pub late : (a b c : Option ℕ) (n since s m : ℕ) → Turned n a b → c ≡ b → since ≡ s → (REPLY_TURNS ≤ n) × (since + REPLY_MILLIS ≤ m)
+    → (turns : ℕ) × Turned turns a c × IsLong turns s m
+late a b c n since s m t e f long = (n, subst (Turned n a) (sym e) t, (long.0, inl (subst (λ x. x + REPLY_MILLIS ≤ m) f long.1)))
+
+pub latest : (a b : Option ℕ) (n s m : ℕ) → Turned n a b → n ≡ MOST_TURNS → (turns : ℕ) × Turned turns a b × IsLong turns s m
+latest a b n s m t e = (n, t, (omega (arith, e), inr e))
