@@ -6,15 +6,16 @@ use Rattle.chaos_link.specs.Link.{QueueView}
 use Rattle.chaos_file.specs.Store.{StoreChange}
 use Rattle.chaos_host.specs.View.{HostView}
 use Rattle.chaos_turn.specs.Arrive.{Arrival, Receives, arrival_from, arrive_at_server}
-use Rattle.chaos_turn.specs.Link.{Sends, datagrams_of, has_packets, sent_by, sent_into, without_first}
+use Rattle.chaos_turn.specs.Link.{Sends, datagrams_of, has_packets, sent_by, sent_into}
 use Rattle.chaos_turn.specs.Phase.{DoesPhase}
 use Rattle.chaos_turn.specs.Serve.{ServerDoes, ServesSlots}
 use Rattle.chaos_turn.specs.Slots.{end_phases}
 use Rattle.chaos_turn.specs.Station.{Server, Station, station, with_host}
-use Rattle.chaos_turn.specs.Turn.{IsTurn, has_work, queue_after}
+use Rattle.chaos_turn.specs.Begin.{Begins}
+use Rattle.chaos_turn.specs.Turn.{GoesOver, IsTurn, has_work, queue_after}
 use Rattle.chaos_turn.specs.End.{TellsWork}
 use Rattle.chaos_turn.specs.declared.end.TurnEnd.{TurnEnd}
-use Rattle.chaos_turn.proofs.Queue.{one_lot, sends_both}
+use Rattle.chaos_turn.proofs.Queue.{sends_both}
 
 has_before : (xs ys : List (List PacketView)) → has_packets (xs ++ ys) ≡ (if has_packets xs then true else has_packets ys)
 has_before [] ys = refl
@@ -58,25 +59,28 @@ module _ {S : Type 0} (changes : S → S → StoreChange) where
         count = ap (λ (s : Server S). length s.sessions) same' ∙ (two.count ∙ ap (λ (s : Server S). length s.sessions) same);
       }
 
--- whether there was work is told of the parts of a turn
-pub work_told : (some waited sent all : Bool) (waiting : List PacketView) (lots : List (List PacketView)) (came : Arrival) (result : TurnEnd)
-    → some ≡ is_some came → waited ≡ has_packets (waiting ∷ []) → sent ≡ has_packets lots → all ≡ (if some then true else (if waited then true else sent))
-    → TellsWork all result → TellsWork (has_work waiting came lots) result
-work_told some waited sent all waiting lots came result one two three e told =
-    let same : all ≡ has_work waiting came lots
-    = e ∙ (ap (λ (t : Bool). if t then true else (if waited then true else sent)) one
-    ∙ ap (λ (t : Bool). if is_some came then true else t)
-    (ap (λ (t : Bool). if t then true else sent) two ∙ ap (λ (t : Bool). if has_packets (waiting ∷ []) then true else t) three ∙ sym (has_before (waiting ∷ []) lots))) in
-    subst (λ (t : Bool). TellsWork t result) same told
+-- ---- over a link
 
--- what waited was sent, a datagram was received, and the lots of the turn were sent
-pub over_link : (carriage : Carriage) (q0 q1 q2 q3 : Option QueueView) (waiting : List PacketView) (lots : List (List PacketView)) (came : Arrival)
-    → Sends q0 (sent_by carriage (waiting ∷ [])) q1 → IfSome q1 (Receives came q2) → Sends q2 (sent_by carriage lots) q3
-    → IfSome q0 (λ queue. (came ≡ arrival_from (sent_into queue (datagrams_of carriage waiting))) × (q3 ≡ Some (queue_after carriage queue waiting lots)))
-over_link carriage None q1 q2 q3 waiting lots came first receives last = tt
-over_link carriage (Some queue) q1 q2 q3 waiting lots came first receives last =
-    let begun : q1 ≡ Some (sent_into queue (datagrams_of carriage waiting)) = first ∙ ap (λ (ds : List (List ℕ)). Some (sent_into queue ds)) (one_lot carriage waiting) in
-    let got : Receives came q2 (sent_into queue (datagrams_of carriage waiting)) = subst (λ (q : Option QueueView). IfSome q (Receives came q2)) begun receives in
-    let sent : Sends (Some (without_first (sent_into queue (datagrams_of carriage waiting)))) (sent_by carriage lots) q3
-    = subst (λ (q : Option QueueView). Sends q (sent_by carriage lots) q3) got.1 last in
-    (got.0, sent)
+-- after a begin the lots of the turn were sent
+queue_so : (carriage : Carriage) (q0 q1 q2 : Option QueueView) (waiting : List PacketView) (lots : List (List PacketView)) (came : Arrival)
+    → IfSome q0 (λ queue. Receives came q1 (sent_into queue (datagrams_of carriage waiting))) → Sends q1 (sent_by carriage lots) q2
+    → IfSome q0 (λ queue. (came ≡ arrival_from (sent_into queue (datagrams_of carriage waiting))) × (q2 ≡ Some (queue_after carriage queue waiting lots)))
+queue_so carriage None q1 q2 waiting lots came receives last = tt
+queue_so carriage (Some queue) q1 q2 waiting lots came receives last =
+    (receives.0, subst (λ (q : Option QueueView). Sends q (sent_by carriage lots) q2) receives.1 last)
+
+-- whether there was work is told of the begin and of what was sent then
+work_so : (worked sent : Bool) (waiting : List PacketView) (lots : List (List PacketView)) (came : Arrival)
+    → worked ≡ (if is_some came then true else has_packets (waiting ∷ [])) → sent ≡ has_packets lots → (if worked then true else sent) ≡ has_work waiting came lots
+work_so worked sent waiting lots None one two =
+    ap (λ (t : Bool). if t then true else sent) one ∙ (ap (λ (t : Bool). if has_packets (waiting ∷ []) then true else t) two ∙ sym (has_before (waiting ∷ []) lots))
+work_so worked sent waiting lots (Some read) one two = ap (λ (t : Bool). if t then true else sent) one
+
+-- a turn that began so, and in which these lots were sent
+pub goes_over : {N : Type 0} → (carriage : Carriage) (before after : Station N) (q1 : Option QueueView) (lots : List (List PacketView)) (came : Arrival) (worked sent : Bool) (result : TurnEnd)
+    → Begins carriage before.outbox.packets before.queue q1 came worked → Sends q1 (sent_by carriage lots) after.queue → sent ≡ has_packets lots
+    → TellsWork (if worked then true else sent) result → GoesOver carriage came lots before after result
+goes_over carriage before after q1 lots came worked sent result first last e told = record {
+  queue = queue_so carriage before.queue q1 after.queue before.outbox.packets lots came first.queue last;
+  work = subst (λ (t : Bool). TellsWork t result) (work_so worked sent before.outbox.packets lots came first.work e) told;
+}

@@ -1,4 +1,5 @@
 pub mod Arrive
+pub mod Begin
 pub mod End
 pub mod Link
 pub mod Phase

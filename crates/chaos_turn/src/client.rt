@@ -7,17 +7,16 @@ ghost use Rattle.chaos_turn.specs.Station.{station};
 ghost use Rattle.chaos_turn.specs.Turn.{RunsClientTurn, client_phases};
 
 use crate::arriving::arrive_at_client;
+use crate::beginning::begin;
 use crate::end::{TurnEnd, any_of, end_of};
 use crate::limits::TURN_ROOM;
-use crate::receiving::receive;
-use crate::sending::send_all;
 use crate::ticking::tick_slots;
 use chaos_host::{Host, HostDelivered};
 use chaos_link::{Carriage, LINK_ROOM, Link, LinkFault, Packets};
 use chaos_packet::Outbox;
 
 /// Makes a turn of what came. Says whether packets went out.
-fn take_client_turn<L: Link>(
+pub fn take_client_turn<L: Link>(
     host: &mut Host,
     came: Option<Result<Packets<'_>, LinkFault>>,
     link: &mut L,
@@ -63,10 +62,7 @@ pub fn client_turn<L: Link>(
     // All was sent.
     ensures outbox { out.new ≡ record { packets = []; cap = out.old.cap } }
 {
-    let before = link.failures();
-    let waited = send_all(link, out, carriage);
-    let came = receive(link, buffer, may_wait);
-    let some = came.is_some();
-    let sent = take_client_turn(host, came, link, now, out, told, carriage);
-    end_of(before, link.failures(), any_of(some, waited, sent))
+    let begun = begin(link, out, carriage, buffer, may_wait);
+    let sent = take_client_turn(host, begun.came, link, now, out, told, carriage);
+    end_of(begun.failures, link.failures(), begun.worked, sent)
 }

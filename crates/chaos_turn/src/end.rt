@@ -14,14 +14,15 @@ pub enum TurnEnd {
     LinkFault,
 }
 
-/// How a turn ended, by the link's count of failures before and after it, and by whether there was work.
-pub fn end_of(before: u64, after: u64, worked: bool) -> TurnEnd
+/// How a turn ended, by the link's count of failures before and after it, and by whether there was work at its begin, or a packet
+/// was sent then.
+pub fn end_of(before: u64, after: u64, worked: bool, sent: bool) -> TurnEnd
     ensures fault { (result ≡ TurnEnd.LinkFault) ↔ Rose before after }
-    ensures work { TellsWork worked result }
+    ensures work { TellsWork (if worked then true else sent) result }
 {
     if before < after || after == u64::MAX {
         TurnEnd::LinkFault
-    } else if worked {
+    } else if worked || sent {
         TurnEnd::Worked
     } else {
         TurnEnd::Idle

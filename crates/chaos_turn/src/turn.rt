@@ -7,11 +7,10 @@ ghost use Rattle.chaos_turn.specs.Station.{server, station};
 ghost use Rattle.chaos_turn.specs.Turn.{IsTurn, RunsTurn};
 
 use crate::arriving::arrive_at_server;
+use crate::beginning::begin;
 use crate::end::{TurnEnd, any_of, end_of};
 use crate::ending::end_slots;
 use crate::limits::TURN_ROOM;
-use crate::receiving::receive;
-use crate::sending::send_all;
 use crate::serving::serve_slots;
 use crate::sessions::Sessions;
 use chaos_file::Store;
@@ -96,12 +95,10 @@ pub fn run_turn<S: Store, L: Link>(
     // A next turn finds as many sessions as slots.
     ensures alike { length sessions.new ≡ length host.new.slots }
 {
-    let before = link.failures();
-    let waited = send_all(link, out, carriage);
-    let came = receive(link, buffer, may_wait);
-    let some = came.is_some();
+    let begun = begin(link, out, carriage, buffer, may_wait);
+    let came = begun.came;
     let sent = take_turn(
         alloc, host, sessions, store, came, link, start, now, out, carriage,
     );
-    end_of(before, link.failures(), any_of(some, waited, sent))
+    end_of(begun.failures, link.failures(), begun.worked, sent)
 }

@@ -1,22 +1,18 @@
-use Rattle.std.proofs.Common.{rules}
 use Rattle.chaos_turn.specs.Turn.{client_phases}
-use Rattle.chaos_turn.proofs.Whole.{over_link, work_told}
+use Rattle.chaos_turn.specs.Station.{station}
+use Rattle.chaos_turn.proofs.Whole.{goes_over}
 use Rattle.chaos_turn.proofs.client.client_turn.Goals as goal
 
 pub returns-clause-turn : goal.returns-clause-turn
 returns-clause-turn g c =
     let queue = g.L.Link.queue in
-    let waited = c.send_all-waited in
-    let came = c.receive-came in
+    let begun = c.begin-begun in
     let sent = c.take_client_turn-sent in
-    let waiting = c.args.out.now.packets in
-    let lots = (client_phases came.result c.args.now c.args.host.now).lots in
     record {
-      came = came.result;
+      came = begun.result.came;
       host = sent.ensures.phases.host;
       told = sent.ensures.told;
-      link = record {
-        queue = over_link c.args.carriage (queue c.args.link.now) (queue waited.new.link) (queue came.new.link) (queue sent.new.link) waiting lots came.result waited.ensures.sends came.ensures sent.ensures.phases.sends;
-        work = work_told c.is_some-some.result waited.result sent.result c.any_of.result waiting lots came.result c.end_of.result (search rules) waited.ensures.told sent.ensures.phases.told c.any_of.ensures c.end_of.ensures.work;
-      };
+      link = goes_over c.args.carriage (station c.args.host.now (queue c.args.link.now) c.args.out.now) (station sent.new.host (queue sent.new.link) sent.new.out)
+          (queue begun.new.link) (client_phases begun.result.came c.args.now c.args.host.now).lots begun.result.came begun.result.worked sent.result c.end_of.result
+          begun.ensures.begins sent.ensures.phases.sends sent.ensures.phases.told c.end_of.ensures.work;
     }
