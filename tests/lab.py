@@ -225,7 +225,7 @@ class Scripts(Case):
 
 
 class Limits(Case):
-    """Bad lines, the longest script, and too little memory."""
+    """Bad lines, the longest script, stale copies, and too little memory."""
 
     seconds = 4
 
