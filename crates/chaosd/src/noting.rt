@@ -1,21 +1,20 @@
 //! A link that tells which hosts it doesn't know.
-ghost use Rattle.std.specs.Prelude.{None};
-
-use chaos_link::{LINK_ROOM, Link, Received, Sent, UdpLink};
+use chaos_link::{LINK_ROOM, Link, Received, Sent};
 
 /// The words of 64 bits in which each Chaosnet address has a bit.
 const WORDS: usize = 1_024;
 
-/// A link over a socket, which tells a user once of each address to which something was to be sent, and which no peer has.
+/// A link that tells a user once of each address to which something was to be sent, and which the link behind it doesn't know. It
+/// claims what that link claims.
 #[derive(Drop)]
-pub(crate) struct Noting<'a, R: Eprint> {
+pub(crate) struct Noting<'a, R: Eprint, L> {
     rt: &'a R,
-    inner: UdpLink,
+    inner: L,
     told: [u64; WORDS],
 }
 
-impl<'a, R: Eprint> Noting<'a, R> {
-    pub(crate) fn new(rt: &'a R, inner: UdpLink) -> Self {
+impl<'a, R: Eprint, L> Noting<'a, R, L> {
+    pub(crate) fn new(rt: &'a R, inner: L) -> Self {
         Noting {
             rt,
             inner,
@@ -23,7 +22,7 @@ impl<'a, R: Eprint> Noting<'a, R> {
         }
     }
 
-    /// Tells that no peer has this address, where that wasn't told before.
+    /// Tells that the link doesn't know this address, where that wasn't told before.
     fn note(&mut self, address: u16) {
         let word = usize::from(address / 64);
         let bit = 1u64 << (address % 64);
@@ -34,10 +33,12 @@ impl<'a, R: Eprint> Noting<'a, R> {
     }
 }
 
-impl<R: Eprint> Link for Noting<'_, R> {
-    ghost count = { λ link. link.inner.failures };
+impl<R: Eprint, L: Link> Link for Noting<'_, R, L> {
+    ghost count = { λ link. L.count link.inner };
 
-    ghost queue = { λ _. None };
+    ghost queue = { λ link. L.queue link.inner };
+
+    ghost addressed = { λ link. L.addressed link.inner };
 
     fn send(&mut self, to_address: u16, bytes: &[u8]) -> Sent {
         let sent = self.inner.send(to_address, bytes);
