@@ -1,3 +1,4 @@
+pub mod Halves
 pub mod Loaded
 pub mod Passed
 pub mod Phase

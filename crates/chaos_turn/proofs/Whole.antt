@@ -17,7 +17,7 @@ use Rattle.chaos_turn.specs.End.{TellsWork}
 use Rattle.chaos_turn.specs.declared.end.TurnEnd.{TurnEnd}
 use Rattle.chaos_turn.proofs.Queue.{sends_both}
 
-has_before : (xs ys : List (List PacketView)) → has_packets (xs ++ ys) ≡ (if has_packets xs then true else has_packets ys)
+pub has_before : (xs ys : List (List PacketView)) → has_packets (xs ++ ys) ≡ (if has_packets xs then true else has_packets ys)
 has_before [] ys = refl
 has_before ([] ∷ xs) ys = has_before xs ys
 has_before ((p ∷ ps) ∷ xs) ys = refl
@@ -62,7 +62,7 @@ module _ {S : Type 0} (changes : S → S → StoreChange) where
 -- ---- over a link
 
 -- after a begin the lots of the turn were sent
-queue_so : (carriage : Carriage) (q0 q1 q2 : Option QueueView) (waiting : List PacketView) (lots : List (List PacketView)) (came : Arrival)
+pub queue_so : (carriage : Carriage) (q0 q1 q2 : Option QueueView) (waiting : List PacketView) (lots : List (List PacketView)) (came : Arrival)
     → IfSome q0 (λ queue. Receives came q1 (sent_into queue (datagrams_of carriage waiting))) → Sends q1 (sent_by carriage lots) q2
     → IfSome q0 (λ queue. (came ≡ arrival_from (sent_into queue (datagrams_of carriage waiting))) × (q2 ≡ Some (queue_after carriage queue waiting lots)))
 queue_so carriage None q1 q2 waiting lots came receives last = tt
@@ -70,7 +70,7 @@ queue_so carriage (Some queue) q1 q2 waiting lots came receives last =
     (receives.0, subst (λ (q : Option QueueView). Sends q (sent_by carriage lots) q2) receives.1 last)
 
 -- whether there was work is told of the begin and of what was sent then
-work_so : (worked sent : Bool) (waiting : List PacketView) (lots : List (List PacketView)) (came : Arrival)
+pub work_so : (worked sent : Bool) (waiting : List PacketView) (lots : List (List PacketView)) (came : Arrival)
     → worked ≡ (if is_some came then true else has_packets (waiting ∷ [])) → sent ≡ has_packets lots → (if worked then true else sent) ≡ has_work waiting came lots
 work_so worked sent waiting lots None one two =
     ap (λ (t : Bool). if t then true else sent) one ∙ (ap (λ (t : Bool). if has_packets (waiting ∷ []) then true else t) two ∙ sym (has_before (waiting ∷ []) lots))

@@ -1,6 +1,7 @@
 pub mod Arrive
 pub mod Begin
 pub mod End
+pub mod Halves
 pub mod Link
 pub mod Phase
 pub mod Serve

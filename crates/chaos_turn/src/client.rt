@@ -16,7 +16,7 @@ use chaos_link::{Carriage, LINK_ROOM, Link, LinkFault, Packets};
 use chaos_packet::Outbox;
 
 /// Makes a turn of what came. Says whether packets went out.
-pub fn take_client_turn<L: Link>(
+fn take_client_turn<L: Link>(
     host: &mut Host,
     came: Option<Result<Packets<'_>, LinkFault>>,
     link: &mut L,

@@ -12,6 +12,7 @@ mod beginning;
 mod client;
 mod end;
 mod ending;
+mod half;
 mod limits;
 mod node;
 mod receiving;
@@ -24,6 +25,7 @@ mod waiting;
 
 pub use client::client_turn;
 pub use end::TurnEnd;
+pub use half::Half;
 pub use limits::TURN_ROOM;
 pub use node::Node;
 pub use receiving::receive;

@@ -2,11 +2,13 @@
 ghost use Rattle.std.specs.Prelude.{◌≤◌};
 ghost use Rattle.chaos_turn.specs.declared.limits.TheConstants.{TURN_ROOM};
 
+use crate::arriving::arrive_at_client;
 use crate::beginning::begin;
-use crate::client::take_client_turn;
-use crate::end::{TurnEnd, end_of};
+use crate::end::{TurnEnd, any_of, end_of};
+use crate::half::Half;
 use crate::limits::TURN_ROOM;
 use crate::sending::send_all;
+use crate::ticking::tick_slots;
 use chaos_host::{Host, HostDelivered};
 use chaos_link::{Carriage, LINK_ROOM, Link};
 use chaos_packet::Outbox;
@@ -35,6 +37,7 @@ pub struct Node {
 impl Node {
     ghost use Rattle.std.specs.Prelude.{◌≡◌, ◌↔◌, [], ◌∷◌, None, IfOk};
     ghost use Rattle.chaos_packet.specs.Count.{Rose};
+    ghost use Rattle.chaos_turn.specs.Halves.{RunsArrival, RunsTicks};
     ghost use Rattle.chaos_turn.specs.Link.{Sends, has_packets, sent_by};
     ghost use Rattle.chaos_turn.specs.Station.{station};
     ghost use Rattle.chaos_turn.specs.Turn.{RunsClientTurn};
@@ -69,7 +72,8 @@ impl Node {
         send_all(link, &mut self.out, self.carriage)
     }
 
-    /// One turn of the host: [`client_turn`](crate::client_turn) over what the node has. What became of the last packet that came is left in `told`.
+    /// One turn of the host: its two halves, [`Node::receive`] and [`Node::tick`], with nothing between them. It is
+    /// [`client_turn`](crate::client_turn) over what the node has.
     pub fn turn<L: Link>(&mut self, link: &mut L, now: u64, may_wait: bool) -> TurnEnd
         ensures fault { (result ≡ TurnEnd.LinkFault) ↔ Rose (L.count link.old) (L.count link.new) }
         ensures turn { RunsClientTurn self.old.carriage now (station self.old.host (L.queue link.old) self.old.out) (station self.new.host (L.queue link.new) self.new.out) result self.new.told }
@@ -77,9 +81,24 @@ impl Node {
         ensures outbox { self.new.out ≡ record { packets = []; cap = self.old.out.cap } }
         ensures carriage { self.new.carriage ≡ self.old.carriage }
     {
+        let half = self.receive(link, now, may_wait);
+        self.tick(link, now, half)
+    }
+
+    /// The first half of a turn: sends what waits, receives at most one datagram, for which it may wait or not, and delivers its
+    /// packets in order. What became of the last is left in `told`, and `None` where none came.
+    ///
+    /// Then the node's owner serves: it makes the host's own calls, sends what they put out by [`Node::send`], and ends the turn
+    /// by [`Node::tick`].
+    pub fn receive<L: Link>(&mut self, link: &mut L, now: u64, may_wait: bool) -> Half
+        ensures failures { result.failures ≡ L.count link.old }
+        ensures arrival { RunsArrival self.old.carriage now (station self.old.host (L.queue link.old) self.old.out) (station self.new.host (L.queue link.new) self.new.out) result.worked self.new.told }
+        ensures outbox { self.new.out ≡ record { packets = []; cap = self.old.out.cap } }
+        ensures carriage { self.new.carriage ≡ self.old.carriage }
+    {
         let carriage = self.carriage;
         let begun = begin(link, &mut self.out, carriage, &mut self.buffer, may_wait);
-        let sent = take_client_turn(
+        let sent = arrive_at_client(
             &mut self.host,
             begun.came,
             link,
@@ -88,6 +107,28 @@ impl Node {
             &mut self.told,
             carriage,
         );
-        end_of(begun.failures, link.failures(), begun.worked, sent)
+        Half {
+            failures: begun.failures,
+            worked: begun.worked || sent,
+        }
+    }
+
+    /// The second half of a turn: sends what waits, ticks each slot, and says how the turn ended.
+    pub fn tick<L: Link>(&mut self, link: &mut L, now: u64, half: Half) -> TurnEnd
+        ensures fault { (result ≡ TurnEnd.LinkFault) ↔ Rose half.failures (L.count link.new) }
+        ensures ticks { RunsTicks self.old.carriage now (station self.old.host (L.queue link.old) self.old.out) (station self.new.host (L.queue link.new) self.new.out) half.worked result }
+        ensures told { self.new.told ≡ self.old.told }
+        ensures outbox { self.new.out ≡ record { packets = []; cap = self.old.out.cap } }
+        ensures carriage { self.new.carriage ≡ self.old.carriage }
+    {
+        let carriage = self.carriage;
+        let waited = send_all(link, &mut self.out, carriage);
+        let ticked = tick_slots(&mut self.host, link, now, &mut self.out, carriage);
+        end_of(
+            half.failures,
+            link.failures(),
+            half.worked,
+            any_of(waited, ticked, false),
+        )
     }
 }

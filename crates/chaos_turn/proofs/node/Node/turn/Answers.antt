@@ -1,18 +1,11 @@
-use Rattle.chaos_turn.specs.Turn.{client_phases}
 use Rattle.chaos_turn.specs.Station.{station}
-use Rattle.chaos_turn.proofs.Whole.{goes_over}
+use Rattle.chaos_turn.proofs.Halves.{both_halves}
 use Rattle.chaos_turn.proofs.node.Node.turn.Goals as goal
 
 pub returns-clause-turn : goal.returns-clause-turn
 returns-clause-turn g c =
     let queue = g.L.Link.queue in
-    let begun = c.begin-begun in
-    let sent = c.take_client_turn-sent in
-    record {
-      came = begun.result.came;
-      host = sent.ensures.phases.host;
-      told = sent.ensures.told;
-      link = goes_over c.args.self.now.carriage (station c.args.self.now.host (queue c.args.link.now) c.args.self.now.out) (station sent.new.host (queue sent.new.link) sent.new.out)
-          (queue begun.new.link) (client_phases begun.result.came c.args.now c.args.self.now.host).lots begun.result.came begun.result.worked sent.result c.end_of.result
-          begun.ensures.begins sent.ensures.phases.sends sent.ensures.phases.told c.end_of.ensures.work;
-    }
+    let half = c.receive-half in
+    let ended = c.tick in
+    rw ended.ensures.told (both_halves c.args.self.now.carriage half.new.self.carriage c.args.now (station c.args.self.now.host (queue c.args.link.now) c.args.self.now.out) (station half.new.self.host (queue half.new.link) half.new.self.out)
+    (station ended.new.self.host (queue ended.new.link) ended.new.self.out) half.result.worked half.new.self.told ended.result half.ensures.carriage half.ensures.arrival (cc) ended.ensures.ticks)

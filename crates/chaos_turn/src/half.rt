@@ -1,0 +1,11 @@
+//! A turn between its halves.
+
+/// What is kept of the first half of a turn for its end.
+#[derive(Clone, Copy, Debug, PartialEq, Eq)]
+pub struct Half {
+    /// The link's count of failures before the turn.
+    pub failures: u64,
+    /// Whether there was work: a packet waited, a datagram came, or a packet was sent. Who sends between the halves notes it
+    /// here.
+    pub worked: bool,
+}
