@@ -199,7 +199,7 @@ impl<C: Dial, L: Link> Talk for Call<'_, C, L> {
     ghost talked = { λ _. None };
 
     /// It counts no turns.
-    ghost course = { λ call. record { turns = None; moment = call.now; is_over = is_over call.host call.id } };
+    ghost course = { λ call. record { turns = None; moment = call.now; is_over = is_over call.host call.id; failures = L.count call.link.now } };
 
     /// A fault of the clock, or of the link, where it counts a failure.
     ghost failed_by = { λ call. IsTurnFault (L.count call.link.now) };
@@ -208,6 +208,7 @@ impl<C: Dial, L: Link> Talk for Call<'_, C, L> {
         ensures talk { after_say result command.now None ≡ None }
         ensures said { Says command.now self.old.now result
             (caller self.old.host self.old.id self.old.out) (caller self.new.host self.new.id self.new.out) }
+        ensures unfailed { L.count self.new.link.now ≡ L.count self.old.link.now }
         ensures same_server { (self.new.to ≡ self.old.to) × (self.new.carriage ≡ self.old.carriage) }
         ensures same_clock { (self.new.now ≡ self.old.now) × (self.new.clock ≡ self.old.clock) × (self.new.beginning ≡ self.old.beginning) }
     {
@@ -228,6 +229,7 @@ impl<C: Dial, L: Link> Talk for Call<'_, C, L> {
         ensures talk { after_hear (option_map (λ v. v.items) result) None ≡ None }
         ensures heard { Hears (option_map (λ v. v.items) result)
             (caller self.old.host self.old.id self.old.out) (caller self.new.host self.new.id self.new.out) }
+        ensures unfailed { L.count self.new.link.now ≡ L.count self.old.link.now }
         ensures same_server { (self.new.to ≡ self.old.to) × (self.new.carriage ≡ self.old.carriage) }
         ensures same_clock { (self.new.now ≡ self.old.now) × (self.new.clock ≡ self.old.clock) × (self.new.beginning ≡ self.old.beginning) }
     {

@@ -51,6 +51,8 @@ pub record Course : Type 0 where
   pub moment : ℕ
   -- no more replies come than are there
   pub is_over : Bool
+  -- the failures that were counted
+  pub failures : ℕ
 
 -- So many turns were made between these counts, where they were counted.
 abbrev pub Turned : ℕ → Option ℕ → Option ℕ → Type 0

@@ -96,7 +96,7 @@ impl Talk for MemTalk {
     ghost talked = { λ t. Some (record { said = map (λ v. v.items) t.said.items; heard = take t.heard (map (λ v. v.items) t.replies.items) }) };
 
     /// It never ends. It counts turns as far as they can be.
-    ghost course = { λ t. record { turns = if nat_lt t.turns max_count then Some t.turns else None; moment = min (t.turns * 10) max_count; is_over = false } };
+    ghost course = { λ t. record { turns = if nat_lt t.turns max_count then Some t.turns else None; moment = min (t.turns * 10) max_count; is_over = false; failures = 0 } };
 
     /// No turn fails.
     ghost failed_by = { λ _ _. ⊥ };
