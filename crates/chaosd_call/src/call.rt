@@ -2,7 +2,7 @@
 ghost use Rattle.std.specs.Prelude.{◌≡◌, ◌<◌, ◌≤◌, ◌⊎◌, None, Err, option_map, IfErr, IfOk, OnOk};
 ghost use Rattle.chaos_packet.specs.Count.{Rose};
 ghost use Rattle.chaos_turn.specs.declared.limits.TheConstants.{TURN_ROOM};
-ghost use Rattle.chaosd_copy.specs.Talk.{after_hear, after_say};
+ghost use Rattle.chaosd_copy.specs.Talk.{Turned, after_hear, after_say, counted};
 ghost use Rattle.chaosd_client.specs.Calls.{is_over};
 ghost use Rattle.chaosd_client.specs.Clock.{BeginsBy, IsMoment, low_bits_of};
 ghost use Rattle.chaosd_client.specs.Fault.{IsTurnFault};
@@ -31,6 +31,8 @@ pub struct Call<'a, C: Dial, L: Link> {
     beginning: Beginning,
     /// The moment of the last turn.
     now: u64,
+    /// How many turns were begun.
+    turns: u64,
     host: Host,
     out: Outbox,
     to: u16,
@@ -82,6 +84,7 @@ impl<'a, C: Dial, L: Link> Call<'a, C, L> {
             link,
             beginning,
             now: 0,
+            turns: 0,
             host,
             out,
             to,
@@ -152,10 +155,12 @@ impl<'a, C: Dial, L: Link> Call<'a, C, L> {
         ensures well { OnOk result (TurnsAt self.old.carriage self.new.now (L.queue self.old.link.now) (L.queue self.new.link.now)
             (caller self.old.host self.old.id self.old.out) (caller self.new.host self.new.id self.new.out)) }
         ensures moment { OnOk result (IsMoment (C.shows self.old.clock.now) self.old.beginning self.new.now) }
+        ensures counted { Turned 1 (counted self.old.turns) (counted self.new.turns) }
         ensures unfailed { OnOk result (L.count self.new.link.now ≤ L.count self.old.link.now) }
         ensures same_server { (self.new.to ≡ self.old.to) × (self.new.carriage ≡ self.old.carriage) }
         ensures same_clock { (self.new.clock ≡ self.old.clock) × (self.new.beginning ≡ self.old.beginning) }
     {
+        self.turns = self.turns.saturating_add(1);
         self.now = self.beginning.moment(self.clock)?;
         let mut told = None;
         let end = client_turn(
@@ -198,8 +203,8 @@ fn close(host: &mut Host, id: ConnId, out: &mut Outbox)
 impl<C: Dial, L: Link> Talk for Call<'_, C, L> {
     ghost talked = { λ _. None };
 
-    /// It counts no turns.
-    ghost course = { λ call. record { turns = None; moment = call.now; is_over = is_over call.host call.id } };
+    /// It counts turns as far as they can be.
+    ghost course = { λ call. record { turns = counted call.turns; moment = call.now; is_over = is_over call.host call.id; failures = L.count call.link.now } };
 
     /// A fault of the clock, or of the link, where it counts a failure.
     ghost failed_by = { λ call. IsTurnFault (L.count call.link.now) };
@@ -208,6 +213,8 @@ impl<C: Dial, L: Link> Talk for Call<'_, C, L> {
         ensures talk { after_say result command.now None ≡ None }
         ensures said { Says command.now self.old.now result
             (caller self.old.host self.old.id self.old.out) (caller self.new.host self.new.id self.new.out) }
+        ensures still { self.new.turns ≡ self.old.turns }
+        ensures unfailed { L.count self.new.link.now ≡ L.count self.old.link.now }
         ensures same_server { (self.new.to ≡ self.old.to) × (self.new.carriage ≡ self.old.carriage) }
         ensures same_clock { (self.new.now ≡ self.old.now) × (self.new.clock ≡ self.old.clock) × (self.new.beginning ≡ self.old.beginning) }
     {
@@ -228,6 +235,8 @@ impl<C: Dial, L: Link> Talk for Call<'_, C, L> {
         ensures talk { after_hear (option_map (λ v. v.items) result) None ≡ None }
         ensures heard { Hears (option_map (λ v. v.items) result)
             (caller self.old.host self.old.id self.old.out) (caller self.new.host self.new.id self.new.out) }
+        ensures still { self.new.turns ≡ self.old.turns }
+        ensures unfailed { L.count self.new.link.now ≡ L.count self.old.link.now }
         ensures same_server { (self.new.to ≡ self.old.to) × (self.new.carriage ≡ self.old.carriage) }
         ensures same_clock { (self.new.now ≡ self.old.now) × (self.new.clock ≡ self.old.clock) × (self.new.beginning ≡ self.old.beginning) }
     {
@@ -248,6 +257,7 @@ impl<C: Dial, L: Link> Talk for Call<'_, C, L> {
         ensures well { OnOk result (TurnsAt self.old.carriage self.new.now (L.queue self.old.link.now) (L.queue self.new.link.now)
             (caller self.old.host self.old.id self.old.out) (caller self.new.host self.new.id self.new.out)) }
         ensures moment { OnOk result (IsMoment (C.shows self.old.clock.now) self.old.beginning self.new.now) }
+        ensures counted { Turned 1 (counted self.old.turns) (counted self.new.turns) }
         ensures unfailed { OnOk result (L.count self.new.link.now ≤ L.count self.old.link.now) }
         ensures same_server { (self.new.to ≡ self.old.to) × (self.new.carriage ≡ self.old.carriage) }
         ensures same_clock { (self.new.clock ≡ self.old.clock) × (self.new.beginning ≡ self.old.beginning) }

@@ -1,5 +1,6 @@
 -- What was said and heard in a talk with a FILE server.
-use Rattle.std.specs.Prelude.{◌≡◌, ◌≤◌, ◌⊎◌, ℕ, ◌+◌, ◌-◌, Bool, true, false, List, [], ◌∷◌, ◌++◌, Option, Some, None, option_map}
+use Rattle.std.specs.Prelude.{◌≡◌, ◌≤◌, ◌⊎◌, ℕ, ◌+◌, ◌-◌, Bool, true, false, List, [], ◌∷◌, ◌++◌, Option, Some, None, option_map, nat_lt, if◌then◌else◌}
+use Rattle.chaos_packet.specs.Count.{max_count}
 use Rattle.chaosd_copy.specs.declared.limits.TheConstants.{REPLY_TURNS, REPLY_MILLIS, MOST_TURNS}
 use Rattle.chaosd_copy.specs.Copy.{upto}
 
@@ -51,6 +52,12 @@ pub record Course : Type 0 where
   pub moment : ℕ
   -- no more replies come than are there
   pub is_over : Bool
+  -- the failures that were counted
+  pub failures : ℕ
+
+-- what a count tells that stays at the greatest u64: nothing there
+abbrev pub counted : ℕ → Option ℕ
+counted count = if nat_lt count max_count then Some count else None
 
 -- So many turns were made between these counts, where they were counted.
 abbrev pub Turned : ℕ → Option ℕ → Option ℕ → Type 0

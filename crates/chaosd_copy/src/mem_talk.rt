@@ -1,5 +1,5 @@
 //! A talk with a FILE server in memory.
-ghost use Rattle.std.specs.Prelude.{◌≡◌, ◌≤◌, [], ◌*◌, false, length, take, map, min, nat_lt, option_map, if◌then◌else◌, Some, None, Err};
+ghost use Rattle.std.specs.Prelude.{◌≡◌, ◌≤◌, [], ◌*◌, false, length, take, map, min, option_map, Some, Err};
 ghost use Rattle.chaos_packet.specs.Count.{max_count};
 ghost use Rattle.std.specs.FinMap as fin;
 ghost use Rattle.chaos_file.specs.declared.error.FileError.TheVariants.{NoMemory};
@@ -10,7 +10,7 @@ ghost use Rattle.chaos_file.specs.Session.{new_session};
 ghost use Rattle.chaos_file.specs.Step.{file_step};
 ghost use Rattle.chaosd_copy.specs.Copy.{Does};
 ghost use Rattle.chaosd_copy.specs.Memory.{StepsOrStays};
-ghost use Rattle.chaosd_copy.specs.Talk.{Talked};
+ghost use Rattle.chaosd_copy.specs.Talk.{Talked, counted};
 
 use crate::talk::Talk;
 use crate::words::put;
@@ -96,7 +96,7 @@ impl Talk for MemTalk {
     ghost talked = { λ t. Some (record { said = map (λ v. v.items) t.said.items; heard = take t.heard (map (λ v. v.items) t.replies.items) }) };
 
     /// It never ends. It counts turns as far as they can be.
-    ghost course = { λ t. record { turns = if nat_lt t.turns max_count then Some t.turns else None; moment = min (t.turns * 10) max_count; is_over = false } };
+    ghost course = { λ t. record { turns = counted t.turns; moment = min (t.turns * 10) max_count; is_over = false; failures = 0 } };
 
     /// No turn fails.
     ghost failed_by = { λ _ _. ⊥ };

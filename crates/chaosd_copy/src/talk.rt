@@ -1,5 +1,5 @@
 //! A talk with a FILE server.
-ghost use Rattle.std.specs.Prelude.{◌≡◌, ◌≤◌, Option, option_map, length, IfErr, IfSome};
+ghost use Rattle.std.specs.Prelude.{◌≡◌, ◌≤◌, Option, option_map, length, IfErr, IfSome, OnOk};
 ghost use Rattle.chaosd_copy.specs.Talk.{Talked, Course, Turned, after_say, after_hear};
 ghost use Rattle.chaos_file.specs.declared.limits.TheConstants.{MAX_REPLY};
 ghost use Rattle.chaosd_io.specs.declared.fault.RunFault.{RunFault};
@@ -12,8 +12,8 @@ pub trait Talk {
     /// The commands that were said and the replies that were heard so far, each in order, where the talk can tell them.
     ghost talked: { Self → Option Talked };
 
-    /// How far it has come: the turns that were made, where the talk counts them, the moment of the last, and whether no more replies
-    /// come than are there.
+    /// How far it has come: the turns that were made, where the talk counts them, the moment of the last, whether no more replies
+    /// come than are there, and the failures that were counted.
     ghost course: { Self → Course };
 
     /// The faults that may have ended the last turn.
@@ -23,12 +23,14 @@ pub trait Talk {
     fn say(&mut self, command: &[u8]) -> bool
         requires { length command.now ≤ MAX_REPLY }
         ensures said { talked self.new ≡ after_say result command.now (talked self.old) }
-        ensures still { (course self.new).turns ≡ (course self.old).turns };
+        ensures still { (course self.new).turns ≡ (course self.old).turns }
+        ensures unfailed { (course self.new).failures ≡ (course self.old).failures };
 
     /// The next reply, where it is there.
     fn hear(&mut self) -> Option<Reply>
         ensures heard { talked self.new ≡ after_hear (option_map (λ v. v.items) result) (talked self.old) }
-        ensures still { (course self.new).turns ≡ (course self.old).turns };
+        ensures still { (course self.new).turns ≡ (course self.old).turns }
+        ensures unfailed { (course self.new).failures ≡ (course self.old).failures };
 
     /// Goes on: what was said is sent, and one that comes is taken, for which it may wait a moment.
     ///
@@ -36,6 +38,7 @@ pub trait Talk {
     /// `LinkFault` and `ClockFault`.
     fn turn(&mut self) -> Result<(), RunFault>
         ensures silent { talked self.new ≡ talked self.old }
+        ensures unfailed { OnOk result ((course self.new).failures ≤ (course self.old).failures) }
         ensures counted { Turned 1 (course self.old).turns (course self.new).turns }
         ensures faults { IfErr result (failed_by self.new) };
 

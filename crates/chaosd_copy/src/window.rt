@@ -1,5 +1,5 @@
 //! Commands that are said before the replies to those before them came.
-ghost use Rattle.std.specs.Prelude.{◌≡◌, ◌≤◌, ◌<◌, ◌+◌, ◌++◌, ◌∷◌, [], ℕ, true, List, Option, Some, option_map, length, Decides, IfOk, IfErr, OnErr, IfSome, MatchOption};
+ghost use Rattle.std.specs.Prelude.{◌≡◌, ◌≤◌, ◌<◌, ◌+◌, ◌++◌, ◌∷◌, [], ℕ, true, List, Option, Some, option_map, length, Decides, IfOk, IfErr, OnErr, OnOk, IfSome, MatchOption};
 ghost use Rattle.std.specs.Fmt.{decimal};
 ghost use Rattle.chaosd_copy.specs.Copy.{upto};
 ghost use Rattle.chaosd_copy.specs.Talk.{Talked, Since, Heard, SaidOrNot, InVain, after_hear, heard_of, said_if};
@@ -91,6 +91,7 @@ fn say_on<T: Talk>(talk: &mut T, row: &Row<'_>, flight: &mut Flight)
         → Since start (T.talked talk.new) (upto (row_command row.now) flight.new.said) replies }
     ensures quiet { heard_of (T.talked talk.new) ≡ heard_of (T.talked talk.old) }
     ensures still { (T.course talk.new).turns ≡ (T.course talk.old).turns }
+    ensures unfailed { (T.course talk.new).failures ≡ (T.course talk.old).failures }
 {
     let most = flight.most_said(row.count);
     let said = say_more(talk, row, flight.said, most);
@@ -109,6 +110,7 @@ fn say_more<T: Talk>(talk: &mut T, row: &Row<'_>, said: usize, most: usize) -> u
         → Since start (T.talked talk.new) (upto (row_command row.now) result) replies }
     ensures quiet { heard_of (T.talked talk.new) ≡ heard_of (T.talked talk.old) }
     ensures still { (T.course talk.new).turns ≡ (T.course talk.old).turns }
+    ensures unfailed { (T.course talk.new).failures ≡ (T.course talk.old).failures }
 {
     for i in said..most {
         let command = row.errand.command(i, row.first + i as u32);
@@ -124,6 +126,7 @@ fn hear_asked<T: Talk>(talk: &mut T, is_asked: bool) -> Option<Reply>
     ensures asked { IfSome result (λ _. is_asked ≡ true) }
     ensures talk { T.talked talk.new ≡ after_hear (option_map (λ v. v.items) result) (T.talked talk.old) }
     ensures still { (T.course talk.new).turns ≡ (T.course talk.old).turns }
+    ensures unfailed { (T.course talk.new).failures ≡ (T.course talk.old).failures }
 {
     if is_asked { talk.hear() } else { None }
 }
@@ -159,6 +162,7 @@ pub fn next_reply<T: Talk>(
         → OnErr result (Since start (T.talked talk.new) (upto (row_command row.now) flight.new.said) replies) }
     // It gives up only where it was waited for long enough, or no more replies come.
     ensures waited { IfOk result (λ r. MatchOption r (InVain (T.talked talk.old) (T.course talk.old) (T.talked talk.new) (T.course talk.new)) (λ _. Unit {0})) }
+    ensures unfailed { OnOk result ((T.course talk.new).failures ≤ (T.course talk.old).failures) }
     ensures faults { IfErr result (T.failed_by talk.new) }
 {
     let since = talk.moment();
@@ -193,6 +197,7 @@ pub fn ask_telling<T: Talk>(
     // Where none was, it is told whether the command was said.
     ensures known { IfOk result (λ r. MatchOption r (Since (T.talked talk.old) (T.talked talk.new) (said_if is_said.new (errand_command errand.entry 0 tid)) []) (λ _. Unit {0})) }
     ensures waited { IfOk result (λ r. MatchOption r (InVain (T.talked talk.old) (T.course talk.old) (T.talked talk.new) (T.course talk.new)) (λ _. Unit {0})) }
+    ensures unfailed { OnOk result ((T.course talk.new).failures ≤ (T.course talk.old).failures) }
     ensures faults { IfErr result (T.failed_by talk.new) }
 {
     let row = Row {
@@ -223,6 +228,7 @@ pub fn ask_one<T: Talk>(
     ensures said { SaidOrNot (T.talked talk.old) (T.talked talk.new) (errand_command errand.entry 0 tid) }
     ensures all { IfOk result (λ r. Heard (T.talked talk.old) (T.talked talk.new) (heard_in (option_map (λ v. v.items) r))) }
     ensures waited { IfOk result (λ r. MatchOption r (InVain (T.talked talk.old) (T.course talk.old) (T.talked talk.new) (T.course talk.new)) (λ _. Unit {0})) }
+    ensures unfailed { OnOk result ((T.course talk.new).failures ≤ (T.course talk.old).failures) }
     ensures faults { IfErr result (T.failed_by talk.new) }
 {
     let mut is_said = false;
@@ -281,6 +287,8 @@ pub fn log_in<T: Talk>(talk: &mut T, name: &[u8]) -> Result<CopyEnd, RunFault>
     ensures begun { SaidOrNot (T.talked talk.old) (T.talked talk.new) (login_command name.now) }
     // It got no reply only where one was waited for long enough, or no more come.
     ensures waited { IfUnanswered result ((t : T) × InVain (T.talked t) (T.course t) (T.talked talk.new) (T.course talk.new)) }
+    // It ends well only where no failure was counted.
+    ensures unfailed { OnOk result ((T.course talk.new).failures ≤ (T.course talk.old).failures) }
     // It fails only by a turn that did, by the same fault.
     ensures faults { IfErr result (T.failed_by talk.new) }
 {

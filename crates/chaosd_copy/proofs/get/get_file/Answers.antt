@@ -1,4 +1,4 @@
-use Rattle.std.proofs.Common.{rules, ◌≡◌, None, ◌≤◌, ap, sym, subst, ◌∙◌, ◌+◌, [], ◌∷◌}
+use Rattle.std.proofs.Common.{rules, arith, ◌≡◌, None, ◌≤◌, ap, sym, subst, ◌∙◌, ◌+◌, [], ◌∷◌}
 use Rattle.std.specs.Fmt.{decimal}
 use Rattle.chaos_file.specs.declared.limits.TheConstants.{MAX_FILE}
 use Rattle.chaos_file.specs.Answer.{Opened, Closed}
@@ -52,6 +52,7 @@ returns-in_default-2 g c =
           c.in_ok-opened.opened _ _ c.in-Done.ensures.done c.counted-wanted.ensures c.in_ok-opened.ensures.heard)
           c.in_ok-end.ensures.ended;
       waited = c.in_ok-end.ensures.waited;
+      unfailed = omega (arith, c.in_ok-end.ensures.unfailed, c.in_ok-opened.ensures.unfailed);
       faults = tt;
       begun = get_reading _ _ _ c.args.first c.in-Some.len c.args.path.now _ fits
           (wanted_heard (λ v. v.items) (λ x. Since (g.T.Talk.talked c.args.talk.now) (g.T.Talk.talked c.ask_one.new.talk) (spelling_of (decimal c.args.first) file_handle (OpenRead c.args.path.now) ∷ []) (x ∷ []))

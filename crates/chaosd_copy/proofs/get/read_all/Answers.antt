@@ -26,6 +26,7 @@ loop-i-preserved g c =
     record {
       said = c.in_ok-reply.ensures.within;
       asked = omega (arith, h.0, c.loop-i.invariant.place);
+      unfailed = omega (arith, c.in_ok-reply.ensures.unfailed, c.loop-i.invariant.unfailed);
       place = h.1 ∙ ap (λ n. n + 1) c.loop-i.invariant.place;
       size = ap length p.2 ∙ length-append c.loop-i.bytes.items p.0 ∙ omega arith;
       talk = subst (λ b. Since (g.T.Talk.talked c.args.talk.now) (g.T.Talk.talked c.next_reply.new.talk) (upto (read_said c.args.first) c.next_reply.new.flight.said) (upto (read_heard c.args.first b) (c.loop-i.i + 1))) (sym p.2)
@@ -74,6 +75,7 @@ returns-in_default g c = record {
       (c.in_ok-reply.ensures.talk _ _ c.loop-i.invariant.talk) c.in_ok-end.ensures.ended;
   waited = unanswered_by (λ v. v.items) c.in_ok-reply.reply _ _ _ c.in_ok-end.end _ _ (unless_then c.in_ok-end.end _ _ (λ k. k.1) c.in_ok-end.ensures.ended) c.in_ok-reply.ensures.waited
       (λ w. (c.loop-i.talk, w));
+  unfailed = omega (arith, c.in_ok-reply.ensures.unfailed, c.loop-i.invariant.unfailed);
   faults = tt;
 }
 

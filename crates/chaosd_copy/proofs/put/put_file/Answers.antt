@@ -1,4 +1,4 @@
-use Rattle.std.proofs.Common.{rules, subst, None, ◌≡◌, ◌+◌, length, [], ◌∷◌}
+use Rattle.std.proofs.Common.{rules, arith, subst, None, ◌≡◌, ◌+◌, length, [], ◌∷◌}
 use Rattle.std.specs.Fmt.{decimal}
 use Rattle.chaos_file.specs.Answer.{Closed}
 use Rattle.chaos_file.specs.Command.{OpenWrite, Close}
@@ -46,6 +46,7 @@ returns-in_default-2 g c = record {
       c.in_ok-opened.opened _ _ c.in-Done.ensures.done c.counted-wanted.ensures c.in_ok-opened.ensures.heard)
       c.in_ok-end.ensures.ended;
   waited = c.in_ok-end.ensures.waited;
+  unfailed = omega (arith, c.in_ok-end.ensures.unfailed, c.in_ok-opened.ensures.unfailed);
   faults = tt;
   begun = put_writing _ _ _ c.args.first c.args.path.now c.args.bytes.now _
       (wanted_heard (λ v. v.items) (λ x. Since (g.T.Talk.talked c.args.talk.now) (g.T.Talk.talked c.ask_one.new.talk) (spelling_of (decimal c.args.first) file_handle (OpenWrite c.args.path.now) ∷ []) (x ∷ []))

@@ -14,6 +14,7 @@ pub loop-i-preserved : goal.loop-i-preserved
 loop-i-preserved g c = record {
   said = c.in_ok-reply.ensures.within;
   asked = let h : (c.loop-i.flight.heard < c.next_reply.new.flight.said) × (c.next_reply.new.flight.heard ≡ c.loop-i.flight.heard + 1) = wanted_asked (λ v. v.items) ((c.loop-i.flight.heard < c.next_reply.new.flight.said) × (c.next_reply.new.flight.heard ≡ c.loop-i.flight.heard + 1)) c.in_ok-reply.reply _ c.in-Done.ensures.done c.in_ok-reply.ensures.asked in omega (arith, h.0, c.loop-i.invariant.place);
+  unfailed = omega (arith, c.in_ok-reply.ensures.unfailed, c.loop-i.invariant.unfailed);
   place = let h : (c.loop-i.flight.heard < c.next_reply.new.flight.said) × (c.next_reply.new.flight.heard ≡ c.loop-i.flight.heard + 1) = wanted_asked (λ v. v.items) ((c.loop-i.flight.heard < c.next_reply.new.flight.said) × (c.next_reply.new.flight.heard ≡ c.loop-i.flight.heard + 1)) c.in_ok-reply.reply _ c.in-Done.ensures.done c.in_ok-reply.ensures.asked in h.1 ∙ ap (λ n. n + 1) c.loop-i.invariant.place;
   talk = heard_at _ _ _ (write_heard c.args.first c.args.bytes.now) c.loop-i.i _ _ c.in-Done.ensures.done
       (c.counted-wanted.ensures ∙ ap (λ n. reply_of (decimal (c.args.first + c.loop-i.i)) file_handle (Wrote n)) c.min.ensures)
@@ -34,6 +35,7 @@ returns-in_default g c = record {
       (c.counted-wanted.ensures ∙ ap (λ n. reply_of (decimal (c.args.first + c.loop-i.i)) file_handle (Wrote n)) c.min.ensures)
       (c.in_ok-reply.ensures.talk _ _ c.loop-i.invariant.talk) c.settled.ensures.ended;
   waited = unanswered_by (λ v. v.items) c.in_ok-reply.reply _ _ _ c.settled.result _ _ c.settled.ensures.ended c.in_ok-reply.ensures.waited (λ w. (c.loop-i.talk, w));
+  unfailed = omega (arith, c.in_ok-reply.ensures.unfailed, c.loop-i.invariant.unfailed);
   faults = tt;
 }
 

@@ -24,6 +24,7 @@ loop-turns-preserved g c =
           (heard_none (λ v. v.items) start _ _ _ replies c.hear_asked.result (c.loop-turns.invariant.talk start replies h) c.hear_asked.ensures.talk none);
       quiet = ap heard_of c.turn.ensures.silent ∙ c.say_on.ensures.quiet ∙ unheard_is_quiet (λ v. v.items) c.hear_asked.result _ _ none c.hear_asked.ensures.talk
           ∙ c.loop-turns.invariant.quiet;
+      unfailed = omega (arith, c.in_ok-turn.ensures.unfailed, c.say_on.ensures.unfailed, c.hear_asked.ensures.unfailed, c.loop-turns.invariant.unfailed);
       turned = turned_more _ _ _ _ c.loop-turns.invariant.turned
           (subst (λ b. Turned 1 b (g.T.Talk.course c.turn.new.self).turns) (c.say_on.ensures.still ∙ c.hear_asked.ensures.still) c.turn.ensures.counted);
     }

@@ -11,5 +11,6 @@ invariant-loop-turns g l = record {
   talk : (start : Option Talked) (replies : List (List ℕ)) → Since start (g.T.Talk.talked l.fn.talk) (upto (row_command l.row) l.fn.flight.said) replies
       → Since start (g.T.Talk.talked l.talk) (upto (row_command l.row) l.flight.said) replies;
   quiet : heard_of (g.T.Talk.talked l.talk) ≡ heard_of (g.T.Talk.talked l.fn.talk);
+  unfailed : (g.T.Talk.course l.talk).failures ≤ (g.T.Talk.course l.fn.talk).failures;
   turned : Turned l.turns (g.T.Talk.course l.fn.talk).turns (g.T.Talk.course l.talk).turns;
 }

@@ -19,6 +19,7 @@ loop-i-preserved g c = record {
       (c.as_slice.ensures.value ∙ c.command-command.ensures);
   quiet = quiet_say _ _ _ _ _ c.loop-i.invariant.quiet c.say.ensures.said;
   still = c.say.ensures.still ∙ c.loop-i.invariant.still;
+  unfailed = c.say.ensures.unfailed ∙ c.loop-i.invariant.unfailed;
 }
 
 pub returns-then-not-say-clause-quiet : goal.returns-then-not-say-clause-quiet

@@ -10,4 +10,5 @@ invariant-loop-i g l = record {
       → Since start (g.T.Talk.talked l.talk) (upto (row_command l.row) l.i) replies;
   quiet : heard_of (g.T.Talk.talked l.talk) ≡ heard_of (g.T.Talk.talked l.fn.talk);
   still : (g.T.Talk.course l.talk).turns ≡ (g.T.Talk.course l.fn.talk).turns;
+  unfailed : (g.T.Talk.course l.talk).failures ≡ (g.T.Talk.course l.fn.talk).failures;
 }

@@ -1,5 +1,6 @@
-use Rattle.std.proofs.Common.{refl, sym}
+use Rattle.std.proofs.Common.{ap, sym}
+use Rattle.chaosd_copy.specs.Talk.{counted}
 use Rattle.chaosd_call.proofs.call.CallTalk.TheImpl.Goals as goal
 
 pub hear-tells : goal.hear-tells
-hear-tells g c = record { heard = sym c.ensures.talk; still = refl }
+hear-tells g c = record { heard = sym c.ensures.talk; still = ap counted c.ensures.still; unfailed = c.ensures.unfailed }
