@@ -106,28 +106,24 @@ where
 }
 
 /// Runs `get`.
-pub(crate) fn run_get_line<R>(rt: &R, line: Get<'_>, is_terminal: bool) -> u8
+pub(crate) fn run_get_line<R>(rt: &R, line: &Get<'_>, is_terminal: bool) -> u8
 where
     R: AllocGlobal + Dial + Eprint + Files<File = File> + Net + Print,
 {
-    let Get {
-        copying,
-        output,
-        paths,
-    } = line;
-    let way = way_of(&copying, is_terminal);
+    let copying = &line.copying;
+    let way = way_of(copying, is_terminal);
     let mut link = match link_to_server(rt, copying.socket, copying.server) {
         Ok(link) => link,
         Err(error) => return tell_unopened(rt, &copying.socket, &error),
     };
-    let mut caller = match Caller::new(rt, rt.alloc(), &mut link, &copying) {
+    let mut caller = match Caller::new(rt, rt.alloc(), &mut link, copying) {
         Ok(caller) => caller,
         Err(fault) => return tell_fault_of(rt, "no file", fault).status,
     };
     let mut run = Copied::new();
-    for path in paths.as_slice() {
+    for path in line.paths.as_slice() {
         if run.goes_on {
-            let local = output.unwrap_or(path);
+            let local = line.output.unwrap_or(path);
             run = worse(run, get_one(rt, &mut caller, path, local, way));
         } else {
             tell_not_tried(rt, path);
@@ -162,6 +158,28 @@ fn as_sent(bytes: &mut [u8], is_text: bool) -> Result<(), u8>
     }
 }
 
+/// Puts the bytes of a local file, as a text where that is asked for.
+fn send<R: AllocGlobal + Clock + Eprint>(
+    rt: &R,
+    caller: &mut Caller<'_, R>,
+    local: &str,
+    path: &[u8],
+    bytes: &mut [u8],
+    way: Way,
+) -> Copied
+    requires path { length path.now ≤ MAX_PATH }
+    requires fits { length bytes.now ≤ MAX_FILE }
+{
+    if let Err(lost) = as_sent(bytes, way.is_text) {
+        return tell_lost(rt, local, lost);
+    }
+    match caller.put(way.viewer(rt, local), path, bytes) {
+        Ok(CopyEnd::Done) => tell_whole(rt, local, bytes.len(), way.is_told),
+        Ok(end) => tell_end_of(rt, local, &end, &caller.no_reply()),
+        Err(fault) => tell_fault_of(rt, local, fault),
+    }
+}
+
 /// Puts one file, which is read whole before anything of it is sent.
 fn put_one<R>(rt: &R, caller: &mut Caller<'_, R>, local: &str, path: &[u8], way: Way) -> Copied
 where
@@ -170,18 +188,10 @@ where
     if path.len() > MAX_PATH {
         return tell_too_long(rt, local);
     }
-    let mut bytes = match local_bytes(rt, local) {
-        Ok(Some(bytes)) => bytes,
-        Ok(None) => return tell_too_big(rt, local),
-        Err(error) => return tell_io(rt, "open", local, &error),
-    };
-    if let Err(lost) = as_sent(bytes.as_mut_slice(), way.is_text) {
-        return tell_lost(rt, local, lost);
-    }
-    match caller.put(way.viewer(rt, local), path, bytes.as_slice()) {
-        Ok(CopyEnd::Done) => tell_whole(rt, local, bytes.len(), way.is_told),
-        Ok(end) => tell_end_of(rt, local, &end, &caller.no_reply()),
-        Err(fault) => tell_fault_of(rt, local, fault),
+    match local_bytes(rt, local) {
+        Ok(Some(mut bytes)) => send(rt, caller, local, path, bytes.as_mut_slice(), way),
+        Ok(None) => tell_too_big(rt, local),
+        Err(error) => tell_io(rt, "open", local, &error),
     }
 }
 
@@ -200,31 +210,27 @@ fn lacks_input<R: Input>(rt: &R, locals: &[&str]) -> bool {
 }
 
 /// Runs `put`.
-pub(crate) fn run_put_line<R>(rt: &R, line: Put<'_>, is_terminal: bool) -> u8
+pub(crate) fn run_put_line<R>(rt: &R, line: &Put<'_>, is_terminal: bool) -> u8
 where
     R: AllocGlobal + Dial + Eprint + Files<File = File> + Input + Net,
 {
-    let Put {
-        copying,
-        path,
-        locals,
-    } = line;
-    if lacks_input(rt, locals.as_slice()) {
+    if lacks_input(rt, line.locals.as_slice()) {
         return tell_fault_of(rt, STREAM, RunFault::ReadFault).status;
     }
-    let way = way_of(&copying, is_terminal);
+    let copying = &line.copying;
+    let way = way_of(copying, is_terminal);
     let mut link = match link_to_server(rt, copying.socket, copying.server) {
         Ok(link) => link,
         Err(error) => return tell_unopened(rt, &copying.socket, &error),
     };
-    let mut caller = match Caller::new(rt, rt.alloc(), &mut link, &copying) {
+    let mut caller = match Caller::new(rt, rt.alloc(), &mut link, copying) {
         Ok(caller) => caller,
         Err(fault) => return tell_fault_of(rt, "no file", fault).status,
     };
     let mut run = Copied::new();
-    for local in locals.as_slice() {
+    for local in line.locals.as_slice() {
         if run.goes_on {
-            let name = path_of(path, local);
+            let name = path_of(line.path, local);
             run = worse(run, put_one(rt, &mut caller, local, name, way));
         } else {
             tell_not_tried(rt, local);

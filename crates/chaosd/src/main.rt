@@ -44,8 +44,8 @@ where
         Line::Loop(carriage) => run_loop_line(rt, carriage),
         Line::Ask(ask) => run_ask_line(rt, ask),
         Line::Serve(serve) => run_serve_line(rt, serve),
-        Line::Get(get) => run_get_line(rt, get, is_terminal),
-        Line::Put(put) => run_put_line(rt, put, is_terminal),
+        Line::Get(get) => run_get_line(rt, &get, is_terminal),
+        Line::Put(put) => run_put_line(rt, &put, is_terminal),
     }
 }
 

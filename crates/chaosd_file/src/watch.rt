@@ -12,7 +12,7 @@ use chaos_host::{ConnId, Host};
 use chaos_turn::Sessions;
 
 /// A connection that was seen in a slot.
-#[derive(Clone, Copy, Debug, PartialEq, Eq)]
+#[derive(Clone, Copy)]
 pub struct Seen {
     id: ConnId,
     peer: End,
