@@ -76,7 +76,7 @@ install: $(PROGRAM) ## puts the program, its manual page, the dissector and the 
 uninstall: ## takes away what `make install` with the same PREFIX put there
 	rm -f "$(DESTDIR)$(PREFIX)/bin/chaosd" "$(DESTDIR)$(PREFIX)/share/man/man1/chaosd.1"
 	rm -f "$(DESTDIR)$(PREFIX)/lib/systemd/system/chaosd.service" "$(DESTDIR)$(PREFIX)/share/chaosd/chaosnet.lua"
-	test ! -d "$(DESTDIR)$(PREFIX)/share/chaosd" || rmdir "$(DESTDIR)$(PREFIX)/share/chaosd"
+	test ! -d "$(DESTDIR)$(PREFIX)/share/chaosd" || rmdir --ignore-fail-on-non-empty "$(DESTDIR)$(PREFIX)/share/chaosd"
 
 clean: ## takes away all that was built
 	rm -rf bin out crates/*/out

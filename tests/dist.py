@@ -12,7 +12,8 @@ import tempfile
 from tests.support import DONE, LONG, PATIENCE, PROGRAM, ROOT, Case, Ended, at, free_ports, line_of
 
 NAMES = {
-    "bin/chaosd", "share/man/man1/chaosd.1", "tools/wireshark/chaosnet.lua", "tools/ladder", "README.md", "CHANGELOG.md", "LICENSE-APACHE", "LICENSE-MIT",
+    "bin/chaosd", "share/man/man1/chaosd.1", "tools/wireshark/chaosnet.lua", "tools/ladder",
+    "README.md", "CHANGELOG.md", "LICENSE-APACHE", "LICENSE-MIT",
     "examples/hello.file", "examples/chaosd.service", "examples/lab/opening.lab", "docs/PROTOCOL.md",
     "docs/FILE.md", "docs/SCRIPTS.md", "examples/lisp/chaosd.lisp", "examples/vectors/session.txt",
     "docs/LIBRARY.md", "docs/OPERATING.md", "crates/example_talk/src/main.rt",
@@ -116,8 +117,8 @@ class Dist(Case):
         lines = [line for shell in shells_of(self.top / "README.md", "What is here") for line in shell]
         problems = [problem for line, printed in lines for problem in typed(self.top, ["sh", "-c", line], printed)]
         self.check("its first commands print there what it says", problems if lines else ["no line"])
-        named = [name for name in re.findall(r"`(?:man -l )?([\w./]+/[\w.]+)`", text.partition("\n## Moving")[0]) if not (self.top / name).is_file()]
-        self.check("and what it names is there", named)
+        named = re.findall(r"`(?:man -l )?([\w./]+/[\w.]+)`", text.partition("\n## Moving")[0])
+        self.check("and what it names is there", [name for name in named if not (self.top / name).is_file()])
 
     def test_a_ladder_is_drawn_as_its_page_says(self):
         lines = [line for shell in shells_of(self.top / "docs/LABORATORY.md", "As a picture") for line in shell]
@@ -125,6 +126,14 @@ class Dist(Case):
         self.check("the lines of the page pass", problems if len(lines) == 2 else [str(lines)])
         drawn = (self.top / "late.svg").read_text()
         self.check("and draw the picture of the page", [] if drawn == (self.top / "docs/pictures/late.svg").read_text() else [drawn[:200]])
+
+    def test_the_dissector_is_copied_as_its_page_says(self):
+        lines = [line for shell in shells_of(self.top / "docs/SCRIPTS.md", "In Wireshark") for line, _ in shell][:2]
+        (home := self.top / "home").mkdir()
+        problems = [problem for line in lines for problem in typed(self.top, ["sh", "-c", f"HOME={shlex.quote(str(home))}; {line}"], "")]
+        copied = [path.read_bytes() for path in home.rglob("chaosnet.lua")]
+        is_right = copied == [(ROOT / "tools/wireshark/chaosnet.lua").read_bytes()]
+        self.check("the first two lines of the page put it into the folder of plugins", problems + ([] if is_right else [str(lines)]))
 
     def test_unpacked_elsewhere_it_serves_and_asks(self):
         ports = free_ports(2)
