@@ -2,6 +2,8 @@
 
 PREFIX ?= /usr/local
 RT ?= rt
+# what `dist` and `install` take; another program is named by PROGRAM=..
+PROGRAM := bin/chaosd
 SOURCES := crates.txt HANDLES $(shell find crates \( -name out -o -name must-fail -o -name wrong-bodies \) -prune -o -type f -print)
 BENCHES := codec links window host file turn
 PROGRAM_BENCHES := show lab loop calls copy stack
@@ -9,7 +11,7 @@ DIALOGUES := out/checked/random_dialogues
 SEED ?= $(shell date +%s)
 PACKETS ?= 1000000
 
-.PHONY: all help demo test check fmt fmt-check lint wrong-bodies dialogues pictures bench $(PROGRAM_BENCHES:%=bench-%) $(BENCHES:%=bench-%) dist install clean
+.PHONY: all help demo test check fmt fmt-check lint wrong-bodies dialogues pictures bench $(PROGRAM_BENCHES:%=bench-%) $(BENCHES:%=bench-%) dist install uninstall clean
 
 all: bin/chaosd ## proves the program and all that it stands on, and builds bin/chaosd
 
@@ -59,14 +61,22 @@ $(PROGRAM_BENCHES:%=bench-%): bench-%: bin/chaosd
 $(BENCHES:%=bench-%): bench-%:
 	@RT=$(RT) python3 bench/beside.py $*
 
-dist: bin/chaosd ## packs the program, its manual page, documents, examples, dissector and licences into a tar file in out/
-	@tools/dist bin/chaosd out
+dist: $(PROGRAM) ## packs the program, its manual page, documents, examples, dissector and licences into a tar file in out/
+	@tools/dist $(PROGRAM) out
 
-install: bin/chaosd ## puts the program into PREFIX/bin, and its manual page into PREFIX/share/man/man1
-	install -d $(DESTDIR)$(PREFIX)/bin
-	install -m 755 bin/chaosd $(DESTDIR)$(PREFIX)/bin/chaosd
-	install -d $(DESTDIR)$(PREFIX)/share/man/man1
-	install -m 644 docs/chaosd.1 $(DESTDIR)$(PREFIX)/share/man/man1/chaosd.1
+# systemd reads units below /usr/local and /usr; the one that is installed names the program where it was put
+install: $(PROGRAM) ## puts the program, its manual page, the dissector and the unit for systemd below PREFIX, /usr/local
+	install -d "$(DESTDIR)$(PREFIX)/bin" "$(DESTDIR)$(PREFIX)/share/man/man1" "$(DESTDIR)$(PREFIX)/share/chaosd" "$(DESTDIR)$(PREFIX)/lib/systemd/system"
+	install -m 755 $(PROGRAM) "$(DESTDIR)$(PREFIX)/bin/chaosd"
+	install -m 644 docs/chaosd.1 "$(DESTDIR)$(PREFIX)/share/man/man1/chaosd.1"
+	install -m 644 tools/wireshark/chaosnet.lua "$(DESTDIR)$(PREFIX)/share/chaosd/chaosnet.lua"
+	install -m 644 examples/chaosd.service "$(DESTDIR)$(PREFIX)/lib/systemd/system/chaosd.service"
+	sed -i 's|/usr/local/bin/chaosd|$(PREFIX)/bin/chaosd|' "$(DESTDIR)$(PREFIX)/lib/systemd/system/chaosd.service"
+
+uninstall: ## takes away what `make install` with the same PREFIX put there
+	rm -f "$(DESTDIR)$(PREFIX)/bin/chaosd" "$(DESTDIR)$(PREFIX)/share/man/man1/chaosd.1"
+	rm -f "$(DESTDIR)$(PREFIX)/lib/systemd/system/chaosd.service" "$(DESTDIR)$(PREFIX)/share/chaosd/chaosnet.lua"
+	test ! -d "$(DESTDIR)$(PREFIX)/share/chaosd" || rmdir --ignore-fail-on-non-empty "$(DESTDIR)$(PREFIX)/share/chaosd"
 
 clean: ## takes away all that was built
 	rm -rf bin out crates/*/out

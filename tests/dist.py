@@ -1,4 +1,4 @@
-"""Tests tools/dist: what it packs is unpacked elsewhere, and serves and asks there."""
+"""Tests tools/dist: what it packs is unpacked elsewhere, and does there what its README and its pages say."""
 
 import os
 import pathlib
@@ -12,10 +12,14 @@ import tempfile
 from tests.support import DONE, LONG, PATIENCE, PROGRAM, ROOT, Case, Ended, at, free_ports, line_of
 
 NAMES = {
-    "bin/chaosd", "share/man/man1/chaosd.1", "wireshark/chaosnet.lua", "README.md", "CHANGELOG.md", "LICENSE-APACHE", "LICENSE-MIT",
+    "bin/chaosd", "share/man/man1/chaosd.1", "tools/wireshark/chaosnet.lua", "tools/ladder",
+    "README.md", "CHANGELOG.md", "LICENSE-APACHE", "LICENSE-MIT",
     "examples/hello.file", "examples/chaosd.service", "examples/lab/opening.lab", "docs/PROTOCOL.md",
     "docs/FILE.md", "docs/SCRIPTS.md", "examples/lisp/chaosd.lisp", "examples/vectors/session.txt",
+    "docs/LIBRARY.md", "docs/OPERATING.md", "crates/example_talk/src/main.rt",
 }  # fmt: skip
+
+FENCE = re.compile(r"^```.*?^```", re.M | re.S)
 
 
 def dist(*words):
@@ -23,13 +27,29 @@ def dist(*words):
     return subprocess.run([ROOT / "tools/dist", *words], capture_output=True, text=True, timeout=LONG)
 
 
-def shells_of(readme, ports):
-    """The lines that the README has the user type in two shells, each with what is printed then; with these ports for its own."""
-    said = readme.partition("\n## Moving files\n")[2].partition("\n## ")[0]
+def shells_of(page, section, ports=()):
+    """The lines that a page's section has the user type in each shell, with what is printed then; with these ports for its own."""
+    said = page.read_text().partition(f"\n## {section}\n")[2].partition("\n## ")[0]
     for number, port in zip((9001, 9002), ports):
         said = said.replace(f":{number}", f":{port}")
     blocks = re.findall(r"^```text\n(.*?)^```$", said, re.M | re.S)
     return [[tuple(typed.split("\n", 1)) for typed in re.split(r"^\$ ", block, flags=re.M)[1:]] for block in blocks]
+
+
+def anchors(page):
+    """The names by which a page's headings are linked."""
+    heads = re.findall(r"^#+ (.*)$", FENCE.sub("", page.read_text()), re.M)
+    return {re.sub(r"[^\w\- ]", "", head.lower()).strip().replace(" ", "-") for head in heads}
+
+
+def dead(page):
+    """The links of a page that lead to no file and no heading beside it."""
+    found = []
+    for path, name in re.findall(r"\]\((?![a-z]+:)([^)#\s]*)#?([^)\s]*)\)", FENCE.sub("", page.read_text())):
+        target = page.parent / path if path else page
+        if not target.is_file() or name and target.suffix == ".md" and name not in anchors(target):
+            found.append(f"{page.name}: {path}#{name}")
+    return found
 
 
 def typed(top, words, printed):
@@ -80,13 +100,40 @@ class Dist(Case):
         self.check("all stands in one folder, named by the version", [] if top == {self.top.name} else [str(top)])
         names = {entry.name.partition("/")[2] for entry in entries}
         self.check("what a user needs is there", [f"no {name}" for name in sorted(NAMES - names)])
-        is_right = lambda it: it.isfile() and it.mode == (0o755 if "/bin/" in it.name else 0o644) and not it.uid and not it.mtime
+        is_run = lambda it: it.name.endswith(("/bin/chaosd", "/tools/ladder"))
+        is_right = lambda it: it.isfile() and it.mode == (0o755 if is_run(it) else 0o644) and not it.uid and not it.mtime
         wrong = [f"{it.name} {it.mode:o}" for it in entries if not is_right(it)]
         self.check("files alone, of no user and no time", wrong)
 
-    def test_what_the_readme_links_to_is_there(self):
-        linked = re.findall(r"\]\(([^):#]+)", (self.top / "README.md").read_text())
-        self.assertEqual([], [name for name in linked if not (self.top / name).is_file()])
+    def test_every_link_of_every_page_leads_somewhere(self):
+        pages = sorted(self.top.rglob("*.md"))
+        self.assertIn(self.top / "README.md", pages)
+        self.assertEqual([], [link for page in pages for link in dead(page)])
+
+    def test_the_first_commands_of_the_readme_print_what_it_says(self):
+        text = (self.top / "README.md").read_text()
+        first = text.partition("\n## ")[2].partition("\n")[0]
+        self.check("its first section is of what is here, and wants nothing built", [] if first == "What is here" else [first])
+        lines = [line for shell in shells_of(self.top / "README.md", "What is here") for line in shell]
+        problems = [problem for line, printed in lines for problem in typed(self.top, ["sh", "-c", line], printed)]
+        self.check("its first commands print there what it says", problems if lines else ["no line"])
+        named = re.findall(r"`(?:man -l )?([\w./]+/[\w.]+)`", text.partition("\n## Moving")[0])
+        self.check("and what it names is there", [name for name in named if not (self.top / name).is_file()])
+
+    def test_a_ladder_is_drawn_as_its_page_says(self):
+        lines = [line for shell in shells_of(self.top / "docs/LABORATORY.md", "As a picture") for line in shell]
+        problems = [problem for line, printed in lines for problem in typed(self.top, ["sh", "-c", line], printed)]
+        self.check("the lines of the page pass", problems if len(lines) == 2 else [str(lines)])
+        drawn = (self.top / "late.svg").read_text()
+        self.check("and draw the picture of the page", [] if drawn == (self.top / "docs/pictures/late.svg").read_text() else [drawn[:200]])
+
+    def test_the_dissector_is_copied_as_its_page_says(self):
+        lines = [line for shell in shells_of(self.top / "docs/SCRIPTS.md", "In Wireshark") for line, _ in shell][:2]
+        (home := self.top / "home").mkdir()
+        problems = [problem for line in lines for problem in typed(self.top, ["sh", "-c", f"HOME={shlex.quote(str(home))}; {line}"], "")]
+        copied = [path.read_bytes() for path in home.rglob("chaosnet.lua")]
+        is_right = copied == [(ROOT / "tools/wireshark/chaosnet.lua").read_bytes()]
+        self.check("the first two lines of the page put it into the folder of plugins", problems + ([] if is_right else [str(lines)]))
 
     def test_unpacked_elsewhere_it_serves_and_asks(self):
         ports = free_ports(2)
@@ -107,7 +154,7 @@ class Dist(Case):
         self.check("the server keeps the file", [] if len(kept) == 1 else [str(list(folder.iterdir()))])
 
     def test_the_two_shells_of_the_readme_print_what_it_says(self):
-        server, client = shells_of((self.top / "README.md").read_text(), free_ports(2))
+        server, client = shells_of(self.top / "README.md", "Moving files", free_ports(2))
         *before, (serve, _) = server
         problems = [problem for line, printed in before for problem in typed(self.top, shlex.split(line), printed)]
         serving = subprocess.Popen(shlex.split(serve), cwd=self.top, stderr=subprocess.PIPE)
