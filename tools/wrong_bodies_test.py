@@ -67,6 +67,7 @@ EDITS = {
     "const": ("    n + n", "    WRONG"),
     "harmless": ("    let one = n;", "    let one = n + 0;"),
     "broken": ("    let one = n;", "    let one = BROKEN;"),
+    "far": ("    let one = n;", "    let one = FAR;"),
 }
 
 RT = """#!/usr/bin/env python3
@@ -78,7 +79,7 @@ with open(pathlib.Path(__file__).parent / "asked", "a") as log:
 here = pathlib.Path.cwd()
 if sys.argv[1] == "must-fail":
     for edit in sorted((here / "crates" / sys.argv[2] / "must-fail").glob("*.edit")):
-        is_wrong = "WRONG" in edit.read_text()
+        is_wrong = "WRONG" in edit.read_text() or "FAR" in edit.read_text()
         print(f"rt: must-fail {sys.argv[2]}/{edit.name}: " + ("refused, as it must be" if is_wrong else "NOT REFUSED: the crate is proved"))
     sys.exit()
 (here / "out/incremental").mkdir(parents=True, exist_ok=True)
@@ -86,7 +87,7 @@ text = (here / "src/lib.rt").read_text()
 if "BROKEN" in text:
     sys.exit("error[name]: src/lib.rt:11:15: there is no BROKEN")
 lines = text.split("\\n")
-wrong = [number for number, line in enumerate(lines, 1) if "WRONG" in line]
+wrong = [number for number, line in enumerate(lines, 1) if "WRONG" in line] + [6] * ("FAR" in text)
 for number in wrong:
     print(f"note: src/lib.rt:{number}:5: it is not proved that what the function ensures holds")
 print("logic=not-proved" if wrong else "logic=proved functions=4")
@@ -274,6 +275,18 @@ class Unread(Example):
         self.assertEqual((1, "1 passed, 1 failed"), (status, lines[-1]))
         self.assertIn("high/broken: NOT REFUSED", lines)
         # the crate as it stands; both; each of the two; broken once more, and alone
+        self.assertEqual(["check"] * 5 + ["must-fail"], asked)
+
+
+class Far(Example):
+    """One by which another function fails than the one that it changes."""
+
+    names = ("two", "far")
+
+    def test_it_is_tried_alone_and_the_others_without_it(self):
+        status, lines, asked = self.tried()
+        self.assertEqual((0, "2 passed, 0 failed"), (status, lines[-1]))
+        # the crate as it stands; both; each of the two; the far one once more, and alone
         self.assertEqual(["check"] * 5 + ["must-fail"], asked)
 
 
