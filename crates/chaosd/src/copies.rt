@@ -159,7 +159,7 @@ fn as_sent(bytes: &mut [u8], is_text: bool) -> Result<(), u8>
 }
 
 /// Puts the bytes of a local file, as a text where that is asked for.
-fn send<R: AllocGlobal + Clock + Eprint>(
+fn send<R: AllocGlobal + Dial + Eprint>(
     rt: &R,
     caller: &mut Caller<'_, R>,
     local: &str,
