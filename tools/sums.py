@@ -1,7 +1,7 @@
 """Sums of what the refusal of a wrong body rests on, kept in docs/wrong-bodies.sums by whoever saw it refused.
 
 A line is a crate, a wrong body of it, and eight hexadecimal digits over what the proof of its crate reads, and its own text. Behind
-them `untried` says that it was refused when it was written, before this file was, and not tried since; it counts as kept.
+them `untried` says that it was refused on earlier sources, and not tried on these; it counts as kept.
 
 A proof reads src/, specs/ and proofs/ of its crate; of each crate below it specs/, the contracts of public functions, the types and the
 constants. Only words count, so neither a comment nor a layout changes a sum, nor the body of a function of another crate. The kit
