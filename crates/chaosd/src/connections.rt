@@ -3,7 +3,7 @@ ghost use Rattle.std.specs.Prelude.{None};
 
 use chaos_conn::End;
 use chaosd_client::Shown;
-use chaosd_file::{Ending, Log};
+use file_server::{Ending, Log};
 
 /// Tells on standard error of each connection that opens and of each that ends, unless it is to be quiet.
 #[derive(Drop)]

@@ -7,11 +7,11 @@ use chaos_conn::ConnConfig;
 use chaos_file::DirStore;
 use chaos_link::{Carriage, Peer, Peers, UdpLink};
 use chaosd_file::{
-    LOOP_CLIENT, LOOP_SERVER, NOBODY, ScriptEnd, Why, run_ask, run_loop, run_serve_by,
-    script_status, serve_status,
+    LOOP_CLIENT, LOOP_SERVER, NOBODY, ScriptEnd, Why, run_ask, run_loop, script_status,
 };
 use chaosd_io::RunFault;
 use chaosd_line::{Ask, Serve};
+use file_server::{ServeOptions, run_serve_by, serve_status};
 use std::fs::{File, Files};
 use std::io;
 use std::io::Read;
@@ -185,17 +185,14 @@ pub(crate) fn run_serve_line<R: AllocGlobal + Clock + Eprint + Files<File = File
     if !is_quiet {
         let _ = eprintln!(rt; "chaosd: host {address:06o} serves {folder} at {socket}");
     }
-    let end = run_serve_by(
-        rt,
-        rt.alloc(),
-        &mut link,
-        &mut store,
-        address,
-        ConnConfig::with_window(window),
-        u64::from(turns),
+    let options = ServeOptions {
+        me: address,
+        config: ConnConfig::with_window(window),
+        turns: u64::from(turns),
         carriage,
-        &mut Connections::new(rt, is_quiet),
-    );
+    };
+    let mut log = Connections::new(rt, is_quiet);
+    let end = run_serve_by(rt, rt.alloc(), &mut link, &mut store, options, &mut log);
     tell_served(rt, &end, turns, is_quiet);
     serve_status(&end)
 }
