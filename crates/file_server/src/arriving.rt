@@ -29,11 +29,11 @@ fn accept<L: Link>(
     request: Option<ConnId>,
     link: &mut L,
     out: &mut Outbox,
-    terms: Terms,
+    terms: &Terms,
 ) -> bool
     requires room { TURN_ROOM ≤ out.old.cap }
     requires empty { out.old.packets ≡ [] }
-    ensures { DoesPhase terms.carriage (accept_by host.old terms.start terms.moment request) (station host.old (L.queue link.old) out.old) (station host.new (L.queue link.new) out.new) result }
+    ensures { DoesPhase terms.now.carriage (accept_by host.old terms.now.start terms.now.moment request) (station host.old (L.queue link.old) out.old) (station host.new (L.queue link.new) out.new) result }
 {
     let Some(id) = request else {
         return false;
@@ -49,11 +49,11 @@ fn greet<L: Link>(
     packet: &Packet,
     link: &mut L,
     out: &mut Outbox,
-    terms: Terms,
+    terms: &Terms,
 ) -> bool
     requires room { TURN_ROOM ≤ out.old.cap }
     requires empty { out.old.packets ≡ [] }
-    ensures { DoesPhase terms.carriage (greet terms.start terms.moment packet.now host.old) (station host.old (L.queue link.old) out.old) (station host.new (L.queue link.new) out.new) result }
+    ensures { DoesPhase terms.now.carriage (greet terms.now.start terms.now.moment packet.now host.old) (station host.old (L.queue link.old) out.old) (station host.new (L.queue link.new) out.new) result }
 {
     let became = host.take(packet, terms.moment, out);
     let sent = send_all(link, out, terms.carriage);
@@ -66,11 +66,11 @@ fn greet_all<L: Link>(
     mut packets: Packets<'_>,
     link: &mut L,
     out: &mut Outbox,
-    terms: Terms,
+    terms: &Terms,
 ) -> bool
     requires room { TURN_ROOM ≤ out.old.cap }
     requires empty { out.old.packets ≡ [] }
-    ensures { DoesPhase terms.carriage (over_packets (greet terms.start terms.moment) packets.entry host.old) (station host.old (L.queue link.old) out.old) (station host.new (L.queue link.new) out.new) result }
+    ensures { DoesPhase terms.now.carriage (over_packets (greet terms.now.start terms.now.moment) packets.entry host.old) (station host.old (L.queue link.old) out.old) (station host.new (L.queue link.new) out.new) result }
 {
     let mut sent = false;
     let mut packet = Packet::default();
@@ -86,11 +86,11 @@ pub fn arrive_at_server<L: Link>(
     came: Option<Result<Packets<'_>, LinkFault>>,
     link: &mut L,
     out: &mut Outbox,
-    terms: Terms,
+    terms: &Terms,
 ) -> bool
     requires room { TURN_ROOM ≤ out.old.cap }
     requires empty { out.old.packets ≡ [] }
-    ensures { DoesPhase terms.carriage (arrive_at_server came.entry terms.start terms.moment host.old) (station host.old (L.queue link.old) out.old) (station host.new (L.queue link.new) out.new) result }
+    ensures { DoesPhase terms.now.carriage (arrive_at_server came.entry terms.now.start terms.now.moment host.old) (station host.old (L.queue link.old) out.old) (station host.new (L.queue link.new) out.new) result }
 {
     match came {
         Some(Ok(packets)) => greet_all(host, packets, link, out, terms),

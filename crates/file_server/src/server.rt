@@ -96,7 +96,7 @@ impl Server {
             link,
             &mut node.out,
             &mut node.buffer,
-            terms,
+            &terms,
         )
     }
 

@@ -24,10 +24,10 @@ fn serve_kept<S: Store>(
     store: &mut S,
     out: &mut Outbox,
     reply: &mut Reply,
-    terms: Terms,
+    terms: &Terms,
 )
     requires { 2 ≤ room_of out.old }
-    ensures { SessionServes (change S.contents S.may_give S.count store.old store.new) terms.moment id (serving_of id kept.old)
+    ensures { SessionServes (change S.contents S.may_give S.count store.old store.new) terms.now.moment id (serving_of id kept.old)
         (λ serving acted. DoesKept serving kept.new host.old acted host.new out.old out.new) host.old }
 {
     kept.turn_to(id);
@@ -47,12 +47,12 @@ fn serve_slot<S: Store, L: Link>(
     place: usize,
     link: &mut L,
     out: &mut Outbox,
-    terms: Terms,
+    terms: &Terms,
 ) -> bool
     requires within { place < length sessions.old }
     requires room { TURN_ROOM ≤ out.old.cap }
     requires empty { out.old.packets ≡ [] }
-    ensures { ServerDoes terms.carriage (ServesSlot (change S.contents S.may_give S.count) terms.moment place)
+    ensures { ServerDoes terms.now.carriage (ServesSlot (change S.contents S.may_give S.count) terms.now.moment place)
         (station (server host.old sessions.old store.old) (L.queue link.old) out.old)
         (station (server host.new sessions.new store.new) (L.queue link.new) out.new) result }
 {
@@ -77,12 +77,12 @@ pub fn serve_slots<S: Store, L: Link>(
     store: &mut S,
     link: &mut L,
     out: &mut Outbox,
-    terms: Terms,
+    terms: &Terms,
 ) -> bool
     requires alike { length sessions.old ≡ length host.old.slots }
     requires room { TURN_ROOM ≤ out.old.cap }
     requires empty { out.old.packets ≡ [] }
-    ensures { ServerDoes terms.carriage (ServesSlots (change S.contents S.may_give S.count) terms.moment (length host.old.slots))
+    ensures { ServerDoes terms.now.carriage (ServesSlots (change S.contents S.may_give S.count) terms.now.moment (length host.old.slots))
         (station (server host.old sessions.old store.old) (L.queue link.old) out.old)
         (station (server host.new sessions.new store.new) (L.queue link.new) out.new) result }
 {

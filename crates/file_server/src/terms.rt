@@ -5,7 +5,7 @@ use chaos_packet::PktNum;
 use std::alloc::Global;
 
 /// What a turn of a server is handed beside what it works on.
-#[derive(Clone, Copy)]
+#[derive(Drop)]
 pub(crate) struct Terms {
     /// Where memory is taken.
     pub(crate) alloc: Global,

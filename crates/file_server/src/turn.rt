@@ -27,12 +27,12 @@ fn take_turn<S: Store, L: Link>(
     came: Option<Result<Packets<'_>, LinkFault>>,
     link: &mut L,
     out: &mut Outbox,
-    terms: Terms,
+    terms: &Terms,
 ) -> bool
     requires alike { length sessions.old ≡ length host.old.slots }
     requires room { TURN_ROOM ≤ out.old.cap }
     requires empty { out.old.packets ≡ [] }
-    ensures { ServerDoes terms.carriage (IsTurn (change S.contents S.may_give S.count) came.entry terms.start terms.moment)
+    ensures { ServerDoes terms.now.carriage (IsTurn (change S.contents S.may_give S.count) came.entry terms.now.start terms.now.moment)
         (station (server host.old sessions.old store.old) (L.queue link.old) out.old)
         (station (server host.new sessions.new store.new) (L.queue link.new) out.new) result }
 {
@@ -50,12 +50,12 @@ pub(crate) fn make_turn<S: Store, L: Link>(
     link: &mut L,
     out: &mut Outbox,
     buffer: &mut [u8; LINK_ROOM],
-    terms: Terms,
+    terms: &Terms,
 ) -> TurnEnd
     requires alike { length sessions.old ≡ length host.old.slots }
     requires room { TURN_ROOM ≤ out.old.cap }
     ensures fault { (result ≡ TurnEnd.LinkFault) ↔ Rose (L.count link.old) (L.count link.new) }
-    ensures turn { RunsTurn (change S.contents S.may_give S.count) terms.carriage terms.start terms.moment
+    ensures turn { RunsTurn (change S.contents S.may_give S.count) terms.now.carriage terms.now.start terms.now.moment
         (station (server host.old sessions.old store.old) (L.queue link.old) out.old)
         (station (server host.new sessions.new store.new) (L.queue link.new) out.new) result }
     ensures outbox { out.new ≡ record { packets = []; cap = out.old.cap } }
@@ -123,5 +123,5 @@ pub fn run_turn<S: Store, L: Link>(
         carriage,
         may_wait,
     };
-    make_turn(host, sessions, store, link, out, buffer, terms)
+    make_turn(host, sessions, store, link, out, buffer, &terms)
 }
