@@ -139,6 +139,9 @@ NO_PROMISE = [
 
 TOLD = """# Calling `demo`
 
+A demo, which
+shows. It does no more.
+
 ## What is proved
 
 No promise: `Queue::length`: it is for reports alone.
@@ -167,6 +170,12 @@ SAID = """# Demo
 | Promise | Call | Clause | Rests on |
 |---|---|---|---|
 | b | [`read`](../crates/demo/CALLING.md#what-is-proved) | `carried` | `law` |
+
+## The crates
+
+- [demo](../crates/demo/CALLING.md): A demo, which shows.
+
+## Behind them
 """
 
 UNTOLD = [
@@ -187,21 +196,21 @@ CHANGES = [
     ("CALLING.md", "| b | `read`", "| another | `read`", []),
     ("src/lib.rt", "ensures carried { IfOk result", "ensures carried { // why\n    IfOk  result", []),
     ("src/lib.rt", "ensures carried { IfOk", "ensures carried { IfErr", [
-        ("CALLING.md", 10, f"clause `carried` of `read` changed since its row was read: {AGAIN}"),
+        ("CALLING.md", 13, f"clause `carried` of `read` changed since its row was read: {AGAIN}"),
         ("PROVED.md", 5, f"clause `carried` of `read` changed since its row was read: {AGAIN}"),
     ]),
     ("src/lib.rt", "x' == '{'", "x' == '}'", [
-        ("CALLING.md", 9, f"the clause of `law` changed since its row was read: {AGAIN}"),
+        ("CALLING.md", 12, f"the clause of `law` changed since its row was read: {AGAIN}"),
     ]),
     ("src/lib.rt", "bytes.now < 4", "bytes.now < 3", [
-        ("CALLING.md", 10, f"`requires` of `read` changed since its row was read: {AGAIN}"),
+        ("CALLING.md", 13, f"`requires` of `read` changed since its row was read: {AGAIN}"),
         ("PROVED.md", 5, f"`requires` of `read` changed since its row was read: {AGAIN}"),
     ]),
     ("CALLING.md", "`carried`, `only`", "`carried`", [
         ("proved.sums", 8, "no row names only of read of demo any more: tools/claims --accept"),
     ]),
     ("CALLING.md", "`oldest`", "`rest`", [
-        ("CALLING.md", 11, f"clause `rest` of `Queue::take` changed since its row was read: {AGAIN}"),
+        ("CALLING.md", 14, f"clause `rest` of `Queue::take` changed since its row was read: {AGAIN}"),
         ("proved.sums", 4, "no row names oldest of Queue::take of demo any more: tools/claims --accept"),
     ]),
     ("CALLING.md", "| e | `Link::close` | its one clause |\n", "", [
@@ -215,12 +224,17 @@ CHANGES = [
     ("docs/PROVED.md", "| `carried` |", "| `oldest` |", [("PROVED.md", 5, "no row of demo names clause `oldest` of `read`")]),
     ("docs/proved.sums", "demo law - ", "demo law ", [
         ("proved.sums", 6, "no three names and a sum: tools/claims --accept"),
-        ("CALLING.md", 9, f"the clause of `law` changed since its row was read: {AGAIN}"),
+        ("CALLING.md", 12, f"the clause of `law` changed since its row was read: {AGAIN}"),
     ]),
+    ("CALLING.md", "A demo, which\nshows", "An example, which\nshows", [
+        ("PROVED.md", 7, "the list of crates is an old one: tools/claims --accept"),
+    ]),
+    ("CALLING.md", "A demo, which\nshows", "A demo,\nwhich shows", []),
     # what a merge of two sides leaves
     ("docs/proved.sums", "demo law - ", "demo law - 00000000\ndemo law - ", []),
     ("crates.txt", "demo:", "other:", [
         ("crates.txt", 1, "demo of crates/ has no line"),
+        ("PROVED.md", 7, "the list of crates is an old one: tools/claims --accept"),
         ("PROVED.md", 5, "[`read`](../crates/demo/CALLING.md#what-is-proved) leads to no crate's page"),
     ]),
 ]
@@ -262,6 +276,7 @@ FRONT = [
     ("`carried` and `rest` of `read`", "no row names clause `rest` of `read`"),
     ("`rest` of `Queue::take`", "no row names clause `rest` of `Queue::take`"),
     ("`Queue::take` and `Queue::length`", None),
+    ("`demo::Queue`", None),
     ("`Queue::inner`", "`Queue::inner` is no public call"),
     ("[a page](docs/PROVED.md#demo), `crates/demo/src/lib.rt`, [elsewhere](https://example.org/x)", None),
     ("[a page](docs/PROVED.md#other)", "docs/PROVED.md#other isn't there"),
@@ -365,6 +380,17 @@ def check_changes(checks, changes):
             checks.same(what, (is_new == noted, old in text, seen), (True, True, wanted))
 
 
+def check_list(checks):
+    """The list of crates is written by `--accept`, and nothing else of its document."""
+    with tempfile.TemporaryDirectory() as folder:
+        top, _ = example(folder)
+        file = top / "docs/PROVED.md"
+        file.write_text(SAID.replace("A demo, which shows.", "Something else.\n- [gone](../crates/gone/CALLING.md): Not there."))
+        with contextlib.redirect_stdout(io.StringIO()):
+            ended = accept(top)
+        checks.same("the list of crates is written anew", (ended, file.read_text()), (0, SAID))
+
+
 def check_front(checks, top):
     """Each wrong line of README.md is refused for what is wrong with it."""
     (top / "Makefile").write_text("all: it\n")
@@ -383,5 +409,6 @@ def self_test():
         check_calls(checks, top, page)
         check_front(checks, top)
     check_changes(checks, CHANGES + DEFINED)
+    check_list(checks)
     print(f"{checks.all} checks of tools/claims, {checks.failed} failed")
     return 1 if checks.failed else 0

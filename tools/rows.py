@@ -13,6 +13,7 @@ from sources import Sources
 UNNAMED = "its one clause"
 PAGE, SECTION = "CALLING.md", "What is proved"
 DOCUMENTS = "README.md", "docs/PROVED.md"
+LIST = "docs/PROVED.md", "## The crates\n\n"
 SUMS, DEFINITIONS = "docs/proved.sums", "docs/proved.definitions"
 AGAIN = "read the row, then tools/claims --accept"
 ON = "read them, tools/claims --on {}, then --accept"
@@ -129,6 +130,12 @@ def section_of(file):
             yield number, line
 
 
+def first_sentence(file):
+    """The first sentence of a page, which stands below its heading."""
+    paragraph = file.read_text().partition("\n\n")[2].partition("\n\n")[0]
+    return re.split(r"(?<=\.) ", " ".join(paragraph.split()))[0]
+
+
 class Row:
     """A row that names a call and clauses which are there."""
 
@@ -231,8 +238,28 @@ class Tables:
         """The rows whose clauses rest on one of these definitions."""
         return [row for row in self.all_rows() if not keys.isdisjoint(self.read.below(row.cites(self.sources, self.read)))]
 
+    def listed(self):
+        """The list of crates that a document has, and that it should have: those with rows, with the first sentence of their pages."""
+        name, heading = LIST
+        text = (self.top / name).read_text() if (self.top / name).is_file() else ""
+        before, found, after = text.partition(heading)
+        told = {row.crate for row in self.rows}
+        lines = [f"- [{crate}](../crates/{crate}/{PAGE}): {first_sentence(self.page_of(crate))}\n" for crate in self.known if crate in told]
+        end = after.find("\n## ")
+        rest = after[end:] if end >= 0 else ""
+        return text, f"{before}{found}{''.join(lines)}{rest}" if found else text
+
+    def unlisted(self):
+        """Whether that list is another than it should be."""
+        has, should = self.listed()
+        if has != should:
+            yield self.top / LIST[0], has[: has.find(LIST[1])].count("\n") + 1, "the list of crates is an old one: tools/claims --accept"
+
     def note(self):
-        """Writes the sums of clauses and of definitions, and gives how many each are."""
+        """Writes the sums of clauses and of definitions, and the list of crates, and gives how many of the first two there are."""
+        has, should = self.listed()
+        if has != should:
+            (self.top / LIST[0]).write_text(should)
         lines = sorted(" ".join((*key, value)) + "\n" for key, value in self.sums().items())
         (self.top / SUMS).write_text("".join(lines))
         below = sorted(self.definitions().items())
@@ -288,7 +315,7 @@ def problems_of(top):
     """All that is wrong, each with its file and the number of its line, and how many rows are right."""
     tables = Tables(top)
     documents = [problem for document in tables.documents for problem in document.problems()]
-    return len(tables.rows), [*tables.problems, *tables.untold(), *tables.unread(), *tables.redefined(), *documents]
+    return len(tables.rows), [*tables.problems, *tables.untold(), *tables.unread(), *tables.redefined(), *tables.unlisted(), *documents]
 
 
 def headings(file):
@@ -348,7 +375,7 @@ class Document:
                 if (call, name) not in named:
                     yield *self.place(found.start()), f"no row names clause `{name}` of `{call}`"
         for found in re.finditer(r"`(\w+::\w+|law_\w+)`", self.text):
-            if not self.has_call(found.group(1)):
+            if found.group(1).partition("::")[0] not in self.tables.known and not self.has_call(found.group(1)):
                 yield *self.place(found.start()), f"`{found.group(1)}` is no public call"
 
     def places(self):
