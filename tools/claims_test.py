@@ -140,7 +140,7 @@ NO_PROMISE = [
 TOLD = """# Calling `demo`
 
 A demo, which
-shows. It does no more.
+shows: it does no more.
 
 ## What is proved
 
@@ -173,7 +173,7 @@ SAID = """# Demo
 
 ## The crates
 
-- [demo](../crates/demo/CALLING.md): A demo, which shows.
+- [demo](../crates/demo/CALLING.md): A demo, which shows
 
 ## Behind them
 """
@@ -385,7 +385,7 @@ def check_list(checks):
     with tempfile.TemporaryDirectory() as folder:
         top, _ = example(folder)
         file = top / "docs/PROVED.md"
-        file.write_text(SAID.replace("A demo, which shows.", "Something else.\n- [gone](../crates/gone/CALLING.md): Not there."))
+        file.write_text(SAID.replace("A demo, which shows", "Something else.\n- [gone](../crates/gone/CALLING.md): Not there."))
         with contextlib.redirect_stdout(io.StringIO()):
             ended = accept(top)
         checks.same("the list of crates is written anew", (ended, file.read_text()), (0, SAID))

@@ -130,10 +130,10 @@ def section_of(file):
             yield number, line
 
 
-def first_sentence(file):
-    """The first sentence of a page, which stands below its heading."""
+def first_words(file):
+    """The first words of a page below its heading, up to a colon or the end of a sentence."""
     paragraph = file.read_text().partition("\n\n")[2].partition("\n\n")[0]
-    return re.split(r"(?<=\.) ", " ".join(paragraph.split()))[0]
+    return re.split(r"[.:](?: |$)", " ".join(paragraph.split()))[0]
 
 
 class Row:
@@ -239,12 +239,12 @@ class Tables:
         return [row for row in self.all_rows() if not keys.isdisjoint(self.read.below(row.cites(self.sources, self.read)))]
 
     def listed(self):
-        """The list of crates that a document has, and that it should have: those with rows, with the first sentence of their pages."""
+        """The list of crates that a document has, and that it should have: those with rows, with the first words of their pages."""
         name, heading = LIST
         text = (self.top / name).read_text() if (self.top / name).is_file() else ""
         before, found, after = text.partition(heading)
         told = {row.crate for row in self.rows}
-        lines = [f"- [{crate}](../crates/{crate}/{PAGE}): {first_sentence(self.page_of(crate))}\n" for crate in self.known if crate in told]
+        lines = [f"- [{crate}](../crates/{crate}/{PAGE}): {first_words(self.page_of(crate))}\n" for crate in self.known if crate in told]
         end = after.find("\n## ")
         rest = after[end:] if end >= 0 else ""
         return text, f"{before}{found}{''.join(lines)}{rest}" if found else text
