@@ -97,4 +97,3 @@ pub fn arrive_at_server<L: Link>(
         _ => false,
     }
 }
-

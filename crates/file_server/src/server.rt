@@ -21,9 +21,11 @@ use std::alloc::Global;
 /// A node that listens to FILE, with a session for each of its host's connections.
 #[derive(Drop)]
 pub struct Server {
-    node: Node,
-    sessions: Sessions,
-    ghost alike: { length sessions ≡ length node.host.slots },
+    /// Its host, which listens to FILE, and what that needs for its turns.
+    pub node: Node,
+    /// The sessions of the host's slots.
+    pub sessions: Sessions,
+    pub ghost alike: { length sessions ≡ length node.host.slots },
 }
 
 impl Server {
@@ -101,7 +103,7 @@ impl Server {
     }
 
     /// Looks at each slot, and tells of the connections that opened and ended since the last look.
-    pub fn watch<G: Log>(&self, watch: &mut Watch, log: &mut G)
+    pub(crate) fn watch<G: Log>(&self, watch: &mut Watch, log: &mut G)
         ensures { watched watch.new.seen (G.told log.new) ≡ watched_slots self.now.node.host self.now.sessions (min SERVER_CONNS (length self.now.node.host.slots)) (watched watch.old.seen (G.told log.old)) }
     {
         for place in 0..SERVER_CONNS.min(self.node.host.conns()) {

@@ -33,7 +33,14 @@ fn serve_kept<S: Store>(
     kept.turn_to(id);
     let session = &mut *kept.session;
     let served = serve_one_by(
-        terms.alloc, host, id, session, store, terms.moment, out, reply,
+        terms.alloc,
+        host,
+        id,
+        session,
+        store,
+        terms.moment,
+        out,
+        reply,
     );
     kept.note(served);
 }
