@@ -1,11 +1,12 @@
 //! Writing bytes to one of a host's connections.
-ghost use Rattle.std.specs.Prelude.{◌≡◌, ◌<◌, [], true, take};
+ghost use Rattle.std.specs.Prelude.{◌≡◌, ◌<◌, ◌≤◌, [], true, take, length, IfOk};
 ghost use Rattle.chaos_packet.specs.Opcode.{op_eof};
 ghost use Rattle.chaos_packet.specs.Outbox.{room_of};
 ghost use Rattle.chaos_conn.specs.Act.{Write, Wrote};
 ghost use Rattle.chaos_host.specs.Acted.{HostDoes};
 ghost use Rattle.chaos_host.specs.Calls.{host_call, reply_of};
 ghost use Rattle.chaos_host_stream.specs.Named.{is_named};
+ghost use Rattle.chaos_host_stream.specs.Reading.{peek_at};
 ghost use Rattle.chaos_host_stream.specs.Writing.{can_put_at, PutsAt, PutsNamed};
 
 use crate::stream::HostStream;
@@ -17,7 +18,7 @@ impl HostStream {
     ///
     /// It stops early only where the connection can't write (it isn't open, or its window is full) or the outbox has no room;
     /// the caller offers the rest again later. The bytes are copied once for the packet that goes out, and once for the one
-    /// that is kept. For each packet the host looks into its table three times, without a walk.
+    /// that is kept. For each packet the host looks into its table twice, without a walk.
     pub fn put_bytes(
         &self,
         host: &mut Host,
@@ -25,7 +26,10 @@ impl HostStream {
         now: u64,
         out: &mut Outbox,
     ) -> Result<usize, CallFault>
-        ensures { PutsAt host.old self.now.id bytes.now now host.new out.old out.new result }
+        ensures does { PutsAt host.old self.now.id bytes.now now host.new out.old out.new result }
+        ensures within { IfOk result (λ taken. taken ≤ length bytes.now) }
+        // So a reply can be written before what it replies to is consumed.
+        ensures looks { peek_at host.new self.now ≡ peek_at host.old self.now }
     {
         host.conn(self.id)?;
         Ok(put_named(host, self.id, bytes, now, out))
@@ -39,7 +43,8 @@ impl HostStream {
         out: &mut Outbox,
     ) -> Result<PktNum, CallFault>
         requires { 0 < room_of out.old }
-        ensures { HostDoes host.old 1 (host_call host.old self.now.id (Write op_eof [] now)) host.new out.old out.new (reply_of Wrote result) }
+        ensures does { HostDoes host.old 1 (host_call host.old self.now.id (Write op_eof [] now)) host.new out.old out.new (reply_of Wrote result) }
+        ensures looks { peek_at host.new self.now ≡ peek_at host.old self.now }
     {
         host.write(self.id, Opcode::EOF, &[], now, out)
     }
@@ -48,7 +53,8 @@ impl HostStream {
 /// Writes bytes to a connection that is there.
 fn put_named(host: &mut Host, id: ConnId, bytes: &[u8], now: u64, out: &mut Outbox) -> usize
     requires { is_named host.old id ≡ true }
-    ensures { PutsNamed host.old id bytes.now now host.new out.old out.new result }
+    ensures does { PutsNamed host.old id bytes.now now host.new out.old out.new result }
+    ensures within { result ≤ length bytes.now }
 {
     let mut taken = 0;
     while taken < bytes.len() && can_put(host, id, out) {

@@ -22,12 +22,12 @@ loop-taken-preserved c =
       cut c.write.ensures.view c.write.ensures.packets c.loop-taken-test.true (sym c.if-can_put.ensures.value) (l.invariant.midway slot there);
     }
 
-pub returns-else-can_put : goal.returns-else-can_put
-returns-else-can_put c slot there =
+pub returns-else-can_put-clause-does : goal.returns-else-can_put-clause-does
+returns-else-can_put-clause-does c slot there =
     let l = c.loop-taken in
     midway_last c.args.host.now c.args.out.now c.args.bytes.now c.args.now c.args.id slot there l.host l.out l.taken (λ _. sym c.if-can_put.ensures.value) (l.invariant.midway slot there)
 
-pub returns-after-loop-taken : goal.returns-after-loop-taken
-returns-after-loop-taken c slot there =
+pub returns-after-loop-taken-clause-does : goal.returns-after-loop-taken-clause-does
+returns-after-loop-taken-clause-does c slot there =
     let l = c.loop-taken in
     midway_last c.args.host.now c.args.out.now c.args.bytes.now c.args.now c.args.id slot there l.host l.out l.taken (λ less. absurd (omega (arith, less, c.loop-taken-test.false))) (l.invariant.midway slot there)
