@@ -1,9 +1,9 @@
 -- Writing leaves what a look shows.
-use Rattle.std.proofs.Common.{◌≡◌, ℕ, Bool, true, false, if◌then◌else◌, nat_lt, nat_le, ◌*◌, ◌+◌, List, [], ◌∷◌, length, Option, Some, None, Result, Ok, Err, refl, ap, sym, ◌∙◌}
+use Rattle.std.proofs.Common.{◌≡◌, ℕ, Bool, true, false, if◌then◌else◌, nat_lt, List, [], ◌∷◌, length, Option, Some, None, Result, Ok, Err, refl, ap, sym, ◌∙◌}
 use Rattle.chaos_packet.specs.Item.{ItemView}
 use Rattle.chaos_packet.specs.Opcode.{kind_of, op_data}
 use Rattle.chaos_packet.specs.Outbox.{OutboxView, with_put}
-use Rattle.chaos_conn.specs.State.{is_inactive, is_open, is_opening}
+use Rattle.chaos_conn.specs.State.{is_open, is_opening}
 use Rattle.chaos_conn.specs.View.{ConnView, moment}
 use Rattle.chaos_conn.specs.Acted.{Acted, quietly}
 use Rattle.chaos_conn.specs.Sending.{with_sts}
@@ -11,7 +11,6 @@ use Rattle.chaos_conn.specs.Act.{Write, act}
 use Rattle.chaos_conn.specs.Calls.{most_bytes, has_window, write_at_most, write_item, front_of, read_at_open, read_at_end, act_read}
 use Rattle.chaos_conn.specs.declared.answers.ReadEnd.{ReadEnd}
 use Rattle.chaos_conn.specs.declared.answers.ReadEnd.TheVariants as end
-use Rattle.chaos_conn.specs.declared.fault.ConnFault.{ConnFault}
 use Rattle.chaos_conn.specs.declared.state.State.{State}
 use Rattle.chaos_host.specs.declared.fault.CallFault.{CallFault}
 use Rattle.chaos_host.specs.declared.slot.Slot.{Slot}
@@ -21,10 +20,10 @@ use Rattle.chaos_host.specs.Acted.{HostDoes}
 use Rattle.chaos_host.specs.Calls.{HostReply, call_slot, host_call}
 use Rattle.chaos_host.proofs.InUse.{stays_in_use}
 use Rattle.chaos_stream.specs.Reading.{Sight, read_sight, peek_of}
-use Rattle.chaos_stream.specs.Writing.{can_put, Put, after_taking, put_cuts, put_of, cuts_of}
+use Rattle.chaos_stream.specs.Writing.{can_put, Put, after_taking, put_cuts, cuts_of}
 use Rattle.chaos_host_stream.specs.Named.{DoesFound}
 use Rattle.chaos_host_stream.specs.Writing.{PutsBytes}
-use Rattle.chaos_host_stream.proofs.Named.{with_conn, named_used, named_with}
+use Rattle.chaos_host_stream.proofs.Named.{named_used, named_with}
 
 -- ---- of a connection
 

@@ -1,15 +1,15 @@
 -- A host with another connection in the slot that an own index names.
-use Rattle.std.proofs.Common.{◌≡◌, ℕ, ◌==◌, Bool, true, false, not, List, length, slice_get, slice_set, Option, Some, None, Result, Ok, Err, refl, ap, sym, ◌∙◌}
+use Rattle.std.proofs.Common.{◌≡◌, ℕ, ◌==◌, Bool, true, false, not, List, length, slice_get, slice_set, Option, Some, None, Ok, Err, refl, ap, sym, ◌∙◌}
 use Rattle.std.proofs.lemmas.List.{length-set, set-set, set-get_or}
 use Rattle.std.proofs.lemmas.Option.{slice_get_within, get_or_from_slice_get}
 use Rattle.std.proofs.lemmas.Bool.{eq-eqb}
 use Rattle.chaos_packet.specs.Outbox.{OutboxView}
 use Rattle.chaos_conn.specs.State.{is_inactive}
 use Rattle.chaos_conn.specs.View.{ConnView}
-use Rattle.chaos_conn.specs.Act.{Call, Reply, act}
+use Rattle.chaos_conn.specs.Act.{Call, act}
 use Rattle.chaos_host.specs.declared.fault.CallFault.{CallFault}
 use Rattle.chaos_host.specs.declared.slot.Slot.{Slot}
-use Rattle.chaos_host.specs.Slot.{is_used, index_of, place_of, named_slot}
+use Rattle.chaos_host.specs.Slot.{index_of, place_of, named_slot}
 use Rattle.chaos_host.specs.View.{HostView, look_slot}
 use Rattle.chaos_host.specs.Acted.{HostActed, with_slot}
 use Rattle.chaos_host.specs.Calls.{HostReply, host_call}

@@ -1,17 +1,17 @@
 -- Putting bytes by the calls of a host.
-use Rattle.std.proofs.Common.{◌≡◌, ℕ, ◌+◌, ◌<◌, ◌≤◌, Bool, true, false, List, take, drop, length, Option, Some, None, refl, ap, sym, ◌∙◌}
+use Rattle.std.proofs.Common.{◌≡◌, ℕ, ◌+◌, ◌<◌, true, false, List, take, drop, length, Some, refl, ap, sym, ◌∙◌}
 use Rattle.chaos_packet.specs.Opcode.{op_data}
 use Rattle.chaos_packet.specs.Outbox.{OutboxView, with_put}
 use Rattle.chaos_packet.specs.declared.limits.TheConstants.{MAX_DATA}
 use Rattle.chaos_conn.specs.State.{is_inactive}
 use Rattle.chaos_conn.specs.View.{ConnView}
-use Rattle.chaos_conn.specs.Act.{Call, Write, act}
+use Rattle.chaos_conn.specs.Act.{Write, act}
 use Rattle.chaos_host.specs.declared.slot.Slot.{Slot}
 use Rattle.chaos_host.specs.Slot.{named_slot}
 use Rattle.chaos_host.specs.View.{HostView}
 use Rattle.chaos_host.specs.Calls.{host_call}
 use Rattle.chaos_host.proofs.InUse.{stays_in_use}
-use Rattle.chaos_stream.specs.Writing.{can_put, Put, after_taking, put_of}
+use Rattle.chaos_stream.specs.Writing.{can_put, after_taking, put_of}
 use Rattle.chaos_stream.proofs.Putting.{after_taking-zero, put_turn, put_ended, is_put_ended, puts_ended}
 use Rattle.chaos_host_stream.specs.Named.{DoesInSlot}
 use Rattle.chaos_host_stream.specs.Writing.{can_put_in, can_put_at, PutsBytes}
@@ -48,7 +48,7 @@ module _ (old : HostView) (before : OutboxView) (bytes : List ℕ) (now id : ℕ
         view = view_is ∙ ap (λ acted. acted.view) called;
         used = stays_in_use m.conn write refl m.used;
         all = put_turn m.conn out now taken bytes (put_of slot.conn before bytes now) cut (act m.conn write).view after cut_is refl
-        (out_is ∙ ap (λ acted. with_put out acted.packets) called) less (sym (can_put_is host out m.conn m.view m.used) ∙ can) m.all;
+            (out_is ∙ ap (λ acted. with_put out acted.packets) called) less (sym (can_put_is host out m.conn m.view m.used) ∙ can) m.all;
       }
 
   pub midway_last : (host : HostView) (out : OutboxView) (taken : ℕ) → (taken < length bytes → can_put_at host id out ≡ false) → Midway host out taken

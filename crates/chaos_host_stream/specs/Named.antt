@@ -1,5 +1,5 @@
 -- What a call does that is made on the connection which an own index names, told by what it does to a connection.
-use Rattle.std.specs.Prelude.{◌≡◌, ℕ, Bool, true, false, List, length, Option, Some, None, Result, Ok, Err}
+use Rattle.std.specs.Prelude.{◌≡◌, ℕ, Bool, true, false, length, Option, Some, None, Result, Ok, Err}
 use Rattle.chaos_packet.specs.Outbox.{OutboxView}
 use Rattle.chaos_conn.specs.View.{ConnView}
 use Rattle.chaos_host.specs.declared.fault.CallFault.{CallFault}

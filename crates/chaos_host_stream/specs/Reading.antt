@@ -1,8 +1,8 @@
 -- Reading bytes from the stream of one of a host's connections.
-use Rattle.std.specs.Prelude.{◌≡◌, ℕ, List, drop, Result, Option, Some, None}
+use Rattle.std.specs.Prelude.{◌≡◌, ℕ, drop, Result, Option, Some, None}
 use Rattle.chaos_packet.specs.Outbox.{OutboxView}
 use Rattle.chaos_conn.specs.View.{ConnView}
-use Rattle.chaos_stream.specs.Reading.{Sight, Bytes, Eof, Nothing, Ended, peek_of, Consumes}
+use Rattle.chaos_stream.specs.Reading.{Sight, Bytes, peek_of, Consumes}
 use Rattle.chaos_host.specs.declared.fault.CallFault.{CallFault}
 use Rattle.chaos_host.specs.declared.slot.Slot.{Slot}
 use Rattle.chaos_host.specs.Slot.{named_slot}

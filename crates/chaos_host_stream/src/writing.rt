@@ -36,12 +36,7 @@ impl HostStream {
     }
 
     /// Writes an EOF, and answers its number. It is refused as [`Host::write`] refuses it.
-    pub fn put_eof(
-        &self,
-        host: &mut Host,
-        now: u64,
-        out: &mut Outbox,
-    ) -> Result<PktNum, CallFault>
+    pub fn put_eof(&self, host: &mut Host, now: u64, out: &mut Outbox) -> Result<PktNum, CallFault>
         requires { 0 < room_of out.old }
         ensures does { HostDoes host.old 1 (host_call host.old self.now.id (Write op_eof [] now)) host.new out.old out.new (reply_of Wrote result) }
         ensures looks { peek_at host.new self.now ≡ peek_at host.old self.now }

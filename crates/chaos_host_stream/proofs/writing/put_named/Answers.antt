@@ -19,7 +19,7 @@ loop-taken-preserved c =
     record {
       within = omega (arith, count, length-take MAX_DATA (drop l.taken bytes), length-drop l.taken bytes);
       midway = λ slot there. midway_next c.args.host.now c.args.out.now bytes c.args.now c.args.id slot there l.host l.out l.taken c.first_cut-cut.result.now c.write.new.self c.write.new.out
-      cut c.write.ensures.view c.write.ensures.packets c.loop-taken-test.true (sym c.if-can_put.ensures.value) (l.invariant.midway slot there);
+          cut c.write.ensures.view c.write.ensures.packets c.loop-taken-test.true (sym c.if-can_put.ensures.value) (l.invariant.midway slot there);
     }
 
 pub returns-else-can_put-clause-does : goal.returns-else-can_put-clause-does

@@ -1,4 +1,4 @@
-use Rattle.std.proofs.Common.{◌≡◌, ◌+◌, ◌∙◌, sym, refl}
+use Rattle.std.proofs.Common.{◌+◌, ◌∙◌, sym, refl}
 use Rattle.chaos_stream.specs.Shown.{sight_of}
 use Rattle.chaos_host_stream.proofs.Looks.{consumed_item, consumed_bytes}
 use Rattle.chaos_host_stream.proofs.stream.HostStream.consume.Goals as goal

@@ -1,4 +1,4 @@
-use Rattle.std.proofs.Common.{◌≡◌, ◌∙◌, ap}
+use Rattle.std.proofs.Common.{◌∙◌, ap}
 use Rattle.chaos_host.specs.Slot.{named_slot}
 use Rattle.chaos_stream.specs.Reading.{peek_of}
 use Rattle.chaos_stream.specs.Shown.{sight_of}

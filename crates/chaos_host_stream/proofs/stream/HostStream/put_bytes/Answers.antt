@@ -1,4 +1,4 @@
-use Rattle.std.proofs.Common.{Ok, refl}
+use Rattle.std.proofs.Common.{Ok}
 use Rattle.chaos_host.specs.Slot.{named_slot}
 use Rattle.chaos_host_stream.specs.Writing.{PutsBytes}
 use Rattle.chaos_host_stream.proofs.Named.{did_found, looked_there}
