@@ -188,9 +188,7 @@ fn hear<R: Print>(rt: &R, round: usize, client: &mut Client) -> io::Result<()> {
             }
             _ => return Ok(()),
         };
-        let _done = client
-            .stream
-            .consume(&mut node.host, count, &mut node.out);
+        let _done = client.stream.consume(&mut node.host, count, &mut node.out);
     }
     Ok(())
 }
