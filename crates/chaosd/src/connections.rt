@@ -43,7 +43,9 @@ impl<R: Clock + Eprint> Log for Connections<'_, R> {
         let why = words_of(ending);
         self.0.tell(
             Matter::Service,
-            &format_args!("connection {index:06o} of host {address:06o} ends: {name}, {commands} command{plural}, {why}"),
+            &format_args!(
+                "connection {index:06o} of host {address:06o} ends: {name}, {commands} command{plural}, {why}"
+            ),
         );
     }
 }

@@ -66,8 +66,7 @@ pub(crate) const LOG: &str =
 pub(crate) const LOG_TIME: &str = "Each line begins with the time, in UTC";
 
 /// A server that hears its peers alone.
-pub(crate) const ONLY_PEERS: &str =
-    "Datagrams that come from no PEER's UDP address are dropped";
+pub(crate) const ONLY_PEERS: &str = "Datagrams that come from no PEER's UDP address are dropped";
 
 /// A server whose files don't change.
 pub(crate) const READ_ONLY: &str = "No file changes: what would write one is a store fault";

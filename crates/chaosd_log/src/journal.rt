@@ -99,7 +99,9 @@ impl<'a, R: Clock + Eprint> Journal<'a, R> {
             ),
             Asking::Elsewhere(known) => self.tell(
                 Matter::Fault,
-                &format_args!("host {address:06o} asks from {from}, and is answered at {known}, where its PEER is"),
+                &format_args!(
+                    "host {address:06o} asks from {from}, and is answered at {known}, where its PEER is"
+                ),
             ),
         }
     }
@@ -164,6 +166,7 @@ impl<R: Clock + Eprint> Notes for Pages<'_, R> {
     }
 
     fn fail(&mut self, attempt: Attempt, fault: &io::Error) {
-        self.0.tell(Matter::Fault, &format_args!("{attempt}: {fault}"));
+        self.0
+            .tell(Matter::Fault, &format_args!("{attempt}: {fault}"));
     }
 }
