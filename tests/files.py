@@ -231,7 +231,7 @@ class Strangers(Case):
     def test_quiet_leaves_out_all_but_what_fails(self):
         (port,) = free_ports(1)
         with folder() as here:
-            ended = run(["serve", "--quiet", "--turns", "3", "401", at(port), here])
+            ended = run(["serve", "--quiet", "--turns", "3", "401", at(port), here, "402=127.0.0.1:9"])
             self.check("serve --quiet tells nothing where nothing fails", ended.problems(DONE, b"", b""))
             ended = run(["serve", "--quiet", "--turns", "3", "401", at(port), here / "absent"])
             self.check("serve --quiet tells what fails", ended.problems(FAULT, b"", [b"chaosd: can't open "]))

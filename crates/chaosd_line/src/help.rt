@@ -56,7 +56,7 @@ pub(crate) const SERVE_WINDOW: &str =
     "Packets of each window of a connection, 1 to 64: so many commands may be in flight";
 
 /// Nothing told by a server.
-pub(crate) const SERVE_QUIET: &str = "Nothing is told but what fails, as by --log quiet";
+pub(crate) const SERVE_QUIET: &str = "Nothing is told but what fails";
 
 /// How much a server tells.
 pub(crate) const LOG: &str =
