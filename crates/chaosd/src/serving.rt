@@ -58,9 +58,16 @@ fn serve<R: AllocGlobal + Clock + Eprint, L: Link, S: Store>(
 ) -> u8
     requires { 0 < options.me }
 {
-    let mut log = Connections(journal);
-    let end = run_serve_by(rt, rt.alloc(), link, store, options, &mut log);
-    tell_served(journal, &end, options.turns);
+    let turns = options.turns;
+    let end = run_serve_by(
+        rt,
+        rt.alloc(),
+        link,
+        store,
+        options,
+        &mut Connections(&*journal),
+    );
+    tell_served(journal, &end, turns);
     serve_status(&end)
 }
 
