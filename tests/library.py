@@ -9,10 +9,7 @@ sys.path.insert(0, str(ROOT / "tools"))
 from sources import Sources  # noqa: E402
 
 PAGE = ROOT / "docs/LIBRARY.md"
-PROGRAMS = [
-    ROOT / "tests/crates/example_reverse/src/main.rt.in",
-    *sorted(ROOT.glob("crates/example_*/src/main.rt")),
-]
+PROGRAMS = [ROOT / "tests/crates/example_reverse/src/main.rt.in", ROOT / "crates/example_echo/src/main.rt"]
 SIGNATURE = re.compile(r"fn (\w+)::(\w+)(.*)")
 
 
@@ -36,9 +33,9 @@ def heads_of(sources, owner, name):
 
 class Library(Checking):
     def test_its_code_is_the_programs(self):
-        programs = {line.strip() for program in PROGRAMS for line in program.read_text().split("\n")}
+        program = {line.strip() for file in PROGRAMS for line in file.read_text().split("\n")}
         lines = [line for block in blocks() for line in block if not SIGNATURE.match(line)]
-        self.check("each line stands in a program", [line for line in lines if line not in programs] if lines else ["no line"])
+        self.check("each line stands in a program", [line for line in lines if line not in program] if lines else ["no line"])
 
     def test_its_signatures_are_those_of_the_sources(self):
         sources = Sources(ROOT)
