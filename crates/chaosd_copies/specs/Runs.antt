@@ -28,9 +28,9 @@ told_after files told = option_map (λ before. before ++ files) told
 -- From a state on, files were tried one after another, with what came of each; once one ends the run, those behind it aren't tried.
 pub data Tries {C W : Type 0} (one : C → List ℕ → Outcome W → C → Type 0) (start : C) : List (Told W) → Bool → C → Type 0 where
   none : Tries one start [] true start
-  tried : {files : List (Told W)} {c d : C} {name : List ℕ} {outcome : Outcome W} → Tries one start files true c → one c name outcome d
+  tried : (files : List (Told W)) (c d : C) (name : List ℕ) (outcome : Outcome W) → Tries one start files true c → one c name outcome d
       → Tries one start (files ++ record { name = name; outcome = outcome } ∷ []) (goes_on outcome) d
-  left : {files : List (Told W)} {c : C} {name : List ℕ} → Tries one start files false c
+  left : (files : List (Told W)) (c : C) (name : List ℕ) → Tries one start files false c
       → Tries one start (files ++ record { name = name; outcome = NotTried } ∷ []) false c
 
 -- A run over files of these names: what came of each was told, in their order, its status is the worst, and all is well exactly where

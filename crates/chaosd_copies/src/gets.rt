@@ -12,7 +12,7 @@ use crate::local::Locals;
 use crate::naming::Target;
 use crate::outcome::{Contents, Outcome};
 use crate::session::Session;
-use crate::text::put_in;
+use crate::text::in_set;
 use crate::watched::Viewer;
 use chaos_file::MAX_PATH;
 use chaosd_copy::Charset;
@@ -25,11 +25,9 @@ pub struct Gets<'a, D: Dialog, L: Locals, V: Viewer> {
     /// Where memory comes from.
     pub alloc: Global,
     /// The dialog with the server.
-    pub session: Session<'a, D>,
+    pub session: Session<'a, D, V>,
     /// The local files.
     pub locals: L,
-    /// Whoever is shown how far a file has come.
-    pub viewer: V,
     /// Where the files go.
     pub target: Target<'a>,
     /// Whether they are texts.
@@ -42,16 +40,16 @@ impl<D: Dialog, L: Locals, V: Viewer> Gets<'_, D, L, V> {
     /// The bytes of a file, as a text where that is asked for.
     fn bytes_of(&mut self, path: &str) -> Result<Vec<u8>, Outcome<D::Why>>
         requires { length path.now ≤ MAX_PATH }
-        ensures got { IfOk result (λ v. (bytes : List ℕ) × HasGot path.now bytes (D.talked self.new.session.dialog)
+        ensures got { IfOk result (λ v. (bytes : List ℕ) × HasGot path.now bytes (D.talked self.new.session.watched.inner)
             × (v.items ≡ bytes_in Charset.Ascii self.old.is_text bytes)) }
         ensures missed { IfErr result (λ outcome. is_copied outcome ≡ false) }
         ensures same { (self.new.locals ≡ self.old.locals) × (self.new.is_digested ≡ self.old.is_digested) }
         ensures same_target { (self.new.target ≡ self.old.target) × (self.new.is_text ≡ self.old.is_text) }
     {
         let mut bytes = Vec::new(self.alloc);
-        self.session.get(&mut self.viewer, path, &mut bytes)?;
-        match put_in(Charset::Ascii, self.is_text, bytes.as_mut_slice()) {
-            Ok(()) => Ok(bytes),
+        self.session.get(path, &mut bytes)?;
+        match in_set(Charset::Ascii, self.is_text, bytes) {
+            Ok(bytes) => Ok(bytes),
             Err(lost) => Err(Outcome::Lost(lost)),
         }
     }
@@ -74,7 +72,7 @@ impl<D: Dialog, L: Locals, V: Viewer> Gets<'_, D, L, V> {
     /// Gets a file into a local one, which is opened before anything is said.
     fn get_into(&mut self, path: &str, local: &str) -> Result<Contents, Outcome<D::Why>>
         ensures got { IfOk result (λ contents. GetsWhole path.now local.now self.old.is_text self.old.is_digested contents
-            (D.talked self.new.session.dialog) (L.kept self.old.locals) (L.kept self.new.locals)) }
+            (D.talked self.new.session.watched.inner) (L.kept self.old.locals) (L.kept self.new.locals)) }
         ensures failed { OnErr result (L.kept self.new.locals ≡ L.kept self.old.locals) }
         ensures missed { IfErr result (λ outcome. is_copied outcome ≡ false) }
         ensures same_target { (self.new.target ≡ self.old.target) × (self.new.is_text ≡ self.old.is_text) × (self.new.is_digested ≡ self.old.is_digested) }
@@ -100,7 +98,7 @@ impl<D: Dialog, L: Locals, V: Viewer> Copier for Gets<'_, D, L, V> {
 
     /// A file is told as copied only where it was got and is written whole; else no local file changes.
     ghost tries = { λ old path outcome new. MatchCopied outcome
-        (λ contents. GetsWhole path (local_of old.target path) old.is_text old.is_digested contents (D.talked new.session.dialog) (L.kept old.locals) (L.kept new.locals))
+        (λ contents. GetsWhole path (local_of old.target path) old.is_text old.is_digested contents (D.talked new.session.watched.inner) (L.kept old.locals) (L.kept new.locals))
         (L.kept new.locals ≡ L.kept old.locals)
         × ((new.target ≡ old.target) × (new.is_text ≡ old.is_text) × (new.is_digested ≡ old.is_digested)) };
 

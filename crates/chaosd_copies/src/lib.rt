@@ -28,4 +28,4 @@ pub use progress::Share;
 pub use puts::Puts;
 pub use session::Session;
 pub use status::ExitStatus;
-pub use watched::Viewer;
+pub use watched::{Viewer, Watched};

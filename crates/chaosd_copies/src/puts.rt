@@ -11,7 +11,7 @@ use crate::local::Locals;
 use crate::naming::path_of;
 use crate::outcome::{Contents, Outcome};
 use crate::session::Session;
-use crate::text::put_in;
+use crate::text::in_set;
 use crate::watched::Viewer;
 use chaos_file::MAX_PATH;
 use chaosd_copy::Charset;
@@ -20,11 +20,9 @@ use chaosd_copy::Charset;
 #[derive(Drop)]
 pub struct Puts<'a, D: Dialog, L: Locals, V: Viewer> {
     /// The dialog with the server.
-    pub session: Session<'a, D>,
+    pub session: Session<'a, D, V>,
     /// The local files.
     pub locals: L,
-    /// Whoever is shown how far a file has come.
-    pub viewer: V,
     /// The path that they go to, in place of one of their own name.
     pub given: Option<&'a str>,
     /// Whether they are texts.
@@ -51,20 +49,23 @@ impl<D: Dialog, L: Locals, V: Viewer> Puts<'_, D, L, V> {
     /// Puts a local file, which is read whole before anything is said.
     fn put_from(&mut self, local: &str, path: &str) -> Result<Contents, Outcome<D::Why>>
         ensures put { IfOk result (λ contents. PutsWhole path.now (L.held self.old.locals local.now) self.old.is_text self.old.is_digested contents
-            (D.talked self.new.session.dialog)) }
+            (D.talked self.new.session.watched.inner)) }
         ensures missed { IfErr result (λ outcome. is_copied outcome ≡ false) }
         ensures same { (self.new.given ≡ self.old.given) × (self.new.is_text ≡ self.old.is_text) × (self.new.is_digested ≡ self.old.is_digested) }
     {
         if path.len() > MAX_PATH {
             return Err(Outcome::TooLong);
         }
-        let mut bytes = self.bytes_of(local)?;
+        let bytes = self.bytes_of(local)?;
         let contents = Contents::of(bytes.as_slice(), self.is_digested);
-        if let Err(lost) = put_in(Charset::LispMachine, self.is_text, bytes.as_mut_slice()) {
-            return Err(Outcome::Lost(lost));
+        match in_set(Charset::LispMachine, self.is_text, bytes) {
+            Ok(sent) => self.session.put(
+                local,
+                path.as_bytes(),
+                sent.as_slice(),
+            )?,
+            Err(lost) => return Err(Outcome::Lost(lost)),
         }
-        self.session
-            .put(&mut self.viewer, local, path.as_bytes(), bytes.as_slice())?;
         Ok(contents)
     }
 }
@@ -75,7 +76,7 @@ impl<D: Dialog, L: Locals, V: Viewer> Copier for Puts<'_, D, L, V> {
     /// A file is told as copied only where all of it was put, to the path that it goes to.
     ghost tries = { λ old local outcome new. MatchCopied outcome
         (λ contents. (path : List ℕ) × GoesTo (option_map (λ path. path.now) old.given) local path
-            × PutsWhole path (L.held old.locals local) old.is_text old.is_digested contents (D.talked new.session.dialog))
+            × PutsWhole path (L.held old.locals local) old.is_text old.is_digested contents (D.talked new.session.watched.inner))
         (Unit {0})
         × ((new.given ≡ old.given) × (new.is_text ≡ old.is_text) × (new.is_digested ≡ old.is_digested)) };
 

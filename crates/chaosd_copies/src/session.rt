@@ -18,22 +18,23 @@ const FIRST: u32 = 1;
 /// A user who copies files over a connection, which is made anew after a file that wasn't copied: then replies may still be on their
 /// way.
 #[derive(Drop)]
-pub struct Session<'a, D: Dialog> {
-    /// The connection, and those before it.
-    pub dialog: D,
+pub struct Session<'a, D: Dialog, V: Viewer> {
+    /// The dialog with the server, and whoever is shown how far a file has come.
+    pub watched: Watched<V, D>,
     login: &'a str,
     /// Whether the user has logged in, and every reply was heard.
     is_in: bool,
     ghost login_fits: { length login.now ≤ MAX_NAME },
 }
 
-impl<'a, D: Dialog> Session<'a, D> {
+impl<'a, D: Dialog, V: Viewer> Session<'a, D, V> {
     /// Nothing is said yet.
-    pub fn new(dialog: D, login: &'a str) -> Self
+    pub fn new(dialog: D, viewer: V, login: &'a str) -> Self
         requires { length login.now ≤ MAX_NAME }
+        ensures { result.watched.inner ≡ dialog }
     {
         Session {
-            dialog,
+            watched: Watched::new(viewer, dialog),
             login,
             is_in: false,
         }
@@ -44,99 +45,88 @@ impl<'a, D: Dialog> Session<'a, D> {
         if self.is_in {
             return Ok(CopyEnd::Done);
         }
-        self.dialog.begin()?;
-        log_in(&mut self.dialog, self.login.as_bytes())
+        self.watched.inner.begin()?;
+        log_in(&mut self.watched.inner, self.login.as_bytes())
     }
 
     /// What came of a file whose copy ended so, where it wasn't copied.
     fn settled(&mut self, end: Result<CopyEnd, RunFault>) -> Result<(), Outcome<D::Why>>
         ensures done { OnOk result (end ≡ Ok CopyEnd.Done) }
         ensures missed { IfErr result (λ outcome. is_copied outcome ≡ false) }
-        ensures still { D.talked self.new.dialog ≡ D.talked self.old.dialog }
+        ensures still { D.talked self.new.watched.inner ≡ D.talked self.old.watched.inner }
     {
         match end {
             Ok(CopyEnd::Done) => Ok(()),
             Ok(CopyEnd::Refused(reply)) => Err(Outcome::Refused(reply)),
             Ok(CopyEnd::Strange(reply)) => Err(Outcome::Strange(reply)),
-            Ok(CopyEnd::NoReply) => Err(Outcome::NoReply(self.dialog.why())),
-            Ok(CopyEnd::Unknown) => Err(Outcome::Unknown(self.dialog.why())),
+            Ok(CopyEnd::NoReply) => Err(Outcome::NoReply(self.watched.inner.why())),
+            Ok(CopyEnd::Unknown) => Err(Outcome::Unknown(self.watched.inner.why())),
             Err(fault) => Err(Outcome::Failed(fault)),
         }
     }
 
     /// Gets a file over a connection that has begun.
-    fn get_on<V: Viewer>(
-        &mut self,
-        viewer: &mut V,
-        path: &str,
-        bytes: &mut Vec<u8>,
-    ) -> Result<CopyEnd, RunFault>
+    fn get_on(&mut self, path: &[u8], bytes: &mut Vec<u8>) -> Result<CopyEnd, RunFault>
         requires path { length path.now ≤ MAX_PATH }
         requires empty { bytes.old.items ≡ [] }
-        ensures { IfDone result (HasGot path.now bytes.new.items (D.talked self.new.dialog)) }
+        ensures { IfDone result (HasGot path.now bytes.new.items (D.talked self.new.watched.inner)) }
     {
-        self.is_in = false;
-        let mut watched = Watched::new(viewer, path, &mut self.dialog, None);
-        let end = get_file(&mut watched, FIRST, path.as_bytes(), bytes);
-        watched.end();
+        let end = get_file(&mut self.watched, FIRST, path, bytes);
+        self.watched.end();
         self.is_in = matches!(end, Ok(CopyEnd::Done));
         end
     }
 
-    /// Gets a file, and shows a viewer how far it has come.
-    pub(crate) fn get<V: Viewer>(
+    /// Gets a file, and shows how far it has come.
+    pub(crate) fn get(
         &mut self,
-        viewer: &mut V,
         path: &str,
         bytes: &mut Vec<u8>,
     ) -> Result<(), Outcome<D::Why>>
         requires path { length path.now ≤ MAX_PATH }
         requires empty { bytes.old.items ≡ [] }
-        ensures got { OnOk result (HasGot path.now bytes.new.items (D.talked self.new.dialog)) }
+        ensures got { OnOk result (HasGot path.now bytes.new.items (D.talked self.new.watched.inner)) }
         ensures missed { IfErr result (λ outcome. is_copied outcome ≡ false) }
     {
         let end = match self.begin() {
-            Ok(CopyEnd::Done) => self.get_on(viewer, path, bytes),
+            Ok(CopyEnd::Done) => {
+                self.watched.begin(path, None);
+                self.get_on(path.as_bytes(), bytes)
+            }
             end => end,
         };
         self.settled(end)
     }
 
     /// Puts a file over a connection that has begun.
-    fn put_on<V: Viewer>(
-        &mut self,
-        viewer: &mut V,
-        local: &str,
-        path: &[u8],
-        bytes: &[u8],
-    ) -> Result<CopyEnd, RunFault>
+    fn put_on(&mut self, path: &[u8], bytes: &[u8]) -> Result<CopyEnd, RunFault>
         requires path { length path.now ≤ MAX_PATH }
         requires fits { length bytes.now ≤ MAX_FILE }
-        ensures { IfDone result (HasPut path.now bytes.now (D.talked self.new.dialog)) }
+        ensures { IfDone result (HasPut path.now bytes.now (D.talked self.new.watched.inner)) }
     {
-        self.is_in = false;
-        let mut watched = Watched::new(viewer, local, &mut self.dialog, Some(bytes.len()));
-        let end = put_file(&mut watched, FIRST, path, bytes);
-        watched.end();
+        let end = put_file(&mut self.watched, FIRST, path, bytes);
+        self.watched.end();
         self.is_in = matches!(end, Ok(CopyEnd::Done));
         end
     }
 
-    /// Puts a file, and shows a viewer how far the local one has come.
-    pub(crate) fn put<V: Viewer>(
+    /// Puts a file, and shows how far the local one has come.
+    pub(crate) fn put(
         &mut self,
-        viewer: &mut V,
         local: &str,
         path: &[u8],
         bytes: &[u8],
     ) -> Result<(), Outcome<D::Why>>
         requires path { length path.now ≤ MAX_PATH }
         requires fits { length bytes.now ≤ MAX_FILE }
-        ensures put { OnOk result (HasPut path.now bytes.now (D.talked self.new.dialog)) }
+        ensures put { OnOk result (HasPut path.now bytes.now (D.talked self.new.watched.inner)) }
         ensures missed { IfErr result (λ outcome. is_copied outcome ≡ false) }
     {
         let end = match self.begin() {
-            Ok(CopyEnd::Done) => self.put_on(viewer, local, path, bytes),
+            Ok(CopyEnd::Done) => {
+                self.watched.begin(local, Some(bytes.len()));
+                self.put_on(path, bytes)
+            }
             end => end,
         };
         self.settled(end)
@@ -144,6 +134,6 @@ impl<'a, D: Dialog> Session<'a, D> {
 
     /// Ends the connection. What fails then changes nothing of what was copied.
     pub fn end(&mut self) {
-        self.dialog.end();
+        self.watched.inner.end();
     }
 }

@@ -12,44 +12,51 @@ const PACE: u64 = 250;
 
 /// Whoever is shown how far a file has come.
 pub trait Viewer {
-    /// Shows so much of the file of this name, in place of what was shown before.
-    fn show(&mut self, name: &str, share: Share);
+    /// The copy of a file of this name begins.
+    fn begin(&mut self, name: &str);
+
+    /// Shows so much of it, in place of what was shown before.
+    fn show(&mut self, share: Share);
 
     /// Takes away what was shown.
     fn clear(&mut self);
 }
 
-/// A talk that shows a user how much of a file was copied.
+/// A talk of which a user is shown how much of a file was copied.
 #[derive(Drop)]
-pub(crate) struct Watched<'a, V: Viewer, T: Talk> {
-    viewer: &'a mut V,
-    name: &'a str,
-    inner: &'a mut T,
+pub struct Watched<V: Viewer, T: Talk> {
+    /// The talk itself.
+    pub inner: T,
+    viewer: V,
     progress: Progress,
     /// The moment at which the user was shown something last.
     shown: u64,
     is_shown: bool,
 }
 
-impl<'a, V: Viewer, T: Talk> Watched<'a, V, T> {
-    /// The copy of a file begins. Of one that is put the bytes are known.
-    pub(crate) fn new(
-        viewer: &'a mut V,
-        name: &'a str,
-        inner: &'a mut T,
-        whole: Option<usize>,
-    ) -> Self
-        ensures { result.inner.now ≡ inner.entry.now }
+impl<V: Viewer, T: Talk> Watched<V, T> {
+    /// No file is copied yet.
+    pub(crate) fn new(viewer: V, inner: T) -> Self
+        ensures { result.inner ≡ inner }
     {
-        let since = inner.moment();
         Watched {
-            viewer,
-            name,
             inner,
-            progress: Progress::new(whole, since),
-            shown: since,
+            viewer,
+            progress: Progress::new(None, 0),
+            shown: 0,
             is_shown: false,
         }
+    }
+
+    /// The copy of a file begins. Of one that is put the bytes are known.
+    pub(crate) fn begin(&mut self, name: &str, whole: Option<usize>)
+        ensures { self.new.inner ≡ self.old.inner }
+    {
+        let since = self.inner.moment();
+        self.progress = Progress::new(whole, since);
+        self.shown = since;
+        self.is_shown = false;
+        self.viewer.begin(name);
     }
 
     /// Shows the user how far the file has come.
@@ -63,7 +70,7 @@ impl<'a, V: Viewer, T: Talk> Watched<'a, V, T> {
         self.shown = now;
         self.is_shown = true;
         let share = self.progress.share(now);
-        self.viewer.show(self.name, share);
+        self.viewer.show(share);
     }
 
     /// Takes away what the user was shown.
@@ -76,12 +83,12 @@ impl<'a, V: Viewer, T: Talk> Watched<'a, V, T> {
     }
 }
 
-impl<V: Viewer, T: Talk> Talk for Watched<'_, V, T> {
-    ghost talked = { λ watched. T.talked watched.inner.now };
+impl<V: Viewer, T: Talk> Talk for Watched<V, T> {
+    ghost talked = { λ watched. T.talked watched.inner };
 
-    ghost course = { λ watched. T.course watched.inner.now };
+    ghost course = { λ watched. T.course watched.inner };
 
-    ghost failed_by = { λ watched. T.failed_by watched.inner.now };
+    ghost failed_by = { λ watched. T.failed_by watched.inner };
 
     fn say(&mut self, command: &[u8]) -> bool {
         self.inner.say(command)
