@@ -35,7 +35,7 @@ fn given_login<'a>(matches: &ArgMatches<'a>) -> Result<&'a str, BadWord<'a>>
 }
 
 /// A word that need not be given.
-fn optional<'a>(matches: &ArgMatches<'a>, place: &str) -> Option<&'a str>
+pub(crate) fn optional<'a>(matches: &ArgMatches<'a>, place: &str) -> Option<&'a str>
     ensures { option_map (λ t. t.now) result ≡ first_of place.now (rows_of (found_of matches.now)) }
 {
     matches.get_str(place)
