@@ -65,10 +65,10 @@ gives_put rows copying r o texts (Ok put) h f p q ok err =
     }
 gives_put rows copying r o texts (Err (Bad word)) h f p q ok err =
     let named : are_named r o texts ≡ are_named r (first_of (codes "as") rows) (words_of (codes "LOCAL") rows) = λ i. are_named r (p i) (q i) in
-    λ put k. not_false (are_named r o texts) err (named ∙ same_naming _ r put.is_renaming _ _ f k.is_renaming ∙ k.named)
+    λ put k. not_false (are_named r o texts) err (named ∙ same_naming _ r put.is_renaming (first_of (codes "as") rows) (words_of (codes "LOCAL") rows) f k.is_renaming ∙ k.named)
 gives_put rows copying r o texts (Err (Clash files)) h f p q ok err =
     let named : are_named r o texts ≡ are_named r (first_of (codes "as") rows) (words_of (codes "LOCAL") rows) = λ i. are_named r (p i) (q i) in
-    λ put k. not_false (are_named r o texts) err (named ∙ same_naming _ r put.is_renaming _ _ f k.is_renaming ∙ k.named)
+    λ put k. not_false (are_named r o texts) err (named ∙ same_naming _ r put.is_renaming (first_of (codes "as") rows) (words_of (codes "LOCAL") rows) f k.is_renaming ∙ k.named)
 gives_put rows copying r o texts (Err NoMemory) h f p q ok err = tt
 
 pub gives_delete : (rows : List Row) (calling : Calling) (texts : List Text) (r : Result Delete Unread)

@@ -1,5 +1,5 @@
 -- The forms of the words of a line, each beside the value that it stands for.
-use Rattle.std.specs.Prelude.{◌≡◌, ◌≢◌, ◌⊎◌, ◌≤◌, ◌<◌, ◌==◌, ◌++◌, ◌∷◌, ⊤, ⊥, ℕ, Bool, true, false, codes, List, [], length, slice_index, Option, None, Some, MatchOption, Result, MatchResult}
+use Rattle.std.specs.Prelude.{◌≡◌, ◌≢◌, ◌⊎◌, ◌≤◌, ◌<◌, ◌==◌, ◌++◌, ◌∷◌, ⊤, ℕ, Bool, true, false, codes, List, [], length, slice_index, Option, None, Some, MatchOption, Result, MatchResult}
 use Rattle.std.specs.List.{AllPairs, AllZip, after_first, before_first, position_or_len}
 use Rattle.std.specs.Net.Grammar.{IsSocketV4Text}
 use Rattle.std.specs.Net.Socket.{v4_port}

@@ -48,8 +48,7 @@ pub(crate) const LOCALS_FORM: &str = "a name for standard input, by --as";
 pub(crate) const OTHER_FORM: &str = "another Chaosnet address than this host's own";
 
 /// What is wanted of a number of seconds.
-pub(crate) const TIMEOUT_FORM: &str =
-    "a decimal number without leading zeros, from 1 to 3600";
+pub(crate) const TIMEOUT_FORM: &str = "a decimal number without leading zeros, from 1 to 3600";
 
 /// What is wanted of the local file that a single file is got into.
 pub(crate) const OUTPUT_FORM: &str = "one PATH alone";

@@ -53,11 +53,7 @@ fn error_of(
 }
 
 /// The same, or want of memory.
-fn told_by(
-    alloc: Global,
-    text: Result<String, AllocError>,
-    subcommand: Option<&str>,
-) -> Error
+fn told_by(alloc: Global, text: Result<String, AllocError>, subcommand: Option<&str>) -> Error
     ensures { (kind_of result ≡ ValueValidation) ⊎ (kind_of result ≡ OutOfMemory) }
 {
     match error_of(alloc, text, subcommand) {

@@ -69,7 +69,11 @@ fn name_for(name: &[u8], is_renaming: bool) -> FilePath
     requires { length name.now ≤ MAX_PATH }
     ensures { result.items ≡ name_for is_renaming name.now }
 {
-    if is_renaming { renamed(name) } else { kept(name) }
+    if is_renaming {
+        renamed(name)
+    } else {
+        kept(name)
+    }
 }
 
 /// The path that `put` puts a local file under: its last name, where FILE takes that: 1 to 64 letters, digits, dots, hyphens and
@@ -128,7 +132,9 @@ fn are_apart(texts: &[&str], is_renaming: bool) -> bool
 fn all_files(texts: &[&str]) -> bool
     ensures { result ≡ list_all (λ t. is_file t.now) texts.now }
 {
-    texts.iter().all(|text| text.as_bytes() != STREAM.as_bytes())
+    texts
+        .iter()
+        .all(|text| text.as_bytes() != STREAM.as_bytes())
 }
 
 /// Whether none of the local files is standard input, and no two go under one path.
