@@ -106,12 +106,19 @@ pub(crate) fn tell_lost<R: Eprint>(rt: &R, name: &str, lost: u8, bytes: &[u8]) -
     Copied::missed(REFUSED)
 }
 
+/// Tells that lines of a text end in CR LF, as on Windows: the CR stays in front of the Lisp machine's Return.
+pub(crate) fn tell_returns<R: Eprint>(rt: &R, name: &str) {
+    let _ = eprintln!(rt;
+        "chaosd: {name} has lines that end in CR LF, whose CRs are kept by --text as they are"
+    );
+}
+
 /// Tells that FILE doesn't take a local file's name.
 pub(crate) fn tell_unnamed<R: Eprint>(rt: &R, name: &str) -> Copied
     ensures { result.status ≡ FAULT }
 {
     let _ = eprintln!(rt;
-        "chaosd: {name}: FILE takes no such name, but 1 to {MAX_PATH} letters, digits, dots, hyphens and underscores, no dot in front; name it by --as, or all by --rename"
+        "chaosd: {name}: skipped, since its name is no path of FILE (1 to {MAX_PATH} letters, digits, dots, hyphens and underscores, no dot in front); --as or --rename gives it one"
     );
     Copied::missed(FAULT)
 }

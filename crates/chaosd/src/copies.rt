@@ -4,8 +4,8 @@ ghost use Rattle.chaos_file.specs.declared.limits.TheConstants.{MAX_FILE, MAX_NA
 
 use crate::caller::Caller;
 use crate::copied::{
-    Copied, tell_end_of, tell_fault_of, tell_io, tell_lost, tell_not_tried, tell_too_big,
-    tell_too_long, tell_unnamed, tell_whole, worse,
+    Copied, tell_end_of, tell_fault_of, tell_io, tell_lost, tell_not_tried, tell_returns,
+    tell_too_big, tell_too_long, tell_unnamed, tell_whole, worse,
 };
 use crate::network::{has_input, link_to_server};
 use crate::progress::Viewer;
@@ -28,6 +28,8 @@ const STREAM: &str = "-";
 #[derive(Clone, Copy)]
 struct Way {
     is_text: bool,
+    /// Whether a user is told only of files that were not copied.
+    is_quiet: bool,
     /// Whether a user is told of a file that is copied, and that it was.
     is_told: bool,
     /// What local files that are being written are marked by: the port of the run's own socket, which no other run has.
@@ -49,6 +51,7 @@ impl Way {
 fn way_of(copying: &Copying<'_>, is_terminal: bool) -> Way {
     Way {
         is_text: copying.is_text,
+        is_quiet: copying.is_quiet,
         is_told: is_terminal && !copying.is_quiet,
         mark: copying.calling.socket.port(),
     }
@@ -159,6 +162,18 @@ fn as_sent(bytes: &mut [u8], is_text: bool) -> Result<(), u8>
     }
 }
 
+/// Whether a line of a text ends in CR LF.
+fn has_returns(bytes: &[u8]) -> bool {
+    let mut last = 0;
+    for byte in bytes {
+        if last == b'\r' && *byte == b'\n' {
+            return true;
+        }
+        last = *byte;
+    }
+    false
+}
+
 /// Puts the bytes of a local file, as a text where that is asked for.
 fn send<R: AllocGlobal + Dial + Eprint>(
     rt: &R,
@@ -171,6 +186,9 @@ fn send<R: AllocGlobal + Dial + Eprint>(
     requires path { length path.now ≤ MAX_PATH }
     requires fits { length bytes.now ≤ MAX_FILE }
 {
+    if way.is_text && !way.is_quiet && has_returns(bytes) {
+        tell_returns(rt, local);
+    }
     if let Err(lost) = as_sent(bytes, way.is_text) {
         return tell_lost(rt, local, lost, bytes);
     }
@@ -205,13 +223,7 @@ fn path_of(line: &Put<'_>, local: &str) -> Option<FilePath> {
 }
 
 /// Puts one file, or tells that FILE doesn't take its name.
-fn put_local<R>(
-    rt: &R,
-    caller: &mut Caller<'_, R>,
-    line: &Put<'_>,
-    local: &str,
-    way: Way,
-) -> Copied
+fn put_local<R>(rt: &R, caller: &mut Caller<'_, R>, line: &Put<'_>, local: &str, way: Way) -> Copied
 where
     R: AllocGlobal + Dial + Eprint + Files<File = File> + Input,
 {
