@@ -6,9 +6,9 @@ use crate::progress::{Viewer, Watched};
 use chaos_link::UdpLink;
 use chaosd_call::Call;
 use chaosd_client::{Dial, NoReply};
-use chaosd_copy::{CopyEnd, get_file, log_in, put_file};
+use chaosd_copy::{CopyEnd, delete_file, get_file, log_in, put_file, rename_file};
 use chaosd_io::RunFault;
-use chaosd_line::Copying;
+use chaosd_line::Calling;
 use std::alloc::Global;
 
 /// The number from which on a file's commands are named. Each file begins with it: a reply that is still on its way finds a
@@ -25,26 +25,34 @@ pub(crate) struct Caller<'a, C: Dial> {
     ghost login_fits: { length login.now ≤ MAX_NAME },
 }
 
+/// How a change ended that was asked for: where no reply came it isn't known whether it was made.
+fn of_change(end: CopyEnd) -> CopyEnd {
+    match end {
+        CopyEnd::NoReply => CopyEnd::Unknown,
+        end => end,
+    }
+}
+
 impl<'a, C: Dial> Caller<'a, C> {
     /// Nothing is sent yet.
     pub(crate) fn new(
         clock: &'a C,
         alloc: Global,
         link: &'a mut UdpLink,
-        copying: &Copying<'a>,
+        calling: &Calling<'a>,
     ) -> Result<Self, RunFault> {
         let call = Call::new(
             clock,
             alloc,
             link,
-            copying.address,
-            copying.server.address,
-            copying.window,
-            copying.carriage,
+            calling.address,
+            calling.server.address,
+            calling.window,
+            calling.carriage,
         )?;
         Ok(Caller {
             call,
-            login: copying.login,
+            login: calling.login,
             is_in: false,
         })
     }
@@ -100,6 +108,32 @@ impl<'a, C: Dial> Caller<'a, C> {
         let end = end?;
         self.is_in = matches!(end, CopyEnd::Done);
         Ok(end)
+    }
+
+    /// Has the server delete a file. It is `Unknown` whether that was done where the command got no reply.
+    pub(crate) fn delete(&mut self, path: &[u8]) -> Result<CopyEnd, RunFault>
+        requires path { length path.now ≤ MAX_PATH }
+    {
+        match self.begin()? {
+            CopyEnd::Done => {}
+            end => return Ok(end),
+        }
+        let end = delete_file(&mut self.call, FIRST, path)?;
+        self.is_in = matches!(end, CopyEnd::Done | CopyEnd::Refused(_));
+        Ok(of_change(end))
+    }
+
+    /// Has the server rename a file. It is `Unknown` whether that was done where the command got no reply.
+    pub(crate) fn rename(&mut self, old: &[u8], new: &[u8]) -> Result<CopyEnd, RunFault>
+        requires old { length old.now ≤ MAX_PATH }
+        requires new { length new.now ≤ MAX_PATH }
+    {
+        match self.begin()? {
+            CopyEnd::Done => {}
+            end => return Ok(end),
+        }
+        let end = rename_file(&mut self.call, FIRST, old, new)?;
+        Ok(of_change(end))
     }
 
     /// Why no reply came.

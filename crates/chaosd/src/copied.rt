@@ -2,7 +2,7 @@
 ghost use Rattle.std.specs.Prelude.{◌≡◌, ◌⊎◌, false, true};
 ghost use Rattle.chaosd.specs.Status.{weight, worse_status};
 
-use chaos_file::{MAX_FILE, MAX_PATH, Reply};
+use chaos_file::{MAX_FILE, MAX_PATH, NL, Reply};
 use chaosd_client::{NoReply, Shown};
 use chaosd_copy::CopyEnd;
 use chaosd_io::{DONE, FAULT, NO_MEMORY, REFUSED, RunFault};
@@ -77,14 +77,50 @@ pub(crate) fn tell_whole<R: Eprint>(rt: &R, name: &str, length: usize, is_told: 
     Copied::new()
 }
 
-/// Tells that a text has a byte that would not come back.
-pub(crate) fn tell_lost<R: Eprint>(rt: &R, name: &str, lost: u8) -> Copied
+/// The line, counted from 1, of the first such byte of a text, and how far it stands behind the line's start.
+fn place_of(lost: u8, bytes: &[u8]) -> (usize, usize) {
+    let mut line: usize = 1;
+    let mut place: usize = 1;
+    for byte in bytes {
+        if *byte == lost {
+            break;
+        }
+        if *byte == b'\n' || *byte == NL {
+            line = line.saturating_add(1);
+            place = 1;
+        } else {
+            place = place.saturating_add(1);
+        }
+    }
+    (line, place)
+}
+
+/// Tells that a text has a byte that would not come back, and where the first stands.
+pub(crate) fn tell_lost<R: Eprint>(rt: &R, name: &str, lost: u8, bytes: &[u8]) -> Copied
     ensures { result.status ≡ REFUSED }
 {
+    let (line, place) = place_of(lost, bytes);
     let _ = eprintln!(rt;
-        "chaosd: {name} has a byte {lost:02X}, which --text would not give back; leave --text out"
+        "chaosd: {name} has a byte {lost:02X} at line {line}, byte {place}, which --text would not give back; leave --text out"
     );
     Copied::missed(REFUSED)
+}
+
+/// Tells that lines of a text end in CR LF, as on Windows: the CR stays in front of the Lisp machine's Return.
+pub(crate) fn tell_returns<R: Eprint>(rt: &R, name: &str) {
+    let _ = eprintln!(rt;
+        "chaosd: {name} has lines that end in CR LF, whose CRs are kept by --text as they are"
+    );
+}
+
+/// Tells that FILE doesn't take a local file's name.
+pub(crate) fn tell_unnamed<R: Eprint>(rt: &R, name: &str) -> Copied
+    ensures { result.status ≡ FAULT }
+{
+    let _ = eprintln!(rt;
+        "chaosd: {name}: skipped, since its name is no path of FILE (1 to {MAX_PATH} letters, digits, dots, hyphens and underscores, no dot in front); --as or --rename gives it one"
+    );
+    Copied::missed(FAULT)
 }
 
 /// Tells that a file is bigger than FILE allows.

@@ -4,8 +4,8 @@ ghost use Rattle.chaos_file.specs.declared.limits.TheConstants.{MAX_FILE, MAX_NA
 
 use crate::caller::Caller;
 use crate::copied::{
-    Copied, tell_end_of, tell_fault_of, tell_io, tell_lost, tell_not_tried, tell_too_big,
-    tell_too_long, tell_whole, worse,
+    Copied, tell_end_of, tell_fault_of, tell_io, tell_lost, tell_not_tried, tell_returns,
+    tell_too_big, tell_too_long, tell_unnamed, tell_whole, worse,
 };
 use crate::network::{has_input, link_to_server};
 use crate::progress::Viewer;
@@ -14,7 +14,7 @@ use chaos_file::MAX_PATH;
 use chaosd_client::Dial;
 use chaosd_copy::{Charset, CopyEnd, read_whole, write_whole};
 use chaosd_io::RunFault;
-use chaosd_line::{Copying, Get, Put, last_name};
+use chaosd_line::{Copying, FilePath, Get, Put, path_for};
 use std::fs::File;
 use std::io::Write;
 use std::net::Net;
@@ -28,6 +28,8 @@ const STREAM: &str = "-";
 #[derive(Clone, Copy)]
 struct Way {
     is_text: bool,
+    /// Whether a user is told only of files that were not copied.
+    is_quiet: bool,
     /// Whether a user is told of a file that is copied, and that it was.
     is_told: bool,
     /// What local files that are being written are marked by: the port of the run's own socket, which no other run has.
@@ -49,8 +51,9 @@ impl Way {
 fn way_of(copying: &Copying<'_>, is_terminal: bool) -> Way {
     Way {
         is_text: copying.is_text,
+        is_quiet: copying.is_quiet,
         is_told: is_terminal && !copying.is_quiet,
-        mark: copying.socket.port(),
+        mark: copying.calling.socket.port(),
     }
 }
 
@@ -79,7 +82,7 @@ fn end_get<R: AllocGlobal + Eprint + Files<File = File> + Print>(
 ) -> Copied {
     if way.is_text {
         if let Err(lost) = Charset::Ascii.translate(bytes) {
-            return tell_lost(rt, path, lost);
+            return tell_lost(rt, path, lost, bytes);
         }
     }
     match keep(rt, local, way.mark, bytes) {
@@ -112,11 +115,12 @@ where
 {
     let copying = &line.copying;
     let way = way_of(copying, is_terminal);
-    let mut link = match link_to_server(rt, copying.socket, copying.server) {
+    let calling = &copying.calling;
+    let mut link = match link_to_server(rt, calling.socket, calling.server) {
         Ok(link) => link,
-        Err(error) => return tell_unopened(rt, &copying.socket, &error),
+        Err(error) => return tell_unopened(rt, &calling.socket, &error),
     };
-    let mut caller = match Caller::new(rt, rt.alloc(), &mut link, copying) {
+    let mut caller = match Caller::new(rt, rt.alloc(), &mut link, calling) {
         Ok(caller) => caller,
         Err(fault) => return tell_fault_of(rt, "no file", fault).status,
     };
@@ -158,6 +162,18 @@ fn as_sent(bytes: &mut [u8], is_text: bool) -> Result<(), u8>
     }
 }
 
+/// Whether a line of a text ends in CR LF.
+fn has_returns(bytes: &[u8]) -> bool {
+    let mut last = 0;
+    for byte in bytes {
+        if last == b'\r' && *byte == b'\n' {
+            return true;
+        }
+        last = *byte;
+    }
+    false
+}
+
 /// Puts the bytes of a local file, as a text where that is asked for.
 fn send<R: AllocGlobal + Dial + Eprint>(
     rt: &R,
@@ -170,8 +186,11 @@ fn send<R: AllocGlobal + Dial + Eprint>(
     requires path { length path.now ≤ MAX_PATH }
     requires fits { length bytes.now ≤ MAX_FILE }
 {
+    if way.is_text && !way.is_quiet && has_returns(bytes) {
+        tell_returns(rt, local);
+    }
     if let Err(lost) = as_sent(bytes, way.is_text) {
-        return tell_lost(rt, local, lost);
+        return tell_lost(rt, local, lost, bytes);
     }
     match caller.put(way.viewer(rt, local), path, bytes) {
         Ok(CopyEnd::Done) => tell_whole(rt, local, bytes.len(), way.is_told),
@@ -195,11 +214,22 @@ where
     }
 }
 
-/// The name of a local file at the server: the one that was given, or its own last one.
-fn path_of<'a>(given: Option<&'a str>, local: &'a str) -> &'a [u8] {
-    match given {
-        Some(path) => path.as_bytes(),
-        None => last_name(local.as_bytes()),
+/// The path of a local file at the server: the one that was given, or the one that it goes under by its name.
+fn path_of(line: &Put<'_>, local: &str) -> Option<FilePath> {
+    match line.path {
+        Some(path) => path_for(path, false),
+        None => path_for(local, line.is_renaming),
+    }
+}
+
+/// Puts one file, or tells that FILE doesn't take its name.
+fn put_local<R>(rt: &R, caller: &mut Caller<'_, R>, line: &Put<'_>, local: &str, way: Way) -> Copied
+where
+    R: AllocGlobal + Dial + Eprint + Files<File = File> + Input,
+{
+    match path_of(line, local) {
+        Some(path) => put_one(rt, caller, local, path.as_slice(), way),
+        None => tell_unnamed(rt, local),
     }
 }
 
@@ -219,19 +249,19 @@ where
     }
     let copying = &line.copying;
     let way = way_of(copying, is_terminal);
-    let mut link = match link_to_server(rt, copying.socket, copying.server) {
+    let calling = &copying.calling;
+    let mut link = match link_to_server(rt, calling.socket, calling.server) {
         Ok(link) => link,
-        Err(error) => return tell_unopened(rt, &copying.socket, &error),
+        Err(error) => return tell_unopened(rt, &calling.socket, &error),
     };
-    let mut caller = match Caller::new(rt, rt.alloc(), &mut link, copying) {
+    let mut caller = match Caller::new(rt, rt.alloc(), &mut link, calling) {
         Ok(caller) => caller,
         Err(fault) => return tell_fault_of(rt, "no file", fault).status,
     };
     let mut run = Copied::new();
     for local in line.locals.as_slice() {
         if run.goes_on {
-            let name = path_of(line.path, local);
-            run = worse(run, put_one(rt, &mut caller, local, name, way));
+            run = worse(run, put_local(rt, &mut caller, line, local, way));
         } else {
             tell_not_tried(rt, local);
         }

@@ -5,6 +5,7 @@
 #![tactic(auto)]
 
 mod caller;
+mod changes;
 mod connections;
 mod copied;
 mod copies;
@@ -17,6 +18,7 @@ mod telling;
 mod told;
 mod words;
 
+use crate::changes::{run_delete_line, run_rename_line};
 use crate::copies::{run_get_line, run_put_line};
 use crate::network::{run_ask_line, run_loop_line, run_serve_line};
 use crate::runs::{run_filelab_line, run_lab_line, run_show_line};
@@ -38,7 +40,7 @@ where
     R: AllocGlobal + Clock + Eprint + Files<File = File> + Input + Net + Print,
 {
     match line {
-        Line::Show => run_show_line(rt),
+        Line::Show(_) => run_show_line(rt),
         Line::Lab => run_lab_line(rt),
         Line::FileLab => run_filelab_line(rt),
         Line::Loop(carriage) => run_loop_line(rt, carriage),
@@ -46,6 +48,8 @@ where
         Line::Serve(serve) => run_serve_line(rt, serve),
         Line::Get(get) => run_get_line(rt, &get, is_terminal),
         Line::Put(put) => run_put_line(rt, &put, is_terminal),
+        Line::Delete(delete) => run_delete_line(rt, &delete),
+        Line::Rename(rename) => run_rename_line(rt, &rename),
     }
 }
 

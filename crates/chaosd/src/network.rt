@@ -127,6 +127,8 @@ pub(crate) fn run_ask_line<R: AllocGlobal + Clock + Eprint + Input + Net + Print
 ) -> u8 {
     let Ask {
         carriage,
+        timeout: _,
+        is_strict: _,
         address,
         socket,
         to,

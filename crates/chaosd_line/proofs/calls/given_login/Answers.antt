@@ -2,7 +2,7 @@
 use Rattle.std.proofs.lemmas.Result.{err_from_is_err_and}
 use Rattle.chaosd_line.specs.Values.{IsLogin}
 use Rattle.chaosd_line.proofs.NoReading.{not_there}
-use Rattle.chaosd_line.proofs.copies.given_login.Goals as goal
+use Rattle.chaosd_line.proofs.calls.given_login.Goals as goal
 
 pub returns-in_err-text : goal.returns-in_err-text
 returns-in_err-text c =
