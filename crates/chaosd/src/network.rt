@@ -1,15 +1,15 @@
 //! The runs over sockets: `loop`, `ask` and `serve`.
 use crate::connections::Connections;
 use crate::noting::Noting;
-use crate::telling::Telling;
-use crate::told::{tell_script, tell_served, tell_unopened};
+use crate::reporting_store::ReportingStore;
+use crate::run_ends::{tell_script, tell_served, tell_unopened};
 use chaos_conn::ConnConfig;
 use chaos_file::DirStore;
 use chaos_link::{Carriage, Peer, Peers, UdpLink};
 use chaosd_file::{
     LOOP_CLIENT, LOOP_SERVER, NOBODY, ScriptEnd, Why, run_ask, run_loop, run_serve_by,
-    script_status, serve_status,
 };
+use chaosd_copies::ExitStatus;
 use chaosd_io::RunFault;
 use chaosd_line::{Ask, Serve};
 use std::fs::{File, Files};
@@ -81,9 +81,9 @@ pub(crate) fn has_input<R: Input>(rt: &R) -> bool {
 }
 
 /// Tells how a script ended, and gives the exit status.
-fn end_script<R: Eprint>(rt: &R, end: &Result<ScriptEnd, RunFault>, why: &Option<Why>) -> u8 {
+fn end_script<R: Eprint>(rt: &R, end: &Result<ScriptEnd, RunFault>, why: &Option<Why>) -> ExitStatus {
     tell_script(rt, end, why);
-    script_status(end)
+    ExitStatus::of_run(end.map(|end| end.replied == end.commands))
 }
 
 /// The host that is asked: this one where it is a peer. Of one that is none nothing can be asked, which is told.
@@ -99,7 +99,7 @@ fn asked_host<R: Eprint>(rt: &R, to: u16, peers: &Peers) -> u16 {
 pub(crate) fn run_loop_line<R: AllocGlobal + Eprint + Input + Net + Print>(
     rt: &R,
     carriage: Carriage,
-) -> u8 {
+) -> ExitStatus {
     if !has_input(rt) {
         return end_script(rt, &Err(RunFault::ReadFault), &None);
     }
@@ -124,7 +124,7 @@ pub(crate) fn run_loop_line<R: AllocGlobal + Eprint + Input + Net + Print>(
 pub(crate) fn run_ask_line<R: AllocGlobal + Clock + Eprint + Input + Net + Print>(
     rt: &R,
     line: Ask,
-) -> u8 {
+) -> ExitStatus {
     let Ask {
         carriage,
         timeout: _,
@@ -165,7 +165,7 @@ pub(crate) fn run_ask_line<R: AllocGlobal + Clock + Eprint + Input + Net + Print
 pub(crate) fn run_serve_line<R: AllocGlobal + Clock + Eprint + Files<File = File> + Net>(
     rt: &R,
     line: Serve<'_>,
-) -> u8 {
+) -> ExitStatus {
     let Serve {
         turns,
         carriage,
@@ -177,7 +177,7 @@ pub(crate) fn run_serve_line<R: AllocGlobal + Clock + Eprint + Files<File = File
         peers,
     } = line;
     let mut store = match store_at(rt, folder) {
-        Ok(store) => Telling::new(rt, store),
+        Ok(store) => ReportingStore::new(rt, store),
         Err(error) => return tell_unopened(rt, &folder, &error),
     };
     let mut link = match link_at(rt, socket, peers) {
@@ -199,5 +199,5 @@ pub(crate) fn run_serve_line<R: AllocGlobal + Clock + Eprint + Files<File = File
         &mut Connections::new(rt, is_quiet),
     );
     tell_served(rt, &end, turns, is_quiet);
-    serve_status(&end)
+    ExitStatus::of_run(end.map(|()| true))
 }

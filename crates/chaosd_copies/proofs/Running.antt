@@ -12,8 +12,8 @@ use Rattle.chaosd_copies.specs.declared.status.ExitStatus.TheVariants as s
 use Rattle.chaosd_copies.specs.declared.outcome.Outcome.{Outcome}
 use Rattle.chaosd_copies.specs.declared.outcome.Outcome.TheVariants as o
 use Rattle.chaosd_copies.specs.Status.{worse, is_done, status_of_fault}
-use Rattle.chaosd_copies.specs.Outcome.{status_of, status_of_kind, is_copied, goes_on}
-use Rattle.chaosd_copies.specs.Runs.{Told, Tries, none, tried, left, Runs, worst_from, all_copied, told_after}
+use Rattle.chaosd_copies.specs.Outcome.{status_of, status_of_kind, is_well, goes_on}
+use Rattle.chaosd_copies.specs.Runs.{Told, Tries, none, tried, left, Runs, worst_from, all_well, told_after}
 
 worst_more : {W : Type 0} (status : ExitStatus) (files : List (Told W)) (file : Told W)
     → worst_from status (files ++ file ∷ []) ≡ worse (worst_from status files) (status_of file.outcome)
@@ -60,20 +60,22 @@ fault_not_done (f.BadScript line) = refl
 fault_not_done f.LinkFault = refl
 fault_not_done f.ClockFault = refl
 
--- all is well of a file exactly where it was copied
-done_copied : {W : Type 0} (outcome : Outcome W) → is_done (status_of outcome) ≡ is_copied outcome
-done_copied (o.Copied contents) = refl
-done_copied (o.Lost byte) = refl
-done_copied o.TooBig = refl
-done_copied o.TooLong = refl
-done_copied (o.Unread fault) = kind_not_done (error_kind fault)
-done_copied (o.Unwritten fault) = kind_not_done (error_kind fault)
-done_copied (o.Failed fault) = fault_not_done fault
-done_copied (o.Refused reply) = refl
-done_copied (o.Strange reply) = refl
-done_copied (o.NoReply why) = refl
-done_copied (o.Unknown why) = refl
-done_copied o.NotTried = refl
+-- all is well of a file exactly where what was asked for was done
+done_well : {W : Type 0} (outcome : Outcome W) → is_done (status_of outcome) ≡ is_well outcome
+done_well (o.Copied contents) = refl
+done_well o.Changed = refl
+done_well (o.Garbled lost) = refl
+done_well o.TooBig = refl
+done_well o.TooLong = refl
+done_well o.Unnamed = refl
+done_well (o.Unread fault) = kind_not_done (error_kind fault)
+done_well (o.Unwritten fault) = kind_not_done (error_kind fault)
+done_well (o.Failed fault) = fault_not_done fault
+done_well (o.Refused reply) = refl
+done_well (o.Strange reply) = refl
+done_well (o.NoReply why) = refl
+done_well (o.Unknown why) = refl
+done_well o.NotTried = refl
 
 and_true : (b : Bool) → (b && true) ≡ b
 and_true true = refl
@@ -83,9 +85,9 @@ and_assoc : (a b c : Bool) → (a && (b && c)) ≡ ((a && b) && c)
 and_assoc true b c = refl
 and_assoc false b c = refl
 
-all_more : {W : Type 0} (files : List (Told W)) (file : Told W) → all_copied (files ++ file ∷ []) ≡ (all_copied files && is_copied file.outcome)
-all_more [] file = and_true (is_copied file.outcome)
-all_more (first ∷ files) file = ap (λ b. is_copied first.outcome && b) (all_more files file) ∙ and_assoc (is_copied first.outcome) (all_copied files) (is_copied file.outcome)
+all_more : {W : Type 0} (files : List (Told W)) (file : Told W) → all_well (files ++ file ∷ []) ≡ (all_well files && is_well file.outcome)
+all_more [] file = and_true (is_well file.outcome)
+all_more (first ∷ files) file = ap (λ b. is_well first.outcome && b) (all_more files file) ∙ and_assoc (is_well first.outcome) (all_well files) (is_well file.outcome)
 
 names_more : {W : Type 0} (files : List (Told W)) (file : Told W) → map (λ f. f.name) (files ++ file ∷ []) ≡ map (λ f. f.name) files ++ file.name ∷ []
 names_more [] file = refl
@@ -122,7 +124,7 @@ module _ {C W : Type 0} (one : C → List ℕ → Outcome W → C → Type 0) (s
         tried = then;
         telling = ap (λ t. told_after (file ∷ []) t) run.telling ∙ told_more run.files file told;
         worst = ap (λ st. worse st (status_of outcome)) run.worst ∙ sym (worst_more s.Done run.files file);
-        all = done_worse status (status_of outcome) ∙ ap (λ b. is_done status && b) (done_copied outcome) ∙ ap (λ b. b && is_copied outcome) run.all ∙ sym (all_more run.files file);
+        all = done_worse status (status_of outcome) ∙ ap (λ b. is_done status && b) (done_well outcome) ∙ ap (λ b. b && is_well outcome) run.all ∙ sym (all_more run.files file);
       }
 
   pub grown : (names : List (List ℕ)) (status : ExitStatus) (goes : Bool) (c d : C) (told_now : Option (List (Told W))) (name : List ℕ) (outcome : Outcome W)
@@ -133,5 +135,5 @@ module _ {C W : Type 0} (one : C → List ℕ → Outcome W → C → Type 0) (s
       more names status true (goes_on outcome) c d told_now name outcome run (tried run.files c d name outcome run.tried fact)
   grown names status false c d told_now name outcome fact run =
       subst (λ w. Runs one start told (names ++ name ∷ []) (worse status (status_of w)) (goes_on w) d (told_after (record { name = name; outcome = w } ∷ []) told_now)) (sym fact.0)
-          (subst (λ e. Runs one start told (names ++ name ∷ []) (worse status (status_of {W = W} o.NotTried)) false e (told_after (record { name = name; outcome = o.NotTried } ∷ []) told_now)) (sym fact.1)
-              (more names status false false c c told_now name o.NotTried run (left run.files c name run.tried)))
+      (subst (λ e. Runs one start told (names ++ name ∷ []) (worse status (status_of {W = W} o.NotTried)) false e (told_after (record { name = name; outcome = o.NotTried } ∷ []) told_now)) (sym fact.1)
+      (more names status false false c c told_now name o.NotTried run (left run.files c name run.tried)))

@@ -7,7 +7,7 @@ use Rattle.chaosd_copy.specs.Text.{byte_in}
 use Rattle.chaosd_copy.specs.Copy.{get_commands, get_replies, put_commands, put_replies}
 use Rattle.chaosd_copy.specs.Row.{file_handle}
 use Rattle.chaosd_copy.specs.Talk.{Talked, Since}
-use Rattle.chaosd_copy.specs.Ends.{tids_from}
+use Rattle.chaosd_copy.specs.Ends.{tids_from, delete_command, delete_reply, rename_command, rename_reply}
 use Rattle.chaosd_copies.specs.declared.outcome.Contents.{Contents}
 
 -- ---- local files
@@ -39,6 +39,14 @@ HasGot path bytes now = (start : Option Talked)
 abbrev pub HasPut : List ℕ → List ℕ → Option Talked → Type 0
 HasPut path bytes now = (start : Option Talked)
     × Since start now (put_commands (tids_from 1) file_handle path bytes) (put_replies (tids_from 1) file_handle bytes)
+
+-- The last that was said and heard is the DELETE of this file, and that it was done.
+abbrev pub HasDeleted : List ℕ → Option Talked → Type 0
+HasDeleted path now = (start : Option Talked) × Since start now (delete_command 1 path ∷ []) (delete_reply 1 ∷ [])
+
+-- Likewise a RENAME.
+abbrev pub HasRenamed : List ℕ → List ℕ → Option Talked → Type 0
+HasRenamed old new now = (start : Option Talked) × Since start now (rename_command 1 old new ∷ []) (rename_reply 1 ∷ [])
 
 -- ---- one file
 

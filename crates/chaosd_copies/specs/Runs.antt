@@ -6,7 +6,7 @@ use Rattle.chaosd_copies.specs.declared.status.ExitStatus.TheVariants as s
 use Rattle.chaosd_copies.specs.declared.outcome.Outcome.{Outcome}
 use Rattle.chaosd_copies.specs.declared.outcome.Outcome.TheVariants.{NotTried}
 use Rattle.chaosd_copies.specs.Status.{worse, is_done}
-use Rattle.chaosd_copies.specs.Outcome.{status_of, is_copied, goes_on}
+use Rattle.chaosd_copies.specs.Outcome.{status_of, is_well, goes_on}
 
 -- a file's name, and what came of it
 pub record Told (W : Type 0) : Type 0 where
@@ -18,8 +18,8 @@ abbrev pub worst_from : {W : Type 0} → ExitStatus → List (Told W) → ExitSt
 worst_from status [] = status
 worst_from status (file ∷ files) = worst_from (worse status (status_of file.outcome)) files
 
-abbrev pub all_copied : {W : Type 0} → List (Told W) → Bool
-all_copied files = list_all (λ file. is_copied file.outcome) files
+abbrev pub all_well : {W : Type 0} → List (Told W) → Bool
+all_well files = list_all (λ file. is_well file.outcome) files
 
 -- what was told, and these files behind it
 abbrev pub told_after : {W : Type 0} → List (Told W) → Option (List (Told W)) → Option (List (Told W))
@@ -34,7 +34,7 @@ pub data Tries {C W : Type 0} (one : C → List ℕ → Outcome W → C → Type
       → Tries one start (files ++ record { name = name; outcome = NotTried } ∷ []) false c
 
 -- A run over files of these names: what came of each was told, in their order, its status is the worst, and all is well exactly where
--- all were copied.
+-- what was asked for was done with each.
 pub record Runs {C W : Type 0} (one : C → List ℕ → Outcome W → C → Type 0) (start : C) (told : Option (List (Told W)))
     (names : List (List ℕ)) (status : ExitStatus) (goes : Bool) (now : C) (told_now : Option (List (Told W))) : Type 0 where
   pub files : List (Told W)
@@ -42,4 +42,4 @@ pub record Runs {C W : Type 0} (one : C → List ℕ → Outcome W → C → Typ
   pub tried : Tries one start files goes now
   pub telling : told_now ≡ told_after files told
   pub worst : status ≡ worst_from s.Done files
-  pub all : is_done status ≡ all_copied files
+  pub all : is_done status ≡ all_well files

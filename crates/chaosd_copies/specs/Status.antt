@@ -1,5 +1,5 @@
 -- Exit statuses.
-use Rattle.std.specs.Prelude.{ℕ, Bool, true, false, nat_lt, if◌then◌else◌}
+use Rattle.std.specs.Prelude.{ℕ, Bool, true, false, nat_lt, if◌then◌else◌, Result, Ok, Err}
 use Rattle.chaosd_io.specs.declared.fault.RunFault.{RunFault}
 use Rattle.chaosd_io.specs.declared.fault.RunFault.TheVariants as f
 use Rattle.chaosd_copies.specs.declared.status.ExitStatus.{ExitStatus}
@@ -41,3 +41,9 @@ status_of_fault f.NoMemory = NoMemory
 status_of_fault (f.BadScript line) = BadLine
 status_of_fault f.LinkFault = Fault
 status_of_fault f.ClockFault = Fault
+
+-- that of a run in which all was done, or something was refused, or which ended by a fault
+abbrev pub status_of_run : Result Bool RunFault → ExitStatus
+status_of_run (Ok true) = Done
+status_of_run (Ok false) = Refused
+status_of_run (Err fault) = status_of_fault fault

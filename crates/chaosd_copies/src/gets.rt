@@ -3,7 +3,7 @@ ghost use Rattle.std.specs.Prelude.{◌≡◌, ◌≤◌, ◌∷◌, false, List
 ghost use Rattle.chaos_file.specs.declared.limits.TheConstants.{MAX_PATH};
 ghost use Rattle.chaosd_copy.specs.declared.text.Charset.{Charset};
 ghost use Rattle.chaosd_copies.specs.Naming.{local_of};
-ghost use Rattle.chaosd_copies.specs.Outcome.{is_copied, MatchCopied};
+ghost use Rattle.chaosd_copies.specs.Outcome.{is_well, MatchCopied};
 ghost use Rattle.chaosd_copies.specs.Copied.{GetsWhole, HasGot, bytes_in, contents_of, kept_after};
 
 use crate::copier::Copier;
@@ -42,7 +42,7 @@ impl<D: Dialog, L: Locals, V: Viewer> Gets<'_, D, L, V> {
         requires { length path.now ≤ MAX_PATH }
         ensures got { IfOk result (λ v. (bytes : List ℕ) × HasGot path.now bytes (D.talked self.new.session.watched.inner)
             × (v.items ≡ bytes_in Charset.Ascii self.old.is_text bytes)) }
-        ensures missed { IfErr result (λ outcome. is_copied outcome ≡ false) }
+        ensures missed { IfErr result (λ outcome. is_well outcome ≡ false) }
         ensures same { (self.new.locals ≡ self.old.locals) × (self.new.is_digested ≡ self.old.is_digested) }
         ensures same_target { (self.new.target ≡ self.old.target) × (self.new.is_text ≡ self.old.is_text) }
     {
@@ -50,16 +50,16 @@ impl<D: Dialog, L: Locals, V: Viewer> Gets<'_, D, L, V> {
         self.session.get(path, &mut bytes)?;
         match in_set(Charset::Ascii, self.is_text, bytes) {
             Ok(bytes) => Ok(bytes),
-            Err(lost) => Err(Outcome::Lost(lost)),
+            Err(lost) => Err(Outcome::Garbled(lost)),
         }
     }
 
-    /// Writes a local file that was opened.
+    /// Writes a local file.
     fn keep(&mut self, local: &str, bytes: &[u8]) -> Result<Contents, Outcome<D::Why>>
         ensures kept { IfOk result (λ contents. (contents ≡ contents_of self.old.is_digested bytes.now)
             × (L.kept self.new.locals ≡ kept_after local.now bytes.now (L.kept self.old.locals))) }
         ensures failed { OnErr result (L.kept self.new.locals ≡ L.kept self.old.locals) }
-        ensures missed { IfErr result (λ outcome. is_copied outcome ≡ false) }
+        ensures missed { IfErr result (λ outcome. is_well outcome ≡ false) }
         ensures still { self.new.session ≡ self.old.session }
         ensures same_target { (self.new.target ≡ self.old.target) × (self.new.is_text ≡ self.old.is_text) × (self.new.is_digested ≡ self.old.is_digested) }
     {
@@ -69,26 +69,23 @@ impl<D: Dialog, L: Locals, V: Viewer> Gets<'_, D, L, V> {
         }
     }
 
-    /// Gets a file into a local one, which is opened before anything is said.
+    /// Gets a file into a local one, of which it is made sure before anything is said that it can be written.
     fn get_into(&mut self, path: &str, local: &str) -> Result<Contents, Outcome<D::Why>>
         ensures got { IfOk result (λ contents. GetsWhole path.now local.now self.old.is_text self.old.is_digested contents
             (D.talked self.new.session.watched.inner) (L.kept self.old.locals) (L.kept self.new.locals)) }
         ensures failed { OnErr result (L.kept self.new.locals ≡ L.kept self.old.locals) }
-        ensures missed { IfErr result (λ outcome. is_copied outcome ≡ false) }
+        ensures missed { IfErr result (λ outcome. is_well outcome ≡ false) }
         ensures same_target { (self.new.target ≡ self.old.target) × (self.new.is_text ≡ self.old.is_text) × (self.new.is_digested ≡ self.old.is_digested) }
     {
         if path.len() > MAX_PATH {
             return Err(Outcome::TooLong);
         }
-        if let Err(fault) = self.locals.open(local) {
+        if let Err(fault) = self.locals.check(local) {
             return Err(Outcome::Unwritten(fault));
         }
         match self.bytes_of(path) {
             Ok(bytes) => self.keep(local, bytes.as_slice()),
-            Err(missed) => {
-                self.locals.give_up();
-                Err(missed)
-            }
+            Err(missed) => Err(missed),
         }
     }
 }

@@ -6,7 +6,9 @@
 #![tactic(auto)]
 
 mod copier;
+mod deletes;
 mod dialog;
+mod disk;
 mod gets;
 mod local;
 mod naming;
@@ -17,15 +19,19 @@ mod session;
 mod status;
 mod text;
 mod watched;
+mod whole;
 
 pub use copier::{Copier, Teller, run_copies};
+pub use deletes::Deletes;
 pub use dialog::Dialog;
+pub use disk::Disk;
 pub use gets::Gets;
 pub use local::Locals;
-pub use naming::{Target, path_of};
+pub use naming::{FilePath, Naming, Target};
 pub use outcome::{Contents, Outcome};
 pub use progress::Share;
 pub use puts::Puts;
 pub use session::Session;
 pub use status::ExitStatus;
+pub use text::Lost;
 pub use watched::{Viewer, Watched};

@@ -5,7 +5,7 @@ ghost use Rattle.chaosd_copies.specs.Copied.{Kept, kept_after};
 
 use std::io;
 
-/// The files of this side. One at a time is opened to be written.
+/// The files of this side.
 pub trait Locals {
     /// The files that were written so far, in order. `None` where that can't be told.
     ghost kept: { Self → Option (List Kept) };
@@ -13,24 +13,20 @@ pub trait Locals {
     /// What a file of this name has, where that is known.
     ghost held: { Self → List ℕ → Option (List ℕ) };
 
-    /// Opens a file to be written: nothing under this name changes yet.
+    /// Makes sure that the file of this name can be written: nothing changes.
     ///
     /// # Errors
-    /// Those of the system. Nothing is left then.
-    fn open(&mut self, name: &str) -> io::Result<()>
+    /// Those of the system, and where something else than a file has the name.
+    fn check(&mut self, name: &str) -> io::Result<()>
         ensures { kept self.new ≡ kept self.old };
 
-    /// Writes all of the file of this name, which was opened last.
+    /// Writes a file of this name whole, in place of one that has it.
     ///
     /// # Errors
-    /// Those of the system. Nothing is left then.
+    /// Those of the system: nothing changes then, and nothing is left.
     fn keep(&mut self, name: &str, bytes: &[u8]) -> io::Result<()>
         ensures written { OnOk result (kept self.new ≡ kept_after name.now bytes.now (kept self.old)) }
         ensures failed { OnErr result (kept self.new ≡ kept self.old) };
-
-    /// Gives up the file that was opened last: nothing of it is left.
-    fn give_up(&mut self)
-        ensures { kept self.new ≡ kept self.old };
 
     /// All bytes of a file, or None where they are more than a file of FILE may have.
     ///

@@ -1,8 +1,9 @@
 //! Which local file a path goes to, and which path a local file.
-ghost use Rattle.std.specs.Prelude.{◌≡◌, IfOk, option_map, string_bytes};
-ghost use Rattle.chaosd_copies.specs.Naming.{local_of, GoesTo};
+ghost use Rattle.std.specs.Prelude.{◌≡◌, ℕ, List, Option, IfOk, option_map, string_bytes};
+ghost use Rattle.chaosd_copies.specs.Naming.{local_of};
 
-use chaosd_copy::last_name;
+use arrayvec::ArrayVec;
+use chaos_file::MAX_PATH;
 use std::alloc::{AllocError, Global};
 
 /// Where files that are got go.
@@ -43,12 +44,15 @@ impl<'a> Target<'a> {
     }
 }
 
-/// The path that a local file goes to: the given one, or else what stands behind the last slash of its name.
-pub fn path_of<'a>(given: Option<&'a str>, local: &'a str) -> &'a str
-    ensures { GoesTo (option_map (λ path. path.now) given.entry) local.entry.now result.now }
-{
-    match given {
-        Some(path) => path,
-        None => last_name(local),
-    }
+/// A path of FILE.
+pub type FilePath = ArrayVec<u8, MAX_PATH>;
+
+/// Which path each local file goes to.
+pub trait Naming {
+    /// The path, where there is one.
+    ghost path: { Self → List ℕ → Option (List ℕ) };
+
+    /// The path that the local file of this name goes to, where there is one.
+    fn path(&self, local: &str) -> Option<FilePath>
+        ensures { option_map (λ p. p.items) result ≡ path self.now local.now };
 }

@@ -1,11 +1,12 @@
 //! What came of one file.
-ghost use Rattle.std.specs.Prelude.{◌≡◌, false, IfErr, MatchResult};
+ghost use Rattle.std.specs.Prelude.{◌≡◌, MatchResult};
 ghost use Rattle.std.specs.IoError.{error_kind};
 ghost use Rattle.sha2.specs.Sha256.{sha256};
 ghost use Rattle.chaosd_copies.specs.Copied.{contents_of};
-ghost use Rattle.chaosd_copies.specs.Outcome.{status_of_kind, status_of, is_copied, goes_on};
+ghost use Rattle.chaosd_copies.specs.Outcome.{status_of_kind, status_of, goes_on};
 
 use crate::status::ExitStatus;
+use crate::text::Lost;
 use chaos_file::Reply;
 use chaosd_io::RunFault;
 use sha2::{Digest, Sha256};
@@ -50,12 +51,16 @@ impl Contents {
 pub enum Outcome<W> {
     /// It was copied whole.
     Copied(Contents),
-    /// It is a text that would not come back, by this byte.
-    Lost(u8),
+    /// It was changed at the server as was asked for.
+    Changed,
+    /// It is a text that would not come back.
+    Garbled(Lost),
     /// It has more bytes than a file of FILE may have.
     TooBig,
     /// Its path has more bytes than one of FILE may have.
     TooLong,
+    /// It goes to no path.
+    Unnamed,
     /// The local file could not be read.
     Unread(io::Error),
     /// The local file could not be written.
@@ -97,10 +102,11 @@ impl<W> Outcome<W> {
         ensures { result ≡ status_of self.now }
     {
         match self {
-            Outcome::Copied(_) => ExitStatus::Done,
+            Outcome::Copied(_) | Outcome::Changed => ExitStatus::Done,
+            Outcome::Unnamed => ExitStatus::Fault,
             Outcome::Unread(fault) | Outcome::Unwritten(fault) => status_of_error(fault),
             Outcome::Failed(fault) => ExitStatus::of_fault(*fault),
-            Outcome::Lost(_)
+            Outcome::Garbled(_)
             | Outcome::TooBig
             | Outcome::TooLong
             | Outcome::Refused(_)
@@ -111,13 +117,22 @@ impl<W> Outcome<W> {
         }
     }
 
-    /// What came of a file, where it wasn't copied.
+    /// What came of a file that was copied, or else of one that wasn't.
     pub(crate) fn of(tried: Result<Contents, Self>) -> Self
-        requires { IfErr tried (λ outcome. is_copied outcome ≡ false) }
         ensures { MatchResult tried (λ contents. result ≡ Outcome.Copied contents) (λ outcome. result ≡ outcome) }
     {
         match tried {
             Ok(contents) => Outcome::Copied(contents),
+            Err(missed) => missed,
+        }
+    }
+
+    /// What came of a change that was made, or else of one that wasn't.
+    pub fn of_change(tried: Result<(), Self>) -> Self
+        ensures { MatchResult tried (λ _. result ≡ Outcome.Changed) (λ outcome. result ≡ outcome) }
+    {
+        match tried {
+            Ok(()) => Outcome::Changed,
             Err(missed) => missed,
         }
     }
@@ -133,9 +148,11 @@ impl<W> Outcome<W> {
             | Outcome::Unknown(_)
             | Outcome::NotTried => false,
             Outcome::Copied(_)
-            | Outcome::Lost(_)
+            | Outcome::Changed
+            | Outcome::Garbled(_)
             | Outcome::TooBig
             | Outcome::TooLong
+            | Outcome::Unnamed
             | Outcome::Unread(_)
             | Outcome::Unwritten(_)
             | Outcome::Refused(_) => true,

@@ -2,13 +2,13 @@
 ghost use Rattle.std.specs.Prelude.{◌≡◌, ◌≤◌, [], false, length, IfErr, OnOk, Ok};
 ghost use Rattle.chaos_file.specs.declared.limits.TheConstants.{MAX_FILE, MAX_NAME, MAX_PATH};
 ghost use Rattle.chaosd_copy.specs.Ends.{IfDone};
-ghost use Rattle.chaosd_copies.specs.Copied.{HasGot, HasPut};
-ghost use Rattle.chaosd_copies.specs.Outcome.{is_copied};
+ghost use Rattle.chaosd_copies.specs.Copied.{HasDeleted, HasGot, HasPut, HasRenamed};
+ghost use Rattle.chaosd_copies.specs.Outcome.{is_well};
 
 use crate::dialog::Dialog;
 use crate::outcome::Outcome;
 use crate::watched::{Viewer, Watched};
-use chaosd_copy::{CopyEnd, get_file, log_in, put_file};
+use chaosd_copy::{CopyEnd, delete_file, get_file, log_in, put_file, rename_file};
 use chaosd_io::RunFault;
 
 /// The number from which on a file's commands are named. Each file begins with it: a reply that is still on its way finds a
@@ -52,7 +52,7 @@ impl<'a, D: Dialog, V: Viewer> Session<'a, D, V> {
     /// What came of a file whose copy ended so, where it wasn't copied.
     fn settled(&mut self, end: Result<CopyEnd, RunFault>) -> Result<(), Outcome<D::Why>>
         ensures done { OnOk result (end ≡ Ok CopyEnd.Done) }
-        ensures missed { IfErr result (λ outcome. is_copied outcome ≡ false) }
+        ensures missed { IfErr result (λ outcome. is_well outcome ≡ false) }
         ensures still { D.talked self.new.watched.inner ≡ D.talked self.old.watched.inner }
     {
         match end {
@@ -63,6 +63,14 @@ impl<'a, D: Dialog, V: Viewer> Session<'a, D, V> {
             Ok(CopyEnd::Unknown) => Err(Outcome::Unknown(self.watched.inner.why())),
             Err(fault) => Err(Outcome::Failed(fault)),
         }
+    }
+
+    /// Makes sure that there is a connection and that the user has logged in.
+    fn enter(&mut self) -> Result<(), Outcome<D::Why>>
+        ensures { IfErr result (λ outcome. is_well outcome ≡ false) }
+    {
+        let end = self.begin();
+        self.settled(end)
     }
 
     /// Gets a file over a connection that has begun.
@@ -78,23 +86,15 @@ impl<'a, D: Dialog, V: Viewer> Session<'a, D, V> {
     }
 
     /// Gets a file, and shows how far it has come.
-    pub(crate) fn get(
-        &mut self,
-        path: &str,
-        bytes: &mut Vec<u8>,
-    ) -> Result<(), Outcome<D::Why>>
+    pub(crate) fn get(&mut self, path: &str, bytes: &mut Vec<u8>) -> Result<(), Outcome<D::Why>>
         requires path { length path.now ≤ MAX_PATH }
         requires empty { bytes.old.items ≡ [] }
         ensures got { OnOk result (HasGot path.now bytes.new.items (D.talked self.new.watched.inner)) }
-        ensures missed { IfErr result (λ outcome. is_copied outcome ≡ false) }
+        ensures missed { IfErr result (λ outcome. is_well outcome ≡ false) }
     {
-        let end = match self.begin() {
-            Ok(CopyEnd::Done) => {
-                self.watched.begin(path, None);
-                self.get_on(path.as_bytes(), bytes)
-            }
-            end => end,
-        };
+        self.enter()?;
+        self.watched.begin(path, None);
+        let end = self.get_on(path.as_bytes(), bytes);
         self.settled(end)
     }
 
@@ -120,16 +120,59 @@ impl<'a, D: Dialog, V: Viewer> Session<'a, D, V> {
         requires path { length path.now ≤ MAX_PATH }
         requires fits { length bytes.now ≤ MAX_FILE }
         ensures put { OnOk result (HasPut path.now bytes.now (D.talked self.new.watched.inner)) }
-        ensures missed { IfErr result (λ outcome. is_copied outcome ≡ false) }
+        ensures missed { IfErr result (λ outcome. is_well outcome ≡ false) }
     {
-        let end = match self.begin() {
-            Ok(CopyEnd::Done) => {
-                self.watched.begin(local, Some(bytes.len()));
-                self.put_on(path, bytes)
-            }
-            end => end,
-        };
+        self.enter()?;
+        self.watched.begin(local, Some(bytes.len()));
+        let end = self.put_on(path, bytes);
         self.settled(end)
+    }
+
+    /// How a change ended that was asked for: where no reply came it isn't known whether it was made.
+    fn settled_change(&mut self, end: Result<CopyEnd, RunFault>) -> Result<(), Outcome<D::Why>>
+        ensures done { OnOk result (end ≡ Ok CopyEnd.Done) }
+        ensures missed { IfErr result (λ outcome. is_well outcome ≡ false) }
+        ensures still { D.talked self.new.watched.inner ≡ D.talked self.old.watched.inner }
+    {
+        self.is_in = matches!(end, Ok(CopyEnd::Done | CopyEnd::Refused(_)));
+        match end {
+            Ok(CopyEnd::NoReply) => Err(Outcome::Unknown(self.watched.inner.why())),
+            end => self.settled(end),
+        }
+    }
+
+    /// Tells that lines of a text end in CR LF.
+    pub(crate) fn tell_returns(&mut self, name: &str) {
+        self.watched.tell_returns(name);
+    }
+
+    /// Has the server delete a file.
+    ///
+    /// # Errors
+    /// What came of it otherwise: it is `Unknown` whether that was done where the command got no reply.
+    pub fn delete(&mut self, path: &[u8]) -> Result<(), Outcome<D::Why>>
+        requires { length path.now ≤ MAX_PATH }
+        ensures done { OnOk result (HasDeleted path.now (D.talked self.new.watched.inner)) }
+        ensures missed { IfErr result (λ outcome. is_well outcome ≡ false) }
+    {
+        self.enter()?;
+        let end = delete_file(&mut self.watched.inner, FIRST, path);
+        self.settled_change(end)
+    }
+
+    /// Has the server rename a file.
+    ///
+    /// # Errors
+    /// What came of it otherwise: it is `Unknown` whether that was done where the command got no reply.
+    pub fn rename(&mut self, old: &[u8], new: &[u8]) -> Result<(), Outcome<D::Why>>
+        requires old { length old.now ≤ MAX_PATH }
+        requires new { length new.now ≤ MAX_PATH }
+        ensures done { OnOk result (HasRenamed old.now new.now (D.talked self.new.watched.inner)) }
+        ensures missed { IfErr result (λ outcome. is_well outcome ≡ false) }
+    {
+        self.enter()?;
+        let end = rename_file(&mut self.watched.inner, FIRST, old, new);
+        self.settled_change(end)
     }
 
     /// Ends the connection. What fails then changes nothing of what was copied.

@@ -1,7 +1,7 @@
 //! Exit statuses.
 ghost use Rattle.std.specs.Prelude.{◌≡◌};
 ghost use Rattle.chaosd_io.specs.Status.{fault_status};
-ghost use Rattle.chaosd_copies.specs.Status.{number_of, rank, worse, is_done, status_of_fault};
+ghost use Rattle.chaosd_copies.specs.Status.{number_of, rank, worse, status_of_fault, status_of_run};
 
 use chaosd_io::RunFault;
 
@@ -65,6 +65,17 @@ impl ExitStatus {
             | RunFault::InputTooLong
             | RunFault::LinkFault
             | RunFault::ClockFault => ExitStatus::Fault,
+        }
+    }
+
+    /// That of a run which ended well, in which something was refused, or by a fault.
+    pub fn of_run(end: Result<bool, RunFault>) -> ExitStatus
+        ensures { result ≡ status_of_run end }
+    {
+        match end {
+            Ok(true) => ExitStatus::Done,
+            Ok(false) => ExitStatus::Refused,
+            Err(fault) => ExitStatus::of_fault(fault),
         }
     }
 }

@@ -20,6 +20,9 @@ pub trait Viewer {
 
     /// Takes away what was shown.
     fn clear(&mut self);
+
+    /// Lines of the text of this name end in CR LF, of which the CRs are kept.
+    fn tell_returns(&mut self, name: &str);
 }
 
 /// A talk of which a user is shown how much of a file was copied.
@@ -71,6 +74,13 @@ impl<V: Viewer, T: Talk> Watched<V, T> {
         self.is_shown = true;
         let share = self.progress.share(now);
         self.viewer.show(share);
+    }
+
+    /// Tells that lines of a text end in CR LF.
+    pub(crate) fn tell_returns(&mut self, name: &str)
+        ensures { self.new.inner ≡ self.old.inner }
+    {
+        self.viewer.tell_returns(name);
     }
 
     /// Takes away what the user was shown.

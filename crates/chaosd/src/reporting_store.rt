@@ -8,14 +8,14 @@ use std::fs::{File, Files};
 
 /// The store of a folder, which tells a user what the system said in each call that failed: the reply to a command can't.
 #[derive(Drop)]
-pub(crate) struct Telling<'a, R: Eprint + Files<File = File>> {
+pub(crate) struct ReportingStore<'a, R: Eprint + Files<File = File>> {
     rt: &'a R,
     inner: DirStore<&'a R>,
 }
 
-impl<'a, R: Eprint + Files<File = File>> Telling<'a, R> {
+impl<'a, R: Eprint + Files<File = File>> ReportingStore<'a, R> {
     pub(crate) fn new(rt: &'a R, inner: DirStore<&'a R>) -> Self {
-        Telling { rt, inner }
+        ReportingStore { rt, inner }
     }
 
     /// Tells why this can't be done to the file of a path.
@@ -38,7 +38,7 @@ impl<'a, R: Eprint + Files<File = File>> Telling<'a, R> {
     }
 }
 
-impl<R: Eprint + Files<File = File>> Store for Telling<'_, R> {
+impl<R: Eprint + Files<File = File>> Store for ReportingStore<'_, R> {
     ghost contents = { λ _. None };
 
     ghost may_give = { λ _ _ _ _. Unit {0} };

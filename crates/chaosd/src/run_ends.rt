@@ -1,8 +1,10 @@
 //! What a user is told on standard error of a run that ended, or that could not begin.
 ghost use Rattle.std.specs.Prelude.{◌≡◌, ◌⊎◌};
+ghost use Rattle.chaosd_copies.specs.Status.{status_of_fault};
 
 use chaosd_file::{ScriptEnd, Why};
-use chaosd_io::{FAULT, NO_MEMORY, RunFault};
+use chaosd_copies::ExitStatus;
+use chaosd_io::RunFault;
 use std::fmt::Display;
 use std::io;
 
@@ -44,14 +46,22 @@ pub(crate) fn tell_served<R: Eprint>(
     tell_end(rt, end);
 }
 
-/// Tells what could not be opened, and why. The answer is the status of a program that ends by it: 4 for want of memory, else 1.
-pub(crate) fn tell_unopened<R: Eprint, D: Display>(rt: &R, what: &D, error: &io::Error) -> u8
-    ensures { (result ≡ FAULT) ⊎ (result ≡ NO_MEMORY) }
+/// Tells what could not be opened, and why. The answer is the status of a program that ends by it.
+pub(crate) fn tell_unopened<R: Eprint, D: Display>(rt: &R, what: &D, error: &io::Error) -> ExitStatus
+    ensures { (result ≡ ExitStatus.Fault) ⊎ (result ≡ ExitStatus.NoMemory) }
 {
     if error.kind() == io::ErrorKind::OutOfMemory {
         let _ = eprintln!(rt; "chaosd: {}", RunFault::NoMemory);
-        return NO_MEMORY;
+        return ExitStatus::NoMemory;
     }
     let _ = eprintln!(rt; "chaosd: can't open {what}: {error}");
-    FAULT
+    ExitStatus::Fault
+}
+
+/// Tells the fault by which a run over files could not begin. The answer is its status.
+pub(crate) fn tell_unbegun<R: Eprint>(rt: &R, fault: RunFault) -> ExitStatus
+    ensures { result ≡ status_of_fault fault }
+{
+    let _ = eprintln!(rt; "chaosd: no file: {fault}");
+    ExitStatus::of_fault(fault)
 }
