@@ -4,9 +4,8 @@ ghost use Rattle.std.specs.Prelude.{None};
 use chaos_file::{MAX_FILE, MAX_PATH, Reply};
 use chaosd_client::Shown;
 use chaosd_copies::{Contents, Lost, Outcome, Target, Teller};
-use std::fmt;
 use std::fmt::{Display, Formatter};
-use std::io;
+use std::{fmt, io};
 
 /// Tells on standard error what came of each file.
 #[derive(Drop)]
@@ -21,8 +20,7 @@ pub(crate) struct FileWords<'a, R: Eprint> {
 }
 
 /// What is told of a put whose end isn't known.
-pub(crate) const PUT_UNKNOWN: &str =
-    "whether it was put isn't known, since its CLOSE got no reply";
+pub(crate) const PUT_UNKNOWN: &str = "whether it was put isn't known, since its CLOSE got no reply";
 
 /// What is told of a change whose end isn't known.
 pub(crate) const CHANGE_UNKNOWN: &str = "whether that was done isn't known";

@@ -2,8 +2,8 @@
 ghost use Rattle.std.specs.Prelude.{◌≡◌, ◌⊎◌};
 ghost use Rattle.chaosd_copies.specs.Status.{status_of_fault};
 
-use chaosd_file::{ScriptEnd, Why};
 use chaosd_copies::ExitStatus;
+use chaosd_file::{ScriptEnd, Why};
 use chaosd_io::RunFault;
 use std::fmt::Display;
 use std::io;
@@ -33,21 +33,12 @@ pub(crate) fn tell_script<R: Eprint>(rt: &R, end: &Result<ScriptEnd, RunFault>, 
     };
 }
 
-/// Tells how a service ended: as [`tell_end`] does, and else that its turns are over, unless nothing is to be told of that.
-pub(crate) fn tell_served<R: Eprint>(
-    rt: &R,
-    end: &Result<(), RunFault>,
-    turns: u32,
-    is_quiet: bool,
-) {
-    if end.is_ok() && !is_quiet {
-        let _ = eprintln!(rt; "chaosd: {turns} turns are over");
-    }
-    tell_end(rt, end);
-}
-
 /// Tells what could not be opened, and why. The answer is the status of a program that ends by it.
-pub(crate) fn tell_unopened<R: Eprint, D: Display>(rt: &R, what: &D, error: &io::Error) -> ExitStatus
+pub(crate) fn tell_unopened<R: Eprint, D: Display>(
+    rt: &R,
+    what: &D,
+    error: &io::Error,
+) -> ExitStatus
     ensures { (result ≡ ExitStatus.Fault) ⊎ (result ≡ ExitStatus.NoMemory) }
 {
     if error.kind() == io::ErrorKind::OutOfMemory {

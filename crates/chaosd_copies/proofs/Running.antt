@@ -1,7 +1,6 @@
 -- A run over files grows by one.
 use Rattle.std.proofs.Common.{◌≡◌, refl, sym, ap, subst, ◌∙◌, ℕ, Bool, true, false, List, [], ◌∷◌, ◌++◌, Option, Some, None, append_assoc, append-nil}
-use Rattle.std.specs.Prelude.{map, ◌&&◌, MatchBool, option_map}
-use Rattle.std.specs.List.{list_all}
+use Rattle.std.specs.Prelude.{map, ◌&&◌, MatchBool}
 use Rattle.std.specs.IoError.{error_kind}
 use Rattle.std.specs.declared.io.ErrorKind.{ErrorKind}
 use Rattle.std.specs.declared.io.ErrorKind.TheVariants as k

@@ -1,5 +1,4 @@
-use Rattle.std.proofs.Common.{rules, ap, subst, ◌∙◌}
-use Rattle.chaosd_copies.specs.Copied.{contents_of, HasPut}
+use Rattle.std.proofs.Common.{rules}
 use Rattle.chaosd_copies.proofs.puts.Puts.put_from.Goals as goal
 
 pub returns-clause-put : goal.returns-clause-put
