@@ -1,9 +1,8 @@
 //! The runs of clients over sockets: `loop` and `ask`.
-use crate::told::{tell_script, tell_unopened};
+use crate::run_ends::{tell_script, tell_unopened};
 use chaos_link::{Carriage, Peer, Peers, UdpLink};
-use chaosd_file::{
-    LOOP_CLIENT, LOOP_SERVER, NOBODY, ScriptEnd, Why, run_ask, run_loop, script_status,
-};
+use chaosd_copies::ExitStatus;
+use chaosd_file::{LOOP_CLIENT, LOOP_SERVER, NOBODY, ScriptEnd, Why, run_ask, run_loop};
 use chaosd_io::RunFault;
 use chaosd_line::Ask;
 use std::io;
@@ -65,9 +64,13 @@ pub(crate) fn has_input<R: Input>(rt: &R) -> bool {
 }
 
 /// Tells how a script ended, and gives the exit status.
-fn end_script<R: Eprint>(rt: &R, end: &Result<ScriptEnd, RunFault>, why: &Option<Why>) -> u8 {
+fn end_script<R: Eprint>(
+    rt: &R,
+    end: &Result<ScriptEnd, RunFault>,
+    why: &Option<Why>,
+) -> ExitStatus {
     tell_script(rt, end, why);
-    script_status(end)
+    ExitStatus::of_run(end.map(|end| end.replied == end.commands))
 }
 
 /// The host that is asked: this one where it is a peer. Of one that is none nothing can be asked, which is told.
@@ -83,7 +86,7 @@ fn asked_host<R: Eprint>(rt: &R, to: u16, peers: &Peers) -> u16 {
 pub(crate) fn run_loop_line<R: AllocGlobal + Eprint + Input + Net + Print>(
     rt: &R,
     carriage: Carriage,
-) -> u8 {
+) -> ExitStatus {
     if !has_input(rt) {
         return end_script(rt, &Err(RunFault::ReadFault), &None);
     }
@@ -108,9 +111,11 @@ pub(crate) fn run_loop_line<R: AllocGlobal + Eprint + Input + Net + Print>(
 pub(crate) fn run_ask_line<R: AllocGlobal + Clock + Eprint + Input + Net + Print>(
     rt: &R,
     line: Ask,
-) -> u8 {
+) -> ExitStatus {
     let Ask {
         carriage,
+        timeout: _,
+        is_strict: _,
         address,
         socket,
         to,

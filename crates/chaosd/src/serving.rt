@@ -2,12 +2,13 @@
 ghost use Rattle.std.specs.Prelude.{◌<◌};
 
 use crate::connections::Connections;
-use crate::told::tell_unopened;
+use crate::run_ends::tell_unopened;
 use arrayvec::ArrayVec;
 use chaos_conn::ConnConfig;
 use chaos_file::{DirStore, Store};
 use chaos_link::{Carriage, Link, MAX_PEERS, Peer, Peers, UdpLink};
-use chaosd_file::{run_serve_by, serve_status};
+use chaosd_copies::ExitStatus;
+use chaosd_file::run_serve_by;
 use chaosd_io::RunFault;
 use chaosd_line::{LogLevel, Serve};
 use chaosd_log::{
@@ -65,7 +66,7 @@ fn serve<R: AllocGlobal + Clock + Eprint, L: Link, S: Store>(
     journal: &Journal<'_, R>,
     link: &mut L,
     store: &mut S,
-) -> u8 {
+) -> ExitStatus {
     let end = run_serve_by(
         rt,
         rt.alloc(),
@@ -78,7 +79,7 @@ fn serve<R: AllocGlobal + Clock + Eprint, L: Link, S: Store>(
         &mut Connections(journal),
     );
     tell_served(journal, &end, wanted.turns);
-    serve_status(&end)
+    ExitStatus::of_run(end.map(|()| true))
 }
 
 /// Tells that a service's turns are over, or the fault that it ended by.
@@ -97,7 +98,7 @@ fn tell_served<R: Clock + Eprint>(
 pub(crate) fn run_serve_line<R: AllocGlobal + Clock + Eprint + Files<File = File> + Net>(
     rt: &R,
     line: Serve<'_>,
-) -> u8 {
+) -> ExitStatus {
     let Serve {
         turns,
         carriage,
