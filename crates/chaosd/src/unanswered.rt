@@ -16,6 +16,18 @@ pub(crate) struct Unanswered {
     pub(crate) client: Peer,
 }
 
+impl Unanswered {
+    /// Of a server that listens somewhere, or may.
+    pub(crate) fn new(why: NoReply, server: Peer, client: Peer) -> Self {
+        Unanswered {
+            why,
+            is_refused: false,
+            server,
+            client,
+        }
+    }
+}
+
 impl Display for Unanswered {
     fn fmt<W: fmt::Write>(&self, f: &mut Formatter<W>) -> fmt::Result {
         let Peer { address, socket } = self.client;

@@ -81,6 +81,11 @@ impl<'a, R: Eprint> Waiting<'a, R> {
         }
     }
 
+    /// The server that is waited for.
+    pub(crate) fn server(&self) -> Peer {
+        self.server
+    }
+
     /// The server was heard: nothing is waited for any more.
     pub(crate) fn hear(&self) {
         let wait = self.wait.get();
