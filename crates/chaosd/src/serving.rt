@@ -2,17 +2,18 @@
 ghost use Rattle.std.specs.Prelude.{◌<◌};
 
 use crate::connections::Connections;
-use crate::told::tell_unopened;
+use crate::run_ends::tell_unopened;
 use arrayvec::ArrayVec;
 use chaos_conn::ConnConfig;
 use chaos_file::{DirStore, Store};
 use chaos_link::{Link, MAX_PEERS, Peer, Peers, UdpLink};
+use chaosd_copies::ExitStatus;
 use chaosd_io::RunFault;
 use chaosd_line::{LogLevel, Serve};
 use chaosd_log::{
     Journal, Ledger, Level, Matter, NotedLink, NotedSocket, NotedStore, Pages, ReadOnly,
 };
-use file_server::{ServeOptions, run_serve_by, serve_status};
+use file_server::{ServeOptions, run_serve_by};
 use std::fs::{File, Files};
 use std::io;
 use std::net::{Net, SocketAddr, UdpSocket};
@@ -55,7 +56,7 @@ fn serve<R: AllocGlobal + Clock + Eprint, L: Link, S: Store>(
     journal: &Journal<'_, R>,
     link: &mut L,
     store: &mut S,
-) -> u8
+) -> ExitStatus
     requires { 0 < options.me }
 {
     let turns = options.turns;
@@ -68,7 +69,7 @@ fn serve<R: AllocGlobal + Clock + Eprint, L: Link, S: Store>(
         &mut Connections(&*journal),
     );
     tell_served(journal, &end, turns);
-    serve_status(&end)
+    ExitStatus::of_run(end.map(|()| true))
 }
 
 /// Tells that a service's turns are over, or the fault that it ended by.
@@ -87,7 +88,7 @@ fn tell_served<R: Clock + Eprint>(
 pub(crate) fn run_serve_line<R: AllocGlobal + Clock + Eprint + Files<File = File> + Net>(
     rt: &R,
     line: Serve<'_>,
-) -> u8 {
+) -> ExitStatus {
     let Serve {
         turns,
         carriage,
