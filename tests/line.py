@@ -32,7 +32,7 @@ LOCALS_FORM = "a name for standard input, by --as"
 CLASH_FORM = "a path for each file, but '%s' goes under the same; name one by --as"
 OTHER_FORM = "another Chaosnet address than this host's own"
 TIMEOUT_FORM = "a decimal number without leading zeros, from 1 to 3600"
-OUTPUT_FORM = "one PATH alone"
+OUTPUT_FORM = "one PATH alone, or a folder that ends with /"
 
 BAD_CARRIAGES = ["", "0", "3", "01", "02", "+1", "1 ", " 2", "one", "12"]
 BAD_WINDOWS = ["", "0", "00", "01", "65", "+1", "x", "1x", " 1", "1.5", "0x1", "65536", "65600"]

@@ -2,7 +2,7 @@
 use chaos_file::write_whole;
 use chaosd_copy::last_name;
 use std::alloc::Global;
-use std::fs::{File, Metadata};
+use std::fs::{File, Metadata, OpenFile};
 use std::io::ErrorKind;
 use std::os::unix::fs::FileTypeExt;
 use std::rt::Files;
