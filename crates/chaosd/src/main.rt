@@ -1,5 +1,5 @@
 //! `chaosd`: a thin main over the command line (`chaosd_line`) and the engines (`chaosd_show`, `chaosd_lab`,
-//! `chaosd_filelab`, `chaosd_file`, `chaosd_copies` over `chaosd_call`).
+//! `chaosd_filelab`, `chaosd_file`, `file_server`, `chaosd_copies` over `chaosd_call`).
 //! It hands the words to the one, opens the folder and the sockets that they name, hands these with standard input and output to
 //! the others, and ends with their status.
 #![tactic(auto)]
@@ -16,6 +16,8 @@ mod run_ends;
 mod runs;
 mod serving;
 mod status;
+mod unanswered;
+mod waiting;
 mod words;
 
 use crate::changes::{run_delete_line, run_rename_line};
@@ -47,12 +49,12 @@ where
         Line::Lab => run_lab_line(rt),
         Line::FileLab => run_filelab_line(rt),
         Line::Loop(carriage) => run_loop_line(rt, carriage),
-        Line::Ask(ask) => run_ask_line(rt, ask),
+        Line::Ask(ask) => run_ask_line(rt, ask, is_terminal),
         Line::Serve(serve) => run_serve_line(rt, serve),
         Line::Get(get) => run_get_line(rt, &get, is_terminal),
         Line::Put(put) => run_put_line(rt, &put, is_terminal),
-        Line::Delete(delete) => run_delete_line(rt, &delete),
-        Line::Rename(rename) => run_rename_line(rt, &rename),
+        Line::Delete(delete) => run_delete_line(rt, &delete, is_terminal),
+        Line::Rename(rename) => run_rename_line(rt, &rename, is_terminal),
     }
 }
 
