@@ -94,7 +94,7 @@ HELP = {
         "  <PATH>...  Server's files: 1 to 64 letters, digits, dots, hyphens and underscores, no dot in front\n",
         "--login <NAME>       User's name: 1 to 16 letters and digits [default: CHAOSD]\n",
         "--window <N>         Commands in flight, 1 to 64, as far as the server's own window allows [default: 64]\n",
-        "--output <LOCAL>     Local file of the one path; - is standard output\n",
+        "--output <LOCAL>     Local file of the one path, or a folder that ends with / for all; - is standard output\n",
         "--text               A text of ASCII or the Lisp machine's set: newline, tab, backspace and page are 8D, 89, 88 and 8C ",
         "--verbose            Tells of each file, also where standard error is no terminal, and how the server is called\n",
     ],
