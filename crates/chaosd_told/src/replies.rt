@@ -1,0 +1,137 @@
+//! What the replies of a script leave undone.
+ghost use Rattle.std.specs.Prelude.{◌≡◌};
+
+use arrayvec::ArrayVec;
+use std::cell::Cell;
+use std::io;
+use std::io::Write;
+
+/// The most bytes of a handle's name.
+const MAX_NAME: usize = 8;
+
+/// The most handles of a session.
+const MAX_HANDLES: usize = 8;
+
+/// As many bytes of a reply's front as its name, its handle and the word of its answer may have.
+const FRONT: usize = 32;
+
+/// A handle's name.
+pub type Name = ArrayVec<u8, MAX_NAME>;
+
+/// What was seen in the replies that were printed so far.
+#[derive(Drop)]
+pub struct Notes {
+    /// Whether one was an error.
+    pub has_error: Cell<bool>,
+    /// Whether the last one was an error for a handle LOGIN: then a command had one space where two are wanted.
+    pub is_login: Cell<bool>,
+}
+
+impl Notes {
+    /// Nothing was printed yet.
+    pub fn new() -> Self {
+        Notes {
+            has_error: Cell::new(false),
+            is_login: Cell::new(false),
+        }
+    }
+}
+
+/// A writer of replies that hands them on to another, and looks at each one's front.
+#[derive(Drop)]
+pub struct Replies<'a, W: Write> {
+    inner: &'a mut W,
+    notes: &'a Notes,
+    front: ArrayVec<u8, FRONT>,
+    written: ArrayVec<Name, MAX_HANDLES>,
+}
+
+/// The name of a handle, where it is no longer than it may be.
+fn name_of(handle: &[u8]) -> Name {
+    let mut name = Name::new();
+    let _fits = name.try_extend_from_slice(handle);
+    name
+}
+
+impl<'a, W: Write> Replies<'a, W> {
+    /// Nothing was printed yet.
+    pub fn new(inner: &'a mut W, notes: &'a Notes) -> Self {
+        Replies {
+            inner,
+            notes,
+            front: ArrayVec::new(),
+            written: ArrayVec::new(),
+        }
+    }
+
+    /// The handles that were written and not closed.
+    pub fn written(&self) -> &[Name] {
+        self.written.as_slice()
+    }
+
+    /// Takes note that a handle was written.
+    fn note_write(&mut self, handle: &[u8])
+        ensures { self.new.inner ≡ self.old.inner }
+    {
+        if !self.written.iter().any(|name| name.as_slice() == handle) {
+            let _fits = self.written.try_push(name_of(handle));
+        }
+    }
+
+    /// Takes note that a handle was closed.
+    fn note_close(&mut self, handle: &[u8])
+        ensures { self.new.inner ≡ self.old.inner }
+    {
+        self.written.retain(|name| name.as_slice() != handle);
+    }
+
+    /// Takes note of a reply, of whose line the front is there.
+    fn note_reply(&mut self)
+        ensures { self.new.inner ≡ self.old.inner }
+    {
+        let front = self.front.clone();
+        self.front.clear();
+        let mut fields = front.as_slice().splitn(4, |b| *b == b' ');
+        let _tid = fields.next();
+        let handle = fields.next().unwrap_or(b"");
+        let word = fields.next().unwrap_or(b"");
+        let is_error = word == b"ERROR".as_slice();
+        self.notes.is_login.set(is_error && handle == b"LOGIN".as_slice());
+        if is_error {
+            self.notes.has_error.set(true);
+        } else if word == b"WRITE".as_slice() {
+            self.note_write(handle);
+        } else if word == b"CLOSE".as_slice() {
+            self.note_close(handle);
+        }
+    }
+
+    /// Takes note of what was printed.
+    fn note(&mut self, bytes: &[u8])
+        ensures { self.new.inner ≡ self.old.inner }
+    {
+        for byte in bytes {
+            if *byte == b'\n' {
+                self.note_reply();
+            } else {
+                let _fits = self.front.try_push(*byte);
+            }
+        }
+    }
+}
+
+impl<W: Write> Write for Replies<'_, W> {
+    ghost contents = { λ replies. W.contents replies.inner.now };
+
+    fn write(&mut self, buf: &[u8]) -> io::Result<usize> {
+        let wrote = self.inner.write(buf);
+        if let Ok(count) = &wrote {
+            self.note(&buf[..*count]);
+        }
+        wrote
+    }
+
+    fn flush(&mut self) -> io::Result<()> {
+        self.inner.flush()
+    }
+}
