@@ -4,6 +4,7 @@
 //! the others, and ends with their status.
 #![tactic(auto)]
 
+mod asking;
 mod caller;
 mod changes;
 mod connections;
@@ -15,14 +16,18 @@ mod progress;
 mod runs;
 mod status;
 mod telling;
+mod terminals;
 mod told;
+mod typed;
 mod words;
 
+use crate::asking::run_ask_line;
 use crate::changes::{run_delete_line, run_rename_line};
 use crate::copies::{run_get_line, run_put_line};
-use crate::network::{run_ask_line, run_loop_line, run_serve_line};
+use crate::network::{run_loop_line, run_serve_line};
 use crate::runs::{run_filelab_line, run_lab_line, run_show_line};
 use crate::status::refused_status;
+use crate::terminals::Terminals;
 use crate::words::words_of;
 use chaosd_io::RunFault;
 use chaosd_line::{Line, LineFault, parse_line};
@@ -34,20 +39,20 @@ use std::process::ExitCode;
 use std::rt::Env;
 use std::time::Clock;
 
-/// Does what the line asks for. Where standard error is a terminal, more is told on it. The answer is the exit status.
-fn run_line<R>(rt: &R, line: Line<'_>, is_terminal: bool) -> u8
+/// Does what the line asks for. On terminals more is told. The answer is the exit status.
+fn run_line<R>(rt: &R, line: Line<'_>, terminals: Terminals) -> u8
 where
     R: AllocGlobal + Clock + Eprint + Files<File = File> + Input + Net + Print,
 {
     match line {
-        Line::Show(_) => run_show_line(rt),
+        Line::Show(is_file) => run_show_line(rt, is_file),
         Line::Lab => run_lab_line(rt),
         Line::FileLab => run_filelab_line(rt),
         Line::Loop(carriage) => run_loop_line(rt, carriage),
-        Line::Ask(ask) => run_ask_line(rt, ask),
+        Line::Ask(ask) => run_ask_line(rt, ask, terminals),
         Line::Serve(serve) => run_serve_line(rt, serve),
-        Line::Get(get) => run_get_line(rt, &get, is_terminal),
-        Line::Put(put) => run_put_line(rt, &put, is_terminal),
+        Line::Get(get) => run_get_line(rt, &get, terminals.errors),
+        Line::Put(put) => run_put_line(rt, &put, terminals.errors),
         Line::Delete(delete) => run_delete_line(rt, &delete),
         Line::Rename(rename) => run_rename_line(rt, &rename),
     }
@@ -64,7 +69,7 @@ fn refuse<R: Print + Eprint>(rt: &R, error: &Error) -> u8 {
 }
 
 /// Reads the command line and does what it asks for. The answer is the exit status.
-fn run<R>(rt: &R, is_terminal: bool) -> u8
+fn run<R>(rt: &R, terminals: Terminals) -> u8
 where
     R: AllocGlobal + Clock + Env + Eprint + Files<File = File> + Input + Net + Print,
 {
@@ -76,12 +81,16 @@ where
         }
     };
     match parse_line(rt.alloc(), words.as_slice()) {
-        Ok(line) => run_line(rt, line, is_terminal),
+        Ok(line) => run_line(rt, line, terminals),
         Err(error) => refuse(rt, &error),
     }
 }
 
 /// The program.
 fn main(rt: HostRuntime) -> ExitCode {
-    ExitCode::from(run(&rt, rt.stderr().is_terminal()))
+    let terminals = Terminals {
+        input: rt.stdin().is_terminal(),
+        errors: rt.stderr().is_terminal(),
+    };
+    ExitCode::from(run(&rt, terminals))
 }

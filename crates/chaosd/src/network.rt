@@ -1,4 +1,4 @@
-//! The runs over sockets: `loop`, `ask` and `serve`.
+//! The runs over sockets: `loop` and `serve`.
 use crate::connections::Connections;
 use crate::noting::Noting;
 use crate::telling::Telling;
@@ -7,11 +7,10 @@ use chaos_conn::ConnConfig;
 use chaos_file::DirStore;
 use chaos_link::{Carriage, Peer, Peers, UdpLink};
 use chaosd_file::{
-    LOOP_CLIENT, LOOP_SERVER, NOBODY, ScriptEnd, Why, run_ask, run_loop, run_serve_by,
-    script_status, serve_status,
+    LOOP_CLIENT, LOOP_SERVER, ScriptEnd, Why, run_loop, run_serve_by, script_status, serve_status,
 };
 use chaosd_io::RunFault;
-use chaosd_line::{Ask, Serve};
+use chaosd_line::Serve;
 use std::fs::{File, Files};
 use std::io;
 use std::io::Read;
@@ -19,7 +18,7 @@ use std::net::{Ipv4Addr, Net, SocketAddr, SocketAddrV4, UdpSocket};
 use std::time::Clock;
 
 /// A link over a socket at this UDP address, to these peers.
-fn link_at<R: Net>(rt: &R, socket: SocketAddrV4, peers: Peers) -> io::Result<UdpLink> {
+pub(crate) fn link_at<R: Net>(rt: &R, socket: SocketAddrV4, peers: Peers) -> io::Result<UdpLink> {
     let socket = UdpSocket::bind(rt, SocketAddr::V4(socket))?;
     Ok(UdpLink::new(socket, peers))
 }
@@ -81,18 +80,13 @@ pub(crate) fn has_input<R: Input>(rt: &R) -> bool {
 }
 
 /// Tells how a script ended, and gives the exit status.
-fn end_script<R: Eprint>(rt: &R, end: &Result<ScriptEnd, RunFault>, why: &Option<Why>) -> u8 {
+pub(crate) fn end_script<R: Eprint>(
+    rt: &R,
+    end: &Result<ScriptEnd, RunFault>,
+    why: &Option<Why>,
+) -> u8 {
     tell_script(rt, end, why);
     script_status(end)
-}
-
-/// The host that is asked: this one where it is a peer. Of one that is none nothing can be asked, which is told.
-fn asked_host<R: Eprint>(rt: &R, to: u16, peers: &Peers) -> u16 {
-    if peers.find(to).is_some() {
-        return to;
-    }
-    let _ = eprintln!(rt; "chaosd: host {to:06o} is no PEER");
-    NOBODY
 }
 
 /// Runs `loop` from standard input to standard output.
@@ -118,47 +112,6 @@ pub(crate) fn run_loop_line<R: AllocGlobal + Eprint + Input + Net + Print>(
         carriage,
     );
     end_script(rt, &end, &why)
-}
-
-/// Runs `ask` from standard input to standard output.
-pub(crate) fn run_ask_line<R: AllocGlobal + Clock + Eprint + Input + Net + Print>(
-    rt: &R,
-    line: Ask,
-) -> u8 {
-    let Ask {
-        carriage,
-        timeout: _,
-        is_strict: _,
-        address,
-        socket,
-        to,
-        peers,
-    } = line;
-    if !has_input(rt) {
-        return end_script(rt, &Err(RunFault::ReadFault), &None);
-    }
-    let to = asked_host(rt, to, &peers);
-    let mut link = match link_at(rt, socket, peers) {
-        Ok(link) => link,
-        Err(error) => return tell_unopened(rt, &socket, &error),
-    };
-    let mut why = None;
-    let end = run_ask(
-        rt,
-        rt.alloc(),
-        &mut rt.reader(),
-        &mut io::writer(rt),
-        &mut link,
-        address,
-        to,
-        &mut why,
-        carriage,
-    );
-    match &why {
-        // That the host is no peer was told.
-        Some(Why::NoReply(_)) if to == NOBODY => end_script(rt, &end, &None),
-        _ => end_script(rt, &end, &why),
-    }
 }
 
 /// Runs `serve` on a folder, which is opened first, and then the socket.

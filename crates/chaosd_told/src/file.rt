@@ -10,47 +10,106 @@ pub(crate) enum Kind {
     Either,
 }
 
-/// How a word goes on, and the names of its parts.
-#[derive(Clone, Copy)]
+/// A word, what stands in front of each part behind it, where there is one, and the names of the parts.
 struct Form {
     kind: Kind,
     word: &'static [u8],
-    /// What stands in front of each part: nothing where there is none.
     fronts: [&'static [u8]; 2],
     parts: [&'static str; 2],
-}
-
-const fn form(
-    kind: Kind,
-    word: &'static [u8],
-    fronts: [&'static [u8]; 2],
-    parts: [&'static str; 2],
-) -> Form {
-    Form {
-        kind,
-        word,
-        fronts,
-        parts,
-    }
 }
 
 /// The forms of commands and replies.
 static FORMS: [Form; 15] = [
-    form(Kind::Either, b"LOGIN", [b" ", b""], ["user", ""]),
-    form(Kind::Command, b"OPEN READ", [b"\x8d", b""], ["path", ""]),
-    form(Kind::Command, b"OPEN WRITE", [b"\x8d", b""], ["path", ""]),
-    form(Kind::Reply, b"OPEN", [b" ", b""], ["length", ""]),
-    form(Kind::Reply, b"READ", [b"\x8d", b""], ["bytes", ""]),
-    form(Kind::Command, b"READ", [b"", b""], ["", ""]),
-    form(Kind::Command, b"WRITE", [b"\x8d", b""], ["bytes", ""]),
-    form(Kind::Reply, b"WRITE", [b" ", b""], ["length", ""]),
-    form(Kind::Reply, b"CLOSE", [b" ", b""], ["length", ""]),
-    form(Kind::Command, b"CLOSE", [b"", b""], ["", ""]),
-    form(Kind::Command, b"RENAME", [b"\x8d", b"\x8d"], ["path", "new path"]),
-    form(Kind::Command, b"DELETE", [b"\x8d", b""], ["path", ""]),
-    form(Kind::Reply, b"RENAME", [b"", b""], ["", ""]),
-    form(Kind::Reply, b"DELETE", [b"", b""], ["", ""]),
-    form(Kind::Reply, b"ERROR", [b" ", b" "], ["code", "text"]),
+    Form {
+        kind: Kind::Either,
+        word: b"LOGIN",
+        fronts: [b" ", b""],
+        parts: ["user", ""],
+    },
+    Form {
+        kind: Kind::Command,
+        word: b"OPEN READ",
+        fronts: [b"\x8d", b""],
+        parts: ["path", ""],
+    },
+    Form {
+        kind: Kind::Command,
+        word: b"OPEN WRITE",
+        fronts: [b"\x8d", b""],
+        parts: ["path", ""],
+    },
+    Form {
+        kind: Kind::Reply,
+        word: b"OPEN",
+        fronts: [b" ", b""],
+        parts: ["length", ""],
+    },
+    Form {
+        kind: Kind::Reply,
+        word: b"READ",
+        fronts: [b"\x8d", b""],
+        parts: ["bytes", ""],
+    },
+    Form {
+        kind: Kind::Command,
+        word: b"READ",
+        fronts: [b"", b""],
+        parts: ["", ""],
+    },
+    Form {
+        kind: Kind::Command,
+        word: b"WRITE",
+        fronts: [b"\x8d", b""],
+        parts: ["bytes", ""],
+    },
+    Form {
+        kind: Kind::Reply,
+        word: b"WRITE",
+        fronts: [b" ", b""],
+        parts: ["length", ""],
+    },
+    Form {
+        kind: Kind::Reply,
+        word: b"CLOSE",
+        fronts: [b" ", b""],
+        parts: ["length", ""],
+    },
+    Form {
+        kind: Kind::Command,
+        word: b"CLOSE",
+        fronts: [b"", b""],
+        parts: ["", ""],
+    },
+    Form {
+        kind: Kind::Command,
+        word: b"RENAME",
+        fronts: [b"\x8d", b"\x8d"],
+        parts: ["path", "new path"],
+    },
+    Form {
+        kind: Kind::Command,
+        word: b"DELETE",
+        fronts: [b"\x8d", b""],
+        parts: ["path", ""],
+    },
+    Form {
+        kind: Kind::Reply,
+        word: b"RENAME",
+        fronts: [b"", b""],
+        parts: ["", ""],
+    },
+    Form {
+        kind: Kind::Reply,
+        word: b"DELETE",
+        fronts: [b"", b""],
+        parts: ["", ""],
+    },
+    Form {
+        kind: Kind::Reply,
+        word: b"ERROR",
+        fronts: [b" ", b" "],
+        parts: ["code", "text"],
+    },
 ];
 
 /// Whether a part is of the form that its name wants.

@@ -38,7 +38,10 @@ pub enum BadLine {
 
 /// The words that begin a line, and the line's form.
 const FORMS: [(&[u8], &str); 9] = [
-    (b"write", "write SIDE OPCODE TEXT (a or b; three octal digits)"),
+    (
+        b"write",
+        "write SIDE OPCODE TEXT (a or b; three octal digits)",
+    ),
     (b"read", "read SIDE (a or b)"),
     (b"window", "window SIDE NUMBER (a or b; up to 65535)"),
     (b"tick", "tick SIDE MOMENT (a or b; milliseconds)"),

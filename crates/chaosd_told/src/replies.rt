@@ -53,6 +53,33 @@ fn name_of(handle: &[u8]) -> Name {
     name
 }
 
+/// What a reply says.
+#[derive(Clone, Copy, PartialEq, Eq)]
+enum Answer {
+    Error,
+    Wrote,
+    Closed,
+    Other,
+}
+
+/// The handle of a reply, and what it says, by the front of its line.
+fn read_front(front: &[u8]) -> (Name, Answer) {
+    let mut fields = front.splitn(4, |b| *b == b' ');
+    let _tid = fields.next();
+    let handle = name_of(fields.next().unwrap_or(b""));
+    let word = fields.next().unwrap_or(b"");
+    let answer = if word == b"ERROR".as_slice() {
+        Answer::Error
+    } else if word == b"WRITE".as_slice() {
+        Answer::Wrote
+    } else if word == b"CLOSE".as_slice() {
+        Answer::Closed
+    } else {
+        Answer::Other
+    };
+    (handle, answer)
+}
+
 impl<'a, W: Write> Replies<'a, W> {
     /// Nothing was printed yet.
     pub fn new(inner: &'a mut W, notes: &'a Notes) -> Self {
@@ -89,20 +116,18 @@ impl<'a, W: Write> Replies<'a, W> {
     fn note_reply(&mut self)
         ensures { self.new.inner ≡ self.old.inner }
     {
-        let front = self.front.clone();
+        let (handle, answer) = read_front(self.front.as_slice());
         self.front.clear();
-        let mut fields = front.as_slice().splitn(4, |b| *b == b' ');
-        let _tid = fields.next();
-        let handle = fields.next().unwrap_or(b"");
-        let word = fields.next().unwrap_or(b"");
-        let is_error = word == b"ERROR".as_slice();
-        self.notes.is_login.set(is_error && handle == b"LOGIN".as_slice());
-        if is_error {
-            self.notes.has_error.set(true);
-        } else if word == b"WRITE".as_slice() {
-            self.note_write(handle);
-        } else if word == b"CLOSE".as_slice() {
-            self.note_close(handle);
+        let handle = handle.as_slice();
+        let is_error = answer == Answer::Error;
+        self.notes
+            .is_login
+            .set(is_error && handle == b"LOGIN".as_slice());
+        match answer {
+            Answer::Error => self.notes.has_error.set(true),
+            Answer::Wrote => self.note_write(handle),
+            Answer::Closed => self.note_close(handle),
+            Answer::Other => {}
         }
     }
 
