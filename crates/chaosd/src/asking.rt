@@ -2,6 +2,7 @@
 ghost use Rattle.std.specs.Prelude.{◌<◌};
 
 use crate::network::{end_script, has_input, link_at};
+use crate::patient::Patient;
 use crate::terminals::Terminals;
 use crate::told::tell_unopened;
 use crate::typed::Typed;
@@ -55,7 +56,7 @@ fn strict_status(status: u8, is_strict: bool, has_error: bool) -> u8 {
 /// Puts the script on standard input over the link, and tells how that ended.
 fn ask_over<R: AllocGlobal + Clock + Eprint + Input + Print>(
     rt: &R,
-    link: &mut UdpLink,
+    link: &mut Patient<'_, R, UdpLink>,
     line: &Asked,
     to: u16,
     terminals: Terminals,
@@ -96,7 +97,7 @@ pub(crate) fn run_ask_line<R: AllocGlobal + Clock + Eprint + Input + Net + Print
 ) -> u8 {
     let Ask {
         carriage,
-        timeout: _,
+        timeout,
         is_strict,
         address,
         socket,
@@ -108,7 +109,7 @@ pub(crate) fn run_ask_line<R: AllocGlobal + Clock + Eprint + Input + Net + Print
     }
     let to = asked_host(rt, to, &peers);
     let mut link = match link_at(rt, socket, peers) {
-        Ok(link) => link,
+        Ok(link) => Patient::new(rt, link, timeout),
         Err(error) => return tell_unopened(rt, &socket, &error),
     };
     let asked = Asked {

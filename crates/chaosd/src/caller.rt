@@ -2,6 +2,7 @@
 ghost use Rattle.std.specs.Prelude.{◌≡◌, ◌≤◌, ◌<◌, [], length};
 ghost use Rattle.chaos_file.specs.declared.limits.TheConstants.{MAX_FILE, MAX_NAME, MAX_PATH};
 
+use crate::patient::{Hurried, Patient};
 use crate::progress::{Viewer, Watched};
 use chaos_link::UdpLink;
 use chaosd_call::Call;
@@ -18,7 +19,7 @@ const FIRST: u32 = 1;
 /// A user who copies files over a connection, which is made anew after a file that was refused: then replies may still be on their way.
 #[derive(Drop)]
 pub(crate) struct Caller<'a, C: Dial> {
-    call: Call<'a, C, UdpLink>,
+    call: Hurried<Call<'a, C, Patient<'a, C, UdpLink>>>,
     login: &'a str,
     /// Whether the user has logged in, and every reply was heard.
     is_in: bool,
@@ -38,7 +39,7 @@ impl<'a, C: Dial> Caller<'a, C> {
     pub(crate) fn new(
         clock: &'a C,
         alloc: Global,
-        link: &'a mut UdpLink,
+        link: &'a mut Patient<'a, C, UdpLink>,
         calling: &Calling<'a>,
     ) -> Result<Self, RunFault> {
         let call = Call::new(
@@ -51,7 +52,7 @@ impl<'a, C: Dial> Caller<'a, C> {
             calling.carriage,
         )?;
         Ok(Caller {
-            call,
+            call: Hurried::new(call, calling.timeout),
             login: calling.login,
             is_in: false,
         })
@@ -59,10 +60,11 @@ impl<'a, C: Dial> Caller<'a, C> {
 
     /// Asks for a connection and logs in, where that isn't done.
     fn begin(&mut self) -> Result<CopyEnd, RunFault> {
+        self.call.begin();
         if self.is_in {
             return Ok(CopyEnd::Done);
         }
-        self.call.connect()?;
+        self.call.inner.connect()?;
         log_in(&mut self.call, self.login.as_bytes())
     }
 
@@ -138,11 +140,11 @@ impl<'a, C: Dial> Caller<'a, C> {
 
     /// Why no reply came.
     pub(crate) fn no_reply(&mut self) -> NoReply {
-        self.call.no_reply()
+        self.call.inner.no_reply()
     }
 
     /// Hangs up. What fails then changes nothing of what was copied.
     pub(crate) fn end(&mut self) {
-        let _ = self.call.hang_up();
+        let _ = self.call.inner.hang_up();
     }
 }

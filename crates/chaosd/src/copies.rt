@@ -116,7 +116,7 @@ where
     let copying = &line.copying;
     let way = way_of(copying, is_terminal);
     let calling = &copying.calling;
-    let mut link = match link_to_server(rt, calling.socket, calling.server) {
+    let mut link = match link_to_server(rt, calling) {
         Ok(link) => link,
         Err(error) => return tell_unopened(rt, &calling.socket, &error),
     };
@@ -250,7 +250,7 @@ where
     let copying = &line.copying;
     let way = way_of(copying, is_terminal);
     let calling = &copying.calling;
-    let mut link = match link_to_server(rt, calling.socket, calling.server) {
+    let mut link = match link_to_server(rt, calling) {
         Ok(link) => link,
         Err(error) => return tell_unopened(rt, &calling.socket, &error),
     };

@@ -12,6 +12,7 @@ mod copied;
 mod copies;
 mod network;
 mod noting;
+mod patient;
 mod progress;
 mod runs;
 mod status;

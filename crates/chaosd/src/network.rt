@@ -1,16 +1,18 @@
 //! The runs over sockets: `loop` and `serve`.
 use crate::connections::Connections;
 use crate::noting::Noting;
+use crate::patient::Patient;
 use crate::telling::Telling;
 use crate::told::{tell_script, tell_served, tell_unopened};
 use chaos_conn::ConnConfig;
 use chaos_file::DirStore;
 use chaos_link::{Carriage, Peer, Peers, UdpLink};
+use chaosd_client::Dial;
 use chaosd_file::{
     LOOP_CLIENT, LOOP_SERVER, ScriptEnd, Why, run_loop, run_serve_by, script_status, serve_status,
 };
 use chaosd_io::RunFault;
-use chaosd_line::Serve;
+use chaosd_line::{Calling, Serve};
 use std::fs::{File, Files};
 use std::io;
 use std::io::Read;
@@ -23,14 +25,13 @@ pub(crate) fn link_at<R: Net>(rt: &R, socket: SocketAddrV4, peers: Peers) -> io:
     Ok(UdpLink::new(socket, peers))
 }
 
-/// A link over a socket at this UDP address, to one server.
-pub(crate) fn link_to_server<R: Net>(
-    rt: &R,
-    socket: SocketAddrV4,
-    server: Peer,
-) -> io::Result<UdpLink> {
-    let socket = UdpSocket::bind(rt, SocketAddr::V4(socket))?;
-    Ok(link_to(socket, server))
+/// A link over a socket at the UDP address of a caller, to its server.
+pub(crate) fn link_to_server<'a, R: Dial + Net>(
+    rt: &'a R,
+    calling: &Calling<'_>,
+) -> io::Result<Patient<'a, R, UdpLink>> {
+    let socket = UdpSocket::bind(rt, SocketAddr::V4(calling.socket))?;
+    Ok(Patient::new(rt, link_to(socket, calling.server), calling.timeout))
 }
 
 /// A socket of this machine alone, at a port that the system chooses, and its UDP address.

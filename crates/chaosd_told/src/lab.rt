@@ -105,11 +105,11 @@ fn bad_form(line: &[u8], word: &[u8]) -> Option<BadLine> {
 /// It is for a line that the laboratory's engine refused: of a good one it says something too.
 pub fn why_bad(line: &[u8], number: u64, laboratory: Laboratory) -> BadLine {
     let word = word_of(line);
-    if line.is_empty() {
+    if line.is_empty() && number > 1 {
         BadLine::Empty
     } else if line.len() > LINE_LIMIT {
         BadLine::TooLong
-    } else if line[0] == b'#' {
+    } else if line.starts_with(b"#") {
         BadLine::Comment
     } else if number == 1 {
         BadLine::NoEnds
