@@ -29,13 +29,8 @@ fn ends_in(bytes: &[u8]) -> u64 {
 fn last_start(bytes: &[u8]) -> usize
     ensures { result ≤ length bytes.now }
 {
-    let mut start = 0;
-    for i in 0..bytes.len() {
-        if bytes[i] == b'\n' {
-            start = i + 1;
-        }
-    }
-    start
+    let last = bytes.split(|b| *b == b'\n').last().unwrap_or(b"");
+    bytes.len().saturating_sub(last.len())
 }
 
 impl<'a, R: Read> Kept<'a, R> {

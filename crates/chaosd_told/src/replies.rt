@@ -1,6 +1,4 @@
 //! What the replies of a script leave undone.
-ghost use Rattle.std.specs.Prelude.{◌≡◌};
-
 use arrayvec::ArrayVec;
 use std::cell::Cell;
 use std::io;
@@ -41,8 +39,16 @@ impl Notes {
 #[derive(Drop)]
 pub struct Replies<'a, W: Write> {
     inner: &'a mut W,
+    watch: Watch<'a>,
+}
+
+/// What is seen of replies.
+#[derive(Drop)]
+struct Watch<'a> {
     notes: &'a Notes,
+    /// The front of the reply that is being written.
     front: ArrayVec<u8, FRONT>,
+    /// The handles that were written and not closed.
     written: ArrayVec<Name, MAX_HANDLES>,
 }
 
@@ -80,42 +86,16 @@ fn read_front(front: &[u8]) -> (Name, Answer) {
     (handle, answer)
 }
 
-impl<'a, W: Write> Replies<'a, W> {
-    /// Nothing was printed yet.
-    pub fn new(inner: &'a mut W, notes: &'a Notes) -> Self {
-        Replies {
-            inner,
-            notes,
-            front: ArrayVec::new(),
-            written: ArrayVec::new(),
-        }
-    }
-
-    /// The handles that were written and not closed.
-    pub fn written(&self) -> &[Name] {
-        self.written.as_slice()
-    }
-
-    /// Takes note that a handle was written.
-    fn note_write(&mut self, handle: &[u8])
-        ensures { self.new.inner ≡ self.old.inner }
-    {
+impl Watch<'_> {
+    /// A handle was written.
+    fn note_write(&mut self, handle: &[u8]) {
         if !self.written.iter().any(|name| name.as_slice() == handle) {
             let _fits = self.written.try_push(name_of(handle));
         }
     }
 
-    /// Takes note that a handle was closed.
-    fn note_close(&mut self, handle: &[u8])
-        ensures { self.new.inner ≡ self.old.inner }
-    {
-        self.written.retain(|name| name.as_slice() != handle);
-    }
-
-    /// Takes note of a reply, of whose line the front is there.
-    fn note_reply(&mut self)
-        ensures { self.new.inner ≡ self.old.inner }
-    {
+    /// A reply was written, of whose line the front is there.
+    fn note_reply(&mut self) {
         let (handle, answer) = read_front(self.front.as_slice());
         self.front.clear();
         let handle = handle.as_slice();
@@ -126,15 +106,13 @@ impl<'a, W: Write> Replies<'a, W> {
         match answer {
             Answer::Error => self.notes.has_error.set(true),
             Answer::Wrote => self.note_write(handle),
-            Answer::Closed => self.note_close(handle),
+            Answer::Closed => self.written.retain(|name| name.as_slice() != handle),
             Answer::Other => {}
         }
     }
 
-    /// Takes note of what was printed.
-    fn note(&mut self, bytes: &[u8])
-        ensures { self.new.inner ≡ self.old.inner }
-    {
+    /// These bytes were written.
+    fn note(&mut self, bytes: &[u8]) {
         for byte in bytes {
             if *byte == b'\n' {
                 self.note_reply();
@@ -145,13 +123,32 @@ impl<'a, W: Write> Replies<'a, W> {
     }
 }
 
+impl<'a, W: Write> Replies<'a, W> {
+    /// Nothing was printed yet.
+    pub fn new(inner: &'a mut W, notes: &'a Notes) -> Self {
+        Replies {
+            inner,
+            watch: Watch {
+                notes,
+                front: ArrayVec::new(),
+                written: ArrayVec::new(),
+            },
+        }
+    }
+
+    /// The handles that were written and not closed.
+    pub fn written(&self) -> &[Name] {
+        self.watch.written.as_slice()
+    }
+}
+
 impl<W: Write> Write for Replies<'_, W> {
     ghost contents = { λ replies. W.contents replies.inner.now };
 
     fn write(&mut self, buf: &[u8]) -> io::Result<usize> {
         let wrote = self.inner.write(buf);
         if let Ok(count) = &wrote {
-            self.note(&buf[..*count]);
+            self.watch.note(&buf[..*count]);
         }
         wrote
     }
