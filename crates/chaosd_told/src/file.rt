@@ -19,7 +19,7 @@ struct Form {
 }
 
 /// The forms of commands and replies.
-static FORMS: [Form; 15] = [
+static FORMS: [Form; 16] = [
     Form {
         kind: Kind::Either,
         word: b"LOGIN",
@@ -101,6 +101,12 @@ static FORMS: [Form; 15] = [
     Form {
         kind: Kind::Reply,
         word: b"DELETE",
+        fronts: [b"", b""],
+        parts: ["", ""],
+    },
+    Form {
+        kind: Kind::Reply,
+        word: b"EOF",
         fronts: [b"", b""],
         parts: ["", ""],
     },
