@@ -45,7 +45,7 @@ class Showing(Case):
             self.check(f"{data[:30]} of opcode {op:o}", [] if seen == said else [f"{seen} and not {said}"])
 
     def test_the_plain_report_stays_as_it_is(self):
-        given = b"".join(datagram(DAT, b"T3 H1 WRITE\x8d" + bytes([n]) * n) for n in range(448)) + b"nonsense\n"
+        given = b"".join(datagram(DAT, b"T3 H1 WRITE\x8d" + bytes([n % 256]) * n) for n in range(448)) + b"nonsense\n"
         plain, more = run(["show"], given), run(["show", "--file"], given)
         problems = plain.problems(REFUSED, None, b"") + more.problems(REFUSED, None, b"")
         kept = [line for line in more.out.splitlines() if not line.startswith((b"text ", b"file "))]
