@@ -76,6 +76,9 @@ HELP = {
         "--turns <N>     Turns after which the server ends, 0 to 1000000000; one that waits takes some 10 ms [default: 1000000000]\n",
         "--window <N>    Packets of each window of a connection, 1 to 64: so many commands may be in flight [default: 13]\n",
         "--quiet         Nothing is told but what fails\n",
+        "--log-time      Each line begins with the time, in UTC\n",
+        "--only-peers    Datagrams that come from no PEER's UDP address are dropped\n",
+        "--read-only     No file changes: what would write one is a store fault\n",
         "  chaosd serve 401 127.0.0.1:9001 files 402=127.0.0.1:9002\n",
     ],
     "ask --help": [

@@ -3,13 +3,14 @@ ghost use Rattle.std.specs.Prelude.{◌<◌};
 
 use crate::network::{end_script, has_input, link_at};
 use crate::patient::Patient;
+use crate::run_ends::tell_unopened;
 use crate::terminals::Terminals;
-use crate::told::tell_unopened;
 use crate::typed::Typed;
 use chaos_link::{Carriage, Peers, UdpLink};
 use chaosd_client::Shown;
+use chaosd_copies::ExitStatus;
 use chaosd_file::{NOBODY, Why, run_ask};
-use chaosd_io::{DONE, REFUSED, RunFault};
+use chaosd_io::RunFault;
 use chaosd_line::Ask;
 use chaosd_told::{Name, Notes, Replies};
 use std::io;
@@ -45,9 +46,9 @@ fn tell_written<R: Eprint>(rt: &R, handles: &[Name]) {
 }
 
 /// The exit status of a run over a script, of which an error is one of a strict run.
-fn strict_status(status: u8, is_strict: bool, has_error: bool) -> u8 {
-    if status == DONE && is_strict && has_error {
-        REFUSED
+fn strict_status(status: ExitStatus, is_strict: bool, has_error: bool) -> ExitStatus {
+    if status == ExitStatus::Done && is_strict && has_error {
+        ExitStatus::Refused
     } else {
         status
     }
@@ -60,7 +61,7 @@ fn ask_over<R: AllocGlobal + Clock + Eprint + Input + Print>(
     line: &Asked,
     to: u16,
     terminals: Terminals,
-) -> u8 {
+) -> ExitStatus {
     let notes = Notes::new();
     let mut reader = rt.reader();
     let mut typed = Typed::new(rt, &mut reader, &notes, line.is_strict, terminals);
@@ -94,7 +95,7 @@ pub(crate) fn run_ask_line<R: AllocGlobal + Clock + Eprint + Input + Net + Print
     rt: &R,
     line: Ask,
     terminals: Terminals,
-) -> u8 {
+) -> ExitStatus {
     let Ask {
         carriage,
         timeout,

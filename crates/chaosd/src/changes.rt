@@ -1,52 +1,29 @@
 //! The runs of `delete` and `rename`: what another host does with its files.
-
-use crate::caller::Caller;
-use crate::copied::{Copied, tell_end_of, tell_fault_of, tell_not_tried, tell_too_long, worse};
+use crate::dialog::CallDialog;
+use crate::file_words::{CHANGE_UNKNOWN, FileWords};
 use crate::network::link_to_server;
-use crate::told::tell_unopened;
+use crate::progress::ProgressLine;
+use crate::run_ends::{tell_unbegun, tell_unopened};
 use chaos_file::MAX_PATH;
-use chaosd_client::{Dial, NoReply};
-use chaosd_copy::CopyEnd;
-use chaosd_io::{REFUSED, RunFault};
+use chaosd_client::Dial;
+use chaosd_copies::{
+    Deletes, Dialog, ExitStatus, Outcome, Session, Target, Teller, Viewer, run_copies,
+};
 use chaosd_line::{Delete, Rename};
 use std::net::Net;
 
-/// Tells how a change ended. Of one that was made nothing is told.
-fn tell_change<R: Eprint>(
-    rt: &R,
-    path: &str,
-    end: &Result<CopyEnd, RunFault>,
-    why: &NoReply,
-) -> Copied {
-    match end {
-        Ok(CopyEnd::Done) => Copied::new(),
-        Ok(CopyEnd::Unknown) => {
-            let _ = eprintln!(rt; "chaosd: {path}: whether that was done isn't known: {why}");
-            Copied {
-                status: REFUSED,
-                goes_on: false,
-            }
-        }
-        Ok(end) => tell_end_of(rt, path, end, why),
-        Err(fault) => tell_fault_of(rt, path, *fault),
+/// Whoever tells of changes: of one that was made nothing.
+fn words_of<'a, R: Eprint>(rt: &'a R) -> FileWords<'a, R> {
+    FileWords {
+        rt,
+        is_told: false,
+        target: Target::Own,
+        unknown: CHANGE_UNKNOWN,
     }
-}
-
-/// Deletes one file.
-fn delete_one<R: AllocGlobal + Dial + Eprint>(
-    rt: &R,
-    caller: &mut Caller<'_, R>,
-    path: &str,
-) -> Copied {
-    if path.len() > MAX_PATH {
-        return tell_too_long(rt, path);
-    }
-    let end = caller.delete(path.as_bytes());
-    tell_change(rt, path, &end, &caller.no_reply())
 }
 
 /// Runs `delete`.
-pub(crate) fn run_delete_line<R>(rt: &R, line: &Delete<'_>) -> u8
+pub(crate) fn run_delete_line<R>(rt: &R, line: &Delete<'_>) -> ExitStatus
 where
     R: AllocGlobal + Dial + Eprint + Net,
 {
@@ -55,38 +32,32 @@ where
         Ok(link) => link,
         Err(error) => return tell_unopened(rt, &calling.socket, &error),
     };
-    let mut caller = match Caller::new(rt, rt.alloc(), &mut link, calling) {
-        Ok(caller) => caller,
-        Err(fault) => return tell_fault_of(rt, "no file", fault).status,
+    let dialog = match CallDialog::new(rt, &mut link, calling) {
+        Ok(dialog) => dialog,
+        Err(fault) => return tell_unbegun(rt, fault),
     };
-    let mut run = Copied::new();
-    for path in line.paths.as_slice() {
-        if run.goes_on {
-            run = worse(run, delete_one(rt, &mut caller, path));
-        } else {
-            tell_not_tried(rt, path);
-        }
-    }
-    caller.end();
-    run.status
+    let progress = ProgressLine::new(rt, rt.alloc(), false, true);
+    let mut deletes = Deletes {
+        session: Session::new(dialog, progress, calling.login),
+    };
+    let status = run_copies(&mut deletes, &mut words_of(rt), line.paths.as_slice());
+    deletes.session.end();
+    status
 }
 
-/// Renames a file.
-fn rename_one<R: AllocGlobal + Dial + Eprint>(
-    rt: &R,
-    caller: &mut Caller<'_, R>,
+/// Renames a file, and says what came of it.
+fn renamed<D: Dialog, V: Viewer>(
+    session: &mut Session<'_, D, V>,
     line: &Rename<'_>,
-) -> Copied {
-    let Rename { from, to, .. } = line;
-    if from.len() > MAX_PATH || to.len() > MAX_PATH {
-        return tell_too_long(rt, from);
+) -> Outcome<D::Why> {
+    if line.from.len() > MAX_PATH || line.to.len() > MAX_PATH {
+        return Outcome::TooLong;
     }
-    let end = caller.rename(from.as_bytes(), to.as_bytes());
-    tell_change(rt, from, &end, &caller.no_reply())
+    Outcome::of_change(session.rename(line.from.as_bytes(), line.to.as_bytes()))
 }
 
 /// Runs `rename`.
-pub(crate) fn run_rename_line<R>(rt: &R, line: &Rename<'_>) -> u8
+pub(crate) fn run_rename_line<R>(rt: &R, line: &Rename<'_>) -> ExitStatus
 where
     R: AllocGlobal + Dial + Eprint + Net,
 {
@@ -95,11 +66,14 @@ where
         Ok(link) => link,
         Err(error) => return tell_unopened(rt, &calling.socket, &error),
     };
-    let mut caller = match Caller::new(rt, rt.alloc(), &mut link, calling) {
-        Ok(caller) => caller,
-        Err(fault) => return tell_fault_of(rt, line.from, fault).status,
+    let dialog = match CallDialog::new(rt, &mut link, calling) {
+        Ok(dialog) => dialog,
+        Err(fault) => return tell_unbegun(rt, fault),
     };
-    let run = rename_one(rt, &mut caller, line);
-    caller.end();
-    run.status
+    let progress = ProgressLine::new(rt, rt.alloc(), false, true);
+    let mut session = Session::new(dialog, progress, calling.login);
+    let outcome = renamed(&mut session, line);
+    words_of(rt).tell(line.from, &outcome);
+    session.end();
+    outcome.status()
 }

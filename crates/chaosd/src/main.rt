@@ -1,35 +1,38 @@
 //! `chaosd`: a thin main over the command line (`chaosd_line`) and the engines (`chaosd_show`, `chaosd_lab`,
-//! `chaosd_filelab`, `chaosd_file`, `chaosd_copy` over `chaosd_call`).
+//! `chaosd_filelab`, `chaosd_file`, `chaosd_copies` over `chaosd_call`).
 //! It hands the words to the one, opens the folder and the sockets that they name, hands these with standard input and output to
 //! the others, and ends with their status.
 #![tactic(auto)]
 
 mod asking;
-mod caller;
 mod changes;
 mod connections;
-mod copied;
 mod copies;
+mod descriptors;
+mod dialog;
+mod file_words;
 mod network;
-mod noting;
 mod patient;
 mod progress;
+mod run_ends;
 mod runs;
+mod serving;
 mod status;
-mod telling;
 mod terminals;
-mod told;
 mod typed;
 mod words;
 
 use crate::asking::run_ask_line;
 use crate::changes::{run_delete_line, run_rename_line};
 use crate::copies::{run_get_line, run_put_line};
-use crate::network::{run_loop_line, run_serve_line};
+use crate::descriptors::fill_descriptors;
+use crate::network::run_loop_line;
 use crate::runs::{run_filelab_line, run_lab_line, run_show_line};
+use crate::serving::run_serve_line;
 use crate::status::refused_status;
 use crate::terminals::Terminals;
 use crate::words::words_of;
+use chaosd_copies::ExitStatus;
 use chaosd_io::RunFault;
 use chaosd_line::{Line, LineFault, parse_line};
 use clap::Error;
@@ -41,7 +44,7 @@ use std::rt::Env;
 use std::time::Clock;
 
 /// Does what the line asks for. On terminals more is told. The answer is the exit status.
-fn run_line<R>(rt: &R, line: Line<'_>, terminals: Terminals) -> u8
+fn run_line<R>(rt: &R, line: Line<'_>, terminals: Terminals) -> ExitStatus
 where
     R: AllocGlobal + Clock + Eprint + Files<File = File> + Input + Net + Print,
 {
@@ -61,7 +64,7 @@ where
 
 /// Shows help on standard output, or the mistake in the line on standard error. That it could not
 /// be written is told on standard error.
-fn refuse<R: Print + Eprint>(rt: &R, error: &Error) -> u8 {
+fn refuse<R: Print + Eprint>(rt: &R, error: &Error) -> ExitStatus {
     let is_shown = error.print(rt).is_ok();
     if !is_shown {
         let _ = eprintln!(rt; "chaosd: {}", RunFault::WriteFault);
@@ -70,7 +73,7 @@ fn refuse<R: Print + Eprint>(rt: &R, error: &Error) -> u8 {
 }
 
 /// Reads the command line and does what it asks for. The answer is the exit status.
-fn run<R>(rt: &R, terminals: Terminals) -> u8
+fn run<R>(rt: &R, terminals: Terminals) -> ExitStatus
 where
     R: AllocGlobal + Clock + Env + Eprint + Files<File = File> + Input + Net + Print,
 {
@@ -89,9 +92,10 @@ where
 
 /// The program.
 fn main(rt: HostRuntime) -> ExitCode {
+    let _held = fill_descriptors(&rt);
     let terminals = Terminals {
         input: rt.stdin().is_terminal(),
         errors: rt.stderr().is_terminal(),
     };
-    ExitCode::from(run(&rt, terminals))
+    ExitCode::from(run(&rt, terminals).number())
 }

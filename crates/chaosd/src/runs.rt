@@ -1,15 +1,16 @@
 //! The runs over standard input and output alone: `show`, `lab` and `filelab`.
-use crate::told::tell_end;
+use crate::run_ends::tell_end;
+use chaosd_copies::ExitStatus;
 use chaosd_filelab::run_filelab;
 use chaosd_io::{RunFault, without_return};
-use chaosd_lab::{lab_status, run_lab};
-use chaosd_show::{run_show, show_status};
+use chaosd_lab::run_lab;
+use chaosd_show::run_show;
 use chaosd_told::{Kept, Laboratory, Reports, why_bad};
 use std::io;
 use std::io::Read;
 
 /// Runs `show` from standard input to standard output. Where it is asked for, what data say stands in the reports too.
-pub(crate) fn run_show_line<R: Input + Print + Eprint>(rt: &R, is_file: bool) -> u8 {
+pub(crate) fn run_show_line<R: Input + Print + Eprint>(rt: &R, is_file: bool) -> ExitStatus {
     let end = if is_file {
         let mut writer = io::writer(rt);
         run_show(&mut rt.reader(), &mut Reports::new(&mut writer))
@@ -17,7 +18,7 @@ pub(crate) fn run_show_line<R: Input + Print + Eprint>(rt: &R, is_file: bool) ->
         run_show(&mut rt.reader(), &mut io::writer(rt))
     };
     tell_end(rt, &end);
-    show_status(&end)
+    ExitStatus::of_run(end.map(|tally| tally.refused == 0))
 }
 
 /// Tells how a run over a laboratory's script ended: as [`tell_end`] does, and what is wrong with a bad line.
@@ -38,19 +39,19 @@ fn tell_lab<R: Eprint, I: Read, T>(
 }
 
 /// Runs `lab` from standard input to standard output.
-pub(crate) fn run_lab_line<R: AllocGlobal + Input + Print + Eprint>(rt: &R) -> u8 {
+pub(crate) fn run_lab_line<R: AllocGlobal + Input + Print + Eprint>(rt: &R) -> ExitStatus {
     let mut input = rt.reader();
     let mut reader = Kept::new(rt.alloc(), &mut input);
     let end = run_lab(rt.alloc(), &mut reader, &mut io::writer(rt));
     tell_lab(rt, &end, &reader, Laboratory::Ends);
-    lab_status(&end)
+    ExitStatus::of_run(end.map(|refused| refused == 0))
 }
 
 /// Runs `filelab` from standard input to standard output.
-pub(crate) fn run_filelab_line<R: AllocGlobal + Input + Print + Eprint>(rt: &R) -> u8 {
+pub(crate) fn run_filelab_line<R: AllocGlobal + Input + Print + Eprint>(rt: &R) -> ExitStatus {
     let mut input = rt.reader();
     let mut reader = Kept::new(rt.alloc(), &mut input);
     let end = run_filelab(rt.alloc(), &mut reader, &mut io::writer(rt));
     tell_lab(rt, &end, &reader, Laboratory::Files);
-    lab_status(&end)
+    ExitStatus::of_run(end.map(|refused| refused == 0))
 }

@@ -30,6 +30,6 @@ mod word;
 pub use fault::LineFault;
 pub use files::last_name;
 pub use law::law_one_line;
-pub use line::{Ask, Calling, Copying, Delete, Get, Line, Put, Rename, Serve};
+pub use line::{Ask, Calling, Copying, Delete, Get, Line, LogLevel, Put, Rename, Serve};
 pub use parse::{parse_line, read_line};
 pub use paths::{FilePath, path_for};
