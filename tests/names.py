@@ -103,6 +103,6 @@ class Changes(Case):
             server.process.kill()
             for words in [["delete", "A", "B"], ["rename", "A", "B"]]:
                 ended = copied(server, *words)
-                problems = ended.problems(REFUSED, b"", [b"chaosd: A: no connection opened in "])
+                problems = ended.problems(REFUSED, b"", [b"chaosd: A: no server listens at "])
                 problems += [] if words[0] == "rename" or b"chaosd: B: not tried\n" in ended.err else [f"{ended.err!r}"]
                 self.check(f"{words[0]} without a server: status 3", problems)

@@ -4,6 +4,7 @@ use crate::file_words::{CHANGE_UNKNOWN, FileWords};
 use crate::network::link_to_server;
 use crate::progress::ProgressLine;
 use crate::run_ends::{tell_unbegun, tell_unopened};
+use crate::waiting::Waiting;
 use chaos_file::MAX_PATH;
 use chaosd_client::Dial;
 use chaosd_copies::{
@@ -23,7 +24,7 @@ fn words_of<'a, R: Eprint>(rt: &'a R) -> FileWords<'a, R> {
 }
 
 /// Runs `delete`.
-pub(crate) fn run_delete_line<R>(rt: &R, line: &Delete<'_>) -> ExitStatus
+pub(crate) fn run_delete_line<R>(rt: &R, line: &Delete<'_>, is_terminal: bool) -> ExitStatus
 where
     R: AllocGlobal + Dial + Eprint + Net,
 {
@@ -32,7 +33,8 @@ where
         Ok(link) => link,
         Err(error) => return tell_unopened(rt, &calling.socket, &error),
     };
-    let dialog = match CallDialog::new(rt, &mut link, calling) {
+    let waiting = Waiting::new(rt, calling.server, is_terminal);
+    let dialog = match CallDialog::new(rt, &mut link, calling, &waiting) {
         Ok(dialog) => dialog,
         Err(fault) => return tell_unbegun(rt, fault),
     };
@@ -57,7 +59,7 @@ fn renamed<D: Dialog, V: Viewer>(
 }
 
 /// Runs `rename`.
-pub(crate) fn run_rename_line<R>(rt: &R, line: &Rename<'_>) -> ExitStatus
+pub(crate) fn run_rename_line<R>(rt: &R, line: &Rename<'_>, is_terminal: bool) -> ExitStatus
 where
     R: AllocGlobal + Dial + Eprint + Net,
 {
@@ -66,7 +68,8 @@ where
         Ok(link) => link,
         Err(error) => return tell_unopened(rt, &calling.socket, &error),
     };
-    let dialog = match CallDialog::new(rt, &mut link, calling) {
+    let waiting = Waiting::new(rt, calling.server, is_terminal);
+    let dialog = match CallDialog::new(rt, &mut link, calling, &waiting) {
         Ok(dialog) => dialog,
         Err(fault) => return tell_unbegun(rt, fault),
     };

@@ -7,6 +7,7 @@ use crate::file_words::{FileWords, PUT_UNKNOWN};
 use crate::network::{has_input, link_to_server};
 use crate::progress::ProgressLine;
 use crate::run_ends::{tell_unbegun, tell_unopened};
+use crate::waiting::Waiting;
 use chaosd_client::Dial;
 use chaosd_copies::{Disk, ExitStatus, FilePath, Gets, Naming, Puts, Session, Target, run_copies};
 use chaosd_io::RunFault;
@@ -48,7 +49,8 @@ where
         Ok(link) => link,
         Err(error) => return tell_unopened(rt, &calling.socket, &error),
     };
-    let dialog = match CallDialog::new(rt, &mut link, calling) {
+    let waiting = Waiting::new(rt, calling.server, is_terminal && !copying.is_quiet);
+    let dialog = match CallDialog::new(rt, &mut link, calling, &waiting) {
         Ok(dialog) => dialog,
         Err(fault) => return tell_unbegun(rt, fault),
     };
@@ -113,7 +115,8 @@ where
         Ok(link) => link,
         Err(error) => return tell_unopened(rt, &calling.socket, &error),
     };
-    let dialog = match CallDialog::new(rt, &mut link, calling) {
+    let waiting = Waiting::new(rt, calling.server, is_terminal && !copying.is_quiet);
+    let dialog = match CallDialog::new(rt, &mut link, calling, &waiting) {
         Ok(dialog) => dialog,
         Err(fault) => return tell_unbegun(rt, fault),
     };

@@ -1,27 +1,40 @@
 //! A dialog over a call.
+ghost use Rattle.chaosd.specs.Over.{over_where};
+
 use crate::patient::{Hurried, Patient};
+use crate::unanswered::Unanswered;
+use crate::waiting::Waiting;
 use chaos_file::Reply;
-use chaos_link::UdpLink;
+use chaos_link::{Peer, UdpLink};
 use chaosd_call::Call;
-use chaosd_client::{Dial, NoReply};
+use chaosd_client::Dial;
 use chaosd_copies::Dialog;
 use chaosd_copy::Talk;
 use chaosd_io::RunFault;
 use chaosd_line::Calling;
 
-/// A dialog with a server over a call, which claims what the call does.
+/// A dialog with a server over a call, which claims what the call does. It is over too where nobody listens where the server is to be.
 #[derive(Drop)]
 pub(crate) struct CallDialog<'a, C: Dial> {
     call: Hurried<Call<'a, C, Patient<'a, C, UdpLink>>>,
+    waiting: &'a Waiting<'a, C>,
+    /// Whether nobody listens there, as the last turn found.
+    is_refused: bool,
+    client: Peer,
 }
 
-impl<'a, C: AllocGlobal + Dial> CallDialog<'a, C> {
+impl<'a, C: AllocGlobal + Dial + Eprint> CallDialog<'a, C> {
     /// Nothing is sent yet.
     pub(crate) fn new(
         rt: &'a C,
         link: &'a mut Patient<'a, C, UdpLink>,
         calling: &Calling<'_>,
+        waiting: &'a Waiting<'a, C>,
     ) -> Result<Self, RunFault> {
+        let client = Peer {
+            address: calling.address,
+            socket: calling.socket,
+        };
         let call = Call::new(
             rt,
             rt.alloc(),
@@ -33,14 +46,17 @@ impl<'a, C: AllocGlobal + Dial> CallDialog<'a, C> {
         )?;
         Ok(CallDialog {
             call: Hurried::new(call, calling.timeout),
+            waiting,
+            is_refused: false,
+            client,
         })
     }
 }
 
-impl<C: Dial> Talk for CallDialog<'_, C> {
+impl<C: Dial + Eprint> Talk for CallDialog<'_, C> {
     ghost talked = { λ dialog. ⟦<Hurried<Call<'static, C, Patient<'static, C, UdpLink>>> as Talk>⟧.talked dialog.call };
 
-    ghost course = { λ dialog. ⟦<Hurried<Call<'static, C, Patient<'static, C, UdpLink>>> as Talk>⟧.course dialog.call };
+    ghost course = { λ dialog. over_where dialog.is_refused (⟦<Hurried<Call<'static, C, Patient<'static, C, UdpLink>>> as Talk>⟧.course dialog.call) };
 
     ghost failed_by = { λ dialog. ⟦<Hurried<Call<'static, C, Patient<'static, C, UdpLink>>> as Talk>⟧.failed_by dialog.call };
 
@@ -49,11 +65,18 @@ impl<C: Dial> Talk for CallDialog<'_, C> {
     }
 
     fn hear(&mut self) -> Option<Reply> {
-        self.call.hear()
+        let reply = self.call.hear();
+        if reply.is_some() {
+            self.waiting.hear();
+        }
+        reply
     }
 
     fn turn(&mut self) -> Result<(), RunFault> {
-        self.call.turn()
+        let turned = self.call.turn();
+        self.waiting.look(self.call.moment());
+        self.is_refused = self.waiting.is_over();
+        turned
     }
 
     fn moment(&self) -> u64 {
@@ -61,12 +84,12 @@ impl<C: Dial> Talk for CallDialog<'_, C> {
     }
 
     fn is_over(&self) -> bool {
-        self.call.is_over()
+        self.call.is_over() || self.is_refused
     }
 }
 
-impl<C: Dial> Dialog for CallDialog<'_, C> {
-    type Why = NoReply;
+impl<C: Dial + Eprint> Dialog for CallDialog<'_, C> {
+    type Why = Unanswered;
 
     fn begin(&mut self) -> Result<(), RunFault> {
         self.call.begin();
@@ -77,7 +100,12 @@ impl<C: Dial> Dialog for CallDialog<'_, C> {
         let _ = self.call.inner.hang_up();
     }
 
-    fn why(&mut self) -> NoReply {
-        self.call.inner.no_reply()
+    fn why(&mut self) -> Unanswered {
+        Unanswered {
+            why: self.call.inner.no_reply(),
+            is_refused: self.is_refused,
+            server: self.waiting.server(),
+            client: self.client,
+        }
     }
 }

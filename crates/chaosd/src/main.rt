@@ -20,6 +20,8 @@ mod serving;
 mod status;
 mod terminals;
 mod typed;
+mod unanswered;
+mod waiting;
 mod words;
 
 use crate::asking::run_ask_line;
@@ -57,8 +59,8 @@ where
         Line::Serve(serve) => run_serve_line(rt, serve),
         Line::Get(get) => run_get_line(rt, &get, terminals.errors),
         Line::Put(put) => run_put_line(rt, &put, terminals.errors),
-        Line::Delete(delete) => run_delete_line(rt, &delete),
-        Line::Rename(rename) => run_rename_line(rt, &rename),
+        Line::Delete(delete) => run_delete_line(rt, &delete, terminals.errors),
+        Line::Rename(rename) => run_rename_line(rt, &rename, terminals.errors),
     }
 }
 

@@ -11,12 +11,6 @@ use std::io;
 use std::io::Read;
 use std::net::{Ipv4Addr, Net, SocketAddr, SocketAddrV4, UdpSocket};
 
-/// A link over a socket at this UDP address, to these peers.
-pub(crate) fn link_at<R: Net>(rt: &R, socket: SocketAddrV4, peers: Peers) -> io::Result<UdpLink> {
-    let socket = UdpSocket::bind(rt, SocketAddr::V4(socket))?;
-    Ok(UdpLink::new(socket, peers))
-}
-
 /// A link over a socket at the UDP address of a caller, to its server.
 pub(crate) fn link_to_server<'a, R: Dial + Net>(
     rt: &'a R,
