@@ -1,11 +1,12 @@
 """Tests `chaosd ask` as its users meet it: at a terminal, in a script that has to know whether it worked, and with a time of its own."""
 
+import contextlib
 import os
 import pty
 import select
+import socket
 import time
 
-from tests.copying import copied
 from tests.scripts import NO_REPLY
 from tests.support import DONE, LONG, REFUSED, SOON, Case, Ended, at, folder, free_ports, run, serving, started
 
@@ -103,38 +104,46 @@ class Scripts(Case):
             self.check("a script that forgets a CLOSE: told, status 0", problems)
 
 
+@contextlib.contextmanager
+def silent():
+    """A socket at which nobody answers, and its port."""
+    with socket.socket(socket.AF_INET, socket.SOCK_DGRAM) as one:
+        (port,) = free_ports(1)
+        one.bind(("127.0.0.1", port))
+        yield one, port
+
+
 class Timeouts(Case):
     """Times that a reply is waited for."""
 
-    seconds = 16
+    seconds = 26
 
     def check_time(self, name, begun, least, most):
         took = time.monotonic() - begun
         self.check(name, [] if least <= took <= most else [f"it took {took:.1f} s and not {least} to {most}"])
 
     def test_a_timeout_is_kept(self):
-        with serving() as server:
-            server.process.kill()
-            for subcommand, names in [("get", ["A"]), ("delete", ["A"])]:
+        with silent() as (_, port):
+            for words in [["get", "A"], ["delete", "A"], ["rename", "A", "B"]]:
                 begun = time.monotonic()
-                ended = copied(server, subcommand, *names, options=["--timeout", "2"])
-                self.check(f"{subcommand}: no reply", ended.problems(REFUSED, b"", [b"chaosd: A: no connection opened in 2"]))
-                self.check_time(f"{subcommand} --timeout 2", begun, 2, 4)
+                ended = run([words[0], "--timeout", "2", "402", at(free_ports(1)[0]), f"401={at(port)}", *words[1:]])
+                self.check(f"{words[0]}: no reply", ended.problems(REFUSED, b"", [b"chaosd: A: no connection opened in 2"]))
+                self.check_time(f"{words[0]} --timeout 2", begun, 2, 2 + SOON)
             begun = time.monotonic()
-            ended = run(server.words(options=["--timeout", "2"]), LOGIN)
-            self.check("ask: no reply", ended.problems(REFUSED, NO_REPLY, [b"chaosd: no connection opened in 2"]))
-            self.check_time("ask --timeout 2", begun, 2, 4)
+            ended = run(["ask", "--timeout", "2", "402", at(free_ports(1)[0]), "401", f"401={at(port)}"], LOGIN)
+            self.check("ask: no reply", ended.problems(REFUSED, NO_REPLY, [b"chaosd: no connection opened in "]))
+            self.check_time("ask --timeout 2", begun, 2, 2 + SOON)
 
     def test_a_longer_timeout_waits_for_a_server_that_comes_late(self):
-        port, client = free_ports(2)
-        words = ["--timeout", "60", "402", at(client), f"401={at(port)}", "NONE"]
-        running = started(["get", *words], stderr=-1, stdout=-1)
-        time.sleep(19)
-        problems = [] if running.poll() is None else ["it gave up before"]
-        with folder() as here:
-            other = started(["serve", "401", at(port), str(here), f"402={at(client)}"], stderr=-1)
+        with silent() as (one, port), folder() as here:
+            (client,) = free_ports(1)
+            running = started(["get", "--timeout", "60", "402", at(client), f"401={at(port)}", "NONE"], stderr=-1, stdout=-1)
+            time.sleep(19)
+            problems = [] if running.poll() is None else ["it gave up before"]
+            one.close()
+            server = started(["serve", "401", at(port), str(here), f"402={at(client)}"], stderr=-1)
             out, err = running.communicate(timeout=LONG)
-            other.kill()
-            other.communicate()
+            server.kill()
+            server.communicate()
         ended = Ended(running.returncode, out, err)
         self.check("get --timeout 60: the server comes after 19 s", problems + ended.problems(REFUSED, b"", [b"FNF No such file."]))
