@@ -2,7 +2,7 @@
 use crate::patient::Patient;
 use crate::run_ends::{tell_script, tell_unopened};
 use chaos_link::{Carriage, Peer, Peers, UdpLink};
-use chaosd_client::Dial;
+use chaosd_clock::Dial;
 use chaosd_copies::ExitStatus;
 use chaosd_file::{LOOP_CLIENT, LOOP_SERVER, ScriptEnd, Why, run_loop};
 use chaosd_io::RunFault;

@@ -3,7 +3,7 @@ ghost use Rattle.std.specs.Prelude.{◌≡◌, ◌||◌, None};
 
 use chaos_file::Reply;
 use chaos_link::{LINK_ROOM, Link, Received, Sent};
-use chaosd_client::{Beginning, Dial};
+use chaosd_clock::{Beginning, Dial};
 use chaosd_copy::Talk;
 use chaosd_io::RunFault;
 

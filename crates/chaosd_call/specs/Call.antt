@@ -13,8 +13,8 @@ use Rattle.chaos_host.specs.Connect.{ConnectAnswer, host_connect}
 use Rattle.chaos_host.specs.View.{HostView, new_host}
 use Rattle.chaos_turn.specs.declared.limits.TheConstants.{TURN_ROOM}
 use Rattle.chaosd_client.specs.Calls.{after_passing, call_by, data_read, is_wrote}
-use Rattle.chaosd_client.specs.declared.clock.Beginning.{Beginning}
-use Rattle.chaosd_client.specs.Clock.{number_of}
+use Rattle.chaosd_clock.specs.declared.clock.Beginning.{Beginning}
+use Rattle.chaosd_clock.specs.Clock.{number_of}
 use Rattle.chaosd_client.specs.Turn.{TakesTurn}
 
 -- A host that calls, its connection, and what waits to be sent.

@@ -4,7 +4,7 @@ ghost use Rattle.chaos_packet.specs.Count.{Rose};
 ghost use Rattle.chaos_turn.specs.declared.limits.TheConstants.{TURN_ROOM};
 ghost use Rattle.chaosd_copy.specs.Talk.{Turned, after_hear, after_say, counted};
 ghost use Rattle.chaosd_client.specs.Calls.{is_over};
-ghost use Rattle.chaosd_client.specs.Clock.{BeginsBy, IsMoment, low_bits_of};
+ghost use Rattle.chaosd_clock.specs.Clock.{BeginsBy, IsMoment, low_bits_of};
 ghost use Rattle.chaosd_client.specs.Fault.{IsTurnFault};
 ghost use Rattle.chaosd_call.specs.Call.{Connects, HangsUp, Hears, Says, TurnsAt, WhereAny, asked, caller, closed, new_caller};
 

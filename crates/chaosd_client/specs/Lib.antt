@@ -1,4 +1,3 @@
 pub mod Calls
-pub mod Clock
 pub mod Fault
 pub mod Turn

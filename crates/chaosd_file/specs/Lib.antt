@@ -1,11 +1,8 @@
 pub mod Status
 pub mod Command
-pub mod Fault
 pub mod Talk
 pub mod Exchange
 pub mod Printed
 pub mod Script
 pub mod Conversation
-pub mod Service
 pub mod Asking
-pub mod Watch

@@ -7,9 +7,6 @@ pub const COMMAND_TURNS: u32 = 1_000;
 /// The turns that the EOF behind the last command waits to be acknowledged.
 pub const END_TURNS: u32 = 100;
 
-/// The connections of a server's host.
-pub const SERVER_CONNS: usize = 16;
-
 /// No host's address. Of nobody no connection is asked for, so that a run ends at its first command.
 pub const NOBODY: u16 = 0;
 

@@ -12,7 +12,6 @@ use crate::client::Client;
 use crate::end::ScriptEnd;
 use crate::limits::{LOOP_CLIENT, LOOP_CLIENT_START, LOOP_SERVER, LOOP_SERVER_START, LOOP_TURN};
 use crate::script::run_script;
-use crate::server::Server;
 use crate::turns::Turns;
 use crate::why::Why;
 use chaos_conn::ConnConfig;
@@ -22,6 +21,7 @@ use chaos_link::{Carriage, LINK_ROOM, Link};
 use chaos_packet::Outbox;
 use chaos_turn::{TURN_ROOM, TurnEnd, client_turn};
 use chaosd_io::RunFault;
+use file_server::Server;
 use std::alloc::Global;
 use std::io::{Read, Write};
 
@@ -82,7 +82,6 @@ impl<A: Link, B: Link> Turns for Both<'_, A, B> {
             self.far,
             LOOP_SERVER_START,
             now,
-            carriage,
             false,
         );
         self.is_idle = asked == TurnEnd::Idle && served == TurnEnd::Idle;
@@ -152,7 +151,7 @@ pub fn run_loop<R: Read, W: Write, A: Link, B: Link>(
     ensures unread { result ≡ Err RunFault.ReadFault
         → RepliesRead (R.remaining reader.old) (R.remaining reader.new) (W.contents writer.old) (W.contents writer.new) }
 {
-    let mut server = Server::new(alloc, LOOP_SERVER, ConnConfig::usual())?;
+    let mut server = Server::new(alloc, LOOP_SERVER, ConnConfig::usual(), carriage)?;
     let mut store = MemStore::new(alloc);
     run_between(
         alloc,
