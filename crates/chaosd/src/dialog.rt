@@ -1,6 +1,7 @@
 //! A dialog over a call.
 ghost use Rattle.chaosd.specs.Over.{over_where};
 
+use crate::patient::{Hurried, Patient};
 use crate::unanswered::Unanswered;
 use crate::waiting::Waiting;
 use chaos_file::Reply;
@@ -15,7 +16,7 @@ use chaosd_line::Calling;
 /// A dialog with a server over a call, which claims what the call does. It is over too where nobody listens where the server is to be.
 #[derive(Drop)]
 pub(crate) struct CallDialog<'a, C: Dial> {
-    call: Call<'a, C, UdpLink>,
+    call: Hurried<Call<'a, C, Patient<'a, C, UdpLink>>>,
     waiting: &'a Waiting<'a, C>,
     /// Whether nobody listens there, as the last turn found.
     is_refused: bool,
@@ -26,7 +27,7 @@ impl<'a, C: AllocGlobal + Dial + Eprint> CallDialog<'a, C> {
     /// Nothing is sent yet.
     pub(crate) fn new(
         rt: &'a C,
-        link: &'a mut UdpLink,
+        link: &'a mut Patient<'a, C, UdpLink>,
         calling: &Calling<'_>,
         waiting: &'a Waiting<'a, C>,
     ) -> Result<Self, RunFault> {
@@ -44,7 +45,7 @@ impl<'a, C: AllocGlobal + Dial + Eprint> CallDialog<'a, C> {
             calling.carriage,
         )?;
         Ok(CallDialog {
-            call,
+            call: Hurried::new(call, calling.timeout),
             waiting,
             is_refused: false,
             client,
@@ -53,11 +54,11 @@ impl<'a, C: AllocGlobal + Dial + Eprint> CallDialog<'a, C> {
 }
 
 impl<C: Dial + Eprint> Talk for CallDialog<'_, C> {
-    ghost talked = { λ dialog. ⟦<Call<'static, C, UdpLink> as Talk>⟧.talked dialog.call };
+    ghost talked = { λ dialog. ⟦<Hurried<Call<'static, C, Patient<'static, C, UdpLink>>> as Talk>⟧.talked dialog.call };
 
-    ghost course = { λ dialog. over_where dialog.is_refused (⟦<Call<'static, C, UdpLink> as Talk>⟧.course dialog.call) };
+    ghost course = { λ dialog. over_where dialog.is_refused (⟦<Hurried<Call<'static, C, Patient<'static, C, UdpLink>>> as Talk>⟧.course dialog.call) };
 
-    ghost failed_by = { λ dialog. ⟦<Call<'static, C, UdpLink> as Talk>⟧.failed_by dialog.call };
+    ghost failed_by = { λ dialog. ⟦<Hurried<Call<'static, C, Patient<'static, C, UdpLink>>> as Talk>⟧.failed_by dialog.call };
 
     fn say(&mut self, command: &[u8]) -> bool {
         self.call.say(command)
@@ -91,16 +92,17 @@ impl<C: Dial + Eprint> Dialog for CallDialog<'_, C> {
     type Why = Unanswered;
 
     fn begin(&mut self) -> Result<(), RunFault> {
-        self.call.connect()
+        self.call.begin();
+        self.call.inner.connect()
     }
 
     fn end(&mut self) {
-        let _ = self.call.hang_up();
+        let _ = self.call.inner.hang_up();
     }
 
     fn why(&mut self) -> Unanswered {
         Unanswered {
-            why: self.call.no_reply(),
+            why: self.call.inner.no_reply(),
             is_refused: self.is_refused,
             server: self.waiting.server(),
             client: self.client,
