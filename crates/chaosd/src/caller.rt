@@ -4,11 +4,10 @@ ghost use Rattle.chaos_file.specs.declared.limits.TheConstants.{MAX_FILE, MAX_NA
 
 use crate::progress::{Viewer, Watched};
 use chaos_link::UdpLink;
-use chaosd_call::Call;
-use chaosd_client::{Dial, NoReply};
 use chaosd_copy::{CopyEnd, get_file, log_in, put_file};
 use chaosd_io::RunFault;
 use chaosd_line::Copying;
+use file_client::{Call, Client, Dial, NoReply, Timed};
 use std::alloc::Global;
 
 /// The number from which on a file's commands are named. Each file begins with it: a reply that is still on its way finds a
@@ -33,10 +32,9 @@ impl<'a, C: Dial> Caller<'a, C> {
         link: &'a mut UdpLink,
         copying: &Copying<'a>,
     ) -> Result<Self, RunFault> {
-        let call = Call::new(
-            clock,
+        let call = Client::new(
             alloc,
-            link,
+            Timed::new(clock, link)?,
             copying.address,
             copying.server.address,
             copying.window,

@@ -2,7 +2,7 @@
 ghost use Rattle.std.specs.Prelude.{None};
 
 use chaos_conn::End;
-use chaosd_client::Shown;
+use file_client::Shown;
 use chaosd_file::{Ending, Log};
 
 /// Tells on standard error of each connection that opens and of each that ends, unless it is to be quiet.

@@ -3,7 +3,7 @@ ghost use Rattle.std.specs.Prelude.{◌≡◌, ◌⊎◌, false, true};
 ghost use Rattle.chaosd.specs.Status.{weight, worse_status};
 
 use chaos_file::{MAX_FILE, MAX_PATH, Reply};
-use chaosd_client::{NoReply, Shown};
+use file_client::{NoReply, Shown};
 use chaosd_copy::CopyEnd;
 use chaosd_io::{DONE, FAULT, NO_MEMORY, REFUSED, RunFault};
 use std::io;

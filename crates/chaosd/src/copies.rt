@@ -11,7 +11,7 @@ use crate::network::{has_input, link_to_server};
 use crate::progress::Viewer;
 use crate::told::tell_unopened;
 use chaos_file::MAX_PATH;
-use chaosd_client::Dial;
+use file_client::Dial;
 use chaosd_copy::{Charset, CopyEnd, read_whole, write_whole};
 use chaosd_io::RunFault;
 use chaosd_line::{Copying, Get, Put, last_name};

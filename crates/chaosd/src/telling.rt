@@ -2,7 +2,7 @@
 ghost use Rattle.std.specs.Prelude.{◌≡◌, None};
 
 use chaos_file::{DirStore, Got, Removed, Renamed, Store, Stored};
-use chaosd_client::Shown;
+use file_client::Shown;
 use std::alloc::Global;
 use std::fs::{File, Files};
 

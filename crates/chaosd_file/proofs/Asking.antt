@@ -18,7 +18,7 @@ use Rattle.chaosd_io.specs.Lines.{all_but_last, is_newline, pieces_of, without_e
 use Rattle.chaosd_io.specs.Reader.{LinesView, Gives, Done, GivesMore, GivesNext, GivesLast}
 use Rattle.chaosd_io.proofs.Steps.{length-strip_last}
 use Rattle.chaosd_file.specs.Command.{command_of}
-use Rattle.chaosd_client.specs.Fault.{IsTurnFault}
+use Rattle.file_client.specs.Fault.{IsTurnFault}
 use Rattle.chaosd_file.specs.Printed.{ending_of, reply_line, replies_text, no_reply_line, PrintsReplies}
 use Rattle.chaosd_file.specs.Script.{IsCommand, IsFirstBad, BeginWithCommands, AreCommands, lines_within, Ran, Runs}
 use Rattle.chaosd_file.specs.Asking.{Asked, AskedAll, AsksLine}

@@ -3,7 +3,7 @@ use Rattle.std.proofs.Common.{◌≡◌, ◌⊎◌, ℕ, ◌+◌, Bool, true, fa
 use Rattle.std.specs.Prelude.{Option, None, Some, Ok}
 use Rattle.chaos_packet.specs.Item.{ItemView}
 use Rattle.chaosd_file.specs.Talk.{Talker, Talk, Step, Calls, Writes, Reads, Turns, Does, Goes, and_later, and_then, silence, talk_of, Talks}
-use Rattle.chaosd_client.specs.Calls.{is_over}
+use Rattle.file_client.specs.Calls.{is_over}
 use Rattle.chaosd_file.specs.Exchange.{newly_said, hearing, command_item, eof_item, WritesOnce, WritesAndTurns, Exchanges, SaysFarewell}
 use Rattle.chaosd_file.specs.declared.limits.TheConstants.{COMMAND_TURNS, END_TURNS}
 use Rattle.chaos_packet.specs.Outbox.{OutboxView}

@@ -7,8 +7,8 @@ use Rattle.chaos_host.specs.Calls.{host_end}
 use Rattle.chaos_link.specs.Link.{QueueView}
 use Rattle.chaosd_file.specs.declared.client.Client.{Client}
 use Rattle.chaosd_file.specs.declared.limits.TheConstants.{COMMAND_TURNS, END_TURNS}
-use Rattle.chaosd_client.specs.Calls.{is_over}
-use Rattle.chaosd_client.specs.Turn.{TakesTurn}
+use Rattle.file_client.specs.Calls.{is_over}
+use Rattle.file_client.specs.Turn.{TakesTurn}
 use Rattle.chaosd_file.specs.Talk.{Talker, Talk, Talks, silence, after_call, after_turn}
 
 -- what a client is, over the queue that its link is

@@ -12,8 +12,8 @@ use Rattle.chaos_host.specs.Calls.{HostReply}
 use Rattle.chaos_host.specs.Connect.{ConnectAnswer, host_connect}
 use Rattle.chaos_host.specs.View.{HostView, new_host}
 use Rattle.chaos_turn.specs.declared.limits.TheConstants.{TURN_ROOM}
-use Rattle.chaosd_client.specs.Calls.{call_by, is_wrote, data_read, after_passing}
-use Rattle.chaosd_client.specs.Turn.{TakesTurn}
+use Rattle.file_client.specs.Calls.{call_by, is_wrote, data_read, after_passing}
+use Rattle.file_client.specs.Turn.{TakesTurn}
 
 -- A client: its host, whom it asks and from which number on, how its packets are carried, whether it has asked, its connection,
 -- what waits to be sent, and the queue that its link is.

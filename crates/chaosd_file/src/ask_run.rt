@@ -17,7 +17,7 @@ use chaos_host::{Host, HostDelivered};
 use chaos_link::{Carriage, LINK_ROOM, Link};
 use chaos_packet::Outbox;
 use chaos_turn::{TurnEnd, client_turn};
-use chaosd_client::Beginning;
+use file_client::Beginning;
 use chaosd_io::RunFault;
 use std::alloc::Global;
 use std::io::{Read, Write};

@@ -3,8 +3,8 @@ ghost use Rattle.std.specs.Prelude.{◌≡◌, ◌≤◌, ◌<◌, ◌+◌, true
 ghost use Rattle.chaos_conn.specs.Config.{usual_config};
 ghost use Rattle.chaos_host.specs.View.{new_host};
 ghost use Rattle.chaos_turn.specs.declared.limits.TheConstants.{TURN_ROOM};
-ghost use Rattle.chaosd_client.specs.Calls.{taken};
-ghost use Rattle.chaosd_client.specs.Fault.{IsTurnFault};
+ghost use Rattle.file_client.specs.Calls.{taken};
+ghost use Rattle.file_client.specs.Fault.{IsTurnFault};
 
 use crate::limits::{COMMAND_TURNS, END_TURNS};
 use crate::turns::Turns;
@@ -14,7 +14,7 @@ use chaos_link::Carriage;
 use chaos_packet::{Opcode, Outbox, PktNum};
 use chaos_serve::CONTACT;
 use chaos_turn::TURN_ROOM;
-use chaosd_client::{NoReply, Patience, is_over, pass_indices, take_reply, write_item};
+use file_client::{NoReply, Patience, is_over, pass_indices, take_reply, write_item};
 use chaosd_io::{Data, RunFault};
 use std::alloc::Global;
 

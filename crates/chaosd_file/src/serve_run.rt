@@ -11,7 +11,7 @@ use chaos_conn::ConnConfig;
 use chaos_file::Store;
 use chaos_link::{Carriage, Link};
 use chaos_turn::TurnEnd;
-use chaosd_client::Beginning;
+use file_client::Beginning;
 use chaosd_io::RunFault;
 use std::alloc::Global;
 use std::time::Clock;

@@ -2,8 +2,8 @@
 ghost use Rattle.std.specs.Prelude.{◌≡◌, ◌≤◌, ℕ, List, [], Option, IfErr, OnOk};
 ghost use Rattle.std.specs.Borrow.{GName};
 ghost use Rattle.chaos_link.specs.Link.{QueueView};
-ghost use Rattle.chaosd_client.specs.Fault.{IsTurnFault};
-ghost use Rattle.chaosd_client.specs.Turn.{TakesTurn};
+ghost use Rattle.file_client.specs.Fault.{IsTurnFault};
+ghost use Rattle.file_client.specs.Turn.{TakesTurn};
 
 use chaos_host::{Host, HostDelivered};
 use chaos_link::Carriage;

@@ -1,5 +1,5 @@
 //! What is said of a run besides its result: what is wrong with a bad line, and why a command got no reply.
-use chaosd_client::NoReply;
+use file_client::NoReply;
 use chaosd_io::{LINE_LIMIT, without_return};
 use thiserror::Error;
 

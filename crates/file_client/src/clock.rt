@@ -1,6 +1,6 @@
 //! Moments and numbers from a clock.
 ghost use Rattle.std.specs.Prelude.{◌≡◌, IfErr, IfOk};
-ghost use Rattle.chaosd_client.specs.Clock.{BeginsBy, IsMoment, low_bits_of, millis_of, number_of};
+ghost use Rattle.file_client.specs.Clock.{BeginsBy, IsMoment, low_bits_of, millis_of, number_of};
 ghost use Rattle.std.specs.Duration.{as_nanos};
 
 use crate::dial::Dial;

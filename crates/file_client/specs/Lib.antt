@@ -1,4 +1,7 @@
 pub mod Calls
 pub mod Clock
 pub mod Fault
+pub mod Pace
 pub mod Turn
+pub mod Caller
+pub mod Talk

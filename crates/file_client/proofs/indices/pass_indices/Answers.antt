@@ -1,6 +1,6 @@
 use Rattle.std.proofs.Common.{◌∙◌, ap, add-one}
-use Rattle.chaosd_client.specs.Calls.{pass_index}
-use Rattle.chaosd_client.proofs.indices.pass_indices.Goals as goal
+use Rattle.file_client.specs.Calls.{pass_index}
+use Rattle.file_client.proofs.indices.pass_indices.Goals as goal
 
 pub loop-passed-preserved : goal.loop-passed-preserved
 loop-passed-preserved c =

@@ -1,7 +1,7 @@
 -- Moments and numbers from what a clock shows.
 use Rattle.std.specs.Prelude.{◌≡◌, ℕ, ◌+◌, ◌-◌, ◌/◌, ◌%◌, ◌^◌, min}
 use Rattle.std.specs.Duration.{as_nanos}
-use Rattle.chaosd_client.specs.declared.clock.Beginning.{Beginning}
+use Rattle.file_client.specs.declared.clock.Beginning.{Beginning}
 
 -- whole milliseconds, at most the greatest u64
 abbrev pub millis_of : ℕ → ℕ

@@ -1,6 +1,6 @@
 //! Indices that an older process may have had.
 ghost use Rattle.std.specs.Prelude.{◌≡◌, ◌<◌, []};
-ghost use Rattle.chaosd_client.specs.Calls.{after_passing, pass_index};
+ghost use Rattle.file_client.specs.Calls.{after_passing, pass_index};
 
 use chaos_host::Host;
 use chaos_packet::{Outbox, PktNum};
