@@ -105,8 +105,12 @@ impl<'a, C: Dial> Caller<'a, C> {
         self.call.no_reply()
     }
 
-    /// Hangs up. What fails then changes nothing of what was copied.
+    /// Says farewell, where every reply was heard, and hangs up: so no connection is left at the server where a CLS is lost. What fails
+    /// then changes nothing of what was copied.
     pub(crate) fn end(&mut self) {
+        if self.is_in {
+            let _ = self.call.end();
+        }
         let _ = self.call.hang_up();
     }
 }

@@ -1,8 +1,6 @@
 pub mod Status
 pub mod Command
 pub mod Fault
-pub mod Talk
-pub mod Exchange
 pub mod Printed
 pub mod Script
 pub mod Conversation

@@ -1,13 +1,11 @@
 //! The FILE engines of the program `chaosd`: `loop`, `ask` and `serve`.
 //!
 //! They work on readers, writers, links, a store and a clock that their callers hand in. `command` reads a line of a script,
-//! `replies` prints, `client` is the end that asks, `server` the host that answers, `turns` is what a client takes turns with,
-//! `script` runs a script, and `loop_run`, `ask_run` and `serve_run` are the engines. `why` has what a user is told of a run
+//! `replies` prints, `server` is the host that answers, `script` runs a script by a client, and `loop_run`, `ask_run` and `serve_run` are the engines. `why` has what a user is told of a run
 //! besides.
 #![tactic(auto)]
 
 mod ask_run;
-mod client;
 mod command;
 mod end;
 mod limits;
@@ -18,7 +16,6 @@ mod script;
 mod serve_run;
 mod server;
 mod status;
-mod turns;
 mod watch;
 mod why;
 

@@ -4,40 +4,38 @@ ghost use Rattle.chaosd_io.specs.Buffer.{written_of};
 ghost use Rattle.chaosd_io.specs.declared.limits.TheConstants.{INPUT_LIMIT};
 ghost use Rattle.chaosd_file.specs.Asking.{AsksLine};
 ghost use Rattle.chaosd_file.specs.Conversation.{AsksAll, Converses};
-ghost use Rattle.chaosd_file.specs.Exchange.{talker_of};
 ghost use Rattle.chaosd_file.specs.Script.{Runs};
+ghost use Rattle.file_client.specs.Talk.{talker};
 
-use crate::client::Client;
 use crate::command::{Places, read_command};
 use crate::end::ScriptEnd;
 use crate::replies::{hand_on, print_none, print_reply};
-use crate::turns::Turns;
 use crate::why::{Why, bad_line};
 use chaosd_io::{Data, INPUT_LIMIT, KEPT_LEN, LineReader, RunFault, WriteBuffer};
+use file_client::{Client, Turns};
 use std::io::{Read, Write};
 
 /// Asks each command of a script, and closes the connection however that ends, but for a fault of a link or of the clock: no turn
 /// is taken after those. The first fault is the answer. Replies wait until the reader is asked for more, or to the end: somebody who
 /// types sees each at once, and a script that is there takes a call of the writer for many. What is wrong with a bad line, and why no reply came, is left in `why`.
 pub fn run_script<T: Turns, R: Read, W: Write>(
-    client: &mut Client,
-    turns: &mut T,
+    client: &mut Client<T>,
     reader: &mut R,
     writer: &mut W,
     why: &mut Option<Why>,
 ) -> Result<ScriptEnd, RunFault>
     ensures runs { Runs (R.remaining reader.old) (R.remaining reader.new) (W.contents writer.old) (W.contents writer.new) result }
-    ensures same_links { T.links turns.new ≡ T.links turns.old }
-    ensures failed { result ≡ Err RunFault.LinkFault → 0 < T.failures turns.new }
-    ensures well { OnOk result (T.failures turns.new ≤ T.failures turns.old) }
-    ensures talk { IfOk result (λ end. Converses (talker_of client.old (T.queue turns.old)) (T.queue turns.new) (R.remaining reader.old) (W.contents writer.old) (W.contents writer.new) end) }
+    ensures same_turns { (T.links client.new.turns ≡ T.links client.old.turns) × (T.time client.new.turns ≡ T.time client.old.turns) }
+    ensures failed { result ≡ Err RunFault.LinkFault → 0 < T.failures client.new.turns }
+    ensures well { OnOk result (T.failures client.new.turns ≤ T.failures client.old.turns) }
+    ensures talk { IfOk result (λ end. Converses (T.pace (T.time client.old.turns)) (talker client.old.caller (T.queue client.old.turns)) (T.queue client.new.turns) (R.remaining reader.old) (W.contents writer.old) (W.contents writer.new) end) }
 {
-    let end = ask_all(client, turns, reader, writer, why);
+    let end = ask_all(client, reader, writer, why);
     match end {
-        Ok(_) => client.hang_up(turns)?,
+        Ok(_) => client.hang_up()?,
         Err(RunFault::LinkFault | RunFault::ClockFault) => {}
         Err(_) => {
-            let _later = client.hang_up(turns);
+            let _later = client.hang_up();
         }
     }
     end
@@ -46,24 +44,25 @@ pub fn run_script<T: Turns, R: Read, W: Write>(
 /// Asks each command in turn and prints its reply, until one gets none. Behind the last an EOF is sent. What waits to be printed is
 /// handed on however that ends.
 fn ask_all<T: Turns, R: Read, W: Write>(
-    client: &mut Client,
-    turns: &mut T,
+    client: &mut Client<T>,
     reader: &mut R,
     writer: &mut W,
     why: &mut Option<Why>,
 ) -> Result<ScriptEnd, RunFault>
     ensures runs { Runs (R.remaining reader.old) (R.remaining reader.new) (W.contents writer.old) (W.contents writer.new) result }
-    ensures same_links { T.links turns.new ≡ T.links turns.old }
-    ensures failed { result ≡ Err RunFault.LinkFault → 0 < T.failures turns.new }
-    ensures well { OnOk result (T.failures turns.new ≤ T.failures turns.old) }
-    ensures talk { IfOk result (λ end. AsksAll (talker_of client.old (T.queue turns.old)) (talker_of client.new (T.queue turns.new)) (R.remaining reader.old) (W.contents writer.old) (W.contents writer.new) end) }
+    ensures same_turns { (T.links client.new.turns ≡ T.links client.old.turns) × (T.time client.new.turns ≡ T.time client.old.turns) }
+    ensures failed { result ≡ Err RunFault.LinkFault → 0 < T.failures client.new.turns }
+    ensures well { OnOk result (T.failures client.new.turns ≤ T.failures client.old.turns) }
+    ensures talk { IfOk result (λ end. AsksAll (T.pace (T.time client.old.turns)) (talker client.old.caller (T.queue client.old.turns)) (talker client.new.caller (T.queue client.new.turns)) (R.remaining reader.old) (W.contents writer.old) (W.contents writer.new) end) }
 {
     let mut out = WriteBuffer::new();
     let mut places = Places {
         command: Data::new(),
         reply: Data::new(),
+        why: None,
     };
-    let end = ask_lines(client, turns, reader, &mut places, &mut out, writer, why);
+    let end = ask_lines(client, reader, &mut places, &mut out, writer);
+    *why = places.why.take();
     if let Err(RunFault::LinkFault | RunFault::ClockFault) = end {
         let _later = hand_on(&mut out, writer);
         return end;
@@ -74,19 +73,17 @@ fn ask_all<T: Turns, R: Read, W: Write>(
 
 /// Asks each command in turn, and puts its reply behind what waits to be printed, which is handed on before each read.
 fn ask_lines<T: Turns, R: Read, W: Write>(
-    client: &mut Client,
-    turns: &mut T,
+    client: &mut Client<T>,
     reader: &mut R,
     places: &mut Places,
     out: &mut WriteBuffer,
     writer: &mut W,
-    why: &mut Option<Why>,
 ) -> Result<ScriptEnd, RunFault>
     ensures runs { Runs (R.remaining reader.old) (R.remaining reader.new) (written_of (W.contents writer.old) out.old) (written_of (W.contents writer.new) out.new) result }
-    ensures same_links { T.links turns.new ≡ T.links turns.old }
-    ensures failed { result ≡ Err RunFault.LinkFault → 0 < T.failures turns.new }
-    ensures well { OnOk result (T.failures turns.new ≤ T.failures turns.old) }
-    ensures talk { IfOk result (λ end. AsksAll (talker_of client.old (T.queue turns.old)) (talker_of client.new (T.queue turns.new)) (R.remaining reader.old)
+    ensures same_turns { (T.links client.new.turns ≡ T.links client.old.turns) × (T.time client.new.turns ≡ T.time client.old.turns) }
+    ensures failed { result ≡ Err RunFault.LinkFault → 0 < T.failures client.new.turns }
+    ensures well { OnOk result (T.failures client.new.turns ≤ T.failures client.old.turns) }
+    ensures talk { IfOk result (λ end. AsksAll (T.pace (T.time client.old.turns)) (talker client.old.caller (T.queue client.old.turns)) (talker client.new.caller (T.queue client.new.turns)) (R.remaining reader.old)
         (written_of (W.contents writer.old) out.old) (written_of (W.contents writer.new) out.new) end) }
 {
     let mut lines: LineReader<KEPT_LEN> = LineReader::new(INPUT_LIMIT);
@@ -94,7 +91,7 @@ fn ask_lines<T: Turns, R: Read, W: Write>(
     'reads: loop {
         'lines: while lines.cut() {
             let line = lines.line();
-            if !ask_line(client, turns, line, replied, places, out, writer, why)? {
+            if !ask_line(client, line, replied, places, out, writer)? {
                 return Ok(ScriptEnd {
                     commands: replied + 1,
                     replied,
@@ -108,7 +105,7 @@ fn ask_lines<T: Turns, R: Read, W: Write>(
         }
     }
     if let Some(line) = lines.last() {
-        if !ask_line(client, turns, line, replied, places, out, writer, why)? {
+        if !ask_line(client, line, replied, places, out, writer)? {
             return Ok(ScriptEnd {
                 commands: replied + 1,
                 replied,
@@ -116,7 +113,7 @@ fn ask_lines<T: Turns, R: Read, W: Write>(
         }
         replied += 1;
     }
-    client.end(turns)?;
+    client.end()?;
     Ok(ScriptEnd {
         commands: replied,
         replied,
@@ -125,28 +122,26 @@ fn ask_lines<T: Turns, R: Read, W: Write>(
 
 /// Asks the command that a line stands for and prints its reply, and says whether it got one.
 fn ask_line<T: Turns, W: Write>(
-    client: &mut Client,
-    turns: &mut T,
+    client: &mut Client<T>,
     line: &[u8],
     replied: u64,
     places: &mut Places,
     out: &mut WriteBuffer,
     writer: &mut W,
-    why: &mut Option<Why>,
 ) -> Result<bool, RunFault>
     requires few { replied ≤ INPUT_LIMIT }
-    ensures asks { AsksLine (talker_of client.old (T.queue turns.old)) (talker_of client.new (T.queue turns.new)) replied line.now
+    ensures asks { AsksLine (T.pace (T.time client.old.turns)) (talker client.old.caller (T.queue client.old.turns)) (talker client.new.caller (T.queue client.new.turns)) replied line.now
         (written_of (W.contents writer.old) out.old) (written_of (W.contents writer.new) out.new) result }
-    ensures same_links { T.links turns.new ≡ T.links turns.old }
-    ensures failed { result ≡ Err RunFault.LinkFault → 0 < T.failures turns.new }
-    ensures well { OnOk result (T.failures turns.new ≤ T.failures turns.old) }
+    ensures same_turns { (T.links client.new.turns ≡ T.links client.old.turns) × (T.time client.new.turns ≡ T.time client.old.turns) }
+    ensures failed { result ≡ Err RunFault.LinkFault → 0 < T.failures client.new.turns }
+    ensures well { OnOk result (T.failures client.new.turns ≤ T.failures client.old.turns) }
 {
     let Some(()) = read_command(line, &mut places.command) else {
-        *why = Some(Why::BadLine(bad_line(line)));
+        places.why = Some(Why::BadLine(bad_line(line)));
         return Err(RunFault::BadScript(replied + 1));
     };
-    if !client.ask(turns, places.command.as_slice(), &mut places.reply)? {
-        *why = Some(Why::NoReply(client.no_reply()));
+    if !client.ask(places.command.as_slice(), &mut places.reply)? {
+        places.why = Some(Why::NoReply(client.no_reply()));
         print_none(out, writer)?;
         return Ok(false);
     }

@@ -1,8 +1,10 @@
 -- What clients say and hear, step after step.
-use Rattle.std.proofs.Common.{◌≡◌, ◌≤◌, ◌⊎◌, ℕ, ◌+◌, Bool, true, false, List, [], ◌∷◌, ◌++◌, refl, sym, ap, ◌∙◌, subst, append_assoc, append-nil, add_assoc, add-zero, inl, inr}
-use Rattle.std.specs.Prelude.{Option, None, Some}
+use Rattle.std.proofs.Common.{◌≡◌, ◌≤◌, ◌⊎◌, ℕ, ◌+◌, Bool, true, false, List, [], ◌∷◌, ◌++◌, refl, sym, ap, ◌∙◌, subst, append_assoc, append-nil, add_assoc, add-zero, arith, inl, inr}
+use Rattle.std.specs.Prelude.{Option, None, Some, is_some, OnOk, Result, Ok, Err}
+use Rattle.chaosd_io.specs.declared.fault.RunFault.{RunFault}
 use Rattle.chaos_link.specs.Link.{QueueView}
 use Rattle.chaos_packet.specs.Item.{ItemView}
+use Rattle.chaos_host.specs.View.{HostView}
 use Rattle.file_client.specs.Calls.{is_over}
 use Rattle.file_client.specs.Caller.{CallerView, Connects, HangsUpBy, Says, asked, all_read}
 use Rattle.file_client.specs.Pace.{Pace}
@@ -53,7 +55,9 @@ talks_same p first last talk other e t = subst (λ k. Talks p first k last) e t
 
 -- nothing was said or heard before
 pub talks_behind : (p : Pace) (first between last : Talker) (talk : Talk) → Talks p first silence between → Talks p between talk last → Talks p first talk last
-talks_behind p first between last talk t u = talks_same p first last (and_later silence talk) talk refl (talks_on p first between last silence talk t u)
+talks_behind p first between last talk t u =
+    let none : 0 + talk.turns ≡ talk.turns = omega arith in
+    talks_same p first last (and_later silence talk) talk (ap (λ (n : ℕ). talk_by talk.said talk.heard n) none) (talks_on p first between last silence talk t u)
 
 -- ---- the steps of a client
 
@@ -65,8 +69,17 @@ calls_by p now None queue queue' c b d none same (left, stays) shows is =
     talks_step p (talker c queue) (talker c queue) (talker d queue') silence (Calls now) (talks_none p (talker c queue)) does
 
 -- it had no connection, and asked for one
-pub talks_calling : (p : Pace) (now : ℕ) (queue queue' : Option QueueView) (c d : CallerView) → c.id ≡ None → Connects p now queue queue' c d → Talks p (talker c queue) silence (talker d queue')
+talks_calling : (p : Pace) (now : ℕ) (queue queue' : Option QueueView) (c d : CallerView) → c.id ≡ None → Connects p now queue queue' c d → Talks p (talker c queue) silence (talker d queue')
 talks_calling p now queue queue' c d none (b, hung, shows, is) = calls_by p now c.id queue queue' c b d none refl hung shows is
+
+no_id : (id : Option ℕ) → is_some id ≡ false → id ≡ None
+no_id None none = refl
+no_id (Some id) none = absurd (let no : ⊥ = cc in no)
+
+pub talks_called : (p : Pace) (now : ℕ) (queue queue' : Option QueueView) (c d : CallerView) (result : Result (Unit {0}) RunFault) → is_some c.id ≡ false → OnOk result (Connects p now queue queue' c d)
+    → OnOk result (Talks p (talker c queue) silence (talker d queue'))
+talks_called p now queue queue' c d (Ok done) none connects = talks_calling p now queue queue' c d (no_id c.id none) connects
+talks_called p now queue queue' c d (Err fault) none connects = tt
 
 -- it read
 pub talks_reading : (p : Pace) (c d : Talker) (got : Option (List ℕ)) → Does p c (Reads got) d → Talks p c (hearing got) d
@@ -117,3 +130,12 @@ pub farewell_by : (p : Pace) (c d : Talker) (is : Bool) (turns : ℕ) → Writes
     → ((turns ≡ END_TURNS) ⊎ (is_over d.caller.host d.caller.id ≡ true)) ⊎ ((is ≡ true) × (all_read d.caller.host d.caller.id ≡ true)) → SaysFarewell p c d
 farewell_by p c d is turns (kept, talk) within ends =
     (record { said = newly_said false is eof_item; heard = []; turns = turns }, talk, record { is_written = is; said = refl; heard = refl; within = within; ends = ends })
+
+over_none : (h : HostView) (id : Option ℕ) → is_some id ≡ false → is_over h id ≡ true
+over_none h None none = refl
+over_none h (Some id) none = absurd (let no : ⊥ = cc in no)
+
+-- there is no connection
+pub farewell_none : (p : Pace) (c : CallerView) (queue : Option QueueView) → is_some c.id ≡ false → SaysFarewell p (talker c queue) (talker c queue)
+farewell_none p c queue none =
+    (silence, talks_none p (talker c queue), record { is_written = false; said = refl; heard = refl; within = omega arith; ends = inl (inr (over_none c.host c.id none)) })

@@ -1,5 +1,8 @@
 -- What a client goes by.
 use Rattle.std.specs.Prelude.{ℕ}
+use Rattle.file_client.specs.Clock.{IsMoment, number_of}
+use Rattle.file_client.specs.declared.clock.Beginning.{Beginning}
+use Rattle.file_client.specs.declared.limits.TheConstants.{OPEN_MILLIS}
 
 pub record Pace : Type 1 where
   -- the moments that its clock may show
@@ -8,3 +11,7 @@ pub record Pace : Type 1 where
   pub starts : ℕ → ℕ
   -- after so many milliseconds without an OPN it asks for another connection
   pub wait : ℕ
+
+-- what a client by this clock goes by
+abbrev pub clock_pace : (ℕ → Type 0) → Beginning → Pace
+clock_pace Shows beginning = record { Shows = IsMoment Shows beginning; starts = number_of beginning; wait = OPEN_MILLIS }

@@ -20,7 +20,7 @@ use std::marker::Model;
 
 /// A host with the one connection that it has asked for last, and what waits to be sent.
 #[derive(Drop)]
-pub struct Caller {
+pub(crate) struct Caller {
     host: Host,
     out: Outbox,
     /// The server's address.
@@ -33,6 +33,7 @@ pub struct Caller {
 }
 
 impl Model for Caller {
+    ghost use Rattle.std.specs.Prelude.{◌≡◌};
     ghost use Rattle.file_client.specs.Caller.{CallerView};
     ghost use Rattle.chaos_turn.specs.declared.limits.TheConstants.{TURN_ROOM};
 

@@ -13,7 +13,7 @@ use chaos_host::{CallFault, ConnId, Host};
 use chaos_packet::{Opcode, Outbox};
 
 /// Writes an item, and says whether the connection took it.
-pub fn write_item(
+pub(crate) fn write_item(
     host: &mut Host,
     id: Option<ConnId>,
     op: Opcode,
@@ -34,7 +34,7 @@ pub fn write_item(
 
 /// Reads the next item, where it is held, and says whether it is data, which are then left in the caller's place: a copy from where
 /// they lie. What is no data is dropped. Where none are taken, no clause says what the place holds.
-pub fn take_reply(host: &mut Host, id: Option<ConnId>, out: &mut Outbox, reply: &mut Reply) -> bool
+pub(crate) fn take_reply(host: &mut Host, id: Option<ConnId>, out: &mut Outbox, reply: &mut Reply) -> bool
     requires { 0 < room_of out.old }
     ensures host { host.new ≡ (call_by host.old Read id).view }
     ensures out { out.new ≡ with_put out.old (call_by host.old Read id).packets }
@@ -71,7 +71,7 @@ fn is_read(done: Result<ReadDone, CallFault>) -> bool
 }
 
 /// Whether the connection has ended, or there is none.
-pub fn is_over(host: &Host, id: Option<ConnId>) -> bool
+pub(crate) fn is_over(host: &Host, id: Option<ConnId>) -> bool
     ensures { result ≡ is_over host.now id }
 {
     let Some(id) = id else {

@@ -2,7 +2,7 @@
 ghost use Rattle.std.specs.Prelude.{◌≡◌, ◌<◌, ◌≤◌, ◌⊎◌, ◌↔◌, Err, IfErr, IfOk, None, OnOk, true};
 ghost use Rattle.file_client.specs.Calls.{is_over, taken};
 ghost use Rattle.file_client.specs.Caller.{Connects, HangsUp, Hears, Says, TurnsAt, all_read, asked_again, new_caller};
-ghost use Rattle.file_client.specs.Talk.{Exchanges, SaysFarewell, Talks, WritesAndTurns, silence, talker};
+ghost use Rattle.file_client.specs.Talk.{Exchanges, SaysFarewell, Talks, WritesAndTurns, hearing, silence, talker};
 ghost use Rattle.file_client.specs.Fault.{IsTurnFault};
 
 use crate::caller::Caller;
@@ -82,7 +82,8 @@ impl<T: Turns> Client<T> {
         self.look()?;
         self.patience = Patience::new();
         self.patience.begin(self.now);
-        self.caller.ask(self.turns.start(self.now), self.now);
+        let start = self.turns.start(self.now);
+        self.caller.ask(start, self.now);
         Ok(())
     }
 
@@ -163,7 +164,7 @@ impl<T: Turns> Client<T> {
         let mut is_written = false;
         for turn in 0..COMMAND_TURNS {
             is_written = self.turn_with(Opcode::DATA, command, is_written)?;
-            if is_written && self.take(reply) {
+            if self.take_behind(is_written, reply) {
                 return Ok(true);
             }
             if self.caller.is_over() {
@@ -211,9 +212,21 @@ impl<T: Turns> Client<T> {
         self.connect()
     }
 
+    /// Takes the reply to a command, where that was written and a reply is there. Says whether one came.
+    fn take_behind(&mut self, is_written: bool, reply: &mut Reply) -> bool
+        ensures talk { Talks (T.pace (T.time self.old.turns)) (talker self.old.caller (T.queue self.old.turns)) (hearing (taken result reply.new.items)) (talker self.new.caller (T.queue self.new.turns)) }
+        ensures written { result ≡ true → is_written ≡ true }
+        ensures same { (self.new.turns ≡ self.old.turns) × (self.new.now ≡ self.old.now) }
+    {
+        if !is_written {
+            return false;
+        }
+        self.take(reply)
+    }
+
     /// Whether the connection has ended, or the server has read all, the EOF among it.
     fn is_parted(&self, is_written: bool) -> bool
-        ensures { result ≡ true ↔ ((is_over self.now.caller.host self.now.caller.id ≡ true) ⊎ ((is_written ≡ true) × (all_read self.now.caller.host self.now.caller.id ≡ true))) }
+        ensures { result ≡ true ↔ ((is_over self.entry.now.caller.host self.entry.now.caller.id ≡ true) ⊎ ((is_written ≡ true) × (all_read self.entry.now.caller.host self.entry.now.caller.id ≡ true))) }
     {
         self.caller.is_over() || (is_written && self.caller.is_drained())
     }

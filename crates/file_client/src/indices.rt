@@ -8,7 +8,7 @@ use chaos_serve::CONTACT;
 
 /// Uses up so many indices: each by a connection that is asked for and given up at once, whose request isn't sent. So copies of an
 /// older process's packets find no connection.
-pub fn pass_indices(host: &mut Host, to: u16, count: u8, out: &mut Outbox)
+pub(crate) fn pass_indices(host: &mut Host, to: u16, count: u8, out: &mut Outbox)
     requires empty { out.old.packets ≡ [] }
     requires room { 0 < out.old.cap }
     ensures out { out.new ≡ out.old }

@@ -20,12 +20,10 @@ mod text;
 mod timed;
 mod turns;
 
-pub use calls::{is_over, take_reply, write_item};
 pub use client::{Call, Client};
 pub use clock::Beginning;
 pub use dial::Dial;
-pub use indices::pass_indices;
-pub use patience::{NoReply, Patience};
+pub use patience::NoReply;
 pub use text::Shown;
 pub use timed::Timed;
 pub use turns::Turns;

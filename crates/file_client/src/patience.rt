@@ -8,7 +8,7 @@ use std::fmt::{Display, Formatter};
 
 /// What a client keeps of its wait for a reply.
 #[derive(Drop)]
-pub struct Patience {
+pub(crate) struct Patience {
     since: u64,
     waited: u64,
     is_open: bool,
@@ -16,7 +16,7 @@ pub struct Patience {
 }
 
 impl Patience {
-    pub fn new() -> Self {
+    pub(crate) fn new() -> Self {
         Patience {
             since: 0,
             waited: 0,
@@ -26,13 +26,13 @@ impl Patience {
     }
 
     /// A command is asked at this moment.
-    pub fn begin(&mut self, now: u64) {
+    pub(crate) fn begin(&mut self, now: u64) {
         self.since = now;
         self.waited = 0;
     }
 
     /// A turn was taken at this moment, in which this became of the packet that came.
-    pub fn note(&mut self, now: u64, told: Option<HostDelivered>) {
+    pub(crate) fn note(&mut self, now: u64, told: Option<HostDelivered>) {
         self.waited = now.saturating_sub(self.since);
         let Some(HostDelivered::At(_, delivered)) = told else {
             return;
@@ -47,7 +47,7 @@ impl Patience {
         }
     }
 
-    pub fn no_reply(&mut self) -> NoReply {
+    pub(crate) fn no_reply(&mut self) -> NoReply {
         NoReply {
             waited: self.waited,
             is_open: self.is_open,

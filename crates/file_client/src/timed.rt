@@ -1,6 +1,6 @@
 //! Turns over a link to another process, by a clock.
 ghost use Rattle.std.specs.Prelude.{◌≡◌, IfErr, IfOk};
-ghost use Rattle.file_client.specs.Clock.{BeginsBy, IsMoment, low_bits_of, number_of};
+ghost use Rattle.file_client.specs.Clock.{BeginsBy};
 
 use crate::clock::Beginning;
 use crate::dial::Dial;
@@ -45,14 +45,15 @@ impl<'a, C: Dial, L: Link> Timed<'a, C, L> {
 impl<C: Dial, L: Link> Turns for Timed<'_, C, L> {
     ghost use Rattle.std.specs.Prelude.{◌∷◌, []};
     ghost use Rattle.chaos_packet.specs.Count.{Rose};
+    ghost use Rattle.file_client.specs.Clock.{low_bits_of};
+    ghost use Rattle.file_client.specs.Pace.{clock_pace};
     ghost use Rattle.file_client.specs.declared.clock.Beginning.{Beginning};
-    ghost use Rattle.file_client.specs.declared.limits.TheConstants.{OPEN_MILLIS};
 
     ghost Time = { C × Beginning };
 
     ghost time = { λ turns. (turns.clock.now, turns.beginning) };
 
-    ghost pace = { λ time. record { Shows = IsMoment (C.shows time.0) time.1; starts = number_of time.1; wait = OPEN_MILLIS } };
+    ghost pace = { λ time. clock_pace (C.shows time.0) time.1 };
 
     ghost passed = { λ time. low_bits_of time.1 };
 
