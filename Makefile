@@ -53,7 +53,8 @@ pictures: ## draws the pictures of the documents again (python3)
 	@tools/ladder --pictures docs/pictures
 	@tools/layers > docs/pictures/layers.svg.new && mv docs/pictures/layers.svg.new docs/pictures/layers.svg
 
-bench: $(PROGRAM_BENCHES:%=bench-%) $(BENCHES:%=bench-%) ## times everything beside the same in plain Rust; bench-show, bench-lab and so on: one alone
+bench: bin/chaosd ## times everything beside the same in plain Rust and writes docs/SPEED.md; bench-show, bench-lab and so on: one alone
+	@RT=$(RT) python3 bench/speed.py
 
 $(PROGRAM_BENCHES:%=bench-%): bench-%: bin/chaosd
 	@python3 bench/$*.py

@@ -247,8 +247,8 @@ def shown(datagrams):
 
 def documented_session():
     """The datagrams of one FILE command, from the table in docs/PROTOCOL.md."""
-    rows = [line.split("|")[2:-1] for line in PROTOCOL.read_text().splitlines() if re.match(r"\| \d \| `[0-9A-F]{2} 00`", line)]
-    return [MARK_1 + bytes.fromhex("".join(row).replace("`", "")) for row in rows]
+    rows = re.findall(r"^ +\d  ([0-9A-F]{2} 00 [0-9A-F ]+)$", PROTOCOL.read_text(), re.M)
+    return [MARK_1 + bytes.fromhex(row) for row in rows]
 
 
 def documented_commands():
