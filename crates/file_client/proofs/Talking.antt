@@ -6,9 +6,9 @@ use Rattle.chaos_link.specs.Link.{QueueView}
 use Rattle.chaos_packet.specs.Item.{ItemView}
 use Rattle.chaos_host.specs.View.{HostView}
 use Rattle.file_client.specs.Calls.{is_over}
-use Rattle.file_client.specs.Caller.{CallerView, Connects, HangsUpBy, Says, asked, all_read}
+use Rattle.file_client.specs.Caller.{CallerView, Connects, HangsUpBy, asked, all_read}
 use Rattle.file_client.specs.Pace.{Pace}
-use Rattle.file_client.specs.Talk.{Talker, Talk, Step, Calls, Writes, Reads, Turns, Does, Goes, Talks, WritesAndTurns, GivesUp, Exchanges, SaysFarewell, and_later, and_then, command_item, eof_item, hearing, newly_said, silence, talk_of, talker}
+use Rattle.file_client.specs.Talk.{Talker, Talk, Step, Calls, Writes, Reads, Turns, Does, Goes, Talks, WritesAndTurns, Exchanges, SaysFarewell, and_later, and_then, command_item, eof_item, hearing, newly_said, silence, talk_of, talker}
 use Rattle.file_client.specs.declared.limits.TheConstants.{COMMAND_TURNS, END_TURNS}
 
 pub talks_none : (p : Pace) (c : Talker) → Talks p c silence c

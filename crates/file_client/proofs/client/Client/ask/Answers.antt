@@ -1,5 +1,5 @@
 use Rattle.std.proofs.Common.{◌+◌, false, sym, inr, ◌∙◌, arith}
-use Rattle.file_client.specs.Talk.{command_item, talker}
+use Rattle.file_client.specs.Talk.{command_item}
 use Rattle.file_client.proofs.Talking.{talks_again, talks_unheard, exchange_done, exchange_none}
 use Rattle.file_client.proofs.client.Client.ask.Goals as goal
 

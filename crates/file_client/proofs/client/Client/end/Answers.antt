@@ -1,4 +1,4 @@
-use Rattle.std.proofs.Common.{◌+◌, ◌∙◌, arith, sym}
+use Rattle.std.proofs.Common.{◌∙◌, arith, sym}
 use Rattle.file_client.specs.Talk.{eof_item}
 use Rattle.file_client.proofs.Talking.{talks_again, farewell_none}
 use Rattle.file_client.proofs.client.Client.end.Goals as goal

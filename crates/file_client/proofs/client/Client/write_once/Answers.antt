@@ -1,7 +1,7 @@
-use Rattle.std.proofs.Common.{◌≡◌, ap}
+use Rattle.std.proofs.Common.{ap}
 use Rattle.chaos_packet.specs.Item.{ItemView}
 use Rattle.file_client.specs.Talk.{talker}
-use Rattle.file_client.proofs.Talking.{talks_writing, talks_written}
+use Rattle.file_client.proofs.Talking.{talks_writing}
 use Rattle.file_client.proofs.client.Client.write_once.Goals as goal
 
 pub returns-clause-talk : goal.returns-clause-talk
