@@ -237,16 +237,16 @@ met_bad p first last input rest before between after replied given line s (raw, 
     )
 
 -- a line stands for no command, or its turns or its text met a fault
-pub line_runs : (p : Pace) (first mid last : Talker) (input rest before between after : Option (List ℕ)) (replied : ℕ) (given : List (List ℕ)) (line : List ℕ) (fault : RunFault) → Asked p first mid before between replied given
-    → IsNext input given line → AsksLine p mid last replied line between after (Err fault) → Runs input rest before after (Err fault)
-line_runs p first mid last input rest before between after replied given line (BadScript number) s next (none, e, same) =
+pub line_runs : (p q : Pace) (first mid last : Talker) (input rest before between after : Option (List ℕ)) (replied : ℕ) (given : List (List ℕ)) (line : List ℕ) (fault : RunFault) → Asked p first mid before between replied given
+    → IsNext input given line → AsksLine q mid last replied line between after (Err fault) → Runs input rest before after (Err fault)
+line_runs p q first mid last input rest before between after replied given line (BadScript number) s next (none, e, same) =
     subst (λ n. Runs input rest before after (Err (BadScript n))) (sym e) (met_bad p first mid input rest before between after replied given line s next none same)
-line_runs p first mid last input rest before between after replied given line WriteFault s next h = tt
-line_runs p first mid last input rest before between after replied given line LinkFault s next h = tt
-line_runs p first mid last input rest before between after replied given line ClockFault s next h = tt
-line_runs p first mid last input rest before between after replied given line NoMemory s next h = absurd h
-line_runs p first mid last input rest before between after replied given line ReadFault s next h = absurd h
-line_runs p first mid last input rest before between after replied given line InputTooLong s next h = absurd h
+line_runs p q first mid last input rest before between after replied given line WriteFault s next h = tt
+line_runs p q first mid last input rest before between after replied given line LinkFault s next h = tt
+line_runs p q first mid last input rest before between after replied given line ClockFault s next h = tt
+line_runs p q first mid last input rest before between after replied given line NoMemory s next h = absurd h
+line_runs p q first mid last input rest before between after replied given line ReadFault s next h = absurd h
+line_runs p q first mid last input rest before between after replied given line InputTooLong s next h = absurd h
 
 replies_to : (given lines : List (List ℕ)) (before after : Option (List ℕ)) (replied : ℕ) → given ≡ lines → length given ≡ replied → All IsCommand given → PrintsReplies replied before after
     → All IsCommand lines × PrintsReplies (length lines) before after
@@ -347,9 +347,3 @@ asks_in_part p first last parted input before between after replied given line s
         (length-append given (raw ∷ []) ∙ ap (λ n. n + 1) s.count) begun,
   );
 }
-
--- of the same client, and over the same queue
-pub converses_as : (p : Pace) (first other : Talker) (queue queue' : Option QueueView) (input before after : Option (List ℕ)) (result : Result ScriptEnd RunFault) → first ≡ other → queue ≡ queue'
-    → IfOk result (λ end. Converses p first queue input before after end) → IfOk result (λ end. Converses p other queue' input before after end)
-converses_as p first other queue queue' input before after (Ok end) p q h = rw (← p, ← q) h
-converses_as p first other queue queue' input before after (Err fault) p q h = tt
