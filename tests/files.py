@@ -218,18 +218,20 @@ class Strangers(Case):
             server = started(["serve", "--turns", "300", "401", at(port), here], stdout=subprocess.PIPE, stderr=subprocess.PIPE)
             said = line_of(server.stderr)
             with socket.socket(socket.AF_INET, socket.SOCK_DGRAM) as stranger:
+                stranger.bind(("127.0.0.1", 0))
+                asks_from = stranger.getsockname()[1]
                 for index in (1, 2, 3):
                     stranger.sendto(datagram(RFC, (SERVER, 0), (0o777, index), 5, 0, b"FILE"), ("127.0.0.1", port))
             out, err = server.communicate(timeout=LONG)
-        opens = [b"chaosd: host 000777 opens connection %06o\n" % index for index in (1, 2, 3)]
-        wanted = b"chaosd: host 000777 asks and is no PEER\n" + b"".join(opens) + b"chaosd: 300 turns are over\n"
+        wanted = b"chaosd: no PEER is given, so nobody is answered\nchaosd: host 000777 asks from %s and is no PEER\n" % at(asks_from).encode()
+        wanted += b"chaosd: 300 turns are over\n"
         problems = Ended(server.returncode, out, said + err).problems(DONE, b"", said + wanted)
         self.check("serve tells once of a host that is no peer and asks, and at its end that its turns are over", problems)
 
     def test_quiet_leaves_out_all_but_what_fails(self):
         (port,) = free_ports(1)
         with folder() as here:
-            ended = run(["serve", "--quiet", "--turns", "3", "401", at(port), here])
+            ended = run(["serve", "--quiet", "--turns", "3", "401", at(port), here, "402=127.0.0.1:9"])
             self.check("serve --quiet tells nothing where nothing fails", ended.problems(DONE, b"", b""))
             ended = run(["serve", "--quiet", "--turns", "3", "401", at(port), here / "absent"])
             self.check("serve --quiet tells what fails", ended.problems(FAULT, b"", [b"chaosd: can't open "]))

@@ -1,4 +1,4 @@
-"""docs/LIBRARY.md: its code stands in the program that it is of, and its signatures are those of the sources."""
+"""docs/LIBRARY.md: its code stands in the programs that it is of, and its signatures are those of the sources."""
 
 import re
 import sys
@@ -9,7 +9,7 @@ sys.path.insert(0, str(ROOT / "tools"))
 from sources import Sources  # noqa: E402
 
 PAGE = ROOT / "docs/LIBRARY.md"
-PROGRAM = ROOT / "tests/crates/example_reverse/src/main.rt.in"
+PROGRAMS = [ROOT / "tests/crates/example_reverse/src/main.rt.in", ROOT / "crates/example_echo/src/main.rt"]
 SIGNATURE = re.compile(r"fn (\w+)::(\w+)(.*)")
 
 
@@ -32,10 +32,10 @@ def heads_of(sources, owner, name):
 
 
 class Library(Checking):
-    def test_its_code_is_the_program_s(self):
-        program = {line.strip() for line in PROGRAM.read_text().split("\n")}
+    def test_its_code_is_the_programs(self):
+        program = {line.strip() for file in PROGRAMS for line in file.read_text().split("\n")}
         lines = [line for block in blocks() for line in block if not SIGNATURE.match(line)]
-        self.check("each line stands in the program", [line for line in lines if line not in program] if lines else ["no line"])
+        self.check("each line stands in a program", [line for line in lines if line not in program] if lines else ["no line"])
 
     def test_its_signatures_are_those_of_the_sources(self):
         sources = Sources(ROOT)

@@ -209,6 +209,14 @@ class Vanished(Case):
 OPENS, ENDS = b"chaosd: host 000402 opens connection %06o\n", b"chaosd: connection %06o of host 000402 ends: "
 
 
+def of_a_connection(server):
+    """The next line that a server tells of a connection."""
+    line = line_of(server.process.stderr)
+    while line.startswith(b"chaosd: host 000402 at "):
+        line = line_of(server.process.stderr)
+    return line
+
+
 class Told(Case):
     """What `serve` tells on its standard error."""
 
@@ -262,7 +270,7 @@ class Told(Case):
                 ("commands without a login", b"T1  DELETE^A.LISP\n", b"nobody, 1 command, done\n"),
             ]:
                 problems = [] if run(server.words(), script).status == DONE else ["it did not end well"]
-                seen = [line_of(server.process.stderr) for _ in range(2)]
+                seen = [of_a_connection(server) for _ in range(2)]
                 index = int(seen[0].split()[-1], 8) if b" opens connection " in seen[0] else 0
                 wanted = [OPENS % index, ENDS % index + last]
                 self.check(f"serve tells of {name}", problems + ([] if seen == wanted else [f"it said {seen}"]))

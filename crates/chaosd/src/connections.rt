@@ -4,19 +4,12 @@ ghost use Rattle.std.specs.Prelude.{None};
 use chaos_conn::End;
 use file_client::Shown;
 use chaosd_file::{Ending, Log};
+use chaosd_log::{Journal, Matter};
+use std::time::Clock;
 
-/// Tells on standard error of each connection that opens and of each that ends, unless it is to be quiet.
+/// Tells of each connection that opens and of each that ends, but of hosts that are no peers, since they aren't answered.
 #[derive(Drop)]
-pub(crate) struct Connections<'a, R: Eprint> {
-    rt: &'a R,
-    is_quiet: bool,
-}
-
-impl<'a, R: Eprint> Connections<'a, R> {
-    pub(crate) fn new(rt: &'a R, is_quiet: bool) -> Self {
-        Connections { rt, is_quiet }
-    }
-}
+pub(crate) struct Connections<'a, R>(pub(crate) &'a Journal<'a, R>);
 
 /// Why a connection ended, for a user.
 fn words_of(ending: Ending) -> &'static str {
@@ -27,29 +20,32 @@ fn words_of(ending: Ending) -> &'static str {
     }
 }
 
-impl<R: Eprint> Log for Connections<'_, R> {
+impl<R: Clock + Eprint> Log for Connections<'_, R> {
     ghost told = { λ _. None };
 
     fn opened(&mut self, peer: End) {
-        if !self.is_quiet {
-            let End { address, index } = peer;
-            let _ = eprintln!(self.rt; "chaosd: host {address:06o} opens connection {index:06o}");
+        let End { address, index } = peer;
+        if self.0.is_peer(address) {
+            self.0.tell(
+                Matter::Service,
+                &format_args!("host {address:06o} opens connection {index:06o}"),
+            );
         }
     }
 
     fn ended(&mut self, peer: End, login: Option<&[u8]>, commands: u64, ending: Ending) {
-        if self.is_quiet {
+        let End { address, index } = peer;
+        if !self.0.is_peer(address) {
             return;
         }
-        let End { address, index } = peer;
-        let name = match login {
-            Some(name) => Shown(name),
-            None => Shown(b"nobody"),
-        };
+        let name = Shown(login.unwrap_or(b"nobody"));
         let plural = if commands == 1 { "" } else { "s" };
         let why = words_of(ending);
-        let _ = eprintln!(self.rt;
-            "chaosd: connection {index:06o} of host {address:06o} ends: {name}, {commands} command{plural}, {why}"
+        self.0.tell(
+            Matter::Service,
+            &format_args!(
+                "connection {index:06o} of host {address:06o} ends: {name}, {commands} command{plural}, {why}"
+            ),
         );
     }
 }

@@ -1,18 +1,11 @@
-//! The runs over sockets: `loop`, `ask` and `serve`.
-use crate::connections::Connections;
-use crate::noting::Noting;
-use crate::telling::Telling;
-use crate::told::{tell_script, tell_served, tell_unopened};
-use chaos_conn::ConnConfig;
-use chaos_file::DirStore;
+//! The runs of clients over sockets: `loop` and `ask`.
+use crate::told::{tell_script, tell_unopened};
 use chaos_link::{Carriage, Peer, Peers, UdpLink};
 use chaosd_file::{
-    LOOP_CLIENT, LOOP_SERVER, NOBODY, ScriptEnd, Why, run_ask, run_loop, run_serve_by,
-    script_status, serve_status,
+    LOOP_CLIENT, LOOP_SERVER, NOBODY, ScriptEnd, Why, run_ask, run_loop, script_status,
 };
 use chaosd_io::RunFault;
-use chaosd_line::{Ask, Serve};
-use std::fs::{File, Files};
+use chaosd_line::Ask;
 use std::io;
 use std::io::Read;
 use std::net::{Ipv4Addr, Net, SocketAddr, SocketAddrV4, UdpSocket};
@@ -64,15 +57,6 @@ fn own_links<R: Net>(rt: &R) -> io::Result<(UdpLink, UdpLink)> {
         socket: near_at,
     };
     Ok((link_to(near, to_server), link_to(far, to_client)))
-}
-
-/// The store of a folder, which no other store has.
-fn store_at<'a, R: AllocGlobal + Files<File = File>>(
-    rt: &'a R,
-    folder: &str,
-) -> io::Result<DirStore<&'a R>> {
-    let name = String::from_str(rt.alloc(), folder)?;
-    DirStore::open(rt, name)
 }
 
 /// Whether standard input can be read. It is asked before a socket is opened, which would take the place of one that is closed.
@@ -157,45 +141,4 @@ pub(crate) fn run_ask_line<R: AllocGlobal + Clock + Eprint + Input + Net + Print
         Some(Why::NoReply(_)) if to == NOBODY => end_script(rt, &end, &None),
         _ => end_script(rt, &end, &why),
     }
-}
-
-/// Runs `serve` on a folder, which is opened first, and then the socket.
-pub(crate) fn run_serve_line<R: AllocGlobal + Clock + Eprint + Files<File = File> + Net>(
-    rt: &R,
-    line: Serve<'_>,
-) -> u8 {
-    let Serve {
-        turns,
-        carriage,
-        window,
-        is_quiet,
-        address,
-        socket,
-        folder,
-        peers,
-    } = line;
-    let mut store = match store_at(rt, folder) {
-        Ok(store) => Telling::new(rt, store),
-        Err(error) => return tell_unopened(rt, &folder, &error),
-    };
-    let mut link = match link_at(rt, socket, peers) {
-        Ok(link) => Noting::new(rt, link),
-        Err(error) => return tell_unopened(rt, &socket, &error),
-    };
-    if !is_quiet {
-        let _ = eprintln!(rt; "chaosd: host {address:06o} serves {folder} at {socket}");
-    }
-    let end = run_serve_by(
-        rt,
-        rt.alloc(),
-        &mut link,
-        &mut store,
-        address,
-        ConnConfig::with_window(window),
-        u64::from(turns),
-        carriage,
-        &mut Connections::new(rt, is_quiet),
-    );
-    tell_served(rt, &end, turns, is_quiet);
-    serve_status(&end)
 }

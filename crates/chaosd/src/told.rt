@@ -31,19 +31,6 @@ pub(crate) fn tell_script<R: Eprint>(rt: &R, end: &Result<ScriptEnd, RunFault>, 
     };
 }
 
-/// Tells how a service ended: as [`tell_end`] does, and else that its turns are over, unless nothing is to be told of that.
-pub(crate) fn tell_served<R: Eprint>(
-    rt: &R,
-    end: &Result<(), RunFault>,
-    turns: u32,
-    is_quiet: bool,
-) {
-    if end.is_ok() && !is_quiet {
-        let _ = eprintln!(rt; "chaosd: {turns} turns are over");
-    }
-    tell_end(rt, end);
-}
-
 /// Tells what could not be opened, and why. The answer is the status of a program that ends by it: 4 for want of memory, else 1.
 pub(crate) fn tell_unopened<R: Eprint, D: Display>(rt: &R, what: &D, error: &io::Error) -> u8
     ensures { (result ≡ FAULT) ⊎ (result ≡ NO_MEMORY) }

@@ -10,7 +10,7 @@ use Rattle.chaos_link.specs.declared.carriage.Carriage.TheVariants.{One, Two}
 use Rattle.chaos_link.specs.declared.peers.Peer.{Peer}
 use Rattle.chaosd_line.specs.Lines.{AsksFor, IsAsk, IsLine, IsSame, IsSameAsk, IsSameCopying, IsSameGet, IsSamePut, IsSameServe, IsServe}
 use Rattle.chaosd_line.specs.Files.{IsCopying, IsGet, IsPut}
-use Rattle.chaosd_line.specs.Values.{IsAddress, IsCarriage, IsFlag, IsLogin, IsPeer, IsSocket, IsTurns, IsWindow}
+use Rattle.chaosd_line.specs.Values.{IsAddress, IsCarriage, IsFlag, IsLog, IsLogin, IsPeer, IsSocket, IsTurns, IsWindow}
 use Rattle.std.specs.Borrow.{Bor}
 use Rattle.chaosd_line.specs.declared.line.Ask.{Ask}
 use Rattle.chaosd_line.specs.declared.line.Copying.{Copying}
@@ -18,6 +18,8 @@ use Rattle.chaosd_line.specs.declared.line.Get.{Get}
 use Rattle.chaosd_line.specs.declared.line.Put.{Put}
 use Rattle.chaosd_line.specs.declared.line.Line.{Line}
 use Rattle.chaosd_line.specs.declared.line.Line.TheVariants as line
+use Rattle.chaosd_line.specs.declared.line.LogLevel.{LogLevel}
+use Rattle.chaosd_line.specs.declared.line.LogLevel.TheVariants as log
 use Rattle.chaosd_line.specs.declared.line.Serve.{Serve}
 
 one_value : {T : Type 0} (Q : Text → T → Type 0) → ((t : Text) (x y : T) → Q t x → Q t y → x ≡ y)
@@ -66,11 +68,30 @@ one_flag t false false h k = refl
 one_flag t true false h k = absurd (let e : slice_index (codes "true") 0 ≡ slice_index (codes "false") 0 = ap (λ u. slice_index u 0) (sym h ∙ k) in omega (arith, e))
 one_flag t false true h k = absurd (let e : slice_index (codes "false") 0 ≡ slice_index (codes "true") 0 = ap (λ u. slice_index u 0) (sym h ∙ k) in omega (arith, e))
 
+-- two texts that begin otherwise are not one
+other_first : (t u v : Text) → t ≡ u → t ≡ v → slice_index u 0 ≡ slice_index v 0
+other_first t u v h k = ap (λ w. slice_index w 0) (sym h ∙ k)
+
+one_log : (t : Text) (a b : LogLevel) → IsLog t a → IsLog t b → a ≡ b
+one_log t log.Quiet log.Quiet h k = refl
+one_log t log.Normal log.Normal h k = refl
+one_log t log.All log.All h k = refl
+one_log t log.Quiet log.Normal h k = absurd (let e : slice_index (codes "quiet") 0 ≡ slice_index (codes "normal") 0 = other_first t _ _ h k in omega (arith, e))
+one_log t log.Quiet log.All h k = absurd (let e : slice_index (codes "quiet") 0 ≡ slice_index (codes "all") 0 = other_first t _ _ h k in omega (arith, e))
+one_log t log.Normal log.Quiet h k = absurd (let e : slice_index (codes "normal") 0 ≡ slice_index (codes "quiet") 0 = other_first t _ _ h k in omega (arith, e))
+one_log t log.Normal log.All h k = absurd (let e : slice_index (codes "normal") 0 ≡ slice_index (codes "all") 0 = other_first t _ _ h k in omega (arith, e))
+one_log t log.All log.Quiet h k = absurd (let e : slice_index (codes "all") 0 ≡ slice_index (codes "quiet") 0 = other_first t _ _ h k in omega (arith, e))
+one_log t log.All log.Normal h k = absurd (let e : slice_index (codes "all") 0 ≡ slice_index (codes "normal") 0 = other_first t _ _ h k in omega (arith, e))
+
 same_serve : (rows : List Row) (s t : Serve) → IsServe rows s → IsServe rows t → IsSameServe s t
 same_serve rows s t h k = record {
   carriage = one_value IsCarriage one_carriage _ _ _ h.carriage k.carriage;
   window = one_value IsWindow one_window _ _ _ h.window k.window;
   is_quiet = one_value IsFlag one_flag _ _ _ h.is_quiet k.is_quiet;
+  log = one_value IsLog one_log _ _ _ h.log k.log;
+  is_timed = one_value IsFlag one_flag _ _ _ h.is_timed k.is_timed;
+  hears_only_peers = one_value IsFlag one_flag _ _ _ h.hears_only_peers k.hears_only_peers;
+  is_read_only = one_value IsFlag one_flag _ _ _ h.is_read_only k.is_read_only;
   turns = one_value IsTurns one_turns _ _ _ h.turns k.turns;
   address = one_value IsAddress one_address _ _ _ h.address k.address;
   socket = one_value IsSocket one_socket _ _ _ h.socket k.socket;

@@ -61,11 +61,17 @@ flag id = record (new_rule id) {
   action = Some SetTrue;
 }
 
--- [--turns N] [--carriage N] [--window N] [--quiet]
-abbrev pub serve_options : App → App
-serve_options app = with_rule (with_rule (with_rule (with_rule app turns_option) carriage_option) window_option) (flag (codes "quiet"))
+-- [--turns N] [--carriage N] [--window N] [--quiet] [--log LEVEL] [--log-time] [--only-peers] [--read-only]
+abbrev pub turn_options : App → App
+turn_options app = with_rule (with_rule (with_rule app turns_option) carriage_option) window_option
 
--- serve [--turns N] [--carriage N] [--window N] [--quiet] ADDRESS UDP FOLDER PEER...
+abbrev pub log_options : App → App
+log_options app = with_rule (with_rule (with_rule app (flag (codes "quiet"))) (with_default (codes "log") (codes "normal"))) (flag (codes "log-time"))
+
+abbrev pub serve_options : App → App
+serve_options app = with_rule (with_rule (log_options (turn_options app)) (flag (codes "only-peers"))) (flag (codes "read-only"))
+
+-- serve with these, and ADDRESS UDP FOLDER PEER...
 abbrev pub serve_command : App
 serve_command = with_rule
     (with_rule

@@ -4,7 +4,7 @@ use Rattle.std.specs.Option.{IsSomeAnd}
 use Rattle.clap.specs.Words.{Row, Text, all_of, first_of, subcommand_of}
 use Rattle.chaosd_line.specs.CommandLine.{chaosd}
 use Rattle.chaosd_line.specs.Files.{IsGet, IsPut}
-use Rattle.chaosd_line.specs.Values.{ArePeers, IsAddress, IsCarriage, IsFlag, IsSocket, IsTurns, IsWindow}
+use Rattle.chaosd_line.specs.Values.{ArePeers, IsAddress, IsCarriage, IsFlag, IsLog, IsSocket, IsTurns, IsWindow}
 use Rattle.chaosd_line.specs.declared.line.Line.{Line}
 use Rattle.chaosd_line.specs.declared.line.Line.TheVariants as line
 use Rattle.chaosd_line.specs.declared.line.Serve.{Serve}
@@ -19,6 +19,10 @@ pub record IsServe (rows : List Row) (serve : Serve) : Type 0 where
   pub carriage : IsSomeAnd (first_of (codes "carriage") rows) (λ text. IsCarriage text serve.carriage)
   pub window : IsSomeAnd (first_of (codes "window") rows) (λ text. IsWindow text serve.window)
   pub is_quiet : IsSomeAnd (first_of (codes "quiet") rows) (λ text. IsFlag text serve.is_quiet)
+  pub log : IsSomeAnd (first_of (codes "log") rows) (λ text. IsLog text serve.log)
+  pub is_timed : IsSomeAnd (first_of (codes "log-time") rows) (λ text. IsFlag text serve.is_timed)
+  pub hears_only_peers : IsSomeAnd (first_of (codes "only-peers") rows) (λ text. IsFlag text serve.hears_only_peers)
+  pub is_read_only : IsSomeAnd (first_of (codes "read-only") rows) (λ text. IsFlag text serve.is_read_only)
   pub address : IsSomeAnd (first_of (codes "ADDRESS") rows) (λ text. IsAddress text serve.address)
   pub socket : IsSomeAnd (first_of (codes "UDP") rows) (λ text. IsSocket text serve.socket)
   pub folder : first_of (codes "FOLDER") rows ≡ Some serve.folder.now
@@ -56,6 +60,10 @@ pub record IsSameServe (s t : Serve) : Type 0 where
   pub carriage : s.carriage ≡ t.carriage
   pub window : s.window ≡ t.window
   pub is_quiet : s.is_quiet ≡ t.is_quiet
+  pub log : s.log ≡ t.log
+  pub is_timed : s.is_timed ≡ t.is_timed
+  pub hears_only_peers : s.hears_only_peers ≡ t.hears_only_peers
+  pub is_read_only : s.is_read_only ≡ t.is_read_only
   pub address : s.address ≡ t.address
   pub socket : s.socket ≡ t.socket
   pub folder : s.folder.now ≡ t.folder.now

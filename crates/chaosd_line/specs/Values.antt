@@ -14,6 +14,8 @@ use Rattle.chaos_link.specs.Peers.{IsKnown}
 use Rattle.chaos_link.specs.declared.carriage.Carriage.{Carriage}
 use Rattle.chaos_link.specs.declared.carriage.Carriage.TheVariants.{One, Two}
 use Rattle.chaos_link.specs.declared.peers.Peer.{Peer}
+use Rattle.chaosd_line.specs.declared.line.LogLevel.{LogLevel}
+use Rattle.chaosd_line.specs.declared.line.LogLevel.TheVariants.{Quiet, Normal, All}
 
 -- the answer is the value of which P holds, and there is none only where P holds of nothing
 abbrev pub Finds : {T : Type 0} → (T → Type 0) → Option T → Type 0
@@ -46,6 +48,12 @@ IsWindow text n =
 abbrev pub IsCarriage : Text → Carriage → Type 0
 IsCarriage text One = text ≡ codes "1"
 IsCarriage text Two = text ≡ codes "2"
+
+-- how much a server tells
+abbrev pub IsLog : Text → LogLevel → Type 0
+IsLog text Quiet = text ≡ codes "quiet"
+IsLog text Normal = text ≡ codes "normal"
+IsLog text All = text ≡ codes "all"
 
 -- what clap says of a flag
 abbrev pub IsFlag : Text → Bool → Type 0

@@ -11,6 +11,9 @@ pub(crate) const TURNS_FORM: &str = "a decimal number without leading zeros, at 
 /// What is wanted of a carriage.
 pub(crate) const CARRIAGE_FORM: &str = "1 or 2";
 
+/// What is wanted of a log's level.
+pub(crate) const LOG_FORM: &str = "quiet, normal or all";
+
 /// What is wanted of a socket.
 pub(crate) const SOCKET_FORM: &str =
     "a.b.c.d:port in decimal without leading zeros, the port from 1 to 65535";

@@ -4,14 +4,14 @@ ghost use Rattle.std.specs.Option.{IsSomeAnd};
 ghost use Rattle.clap.specs.Words.{all_of, first_of, found_of, rows_of, subcommand_rows_of};
 ghost use Rattle.chaosd_line.specs.Files.{GivesFiles};
 ghost use Rattle.chaosd_line.specs.Lines.{AsksFor, IsAsk, IsLine, IsServe};
-ghost use Rattle.chaosd_line.specs.Values.{ArePeers, IsAddress, IsCarriage, IsSocket, IsTurns, Reads};
+ghost use Rattle.chaosd_line.specs.Values.{ArePeers, IsAddress, IsCarriage, IsLog, IsSocket, IsTurns, Reads};
 
-use crate::bad_word::{ADDRESS_FORM, BadWord, CARRIAGE_FORM, SOCKET_FORM, TURNS_FORM};
+use crate::bad_word::{ADDRESS_FORM, BadWord, CARRIAGE_FORM, LOG_FORM, SOCKET_FORM, TURNS_FORM};
 use crate::copies::{get_of, given_flag, given_window, put_of};
-use crate::line::{Ask, Line, Serve};
+use crate::line::{Ask, Line, LogLevel, Serve};
 use crate::peers::peers_of;
 use crate::unread::Unread;
-use crate::values::{address_of, carriage_of, socket_of, turns_of};
+use crate::values::{address_of, carriage_of, log_of, socket_of, turns_of};
 use chaos_link::{Carriage, Peers};
 use clap::ArgMatches;
 use std::alloc::Global;
@@ -80,6 +80,21 @@ pub(crate) fn given_carriage<'a>(matches: &ArgMatches<'a>) -> Result<Carriage, B
     }
 }
 
+/// How much a server tells.
+fn given_log<'a>(matches: &ArgMatches<'a>) -> Result<LogLevel, BadWord<'a>>
+    ensures { Reads (λ l. IsSomeAnd (first_of (codes "log") (rows_of (found_of matches.now))) (λ t. IsLog t l)) result }
+{
+    let text = given(matches, "log")?;
+    match log_of(text) {
+        Some(log) => Ok(log),
+        None => Err(BadWord {
+            text,
+            place: "--log",
+            form: LOG_FORM,
+        }),
+    }
+}
+
 /// The UDP address of the host's own socket.
 pub(crate) fn given_socket<'a>(matches: &ArgMatches<'a>) -> Result<SocketAddrV4, BadWord<'a>>
     ensures { Reads (λ s. IsSomeAnd (first_of (codes "UDP") (rows_of (found_of matches.now))) (λ t. IsSocket t s)) result }
@@ -113,6 +128,10 @@ fn serve_of<'a>(matches: &ArgMatches<'a>) -> Result<Serve<'a>, BadWord<'a>>
     let carriage = given_carriage(matches)?;
     let window = given_window(matches)?;
     let is_quiet = given_flag(matches, "quiet")?;
+    let log = given_log(matches)?;
+    let is_timed = given_flag(matches, "log-time")?;
+    let hears_only_peers = given_flag(matches, "only-peers")?;
+    let is_read_only = given_flag(matches, "read-only")?;
     let address = given_address(matches, "ADDRESS")?;
     let socket = given_socket(matches)?;
     let folder = given(matches, "FOLDER")?;
@@ -122,6 +141,10 @@ fn serve_of<'a>(matches: &ArgMatches<'a>) -> Result<Serve<'a>, BadWord<'a>>
         carriage,
         window,
         is_quiet,
+        log,
+        is_timed,
+        hears_only_peers,
+        is_read_only,
         address,
         socket,
         folder,

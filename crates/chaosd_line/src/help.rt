@@ -58,6 +58,19 @@ pub(crate) const SERVE_WINDOW: &str =
 /// Nothing told by a server.
 pub(crate) const SERVE_QUIET: &str = "Nothing is told but what fails";
 
+/// How much a server tells.
+pub(crate) const LOG: &str =
+    "What is told: quiet is what fails, normal also connections and changes of files, all also files that are read";
+
+/// The time in front of what a server tells.
+pub(crate) const LOG_TIME: &str = "Each line begins with the time, in UTC";
+
+/// A server that hears its peers alone.
+pub(crate) const ONLY_PEERS: &str = "Datagrams that come from no PEER's UDP address are dropped";
+
+/// A server whose files don't change.
+pub(crate) const READ_ONLY: &str = "No file changes: what would write one is a store fault";
+
 /// Texts.
 pub(crate) const TEXT: &str =
     "A text file: newline, tab, backspace and page are those of a Lisp machine at the server";

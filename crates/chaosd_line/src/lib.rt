@@ -28,5 +28,5 @@ mod word;
 pub use fault::LineFault;
 pub use files::last_name;
 pub use law::law_one_line;
-pub use line::{Ask, Copying, Get, Line, Put, Serve};
+pub use line::{Ask, Copying, Get, Line, LogLevel, Put, Serve};
 pub use parse::{parse_line, read_line};

@@ -26,6 +26,17 @@ pub enum Line<'a> {
     Put(Put<'a>),
 }
 
+/// How much a server tells.
+#[derive(Clone, Copy, Debug, PartialEq, Eq)]
+pub enum LogLevel {
+    /// Mistakes and faults alone.
+    Quiet,
+    /// Those, connections, and changes of files.
+    Normal,
+    /// Those, and each file that is read.
+    All,
+}
+
 /// What to serve, and to whom.
 #[derive(Drop)]
 pub struct Serve<'a> {
@@ -35,8 +46,16 @@ pub struct Serve<'a> {
     pub carriage: Carriage,
     /// The packets that each of the two windows of its connections has, 1 to 64.
     pub window: u16,
-    /// Whether nothing but what fails is told.
+    /// Whether nothing but what fails is told, whatever the log's level.
     pub is_quiet: bool,
+    /// How much is told.
+    pub log: LogLevel,
+    /// Whether the time stands in front of each line that is told.
+    pub is_timed: bool,
+    /// Whether a datagram that comes from no peer's UDP address is dropped.
+    pub hears_only_peers: bool,
+    /// Whether no file changes.
+    pub is_read_only: bool,
     /// Its Chaosnet address, which is not 0.
     pub address: u16,
     /// The UDP address that it receives at, whose port is not 0.

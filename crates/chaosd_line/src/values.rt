@@ -1,7 +1,8 @@
 //! The forms of words, and the values that they stand for.
 ghost use Rattle.std.specs.Prelude.{◌≡◌, ◌↔◌, IsTrue, MatchOption};
-ghost use Rattle.chaosd_line.specs.Values.{Finds, HasSides, IsAddress, IsCarriage, IsFlag, IsPadded, IsPeer, IsSocket, IsTurns, IsWindow, left_of, port_of, right_of};
+ghost use Rattle.chaosd_line.specs.Values.{Finds, HasSides, IsAddress, IsCarriage, IsFlag, IsLog, IsPadded, IsPeer, IsSocket, IsTurns, IsWindow, left_of, port_of, right_of};
 
+use crate::line::LogLevel;
 use chaos_link::{Carriage, Peer};
 use std::net::SocketAddrV4;
 
@@ -71,6 +72,18 @@ pub(crate) fn carriage_of(text: &str) -> Option<Carriage>
     match text {
         "1" => Some(Carriage::One),
         "2" => Some(Carriage::Two),
+        _ => None,
+    }
+}
+
+/// How much a server tells.
+pub(crate) fn log_of(text: &str) -> Option<LogLevel>
+    ensures { Finds (IsLog text.now) result }
+{
+    match text {
+        "quiet" => Some(LogLevel::Quiet),
+        "normal" => Some(LogLevel::Normal),
+        "all" => Some(LogLevel::All),
         _ => None,
     }
 }

@@ -22,6 +22,26 @@ returns-in_err-is_quiet c =
     let p = err_from_is_err_and c.from_residual-in_err-is_quiet.result c.from_residual-in_err-is_quiet.ensures.1 in
     rw p.1 (λ serve h. c.in_err-is_quiet.ensures serve.is_quiet h.is_quiet)
 
+pub returns-in_err-log : goal.returns-in_err-log
+returns-in_err-log c =
+    let p = err_from_is_err_and c.from_residual-in_err-log.result c.from_residual-in_err-log.ensures.1 in
+    rw p.1 (λ serve h. c.in_err-log.ensures serve.log h.log)
+
+pub returns-in_err-is_timed : goal.returns-in_err-is_timed
+returns-in_err-is_timed c =
+    let p = err_from_is_err_and c.from_residual-in_err-is_timed.result c.from_residual-in_err-is_timed.ensures.1 in
+    rw p.1 (λ serve h. c.in_err-is_timed.ensures serve.is_timed h.is_timed)
+
+pub returns-in_err-hears_only_peers : goal.returns-in_err-hears_only_peers
+returns-in_err-hears_only_peers c =
+    let p = err_from_is_err_and c.from_residual-in_err-hears_only_peers.result c.from_residual-in_err-hears_only_peers.ensures.1 in
+    rw p.1 (λ serve h. c.in_err-hears_only_peers.ensures serve.hears_only_peers h.hears_only_peers)
+
+pub returns-in_err-is_read_only : goal.returns-in_err-is_read_only
+returns-in_err-is_read_only c =
+    let p = err_from_is_err_and c.from_residual-in_err-is_read_only.result c.from_residual-in_err-is_read_only.ensures.1 in
+    rw p.1 (λ serve h. c.in_err-is_read_only.ensures serve.is_read_only h.is_read_only)
+
 pub returns-in_err-address : goal.returns-in_err-address
 returns-in_err-address c =
     let p = err_from_is_err_and c.from_residual-in_err-address.result c.from_residual-in_err-address.ensures.1 in

@@ -1,0 +1,4 @@
+pub mod Named
+pub mod Putting
+pub mod Looks
+pub mod Leaving

@@ -1,0 +1,4 @@
+pub mod Named
+pub mod Reading
+pub mod Stream
+pub mod Writing

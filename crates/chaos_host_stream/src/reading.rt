@@ -1,0 +1,69 @@
+//! Reading bytes from one of a host's connections.
+ghost use Rattle.std.specs.Prelude.{◌≡◌, ◌+◌, ◌<◌, ◌≤◌, drop, IfOk};
+ghost use Rattle.std.specs.Result.{result_map_both};
+ghost use Rattle.chaos_packet.specs.Outbox.{room_of};
+ghost use Rattle.chaos_packet.specs.declared.limits.TheConstants.{MAX_DATA};
+ghost use Rattle.chaos_stream.specs.Reading.{lent_by, uses_up, Consumes};
+ghost use Rattle.chaos_stream.specs.Shown.{sight_of};
+ghost use Rattle.chaos_host_stream.specs.Reading.{peek_at, sight_from, ConsumesAt};
+
+use crate::stream::HostStream;
+use chaos_host::{CallFault, Host};
+use chaos_packet::Outbox;
+use chaos_stream::{Peek, StreamIn};
+
+impl HostStream {
+    /// What comes next, lent: of an item of data the bytes from the place on. Where no item can be read it tells whether one
+    /// may still come, as [`StreamIn::peek`] does.
+    pub fn peek<'a>(&self, host: &'a Host) -> Result<Peek<'a>, CallFault>
+        ensures shown { result_map_both (λ peek. sight_of peek) (λ fault. fault) result ≡ peek_at host.now self.now }
+        ensures fits { IfOk result (λ peek. self.now.place + lent_by (sight_of peek) ≤ MAX_DATA) }
+    {
+        let whole = StreamIn::new().peek(host.conn(self.id)?);
+        Ok(shown_from(whole, self.place))
+    }
+
+    /// Passes over the next `count` bytes, at most as many as a look lends: 0 where it shows an EOF, or no item.
+    ///
+    /// Where none of the bytes of the item in front are left, the item is read, which may put an STS out. An EOF and an empty
+    /// item have none from the first. Where there is no item, nothing changes.
+    pub fn consume(
+        &mut self,
+        host: &mut Host,
+        count: usize,
+        out: &mut Outbox,
+    ) -> Result<(), CallFault>
+        requires lent { IfOk (peek_at host.old self.old) (λ sight. count ≤ lent_by sight) }
+        requires room { 0 < room_of out.old }
+        ensures { ConsumesAt host.old self.old count self.new host.new out.old out.new result }
+    {
+        if is_used_up(self.peek(host)?, count) {
+            self.place = 0;
+            let _done = host.read_done(self.id, out);
+        } else {
+            self.place += count;
+        }
+        Ok(())
+    }
+}
+
+/// What is shown from a place on, where all of it is shown from the start of an item.
+fn shown_from(whole: Peek<'_>, place: usize) -> Peek<'_>
+    ensures { sight_of result ≡ sight_from (sight_of whole.entry) place }
+{
+    match whole {
+        Peek::Bytes(bytes) => Peek::Bytes(bytes.get(place..).unwrap_or(&[])),
+        other => other,
+    }
+}
+
+/// Whether this many bytes leave none of the item in front.
+fn is_used_up(shown: Peek<'_>, count: usize) -> bool
+    ensures { result ≡ uses_up (sight_of shown.entry) count }
+{
+    match shown {
+        Peek::Bytes(bytes) => bytes.len() <= count,
+        Peek::Eof => true,
+        Peek::Nothing | Peek::Ended => false,
+    }
+}

@@ -1,0 +1,144 @@
+//! The run of `serve`.
+ghost use Rattle.std.specs.Prelude.{◌<◌};
+
+use crate::connections::Connections;
+use crate::told::tell_unopened;
+use arrayvec::ArrayVec;
+use chaos_conn::ConnConfig;
+use chaos_file::{DirStore, Store};
+use chaos_link::{Carriage, Link, MAX_PEERS, Peer, Peers, UdpLink};
+use chaosd_file::{run_serve_by, serve_status};
+use chaosd_io::RunFault;
+use chaosd_line::{LogLevel, Serve};
+use chaosd_log::{
+    Journal, Ledger, Level, Matter, NotedLink, NotedSocket, NotedStore, Pages, ReadOnly,
+};
+use std::fs::{File, Files};
+use std::io;
+use std::net::{Net, SocketAddr, UdpSocket};
+use std::time::Clock;
+
+/// The store of a folder, which no other store has.
+fn store_at<'a, R: AllocGlobal + Files<File = File>>(
+    rt: &'a R,
+    folder: &str,
+) -> io::Result<DirStore<&'a R>> {
+    let name = String::from_str(rt.alloc(), folder)?;
+    DirStore::open(rt, name)
+}
+
+/// The peers in the order of their Chaosnet addresses.
+fn listed(peers: &Peers) -> ArrayVec<Peer, MAX_PEERS> {
+    let mut list = ArrayVec::new();
+    for address in 1..=u16::MAX {
+        if let Some(socket) = peers.find(address) {
+            let _ = list.try_push(Peer { address, socket });
+        }
+    }
+    list
+}
+
+/// How much the log tells.
+fn level_of(is_quiet: bool, log: LogLevel) -> Level {
+    match log {
+        _ if is_quiet => Level::Quiet,
+        LogLevel::Quiet => Level::Quiet,
+        LogLevel::Normal => Level::Normal,
+        LogLevel::All => Level::All,
+    }
+}
+
+/// What the engine is asked for.
+#[derive(Clone, Copy)]
+struct Wanted {
+    address: u16,
+    window: u16,
+    turns: u32,
+    carriage: Carriage,
+    ghost named: { 0 < address },
+}
+
+/// Serves a store, and tells how that ended.
+fn serve<R: AllocGlobal + Clock + Eprint, L: Link, S: Store>(
+    rt: &R,
+    wanted: Wanted,
+    journal: &Journal<'_, R>,
+    link: &mut L,
+    store: &mut S,
+) -> u8 {
+    let end = run_serve_by(
+        rt,
+        rt.alloc(),
+        link,
+        store,
+        wanted.address,
+        ConnConfig::with_window(wanted.window),
+        u64::from(wanted.turns),
+        wanted.carriage,
+        &mut Connections(journal),
+    );
+    tell_served(journal, &end, wanted.turns);
+    serve_status(&end)
+}
+
+/// Tells that a service's turns are over, or the fault that it ended by.
+fn tell_served<R: Clock + Eprint>(
+    journal: &Journal<'_, R>,
+    end: &Result<(), RunFault>,
+    turns: u32,
+) {
+    match end {
+        Ok(()) => journal.tell(Matter::Service, &format_args!("{turns} turns are over")),
+        Err(fault) => journal.tell(Matter::Fault, fault),
+    }
+}
+
+/// Runs `serve` on a folder, which is opened first, and then the socket.
+pub(crate) fn run_serve_line<R: AllocGlobal + Clock + Eprint + Files<File = File> + Net>(
+    rt: &R,
+    line: Serve<'_>,
+) -> u8 {
+    let Serve {
+        turns,
+        carriage,
+        window,
+        is_quiet,
+        log,
+        is_timed,
+        hears_only_peers,
+        is_read_only,
+        address,
+        socket,
+        folder,
+        peers,
+    } = line;
+    let store = match store_at(rt, folder) {
+        Ok(store) => store,
+        Err(error) => return tell_unopened(rt, &folder, &error),
+    };
+    let bound = match UdpSocket::bind(rt, SocketAddr::V4(socket)) {
+        Ok(bound) => bound,
+        Err(error) => return tell_unopened(rt, &socket, &error),
+    };
+    let wanted = Wanted {
+        address,
+        window,
+        turns,
+        carriage,
+    };
+    let journal = Journal::new(
+        rt,
+        level_of(is_quiet, log),
+        is_timed,
+        Ledger::new(listed(&peers)),
+    );
+    let noted = NotedSocket::new(bound, &journal, hears_only_peers);
+    let mut link = NotedLink::new(UdpLink::new(noted, peers), &journal);
+    let mut store = NotedStore::new(store, Pages(&journal));
+    journal.begin(address, socket, folder);
+    if is_read_only {
+        serve(rt, wanted, &journal, &mut link, &mut ReadOnly::new(store))
+    } else {
+        serve(rt, wanted, &journal, &mut link, &mut store)
+    }
+}

@@ -1,0 +1,140 @@
+//! What a server's log knows of hosts.
+ghost use Rattle.std.specs.Prelude.{◌≡◌, ◌≤◌, length};
+ghost use Rattle.chaos_link.specs.declared.limits.TheConstants.{MAX_PEERS};
+ghost use Rattle.chaosd_log.specs.Ledger.{AsksAs, IsAskingOf, heard_at, known_at, place_of, source_at, with_asked};
+
+use crate::place::place_of;
+use arrayvec::ArrayVec;
+use chaos_link::{MAX_PEERS, Peer};
+use std::marker::Model;
+use std::net::SocketAddrV4;
+
+/// The Chaosnet addresses that there are, with 0.
+const ADDRESSES: usize = 65_536;
+
+/// What is to be told of where a host asks from. Each is told once for each Chaosnet address.
+#[derive(Clone, Copy, Debug, PartialEq, Eq)]
+pub enum Asking {
+    /// Nothing: as its peer's, or told before.
+    AsKnown,
+    /// The host is no peer.
+    Stranger,
+    /// The host is a peer at this other UDP address, to which it is answered.
+    Elsewhere(SocketAddrV4),
+}
+
+/// What a server's log knows of hosts: its peers, from which UDP address each was heard last, and what was told.
+#[derive(Drop)]
+pub struct Ledger {
+    peers: ArrayVec<Peer, MAX_PEERS>,
+    heard: [Option<SocketAddrV4>; MAX_PEERS],
+    stranger: Option<Peer>,
+    told: [bool; ADDRESSES],
+}
+
+impl Model for Ledger {
+    ghost use Rattle.std.specs.Prelude.{◌≤◌, length};
+    ghost use Rattle.chaos_link.specs.declared.limits.TheConstants.{MAX_PEERS};
+    ghost use Rattle.chaosd_log.specs.Ledger.{LedgerView};
+
+    ghost Value = { LedgerView };
+
+    ghost view = { λ s. record { peers = s.peers.items; heard = s.heard; stranger = s.stranger; told = s.told } };
+
+    ghost invariant = { λ s. length s.peers.items ≤ MAX_PEERS };
+}
+
+/// What is to be told of a host that is known at the one UDP address, where at any, and asks from the other.
+fn asking_of(known: Option<SocketAddrV4>, from: SocketAddrV4) -> Asking
+    ensures { IsAskingOf known from result }
+{
+    match known {
+        None => Asking::Stranger,
+        Some(known) if known == from => Asking::AsKnown,
+        Some(known) => Asking::Elsewhere(known),
+    }
+}
+
+impl Ledger {
+    ghost use Rattle.std.specs.Prelude.{◌↔◌, false, IsTrue, None, replicate};
+    ghost use Rattle.std.specs.List.{Any};
+
+    /// Of a server that has heard nobody.
+    pub fn new(peers: ArrayVec<Peer, MAX_PEERS>) -> Self
+        ensures { result ≡ record { peers = peers.items; heard = replicate MAX_PEERS None; stranger = None; told = replicate 65536 false } }
+    {
+        Ledger {
+            peers,
+            heard: [None; MAX_PEERS],
+            stranger: None,
+            told: [false; ADDRESSES],
+        }
+    }
+
+    /// The peers, in their order.
+    pub fn peers(&self) -> &[Peer]
+        ensures { result.now ≡ self.now.peers }
+    {
+        self.peers.as_slice()
+    }
+
+    /// Whether a peer is at this UDP address.
+    pub fn has_socket(&self, from: SocketAddrV4) -> bool
+        ensures { IsTrue result ↔ Any (λ peer. peer.socket ≡ from) self.now.peers }
+    {
+        self.peers.iter().any(|peer| peer.socket == from)
+    }
+
+    /// The UDP address of the peer with this Chaosnet address.
+    pub fn socket_of(&self, address: u16) -> Option<SocketAddrV4>
+        ensures { result ≡ known_at address self.now }
+    {
+        self.peers
+            .iter()
+            .find(|peer| peer.address == address)
+            .map(|peer| peer.socket)
+    }
+
+    /// A datagram of this host came from this UDP address. The answer is what is to be told of that.
+    pub fn hear(&mut self, address: u16, from: SocketAddrV4) -> Asking
+        ensures asking { AsksAs address from self.old result }
+        ensures ledger { self.new ≡ with_asked address from result self.old }
+    {
+        let known = self.socket_of(address);
+        self.note(address, from);
+        let asking = asking_of(known, from);
+        if asking == Asking::AsKnown || self.told[usize::from(address)] {
+            return Asking::AsKnown;
+        }
+        self.told[usize::from(address)] = true;
+        asking
+    }
+
+    /// Keeps from where the host was heard.
+    fn note(&mut self, address: u16, from: SocketAddrV4)
+        ensures { self.new ≡ heard_at (place_of address self.old.peers) (record { address = address; socket = from }) self.old }
+    {
+        match place_of(self.peers.as_slice(), address) {
+            Some(place) => self.heard[place] = Some(from),
+            None => {
+                self.stranger = Some(Peer {
+                    address,
+                    socket: from,
+                })
+            }
+        }
+    }
+
+    /// The UDP address from which this host was heard last: of one that is no peer, where none of those was heard since.
+    pub fn source_of(&self, address: u16) -> Option<SocketAddrV4>
+        ensures { result ≡ source_at address self.now }
+    {
+        match place_of(self.peers.as_slice(), address) {
+            Some(place) => self.heard[place],
+            None => match self.stranger {
+                Some(stranger) if stranger.address == address => Some(stranger.socket),
+                _ => None,
+            },
+        }
+    }
+}

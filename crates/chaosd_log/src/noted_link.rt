@@ -1,0 +1,39 @@
+//! A link of which note is taken.
+use crate::journal::Journal;
+use chaos_link::{LINK_ROOM, Link, Received, Sent};
+use std::time::Clock;
+
+/// A link that tells a journal to whom a datagram goes. It claims what the link behind it claims.
+#[derive(Drop)]
+pub struct NotedLink<'a, R, L> {
+    inner: L,
+    journal: &'a Journal<'a, R>,
+}
+
+impl<'a, R: Clock + Eprint, L> NotedLink<'a, R, L> {
+    pub fn new(inner: L, journal: &'a Journal<'a, R>) -> Self {
+        NotedLink { inner, journal }
+    }
+}
+
+impl<R: Clock + Eprint, L: Link> Link for NotedLink<'_, R, L> {
+    ghost count = { λ link. L.count link.inner };
+
+    ghost queue = { λ link. L.queue link.inner };
+
+    ghost addressed = { λ link. L.addressed link.inner };
+
+    fn send(&mut self, to_address: u16, bytes: &[u8]) -> Sent {
+        self.journal.answer(to_address);
+        self.inner.send(to_address, bytes)
+    }
+
+    fn receive(&mut self, buffer: &mut [u8; LINK_ROOM], may_wait: bool) -> Received {
+        self.journal.expire();
+        self.inner.receive(buffer, may_wait)
+    }
+
+    fn failures(&self) -> u64 {
+        self.inner.failures()
+    }
+}

@@ -1,0 +1,129 @@
+//! The store of a folder, of which note is taken.
+ghost use Rattle.std.specs.Prelude.{◌≡◌, ◌⊎◌, ◌≤◌, length, None};
+ghost use Rattle.chaos_packet.specs.Count.{Rose, with_failure};
+ghost use Rattle.chaos_file.specs.Store.{Gives};
+ghost use Rattle.chaosd_log.specs.Deed.{NotesGet, NotesPut, NotesRemove, NotesRename};
+
+use crate::deed::{Attempt, Deed, Path};
+use crate::notes::Notes;
+use chaos_file::{DirStore, Got, Removed, Renamed, Store, Stored};
+use std::alloc::Global;
+use std::fs::{File, Files};
+
+/// The store of a folder, of which note is taken: what each call did, and what the system said where one failed, which the reply
+/// to a command can't tell.
+#[derive(Drop)]
+pub struct NotedStore<'a, R: Files<File = File>, N> {
+    inner: DirStore<&'a R>,
+    notes: N,
+}
+
+impl<'a, R: Files<File = File>, N: Notes> NotedStore<'a, R, N> {
+    /// The store behind these notes.
+    pub fn new(inner: DirStore<&'a R>, notes: N) -> Self
+        ensures { N.noted result.notes ≡ N.noted notes }
+    {
+        NotedStore { inner, notes }
+    }
+
+    /// Tells what the system said of this.
+    fn fail(&mut self, attempt: Attempt)
+        ensures inner { self.new.inner ≡ self.old.inner }
+        ensures noted { N.noted self.new.notes ≡ N.noted self.old.notes }
+    {
+        if let Some(fault) = self.inner.take_fault() {
+            self.notes.fail(attempt, &fault);
+        }
+    }
+
+    /// Whether something has the path's name.
+    fn has(&mut self, alloc: Global, path: &[u8]) -> bool
+        ensures inner { (self.new.inner ≡ self.old.inner) ⊎ (self.new.inner ≡ with_failure self.old.inner) }
+        ensures notes { self.new.notes ≡ self.old.notes }
+    {
+        match self.inner.get(alloc, path, 0) {
+            Got::Absent | Got::NoMemory => false,
+            Got::Failed => true,
+            Got::Bytes(_) | Got::TooBig => true,
+        }
+    }
+}
+
+impl<R: Files<File = File>, N: Notes> Store for NotedStore<'_, R, N> {
+    // It claims no files, as the store of a folder does not.
+    ghost contents = { λ _. None };
+
+    ghost may_give = { λ _ _ _ _. Unit {0} };
+
+    ghost count = { λ s. s.inner };
+
+    fn get(&mut self, alloc: Global, path: &[u8], limit: usize) -> Got
+        ensures failed { result ≡ Got.Failed → Rose self.old.inner self.new.inner }
+        ensures limit { Gives (λ bytes. length bytes ≤ limit) result }
+        ensures gives { Gives (λ _. Unit {0}) result }
+        ensures files { Unit {0} }
+        ensures noted { NotesGet path.now result (N.noted self.old.notes) (N.noted self.new.notes) }
+    {
+        let got = self.inner.get(alloc, path, limit);
+        match &got {
+            Got::Bytes(bytes) => self
+                .notes
+                .note(Deed::Read(Path::new(path), bytes.as_slice().len())),
+            Got::Failed => self.fail(Attempt::Read(Path::new(path))),
+            Got::Absent | Got::TooBig | Got::NoMemory => {}
+        }
+        got
+    }
+
+    fn put(&mut self, alloc: Global, path: &[u8], bytes: &[u8]) -> Stored
+        ensures failed { result ≡ Stored.Failed → Rose self.old.inner self.new.inner }
+        ensures files { Unit {0} }
+        ensures noted { NotesPut path.now (length bytes.now) result (N.noted self.old.notes) (N.noted self.new.notes) }
+    {
+        let was_there = self.has(alloc, path);
+        let stored = self.inner.put(alloc, path, bytes);
+        match stored {
+            Stored::Done if was_there => self
+                .notes
+                .note(Deed::Replaced(Path::new(path), bytes.len())),
+            Stored::Done => self.notes.note(Deed::Wrote(Path::new(path), bytes.len())),
+            Stored::Failed => self.fail(Attempt::Write(Path::new(path))),
+            Stored::NoMemory => {}
+        }
+        stored
+    }
+
+    fn remove(&mut self, alloc: Global, path: &[u8]) -> Removed
+        ensures failed { result ≡ Removed.Failed → Rose self.old.inner self.new.inner }
+        ensures files { Unit {0} }
+        ensures noted { NotesRemove path.now result (N.noted self.old.notes) (N.noted self.new.notes) }
+    {
+        let removed = self.inner.remove(alloc, path);
+        match removed {
+            Removed::Done => self.notes.note(Deed::Deleted(Path::new(path))),
+            Removed::Failed => self.fail(Attempt::Delete(Path::new(path))),
+            Removed::Absent | Removed::NoMemory => {}
+        }
+        removed
+    }
+
+    fn rename(&mut self, alloc: Global, old: &[u8], new: &[u8]) -> Renamed
+        ensures failed { result ≡ Renamed.Failed → Rose self.old.inner self.new.inner }
+        ensures files { Unit {0} }
+        ensures noted { NotesRename old.now new.now result (N.noted self.old.notes) (N.noted self.new.notes) }
+    {
+        let renamed = self.inner.rename(alloc, old, new);
+        match renamed {
+            Renamed::Done => self
+                .notes
+                .note(Deed::Renamed(Path::new(old), Path::new(new))),
+            Renamed::Failed => self.fail(Attempt::Rename(Path::new(old), Path::new(new))),
+            Renamed::Absent | Renamed::Exists | Renamed::NoMemory => {}
+        }
+        renamed
+    }
+
+    fn failures(&self) -> u64 {
+        self.inner.failures()
+    }
+}

@@ -1,0 +1,104 @@
+//! A socket of which note is taken.
+ghost use Rattle.std.specs.Prelude.{◌≡◌, ◌≤◌, None, IfOk};
+ghost use Rattle.chaos_link.specs.declared.limits.TheConstants.{LINK_ROOM};
+ghost use Rattle.chaosd_log.specs.Source.{source_in};
+
+use crate::journal::Journal;
+use chaos_link::{DatagramSocket, LINK_ROOM, open_datagram};
+use std::io;
+use std::io::ErrorKind;
+use std::net::{SocketAddr, SocketAddrV4, UdpSocket};
+use std::time::{Clock, Duration};
+
+/// A socket that tells from where a datagram came.
+pub trait SourceSocket {
+    /// Receives a datagram into the front of the buffer, and says how many bytes it has there, and from where it came.
+    ///
+    /// # Errors
+    /// The socket's, also where nothing came.
+    fn receive_with_source(
+        &mut self,
+        buffer: &mut [u8; LINK_ROOM],
+    ) -> io::Result<(usize, SocketAddr)>
+        ensures { IfOk result (λ r. r.0 ≤ LINK_ROOM) };
+}
+
+impl SourceSocket for UdpSocket {
+    fn receive_with_source(
+        &mut self,
+        buffer: &mut [u8; LINK_ROOM],
+    ) -> io::Result<(usize, SocketAddr)> {
+        self.recv_from(buffer)
+    }
+}
+
+/// The Chaosnet address that the first packet of a datagram has as its source.
+pub fn source_of(bytes: &[u8]) -> Option<u16>
+    ensures { result ≡ source_in bytes.now }
+{
+    let Ok(mut packets) = open_datagram(bytes) else {
+        return None;
+    };
+    let packet = packets.next()?;
+    Some(packet.src)
+}
+
+/// A socket of which note is taken: from where each host was heard. Where that is asked for, a datagram that comes from no peer's UDP
+/// address is dropped, as if none had come.
+#[derive(Drop)]
+pub struct NotedSocket<'a, R, S> {
+    inner: S,
+    journal: &'a Journal<'a, R>,
+    is_closed: bool,
+}
+
+impl<'a, R: Clock + Eprint, S> NotedSocket<'a, R, S> {
+    /// This socket. Where it is closed, it hears peers' sockets alone.
+    pub fn new(inner: S, journal: &'a Journal<'a, R>, is_closed: bool) -> Self {
+        NotedSocket {
+            inner,
+            journal,
+            is_closed,
+        }
+    }
+
+    /// Whether a datagram from there is dropped.
+    fn drops(&self, from: SocketAddrV4) -> bool {
+        self.is_closed && !self.journal.is_known_at(from)
+    }
+
+    /// Takes note of a datagram from there.
+    fn note(&self, bytes: &[u8], from: SocketAddrV4) {
+        match source_of(bytes) {
+            Some(address) if address != 0 => self.journal.hear(address, from),
+            _ => {}
+        }
+    }
+}
+
+impl<R: Clock + Eprint, S: DatagramSocket + SourceSocket> DatagramSocket for NotedSocket<'_, R, S> {
+    ghost asked = { λ _. None };
+
+    fn send_datagram(&mut self, bytes: &[u8], to: SocketAddrV4) -> io::Result<()> {
+        self.inner.send_datagram(bytes, to)
+    }
+
+    fn receive_datagram(&mut self, buffer: &mut [u8; LINK_ROOM]) -> io::Result<usize> {
+        let (count, from) = self.inner.receive_with_source(buffer)?;
+        if let SocketAddr::V4(from) = from {
+            if self.drops(from) {
+                return Err(io::Error::from(ErrorKind::WouldBlock));
+            }
+            self.note(&buffer[..count], from);
+        }
+        Ok(count)
+    }
+
+    fn set_wait(&mut self, wait: Duration) -> io::Result<()> {
+        self.inner.set_wait(wait)
+    }
+
+    fn set_waits(&mut self, waits: bool) -> io::Result<()> {
+        self.inner.set_waits(waits)
+    }
+}

@@ -1,0 +1,51 @@
+//! What is wrong with a server's peers.
+ghost use Rattle.std.specs.Prelude.{◌≡◌, Some};
+ghost use Rattle.chaosd_log.specs.Warning.{WarnsOf};
+
+use chaos_link::Peer;
+use std::fmt;
+use std::fmt::{Display, Formatter};
+use std::net::SocketAddrV4;
+use thiserror::Error;
+
+/// Why a server can't answer somebody.
+#[derive(Clone, Copy, Debug, PartialEq, Eq, Error)]
+pub enum Warning {
+    /// It has no peer.
+    #[error("no PEER is given, so nobody is answered")]
+    NoPeers,
+    /// A peer has its Chaosnet address.
+    #[error("PEER {0:o} has this host's own Chaosnet address, so what is sent there comes back here")]
+    OwnAddress(u16),
+    /// A peer is at its UDP address.
+    #[error("PEER {0:o} is at this host's own UDP address, so it is never answered")]
+    OwnSocket(u16),
+}
+
+/// What is wrong with a peer of the host with this Chaosnet address at this UDP address.
+pub fn warning_of(peer: &Peer, address: u16, socket: SocketAddrV4) -> Option<Warning>
+    ensures { WarnsOf peer.now address socket result }
+{
+    if peer.address == address {
+        return Some(Warning::OwnAddress(address));
+    }
+    if peer.socket == socket {
+        return Some(Warning::OwnSocket(peer.address));
+    }
+    None
+}
+
+/// The peers as a command line has them, a space in front of each.
+#[derive(Drop)]
+pub(crate) struct Named<'a>(pub(crate) &'a [Peer]);
+
+impl Display for Named<'_> {
+    fn fmt<W: fmt::Write>(&self, f: &mut Formatter<W>) -> fmt::Result {
+        for (place, peer) in self.0.iter().enumerate() {
+            let front = if place == 0 { " to " } else { " " };
+            let Peer { address, socket } = *peer;
+            write!(f, "{front}{address:o}={socket}")?;
+        }
+        Ok(())
+    }
+}
