@@ -1,11 +1,7 @@
 //! The engine `loop`.
-ghost use Rattle.std.specs.Prelude.{◌≡◌, ◌<◌, ◌≤◌, ◌+◌, ◌-◌, ℕ, Err, length, take, IfOk, IfSome, OnOk};
-ghost use Rattle.std.specs.Io.KnownBytes.{IsAtEnd};
-ghost use Rattle.chaosd_io.specs.declared.limits.TheConstants.{INPUT_LIMIT};
-ghost use Rattle.chaosd_io.specs.Lines.{lines_of, ended_lines};
+ghost use Rattle.std.specs.Prelude.{◌≡◌, ◌<◌, ◌≤◌, ◌+◌, ℕ, Err, IfErr, IfOk, OnOk};
 ghost use Rattle.chaosd_file.specs.Conversation.{Converses, loop_pace};
-ghost use Rattle.chaosd_file.specs.Printed.{PrintsReplies, PrintsScript};
-ghost use Rattle.chaosd_file.specs.Script.{AreCommands, BeginWithCommands, IsFirstBad, lines_within, PrintsRepliesTo, RepliesRead};
+ghost use Rattle.chaosd_file.specs.Script.{Runs};
 ghost use Rattle.chaosd_file.specs.declared.limits.TheConstants.{LOOP_CLIENT, LOOP_SERVER, SCRIPT_WINDOW};
 ghost use Rattle.file_client.specs.Caller.{new_caller};
 ghost use Rattle.file_client.specs.Talk.{talker};
@@ -41,6 +37,26 @@ struct Both<'a, A: Link, B: Link> {
     buffer: [u8; LINK_ROOM],
     /// Whether the last turn of both brought nothing.
     is_idle: bool,
+}
+
+impl<'a, A: Link, B: Link> Both<'a, A, B> {
+    /// A server without files, and no turn was made yet.
+    fn new(alloc: Global, near: &'a mut A, far: &'a mut B) -> Result<Self, RunFault>
+        ensures faults { IfErr result (λ fault. fault ≡ RunFault.NoMemory) }
+        ensures near { IfOk result (λ turns. (turns.near.ghost_name ≡ near.entry.ghost_name) × (turns.near.now ≡ near.old)) }
+        ensures far { IfOk result (λ turns. (turns.far.ghost_name ≡ far.entry.ghost_name) × (turns.far.now ≡ far.old)) }
+    {
+        Ok(Both {
+            alloc,
+            near,
+            far,
+            server: Server::new(alloc, LOOP_SERVER, ConnConfig::usual())?,
+            store: MemStore::new(alloc),
+            turns: 0,
+            buffer: [0; LINK_ROOM],
+            is_idle: false,
+        })
+    }
 }
 
 impl<A: Link, B: Link> Turns for Both<'_, A, B> {
@@ -150,45 +166,17 @@ pub fn run_loop<R: Read, W: Write, A: Link, B: Link>(
     why: &mut Option<Why>,
     carriage: Carriage,
 ) -> Result<ScriptEnd, RunFault>
+    // Which lines were commands, what was printed, and how it ended.
+    ensures runs { Runs (R.remaining reader.old) (R.remaining reader.new) (W.contents writer.old) (W.contents writer.new) result }
+    // What its connection wrote are the commands of these lines, in order, and then an EOF, and what was printed are the data that it
+    // read, in order.
+    ensures talk { IfOk result (λ end. Converses loop_pace (talker (new_caller LOOP_CLIENT LOOP_SERVER SCRIPT_WINDOW carriage 0) (A.queue link_a.old)) (A.queue link_a.new) (R.remaining reader.old) (W.contents writer.old) (W.contents writer.new) end) }
     // It ends well only where the links' counts of failures, together, didn't rise.
     ensures well { OnOk result (A.count link_a.new + B.count link_b.new ≤ A.count link_a.old + B.count link_b.old) }
     // It ends by a LinkFault only where a link counted failures.
     ensures failed { result ≡ Err RunFault.LinkFault → 0 < A.count link_a.new + B.count link_b.new }
-    // As many commands were tried as were replied to, or one more, the last.
-    ensures counts { IfOk result (λ end. (end.replied ≤ end.commands) × (end.commands ≤ end.replied + 1)) }
-    // What was printed are that many replies, each on its line, and then `no reply` where the last command got none.
-    ensures text { IfOk result (λ end. PrintsScript end (W.contents writer.old) (W.contents writer.new)) }
-    // What its connection wrote are the commands of these lines, in order, and then an EOF, and what was printed are the data that it
-    // read, in order.
-    ensures talk { IfOk result (λ end. Converses loop_pace (talker (new_caller LOOP_CLIENT LOOP_SERVER SCRIPT_WINDOW carriage 0) (A.queue link_a.old)) (A.queue link_a.new) (R.remaining reader.old) (W.contents writer.old) (W.contents writer.new) end) }
-    // The commands are the first lines; where each got a reply they are all lines, and the input was read to its end.
-    ensures tried { IfOk result (λ end. IfSome (R.remaining reader.old) (λ input. BeginWithCommands end.commands (lines_within input))) }
-    ensures whole { IfOk result (λ end. end.replied ≡ end.commands
-        → IfSome (R.remaining reader.old) (λ input. (length input ≤ INPUT_LIMIT) × AreCommands end.commands (lines_of input))) }
-    ensures ended { IfOk result (λ end. end.replied ≡ end.commands → IsAtEnd (R.remaining reader.new)) }
-
-    // The line that is told is the first that stands for no command, and replies to those before it were printed.
-    ensures bad { (number : ℕ) → result ≡ Err (RunFault.BadScript number)
-        → IfSome (R.remaining reader.old) (λ input. IsFirstBad number (lines_within input)) × PrintsReplies (number - 1) (W.contents writer.old) (W.contents writer.new) }
-
-    // A script is refused as too long only where it is, and replies to the lines that ended within the limit were printed.
-    ensures too_long { result ≡ Err RunFault.InputTooLong → IfSome (R.remaining reader.old) (λ input.
-        (INPUT_LIMIT < length input) × PrintsRepliesTo (ended_lines (take INPUT_LIMIT input)) (W.contents writer.old) (W.contents writer.new)) }
-
-    // Where the reader failed, replies to the lines that ended in what it had given were printed, and no more.
-    ensures unread { result ≡ Err RunFault.ReadFault
-        → RepliesRead (R.remaining reader.old) (R.remaining reader.new) (W.contents writer.old) (W.contents writer.new) }
 {
-    let turns = Both {
-        alloc,
-        near: link_a,
-        far: link_b,
-        server: Server::new(alloc, LOOP_SERVER, ConnConfig::usual())?,
-        store: MemStore::new(alloc),
-        turns: 0,
-        buffer: [0; LINK_ROOM],
-        is_idle: false,
-    };
+    let turns = Both::new(alloc, link_a, link_b)?;
     let mut client = Client::new(
         alloc,
         turns,
