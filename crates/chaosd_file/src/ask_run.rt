@@ -53,7 +53,7 @@ pub fn run_ask<C: Dial, R: Read, W: Write, L: Link>(
     // It ends by a LinkFault only where the link counted failures.
     ensures failed { result ≡ Err RunFault.LinkFault → 0 < L.count link.new }
 {
-    let turns = Timed::new(clock, link)?;
-    let mut client = Client::new(alloc, turns, me, to, SCRIPT_WINDOW, carriage)?;
-    run_script(&mut client, reader, writer, why)
+    let mut turns = Timed::new(clock, link)?;
+    let mut client = Client::new(alloc, &turns, me, to, SCRIPT_WINDOW, carriage)?;
+    run_script(&mut client, &mut turns, reader, writer, why)
 }

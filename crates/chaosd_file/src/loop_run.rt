@@ -1,5 +1,5 @@
 //! The engine `loop`.
-ghost use Rattle.std.specs.Prelude.{◌≡◌, ◌<◌, ◌≤◌, ◌+◌, ℕ, Err, IfErr, IfOk, OnOk};
+ghost use Rattle.std.specs.Prelude.{◌≡◌, ◌<◌, ◌≤◌, ◌+◌, ℕ, Err, IfOk, OnOk};
 ghost use Rattle.chaosd_file.specs.Conversation.{Converses, loop_pace};
 ghost use Rattle.chaosd_file.specs.Script.{Runs};
 ghost use Rattle.chaosd_file.specs.declared.limits.TheConstants.{LOOP_CLIENT, LOOP_SERVER, SCRIPT_WINDOW};
@@ -30,33 +30,13 @@ struct Both<'a, A: Link, B: Link> {
     alloc: Global,
     near: &'a mut A,
     far: &'a mut B,
-    server: Server,
-    store: MemStore,
+    server: &'a mut Server,
+    store: &'a mut MemStore,
     turns: u64,
     /// Where the client receives datagrams.
     buffer: [u8; LINK_ROOM],
     /// Whether the last turn of both brought nothing.
     is_idle: bool,
-}
-
-impl<'a, A: Link, B: Link> Both<'a, A, B> {
-    /// A server without files, and no turn was made yet.
-    fn new(alloc: Global, near: &'a mut A, far: &'a mut B) -> Result<Self, RunFault>
-        ensures faults { IfErr result (λ fault. fault ≡ RunFault.NoMemory) }
-        ensures near { IfOk result (λ turns. (turns.near.ghost_name ≡ near.entry.ghost_name) × (turns.near.now ≡ near.old)) }
-        ensures far { IfOk result (λ turns. (turns.far.ghost_name ≡ far.entry.ghost_name) × (turns.far.now ≡ far.old)) }
-    {
-        Ok(Both {
-            alloc,
-            near,
-            far,
-            server: Server::new(alloc, LOOP_SERVER, ConnConfig::usual())?,
-            store: MemStore::new(alloc),
-            turns: 0,
-            buffer: [0; LINK_ROOM],
-            is_idle: false,
-        })
-    }
 }
 
 impl<A: Link, B: Link> Turns for Both<'_, A, B> {
@@ -121,7 +101,7 @@ impl<A: Link, B: Link> Turns for Both<'_, A, B> {
         );
         let served = self.server.turn(
             self.alloc,
-            &mut self.store,
+            self.store,
             self.far,
             LOOP_SERVER_START,
             now,
@@ -176,14 +156,25 @@ pub fn run_loop<R: Read, W: Write, A: Link, B: Link>(
     // It ends by a LinkFault only where a link counted failures.
     ensures failed { result ≡ Err RunFault.LinkFault → 0 < A.count link_a.new + B.count link_b.new }
 {
-    let turns = Both::new(alloc, link_a, link_b)?;
+    let mut server = Server::new(alloc, LOOP_SERVER, ConnConfig::usual())?;
+    let mut store = MemStore::new(alloc);
+    let mut turns = Both {
+        alloc,
+        near: link_a,
+        far: link_b,
+        server: &mut server,
+        store: &mut store,
+        turns: 0,
+        buffer: [0; LINK_ROOM],
+        is_idle: false,
+    };
     let mut client = Client::new(
         alloc,
-        turns,
+        &turns,
         LOOP_CLIENT,
         LOOP_SERVER,
         SCRIPT_WINDOW,
         carriage,
     )?;
-    run_script(&mut client, reader, writer, why)
+    run_script(&mut client, &mut turns, reader, writer, why)
 }

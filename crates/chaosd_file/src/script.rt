@@ -19,23 +19,24 @@ use std::io::{Read, Write};
 /// is taken after those. The first fault is the answer. Replies wait until the reader is asked for more, or to the end: somebody who
 /// types sees each at once, and a script that is there takes a call of the writer for many. What is wrong with a bad line, and why no reply came, is left in `why`.
 pub fn run_script<T: Turns, R: Read, W: Write>(
-    client: &mut Client<T>,
+    client: &mut Client,
+    turns: &mut T,
     reader: &mut R,
     writer: &mut W,
     why: &mut Option<Why>,
 ) -> Result<ScriptEnd, RunFault>
     ensures runs { Runs (R.remaining reader.old) (R.remaining reader.new) (W.contents writer.old) (W.contents writer.new) result }
-    ensures same_turns { (T.links client.new.turns ≡ T.links client.old.turns) × (T.time client.new.turns ≡ T.time client.old.turns) }
-    ensures failed { result ≡ Err RunFault.LinkFault → 0 < T.failures client.new.turns }
-    ensures well { OnOk result (T.failures client.new.turns ≤ T.failures client.old.turns) }
-    ensures talk { IfOk result (λ end. Converses (T.pace (T.time client.old.turns)) (talker client.old.caller (T.queue client.old.turns)) (T.queue client.new.turns) (R.remaining reader.old) (W.contents writer.old) (W.contents writer.new) end) }
+    ensures same_turns { (T.links turns.new ≡ T.links turns.old) × (T.time turns.new ≡ T.time turns.old) }
+    ensures failed { result ≡ Err RunFault.LinkFault → 0 < T.failures turns.new }
+    ensures well { OnOk result (T.failures turns.new ≤ T.failures turns.old) }
+    ensures talk { IfOk result (λ end. Converses (T.pace (T.time turns.old)) (talker client.old.caller (T.queue turns.old)) (T.queue turns.new) (R.remaining reader.old) (W.contents writer.old) (W.contents writer.new) end) }
 {
-    let end = ask_all(client, reader, writer, why);
+    let end = ask_all(client, turns, reader, writer, why);
     match end {
-        Ok(_) => client.hang_up()?,
+        Ok(_) => client.hang_up(turns)?,
         Err(RunFault::LinkFault | RunFault::ClockFault) => {}
         Err(_) => {
-            let _later = client.hang_up();
+            let _later = client.hang_up(turns);
         }
     }
     end
@@ -44,16 +45,17 @@ pub fn run_script<T: Turns, R: Read, W: Write>(
 /// Asks each command in turn and prints its reply, until one gets none. Behind the last an EOF is sent. What waits to be printed is
 /// handed on however that ends.
 fn ask_all<T: Turns, R: Read, W: Write>(
-    client: &mut Client<T>,
+    client: &mut Client,
+    turns: &mut T,
     reader: &mut R,
     writer: &mut W,
     why: &mut Option<Why>,
 ) -> Result<ScriptEnd, RunFault>
     ensures runs { Runs (R.remaining reader.old) (R.remaining reader.new) (W.contents writer.old) (W.contents writer.new) result }
-    ensures same_turns { (T.links client.new.turns ≡ T.links client.old.turns) × (T.time client.new.turns ≡ T.time client.old.turns) }
-    ensures failed { result ≡ Err RunFault.LinkFault → 0 < T.failures client.new.turns }
-    ensures well { OnOk result (T.failures client.new.turns ≤ T.failures client.old.turns) }
-    ensures talk { IfOk result (λ end. AsksAll (T.pace (T.time client.old.turns)) (talker client.old.caller (T.queue client.old.turns)) (talker client.new.caller (T.queue client.new.turns)) (R.remaining reader.old) (W.contents writer.old) (W.contents writer.new) end) }
+    ensures same_turns { (T.links turns.new ≡ T.links turns.old) × (T.time turns.new ≡ T.time turns.old) }
+    ensures failed { result ≡ Err RunFault.LinkFault → 0 < T.failures turns.new }
+    ensures well { OnOk result (T.failures turns.new ≤ T.failures turns.old) }
+    ensures talk { IfOk result (λ end. AsksAll (T.pace (T.time turns.old)) (talker client.old.caller (T.queue turns.old)) (talker client.new.caller (T.queue turns.new)) (R.remaining reader.old) (W.contents writer.old) (W.contents writer.new) end) }
 {
     let mut out = WriteBuffer::new();
     let mut places = Places {
@@ -61,7 +63,7 @@ fn ask_all<T: Turns, R: Read, W: Write>(
         reply: Data::new(),
         why: None,
     };
-    let end = ask_lines(client, reader, &mut places, &mut out, writer);
+    let end = ask_lines(client, turns, reader, &mut places, &mut out, writer);
     *why = places.why.take();
     if let Err(RunFault::LinkFault | RunFault::ClockFault) = end {
         let _later = hand_on(&mut out, writer);
@@ -73,17 +75,18 @@ fn ask_all<T: Turns, R: Read, W: Write>(
 
 /// Asks each command in turn, and puts its reply behind what waits to be printed, which is handed on before each read.
 fn ask_lines<T: Turns, R: Read, W: Write>(
-    client: &mut Client<T>,
+    client: &mut Client,
+    turns: &mut T,
     reader: &mut R,
     places: &mut Places,
     out: &mut WriteBuffer,
     writer: &mut W,
 ) -> Result<ScriptEnd, RunFault>
     ensures runs { Runs (R.remaining reader.old) (R.remaining reader.new) (written_of (W.contents writer.old) out.old) (written_of (W.contents writer.new) out.new) result }
-    ensures same_turns { (T.links client.new.turns ≡ T.links client.old.turns) × (T.time client.new.turns ≡ T.time client.old.turns) }
-    ensures failed { result ≡ Err RunFault.LinkFault → 0 < T.failures client.new.turns }
-    ensures well { OnOk result (T.failures client.new.turns ≤ T.failures client.old.turns) }
-    ensures talk { IfOk result (λ end. AsksAll (T.pace (T.time client.old.turns)) (talker client.old.caller (T.queue client.old.turns)) (talker client.new.caller (T.queue client.new.turns)) (R.remaining reader.old)
+    ensures same_turns { (T.links turns.new ≡ T.links turns.old) × (T.time turns.new ≡ T.time turns.old) }
+    ensures failed { result ≡ Err RunFault.LinkFault → 0 < T.failures turns.new }
+    ensures well { OnOk result (T.failures turns.new ≤ T.failures turns.old) }
+    ensures talk { IfOk result (λ end. AsksAll (T.pace (T.time turns.old)) (talker client.old.caller (T.queue turns.old)) (talker client.new.caller (T.queue turns.new)) (R.remaining reader.old)
         (written_of (W.contents writer.old) out.old) (written_of (W.contents writer.new) out.new) end) }
 {
     let mut lines: LineReader<KEPT_LEN> = LineReader::new(INPUT_LIMIT);
@@ -91,7 +94,7 @@ fn ask_lines<T: Turns, R: Read, W: Write>(
     'reads: loop {
         'lines: while lines.cut() {
             let line = lines.line();
-            if !ask_line(client, line, replied, places, out, writer)? {
+            if !ask_line(client, turns, line, replied, places, out, writer)? {
                 return Ok(ScriptEnd {
                     commands: replied + 1,
                     replied,
@@ -105,7 +108,7 @@ fn ask_lines<T: Turns, R: Read, W: Write>(
         }
     }
     if let Some(line) = lines.last() {
-        if !ask_line(client, line, replied, places, out, writer)? {
+        if !ask_line(client, turns, line, replied, places, out, writer)? {
             return Ok(ScriptEnd {
                 commands: replied + 1,
                 replied,
@@ -113,7 +116,7 @@ fn ask_lines<T: Turns, R: Read, W: Write>(
         }
         replied += 1;
     }
-    client.end()?;
+    client.end(turns)?;
     Ok(ScriptEnd {
         commands: replied,
         replied,
@@ -122,7 +125,8 @@ fn ask_lines<T: Turns, R: Read, W: Write>(
 
 /// Asks the command that a line stands for and prints its reply, and says whether it got one.
 fn ask_line<T: Turns, W: Write>(
-    client: &mut Client<T>,
+    client: &mut Client,
+    turns: &mut T,
     line: &[u8],
     replied: u64,
     places: &mut Places,
@@ -130,17 +134,17 @@ fn ask_line<T: Turns, W: Write>(
     writer: &mut W,
 ) -> Result<bool, RunFault>
     requires few { replied ≤ INPUT_LIMIT }
-    ensures asks { AsksLine (T.pace (T.time client.old.turns)) (talker client.old.caller (T.queue client.old.turns)) (talker client.new.caller (T.queue client.new.turns)) replied line.now
+    ensures asks { AsksLine (T.pace (T.time turns.old)) (talker client.old.caller (T.queue turns.old)) (talker client.new.caller (T.queue turns.new)) replied line.now
         (written_of (W.contents writer.old) out.old) (written_of (W.contents writer.new) out.new) result }
-    ensures same_turns { (T.links client.new.turns ≡ T.links client.old.turns) × (T.time client.new.turns ≡ T.time client.old.turns) }
-    ensures failed { result ≡ Err RunFault.LinkFault → 0 < T.failures client.new.turns }
-    ensures well { OnOk result (T.failures client.new.turns ≤ T.failures client.old.turns) }
+    ensures same_turns { (T.links turns.new ≡ T.links turns.old) × (T.time turns.new ≡ T.time turns.old) }
+    ensures failed { result ≡ Err RunFault.LinkFault → 0 < T.failures turns.new }
+    ensures well { OnOk result (T.failures turns.new ≤ T.failures turns.old) }
 {
     let Some(()) = read_command(line, &mut places.command) else {
         places.why = Some(Why::BadLine(bad_line(line)));
         return Err(RunFault::BadScript(replied + 1));
     };
-    if !client.ask(places.command.as_slice(), &mut places.reply)? {
+    if !client.ask(turns, places.command.as_slice(), &mut places.reply)? {
         places.why = Some(Why::NoReply(client.no_reply()));
         print_none(out, writer)?;
         return Ok(false);

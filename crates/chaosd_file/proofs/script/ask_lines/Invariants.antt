@@ -10,11 +10,11 @@ use Rattle.chaosd_file.proofs.script.ask_lines.Given as goal
 abbrev pub invariant-lines : goal.invariant-lines
 invariant-lines g l = record {
   few : l.replied + left_of l.lines ≤ INPUT_LIMIT;
-  same_links : g.T.Turns.links l.client.turns ≡ g.T.Turns.links l.fn.client.turns;
-  same_time : g.T.Turns.time l.client.turns ≡ g.T.Turns.time l.fn.client.turns;
+  same_links : g.T.Turns.links l.turns ≡ g.T.Turns.links l.fn.turns;
+  same_time : g.T.Turns.time l.turns ≡ g.T.Turns.time l.fn.turns;
   room : l.lines.room ≡ l.initial.lines.room;
-  well : g.T.Turns.failures l.client.turns ≤ g.T.Turns.failures l.fn.client.turns;
-  asked : AskedGiven (g.T.Turns.pace (g.T.Turns.time l.fn.client.turns)) (talker l.fn.client.caller (g.T.Turns.queue l.fn.client.turns)) (talker l.client.caller (g.T.Turns.queue l.client.turns)) (g.R.Read.remaining l.fn.reader) (g.R.Read.remaining l.reader) (written_of (g.W.Write.contents l.fn.writer) l.fn.out) (written_of (g.W.Write.contents l.writer) l.out) l.replied l.lines;
+  well : g.T.Turns.failures l.turns ≤ g.T.Turns.failures l.fn.turns;
+  asked : AskedGiven (g.T.Turns.pace (g.T.Turns.time l.fn.turns)) (talker l.fn.client.caller (g.T.Turns.queue l.fn.turns)) (talker l.client.caller (g.T.Turns.queue l.turns)) (g.R.Read.remaining l.fn.reader) (g.R.Read.remaining l.reader) (written_of (g.W.Write.contents l.fn.writer) l.fn.out) (written_of (g.W.Write.contents l.writer) l.out) l.replied l.lines;
 }
 
 -- fewer bytes wait
@@ -25,10 +25,10 @@ decreases-lines g l = length l.lines.waiting
 abbrev pub invariant-reads : goal.invariant-reads
 invariant-reads g l = record {
   few : l.replied + left_of l.lines ≤ INPUT_LIMIT;
-  same_links : g.T.Turns.links l.client.turns ≡ g.T.Turns.links l.fn.client.turns;
-  same_time : g.T.Turns.time l.client.turns ≡ g.T.Turns.time l.fn.client.turns;
-  well : g.T.Turns.failures l.client.turns ≤ g.T.Turns.failures l.fn.client.turns;
-  asked : AskedGiven (g.T.Turns.pace (g.T.Turns.time l.fn.client.turns)) (talker l.fn.client.caller (g.T.Turns.queue l.fn.client.turns)) (talker l.client.caller (g.T.Turns.queue l.client.turns)) (g.R.Read.remaining l.fn.reader) (g.R.Read.remaining l.reader) (written_of (g.W.Write.contents l.fn.writer) l.fn.out) (written_of (g.W.Write.contents l.writer) l.out) l.replied l.lines;
+  same_links : g.T.Turns.links l.turns ≡ g.T.Turns.links l.fn.turns;
+  same_time : g.T.Turns.time l.turns ≡ g.T.Turns.time l.fn.turns;
+  well : g.T.Turns.failures l.turns ≤ g.T.Turns.failures l.fn.turns;
+  asked : AskedGiven (g.T.Turns.pace (g.T.Turns.time l.fn.turns)) (talker l.fn.client.caller (g.T.Turns.queue l.fn.turns)) (talker l.client.caller (g.T.Turns.queue l.turns)) (g.R.Read.remaining l.fn.reader) (g.R.Read.remaining l.reader) (written_of (g.W.Write.contents l.fn.writer) l.fn.out) (written_of (g.W.Write.contents l.writer) l.out) l.replied l.lines;
 }
 
 -- fewer bytes may come

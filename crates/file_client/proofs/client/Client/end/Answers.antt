@@ -5,7 +5,7 @@ use Rattle.file_client.proofs.client.Client.end.Goals as goal
 
 pub loop-turn-preserved : goal.loop-turn-preserved
 loop-turn-preserved g c =
-    let pace = g.T.Turns.pace (g.T.Turns.time c.args.self.now.turns) in
+    let pace = g.T.Turns.pace (g.T.Turns.time c.args.turns.now) in
     record {
       shown = rw c.loop-turn.invariant.same_time at c.in_ok-is_written.ensures.moment;
       same_links = c.in_ok-is_written.ensures.same_turns.0 ∙ c.loop-turn.invariant.same_links;
@@ -15,4 +15,4 @@ loop-turn-preserved g c =
     }
 
 pub returns-then-not-has_connection-clause-talk : goal.returns-then-not-has_connection-clause-talk
-returns-then-not-has_connection-clause-talk g c = farewell_none _ c.args.self.now.caller (g.T.Turns.queue c.args.self.now.turns) (sym c.has_connection.ensures ∙ c.if-not-has_connection.true)
+returns-then-not-has_connection-clause-talk g c = farewell_none _ c.args.self.now.caller (g.T.Turns.queue c.args.turns.now) (sym c.has_connection.ensures ∙ c.if-not-has_connection.true)

@@ -1,6 +1,0 @@
-use Rattle.file_client.proofs.talk.ClientTalk.turn.Goals as goal
-
-pub returns-clause-well : goal.returns-clause-well
-returns-clause-well g c =
-    let again = rw (c.look.ensures.same.0, c.look.ensures.same.1) at c.ask_again.ensures.again in
-    rw (c.pass.ensures.same_now.0, c.ask_again.ensures.same.1) (rw (again, c.ask_again.ensures.same.1, c.ask_again.ensures.same.0, c.look.ensures.same.1) at c.pass.ensures.well)
