@@ -28,7 +28,7 @@ class Lines(Case):
             ("a path with a dot in front", ["get", *line, ".A"]),
             ("one path twice", ["get", *line, "A", "A"]),
             ("two locals of one name", ["put", *line, "a/X", "b/X"]),
-            ("a local that is no path", ["put", *line, "a b"]),
+            ("two locals of one name when they are renamed", ["put", "--rename", *line, "a+b", "a_b"]),
             ("an output for two files", ["get", "--output", "X", *line, "A", "B"]),
             ("a name for two files", ["put", "--as", "X", *line, "A", "B"]),
             ("standard input without a name", ["put", *line, "-"]),
@@ -170,12 +170,12 @@ class Streams(Case):
             self.check("get --text", problems + stored_problems(here / "T", text))
             (here / "U").write_bytes("č\n".encode())
             ended = copied(server, "put", "U", options=["--text"], cwd=here)
-            problems = ended.problems(REFUSED, b"", b"chaosd: U has a byte 8D, which --text would not give back; leave --text out\n")
+            problems = ended.problems(REFUSED, b"", b"chaosd: U has a byte 8D at line 1, byte 2, which --text would not give back; leave --text out\n")
             problems += ["it was put"] if (server.folder / "U").exists() else []
             self.check("put --text of a text with a byte that would not come back", problems)
             (server.folder / "V").write_bytes(b"a\nb")
             ended = copied(server, "get", "V", options=["--text"], cwd=here)
-            problems = ended.problems(REFUSED, b"", b"chaosd: V has a byte 0A, which --text would not give back; leave --text out\n")
+            problems = ended.problems(REFUSED, b"", b"chaosd: V has a byte 0A at line 1, byte 2, which --text would not give back; leave --text out\n")
             problems += ["it was written"] if (here / "V").exists() else []
             self.check("get --text likewise", problems)
 

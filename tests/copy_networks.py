@@ -24,13 +24,16 @@ class Nobody(Case):
 
     seconds = 11
 
-    def test_get_of_nobody_is_told_after_ten_seconds(self):
-        with folder() as here:
+    def test_get_of_a_host_that_says_nothing_is_told_after_ten_seconds(self):
+        server = Absent()
+        with folder() as here, socket.socket(socket.AF_INET, socket.SOCK_DGRAM) as silent:
+            silent.bind(("127.0.0.1", server.port))
             begun = time.monotonic()
-            ended = copied(Absent(), "get", "A", "B", cwd=here)
-            problems = told_problems(ended, rb"chaosd: A: no connection opened in \d{5} ms\nchaosd: B: not tried\n")
+            ended = copied(server, "get", "A", "B", cwd=here)
+            hint = rb"does a server run at 127\.0\.0\.1:\d+, and does it have 402=127\.0\.0\.1:\d+ as a PEER\?"
+            problems = told_problems(ended, rb"chaosd: A: no connection opened in \d{5} ms: " + hint + rb"\nchaosd: B: not tried\n")
             problems += [] if 9 < time.monotonic() - begun else ["it did not wait ten seconds"]
-            self.check("get of nobody: told after ten seconds, the next is not tried", problems)
+            self.check("get of a host that says nothing: told after ten seconds, the next is not tried", problems)
 
     def test_why_a_server_refuses_the_connection_is_told(self):
         server = Absent()

@@ -25,13 +25,18 @@ CARRIAGE_FORM = "1 or 2"
 WINDOW_FORM = "a decimal number without leading zeros, from 1 to 64"
 LOGIN_FORM = "1 to 16 letters and digits"
 PATH_FORM = "(1 to 64 letters, digits, dots, hyphens and underscores, no dot in front)"
+ONE_PATH_FORM = f"a path of FILE {PATH_FORM}"
 PATHS_FORM = f"paths of FILE {PATH_FORM}, each once"
 AS_FORM = f"a path of FILE {PATH_FORM}, and one LOCAL alone"
-LOCALS_FORM = "files whose last names are paths of FILE, each once; name one by --as"
+LOCALS_FORM = "a name for standard input, by --as"
+CLASH_FORM = "a path for each file, but '%s' goes under the same; name one by --as"
+OTHER_FORM = "another Chaosnet address than this host's own"
+TIMEOUT_FORM = "a decimal number without leading zeros, from 1 to 3600"
 OUTPUT_FORM = "one PATH alone"
 
 BAD_CARRIAGES = ["", "0", "3", "01", "02", "+1", "1 ", " 2", "one", "12"]
 BAD_WINDOWS = ["", "0", "00", "01", "65", "+1", "x", "1x", " 1", "1.5", "0x1", "65536", "65600"]
+BAD_TIMEOUTS = ["", "0", "01", "3601", "+1", "x", "1.5", "65536", "65546"]
 BAD_LOGINS = ["", "A.B", "A B", "ABCDEFGHIJKLMNOPQ", "č"]
 BAD_PATHS = ["", ".", ".A", "..", "A/B", "/A", "A B", "A*", "č", "A" * 65]
 
@@ -46,11 +51,16 @@ HELP = {
         "  ask      A FILE script from standard input, put to another host, to its replies\n",
         "  get      Files of another host, into local files of their names\n",
         "  put      Local files, to another host under their names\n",
+        "  delete   Files of another host, deleted\n",
+        "  rename   A file of another host, renamed\n",
         "  0  done, or help or the version was shown\n",
         "  3  something was refused, or no reply came\n",
         "  -V, --version  Print version\n",
     ],
-    "help show": ["Usage: chaosd show\n"],
+    "help show": [
+        "Usage: chaosd show [OPTIONS]\n",
+        "--file  Also what the data say as text, and in a packet of FILE the command or reply\n",
+    ],
     "help lab": ["Usage: chaosd lab\n"],
     "help filelab": ["Usage: chaosd filelab\n"],
     "help loop": ["Usage: chaosd loop [OPTIONS]\n"],
@@ -71,21 +81,31 @@ HELP = {
         "--read-only     No file changes: what would write one is a store fault\n",
         "  chaosd serve 401 127.0.0.1:9001 files 402=127.0.0.1:9002\n",
     ],
-    "ask --help": ["  <TO>       Chaosnet address of the host to ask, in the form of ADDRESS\n"],
+    "ask --help": [
+        "--timeout <SECONDS>  Seconds that a reply is waited for, 1 to 3600, in place of 10 to 17\n",
+        "--strict             The first reply that is an ERROR ends the run, with status 3\n",
+        "  <TO>       Chaosnet address of the host to ask, in the form of ADDRESS\n",
+    ],
     "loop --help": [
         "--carriage <N>  Version of the datagrams that packets are sent in: 1 has one packet, 2 has several [default: 1]\n",
     ],
     "get --help": [
         "  <SERVER>   Host that has or takes the files, as ADDRESS=UDP in the forms above\n",
         "  <PATH>...  Server's files: 1 to 64 letters, digits, dots, hyphens and underscores, no dot in front\n",
-        "--login <NAME>    User's name: 1 to 16 letters and digits [default: CHAOSD]\n",
-        "--window <N>      Commands in flight, 1 to 64, as far as the server's own window allows [default: 64]\n",
-        "--output <LOCAL>  Local file of the one path; - is standard output\n",
+        "--login <NAME>       User's name: 1 to 16 letters and digits [default: CHAOSD]\n",
+        "--window <N>         Commands in flight, 1 to 64, as far as the server's own window allows [default: 64]\n",
+        "--output <LOCAL>     Local file of the one path; - is standard output\n",
+        "--text               A text of ASCII or the Lisp machine's set: newline, tab, backspace and page are 8D, 89, 88 and 8C ",
+        "--verbose            Tells of each file, also where standard error is no terminal, and how the server is called\n",
     ],
     "put --help": [
-        "  <LOCAL>...  Local files; - is standard input, and wants --as\n",
-        "--as <PATH>     Path of the one local file at the server\n",
+        "  <LOCAL>...  Local files, each put under its last name where that is a PATH of get, else skipped and told; ",
+        "- is standard input, and wants --as\n",
+        "--rename             A name that is no PATH is put with _ for each byte that none has, and for a dot in front\n",
+        "--as <PATH>          Path of the one local file at the server\n",
     ],
+    "delete --help": ["  chaosd delete 402 127.0.0.1:9002 401=127.0.0.1:9001 A.LISP B.LISP\n"],
+    "rename --help": ["Usage: chaosd rename [OPTIONS] <ADDRESS> <UDP> <SERVER> <OLD> <NEW>\n"],
     "ask nonsense -h": ["Usage: chaosd ask"],
     "--version": ["chaosd 0.1.0\n"],
     "-V": ["chaosd 0.1.0\n"],
@@ -156,11 +176,34 @@ class Line(Case):
             is_told(self, ["put", "--as", text, *ADDRESSES, "A"], text, "--as", AS_FORM)
         is_told(self, ["get", *ADDRESSES, "B", "A", "C", "A"], "A", "PATH", PATHS_FORM)
         is_told(self, ["get", "--output", "x", *ADDRESSES, "A", "B"], "x", "--output", OUTPUT_FORM)
-        for text in ["", "-", "a b", "d/", "d/.A", "d/a b", "d/" + "A" * 65]:
-            is_told(self, ["put", *ADDRESSES, text], text, "LOCAL", LOCALS_FORM)
-            is_told(self, ["put", *ADDRESSES, "A", text, "B"], text, "LOCAL", LOCALS_FORM)
-        is_told(self, ["put", *ADDRESSES, "a/Y", "a/X", "b/X"], "a/X", "LOCAL", LOCALS_FORM)
+        is_told(self, ["put", *ADDRESSES, "-"], "-", "LOCAL", LOCALS_FORM)
+        is_told(self, ["put", "--rename", *ADDRESSES, "A", "-", "B"], "-", "LOCAL", LOCALS_FORM)
         is_told(self, ["put", "--as", "X", *ADDRESSES, "A", "B"], "X", "--as", AS_FORM)
+
+    def test_of_two_files_that_go_under_one_path_the_later_is_named_and_the_other_told(self):
+        is_told(self, ["put", *ADDRESSES, "a/Y", "a/X", "b c", "b/X"], "b/X", "LOCAL", CLASH_FORM % "a/X")
+        is_told(self, ["put", *ADDRESSES, "sub/inner.txt", "inner.txt"], "inner.txt", "LOCAL", CLASH_FORM % "sub/inner.txt")
+        for first, second in [("a+b", "a_b"), ("a_b", "d/a b"), (".A", "_A"), ("č", "__")]:
+            is_told(self, ["put", "--rename", *ADDRESSES, "A", first, second], second, "LOCAL", CLASH_FORM % first)
+
+    def test_the_own_address_is_not_the_servers(self):
+        for address in ["401", "000401"]:
+            server = f"{address}=127.0.0.1:9001"
+            for words in [["get", "A"], ["put", "A"], ["delete", "A"], ["rename", "A", "B"]]:
+                is_told(self, [words[0], "401", "127.0.0.1:9002", server, *words[1:]], server, "SERVER", OTHER_FORM)
+            is_told(self, ["ask", "401", "127.0.0.1:9002", address, server], address, "TO", OTHER_FORM)
+
+    def test_a_timeout_is_so_many_seconds(self):
+        for text in BAD_TIMEOUTS:
+            for words in [["get", *ADDRESSES, "A"], ["put", *ADDRESSES, "A"], ["ask", "402", "127.0.0.1:1", "401"]]:
+                is_told(self, [words[0], "--timeout", text, *words[1:]], text, "--timeout", TIMEOUT_FORM)
+
+    def test_paths_of_delete_and_rename_are_paths_of_file(self):
+        for text in BAD_PATHS:
+            is_told(self, ["delete", *ADDRESSES, "A", text], text, "PATH", PATHS_FORM)
+            is_told(self, ["rename", *ADDRESSES, text, "A"], text, "OLD", ONE_PATH_FORM)
+            is_told(self, ["rename", *ADDRESSES, "A", text], text, "NEW", ONE_PATH_FORM)
+        is_told(self, ["delete", *ADDRESSES, "B", "A", "A"], "A", "PATH", PATHS_FORM)
 
     def test_a_carriage_is_1_or_2(self):
         """Likewise the carriage, of each command that has one."""

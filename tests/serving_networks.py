@@ -28,7 +28,7 @@ class Nobody(Case):
     def test_ask_of_a_peer_that_is_not_there_ends_after_its_turns(self):
         own, nobody = free_ports(2)
         ended = asked(["ask", "402", at(own), "401", f"401={at(nobody)}"], FILE_SCRIPT)
-        problems = ended.problems(REFUSED, NO_REPLY, [b"no connection opened in ", b" ms"])
+        problems = ended.problems(REFUSED, NO_REPLY, b"chaosd: no server listens at %s\n" % at(nobody).encode())
         self.check("ask to a peer that isn't there: `no reply` once, status 3, and why on standard error", problems)
 
 

@@ -281,11 +281,12 @@ class Relay(threading.Thread):
         self.other = {ends[0]: ends[1], ends[1]: ends[0]}
 
     def run(self):
-        with contextlib.suppress(OSError, KeyError):
+        with contextlib.suppress(OSError):
             while True:
                 datagram, (_, port) = self.socket.recvfrom(2_048)
-                for each, to in self.passed(datagram, self.other[port]):
-                    self.socket.sendto(each, ("127.0.0.1", to))
+                if port in self.other:
+                    for each, to in self.passed(datagram, self.other[port]):
+                        self.socket.sendto(each, ("127.0.0.1", to))
 
     def passed(self, datagram, port):
         """The datagrams that are handed on now that this came for a port, and each one's port."""

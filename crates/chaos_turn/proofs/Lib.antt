@@ -1,10 +1,8 @@
 pub mod Halves
 pub mod Loaded
-pub mod Passed
 pub mod Phase
 pub mod Queue
 pub mod Readback
 pub mod Receipt
-pub mod Relation
 pub mod Several
 pub mod Whole

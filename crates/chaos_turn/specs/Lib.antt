@@ -4,9 +4,6 @@ pub mod End
 pub mod Halves
 pub mod Link
 pub mod Phase
-pub mod Serve
-pub mod Sessions
 pub mod Slots
 pub mod Station
 pub mod Turn
-pub mod Waiting

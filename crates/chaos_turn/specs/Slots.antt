@@ -1,41 +1,9 @@
--- What a turn does in one slot, beside serving it.
-use Rattle.std.specs.Prelude.{ℕ, Bool, false, ◌&&◌, if◌then◌else◌, List, [], length, Option, Some, None}
-use Rattle.chaos_conn.specs.Act.{Close}
-use Rattle.chaos_conn.specs.Calls.{is_drained}
-use Rattle.chaos_host.specs.declared.slot.Slot.{Slot}
-use Rattle.chaos_host.specs.Slot.{named_slot}
-use Rattle.chaos_host.specs.Calls.{host_end, host_release}
+-- What a turn does in one slot.
+use Rattle.std.specs.Prelude.{ℕ}
 use Rattle.chaos_host.specs.Tick.{host_tick}
-use Rattle.chaos_host.specs.View.{HostView, id_at}
-use Rattle.chaos_turn.specs.Phase.{Effect, no_effect_on, effect_of, and_then, over_slots}
-use Rattle.chaos_turn.specs.Sessions.{Serving, serving_at}
-
--- the EOF was served, and the peer read all
-abbrev pub is_over : Bool → Option Slot → Bool
-is_over eof None = false
-is_over eof (Some slot) = eof && is_drained slot.conn
-
--- such a connection is closed with an empty text
-abbrev pub close_by : Bool → HostView → Option ℕ → Effect
-close_by eof h None = no_effect_on h
-close_by eof h (Some id) = if is_over eof (named_slot h.slots id) then effect_of (host_end h id (Close [])) else no_effect_on h
-
-abbrev pub close_at : List Serving → ℕ → HostView → Effect
-close_at sessions place h = close_by (serving_at sessions place).eof h (id_at h place)
-
--- an ended connection is released
-abbrev pub release_by : HostView → Option ℕ → Effect
-release_by h None = no_effect_on h
-release_by h (Some id) = effect_of (host_release h id)
-
-abbrev pub release_at : ℕ → HostView → Effect
-release_at place h = release_by h (id_at h place)
+use Rattle.chaos_host.specs.View.{HostView}
+use Rattle.chaos_turn.specs.Phase.{Effect, effect_of}
 
 -- the connection in a slot does what is due
 abbrev pub tick_at : ℕ → ℕ → HostView → Effect
 tick_at now place h = effect_of (host_tick h place now)
-
--- ---- the last phases of a turn, each over all slots
-
-abbrev pub end_phases : List Serving → ℕ → HostView → Effect
-end_phases sessions now h = and_then (and_then (over_slots (close_at sessions) (length h.slots) h) (over_slots release_at (length h.slots))) (over_slots (tick_at now) (length h.slots))

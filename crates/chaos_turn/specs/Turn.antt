@@ -1,34 +1,19 @@
--- One turn of a server: what came is taken, then each slot is served, closed, released and ticked. One turn of a client: what
--- came is taken, then each slot is ticked.
-use Rattle.std.specs.Prelude.{◌≡◌, ℕ, Bool, true, if◌then◌else◌, List, ◌∷◌, ◌++◌, length, Option, Some, IfSome, is_some}
+-- One turn over a link. One of a host that serves nothing: what came is taken, then each slot is ticked.
+use Rattle.std.specs.Prelude.{◌≡◌, ℕ, Bool, true, if◌then◌else◌, List, ◌∷◌, length, Option, Some, IfSome, is_some}
 use Rattle.chaos_packet.specs.Packet.{PacketView}
-use Rattle.chaos_file.specs.Store.{StoreChange}
 use Rattle.chaos_host.specs.View.{HostView}
 use Rattle.chaos_host.specs.declared.answers.HostDelivered.{HostDelivered}
 use Rattle.chaos_link.specs.declared.carriage.Carriage.{Carriage}
 use Rattle.chaos_link.specs.Link.{QueueView}
-use Rattle.chaos_turn.specs.Arrive.{Arrival, arrival_from, arrive_at_client, arrive_at_server, told_at_client}
+use Rattle.chaos_turn.specs.Arrive.{Arrival, arrival_from, arrive_at_client, told_at_client}
 use Rattle.chaos_turn.specs.End.{TellsWork}
 use Rattle.chaos_turn.specs.Link.{datagrams_of, has_packets, sent_by, sent_into, without_first}
 use Rattle.chaos_turn.specs.Phase.{Effect, and_then, over_slots}
-use Rattle.chaos_turn.specs.Serve.{ServesSlots}
-use Rattle.chaos_turn.specs.Slots.{end_phases, tick_at}
-use Rattle.chaos_turn.specs.Station.{Server, Station, with_host}
+use Rattle.chaos_turn.specs.Slots.{tick_at}
+use Rattle.chaos_turn.specs.Station.{Station}
 use Rattle.chaos_turn.specs.declared.end.TurnEnd.{TurnEnd}
 
--- ---- what a turn makes of what came
-
-module _ {S : Type 0} (changes : S → S → StoreChange) where
-  -- A turn of a server to which this came: what it became, and the packets that went out, lot by lot.
-  pub record IsTurn (came : Arrival) (start now : ℕ) (s t : Server S) (lots : List (List PacketView)) : Type 0 where
-    -- the server after each slot was served, and the replies
-    pub served : Server S
-    pub replies : List (List PacketView)
-    pub serves : ServesSlots changes now (length s.host.slots) (with_host s (arrive_at_server came start now s.host).host) served replies
-    pub ended : t ≡ with_host served (end_phases served.sessions now served.host).host
-    pub out : lots ≡ (arrive_at_server came start now s.host).lots ++ (replies ++ (end_phases served.sessions now served.host).lots)
-
--- a turn of a client to which this came
+-- what a turn of a client makes of what came
 abbrev pub client_phases : Arrival → ℕ → HostView → Effect
 client_phases came now h = and_then (arrive_at_client came now h) (over_slots (tick_at now) (length h.slots))
 
@@ -49,16 +34,6 @@ module _ {N : Type 0} where
     pub queue : IfSome before.queue (λ queue. (came ≡ arrival_from (sent_into queue (datagrams_of carriage before.outbox.packets)))
         × (after.queue ≡ Some (queue_after carriage queue before.outbox.packets lots)))
     pub work : TellsWork (has_work before.outbox.packets came lots) result
-
--- ---- whole turns
-
-module _ {S : Type 0} (changes : S → S → StoreChange) where
-  -- A whole turn of a server at its link, by this carriage.
-  pub record RunsTurn (carriage : Carriage) (start now : ℕ) (before after : Station (Server S)) (result : TurnEnd) : Type 0 where
-    pub came : Arrival
-    pub lots : List (List PacketView)
-    pub turn : IsTurn changes came start now before.node after.node lots
-    pub link : GoesOver carriage came lots before after result
 
 -- A whole turn of a client at its link, by this carriage; what became of the last packet that came was told.
 pub record RunsClientTurn (carriage : Carriage) (now : ℕ) (before after : Station HostView) (result : TurnEnd) (answer : Option HostDelivered) : Type 0 where

@@ -38,14 +38,21 @@ fn take_client_turn<L: Link>(
 /// One turn of a client, or of a host with services of its caller's: it sends what waits, receives at most one datagram, delivers its packets in order, and ticks each
 /// slot. What the host puts out is sent after each of its calls. It accepts no request and serves nothing.
 ///
-/// So it is the turn without FILE. A service of another contact takes it, and then: accepts, answers or rejects the requests
-/// that wait, which [`Host::contact`] and [`Host::arguments`] tell slot by slot; reads what is in front, and writes; releases
-/// what ended; and sends what these calls put out by [`send_all`](crate::send_all).
+/// A service takes it, and then: accepts, answers or rejects the requests that wait, which [`Host::contact`] and
+/// [`Host::arguments`] tell slot by slot; reads what is in front, and writes; releases what ended; and sends what these calls
+/// put out by [`send_all`](crate::send_all).
 ///
 /// It leaves in `told` what became of the last packet of the datagram, as [`Host::deliver`] answered it, and `None` where no
 /// datagram came or it carried no packet. So a client learns with which text its request was refused.
 ///
-/// What it answers and asks for is as at [`run_turn`](crate::run_turn); it walks over the slots once, and takes no memory.
+/// By `carriage` packets that are sent at once go each in a datagram of version 1, or several to one host in a datagram of
+/// version 2. The datagram is received into `buffer`, whatever that holds: a caller keeps it from turn to turn. Where none is
+/// there the turn waits for one as the link does, where `may_wait` allows it.
+///
+/// `LinkFault` exactly where the link's count of failures rose in the turn, or stands at its greatest; a packet whose send
+/// failed is lost, and the turn goes on to its end. Else `Worked` where a datagram came or a packet was sent, else `Idle`.
+///
+/// The outbox has room for [`TURN_ROOM`] packets at least. It walks over the slots once, and takes no memory.
 pub fn client_turn<L: Link>(
     host: &mut Host,
     link: &mut L,

@@ -1,35 +1,31 @@
-//! One turn of a FILE server and of a client: what came is delivered, what is due is done, and what a host puts out goes
-//! into a link. A service of another contact takes the client's turn, which serves nothing, then does its own part by the
-//! host's calls, and sends by [`send_all`]. A [`Node`] has what a host needs for such turns.
+//! One turn of a host over a link: what waits is sent, what came is delivered, what is due is done, and what the host puts out goes
+//! into the link. It knows no service: a [`Node`] has what a host needs for such turns, and its owner serves between their halves,
+//! by the host's calls.
 //!
-//! A turn reads no clock (the moment is handed in), and waits for a datagram only where its caller lets it, as its link does:
-//! [`can_serve_any`] says whether a server is to. [`Sessions::new`] takes memory for the
-//! sessions; a turn takes none but what [`chaos_file::Session::apply`] takes.
+//! A turn of one's own make has the same phases: [`begin`], the host's calls on what came, each followed by [`send_all`],
+//! [`tick_slots`] and [`end_of`].
+//!
+//! A turn reads no clock (the moment is handed in), waits for a datagram only where its caller lets it, as its link does, and takes
+//! no memory.
 #![tactic(auto)]
 
 mod arriving;
 mod beginning;
 mod client;
 mod end;
-mod ending;
 mod half;
 mod limits;
 mod node;
 mod receiving;
 mod sending;
-mod serving;
-mod sessions;
 mod ticking;
-mod turn;
-mod waiting;
 
+pub use beginning::{Begun, begin};
 pub use client::client_turn;
-pub use end::TurnEnd;
+pub use end::{TurnEnd, any_of, end_of};
 pub use half::Half;
 pub use limits::TURN_ROOM;
 pub use node::Node;
 pub use receiving::receive;
 pub use sending::{law_read_back, law_sends_one, send_all};
-pub use sessions::Sessions;
-pub use turn::run_turn;
-pub use waiting::can_serve_any;
+pub use ticking::tick_slots;

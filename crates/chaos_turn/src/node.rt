@@ -30,7 +30,7 @@ pub struct Node {
     /// What became of the last packet that came in the last turn, as [`Host::deliver`] answered it, where one came.
     pub told: Option<HostDelivered>,
     /// Where datagrams are received.
-    buffer: [u8; LINK_ROOM],
+    pub buffer: [u8; LINK_ROOM],
     pub ghost room: { TURN_ROOM ≤ out.cap },
 }
 

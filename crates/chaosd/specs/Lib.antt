@@ -1,1 +1,3 @@
 pub mod Status
+pub mod Paths
+pub mod Over

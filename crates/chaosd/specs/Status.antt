@@ -1,5 +1,5 @@
--- The exit statuses of a program that was not asked for a run, and of a run over several files.
-use Rattle.std.specs.Prelude.{ℕ, Bool, false, if◌then◌else◌, ◌==◌, nat_lt}
+-- The exit statuses of a program that was not asked for a run.
+use Rattle.std.specs.Prelude.{ℕ, Bool, false}
 use Rattle.chaosd_line.specs.Fault.{line_status}
 use Rattle.chaosd_line.specs.declared.fault.LineFault.{LineFault}
 use Rattle.chaosd_line.specs.declared.fault.LineFault.TheVariants.{BadLine, Help}
@@ -16,11 +16,3 @@ words_status NoMemory = line_status line.NoMemory
 abbrev pub refused_status_of : LineFault → Bool → ℕ
 refused_status_of Help false = 1
 refused_status_of fault _ = line_status fault
-
--- a status among the others: want of memory weighs most, then what failed here, then what was refused, and nothing where all is well
-abbrev pub weight : ℕ → ℕ
-weight status = if status == 4 then 3 else (if status == 1 then 2 else (if status == 0 then 0 else 1))
-
--- of two statuses the one that weighs more
-abbrev pub worse_status : ℕ → ℕ → ℕ
-worse_status run last = if nat_lt (weight run) (weight last) then last else run

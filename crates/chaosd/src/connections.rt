@@ -3,8 +3,8 @@ ghost use Rattle.std.specs.Prelude.{None};
 
 use chaos_conn::End;
 use file_client::Shown;
-use chaosd_file::{Ending, Log};
 use chaosd_log::{Journal, Matter};
+use file_server::{Ending, Log};
 use std::time::Clock;
 
 /// Tells of each connection that opens and of each that ends, but of hosts that are no peers, since they aren't answered.

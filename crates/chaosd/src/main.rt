@@ -1,27 +1,34 @@
 //! `chaosd`: a thin main over the command line (`chaosd_line`) and the engines (`chaosd_show`, `chaosd_lab`,
-//! `chaosd_filelab`, `chaosd_file`, `chaosd_copy` over `file_client`).
+//! `chaosd_filelab`, `chaosd_file`, `file_server`, `chaosd_copies` over `file_client`).
 //! It hands the words to the one, opens the folder and the sockets that they name, hands these with standard input and output to
 //! the others, and ends with their status.
 #![tactic(auto)]
 
-mod caller;
+mod changes;
 mod connections;
-mod copied;
 mod copies;
+mod descriptors;
+mod dialog;
+mod file_words;
 mod network;
 mod progress;
+mod run_ends;
 mod runs;
 mod serving;
 mod status;
-mod told;
+mod unanswered;
+mod waiting;
 mod words;
 
+use crate::changes::{run_delete_line, run_rename_line};
 use crate::copies::{run_get_line, run_put_line};
+use crate::descriptors::fill_descriptors;
 use crate::network::{run_ask_line, run_loop_line};
 use crate::runs::{run_filelab_line, run_lab_line, run_show_line};
 use crate::serving::run_serve_line;
 use crate::status::refused_status;
 use crate::words::words_of;
+use chaosd_copies::ExitStatus;
 use chaosd_io::RunFault;
 use chaosd_line::{Line, LineFault, parse_line};
 use clap::Error;
@@ -33,25 +40,27 @@ use std::rt::Env;
 use std::time::Clock;
 
 /// Does what the line asks for. Where standard error is a terminal, more is told on it. The answer is the exit status.
-fn run_line<R>(rt: &R, line: Line<'_>, is_terminal: bool) -> u8
+fn run_line<R>(rt: &R, line: Line<'_>, is_terminal: bool) -> ExitStatus
 where
     R: AllocGlobal + Clock + Eprint + Files<File = File> + Input + Net + Print,
 {
     match line {
-        Line::Show => run_show_line(rt),
+        Line::Show(_) => run_show_line(rt),
         Line::Lab => run_lab_line(rt),
         Line::FileLab => run_filelab_line(rt),
         Line::Loop(carriage) => run_loop_line(rt, carriage),
-        Line::Ask(ask) => run_ask_line(rt, ask),
+        Line::Ask(ask) => run_ask_line(rt, ask, is_terminal),
         Line::Serve(serve) => run_serve_line(rt, serve),
         Line::Get(get) => run_get_line(rt, &get, is_terminal),
         Line::Put(put) => run_put_line(rt, &put, is_terminal),
+        Line::Delete(delete) => run_delete_line(rt, &delete, is_terminal),
+        Line::Rename(rename) => run_rename_line(rt, &rename, is_terminal),
     }
 }
 
 /// Shows help on standard output, or the mistake in the line on standard error. That it could not
 /// be written is told on standard error.
-fn refuse<R: Print + Eprint>(rt: &R, error: &Error) -> u8 {
+fn refuse<R: Print + Eprint>(rt: &R, error: &Error) -> ExitStatus {
     let is_shown = error.print(rt).is_ok();
     if !is_shown {
         let _ = eprintln!(rt; "chaosd: {}", RunFault::WriteFault);
@@ -60,7 +69,7 @@ fn refuse<R: Print + Eprint>(rt: &R, error: &Error) -> u8 {
 }
 
 /// Reads the command line and does what it asks for. The answer is the exit status.
-fn run<R>(rt: &R, is_terminal: bool) -> u8
+fn run<R>(rt: &R, is_terminal: bool) -> ExitStatus
 where
     R: AllocGlobal + Clock + Env + Eprint + Files<File = File> + Input + Net + Print,
 {
@@ -79,5 +88,6 @@ where
 
 /// The program.
 fn main(rt: HostRuntime) -> ExitCode {
-    ExitCode::from(run(&rt, rt.stderr().is_terminal()))
+    let _held = fill_descriptors(&rt);
+    ExitCode::from(run(&rt, rt.stderr().is_terminal()).number())
 }

@@ -1,21 +1,16 @@
 //! The runs of clients over sockets: `loop` and `ask`.
-use crate::told::{tell_script, tell_unopened};
+use crate::run_ends::{tell_script, tell_unopened};
+use crate::unanswered::Unanswered;
+use crate::waiting::{Waiting, WaitingSocket};
 use chaos_link::{Carriage, Peer, Peers, UdpLink};
-use chaosd_file::{
-    LOOP_CLIENT, LOOP_SERVER, NOBODY, ScriptEnd, Why, run_ask, run_loop, script_status,
-};
+use chaosd_copies::ExitStatus;
+use chaosd_file::{LOOP_CLIENT, LOOP_SERVER, NOBODY, ScriptEnd, Why, run_ask, run_loop};
 use chaosd_io::RunFault;
 use chaosd_line::Ask;
 use std::io;
 use std::io::Read;
 use std::net::{Ipv4Addr, Net, SocketAddr, SocketAddrV4, UdpSocket};
 use std::time::Clock;
-
-/// A link over a socket at this UDP address, to these peers.
-fn link_at<R: Net>(rt: &R, socket: SocketAddrV4, peers: Peers) -> io::Result<UdpLink> {
-    let socket = UdpSocket::bind(rt, SocketAddr::V4(socket))?;
-    Ok(UdpLink::new(socket, peers))
-}
 
 /// A link over a socket at this UDP address, to one server.
 pub(crate) fn link_to_server<R: Net>(
@@ -65,9 +60,13 @@ pub(crate) fn has_input<R: Input>(rt: &R) -> bool {
 }
 
 /// Tells how a script ended, and gives the exit status.
-fn end_script<R: Eprint>(rt: &R, end: &Result<ScriptEnd, RunFault>, why: &Option<Why>) -> u8 {
+fn end_script<R: Eprint>(
+    rt: &R,
+    end: &Result<ScriptEnd, RunFault>,
+    why: &Option<Why>,
+) -> ExitStatus {
     tell_script(rt, end, why);
-    script_status(end)
+    ExitStatus::of_run(end.map(|end| end.replied == end.commands))
 }
 
 /// The host that is asked: this one where it is a peer. Of one that is none nothing can be asked, which is told.
@@ -83,7 +82,7 @@ fn asked_host<R: Eprint>(rt: &R, to: u16, peers: &Peers) -> u16 {
 pub(crate) fn run_loop_line<R: AllocGlobal + Eprint + Input + Net + Print>(
     rt: &R,
     carriage: Carriage,
-) -> u8 {
+) -> ExitStatus {
     if !has_input(rt) {
         return end_script(rt, &Err(RunFault::ReadFault), &None);
     }
@@ -108,9 +107,12 @@ pub(crate) fn run_loop_line<R: AllocGlobal + Eprint + Input + Net + Print>(
 pub(crate) fn run_ask_line<R: AllocGlobal + Clock + Eprint + Input + Net + Print>(
     rt: &R,
     line: Ask,
-) -> u8 {
+    is_terminal: bool,
+) -> ExitStatus {
     let Ask {
         carriage,
+        timeout: _,
+        is_strict: _,
         address,
         socket,
         to,
@@ -120,8 +122,13 @@ pub(crate) fn run_ask_line<R: AllocGlobal + Clock + Eprint + Input + Net + Print
         return end_script(rt, &Err(RunFault::ReadFault), &None);
     }
     let to = asked_host(rt, to, &peers);
-    let mut link = match link_at(rt, socket, peers) {
-        Ok(link) => link,
+    let server = Peer {
+        address: to,
+        socket: peers.find(to).unwrap_or(socket),
+    };
+    let waiting = Waiting::new(rt, server, is_terminal);
+    let mut link = match UdpSocket::bind(rt, SocketAddr::V4(socket)) {
+        Ok(bound) => UdpLink::new(WaitingSocket::new(bound, &waiting), peers),
         Err(error) => return tell_unopened(rt, &socket, &error),
     };
     let mut why = None;
@@ -136,9 +143,33 @@ pub(crate) fn run_ask_line<R: AllocGlobal + Clock + Eprint + Input + Net + Print
         &mut why,
         carriage,
     );
-    match &why {
+    match why {
         // That the host is no peer was told.
         Some(Why::NoReply(_)) if to == NOBODY => end_script(rt, &end, &None),
-        _ => end_script(rt, &end, &why),
+        Some(Why::NoReply(why)) => {
+            let client = Peer { address, socket };
+            end_unanswered(rt, &end, Unanswered::new(why, server, client))
+        }
+        _ if waiting.is_over() => end_refused(rt, server),
+        why => end_script(rt, &end, &why),
+    }
+}
+
+/// Tells why a command of a script got no reply, and gives the exit status.
+fn end_unanswered<R: Eprint>(
+    rt: &R,
+    end: &Result<ScriptEnd, RunFault>,
+    unanswered: Unanswered,
+) -> ExitStatus {
+    let _ = eprintln!(rt; "chaosd: {unanswered}");
+    end_script(rt, end, &None)
+}
+
+/// Tells that nobody listens where the server is to be, so that the first command gets no reply, and gives the exit status.
+fn end_refused<R: Eprint + Print>(rt: &R, server: Peer) -> ExitStatus {
+    let _ = eprintln!(rt; "chaosd: no server listens at {}", server.socket);
+    match println!(rt; "no reply") {
+        Ok(()) => ExitStatus::Refused,
+        Err(_) => end_script(rt, &Err(RunFault::WriteFault), &None),
     }
 }

@@ -2,17 +2,18 @@
 ghost use Rattle.std.specs.Prelude.{◌<◌};
 
 use crate::connections::Connections;
-use crate::told::tell_unopened;
+use crate::run_ends::tell_unopened;
 use arrayvec::ArrayVec;
 use chaos_conn::ConnConfig;
 use chaos_file::{DirStore, Store};
-use chaos_link::{Carriage, Link, MAX_PEERS, Peer, Peers, UdpLink};
-use chaosd_file::{run_serve_by, serve_status};
+use chaos_link::{Link, MAX_PEERS, Peer, Peers, UdpLink};
+use chaosd_copies::ExitStatus;
 use chaosd_io::RunFault;
 use chaosd_line::{LogLevel, Serve};
 use chaosd_log::{
     Journal, Ledger, Level, Matter, NotedLink, NotedSocket, NotedStore, Pages, ReadOnly,
 };
+use file_server::{ServeOptions, run_serve_by};
 use std::fs::{File, Files};
 use std::io;
 use std::net::{Net, SocketAddr, UdpSocket};
@@ -48,44 +49,34 @@ fn level_of(is_quiet: bool, log: LogLevel) -> Level {
     }
 }
 
-/// What the engine is asked for.
-#[derive(Clone, Copy)]
-struct Wanted {
-    address: u16,
-    window: u16,
-    turns: u32,
-    carriage: Carriage,
-    ghost named: { 0 < address },
-}
-
 /// Serves a store, and tells how that ended.
 fn serve<R: AllocGlobal + Clock + Eprint, L: Link, S: Store>(
     rt: &R,
-    wanted: Wanted,
+    options: ServeOptions,
     journal: &Journal<'_, R>,
     link: &mut L,
     store: &mut S,
-) -> u8 {
+) -> ExitStatus
+    requires { 0 < options.me }
+{
+    let turns = options.turns;
     let end = run_serve_by(
         rt,
         rt.alloc(),
         link,
         store,
-        wanted.address,
-        ConnConfig::with_window(wanted.window),
-        u64::from(wanted.turns),
-        wanted.carriage,
-        &mut Connections(journal),
+        options,
+        &mut Connections(&*journal),
     );
-    tell_served(journal, &end, wanted.turns);
-    serve_status(&end)
+    tell_served(journal, &end, turns);
+    ExitStatus::of_run(end.map(|()| true))
 }
 
 /// Tells that a service's turns are over, or the fault that it ended by.
 fn tell_served<R: Clock + Eprint>(
     journal: &Journal<'_, R>,
     end: &Result<(), RunFault>,
-    turns: u32,
+    turns: u64,
 ) {
     match end {
         Ok(()) => journal.tell(Matter::Service, &format_args!("{turns} turns are over")),
@@ -97,7 +88,7 @@ fn tell_served<R: Clock + Eprint>(
 pub(crate) fn run_serve_line<R: AllocGlobal + Clock + Eprint + Files<File = File> + Net>(
     rt: &R,
     line: Serve<'_>,
-) -> u8 {
+) -> ExitStatus {
     let Serve {
         turns,
         carriage,
@@ -120,10 +111,10 @@ pub(crate) fn run_serve_line<R: AllocGlobal + Clock + Eprint + Files<File = File
         Ok(bound) => bound,
         Err(error) => return tell_unopened(rt, &socket, &error),
     };
-    let wanted = Wanted {
-        address,
-        window,
-        turns,
+    let options = ServeOptions {
+        me: address,
+        config: ConnConfig::with_window(window),
+        turns: u64::from(turns),
         carriage,
     };
     let journal = Journal::new(
@@ -137,8 +128,8 @@ pub(crate) fn run_serve_line<R: AllocGlobal + Clock + Eprint + Files<File = File
     let mut store = NotedStore::new(store, Pages(&journal));
     journal.begin(address, socket, folder);
     if is_read_only {
-        serve(rt, wanted, &journal, &mut link, &mut ReadOnly::new(store))
+        serve(rt, options, &journal, &mut link, &mut ReadOnly::new(store))
     } else {
-        serve(rt, wanted, &journal, &mut link, &mut store)
+        serve(rt, options, &journal, &mut link, &mut store)
     }
 }

@@ -1,8 +1,9 @@
 //! The words of the command line, as the system hands them over.
 ghost use Rattle.std.specs.Prelude.{◌≡◌};
+ghost use Rattle.chaosd_copies.specs.Status.{number_of};
 ghost use Rattle.chaosd.specs.Status.{words_status};
 
-use chaosd_line::LineFault;
+use chaosd_copies::ExitStatus;
 use std::rt::Env;
 use std::{env, io};
 use thiserror::Error;
@@ -20,12 +21,12 @@ pub(crate) enum WordsFault {
 
 impl WordsFault {
     /// The exit status of a program that ends by this fault: that of the line's fault.
-    pub(crate) fn status(self) -> u8
-        ensures { result ≡ words_status self }
+    pub(crate) fn status(self) -> ExitStatus
+        ensures { number_of result ≡ words_status self }
     {
         match self {
-            WordsFault::NotText => LineFault::BadLine.status(),
-            WordsFault::NoMemory => LineFault::NoMemory.status(),
+            WordsFault::NotText => ExitStatus::BadLine,
+            WordsFault::NoMemory => ExitStatus::NoMemory,
         }
     }
 }

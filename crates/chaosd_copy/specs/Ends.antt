@@ -2,9 +2,9 @@
 use Rattle.std.specs.Prelude.{◌≡◌, ◌≤◌, ◌<◌, ◌⊎◌, ℕ, ◌+◌, ◌-◌, ◌*◌, Bool, true, false, List, [], ◌∷◌, ◌++◌, codes, length, min, Option, Some, None, Result, Ok, Err}
 use Rattle.std.specs.Fmt.{decimal}
 use Rattle.chaos_file.specs.declared.limits.TheConstants.{MAX_CHUNK, MAX_FILE}
-use Rattle.chaos_file.specs.Command.{Login, Read, Write}
+use Rattle.chaos_file.specs.Command.{Login, Read, Write, Rename, Delete}
 use Rattle.chaos_file.specs.Spelling.{spelling_of}
-use Rattle.chaos_file.specs.Answer.{LoggedIn, Opened, Given, Wrote, Closed, read_answer, reply_front}
+use Rattle.chaos_file.specs.Answer.{LoggedIn, Opened, Given, Wrote, Closed, Renamed, Deleted, read_answer, reply_front}
 use Rattle.chaosd_io.specs.declared.fault.RunFault.{RunFault}
 use Rattle.chaosd_copy.specs.declared.end.CopyEnd.{CopyEnd}
 use Rattle.chaosd_copy.specs.declared.end.CopyEnd.TheVariants as e
@@ -34,6 +34,19 @@ login_command name = spelling_of (decimal 0) [] (Login name)
 
 abbrev pub login_reply : List ℕ → List ℕ
 login_reply name = reply_of (decimal 0) [] (LoggedIn name)
+
+-- RENAME and DELETE, and their replies
+abbrev pub rename_command : ℕ → List ℕ → List ℕ → List ℕ
+rename_command tid old new = spelling_of (decimal tid) [] (Rename old new)
+
+abbrev pub rename_reply : ℕ → List ℕ
+rename_reply tid = reply_of (decimal tid) [] Renamed
+
+abbrev pub delete_command : ℕ → List ℕ → List ℕ
+delete_command tid path = spelling_of (decimal tid) [] (Delete path)
+
+abbrev pub delete_reply : ℕ → List ℕ
+delete_reply tid = reply_of (decimal tid) [] Deleted
 
 -- the WRITEs of a file, and their replies
 abbrev pub write_said : ℕ → List ℕ → ℕ → List ℕ

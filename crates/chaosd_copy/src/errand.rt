@@ -5,7 +5,7 @@ ghost use Rattle.chaosd_copy.specs.Copy.{chunk};
 ghost use Rattle.chaosd_copy.specs.Row.{ErrandFits, errand_command};
 
 use crate::limits::HANDLE;
-use crate::words::spelled;
+use crate::words::{paired, spelled};
 use chaos_file::{MAX_CHUNK, Reply};
 
 /// A command that is said once, or again and again.
@@ -18,6 +18,9 @@ pub enum Errand<'a> {
     /// The pieces of a file, one after another.
     Write(&'a [u8]),
     Close,
+    /// The first path becomes the second.
+    Rename(&'a [u8], &'a [u8]),
+    Delete(&'a [u8]),
 }
 
 /// At most so many bytes of the front.
@@ -68,6 +71,10 @@ impl Errand<'_> {
             Errand::Read => spelled(tid, HANDLE, b"READ", b""),
             Errand::Write(bytes) => spelled(tid, HANDLE, b"WRITE\x8d", piece(bytes, i)),
             Errand::Close => spelled(tid, HANDLE, b"CLOSE", b""),
+            Errand::Rename(old, new) => {
+                spelled(tid, b"", b"RENAME\x8d", paired(old, new).as_slice())
+            }
+            Errand::Delete(path) => spelled(tid, b"", b"DELETE\x8d", path),
         }
     }
 }

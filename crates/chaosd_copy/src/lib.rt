@@ -1,6 +1,7 @@
 //! Whole files over FILE: the commands by which one is put and got, and the end that says them, many at a time.
 #![tactic(auto)]
 
+mod change;
 mod end;
 mod errand;
 mod get;
@@ -14,6 +15,7 @@ mod text;
 mod window;
 mod words;
 
+pub use change::{delete_file, rename_file};
 pub use end::CopyEnd;
 pub use get::get_file;
 pub use laws::{law_get, law_got, law_login, law_pieces, law_put, law_put_broken, law_tids};

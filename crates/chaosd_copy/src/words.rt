@@ -2,9 +2,9 @@
 ghost use Rattle.std.specs.Prelude.{◌≡◌, ◌≤◌, ◌+◌, ◌++◌, ◌∷◌, ◌<◌, [], length, codes};
 ghost use Rattle.std.specs.Fmt.{decimal};
 ghost use Rattle.chaos_file.specs.Answer.{reply_front};
-ghost use Rattle.chaos_file.specs.declared.limits.TheConstants.{MAX_REPLY, MAX_CHUNK, MAX_HANDLE};
+ghost use Rattle.chaos_file.specs.declared.limits.TheConstants.{MAX_REPLY, MAX_CHUNK, MAX_HANDLE, MAX_PATH, NL};
 
-use chaos_file::Reply;
+use chaos_file::{NL, Reply};
 use itoa::Buffer;
 
 /// Adds bytes.
@@ -68,6 +68,20 @@ fn put_count(text: &mut Reply, n: usize)
     ensures { text.new.items ≡ text.old.items ++ decimal n }
 {
     put_number(text, n);
+}
+
+/// Two paths, with a newline of FILE between them.
+pub fn paired(old: &[u8], new: &[u8]) -> Reply
+    requires old { length old.now ≤ MAX_PATH }
+    requires new { length new.now ≤ MAX_PATH }
+    ensures value { result.items ≡ old.now ++ NL ∷ new.now }
+    ensures room { length result.items ≤ MAX_CHUNK }
+{
+    let mut text = Reply::new();
+    put(&mut text, old);
+    put(&mut text, &[NL]);
+    put(&mut text, new);
+    text
 }
 
 /// A front with a word behind it, and bytes.

@@ -1,9 +1,6 @@
 pub mod Status
 pub mod Command
-pub mod Fault
 pub mod Printed
 pub mod Script
 pub mod Conversation
-pub mod Service
 pub mod Asking
-pub mod Watch

@@ -8,8 +8,3 @@ use Rattle.chaosd_file.specs.declared.end.ScriptEnd.{ScriptEnd}
 abbrev pub script_status : Result ScriptEnd RunFault → ℕ
 script_status (Ok end) = if end.replied == end.commands then 0 else 3
 script_status (Err fault) = fault_status fault
-
--- 0 where all turns were made, else that of the fault
-abbrev pub serve_status : Result (Unit {0}) RunFault → ℕ
-serve_status (Ok done) = 0
-serve_status (Err fault) = fault_status fault

@@ -4,18 +4,19 @@ ghost use Rattle.chaosd_file.specs.declared.limits.TheConstants.{SCRIPT_WINDOW};
 ghost use Rattle.chaosd_file.specs.Conversation.{Converses};
 ghost use Rattle.chaosd_file.specs.Script.{Runs};
 ghost use Rattle.file_client.specs.Caller.{new_caller};
-ghost use Rattle.file_client.specs.Clock.{BeginsBy, low_bits_of};
+ghost use Rattle.chaosd_clock.specs.Clock.{BeginsBy, low_bits_of};
 ghost use Rattle.file_client.specs.Pace.{clock_pace};
 ghost use Rattle.file_client.specs.Talk.{talker};
-ghost use Rattle.file_client.specs.declared.clock.Beginning.{Beginning};
+ghost use Rattle.chaosd_clock.specs.declared.clock.Beginning.{Beginning};
 
 use crate::end::ScriptEnd;
 use crate::limits::SCRIPT_WINDOW;
 use crate::script::run_script;
 use crate::why::Why;
 use chaos_link::{Carriage, Link};
+use chaosd_clock::Dial;
 use chaosd_io::RunFault;
-use file_client::{Client, Dial, Timed};
+use file_client::{Client, Timed};
 use std::alloc::Global;
 use std::io::{Read, Write};
 

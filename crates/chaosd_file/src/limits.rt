@@ -1,9 +1,6 @@
 //! The numbers that the engines keep to.
 use chaos_packet::{Opcode, PktNum};
 
-/// The connections of a server's host.
-pub const SERVER_CONNS: usize = 16;
-
 /// No host's address. Of nobody no connection is asked for, so that a run ends at its first command.
 pub const NOBODY: u16 = 0;
 

@@ -11,7 +11,6 @@ use crate::limits::{
     LOOP_CLIENT, LOOP_CLIENT_START, LOOP_SERVER, LOOP_SERVER_START, LOOP_TURN, SCRIPT_WINDOW,
 };
 use crate::script::run_script;
-use crate::server::Server;
 use crate::why::Why;
 use chaos_conn::ConnConfig;
 use chaos_file::MemStore;
@@ -21,6 +20,7 @@ use chaos_packet::{Outbox, PktNum};
 use chaos_turn::{TURN_ROOM, TurnEnd, client_turn};
 use chaosd_io::RunFault;
 use file_client::{Client, Turns};
+use file_server::Server;
 use std::alloc::Global;
 use std::io::{Read, Write};
 
@@ -105,7 +105,6 @@ impl<A: Link, B: Link> Turns for Both<'_, A, B> {
             self.far,
             LOOP_SERVER_START,
             now,
-            carriage,
             false,
         );
         self.is_idle = asked == TurnEnd::Idle && served == TurnEnd::Idle;
@@ -156,7 +155,7 @@ pub fn run_loop<R: Read, W: Write, A: Link, B: Link>(
     // It ends by a LinkFault only where a link counted failures.
     ensures failed { result ≡ Err RunFault.LinkFault → 0 < A.count link_a.new + B.count link_b.new }
 {
-    let mut server = Server::new(alloc, LOOP_SERVER, ConnConfig::usual())?;
+    let mut server = Server::new(alloc, LOOP_SERVER, ConnConfig::usual(), carriage)?;
     let mut store = MemStore::new(alloc);
     let mut turns = Both {
         alloc,

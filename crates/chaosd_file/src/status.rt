@@ -1,6 +1,6 @@
 //! Exit statuses.
 ghost use Rattle.std.specs.Prelude.{◌≡◌};
-ghost use Rattle.chaosd_file.specs.Status.{script_status, serve_status};
+ghost use Rattle.chaosd_file.specs.Status.{script_status};
 
 use crate::end::ScriptEnd;
 use chaosd_io::{DONE, REFUSED, RunFault, fault_status};
@@ -13,16 +13,6 @@ pub fn script_status(end: &Result<ScriptEnd, RunFault>) -> u8
     match end {
         Ok(end) if end.replied == end.commands => DONE,
         Ok(_) => REFUSED,
-        Err(fault) => fault_status(*fault),
-    }
-}
-
-/// The exit status of a program that ran [`crate::run_serve`].
-pub fn serve_status(end: &Result<(), RunFault>) -> u8
-    ensures { result ≡ serve_status end.now }
-{
-    match end {
-        Ok(()) => DONE,
         Err(fault) => fault_status(*fault),
     }
 }

@@ -3,5 +3,7 @@ pub mod Named
 pub mod NoReading
 pub mod OneLine
 pub mod PeerLists
+pub mod Renamed
 pub mod Planned
 mod Simple
+pub mod Unique

@@ -4,9 +4,8 @@ use Rattle.std.proofs.Math.Seq.{take-suc}
 use Rattle.std.proofs.lemmas.List.{drop_all, drop-append-le, take_rest}
 use Rattle.std.proofs.lemmas.Grind.{common_steps}
 use Rattle.std.specs.List.{list_any}
-use Rattle.std.specs.Str.{bytes_eq}
 use Rattle.clap.specs.Words.{Text}
-use Rattle.chaosd_line.specs.Files.{are_distinct, last_from, last_of}
+use Rattle.chaosd_line.specs.Files.{are_apart, last_from, last_of}
 
 last_behind : (name text : Text) (b : ℕ) → last_from name (text ++ b ∷ []) ≡ (if b == 47 then [] else last_from name text ++ b ∷ [])
 last_behind name [] b = refl
@@ -43,27 +42,26 @@ any_of : {T : Type 0} (p : Text → Bool) (text : T → Text) (ts : List T) → 
 any_of p text [] = refl
 any_of p text (t ∷ ts) = ap (λ b. p (text t) || b) (any_of p text ts)
 
-distinct_next : {T : Type 0} (text : T → Text) (ts : List T) (i : ℕ) (d : T) → i < length ts
-    → are_distinct (map text (drop i ts)) ≡ (not (list_any (λ u. bytes_eq (last_of (text u)) (last_of (text (get_or ts i d)))) (drop (suc i) ts))
-    && are_distinct (map text (drop (suc i) ts)))
-distinct_next text [] i d lt = absurd (omega arith)
-distinct_next text (t ∷ ts) zero d lt = ap (λ b. not b && are_distinct (map text ts)) (any_of (λ u. bytes_eq (last_of u) (last_of (text t))) text ts)
-distinct_next text (t ∷ ts) (suc i) d lt = distinct_next text ts i d (omega arith)
+apart_next : {T : Type 0} (same : Text → Text → Bool) (text : T → Text) (ts : List T) (i : ℕ) (d : T) → i < length ts
+    → are_apart same (map text (drop i ts)) ≡ (not (list_any (λ u. same (text u) (text (get_or ts i d))) (drop (suc i) ts))
+    && are_apart same (map text (drop (suc i) ts)))
+apart_next same text [] i d lt = absurd (omega arith)
+apart_next same text (t ∷ ts) zero d lt = ap (λ b. not b && are_apart same (map text ts)) (any_of (λ u. same u (text t)) text ts)
+apart_next same text (t ∷ ts) (suc i) d lt = apart_next same text ts i d (omega arith)
 
--- one text more, whose name is that of a later one or not
-distinct_step : {T : Type 0} (text : T → Text) (ts : List T) (i : ℕ) (d : T) → i < length ts
-    → are_distinct (map text (drop i ts)) ≡ (not (list_any (λ u. bytes_eq (last_of (text u)) (last_of (text (get_or ts i d)))) (drop (i + 1) ts))
-    && are_distinct (map text (drop (i + 1) ts)))
-distinct_step text ts i d lt = rw add-one (distinct_next text ts i d lt)
+-- one text more, which is the same as a later one or not
+apart_step : {T : Type 0} (same : Text → Text → Bool) (text : T → Text) (ts : List T) (i : ℕ) (d : T) → i < length ts
+    → are_apart same (map text (drop i ts)) ≡ (not (list_any (λ u. same (text u) (text (get_or ts i d))) (drop (i + 1) ts))
+    && are_apart same (map text (drop (i + 1) ts)))
+apart_step same text ts i d lt = rw add-one (apart_next same text ts i d lt)
 
--- the same of what was found of its name among the rest
-pub distinct_at : {T : Type 0} (text : T → Text) (ts : List T) (i : ℕ) (d : T) (name : Text) (found : Bool) → i < length ts
-    → name ≡ last_of (text (get_or ts i d))
-    → found ≡ list_any (λ u. bytes_eq (last_of (text u)) name) (take (length ts - (i + 1)) (drop (i + 1) ts))
-    → are_distinct (map text (drop i ts)) ≡ (not found && are_distinct (map text (drop (i + 1) ts)))
-distinct_at text ts i d name found lt named e =
-    let all : found ≡ list_any (λ u. bytes_eq (last_of (text u)) name) (drop (i + 1) ts) =
-    e ∙ ap (list_any (λ u. bytes_eq (last_of (text u)) name)) (take_rest ts (i + 1)) in
-    let again : list_any (λ u. bytes_eq (last_of (text u)) (last_of (text (get_or ts i d)))) (drop (i + 1) ts) ≡ found =
-    ap (λ n. list_any (λ u. bytes_eq (last_of (text u)) n) (drop (i + 1) ts)) (sym named) ∙ sym all in
-    distinct_step text ts i d lt ∙ ap (λ b. not b && are_distinct (map text (drop (i + 1) ts))) again
+-- the same of what was found of it among the rest
+pub apart_at : {T : Type 0} (same : Text → Text → Bool) (text : T → Text) (ts : List T) (i : ℕ) (d : T) (test : T → Bool) (found : Bool)
+    → i < length ts → test ≡ (λ u. same (text u) (text (get_or ts i d)))
+    → found ≡ list_any test (take (length ts - (i + 1)) (drop (i + 1) ts))
+    → are_apart same (map text (drop i ts)) ≡ (not found && are_apart same (map text (drop (i + 1) ts)))
+apart_at same text ts i d test found lt is e =
+    let all : found ≡ list_any test (drop (i + 1) ts) = e ∙ ap (list_any test) (take_rest ts (i + 1)) in
+    let again : list_any (λ u. same (text u) (text (get_or ts i d))) (drop (i + 1) ts) ≡ found =
+    ap (λ f. list_any f (drop (i + 1) ts)) (sym is) ∙ sym all in
+    apart_step same text ts i d lt ∙ ap (λ b. not b && are_apart same (map text (drop (i + 1) ts))) again

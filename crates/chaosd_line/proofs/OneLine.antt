@@ -2,45 +2,27 @@
 use Rattle.std.proofs.Common.{◌≡◌, ◌∙◌, ◌+◌, ◌*◌, ℕ, Bool, true, false, codes, List, [], ◌∷◌, Option, None, Some, ap, arith, refl, slice_index, sym}
 use Rattle.std.specs.Option.{IsSomeAnd}
 use Rattle.std.specs.List.{AllZip}
-use Rattle.std.specs.declared.net.socket_addr.SocketAddrV4.{SocketAddrV4}
-use Rattle.std.proofs.NetLemmas.Theorems.{IsSocketV4Text_unique}
 use Rattle.clap.specs.Words.{Row, Text, first_of}
 use Rattle.chaos_link.specs.declared.carriage.Carriage.{Carriage}
 use Rattle.chaos_link.specs.declared.carriage.Carriage.TheVariants.{One, Two}
 use Rattle.chaos_link.specs.declared.peers.Peer.{Peer}
-use Rattle.chaosd_line.specs.Lines.{AsksFor, IsAsk, IsLine, IsSame, IsSameAsk, IsSameCopying, IsSameGet, IsSamePut, IsSameServe, IsServe}
-use Rattle.chaosd_line.specs.Files.{IsCopying, IsGet, IsPut}
+use Rattle.chaosd_line.specs.Lines.{AsksFor, IsAsk, IsLine, IsSame, IsSameAsk, IsSameCalling, IsSameCopying, IsSameDelete, IsSameGet, IsSamePut, IsSameRename, IsSameServe, IsServe}
+use Rattle.chaosd_line.specs.Files.{IsCalling, IsCopying, IsDelete, IsGet, IsPathOf, IsPut, IsRename}
 use Rattle.chaosd_line.specs.Values.{IsAddress, IsCarriage, IsFlag, IsLog, IsLogin, IsPeer, IsSocket, IsTurns, IsWindow}
+use Rattle.chaosd_line.proofs.Unique.{one_address, one_flag, one_peer, one_socket, one_timeout, one_turns, one_value}
 use Rattle.std.specs.Borrow.{Bor}
 use Rattle.chaosd_line.specs.declared.line.Ask.{Ask}
+use Rattle.chaosd_line.specs.declared.line.Calling.{Calling}
 use Rattle.chaosd_line.specs.declared.line.Copying.{Copying}
+use Rattle.chaosd_line.specs.declared.line.Delete.{Delete}
 use Rattle.chaosd_line.specs.declared.line.Get.{Get}
 use Rattle.chaosd_line.specs.declared.line.Put.{Put}
+use Rattle.chaosd_line.specs.declared.line.Rename.{Rename}
 use Rattle.chaosd_line.specs.declared.line.Line.{Line}
 use Rattle.chaosd_line.specs.declared.line.Line.TheVariants as line
 use Rattle.chaosd_line.specs.declared.line.LogLevel.{LogLevel}
 use Rattle.chaosd_line.specs.declared.line.LogLevel.TheVariants as log
 use Rattle.chaosd_line.specs.declared.line.Serve.{Serve}
-
-one_value : {T : Type 0} (Q : Text → T → Type 0) → ((t : Text) (x y : T) → Q t x → Q t y → x ≡ y)
-    → (o : Option Text) (x y : T) → IsSomeAnd o (λ t. Q t x) → IsSomeAnd o (λ t. Q t y) → x ≡ y
-one_value Q one None x y h k = absurd h
-one_value Q one (Some t) x y h k = one t x y h k
-
-one_address : (t : Text) (m n : ℕ) → IsAddress t m → IsAddress t n → m ≡ n
-one_address t m n h k = h.2 ∙ sym k.2
-
-one_turns : (t : Text) (m n : ℕ) → IsTurns t m → IsTurns t n → m ≡ n
-one_turns t m n h k = h.2 ∙ sym k.2
-
-one_socket : (t : Text) (a b : SocketAddrV4) → IsSocket t a → IsSocket t b → a ≡ b
-one_socket t a b h k = IsSocketV4Text_unique t a b h.0 k.0
-
-one_peer : (t : Text) (p q : Peer) → IsPeer t p → IsPeer t q → p ≡ q
-one_peer t p q h k =
-    let address = one_address _ _ _ h.1 k.1 in
-    let socket = one_socket _ _ _ h.2 k.2 in
-    λ i. record { address = address i; socket = socket i }
 
 one_list : (ts : List Text) (ps qs : List Peer) → AllZip IsPeer ts ps → AllZip IsPeer ts qs → ps ≡ qs
 one_list [] [] [] h k = refl
@@ -61,12 +43,6 @@ same_some s t e = cc
 
 one_window : (t : Text) (m n : ℕ) → IsWindow t m → IsWindow t n → m ≡ n
 one_window t m n h k = h.2 ∙ sym k.2
-
-one_flag : (t : Text) (a b : Bool) → IsFlag t a → IsFlag t b → a ≡ b
-one_flag t true true h k = refl
-one_flag t false false h k = refl
-one_flag t true false h k = absurd (let e : slice_index (codes "true") 0 ≡ slice_index (codes "false") 0 = ap (λ u. slice_index u 0) (sym h ∙ k) in omega (arith, e))
-one_flag t false true h k = absurd (let e : slice_index (codes "false") 0 ≡ slice_index (codes "true") 0 = ap (λ u. slice_index u 0) (sym h ∙ k) in omega (arith, e))
 
 -- two texts that begin otherwise are not one
 other_first : (t u v : Text) → t ≡ u → t ≡ v → slice_index u 0 ≡ slice_index v 0
@@ -102,6 +78,8 @@ same_serve rows s t h k = record {
 same_ask : (rows : List Row) (s t : Ask) → IsAsk rows s → IsAsk rows t → IsSameAsk s t
 same_ask rows s t h k = record {
   carriage = one_value IsCarriage one_carriage _ _ _ h.carriage k.carriage;
+  timeout = one_timeout _ _ _ h.timeout k.timeout;
+  is_strict = one_value IsFlag one_flag _ _ _ h.is_strict k.is_strict;
   address = one_value IsAddress one_address _ _ _ h.address k.address;
   socket = one_value IsSocket one_socket _ _ _ h.socket k.socket;
   to = one_value IsAddress one_address _ _ _ h.to k.to;
@@ -112,16 +90,23 @@ one_login : (o : Option Text) (a b : Bor Text) → IsSomeAnd o (λ t. IsLogin t 
 one_login None a b h k = absurd h
 one_login (Some t) a b h k = h.0 ∙ sym k.0
 
-same_copying : (rows : List Row) (s t : Copying) → IsCopying rows s → IsCopying rows t → IsSameCopying s t
-same_copying rows s t h k = record {
+same_calling : (rows : List Row) (s t : Calling) → IsCalling rows s → IsCalling rows t → IsSameCalling s t
+same_calling rows s t h k = record {
   carriage = one_value IsCarriage one_carriage _ _ _ h.carriage k.carriage;
   login = one_login _ s.login t.login h.login k.login;
   window = one_value IsWindow one_window _ _ _ h.window k.window;
-  is_text = one_value IsFlag one_flag _ _ _ h.is_text k.is_text;
-  is_quiet = one_value IsFlag one_flag _ _ _ h.is_quiet k.is_quiet;
+  timeout = one_timeout _ _ _ h.timeout k.timeout;
   address = one_value IsAddress one_address _ _ _ h.address k.address;
   socket = one_value IsSocket one_socket _ _ _ h.socket k.socket;
   server = one_value IsPeer one_peer _ _ _ h.server k.server;
+}
+
+same_copying : (rows : List Row) (s t : Copying) → IsCopying rows s → IsCopying rows t → IsSameCopying s t
+same_copying rows s t h k = record {
+  calling = same_calling rows _ _ h.calling k.calling;
+  is_text = one_value IsFlag one_flag _ _ _ h.is_text k.is_text;
+  is_quiet = one_value IsFlag one_flag _ _ _ h.is_quiet k.is_quiet;
+  is_verbose = one_value IsFlag one_flag _ _ _ h.is_verbose k.is_verbose;
 }
 
 same_get : (rows : List Row) (s t : Get) → IsGet rows s → IsGet rows t → IsSameGet s t
@@ -134,159 +119,255 @@ same_get rows s t h k = record {
 same_put : (rows : List Row) (s t : Put) → IsPut rows s → IsPut rows t → IsSamePut s t
 same_put rows s t h k = record {
   copying = same_copying rows _ _ h.copying k.copying;
+  is_renaming = one_value IsFlag one_flag _ _ _ h.is_renaming k.is_renaming;
   path = h.path ∙ sym k.path;
   locals = h.locals ∙ sym k.locals;
 }
 
+same_delete : (rows : List Row) (s t : Delete) → IsDelete rows s → IsDelete rows t → IsSameDelete s t
+same_delete rows s t h k = record {
+  calling = same_calling rows _ _ h.calling k.calling;
+  paths = h.paths ∙ sym k.paths;
+}
+
+one_path : (o : Option Text) (a b : Text) → IsSomeAnd o (λ t. IsPathOf t a) → IsSomeAnd o (λ t. IsPathOf t b) → a ≡ b
+one_path None a b h k = absurd h
+one_path (Some t) a b h k = h.0 ∙ sym k.0
+
+same_rename : (rows : List Row) (s t : Rename) → IsRename rows s → IsRename rows t → IsSameRename s t
+same_rename rows s t h k = record {
+  calling = same_calling rows _ _ h.calling k.calling;
+  from = one_path _ _ _ h.from k.from;
+  to = one_path _ _ _ h.to k.to;
+}
+
 -- the first two letters tell the subcommands apart
 abbrev letter : Line → ℕ
-letter line.Show = 323
-letter line.Lab = 302
-letter line.FileLab = 312
-letter (line.Loop x) = 330
-letter (line.Serve x) = 317
-letter (line.Ask x) = 327
-letter (line.Get x) = 305
-letter (line.Put x) = 346
+letter (line.Show x) = 635
+letter line.Lab = 593
+letter line.FileLab = 627
+letter (line.Loop x) = 663
+letter (line.Serve x) = 620
+letter (line.Ask x) = 672
+letter (line.Get x) = 608
+letter (line.Put x) = 697
+letter (line.Delete x) = 605
+letter (line.Rename x) = 619
 
-letter_is : (name : Text) (rows : List Row) (x : Line) → IsLine name rows x → slice_index name 0 + 2 * slice_index name 1 ≡ letter x
-letter_is name rows line.Show h = ap (λ t. slice_index t 0 + 2 * slice_index t 1) h
-letter_is name rows line.Lab h = ap (λ t. slice_index t 0 + 2 * slice_index t 1) h
-letter_is name rows line.FileLab h = ap (λ t. slice_index t 0 + 2 * slice_index t 1) h
-letter_is name rows (line.Loop x) h = ap (λ t. slice_index t 0 + 2 * slice_index t 1) h.0
-letter_is name rows (line.Serve x) h = ap (λ t. slice_index t 0 + 2 * slice_index t 1) h.0
-letter_is name rows (line.Ask x) h = ap (λ t. slice_index t 0 + 2 * slice_index t 1) h.0
-letter_is name rows (line.Get x) h = ap (λ t. slice_index t 0 + 2 * slice_index t 1) h.0
-letter_is name rows (line.Put x) h = ap (λ t. slice_index t 0 + 2 * slice_index t 1) h.0
+letter_is : (name : Text) (rows : List Row) (x : Line) → IsLine name rows x → slice_index name 0 + 5 * slice_index name 1 ≡ letter x
+letter_is name rows (line.Show x) h = ap (λ t. slice_index t 0 + 5 * slice_index t 1) h.0
+letter_is name rows line.Lab h = ap (λ t. slice_index t 0 + 5 * slice_index t 1) h
+letter_is name rows line.FileLab h = ap (λ t. slice_index t 0 + 5 * slice_index t 1) h
+letter_is name rows (line.Loop x) h = ap (λ t. slice_index t 0 + 5 * slice_index t 1) h.0
+letter_is name rows (line.Serve x) h = ap (λ t. slice_index t 0 + 5 * slice_index t 1) h.0
+letter_is name rows (line.Ask x) h = ap (λ t. slice_index t 0 + 5 * slice_index t 1) h.0
+letter_is name rows (line.Get x) h = ap (λ t. slice_index t 0 + 5 * slice_index t 1) h.0
+letter_is name rows (line.Put x) h = ap (λ t. slice_index t 0 + 5 * slice_index t 1) h.0
+letter_is name rows (line.Delete x) h = ap (λ t. slice_index t 0 + 5 * slice_index t 1) h.0
+letter_is name rows (line.Rename x) h = ap (λ t. slice_index t 0 + 5 * slice_index t 1) h.0
 
 same_letter : (name : Text) (rows : List Row) (x y : Line) → IsLine name rows x → IsLine name rows y → letter x ≡ letter y
 same_letter name rows x y h k = sym (letter_is name rows x h) ∙ letter_is name rows y k
+
+same_show : (rows : List Row) (a b : Bool) → IsSomeAnd (first_of (codes "file") rows) (λ text. IsFlag text a)
+    → IsSomeAnd (first_of (codes "file") rows) (λ text. IsFlag text b) → a ≡ b
+same_show rows a b h k = one_value IsFlag one_flag _ a b h k
 
 same_loop : (rows : List Row) (a b : Carriage) → IsSomeAnd (first_of (codes "carriage") rows) (λ text. IsCarriage text a)
     → IsSomeAnd (first_of (codes "carriage") rows) (λ text. IsCarriage text b) → a ≡ b
 same_loop rows a b h k = one_value IsCarriage one_carriage _ a b h k
 
 same_line : (name : Text) (rows : List Row) (x y : Line) → IsLine name rows x → IsLine name rows y → IsSame x y
-same_line name rows line.Show line.Show h k = refl
-same_line name rows line.Show line.Lab h k =
-    let e : ◌≡◌ {A = ℕ} 323 302 = same_letter name rows line.Show line.Lab h k in absurd (omega arith)
-same_line name rows line.Show line.FileLab h k =
-    let e : ◌≡◌ {A = ℕ} 323 312 = same_letter name rows line.Show line.FileLab h k in absurd (omega arith)
-same_line name rows line.Show (line.Loop t) h k =
-    let e : ◌≡◌ {A = ℕ} 323 330 = same_letter name rows line.Show (line.Loop t) h k in absurd (omega arith)
-same_line name rows line.Show (line.Serve t) h k =
-    let e : ◌≡◌ {A = ℕ} 323 317 = same_letter name rows line.Show (line.Serve t) h k in absurd (omega arith)
-same_line name rows line.Show (line.Ask t) h k =
-    let e : ◌≡◌ {A = ℕ} 323 327 = same_letter name rows line.Show (line.Ask t) h k in absurd (omega arith)
-same_line name rows line.Show (line.Get t) h k =
-    let e : ◌≡◌ {A = ℕ} 323 305 = same_letter name rows line.Show (line.Get t) h k in absurd (omega arith)
-same_line name rows line.Show (line.Put t) h k =
-    let e : ◌≡◌ {A = ℕ} 323 346 = same_letter name rows line.Show (line.Put t) h k in absurd (omega arith)
-same_line name rows line.Lab line.Show h k =
-    let e : ◌≡◌ {A = ℕ} 302 323 = same_letter name rows line.Lab line.Show h k in absurd (omega arith)
+same_line name rows (line.Show s) (line.Show t) h k = ap line.Show (sym (same_show rows s t h.1 k.1))
+same_line name rows (line.Show s) line.Lab h k =
+    let e : ◌≡◌ {A = ℕ} 635 593 = same_letter name rows (line.Show s) line.Lab h k in absurd (omega arith)
+same_line name rows (line.Show s) line.FileLab h k =
+    let e : ◌≡◌ {A = ℕ} 635 627 = same_letter name rows (line.Show s) line.FileLab h k in absurd (omega arith)
+same_line name rows (line.Show s) (line.Loop t) h k =
+    let e : ◌≡◌ {A = ℕ} 635 663 = same_letter name rows (line.Show s) (line.Loop t) h k in absurd (omega arith)
+same_line name rows (line.Show s) (line.Serve t) h k =
+    let e : ◌≡◌ {A = ℕ} 635 620 = same_letter name rows (line.Show s) (line.Serve t) h k in absurd (omega arith)
+same_line name rows (line.Show s) (line.Ask t) h k =
+    let e : ◌≡◌ {A = ℕ} 635 672 = same_letter name rows (line.Show s) (line.Ask t) h k in absurd (omega arith)
+same_line name rows (line.Show s) (line.Get t) h k =
+    let e : ◌≡◌ {A = ℕ} 635 608 = same_letter name rows (line.Show s) (line.Get t) h k in absurd (omega arith)
+same_line name rows (line.Show s) (line.Put t) h k =
+    let e : ◌≡◌ {A = ℕ} 635 697 = same_letter name rows (line.Show s) (line.Put t) h k in absurd (omega arith)
+same_line name rows (line.Show s) (line.Delete t) h k =
+    let e : ◌≡◌ {A = ℕ} 635 605 = same_letter name rows (line.Show s) (line.Delete t) h k in absurd (omega arith)
+same_line name rows (line.Show s) (line.Rename t) h k =
+    let e : ◌≡◌ {A = ℕ} 635 619 = same_letter name rows (line.Show s) (line.Rename t) h k in absurd (omega arith)
+same_line name rows line.Lab (line.Show t) h k =
+    let e : ◌≡◌ {A = ℕ} 593 635 = same_letter name rows line.Lab (line.Show t) h k in absurd (omega arith)
 same_line name rows line.Lab line.Lab h k = refl
 same_line name rows line.Lab line.FileLab h k =
-    let e : ◌≡◌ {A = ℕ} 302 312 = same_letter name rows line.Lab line.FileLab h k in absurd (omega arith)
+    let e : ◌≡◌ {A = ℕ} 593 627 = same_letter name rows line.Lab line.FileLab h k in absurd (omega arith)
 same_line name rows line.Lab (line.Loop t) h k =
-    let e : ◌≡◌ {A = ℕ} 302 330 = same_letter name rows line.Lab (line.Loop t) h k in absurd (omega arith)
+    let e : ◌≡◌ {A = ℕ} 593 663 = same_letter name rows line.Lab (line.Loop t) h k in absurd (omega arith)
 same_line name rows line.Lab (line.Serve t) h k =
-    let e : ◌≡◌ {A = ℕ} 302 317 = same_letter name rows line.Lab (line.Serve t) h k in absurd (omega arith)
+    let e : ◌≡◌ {A = ℕ} 593 620 = same_letter name rows line.Lab (line.Serve t) h k in absurd (omega arith)
 same_line name rows line.Lab (line.Ask t) h k =
-    let e : ◌≡◌ {A = ℕ} 302 327 = same_letter name rows line.Lab (line.Ask t) h k in absurd (omega arith)
+    let e : ◌≡◌ {A = ℕ} 593 672 = same_letter name rows line.Lab (line.Ask t) h k in absurd (omega arith)
 same_line name rows line.Lab (line.Get t) h k =
-    let e : ◌≡◌ {A = ℕ} 302 305 = same_letter name rows line.Lab (line.Get t) h k in absurd (omega arith)
+    let e : ◌≡◌ {A = ℕ} 593 608 = same_letter name rows line.Lab (line.Get t) h k in absurd (omega arith)
 same_line name rows line.Lab (line.Put t) h k =
-    let e : ◌≡◌ {A = ℕ} 302 346 = same_letter name rows line.Lab (line.Put t) h k in absurd (omega arith)
-same_line name rows line.FileLab line.Show h k =
-    let e : ◌≡◌ {A = ℕ} 312 323 = same_letter name rows line.FileLab line.Show h k in absurd (omega arith)
+    let e : ◌≡◌ {A = ℕ} 593 697 = same_letter name rows line.Lab (line.Put t) h k in absurd (omega arith)
+same_line name rows line.Lab (line.Delete t) h k =
+    let e : ◌≡◌ {A = ℕ} 593 605 = same_letter name rows line.Lab (line.Delete t) h k in absurd (omega arith)
+same_line name rows line.Lab (line.Rename t) h k =
+    let e : ◌≡◌ {A = ℕ} 593 619 = same_letter name rows line.Lab (line.Rename t) h k in absurd (omega arith)
+same_line name rows line.FileLab (line.Show t) h k =
+    let e : ◌≡◌ {A = ℕ} 627 635 = same_letter name rows line.FileLab (line.Show t) h k in absurd (omega arith)
 same_line name rows line.FileLab line.Lab h k =
-    let e : ◌≡◌ {A = ℕ} 312 302 = same_letter name rows line.FileLab line.Lab h k in absurd (omega arith)
+    let e : ◌≡◌ {A = ℕ} 627 593 = same_letter name rows line.FileLab line.Lab h k in absurd (omega arith)
 same_line name rows line.FileLab line.FileLab h k = refl
 same_line name rows line.FileLab (line.Loop t) h k =
-    let e : ◌≡◌ {A = ℕ} 312 330 = same_letter name rows line.FileLab (line.Loop t) h k in absurd (omega arith)
+    let e : ◌≡◌ {A = ℕ} 627 663 = same_letter name rows line.FileLab (line.Loop t) h k in absurd (omega arith)
 same_line name rows line.FileLab (line.Serve t) h k =
-    let e : ◌≡◌ {A = ℕ} 312 317 = same_letter name rows line.FileLab (line.Serve t) h k in absurd (omega arith)
+    let e : ◌≡◌ {A = ℕ} 627 620 = same_letter name rows line.FileLab (line.Serve t) h k in absurd (omega arith)
 same_line name rows line.FileLab (line.Ask t) h k =
-    let e : ◌≡◌ {A = ℕ} 312 327 = same_letter name rows line.FileLab (line.Ask t) h k in absurd (omega arith)
+    let e : ◌≡◌ {A = ℕ} 627 672 = same_letter name rows line.FileLab (line.Ask t) h k in absurd (omega arith)
 same_line name rows line.FileLab (line.Get t) h k =
-    let e : ◌≡◌ {A = ℕ} 312 305 = same_letter name rows line.FileLab (line.Get t) h k in absurd (omega arith)
+    let e : ◌≡◌ {A = ℕ} 627 608 = same_letter name rows line.FileLab (line.Get t) h k in absurd (omega arith)
 same_line name rows line.FileLab (line.Put t) h k =
-    let e : ◌≡◌ {A = ℕ} 312 346 = same_letter name rows line.FileLab (line.Put t) h k in absurd (omega arith)
-same_line name rows (line.Loop s) line.Show h k =
-    let e : ◌≡◌ {A = ℕ} 330 323 = same_letter name rows (line.Loop s) line.Show h k in absurd (omega arith)
+    let e : ◌≡◌ {A = ℕ} 627 697 = same_letter name rows line.FileLab (line.Put t) h k in absurd (omega arith)
+same_line name rows line.FileLab (line.Delete t) h k =
+    let e : ◌≡◌ {A = ℕ} 627 605 = same_letter name rows line.FileLab (line.Delete t) h k in absurd (omega arith)
+same_line name rows line.FileLab (line.Rename t) h k =
+    let e : ◌≡◌ {A = ℕ} 627 619 = same_letter name rows line.FileLab (line.Rename t) h k in absurd (omega arith)
+same_line name rows (line.Loop s) (line.Show t) h k =
+    let e : ◌≡◌ {A = ℕ} 663 635 = same_letter name rows (line.Loop s) (line.Show t) h k in absurd (omega arith)
 same_line name rows (line.Loop s) line.Lab h k =
-    let e : ◌≡◌ {A = ℕ} 330 302 = same_letter name rows (line.Loop s) line.Lab h k in absurd (omega arith)
+    let e : ◌≡◌ {A = ℕ} 663 593 = same_letter name rows (line.Loop s) line.Lab h k in absurd (omega arith)
 same_line name rows (line.Loop s) line.FileLab h k =
-    let e : ◌≡◌ {A = ℕ} 330 312 = same_letter name rows (line.Loop s) line.FileLab h k in absurd (omega arith)
+    let e : ◌≡◌ {A = ℕ} 663 627 = same_letter name rows (line.Loop s) line.FileLab h k in absurd (omega arith)
 same_line name rows (line.Loop s) (line.Loop t) h k = ap line.Loop (sym (same_loop rows s t h.1 k.1))
 same_line name rows (line.Loop s) (line.Serve t) h k =
-    let e : ◌≡◌ {A = ℕ} 330 317 = same_letter name rows (line.Loop s) (line.Serve t) h k in absurd (omega arith)
+    let e : ◌≡◌ {A = ℕ} 663 620 = same_letter name rows (line.Loop s) (line.Serve t) h k in absurd (omega arith)
 same_line name rows (line.Loop s) (line.Ask t) h k =
-    let e : ◌≡◌ {A = ℕ} 330 327 = same_letter name rows (line.Loop s) (line.Ask t) h k in absurd (omega arith)
+    let e : ◌≡◌ {A = ℕ} 663 672 = same_letter name rows (line.Loop s) (line.Ask t) h k in absurd (omega arith)
 same_line name rows (line.Loop s) (line.Get t) h k =
-    let e : ◌≡◌ {A = ℕ} 330 305 = same_letter name rows (line.Loop s) (line.Get t) h k in absurd (omega arith)
+    let e : ◌≡◌ {A = ℕ} 663 608 = same_letter name rows (line.Loop s) (line.Get t) h k in absurd (omega arith)
 same_line name rows (line.Loop s) (line.Put t) h k =
-    let e : ◌≡◌ {A = ℕ} 330 346 = same_letter name rows (line.Loop s) (line.Put t) h k in absurd (omega arith)
-same_line name rows (line.Serve s) line.Show h k =
-    let e : ◌≡◌ {A = ℕ} 317 323 = same_letter name rows (line.Serve s) line.Show h k in absurd (omega arith)
+    let e : ◌≡◌ {A = ℕ} 663 697 = same_letter name rows (line.Loop s) (line.Put t) h k in absurd (omega arith)
+same_line name rows (line.Loop s) (line.Delete t) h k =
+    let e : ◌≡◌ {A = ℕ} 663 605 = same_letter name rows (line.Loop s) (line.Delete t) h k in absurd (omega arith)
+same_line name rows (line.Loop s) (line.Rename t) h k =
+    let e : ◌≡◌ {A = ℕ} 663 619 = same_letter name rows (line.Loop s) (line.Rename t) h k in absurd (omega arith)
+same_line name rows (line.Serve s) (line.Show t) h k =
+    let e : ◌≡◌ {A = ℕ} 620 635 = same_letter name rows (line.Serve s) (line.Show t) h k in absurd (omega arith)
 same_line name rows (line.Serve s) line.Lab h k =
-    let e : ◌≡◌ {A = ℕ} 317 302 = same_letter name rows (line.Serve s) line.Lab h k in absurd (omega arith)
+    let e : ◌≡◌ {A = ℕ} 620 593 = same_letter name rows (line.Serve s) line.Lab h k in absurd (omega arith)
 same_line name rows (line.Serve s) line.FileLab h k =
-    let e : ◌≡◌ {A = ℕ} 317 312 = same_letter name rows (line.Serve s) line.FileLab h k in absurd (omega arith)
+    let e : ◌≡◌ {A = ℕ} 620 627 = same_letter name rows (line.Serve s) line.FileLab h k in absurd (omega arith)
 same_line name rows (line.Serve s) (line.Loop t) h k =
-    let e : ◌≡◌ {A = ℕ} 317 330 = same_letter name rows (line.Serve s) (line.Loop t) h k in absurd (omega arith)
+    let e : ◌≡◌ {A = ℕ} 620 663 = same_letter name rows (line.Serve s) (line.Loop t) h k in absurd (omega arith)
 same_line name rows (line.Serve s) (line.Serve t) h k = (t, refl, same_serve rows s t h.1 k.1)
 same_line name rows (line.Serve s) (line.Ask t) h k =
-    let e : ◌≡◌ {A = ℕ} 317 327 = same_letter name rows (line.Serve s) (line.Ask t) h k in absurd (omega arith)
+    let e : ◌≡◌ {A = ℕ} 620 672 = same_letter name rows (line.Serve s) (line.Ask t) h k in absurd (omega arith)
 same_line name rows (line.Serve s) (line.Get t) h k =
-    let e : ◌≡◌ {A = ℕ} 317 305 = same_letter name rows (line.Serve s) (line.Get t) h k in absurd (omega arith)
+    let e : ◌≡◌ {A = ℕ} 620 608 = same_letter name rows (line.Serve s) (line.Get t) h k in absurd (omega arith)
 same_line name rows (line.Serve s) (line.Put t) h k =
-    let e : ◌≡◌ {A = ℕ} 317 346 = same_letter name rows (line.Serve s) (line.Put t) h k in absurd (omega arith)
-same_line name rows (line.Ask s) line.Show h k =
-    let e : ◌≡◌ {A = ℕ} 327 323 = same_letter name rows (line.Ask s) line.Show h k in absurd (omega arith)
+    let e : ◌≡◌ {A = ℕ} 620 697 = same_letter name rows (line.Serve s) (line.Put t) h k in absurd (omega arith)
+same_line name rows (line.Serve s) (line.Delete t) h k =
+    let e : ◌≡◌ {A = ℕ} 620 605 = same_letter name rows (line.Serve s) (line.Delete t) h k in absurd (omega arith)
+same_line name rows (line.Serve s) (line.Rename t) h k =
+    let e : ◌≡◌ {A = ℕ} 620 619 = same_letter name rows (line.Serve s) (line.Rename t) h k in absurd (omega arith)
+same_line name rows (line.Ask s) (line.Show t) h k =
+    let e : ◌≡◌ {A = ℕ} 672 635 = same_letter name rows (line.Ask s) (line.Show t) h k in absurd (omega arith)
 same_line name rows (line.Ask s) line.Lab h k =
-    let e : ◌≡◌ {A = ℕ} 327 302 = same_letter name rows (line.Ask s) line.Lab h k in absurd (omega arith)
+    let e : ◌≡◌ {A = ℕ} 672 593 = same_letter name rows (line.Ask s) line.Lab h k in absurd (omega arith)
 same_line name rows (line.Ask s) line.FileLab h k =
-    let e : ◌≡◌ {A = ℕ} 327 312 = same_letter name rows (line.Ask s) line.FileLab h k in absurd (omega arith)
+    let e : ◌≡◌ {A = ℕ} 672 627 = same_letter name rows (line.Ask s) line.FileLab h k in absurd (omega arith)
 same_line name rows (line.Ask s) (line.Loop t) h k =
-    let e : ◌≡◌ {A = ℕ} 327 330 = same_letter name rows (line.Ask s) (line.Loop t) h k in absurd (omega arith)
+    let e : ◌≡◌ {A = ℕ} 672 663 = same_letter name rows (line.Ask s) (line.Loop t) h k in absurd (omega arith)
 same_line name rows (line.Ask s) (line.Serve t) h k =
-    let e : ◌≡◌ {A = ℕ} 327 317 = same_letter name rows (line.Ask s) (line.Serve t) h k in absurd (omega arith)
+    let e : ◌≡◌ {A = ℕ} 672 620 = same_letter name rows (line.Ask s) (line.Serve t) h k in absurd (omega arith)
 same_line name rows (line.Ask s) (line.Ask t) h k = (t, refl, same_ask rows s t h.1 k.1)
 same_line name rows (line.Ask s) (line.Get t) h k =
-    let e : ◌≡◌ {A = ℕ} 327 305 = same_letter name rows (line.Ask s) (line.Get t) h k in absurd (omega arith)
+    let e : ◌≡◌ {A = ℕ} 672 608 = same_letter name rows (line.Ask s) (line.Get t) h k in absurd (omega arith)
 same_line name rows (line.Ask s) (line.Put t) h k =
-    let e : ◌≡◌ {A = ℕ} 327 346 = same_letter name rows (line.Ask s) (line.Put t) h k in absurd (omega arith)
-same_line name rows (line.Get s) line.Show h k =
-    let e : ◌≡◌ {A = ℕ} 305 323 = same_letter name rows (line.Get s) line.Show h k in absurd (omega arith)
+    let e : ◌≡◌ {A = ℕ} 672 697 = same_letter name rows (line.Ask s) (line.Put t) h k in absurd (omega arith)
+same_line name rows (line.Ask s) (line.Delete t) h k =
+    let e : ◌≡◌ {A = ℕ} 672 605 = same_letter name rows (line.Ask s) (line.Delete t) h k in absurd (omega arith)
+same_line name rows (line.Ask s) (line.Rename t) h k =
+    let e : ◌≡◌ {A = ℕ} 672 619 = same_letter name rows (line.Ask s) (line.Rename t) h k in absurd (omega arith)
+same_line name rows (line.Get s) (line.Show t) h k =
+    let e : ◌≡◌ {A = ℕ} 608 635 = same_letter name rows (line.Get s) (line.Show t) h k in absurd (omega arith)
 same_line name rows (line.Get s) line.Lab h k =
-    let e : ◌≡◌ {A = ℕ} 305 302 = same_letter name rows (line.Get s) line.Lab h k in absurd (omega arith)
+    let e : ◌≡◌ {A = ℕ} 608 593 = same_letter name rows (line.Get s) line.Lab h k in absurd (omega arith)
 same_line name rows (line.Get s) line.FileLab h k =
-    let e : ◌≡◌ {A = ℕ} 305 312 = same_letter name rows (line.Get s) line.FileLab h k in absurd (omega arith)
+    let e : ◌≡◌ {A = ℕ} 608 627 = same_letter name rows (line.Get s) line.FileLab h k in absurd (omega arith)
 same_line name rows (line.Get s) (line.Loop t) h k =
-    let e : ◌≡◌ {A = ℕ} 305 330 = same_letter name rows (line.Get s) (line.Loop t) h k in absurd (omega arith)
+    let e : ◌≡◌ {A = ℕ} 608 663 = same_letter name rows (line.Get s) (line.Loop t) h k in absurd (omega arith)
 same_line name rows (line.Get s) (line.Serve t) h k =
-    let e : ◌≡◌ {A = ℕ} 305 317 = same_letter name rows (line.Get s) (line.Serve t) h k in absurd (omega arith)
+    let e : ◌≡◌ {A = ℕ} 608 620 = same_letter name rows (line.Get s) (line.Serve t) h k in absurd (omega arith)
 same_line name rows (line.Get s) (line.Ask t) h k =
-    let e : ◌≡◌ {A = ℕ} 305 327 = same_letter name rows (line.Get s) (line.Ask t) h k in absurd (omega arith)
+    let e : ◌≡◌ {A = ℕ} 608 672 = same_letter name rows (line.Get s) (line.Ask t) h k in absurd (omega arith)
 same_line name rows (line.Get s) (line.Get t) h k = (t, refl, same_get rows s t h.1 k.1)
 same_line name rows (line.Get s) (line.Put t) h k =
-    let e : ◌≡◌ {A = ℕ} 305 346 = same_letter name rows (line.Get s) (line.Put t) h k in absurd (omega arith)
-same_line name rows (line.Put s) line.Show h k =
-    let e : ◌≡◌ {A = ℕ} 346 323 = same_letter name rows (line.Put s) line.Show h k in absurd (omega arith)
+    let e : ◌≡◌ {A = ℕ} 608 697 = same_letter name rows (line.Get s) (line.Put t) h k in absurd (omega arith)
+same_line name rows (line.Get s) (line.Delete t) h k =
+    let e : ◌≡◌ {A = ℕ} 608 605 = same_letter name rows (line.Get s) (line.Delete t) h k in absurd (omega arith)
+same_line name rows (line.Get s) (line.Rename t) h k =
+    let e : ◌≡◌ {A = ℕ} 608 619 = same_letter name rows (line.Get s) (line.Rename t) h k in absurd (omega arith)
+same_line name rows (line.Put s) (line.Show t) h k =
+    let e : ◌≡◌ {A = ℕ} 697 635 = same_letter name rows (line.Put s) (line.Show t) h k in absurd (omega arith)
 same_line name rows (line.Put s) line.Lab h k =
-    let e : ◌≡◌ {A = ℕ} 346 302 = same_letter name rows (line.Put s) line.Lab h k in absurd (omega arith)
+    let e : ◌≡◌ {A = ℕ} 697 593 = same_letter name rows (line.Put s) line.Lab h k in absurd (omega arith)
 same_line name rows (line.Put s) line.FileLab h k =
-    let e : ◌≡◌ {A = ℕ} 346 312 = same_letter name rows (line.Put s) line.FileLab h k in absurd (omega arith)
+    let e : ◌≡◌ {A = ℕ} 697 627 = same_letter name rows (line.Put s) line.FileLab h k in absurd (omega arith)
 same_line name rows (line.Put s) (line.Loop t) h k =
-    let e : ◌≡◌ {A = ℕ} 346 330 = same_letter name rows (line.Put s) (line.Loop t) h k in absurd (omega arith)
+    let e : ◌≡◌ {A = ℕ} 697 663 = same_letter name rows (line.Put s) (line.Loop t) h k in absurd (omega arith)
 same_line name rows (line.Put s) (line.Serve t) h k =
-    let e : ◌≡◌ {A = ℕ} 346 317 = same_letter name rows (line.Put s) (line.Serve t) h k in absurd (omega arith)
+    let e : ◌≡◌ {A = ℕ} 697 620 = same_letter name rows (line.Put s) (line.Serve t) h k in absurd (omega arith)
 same_line name rows (line.Put s) (line.Ask t) h k =
-    let e : ◌≡◌ {A = ℕ} 346 327 = same_letter name rows (line.Put s) (line.Ask t) h k in absurd (omega arith)
+    let e : ◌≡◌ {A = ℕ} 697 672 = same_letter name rows (line.Put s) (line.Ask t) h k in absurd (omega arith)
 same_line name rows (line.Put s) (line.Get t) h k =
-    let e : ◌≡◌ {A = ℕ} 346 305 = same_letter name rows (line.Put s) (line.Get t) h k in absurd (omega arith)
+    let e : ◌≡◌ {A = ℕ} 697 608 = same_letter name rows (line.Put s) (line.Get t) h k in absurd (omega arith)
 same_line name rows (line.Put s) (line.Put t) h k = (t, refl, same_put rows s t h.1 k.1)
+same_line name rows (line.Put s) (line.Delete t) h k =
+    let e : ◌≡◌ {A = ℕ} 697 605 = same_letter name rows (line.Put s) (line.Delete t) h k in absurd (omega arith)
+same_line name rows (line.Put s) (line.Rename t) h k =
+    let e : ◌≡◌ {A = ℕ} 697 619 = same_letter name rows (line.Put s) (line.Rename t) h k in absurd (omega arith)
+same_line name rows (line.Delete s) (line.Show t) h k =
+    let e : ◌≡◌ {A = ℕ} 605 635 = same_letter name rows (line.Delete s) (line.Show t) h k in absurd (omega arith)
+same_line name rows (line.Delete s) line.Lab h k =
+    let e : ◌≡◌ {A = ℕ} 605 593 = same_letter name rows (line.Delete s) line.Lab h k in absurd (omega arith)
+same_line name rows (line.Delete s) line.FileLab h k =
+    let e : ◌≡◌ {A = ℕ} 605 627 = same_letter name rows (line.Delete s) line.FileLab h k in absurd (omega arith)
+same_line name rows (line.Delete s) (line.Loop t) h k =
+    let e : ◌≡◌ {A = ℕ} 605 663 = same_letter name rows (line.Delete s) (line.Loop t) h k in absurd (omega arith)
+same_line name rows (line.Delete s) (line.Serve t) h k =
+    let e : ◌≡◌ {A = ℕ} 605 620 = same_letter name rows (line.Delete s) (line.Serve t) h k in absurd (omega arith)
+same_line name rows (line.Delete s) (line.Ask t) h k =
+    let e : ◌≡◌ {A = ℕ} 605 672 = same_letter name rows (line.Delete s) (line.Ask t) h k in absurd (omega arith)
+same_line name rows (line.Delete s) (line.Get t) h k =
+    let e : ◌≡◌ {A = ℕ} 605 608 = same_letter name rows (line.Delete s) (line.Get t) h k in absurd (omega arith)
+same_line name rows (line.Delete s) (line.Put t) h k =
+    let e : ◌≡◌ {A = ℕ} 605 697 = same_letter name rows (line.Delete s) (line.Put t) h k in absurd (omega arith)
+same_line name rows (line.Delete s) (line.Delete t) h k = (t, refl, same_delete rows s t h.1 k.1)
+same_line name rows (line.Delete s) (line.Rename t) h k =
+    let e : ◌≡◌ {A = ℕ} 605 619 = same_letter name rows (line.Delete s) (line.Rename t) h k in absurd (omega arith)
+same_line name rows (line.Rename s) (line.Show t) h k =
+    let e : ◌≡◌ {A = ℕ} 619 635 = same_letter name rows (line.Rename s) (line.Show t) h k in absurd (omega arith)
+same_line name rows (line.Rename s) line.Lab h k =
+    let e : ◌≡◌ {A = ℕ} 619 593 = same_letter name rows (line.Rename s) line.Lab h k in absurd (omega arith)
+same_line name rows (line.Rename s) line.FileLab h k =
+    let e : ◌≡◌ {A = ℕ} 619 627 = same_letter name rows (line.Rename s) line.FileLab h k in absurd (omega arith)
+same_line name rows (line.Rename s) (line.Loop t) h k =
+    let e : ◌≡◌ {A = ℕ} 619 663 = same_letter name rows (line.Rename s) (line.Loop t) h k in absurd (omega arith)
+same_line name rows (line.Rename s) (line.Serve t) h k =
+    let e : ◌≡◌ {A = ℕ} 619 620 = same_letter name rows (line.Rename s) (line.Serve t) h k in absurd (omega arith)
+same_line name rows (line.Rename s) (line.Ask t) h k =
+    let e : ◌≡◌ {A = ℕ} 619 672 = same_letter name rows (line.Rename s) (line.Ask t) h k in absurd (omega arith)
+same_line name rows (line.Rename s) (line.Get t) h k =
+    let e : ◌≡◌ {A = ℕ} 619 608 = same_letter name rows (line.Rename s) (line.Get t) h k in absurd (omega arith)
+same_line name rows (line.Rename s) (line.Put t) h k =
+    let e : ◌≡◌ {A = ℕ} 619 697 = same_letter name rows (line.Rename s) (line.Put t) h k in absurd (omega arith)
+same_line name rows (line.Rename s) (line.Delete t) h k =
+    let e : ◌≡◌ {A = ℕ} 619 605 = same_letter name rows (line.Rename s) (line.Delete t) h k in absurd (omega arith)
+same_line name rows (line.Rename s) (line.Rename t) h k = (t, refl, same_rename rows s t h.1 k.1)
 
 pub one_line : (found : Option (Text × List Row)) (x y : Line) → AsksFor found x → AsksFor found y → IsSame x y
 one_line None x y h k = absurd h

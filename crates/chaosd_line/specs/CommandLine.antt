@@ -38,15 +38,6 @@ peer_words = record (new_rule (codes "PEER")) {
 abbrev pub loop_command : App
 loop_command = with_rule (new_app (codes "loop")) carriage_option
 
--- ask [--carriage N] ADDRESS UDP TO PEER...
-abbrev pub ask_command : App
-ask_command = with_rule
-    (with_rule
-    (with_rule (with_rule (with_rule (new_app (codes "ask")) carriage_option) (needed (codes "ADDRESS")))
-    (needed (codes "UDP")))
-    (needed (codes "TO")))
-    peer_words
-
 -- an option that need not be given
 abbrev pub optional : Text → Rule
 optional id = record (new_rule id) {
@@ -60,6 +51,22 @@ flag id = record (new_rule id) {
   long = Some id;
   action = Some SetTrue;
 }
+
+-- show [--file]
+abbrev pub show_command : App
+show_command = with_rule (new_app (codes "show")) (flag (codes "file"))
+
+-- ask [--carriage N] [--timeout SECONDS] [--strict] ADDRESS UDP TO PEER...
+abbrev pub ask_options : App → App
+ask_options app = with_rule (with_rule (with_rule app carriage_option) (optional (codes "timeout"))) (flag (codes "strict"))
+
+abbrev pub ask_command : App
+ask_command = with_rule
+    (with_rule
+    (with_rule (with_rule (ask_options (new_app (codes "ask"))) (needed (codes "ADDRESS")))
+    (needed (codes "UDP")))
+    (needed (codes "TO")))
+    peer_words
 
 -- [--turns N] [--carriage N] [--window N] [--quiet] [--log LEVEL] [--log-time] [--only-peers] [--read-only]
 abbrev pub turn_options : App → App
@@ -86,15 +93,17 @@ file_words id = record (new_rule id) {
   required = true;
 }
 
--- [--carriage N] [--login NAME] [--window N] [--text] [--quiet]
-abbrev pub copy_options : App → App
-copy_options app = with_rule
-    (with_rule
+-- [--carriage N] [--login NAME] [--window N] [--timeout SECONDS]
+abbrev pub call_options : App → App
+call_options app = with_rule
     (with_rule
     (with_rule (with_rule app carriage_option) (with_default (codes "login") (codes "CHAOSD")))
     (with_default (codes "window") (codes "64")))
-    (flag (codes "text")))
-    (flag (codes "quiet"))
+    (optional (codes "timeout"))
+
+-- with these [--text] [--quiet] [--verbose]
+abbrev pub copy_options : App → App
+copy_options app = with_rule (with_rule (with_rule (call_options app) (flag (codes "text"))) (flag (codes "quiet"))) (flag (codes "verbose"))
 
 -- ADDRESS UDP SERVER
 abbrev pub with_addresses : App → App
@@ -107,11 +116,21 @@ get_command = with_rule
     (with_addresses (with_rule (copy_options (new_app (codes "get"))) (optional (codes "output"))))
     (file_words (codes "PATH"))
 
--- put [--as PATH] with these, and LOCAL...
+-- put [--rename] [--as PATH] with these, and LOCAL...
 abbrev pub put_command : App
 put_command = with_rule
-    (with_addresses (with_rule (copy_options (new_app (codes "put"))) (optional (codes "as"))))
+    (with_addresses (with_rule (with_rule (copy_options (new_app (codes "put"))) (flag (codes "rename"))) (optional (codes "as"))))
     (file_words (codes "LOCAL"))
+
+-- delete PATH...
+abbrev pub delete_command : App
+delete_command = with_rule (with_addresses (call_options (new_app (codes "delete")))) (file_words (codes "PATH"))
+
+-- rename OLD NEW
+abbrev pub rename_command : App
+rename_command = with_rule
+    (with_rule (with_addresses (call_options (new_app (codes "rename")))) (needed (codes "OLD")))
+    (needed (codes "NEW"))
 
 -- a subcommand has to be given, no program's name stands in front of the words, and there is a version to be shown
 abbrev pub bare_chaosd : App
@@ -126,11 +145,15 @@ chaosd = with_subcommand
     (with_subcommand
     (with_subcommand
     (with_subcommand
-    (with_subcommand (with_subcommand bare_chaosd (new_app (codes "show")).top)
+    (with_subcommand
+    (with_subcommand
+    (with_subcommand (with_subcommand bare_chaosd show_command.top)
     (new_app (codes "lab")).top)
     (new_app (codes "filelab")).top)
     loop_command.top)
     serve_command.top)
     ask_command.top)
     get_command.top)
-    put_command.top
+    put_command.top)
+    delete_command.top)
+    rename_command.top

@@ -16,6 +16,7 @@ use Rattle.chaosd_line.specs.declared.unread.Unread.TheVariants as unread
 -- the kind of the error by which a user is told why values can't be read
 abbrev pub IsTold : Unread → ErrorKind → Type 0
 IsTold (unread.Bad word) kind = (kind ≡ ValueValidation) ⊎ (kind ≡ OutOfMemory)
+IsTold (unread.Clash files) kind = (kind ≡ ValueValidation) ⊎ (kind ≡ OutOfMemory)
 IsTold unread.NoMemory kind = kind ≡ OutOfMemory
 
 -- the exit status of a fault

@@ -1,16 +1,19 @@
--- The values of `get` and `put`.
-use Rattle.std.specs.Prelude.{◌≡◌, ◌==◌, ◌&&◌, ◌||◌, ◌++◌, ◌∷◌, ⊤, Bool, true, not, List, [], Option, None, Some, is_some, Result, MatchResult, if◌then◌else◌, codes, length, map, option_map, unwrap_or}
+-- The values of the commands that call a server: `get`, `put`, `delete` and `rename`.
+use Rattle.std.specs.Prelude.{◌≡◌, ◌≢◌, ◌==◌, ◌&&◌, ◌||◌, ◌++◌, ◌∷◌, ⊤, ℕ, Bool, true, false, not, List, [], Option, None, Some, is_some, Result, MatchResult, if◌then◌else◌, codes, length, map, option_map, unwrap_or}
 use Rattle.std.specs.List.{list_all, list_any}
 use Rattle.std.specs.Option.{IsSomeAnd}
 use Rattle.std.specs.Str.{bytes_eq}
 use Rattle.clap.specs.Words.{Row, Text, all_of, first_of}
-use Rattle.chaos_file.specs.Names.{is_path}
-use Rattle.chaosd_line.specs.Values.{IsAddress, IsCarriage, IsFlag, IsLogin, IsPeer, IsSocket, IsWindow}
+use Rattle.chaos_file.specs.Names.{is_path, is_path_byte}
+use Rattle.chaosd_line.specs.Values.{IsAddress, IsCarriage, IsFlag, IsLogin, IsPeer, IsSocket, IsTimeout, IsWindow}
+use Rattle.chaosd_line.specs.declared.line.Calling.{Calling}
 use Rattle.chaosd_line.specs.declared.line.Copying.{Copying}
+use Rattle.chaosd_line.specs.declared.line.Delete.{Delete}
 use Rattle.chaosd_line.specs.declared.line.Get.{Get}
 use Rattle.chaosd_line.specs.declared.line.Put.{Put}
+use Rattle.chaosd_line.specs.declared.line.Rename.{Rename}
 use Rattle.chaosd_line.specs.declared.unread.Unread.{Unread}
-use Rattle.chaosd_line.specs.declared.unread.Unread.TheVariants.{Bad, NoMemory}
+use Rattle.chaosd_line.specs.declared.unread.Unread.TheVariants.{Bad, Clash, NoMemory}
 
 -- what stands behind the last slash (47)
 abbrev pub last_from : Text → Text → Text
@@ -20,29 +23,66 @@ last_from name (b ∷ bytes) = last_from (if b == 47 then [] else name ++ b ∷ 
 abbrev pub last_of : Text → Text
 last_of text = last_from [] text
 
--- the last name is a path, and not `-` alone
-abbrev pub is_own_name : Text → Bool
-is_own_name text = is_path (last_of text) && not (bytes_eq (last_of text) (codes "-"))
+-- a byte that no path has becomes an underscore (95), and so does a dot (46) that would stand in front
+abbrev pub path_byte : ℕ → ℕ
+path_byte b = if is_path_byte b then b else 95
+
+abbrev pub first_byte : ℕ → ℕ
+first_byte b = if b == 46 then 95 else path_byte b
+
+abbrev pub renamed : Text → Text
+renamed [] = []
+renamed (b ∷ bytes) = first_byte b ∷ map path_byte bytes
+
+abbrev pub name_for : Bool → Text → Text
+name_for is_renaming name = if is_renaming then renamed name else name
+
+-- a name is a path's, and is not `-`, which is standard input
+abbrev pub taken_as : Text → Text → Option Text
+taken_as name path = if is_path path && not (bytes_eq name (codes "-")) then Some path else None
+
+-- the path that a local file goes under: its last name, or what that is renamed to, where FILE takes it
+abbrev pub path_for : Bool → Text → Option Text
+path_for is_renaming text = taken_as (last_of text) (name_for is_renaming (last_of text))
+
+-- there are two paths, and they are one
+abbrev pub is_same_path : Option Text → Option Text → Bool
+is_same_path (Some p) (Some q) = bytes_eq p q
+is_same_path _ _ = false
+
+-- no text is the same as a later one
+abbrev pub are_apart : (Text → Text → Bool) → List Text → Bool
+are_apart same [] = true
+are_apart same (t ∷ texts) = not (list_any (λ u. same u t) texts) && are_apart same texts
+
+abbrev pub has_same_name : Text → Text → Bool
+has_same_name u t = bytes_eq (last_of u) (last_of t)
+
+abbrev pub goes_same : Bool → Text → Text → Bool
+goes_same is_renaming u t = is_same_path (path_for is_renaming u) (path_for is_renaming t)
 
 -- no two have one last name
 abbrev pub are_distinct : List Text → Bool
-are_distinct [] = true
-are_distinct (t ∷ texts) = not (list_any (λ u. bytes_eq (last_of u) (last_of t)) texts) && are_distinct texts
+are_distinct texts = are_apart has_same_name texts
 
 abbrev pub are_paths : List Text → Bool
 are_paths texts = list_all is_path texts && are_distinct texts
 
-abbrev pub are_locals : List Text → Bool
-are_locals texts = list_all is_own_name texts && are_distinct texts
+-- local files: none is standard input, and no two go under one path
+abbrev pub is_file : Text → Bool
+is_file text = not (bytes_eq text (codes "-"))
+
+abbrev pub are_locals : Bool → List Text → Bool
+are_locals is_renaming texts = list_all is_file texts && are_apart (goes_same is_renaming) texts
 
 -- a name of their own is for one file alone
 abbrev pub fits_one : Option Text → List Text → Bool
 fits_one named texts = not (is_some named) || length texts == 1
 
--- local files have names at the server: their own, or the one that is given for one of them
-abbrev pub are_named : Option Text → List Text → Bool
-are_named None texts = are_locals texts
-are_named (Some path) texts = is_path path && length texts == 1
+-- local files go under paths of their own, or one of them under the path that is given
+abbrev pub are_named : Bool → Option Text → List Text → Bool
+are_named is_renaming None texts = are_locals is_renaming texts
+are_named is_renaming (Some path) texts = is_path path && length texts == 1
 
 -- the words at a place
 abbrev pub words_of : Text → List Row → List Text
@@ -54,20 +94,36 @@ IsGetOf copying output texts get = (get.copying ≡ copying) × (option_map (λ 
     × (map (λ t. t.now) get.paths.items ≡ texts) × (are_paths texts ≡ true) × (fits_one output texts ≡ true)
 
 -- likewise of `put`
-abbrev pub IsPutOf : Copying → Option Text → List Text → Put → Type 0
-IsPutOf copying path texts put = (put.copying ≡ copying) × (option_map (λ t. t.now) put.path ≡ path)
-    × (map (λ t. t.now) put.locals.items ≡ texts) × (are_named path texts ≡ true)
+abbrev pub IsPutOf : Copying → Bool → Option Text → List Text → Put → Type 0
+IsPutOf copying is_renaming path texts put = (put.copying ≡ copying) × (put.is_renaming ≡ is_renaming)
+    × (option_map (λ t. t.now) put.path ≡ path) × (map (λ t. t.now) put.locals.items ≡ texts)
+    × (are_named is_renaming path texts ≡ true)
 
--- the values that `get` and `put` have in common
-pub record IsCopying (rows : List Row) (c : Copying) : Type 0 where
+-- likewise of `delete` and `rename`
+abbrev pub IsDeleteOf : Calling → List Text → Delete → Type 0
+IsDeleteOf calling texts d = (d.calling ≡ calling) × (map (λ t. t.now) d.paths.items ≡ texts) × (are_paths texts ≡ true)
+
+-- a path of FILE, wherever its text lies
+abbrev pub IsPathOf : Text → Text → Type 0
+IsPathOf text path = (path ≡ text) × (is_path text ≡ true)
+
+-- the values that the callers of a server have in common: the server is another host
+pub record IsCalling (rows : List Row) (c : Calling) : Type 0 where
   pub carriage : IsSomeAnd (first_of (codes "carriage") rows) (λ text. IsCarriage text c.carriage)
   pub login : IsSomeAnd (first_of (codes "login") rows) (λ text. IsLogin text c.login)
   pub window : IsSomeAnd (first_of (codes "window") rows) (λ text. IsWindow text c.window)
-  pub is_text : IsSomeAnd (first_of (codes "text") rows) (λ text. IsFlag text c.is_text)
-  pub is_quiet : IsSomeAnd (first_of (codes "quiet") rows) (λ text. IsFlag text c.is_quiet)
+  pub timeout : IsTimeout (first_of (codes "timeout") rows) c.timeout
   pub address : IsSomeAnd (first_of (codes "ADDRESS") rows) (λ text. IsAddress text c.address)
   pub socket : IsSomeAnd (first_of (codes "UDP") rows) (λ text. IsSocket text c.socket)
   pub server : IsSomeAnd (first_of (codes "SERVER") rows) (λ text. IsPeer text c.server)
+  pub other : c.server.address ≢ c.address
+
+-- the values that `get` and `put` have in common
+pub record IsCopying (rows : List Row) (c : Copying) : Type 0 where
+  pub calling : IsCalling rows c.calling
+  pub is_text : IsSomeAnd (first_of (codes "text") rows) (λ text. IsFlag text c.is_text)
+  pub is_quiet : IsSomeAnd (first_of (codes "quiet") rows) (λ text. IsFlag text c.is_quiet)
+  pub is_verbose : IsSomeAnd (first_of (codes "verbose") rows) (λ text. IsFlag text c.is_verbose)
 
 -- the values of `get`
 pub record IsGet (rows : List Row) (get : Get) : Type 0 where
@@ -80,13 +136,27 @@ pub record IsGet (rows : List Row) (get : Get) : Type 0 where
 -- the values of `put`
 pub record IsPut (rows : List Row) (put : Put) : Type 0 where
   pub copying : IsCopying rows put.copying
+  pub is_renaming : IsSomeAnd (first_of (codes "rename") rows) (λ text. IsFlag text put.is_renaming)
   pub path : option_map (λ t. t.now) put.path ≡ first_of (codes "as") rows
-  pub named : are_named (first_of (codes "as") rows) (words_of (codes "LOCAL") rows) ≡ true
+  pub named : are_named put.is_renaming (first_of (codes "as") rows) (words_of (codes "LOCAL") rows) ≡ true
   pub locals : map (λ t. t.now) put.locals.items ≡ words_of (codes "LOCAL") rows
 
--- a word is bad only where this holds
+-- the values of `delete`
+pub record IsDelete (rows : List Row) (d : Delete) : Type 0 where
+  pub calling : IsCalling rows d.calling
+  pub legal : are_paths (words_of (codes "PATH") rows) ≡ true
+  pub paths : map (λ t. t.now) d.paths.items ≡ words_of (codes "PATH") rows
+
+-- the values of `rename`
+pub record IsRename (rows : List Row) (r : Rename) : Type 0 where
+  pub calling : IsCalling rows r.calling
+  pub from : IsSomeAnd (first_of (codes "OLD") rows) (λ text. IsPathOf text r.from.now)
+  pub to : IsSomeAnd (first_of (codes "NEW") rows) (λ text. IsPathOf text r.to.now)
+
+-- a word is bad, or two clash, only where this holds
 abbrev pub IfBad : Unread → Type 0 → Type 0
 IfBad (Bad word) T = T
+IfBad (Clash files) T = T
 IfBad NoMemory T = ⊤
 
 -- the answer is the value of which P holds, and a word is bad only where P holds of nothing

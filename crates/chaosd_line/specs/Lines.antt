@@ -1,17 +1,20 @@
 -- The line that the words ask for, by the subcommand and the values that clap gives.
-use Rattle.std.specs.Prelude.{◌≡◌, List, [], Option, Some, codes, map, option_map, unwrap_or}
+use Rattle.std.specs.Prelude.{◌≡◌, ◌≢◌, List, [], Option, Some, codes, map, option_map, unwrap_or}
 use Rattle.std.specs.Option.{IsSomeAnd}
 use Rattle.clap.specs.Words.{Row, Text, all_of, first_of, subcommand_of}
 use Rattle.chaosd_line.specs.CommandLine.{chaosd}
-use Rattle.chaosd_line.specs.Files.{IsGet, IsPut}
-use Rattle.chaosd_line.specs.Values.{ArePeers, IsAddress, IsCarriage, IsFlag, IsLog, IsSocket, IsTurns, IsWindow}
+use Rattle.chaosd_line.specs.Files.{IsDelete, IsGet, IsPut, IsRename}
+use Rattle.chaosd_line.specs.Values.{ArePeers, IsAddress, IsCarriage, IsFlag, IsLog, IsSocket, IsTimeout, IsTurns, IsWindow}
 use Rattle.chaosd_line.specs.declared.line.Line.{Line}
 use Rattle.chaosd_line.specs.declared.line.Line.TheVariants as line
 use Rattle.chaosd_line.specs.declared.line.Serve.{Serve}
 use Rattle.chaosd_line.specs.declared.line.Ask.{Ask}
+use Rattle.chaosd_line.specs.declared.line.Calling.{Calling}
 use Rattle.chaosd_line.specs.declared.line.Copying.{Copying}
+use Rattle.chaosd_line.specs.declared.line.Delete.{Delete}
 use Rattle.chaosd_line.specs.declared.line.Get.{Get}
 use Rattle.chaosd_line.specs.declared.line.Put.{Put}
+use Rattle.chaosd_line.specs.declared.line.Rename.{Rename}
 
 -- the values of `serve`
 pub record IsServe (rows : List Row) (serve : Serve) : Type 0 where
@@ -28,17 +31,20 @@ pub record IsServe (rows : List Row) (serve : Serve) : Type 0 where
   pub folder : first_of (codes "FOLDER") rows ≡ Some serve.folder.now
   pub peers : ArePeers (unwrap_or (all_of (codes "PEER") rows) []) serve.peers
 
--- the values of `ask`
+-- the values of `ask`, which asks another host
 pub record IsAsk (rows : List Row) (ask : Ask) : Type 0 where
   pub carriage : IsSomeAnd (first_of (codes "carriage") rows) (λ text. IsCarriage text ask.carriage)
+  pub timeout : IsTimeout (first_of (codes "timeout") rows) ask.timeout
+  pub is_strict : IsSomeAnd (first_of (codes "strict") rows) (λ text. IsFlag text ask.is_strict)
   pub address : IsSomeAnd (first_of (codes "ADDRESS") rows) (λ text. IsAddress text ask.address)
   pub socket : IsSomeAnd (first_of (codes "UDP") rows) (λ text. IsSocket text ask.socket)
   pub to : IsSomeAnd (first_of (codes "TO") rows) (λ text. IsAddress text ask.to)
+  pub other : ask.to ≢ ask.address
   pub peers : ArePeers (unwrap_or (all_of (codes "PEER") rows) []) ask.peers
 
 -- the line that a subcommand and its values ask for
 abbrev pub IsLine : Text → List Row → Line → Type 0
-IsLine name rows line.Show = name ≡ codes "show"
+IsLine name rows (line.Show is_file) = (name ≡ codes "show") × IsSomeAnd (first_of (codes "file") rows) (λ text. IsFlag text is_file)
 IsLine name rows line.Lab = name ≡ codes "lab"
 IsLine name rows line.FileLab = name ≡ codes "filelab"
 IsLine name rows (line.Loop carriage) = (name ≡ codes "loop") × IsSomeAnd (first_of (codes "carriage") rows) (λ text. IsCarriage text carriage)
@@ -46,6 +52,8 @@ IsLine name rows (line.Serve serve) = (name ≡ codes "serve") × IsServe rows s
 IsLine name rows (line.Ask ask) = (name ≡ codes "ask") × IsAsk rows ask
 IsLine name rows (line.Get get) = (name ≡ codes "get") × IsGet rows get
 IsLine name rows (line.Put put) = (name ≡ codes "put") × IsPut rows put
+IsLine name rows (line.Delete d) = (name ≡ codes "delete") × IsDelete rows d
+IsLine name rows (line.Rename r) = (name ≡ codes "rename") × IsRename rows r
 
 abbrev pub AsksFor : Option (Text × List Row) → Line → Type 0
 AsksFor found asked = IsSomeAnd found (λ f. IsLine f.0 f.1 asked)
@@ -72,21 +80,29 @@ pub record IsSameServe (s t : Serve) : Type 0 where
 -- the same values of `ask`
 pub record IsSameAsk (s t : Ask) : Type 0 where
   pub carriage : s.carriage ≡ t.carriage
+  pub timeout : s.timeout ≡ t.timeout
+  pub is_strict : s.is_strict ≡ t.is_strict
   pub address : s.address ≡ t.address
   pub socket : s.socket ≡ t.socket
   pub to : s.to ≡ t.to
   pub peers : s.peers ≡ t.peers
 
--- the same values that `get` and `put` have in common
-pub record IsSameCopying (s t : Copying) : Type 0 where
+-- the same values that the callers of a server have in common
+pub record IsSameCalling (s t : Calling) : Type 0 where
   pub carriage : s.carriage ≡ t.carriage
   pub login : s.login.now ≡ t.login.now
   pub window : s.window ≡ t.window
-  pub is_text : s.is_text ≡ t.is_text
-  pub is_quiet : s.is_quiet ≡ t.is_quiet
+  pub timeout : s.timeout ≡ t.timeout
   pub address : s.address ≡ t.address
   pub socket : s.socket ≡ t.socket
   pub server : s.server ≡ t.server
+
+-- the same values that `get` and `put` have in common
+pub record IsSameCopying (s t : Copying) : Type 0 where
+  pub calling : IsSameCalling s.calling t.calling
+  pub is_text : s.is_text ≡ t.is_text
+  pub is_quiet : s.is_quiet ≡ t.is_quiet
+  pub is_verbose : s.is_verbose ≡ t.is_verbose
 
 -- the same values of `get`, wherever the texts lie
 pub record IsSameGet (s t : Get) : Type 0 where
@@ -97,14 +113,28 @@ pub record IsSameGet (s t : Get) : Type 0 where
 -- the same values of `put`
 pub record IsSamePut (s t : Put) : Type 0 where
   pub copying : IsSameCopying s.copying t.copying
+  pub is_renaming : s.is_renaming ≡ t.is_renaming
   pub path : option_map (λ u. u.now) s.path ≡ option_map (λ u. u.now) t.path
   pub locals : map (λ u. u.now) s.locals.items ≡ map (λ u. u.now) t.locals.items
+
+-- the same values of `delete`
+pub record IsSameDelete (s t : Delete) : Type 0 where
+  pub calling : IsSameCalling s.calling t.calling
+  pub paths : map (λ u. u.now) s.paths.items ≡ map (λ u. u.now) t.paths.items
+
+-- the same values of `rename`
+pub record IsSameRename (s t : Rename) : Type 0 where
+  pub calling : IsSameCalling s.calling t.calling
+  pub from : s.from.now ≡ t.from.now
+  pub to : s.to.now ≡ t.to.now
 
 abbrev pub IsSame : Line → Line → Type 0
 IsSame (line.Serve s) other = (t : Serve) × (other ≡ line.Serve t) × IsSameServe s t
 IsSame (line.Ask s) other = (t : Ask) × (other ≡ line.Ask t) × IsSameAsk s t
 IsSame (line.Get s) other = (t : Get) × (other ≡ line.Get t) × IsSameGet s t
 IsSame (line.Put s) other = (t : Put) × (other ≡ line.Put t) × IsSamePut s t
+IsSame (line.Delete s) other = (t : Delete) × (other ≡ line.Delete t) × IsSameDelete s t
+IsSame (line.Rename s) other = (t : Rename) × (other ≡ line.Rename t) × IsSameRename s t
 IsSame one other = other ≡ one
 
 -- no words ask for two lines

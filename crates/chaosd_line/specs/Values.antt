@@ -1,5 +1,5 @@
 -- The forms of the words of a line, each beside the value that it stands for.
-use Rattle.std.specs.Prelude.{◌≡◌, ◌≢◌, ◌⊎◌, ◌≤◌, ◌<◌, ◌==◌, ◌++◌, ◌∷◌, ℕ, Bool, true, false, codes, List, [], length, slice_index, Option, MatchOption, Result, MatchResult}
+use Rattle.std.specs.Prelude.{◌≡◌, ◌≢◌, ◌⊎◌, ◌≤◌, ◌<◌, ◌==◌, ◌++◌, ◌∷◌, ⊤, ℕ, Bool, true, false, codes, List, [], length, slice_index, Option, None, Some, MatchOption, Result, MatchResult}
 use Rattle.std.specs.List.{AllPairs, AllZip, after_first, before_first, position_or_len}
 use Rattle.std.specs.Net.Grammar.{IsSocketV4Text}
 use Rattle.std.specs.Net.Socket.{v4_port}
@@ -43,6 +43,17 @@ IsTurns text n =
 abbrev pub IsWindow : Text → ℕ → Type 0
 IsWindow text n =
     IsNumeral 10 text × ¬ (IsPadded text) × (n ≡ digits_value 10 text) × (1 ≤ n) × (n ≤ 64)
+
+-- decimal digits without leading zeros that write a number from 1 to 3600
+abbrev pub IsSeconds : Text → ℕ → Type 0
+IsSeconds text n =
+    IsNumeral 10 text × ¬ (IsPadded text) × (n ≡ digits_value 10 text) × (1 ≤ n) × (n ≤ 3600)
+
+-- so many seconds where they are given, and none where they aren't
+abbrev pub IsTimeout : Option Text → Option ℕ → Type 0
+IsTimeout None None = ⊤
+IsTimeout (Some text) (Some n) = IsSeconds text n
+IsTimeout _ _ = ⊥
 
 -- the version of the datagrams
 abbrev pub IsCarriage : Text → Carriage → Type 0

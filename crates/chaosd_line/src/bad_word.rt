@@ -40,9 +40,18 @@ pub(crate) const FLAG_FORM: &str = "no value";
 pub(crate) const PATHS_FORM: &str =
     "paths of FILE (1 to 64 letters, digits, dots, hyphens and underscores, no dot in front), each once";
 
+/// What is wanted of one path of the server.
+pub(crate) const PATH_FORM: &str =
+    "a path of FILE (1 to 64 letters, digits, dots, hyphens and underscores, no dot in front)";
+
 /// What is wanted of local files that are put under their own names.
-pub(crate) const LOCALS_FORM: &str =
-    "files whose last names are paths of FILE, each once; name one by --as";
+pub(crate) const LOCALS_FORM: &str = "a name for standard input, by --as";
+
+/// What is wanted of the host that is called.
+pub(crate) const OTHER_FORM: &str = "another Chaosnet address than this host's own";
+
+/// What is wanted of a number of seconds.
+pub(crate) const TIMEOUT_FORM: &str = "a decimal number without leading zeros, from 1 to 3600";
 
 /// What is wanted of the local file that a single file is got into.
 pub(crate) const OUTPUT_FORM: &str = "one PATH alone";
@@ -50,6 +59,25 @@ pub(crate) const OUTPUT_FORM: &str = "one PATH alone";
 /// What is wanted of the name that a single file is put under.
 pub(crate) const AS_FORM: &str =
     "a path of FILE (1 to 64 letters, digits, dots, hyphens and underscores, no dot in front), and one LOCAL alone";
+
+/// Two local files that would go under one path.
+#[derive(Clone, Copy)]
+pub(crate) struct Clash<'a> {
+    /// The one that stands in front.
+    pub(crate) first: &'a str,
+    /// The other, which would replace it.
+    pub(crate) second: &'a str,
+}
+
+impl Clash<'_> {
+    /// What the user is told of it.
+    pub(crate) fn message(&self, alloc: Global) -> Result<String, AllocError> {
+        let Clash { first, second } = *self;
+        format!(in alloc;
+            "invalid value '{second}' for 'LOCAL': wanted a path for each file, but '{first}' goes under the same; name one by --as"
+        )
+    }
+}
 
 /// A word that is not of the form that its place wants.
 #[derive(Clone, Copy)]

@@ -3,7 +3,7 @@ ghost use Rattle.std.specs.Prelude.{◌≡◌, map};
 ghost use Rattle.std.specs.List.{list_all, list_any};
 ghost use Rattle.std.specs.Str.{bytes_eq};
 ghost use Rattle.chaos_file.specs.Names.{is_path};
-ghost use Rattle.chaosd_line.specs.Files.{last_of, is_own_name, are_distinct, are_paths, are_locals};
+ghost use Rattle.chaosd_line.specs.Files.{last_of, are_distinct, are_paths};
 
 use crate::names::is_path;
 
@@ -18,14 +18,6 @@ pub fn last_name(text: &[u8]) -> &[u8]
         }
     }
     &text[start..]
-}
-
-/// Whether a local file's last name is a path, and no sign for standard input.
-fn is_own_name(text: &str) -> bool
-    ensures { result ≡ is_own_name text.now }
-{
-    let name = last_name(text.as_bytes());
-    is_path(name) && name != b"-".as_slice()
 }
 
 /// Whether a last name is that of one of these texts.
@@ -61,20 +53,6 @@ pub(crate) fn are_paths(texts: &[&str]) -> bool
     all_paths(texts) && are_distinct(texts)
 }
 
-/// Whether the last name of each local file is a path of FILE, and no sign for standard input.
-fn all_own_names(texts: &[&str]) -> bool
-    ensures { result ≡ list_all (λ t. is_own_name t.now) texts.now }
-{
-    texts.iter().all(|t| is_own_name(t))
-}
-
-/// Whether the texts are local files whose last names are paths of FILE, each once.
-pub(crate) fn are_locals(texts: &[&str]) -> bool
-    ensures { result ≡ are_locals (map (λ t. t.now) texts.now) }
-{
-    all_own_names(texts) && are_distinct(texts)
-}
-
 /// The first text whose last name is that of a later one.
 fn repeated<'a>(texts: &[&'a str]) -> &'a str {
     for i in 0..texts.len() {
@@ -89,16 +67,6 @@ fn repeated<'a>(texts: &[&'a str]) -> &'a str {
 pub(crate) fn bad_path<'a>(texts: &[&'a str]) -> &'a str {
     for i in 0..texts.len() {
         if !is_path(texts[i].as_bytes()) {
-            return texts[i];
-        }
-    }
-    repeated(texts)
-}
-
-/// The first local file whose last name is no path, else the first whose last name is that of a later one.
-pub(crate) fn bad_local<'a>(texts: &[&'a str]) -> &'a str {
-    for i in 0..texts.len() {
-        if !is_own_name(texts[i]) {
             return texts[i];
         }
     }

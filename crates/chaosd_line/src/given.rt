@@ -4,14 +4,17 @@ ghost use Rattle.std.specs.Option.{IsSomeAnd};
 ghost use Rattle.clap.specs.Words.{all_of, first_of, found_of, rows_of, subcommand_rows_of};
 ghost use Rattle.chaosd_line.specs.Files.{GivesFiles};
 ghost use Rattle.chaosd_line.specs.Lines.{AsksFor, IsAsk, IsLine, IsServe};
-ghost use Rattle.chaosd_line.specs.Values.{ArePeers, IsAddress, IsCarriage, IsLog, IsSocket, IsTurns, Reads};
+ghost use Rattle.chaosd_line.specs.Values.{ArePeers, IsAddress, IsCarriage, IsFlag, IsLog, IsSocket, IsTurns, IsWindow, Reads};
 
-use crate::bad_word::{ADDRESS_FORM, BadWord, CARRIAGE_FORM, LOG_FORM, SOCKET_FORM, TURNS_FORM};
-use crate::copies::{get_of, given_flag, given_window, put_of};
+use crate::bad_word::{
+    ADDRESS_FORM, BadWord, CARRIAGE_FORM, FLAG_FORM, LOG_FORM, SOCKET_FORM, TURNS_FORM, WINDOW_FORM,
+};
+use crate::calls::{delete_of, given_timeout, own_host, rename_of};
+use crate::copies::{get_of, put_of};
 use crate::line::{Ask, Line, LogLevel, Serve};
 use crate::peers::peers_of;
 use crate::unread::Unread;
-use crate::values::{address_of, carriage_of, log_of, socket_of, turns_of};
+use crate::values::{address_of, carriage_of, flag_of, log_of, socket_of, turns_of, window_of};
 use chaos_link::{Carriage, Peers};
 use clap::ArgMatches;
 use std::alloc::Global;
@@ -110,6 +113,36 @@ pub(crate) fn given_socket<'a>(matches: &ArgMatches<'a>) -> Result<SocketAddrV4,
     }
 }
 
+/// The packets of a window.
+pub(crate) fn given_window<'a>(matches: &ArgMatches<'a>) -> Result<u16, BadWord<'a>>
+    ensures { Reads (λ n. IsSomeAnd (first_of (codes "window") (rows_of (found_of matches.now))) (λ t. IsWindow t n)) result }
+{
+    let text = given(matches, "window")?;
+    match window_of(text) {
+        Some(window) => Ok(window),
+        None => Err(BadWord {
+            text,
+            place: "--window",
+            form: WINDOW_FORM,
+        }),
+    }
+}
+
+/// Whether a flag stands among the words.
+pub(crate) fn given_flag<'a>(matches: &ArgMatches<'a>, place: &'a str) -> Result<bool, BadWord<'a>>
+    ensures { Reads (λ b. IsSomeAnd (first_of place.entry.now (rows_of (found_of matches.now))) (λ t. IsFlag t b)) result }
+{
+    let text = given(matches, place)?;
+    match flag_of(text) {
+        Some(is_given) => Ok(is_given),
+        None => Err(BadWord {
+            text,
+            place,
+            form: FLAG_FORM,
+        }),
+    }
+}
+
 /// The peers, of which there may be none.
 fn given_peers<'a>(matches: &ArgMatches<'a>) -> Result<Peers, BadWord<'a>>
     ensures { Reads (ArePeers (unwrap_or (all_of (codes "PEER") (rows_of (found_of matches.now))) [])) result }
@@ -157,17 +190,31 @@ fn ask_of<'a>(matches: &ArgMatches<'a>) -> Result<Ask, BadWord<'a>>
     ensures { Reads (IsAsk (rows_of (found_of matches.now))) result }
 {
     let carriage = given_carriage(matches)?;
+    let timeout = given_timeout(matches)?;
+    let is_strict = given_flag(matches, "strict")?;
     let address = given_address(matches, "ADDRESS")?;
     let socket = given_socket(matches)?;
     let to = given_address(matches, "TO")?;
+    if to == address {
+        return Err(own_host(matches, "TO"));
+    }
     let peers = given_peers(matches)?;
     Ok(Ask {
         carriage,
+        timeout,
+        is_strict,
         address,
         socket,
         to,
         peers,
     })
+}
+
+/// The line `show` of these values.
+fn show_line<'a>(matches: &ArgMatches<'a>) -> Result<Line<'a>, Unread<'a>>
+    ensures { GivesFiles (IsLine (codes "show") (rows_of (found_of matches.now))) result }
+{
+    Ok(Line::Show(given_flag(matches, "file")?))
 }
 
 /// The line `loop` of these values.
@@ -205,12 +252,26 @@ fn put_line<'a>(alloc: Global, matches: &ArgMatches<'a>) -> Result<Line<'a>, Unr
     Ok(Line::Put(put_of(alloc, matches)?))
 }
 
+/// The line `delete` of these values.
+fn delete_line<'a>(alloc: Global, matches: &ArgMatches<'a>) -> Result<Line<'a>, Unread<'a>>
+    ensures { GivesFiles (IsLine (codes "delete") (rows_of (found_of matches.now))) result }
+{
+    Ok(Line::Delete(delete_of(alloc, matches)?))
+}
+
+/// The line `rename` of these values.
+fn rename_line<'a>(matches: &ArgMatches<'a>) -> Result<Line<'a>, Unread<'a>>
+    ensures { GivesFiles (IsLine (codes "rename") (rows_of (found_of matches.now))) result }
+{
+    Ok(Line::Rename(rename_of(matches)?))
+}
+
 /// What a subcommand and its values ask for. That it is one of these is clap's care.
 pub(crate) fn line_of<'a>(alloc: Global, matches: &ArgMatches<'a>) -> Result<Line<'a>, Unread<'a>>
     ensures { GivesFiles (AsksFor (subcommand_rows_of matches.now)) result }
 {
     match matches.subcommand() {
-        Some(("show", _)) => Ok(Line::Show),
+        Some(("show", values)) => show_line(values),
         Some(("lab", _)) => Ok(Line::Lab),
         Some(("filelab", _)) => Ok(Line::FileLab),
         Some(("loop", values)) => loop_line(values),
@@ -218,6 +279,8 @@ pub(crate) fn line_of<'a>(alloc: Global, matches: &ArgMatches<'a>) -> Result<Lin
         Some(("ask", values)) => ask_line(values),
         Some(("get", values)) => get_line(alloc, values),
         Some(("put", values)) => put_line(alloc, values),
+        Some(("delete", values)) => delete_line(alloc, values),
+        Some(("rename", values)) => rename_line(values),
         _ => Err(Unread::Bad(BadWord {
             text: "",
             place: "COMMAND",

@@ -19,6 +19,10 @@ Exit status:
 pub(crate) const SHOW: &str =
     "Hexadecimal lines from standard input, one datagram a line, to reports";
 
+/// What a FILE command or reply says.
+pub(crate) const SHOW_FILE: &str =
+    "Also what the data say as text, and in a packet of FILE the command or reply";
+
 /// What the help says of `lab`.
 pub(crate) const LAB: &str =
     "A script of two connections from standard input, to what each line did";
@@ -44,6 +48,12 @@ pub(crate) const GET: &str = "Files of another host, into local files of their n
 /// What the help says of `put`.
 pub(crate) const PUT: &str = "Local files, to another host under their names";
 
+/// What the help says of `delete`.
+pub(crate) const DELETE: &str = "Files of another host, deleted";
+
+/// What the help says of `rename`.
+pub(crate) const RENAME: &str = "A file of another host, renamed";
+
 /// The user's name.
 pub(crate) const LOGIN: &str = "User's name: 1 to 16 letters and digits";
 
@@ -57,6 +67,13 @@ pub(crate) const SERVE_WINDOW: &str =
 
 /// Nothing told by a server.
 pub(crate) const SERVE_QUIET: &str = "Nothing is told but what fails";
+
+/// The seconds that a reply is waited for.
+pub(crate) const TIMEOUT: &str =
+    "Seconds that a reply is waited for, 1 to 3600, in place of 10 to 17";
+
+/// The first error ends a run.
+pub(crate) const STRICT: &str = "The first reply that is an ERROR ends the run, with status 3";
 
 /// How much a server tells.
 pub(crate) const LOG: &str =
@@ -72,17 +89,32 @@ pub(crate) const ONLY_PEERS: &str = "Datagrams that come from no PEER's UDP addr
 pub(crate) const READ_ONLY: &str = "No file changes: what would write one is a store fault";
 
 /// Texts.
-pub(crate) const TEXT: &str =
-    "A text file: newline, tab, backspace and page are those of a Lisp machine at the server";
+pub(crate) const TEXT: &str = "\
+A text of ASCII or the Lisp machine's set: newline, tab, backspace and page are 8D, 89, 88 and 8C at the server; \
+one that has those bytes on the way there, or 0A, 09, 08 and 0C on the way back, is refused";
 
 /// Nothing told.
 pub(crate) const QUIET: &str = "Nothing is told but of files that were not copied";
+
+/// More told.
+pub(crate) const VERBOSE: &str =
+    "Tells of each file, also where standard error is no terminal, and how the server is called";
 
 /// The local file of `get`.
 pub(crate) const OUTPUT: &str = "Local file of the one path; - is standard output";
 
 /// The server's file of `put`.
 pub(crate) const AS: &str = "Path of the one local file at the server";
+
+/// Names that FILE doesn't take.
+pub(crate) const RENAMING: &str =
+    "A name that is no PATH is put with _ for each byte that none has, and for a dot in front";
+
+/// The server's file of `rename`.
+pub(crate) const OLD: &str = "Server's file, in the form of a PATH of get";
+
+/// Its new name.
+pub(crate) const NEW: &str = "Its new path, which no file has";
 
 /// The server.
 pub(crate) const SERVER: &str =
@@ -93,7 +125,8 @@ pub(crate) const PATH: &str =
     "Server's files: 1 to 64 letters, digits, dots, hyphens and underscores, no dot in front";
 
 /// The local files.
-pub(crate) const LOCAL: &str = "Local files; - is standard input, and wants --as";
+pub(crate) const LOCAL: &str = "\
+Local files, each put under its last name where that is a PATH of get, else skipped and told; - is standard input, and wants --as";
 
 /// The turns to serve.
 pub(crate) const TURNS: &str =
@@ -148,3 +181,17 @@ Example:
   chaosd put 402 127.0.0.1:9002 401=127.0.0.1:9001 src/A.LISP src/B.LISP
 
   Host 402 puts two files to host 401, as A.LISP and B.LISP.";
+
+/// What the help of `delete` ends with.
+pub(crate) const DELETE_EXAMPLE: &str = "\
+Example:
+  chaosd delete 402 127.0.0.1:9002 401=127.0.0.1:9001 A.LISP B.LISP
+
+  Host 401 deletes two of its files, asked by host 402.";
+
+/// What the help of `rename` ends with.
+pub(crate) const RENAME_EXAMPLE: &str = "\
+Example:
+  chaosd rename 402 127.0.0.1:9002 401=127.0.0.1:9001 A.LISP B.LISP
+
+  The file A.LISP of host 401 is B.LISP from now on.";

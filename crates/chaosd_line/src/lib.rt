@@ -9,6 +9,7 @@
 #![tactic(auto)]
 
 mod bad_word;
+mod calls;
 mod command;
 mod copies;
 mod fault;
@@ -19,6 +20,7 @@ mod law;
 mod line;
 mod names;
 mod parse;
+mod paths;
 mod peers;
 mod sub;
 mod unread;
@@ -28,5 +30,6 @@ mod word;
 pub use fault::LineFault;
 pub use files::last_name;
 pub use law::law_one_line;
-pub use line::{Ask, Copying, Get, Line, LogLevel, Put, Serve};
+pub use line::{Ask, Calling, Copying, Delete, Get, Line, LogLevel, Put, Rename, Serve};
 pub use parse::{parse_line, read_line};
+pub use paths::{FilePath, path_for};

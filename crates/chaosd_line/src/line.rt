@@ -8,8 +8,9 @@ use std::net::SocketAddrV4;
 /// What a command line asks for: a subcommand, with its values. Texts are lent from the words.
 #[derive(Drop)]
 pub enum Line<'a> {
-    /// `chaosd show`: hexadecimal lines from standard input, one datagram a line, to reports.
-    Show,
+    /// `chaosd show`: hexadecimal lines from standard input, one datagram a line, to reports; where it is true, with what a FILE
+    /// command or reply says.
+    Show(bool),
     /// `chaosd lab`: a script of two connections from standard input, to what each line did.
     Lab,
     /// `chaosd filelab`: a script of a client of FILE and its server from standard input, to what each line did.
@@ -24,6 +25,10 @@ pub enum Line<'a> {
     Get(Get<'a>),
     /// `chaosd put`: local files, to another host.
     Put(Put<'a>),
+    /// `chaosd delete`: another host deletes files.
+    Delete(Delete<'a>),
+    /// `chaosd rename`: another host renames a file.
+    Rename(Rename<'a>),
 }
 
 /// How much a server tells.
@@ -72,38 +77,53 @@ pub struct Serve<'a> {
 pub struct Ask {
     /// How it sends packets.
     pub carriage: Carriage,
+    /// The seconds that a reply is waited for, 1 to 3600, where they aren't the usual ones.
+    pub timeout: Option<u16>,
+    /// Whether the first reply that is an error ends the run.
+    pub is_strict: bool,
     /// The client's own Chaosnet address, which is not 0.
     pub address: u16,
     /// The UDP address that it receives at, whose port is not 0.
     pub socket: SocketAddrV4,
-    /// The Chaosnet address of the host to ask, which is not 0.
+    /// The Chaosnet address of the host to ask, which is not 0 and not its own.
     pub to: u16,
     /// Where it sends to.
     pub peers: Peers,
     ghost named: { 0 < address },
 }
 
-/// As whom a copy is made, from or to which server, and how.
+/// As whom which server is called, and how.
 #[derive(Drop)]
-pub struct Copying<'a> {
+pub struct Calling<'a> {
     /// How it sends packets.
     pub carriage: Carriage,
     /// The user's name, 1 to 16 letters and digits.
     pub login: &'a str,
     /// The packets that each of its two windows has, 1 to 64.
     pub window: u16,
-    /// Whether a text is put into the character set of the Lisp machines, or back from it.
-    pub is_text: bool,
-    /// Whether nothing but mistakes is told.
-    pub is_quiet: bool,
+    /// The seconds that a reply is waited for, 1 to 3600, where they aren't the usual ones.
+    pub timeout: Option<u16>,
     /// Its own Chaosnet address, which is not 0.
     pub address: u16,
     /// The UDP address that it receives at, whose port is not 0.
     pub socket: SocketAddrV4,
-    /// The server.
+    /// The server, whose Chaosnet address is another than its own.
     pub server: Peer,
     ghost named: { 0 < address },
     ghost login_fits: { length login.now ≤ MAX_NAME },
+}
+
+/// As whom a copy is made, from or to which server, and how.
+#[derive(Drop)]
+pub struct Copying<'a> {
+    /// The server, and how it is called.
+    pub calling: Calling<'a>,
+    /// Whether a text is put into the character set of the Lisp machines, or back from it.
+    pub is_text: bool,
+    /// Whether nothing but mistakes is told.
+    pub is_quiet: bool,
+    /// Whether more is told, and wherever standard error goes.
+    pub is_verbose: bool,
 }
 
 /// Which files to get.
@@ -122,8 +142,31 @@ pub struct Get<'a> {
 pub struct Put<'a> {
     /// What it has in common with `get`.
     pub copying: Copying<'a>,
-    /// The server's file in place of one of the local file's last name, where there is one file.
+    /// Whether a file whose last name FILE doesn't take goes under what that is renamed to.
+    pub is_renaming: bool,
+    /// The server's file in place of that of [`path_for`](crate::path_for), where there is one file.
     pub path: Option<&'a str>,
-    /// The local files, whose last names are legal paths of FILE, each once, where `path` is none; `-` is standard input.
+    /// The local files. Where `path` is none, none of them is standard input, which is `-`, and no two go under one path; of some
+    /// there may be no path.
     pub locals: Vec<&'a str>,
+}
+
+/// Which files to delete.
+#[derive(Drop)]
+pub struct Delete<'a> {
+    /// Who calls which server.
+    pub calling: Calling<'a>,
+    /// The server's files, each once: legal paths of FILE.
+    pub paths: Vec<&'a str>,
+}
+
+/// Which file to rename.
+#[derive(Drop)]
+pub struct Rename<'a> {
+    /// Who calls which server.
+    pub calling: Calling<'a>,
+    /// The server's file: a legal path of FILE.
+    pub from: &'a str,
+    /// Its new path, a legal one.
+    pub to: &'a str,
 }

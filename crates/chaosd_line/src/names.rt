@@ -20,7 +20,7 @@ pub(crate) fn is_user(bytes: &[u8]) -> bool
     1 <= bytes.len() && bytes.len() <= MAX_NAME && all_alphanumeric(bytes)
 }
 
-fn is_path_byte(b: u8) -> bool
+pub(crate) fn is_path_byte(b: u8) -> bool
     ensures { result ≡ is_path_byte b }
 {
     b.is_ascii_alphanumeric() || b == b'.' || b == b'-' || b == b'_'

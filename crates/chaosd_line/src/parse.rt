@@ -1,13 +1,12 @@
 //! The reading of a command line.
-ghost use Rattle.std.specs.Prelude.{◌≡◌, map, IfOk};
+ghost use Rattle.std.specs.Prelude.{◌≡◌, ◌⊎◌, map, IfOk};
 ghost use Rattle.clap.specs.Values.{kind_of};
 ghost use Rattle.clap.specs.Words.{FailsBy, app_of, fault_of, subcommand_of, subcommand_rows_of};
-ghost use Rattle.clap.specs.declared.error.kind.ErrorKind.TheVariants.{ValueValidation};
+ghost use Rattle.clap.specs.declared.error.kind.ErrorKind.TheVariants.{OutOfMemory, ValueValidation};
 ghost use Rattle.chaosd_line.specs.CommandLine.{chaosd};
 ghost use Rattle.chaosd_line.specs.Fault.{FailsFor, IsTold, RefusesFor};
 ghost use Rattle.chaosd_line.specs.Lines.{IsLineOf};
 
-use crate::bad_word::BadWord;
 use crate::command::{command, command_of};
 use crate::fault::LineFault;
 use crate::given::line_of;
@@ -41,12 +40,26 @@ fn found<'a, S: AsStr>(alloc: Global, words: &'a [S]) -> Result<ArgMatches<'a>, 
     matches_of(&mut command, words)
 }
 
-/// The error that tells the user of a bad word, with the usage of the subcommand that it stands in.
-fn error_of(alloc: Global, bad: &BadWord<'_>, subcommand: Option<&str>) -> Result<Error, AllocError>
+/// The error that tells the user of a bad word in this text, with the usage of the subcommand that it stands in.
+fn error_of(
+    alloc: Global,
+    text: Result<String, AllocError>,
+    subcommand: Option<&str>,
+) -> Result<Error, AllocError>
     ensures { IfOk result (λ error. kind_of error ≡ ValueValidation) }
 {
-    let text = bad.message(alloc)?;
+    let text = text?;
     command_of(alloc, subcommand)?.error(ErrorKind::ValueValidation, text.as_str())
+}
+
+/// The same, or want of memory.
+fn told_by(alloc: Global, text: Result<String, AllocError>, subcommand: Option<&str>) -> Error
+    ensures { (kind_of result ≡ ValueValidation) ⊎ (kind_of result ≡ OutOfMemory) }
+{
+    match error_of(alloc, text, subcommand) {
+        Ok(error) => error,
+        Err(error) => Error::from(error),
+    }
 }
 
 /// The error that tells the user why the values of a subcommand can't be read.
@@ -54,10 +67,8 @@ fn told(alloc: Global, unread: Unread<'_>, subcommand: Option<&str>) -> Error
     ensures { IsTold unread.entry (kind_of result) }
 {
     match unread {
-        Unread::Bad(bad) => match error_of(alloc, &bad, subcommand) {
-            Ok(error) => error,
-            Err(error) => Error::from(error),
-        },
+        Unread::Bad(bad) => told_by(alloc, bad.message(alloc), subcommand),
+        Unread::Clash(files) => told_by(alloc, files.message(alloc), subcommand),
         Unread::NoMemory => Error::from(AllocError),
     }
 }

@@ -32,20 +32,24 @@ const LOGIN: Word<'static> = Word("login", Wanted::Default("NAME", "CHAOSD"), he
 
 const WINDOW: Word<'static> = Word("window", Wanted::Default("N", "64"), help::WINDOW);
 
+const TIMEOUT: Word<'static> = Word("timeout", Wanted::Optional("SECONDS"), help::TIMEOUT);
+
 const TEXT: Word<'static> = Word("text", Wanted::Flag, help::TEXT);
 
 const QUIET: Word<'static> = Word("quiet", Wanted::Flag, help::QUIET);
 
+const VERBOSE: Word<'static> = Word("verbose", Wanted::Flag, help::VERBOSE);
+
 const SERVER: Word<'static> = Word("SERVER", Wanted::Needed, help::SERVER);
 
 /// The subcommands, in the order of the help.
-static SUBS: [Sub; 8] = [
+static SUBS: [Sub; 10] = [
     Sub {
         name: "show",
         shown: "chaosd show",
         about: help::SHOW,
         example: None,
-        words: &[],
+        words: &[Word("file", Wanted::Flag, help::SHOW_FILE)],
     },
     Sub {
         name: "lab",
@@ -95,6 +99,8 @@ static SUBS: [Sub; 8] = [
         example: Some(help::ASK_EXAMPLE),
         words: &[
             CARRIAGE,
+            TIMEOUT,
+            Word("strict", Wanted::Flag, help::STRICT),
             ADDRESS,
             UDP,
             Word("TO", Wanted::Needed, help::TO),
@@ -110,8 +116,10 @@ static SUBS: [Sub; 8] = [
             CARRIAGE,
             LOGIN,
             WINDOW,
+            TIMEOUT,
             TEXT,
             QUIET,
+            VERBOSE,
             Word("output", Wanted::Optional("LOCAL"), help::OUTPUT),
             ADDRESS,
             UDP,
@@ -128,13 +136,49 @@ static SUBS: [Sub; 8] = [
             CARRIAGE,
             LOGIN,
             WINDOW,
+            TIMEOUT,
             TEXT,
             QUIET,
+            VERBOSE,
+            Word("rename", Wanted::Flag, help::RENAMING),
             Word("as", Wanted::Optional("PATH"), help::AS),
             ADDRESS,
             UDP,
             SERVER,
             Word("LOCAL", Wanted::Several, help::LOCAL),
+        ],
+    },
+    Sub {
+        name: "delete",
+        shown: "chaosd delete",
+        about: help::DELETE,
+        example: Some(help::DELETE_EXAMPLE),
+        words: &[
+            CARRIAGE,
+            LOGIN,
+            WINDOW,
+            TIMEOUT,
+            ADDRESS,
+            UDP,
+            SERVER,
+            Word("PATH", Wanted::Several, help::PATH),
+        ],
+    },
+    Sub {
+        name: "rename",
+        shown: "chaosd rename",
+        about: help::RENAME,
+        example: Some(help::RENAME_EXAMPLE),
+        words: &[
+            CARRIAGE,
+            LOGIN,
+            WINDOW,
+            TIMEOUT,
+            ADDRESS,
+            UDP,
+            SERVER,
+            Word("OLD", Wanted::Needed, help::OLD),
+            Word("NEW", Wanted::Needed, help::NEW),
         ],
     },
 ];

@@ -1,13 +1,15 @@
 //! Why the values of a line can't be read.
 ghost use Rattle.std.specs.Prelude.{◌≡◌};
 
-use crate::bad_word::BadWord;
+use crate::bad_word::{BadWord, Clash};
 
 /// Why the values of a line can't be read.
 #[derive(Drop)]
 pub(crate) enum Unread<'a> {
     /// A word is not of its form.
     Bad(BadWord<'a>),
+    /// Two local files would go under one path.
+    Clash(Clash<'a>),
     /// Memory ran out while the words were kept.
     NoMemory,
 }

@@ -1,5 +1,4 @@
 pub mod Calls
-pub mod Clock
 pub mod Fault
 pub mod Pace
 pub mod Turn

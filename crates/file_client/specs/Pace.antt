@@ -1,7 +1,7 @@
 -- What a client goes by.
 use Rattle.std.specs.Prelude.{ℕ}
-use Rattle.file_client.specs.Clock.{IsMoment, number_of}
-use Rattle.file_client.specs.declared.clock.Beginning.{Beginning}
+use Rattle.chaosd_clock.specs.Clock.{IsMoment, number_of}
+use Rattle.chaosd_clock.specs.declared.clock.Beginning.{Beginning}
 use Rattle.file_client.specs.declared.limits.TheConstants.{OPEN_MILLIS}
 
 pub record Pace : Type 1 where

@@ -1,15 +1,14 @@
 //! Turns over a link to another process, by a clock.
 ghost use Rattle.std.specs.Prelude.{◌≡◌, IfErr, IfOk};
-ghost use Rattle.file_client.specs.Clock.{BeginsBy};
+ghost use Rattle.chaosd_clock.specs.Clock.{BeginsBy};
 
-use crate::clock::Beginning;
-use crate::dial::Dial;
 use crate::limits::OPEN_MILLIS;
 use crate::turns::Turns;
 use chaos_host::{Host, HostDelivered};
 use chaos_link::{Carriage, LINK_ROOM, Link};
 use chaos_packet::{Outbox, PktNum};
 use chaos_turn::{TurnEnd, client_turn};
+use chaosd_clock::{Beginning, Dial};
 use chaosd_io::RunFault;
 
 /// A client's turns over a link to another process, by a clock.
@@ -45,9 +44,9 @@ impl<'a, C: Dial, L: Link> Timed<'a, C, L> {
 impl<C: Dial, L: Link> Turns for Timed<'_, C, L> {
     ghost use Rattle.std.specs.Prelude.{◌∷◌, []};
     ghost use Rattle.chaos_packet.specs.Count.{Rose};
-    ghost use Rattle.file_client.specs.Clock.{low_bits_of};
+    ghost use Rattle.chaosd_clock.specs.Clock.{low_bits_of};
     ghost use Rattle.file_client.specs.Pace.{clock_pace};
-    ghost use Rattle.file_client.specs.declared.clock.Beginning.{Beginning};
+    ghost use Rattle.chaosd_clock.specs.declared.clock.Beginning.{Beginning};
 
     ghost Time = { C × Beginning };
 

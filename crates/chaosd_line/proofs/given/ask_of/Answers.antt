@@ -7,6 +7,16 @@ returns-in_err-carriage c =
     let p = err_from_is_err_and c.from_residual.result c.from_residual.ensures.1 in
     rw p.1 (λ ask h. c.in_err-carriage.ensures ask.carriage h.carriage)
 
+pub returns-in_err-timeout : goal.returns-in_err-timeout
+returns-in_err-timeout c =
+    let p = err_from_is_err_and c.from_residual-in_err-timeout.result c.from_residual-in_err-timeout.ensures.1 in
+    rw p.1 (λ ask h. c.in_err-timeout.ensures ask.timeout h.timeout)
+
+pub returns-in_err-is_strict : goal.returns-in_err-is_strict
+returns-in_err-is_strict c =
+    let p = err_from_is_err_and c.from_residual-in_err-is_strict.result c.from_residual-in_err-is_strict.ensures.1 in
+    rw p.1 (λ ask h. c.in_err-is_strict.ensures ask.is_strict h.is_strict)
+
 pub returns-in_err-address : goal.returns-in_err-address
 returns-in_err-address c =
     let p = err_from_is_err_and c.from_residual-in_err-address.result c.from_residual-in_err-address.ensures.1 in

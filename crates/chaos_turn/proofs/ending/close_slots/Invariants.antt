@@ -1,8 +1,0 @@
-use Rattle.chaos_turn.specs.Phase.{DoesPhase, over_slots}
-use Rattle.chaos_turn.specs.Slots.{close_at}
-use Rattle.chaos_turn.specs.Station.{station}
-use Rattle.chaos_turn.proofs.ending.close_slots.Given as goal
-
-abbrev pub invariant-loop-place : goal.invariant-loop-place
-invariant-loop-place g l =
-    DoesPhase l.fn.carriage (over_slots (close_at l.fn.sessions) l.place l.fn.host) (station l.fn.host (g.L.Link.queue l.fn.link) l.fn.out) (station l.host (g.L.Link.queue l.link) l.out) l.sent

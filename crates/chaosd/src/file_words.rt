@@ -1,0 +1,124 @@
+//! What a user is told of each file.
+ghost use Rattle.std.specs.Prelude.{None};
+
+use chaos_file::{MAX_FILE, MAX_PATH, Reply};
+use file_client::Shown;
+use chaosd_copies::{Contents, Lost, Outcome, Target, Teller};
+use std::fmt::{Display, Formatter};
+use std::{fmt, io};
+
+/// Tells on standard error what came of each file.
+#[derive(Drop)]
+pub(crate) struct FileWords<'a, R: Eprint> {
+    pub(crate) rt: &'a R,
+    /// Whether a file that was copied is told.
+    pub(crate) is_told: bool,
+    /// Where files go that are got.
+    pub(crate) target: Target<'a>,
+    /// What is told of a file where it isn't known whether it was done with it what was asked for.
+    pub(crate) unknown: &'static str,
+}
+
+/// What is told of a put whose end isn't known.
+pub(crate) const PUT_UNKNOWN: &str = "whether it was put isn't known, since its CLOSE got no reply";
+
+/// What is told of a change whose end isn't known.
+pub(crate) const CHANGE_UNKNOWN: &str = "whether that was done isn't known";
+
+/// A digest in hexadecimal.
+#[derive(Drop)]
+struct Hexadecimal([u8; 32]);
+
+impl Display for Hexadecimal {
+    fn fmt<W: fmt::Write>(&self, f: &mut Formatter<W>) -> fmt::Result {
+        for byte in &self.0 {
+            write!(f, "{byte:02x}")?;
+        }
+        Ok(())
+    }
+}
+
+/// Tells that a file was copied whole.
+fn told_copied<R: Eprint>(rt: &R, name: &str, contents: &Contents) -> io::Result<()> {
+    let size = contents.size;
+    match contents.digest {
+        Some(digest) => eprintln!(rt; "{name} {size} bytes, SHA-256 {}", Hexadecimal(digest)),
+        None => eprintln!(rt; "{name} {size} bytes"),
+    }
+}
+
+/// Tells that a text has a byte that would not come back, and where the first stands.
+fn told_lost<R: Eprint>(rt: &R, name: &str, lost: &Lost) -> io::Result<()> {
+    let Lost { byte, line, place } = *lost;
+    eprintln!(rt;
+        "chaosd: {name} has a byte {byte:02X} at line {line}, byte {place}, which --text would not give back; leave --text out"
+    )
+}
+
+/// Tells that FILE doesn't take a local file's name.
+fn told_unnamed<R: Eprint>(rt: &R, name: &str) -> io::Result<()> {
+    eprintln!(rt;
+        "chaosd: {name}: skipped, since its name is no path of FILE (1 to {MAX_PATH} letters, digits, dots, hyphens and underscores, no dot in front); --as or --rename gives it one"
+    )
+}
+
+/// Tells that the server refused a command.
+fn told_refused<R: Eprint>(rt: &R, name: &str, reply: &Reply) -> io::Result<()> {
+    eprintln!(rt; "chaosd: {name}: {}", Shown(error_text(reply)))
+}
+
+/// Tells that the server sent what is no answer.
+fn told_strange<R: Eprint>(rt: &R, name: &str, reply: &Reply) -> io::Result<()> {
+    let text = Shown(reply.as_slice());
+    eprintln!(rt; "chaosd: {name}: not an answer of FILE: {text}")
+}
+
+/// Tells that a local file could not be written.
+fn told_unwritten<R: Eprint>(
+    rt: &R,
+    target: Target<'_>,
+    name: &str,
+    fault: &io::Error,
+) -> io::Result<()> {
+    match target {
+        Target::Own => eprintln!(rt; "chaosd: can't write {name}: {fault}"),
+        Target::Named(local) => eprintln!(rt; "chaosd: can't write {local}: {fault}"),
+        Target::Inside(folder) => eprintln!(rt; "chaosd: can't write {folder}{name}: {fault}"),
+    }
+}
+
+/// What the server says of an error: its code and text.
+fn error_text(reply: &Reply) -> &[u8] {
+    let bytes = reply.as_slice();
+    let mut words = bytes.splitn(4, |b| *b == b' ');
+    let _name = words.next();
+    let _handle = words.next();
+    let _error = words.next();
+    words.next().unwrap_or(bytes)
+}
+
+impl<W: Display, R: Eprint> Teller<W> for FileWords<'_, R> {
+    ghost told = { λ _. None };
+
+    fn tell(&mut self, name: &str, outcome: &Outcome<W>) {
+        let rt = self.rt;
+        let _ = match outcome {
+            Outcome::Copied(contents) if self.is_told => told_copied(rt, name, contents),
+            Outcome::Copied(_) | Outcome::Changed => Ok(()),
+            Outcome::Garbled(lost) => told_lost(rt, name, lost),
+            Outcome::TooBig => eprintln!(rt; "chaosd: {name} has more than {MAX_FILE} bytes"),
+            Outcome::TooLong => {
+                eprintln!(rt; "chaosd: {name}: a path of FILE has at most {MAX_PATH} bytes")
+            }
+            Outcome::Unnamed => told_unnamed(rt, name),
+            Outcome::NotTried => eprintln!(rt; "chaosd: {name}: not tried"),
+            Outcome::Unwritten(fault) => told_unwritten(rt, self.target, name, fault),
+            Outcome::Unread(fault) => eprintln!(rt; "chaosd: can't open {name}: {fault}"),
+            Outcome::Failed(fault) => eprintln!(rt; "chaosd: {name}: {fault}"),
+            Outcome::Refused(reply) => told_refused(rt, name, reply),
+            Outcome::Strange(reply) => told_strange(rt, name, reply),
+            Outcome::NoReply(why) => eprintln!(rt; "chaosd: {name}: {why}"),
+            Outcome::Unknown(why) => eprintln!(rt; "chaosd: {name}: {}: {why}", self.unknown),
+        };
+    }
+}

@@ -1,0 +1,58 @@
+//! What a user is told on standard error of a run that ended, or that could not begin.
+ghost use Rattle.std.specs.Prelude.{◌≡◌, ◌⊎◌};
+ghost use Rattle.chaosd_copies.specs.Status.{status_of_fault};
+
+use chaosd_copies::ExitStatus;
+use chaosd_file::{ScriptEnd, Why};
+use chaosd_io::RunFault;
+use std::fmt::Display;
+use std::io;
+
+/// Tells the fault that a run ended by, where there was one. That a line of a script is bad is told in words of its own, without
+/// the program's name.
+pub(crate) fn tell_end<R: Eprint, T>(rt: &R, end: &Result<T, RunFault>) {
+    if let Err(fault) = end {
+        let _ = match fault {
+            RunFault::BadScript(_) => eprintln!(rt; "{fault}"),
+            _ => eprintln!(rt; "chaosd: {fault}"),
+        };
+    }
+}
+
+/// Tells how a run over a script ended: as [`tell_end`] does, and what is wrong with a bad line, and why a command got no reply.
+pub(crate) fn tell_script<R: Eprint>(rt: &R, end: &Result<ScriptEnd, RunFault>, why: &Option<Why>) {
+    let _ = match (end, why) {
+        (Err(fault @ RunFault::BadScript(_)), Some(Why::BadLine(bad))) => {
+            eprintln!(rt; "{fault}: {bad}")
+        }
+        (Ok(_), Some(Why::NoReply(why))) => eprintln!(rt; "chaosd: {why}"),
+        _ => {
+            tell_end(rt, end);
+            return;
+        }
+    };
+}
+
+/// Tells what could not be opened, and why. The answer is the status of a program that ends by it.
+pub(crate) fn tell_unopened<R: Eprint, D: Display>(
+    rt: &R,
+    what: &D,
+    error: &io::Error,
+) -> ExitStatus
+    ensures { (result ≡ ExitStatus.Fault) ⊎ (result ≡ ExitStatus.NoMemory) }
+{
+    if error.kind() == io::ErrorKind::OutOfMemory {
+        let _ = eprintln!(rt; "chaosd: {}", RunFault::NoMemory);
+        return ExitStatus::NoMemory;
+    }
+    let _ = eprintln!(rt; "chaosd: can't open {what}: {error}");
+    ExitStatus::Fault
+}
+
+/// Tells the fault by which a run over files could not begin. The answer is its status.
+pub(crate) fn tell_unbegun<R: Eprint>(rt: &R, fault: RunFault) -> ExitStatus
+    ensures { result ≡ status_of_fault fault }
+{
+    let _ = eprintln!(rt; "chaosd: no file: {fault}");
+    ExitStatus::of_fault(fault)
+}

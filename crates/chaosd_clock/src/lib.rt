@@ -1,0 +1,11 @@
+//! Moments and numbers of a run by a clock: `dial` says what a clock shows, and `clock` has the moments since a run began and the
+//! numbers that its connections begin with.
+//!
+//! No clock of its own, and no allocation.
+#![tactic(auto)]
+
+mod clock;
+mod dial;
+
+pub use clock::Beginning;
+pub use dial::Dial;

@@ -1,0 +1,66 @@
+-- A file that was copied.
+use Rattle.std.specs.Prelude.{◌≡◌, ℕ, Bool, true, false, List, [], ◌∷◌, ◌++◌, map, length, Option, Some, None, option_map, IfSome}
+use Rattle.sha2.specs.Sha256.{sha256}
+use Rattle.chaosd_copy.specs.declared.text.Charset.{Charset}
+use Rattle.chaosd_copy.specs.declared.text.Charset.TheVariants.{LispMachine, Ascii}
+use Rattle.chaosd_copy.specs.Text.{byte_in}
+use Rattle.chaosd_copy.specs.Copy.{get_commands, get_replies, put_commands, put_replies}
+use Rattle.chaosd_copy.specs.Row.{file_handle}
+use Rattle.chaosd_copy.specs.Talk.{Talked, Since}
+use Rattle.chaosd_copy.specs.Ends.{tids_from, delete_command, delete_reply, rename_command, rename_reply}
+use Rattle.chaosd_copies.specs.declared.outcome.Contents.{Contents}
+
+-- ---- local files
+
+-- a local file that was written whole
+pub record Kept : Type 0 where
+  pub name : List ℕ
+  pub bytes : List ℕ
+
+-- the files that were written, and this one behind them
+abbrev pub kept_after : List ℕ → List ℕ → Option (List Kept) → Option (List Kept)
+kept_after name bytes kept = option_map (λ before. before ++ record { name = name; bytes = bytes } ∷ []) kept
+
+-- ---- texts
+
+-- a file's bytes in the other character set, where it is a text
+abbrev pub bytes_in : Charset → Bool → List ℕ → List ℕ
+bytes_in set true bytes = map (byte_in set) bytes
+bytes_in set false bytes = bytes
+
+-- ---- what was said last
+
+-- The last that was said and heard is all that gets this file, with the replies of a server that has these bytes.
+abbrev pub HasGot : List ℕ → List ℕ → Option Talked → Type 0
+HasGot path bytes now = (start : Option Talked)
+    × Since start now (get_commands (tids_from 1) file_handle path (length bytes)) (get_replies (tids_from 1) file_handle bytes)
+
+-- The last that was said and heard is all that puts this file, with the replies of a server that took it.
+abbrev pub HasPut : List ℕ → List ℕ → Option Talked → Type 0
+HasPut path bytes now = (start : Option Talked)
+    × Since start now (put_commands (tids_from 1) file_handle path bytes) (put_replies (tids_from 1) file_handle bytes)
+
+-- The last that was said and heard is the DELETE of this file, and that it was done.
+abbrev pub HasDeleted : List ℕ → Option Talked → Type 0
+HasDeleted path now = (start : Option Talked) × Since start now (delete_command 1 path ∷ []) (delete_reply 1 ∷ [])
+
+-- Likewise a RENAME.
+abbrev pub HasRenamed : List ℕ → List ℕ → Option Talked → Type 0
+HasRenamed old new now = (start : Option Talked) × Since start now (rename_command 1 old new ∷ []) (rename_reply 1 ∷ [])
+
+-- ---- one file
+
+-- a local file's bytes, counted, and their digest where it is asked for
+abbrev pub contents_of : Bool → List ℕ → Contents
+contents_of true bytes = record { size = length bytes; digest = Some (sha256 bytes) }
+contents_of false bytes = record { size = length bytes; digest = None }
+
+-- These bytes were got, and then written whole here, as a text where that is asked for.
+abbrev pub GetsWhole : List ℕ → List ℕ → Bool → Bool → Contents → Option Talked → Option (List Kept) → Option (List Kept) → Type 0
+GetsWhole path local is_text is_digested contents talked before after = (bytes : List ℕ) × HasGot path bytes talked
+    × (after ≡ kept_after local (bytes_in Ascii is_text bytes) before) × (contents ≡ contents_of is_digested (bytes_in Ascii is_text bytes))
+
+-- All that this file has here was put, as a text where that is asked for.
+abbrev pub PutsWhole : List ℕ → Option (List ℕ) → Bool → Bool → Contents → Option Talked → Type 0
+PutsWhole path held is_text is_digested contents talked = (bytes : List ℕ) × IfSome held (λ all. bytes ≡ all)
+    × HasPut path (bytes_in LispMachine is_text bytes) talked × (contents ≡ contents_of is_digested bytes)

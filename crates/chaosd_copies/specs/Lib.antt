@@ -1,0 +1,5 @@
+pub mod Status
+pub mod Outcome
+pub mod Naming
+pub mod Runs
+pub mod Copied

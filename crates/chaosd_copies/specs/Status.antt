@@ -1,0 +1,49 @@
+-- Exit statuses.
+use Rattle.std.specs.Prelude.{ℕ, Bool, true, false, nat_lt, if◌then◌else◌, Result, Ok, Err}
+use Rattle.chaosd_io.specs.declared.fault.RunFault.{RunFault}
+use Rattle.chaosd_io.specs.declared.fault.RunFault.TheVariants as f
+use Rattle.chaosd_copies.specs.declared.status.ExitStatus.{ExitStatus}
+use Rattle.chaosd_copies.specs.declared.status.ExitStatus.TheVariants.{Done, Refused, BadLine, Fault, NoMemory}
+
+-- the number that a program ends with
+abbrev pub number_of : ExitStatus → ℕ
+number_of Done = 0
+number_of Refused = 3
+number_of BadLine = 2
+number_of Fault = 1
+number_of NoMemory = 4
+
+-- its place in their order, from well to worst
+abbrev pub rank : ExitStatus → ℕ
+rank Done = 0
+rank Refused = 1
+rank BadLine = 2
+rank Fault = 3
+rank NoMemory = 4
+
+-- of two the one that is worse
+abbrev pub worse : ExitStatus → ExitStatus → ExitStatus
+worse a b = if nat_lt (rank a) (rank b) then b else a
+
+abbrev pub is_done : ExitStatus → Bool
+is_done Done = true
+is_done Refused = false
+is_done BadLine = false
+is_done Fault = false
+is_done NoMemory = false
+
+-- that of a run which ended by a fault
+abbrev pub status_of_fault : RunFault → ExitStatus
+status_of_fault f.ReadFault = Fault
+status_of_fault f.WriteFault = Fault
+status_of_fault f.InputTooLong = Fault
+status_of_fault f.NoMemory = NoMemory
+status_of_fault (f.BadScript line) = BadLine
+status_of_fault f.LinkFault = Fault
+status_of_fault f.ClockFault = Fault
+
+-- that of a run in which all was done, or something was refused, or which ended by a fault
+abbrev pub status_of_run : Result Bool RunFault → ExitStatus
+status_of_run (Ok true) = Done
+status_of_run (Ok false) = Refused
+status_of_run (Err fault) = status_of_fault fault

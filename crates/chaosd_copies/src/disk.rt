@@ -1,0 +1,97 @@
+//! The files of the system, and standard input and output in the place of one.
+ghost use Rattle.std.specs.Prelude.{None};
+
+use crate::local::Locals;
+use crate::whole::{check_whole, write_whole};
+use chaosd_copy::read_whole;
+use std::fs::File;
+use std::io::Write;
+use std::rt::Files;
+use std::{fs, io};
+
+/// The name of standard input and output.
+const STREAM: &str = "-";
+
+/// The names of two devices that are written as such.
+const STDOUT: &str = "/dev/stdout";
+
+const NOWHERE: &str = "/dev/null";
+
+/// Where a file of some name goes.
+enum Place {
+    /// To standard output.
+    Stream,
+    /// Nowhere.
+    Nowhere,
+    /// Into the file of that name.
+    File,
+}
+
+/// Where a file of this name goes.
+fn place_of(name: &str) -> Place {
+    if name == STREAM || name == STDOUT {
+        Place::Stream
+    } else if name == NOWHERE {
+        Place::Nowhere
+    } else {
+        Place::File
+    }
+}
+
+/// The files of the system. `-` is standard input, or standard output, as is `/dev/stdout`; what is written to `/dev/null` is gone.
+///
+/// No clause says what a disk has, so it tells nothing of what it wrote and has.
+#[derive(Drop)]
+pub struct Disk<'a, R> {
+    rt: &'a R,
+    mark: u16,
+}
+
+impl<'a, R> Disk<'a, R> {
+    /// What is being written has this mark in its name, which no other writer has.
+    pub fn new(rt: &'a R, mark: u16) -> Self {
+        Disk { rt, mark }
+    }
+}
+
+/// Writes to standard output.
+fn write_stream<R: Print>(rt: &R, bytes: &[u8]) -> io::Result<()> {
+    let mut writer = io::writer(rt);
+    writer.write_all(bytes)?;
+    writer.flush()
+}
+
+/// Makes sure that standard output can be written: it is asked to take nothing.
+fn check_stream<R: Print>(rt: &R) -> io::Result<()> {
+    let _count = io::writer(rt).write(&[])?;
+    Ok(())
+}
+
+impl<R: AllocGlobal + Files<File = File> + Input + Print> Locals for Disk<'_, R> {
+    ghost kept = { λ _. None };
+
+    ghost held = { λ _ _. None };
+
+    fn check(&mut self, name: &str) -> io::Result<()> {
+        match place_of(name) {
+            Place::Stream => check_stream(self.rt),
+            Place::Nowhere => Ok(()),
+            Place::File => check_whole(self.rt, self.rt.alloc(), name, self.mark),
+        }
+    }
+
+    fn keep(&mut self, name: &str, bytes: &[u8]) -> io::Result<()> {
+        match place_of(name) {
+            Place::Stream => write_stream(self.rt, bytes),
+            Place::Nowhere => Ok(()),
+            Place::File => write_whole(self.rt, self.rt.alloc(), name, self.mark, bytes),
+        }
+    }
+
+    fn read(&mut self, name: &str) -> io::Result<Option<Vec<u8>>> {
+        if name == STREAM {
+            return read_whole(self.rt.alloc(), self.rt.reader());
+        }
+        read_whole(self.rt.alloc(), fs::open(self.rt, name)?)
+    }
+}

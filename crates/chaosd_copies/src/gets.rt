@@ -1,0 +1,108 @@
+//! Files that are got.
+ghost use Rattle.std.specs.Prelude.{◌≡◌, ◌≤◌, ◌∷◌, false, List, ℕ, length, IfOk, IfErr, OnOk, OnErr, MatchResult};
+ghost use Rattle.chaos_file.specs.declared.limits.TheConstants.{MAX_PATH};
+ghost use Rattle.chaosd_copy.specs.declared.text.Charset.{Charset};
+ghost use Rattle.chaosd_copies.specs.Naming.{local_of};
+ghost use Rattle.chaosd_copies.specs.Outcome.{is_well, MatchCopied};
+ghost use Rattle.chaosd_copies.specs.Copied.{GetsWhole, HasGot, bytes_in, contents_of, kept_after};
+
+use crate::copier::Copier;
+use crate::dialog::Dialog;
+use crate::local::Locals;
+use crate::naming::Target;
+use crate::outcome::{Contents, Outcome};
+use crate::session::Session;
+use crate::text::in_set;
+use crate::watched::Viewer;
+use chaos_file::MAX_PATH;
+use chaosd_copy::Charset;
+use chaosd_io::RunFault;
+use std::alloc::Global;
+
+/// A user who gets files, each into a local one.
+#[derive(Drop)]
+pub struct Gets<'a, D: Dialog, L: Locals, V: Viewer> {
+    /// Where memory comes from.
+    pub alloc: Global,
+    /// The dialog with the server.
+    pub session: Session<'a, D, V>,
+    /// The local files.
+    pub locals: L,
+    /// Where the files go.
+    pub target: Target<'a>,
+    /// Whether they are texts.
+    pub is_text: bool,
+    /// Whether a digest of each is told.
+    pub is_digested: bool,
+}
+
+impl<D: Dialog, L: Locals, V: Viewer> Gets<'_, D, L, V> {
+    /// The bytes of a file, as a text where that is asked for.
+    fn bytes_of(&mut self, path: &str) -> Result<Vec<u8>, Outcome<D::Why>>
+        requires { length path.now ≤ MAX_PATH }
+        ensures got { IfOk result (λ v. (bytes : List ℕ) × HasGot path.now bytes (D.talked self.new.session.watched.inner)
+            × (v.items ≡ bytes_in Charset.Ascii self.old.is_text bytes)) }
+        ensures missed { IfErr result (λ outcome. is_well outcome ≡ false) }
+        ensures same { (self.new.locals ≡ self.old.locals) × (self.new.is_digested ≡ self.old.is_digested) }
+        ensures same_target { (self.new.target ≡ self.old.target) × (self.new.is_text ≡ self.old.is_text) }
+    {
+        let mut bytes = Vec::new(self.alloc);
+        self.session.get(path, &mut bytes)?;
+        match in_set(Charset::Ascii, self.is_text, bytes) {
+            Ok(bytes) => Ok(bytes),
+            Err(lost) => Err(Outcome::Garbled(lost)),
+        }
+    }
+
+    /// Writes a local file.
+    fn keep(&mut self, local: &str, bytes: &[u8]) -> Result<Contents, Outcome<D::Why>>
+        ensures kept { IfOk result (λ contents. (contents ≡ contents_of self.old.is_digested bytes.now)
+            × (L.kept self.new.locals ≡ kept_after local.now bytes.now (L.kept self.old.locals))) }
+        ensures failed { OnErr result (L.kept self.new.locals ≡ L.kept self.old.locals) }
+        ensures missed { IfErr result (λ outcome. is_well outcome ≡ false) }
+        ensures still { self.new.session ≡ self.old.session }
+        ensures same_target { (self.new.target ≡ self.old.target) × (self.new.is_text ≡ self.old.is_text) × (self.new.is_digested ≡ self.old.is_digested) }
+    {
+        match self.locals.keep(local, bytes) {
+            Ok(()) => Ok(Contents::of(bytes, self.is_digested)),
+            Err(fault) => Err(Outcome::Unwritten(fault)),
+        }
+    }
+
+    /// Gets a file into a local one, of which it is made sure before anything is said that it can be written.
+    fn get_into(&mut self, path: &str, local: &str) -> Result<Contents, Outcome<D::Why>>
+        ensures got { IfOk result (λ contents. GetsWhole path.now local.now self.old.is_text self.old.is_digested contents
+            (D.talked self.new.session.watched.inner) (L.kept self.old.locals) (L.kept self.new.locals)) }
+        ensures failed { OnErr result (L.kept self.new.locals ≡ L.kept self.old.locals) }
+        ensures missed { IfErr result (λ outcome. is_well outcome ≡ false) }
+        ensures same_target { (self.new.target ≡ self.old.target) × (self.new.is_text ≡ self.old.is_text) × (self.new.is_digested ≡ self.old.is_digested) }
+    {
+        if path.len() > MAX_PATH {
+            return Err(Outcome::TooLong);
+        }
+        if let Err(fault) = self.locals.check(local) {
+            return Err(Outcome::Unwritten(fault));
+        }
+        match self.bytes_of(path) {
+            Ok(bytes) => self.keep(local, bytes.as_slice()),
+            Err(missed) => Err(missed),
+        }
+    }
+}
+
+impl<D: Dialog, L: Locals, V: Viewer> Copier for Gets<'_, D, L, V> {
+    type Why = D::Why;
+
+    /// A file is told as copied only where it was got and is written whole; else no local file changes.
+    ghost tries = { λ old path outcome new. MatchCopied outcome
+        (λ contents. GetsWhole path (local_of old.target path) old.is_text old.is_digested contents (D.talked new.session.watched.inner) (L.kept old.locals) (L.kept new.locals))
+        (L.kept new.locals ≡ L.kept old.locals)
+        × ((new.target ≡ old.target) × (new.is_text ≡ old.is_text) × (new.is_digested ≡ old.is_digested)) };
+
+    fn copy(&mut self, path: &str) -> Outcome<D::Why> {
+        let Ok(local) = self.target.local(self.alloc, path) else {
+            return Outcome::Failed(RunFault::NoMemory);
+        };
+        Outcome::of(self.get_into(path, local.as_str()))
+    }
+}

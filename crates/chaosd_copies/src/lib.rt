@@ -1,0 +1,37 @@
+//! Files that are copied, one after another, between local ones and another host's: which goes where, what is told of each, and how a
+//! run ends.
+//!
+//! It stands on no socket and prints nothing: its user hands in the connection ([`Dialog`]), the local files ([`Locals`]), whom to tell
+//! ([`Teller`]) and whom to show how far a file has come ([`Viewer`]).
+#![tactic(auto)]
+
+mod copier;
+mod deletes;
+mod dialog;
+mod disk;
+mod gets;
+mod local;
+mod naming;
+mod outcome;
+mod progress;
+mod puts;
+mod session;
+mod status;
+mod text;
+mod watched;
+mod whole;
+
+pub use copier::{Copier, Teller, run_copies};
+pub use deletes::Deletes;
+pub use dialog::Dialog;
+pub use disk::Disk;
+pub use gets::Gets;
+pub use local::Locals;
+pub use naming::{FilePath, Naming, Target};
+pub use outcome::{Contents, Outcome};
+pub use progress::Share;
+pub use puts::Puts;
+pub use session::Session;
+pub use status::ExitStatus;
+pub use text::Lost;
+pub use watched::{Viewer, Watched};

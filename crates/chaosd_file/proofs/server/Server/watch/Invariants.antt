@@ -1,8 +1,0 @@
-use Rattle.std.proofs.Common.{◌≡◌}
-use Rattle.chaosd_file.specs.Watch.{watched, watched_slots}
-use Rattle.chaosd_file.proofs.server.Server.watch.Given as goal
-
--- the slots so far were looked at
-abbrev pub invariant-loop-place : goal.invariant-loop-place
-invariant-loop-place g l =
-    watched l.watch.seen (g.G.Log.told l.log) ≡ watched_slots l.fn.self.host l.fn.self.sessions l.place (watched l.fn.watch.seen (g.G.Log.told l.fn.log))

@@ -1,0 +1,175 @@
+//! The paths that local files go under.
+ghost use Rattle.std.specs.Prelude.{◌≡◌, ◌≤◌, ◌+◌, ◌++◌, length, map, option_map};
+ghost use Rattle.std.specs.List.{list_all, list_any};
+ghost use Rattle.chaos_file.specs.declared.limits.TheConstants.{MAX_PATH};
+ghost use Rattle.chaosd_line.specs.Files.{are_apart, are_locals, first_byte, goes_same, is_file, is_same_path, name_for, path_byte, path_for, renamed};
+
+use crate::bad_word::{BadWord, Clash, LOCALS_FORM};
+use crate::files::last_name;
+use crate::names::{is_path, is_path_byte};
+use crate::unread::Unread;
+use arrayvec::ArrayVec;
+use chaos_file::MAX_PATH;
+
+/// A path of FILE.
+pub type FilePath = ArrayVec<u8, MAX_PATH>;
+
+/// The word that is standard input.
+const STREAM: &str = "-";
+
+/// A byte of a path, in place of this one.
+fn path_byte(b: u8) -> u8
+    ensures { result ≡ path_byte b }
+{
+    if is_path_byte(b) { b } else { b'_' }
+}
+
+/// Likewise the first one, which is no dot.
+fn first_byte(b: u8) -> u8
+    ensures { result ≡ first_byte b }
+{
+    if b == b'.' { b'_' } else { path_byte(b) }
+}
+
+/// Adds bytes of a path in place of these.
+fn add_path_bytes(path: &mut FilePath, bytes: &[u8])
+    requires { length path.old.items + length bytes.now ≤ MAX_PATH }
+    ensures { path.new.items ≡ path.old.items ++ map path_byte bytes.now }
+{
+    for b in bytes {
+        let _fits = path.try_push(path_byte(*b));
+    }
+}
+
+/// A name, renamed byte by byte.
+fn renamed(name: &[u8]) -> FilePath
+    requires { length name.now ≤ MAX_PATH }
+    ensures { result.items ≡ renamed name.now }
+{
+    let mut path = FilePath::new();
+    if let [first, rest @ ..] = name {
+        let _fits = path.try_push(first_byte(*first));
+        add_path_bytes(&mut path, rest);
+    }
+    path
+}
+
+/// A name, as it is.
+fn kept(name: &[u8]) -> FilePath
+    requires { length name.now ≤ MAX_PATH }
+    ensures { result.items ≡ name.now }
+{
+    let mut path = FilePath::new();
+    let _fits = path.try_extend_from_slice(name);
+    path
+}
+
+/// A name, renamed where that is asked for.
+fn name_for(name: &[u8], is_renaming: bool) -> FilePath
+    requires { length name.now ≤ MAX_PATH }
+    ensures { result.items ≡ name_for is_renaming name.now }
+{
+    if is_renaming {
+        renamed(name)
+    } else {
+        kept(name)
+    }
+}
+
+/// The path that `put` puts a local file under: its last name, where FILE takes that: 1 to 64 letters, digits, dots, hyphens and
+/// underscores, no dot in front.
+///
+/// Where names are to be renamed, each byte that no path has becomes an underscore first, and so does a dot in front. A name of
+/// more than 64 bytes has no path, nor has none, nor `-`, which is standard input. The cost is a walk over the text.
+pub fn path_for(local: &str, is_renaming: bool) -> Option<FilePath>
+    ensures { option_map (λ p. p.items) result ≡ path_for is_renaming local.now }
+{
+    let name = last_name(local.as_bytes());
+    if name.len() > MAX_PATH || name == STREAM.as_bytes() {
+        return None;
+    }
+    let path = name_for(name, is_renaming);
+    if is_path(path.as_slice()) {
+        Some(path)
+    } else {
+        None
+    }
+}
+
+/// Whether there are two paths, and they are one.
+fn is_same_path(one: &Option<FilePath>, other: &Option<FilePath>) -> bool
+    ensures { result ≡ is_same_path (option_map (λ p. p.items) one.now) (option_map (λ p. p.items) other.now) }
+{
+    match (one, other) {
+        (Some(one), Some(other)) => one.as_slice() == other.as_slice(),
+        _ => false,
+    }
+}
+
+/// Whether one of these files goes under the path.
+fn is_taken(path: &Option<FilePath>, texts: &[&str], is_renaming: bool) -> bool
+    ensures { result ≡ list_any (λ u. is_same_path (path_for is_renaming u.now) (option_map (λ p. p.items) path.now)) texts.now }
+{
+    texts
+        .iter()
+        .any(|text| is_same_path(&path_for(text, is_renaming), path))
+}
+
+/// Whether no two files go under one path. The cost is that of a walk over the later files for each.
+fn are_apart(texts: &[&str], is_renaming: bool) -> bool
+    ensures { result ≡ are_apart (goes_same is_renaming) (map (λ t. t.now) texts.now) }
+{
+    for i in 0..texts.len() {
+        let path = path_for(texts[i], is_renaming);
+        if is_taken(&path, &texts[i + 1..], is_renaming) {
+            return false;
+        }
+    }
+    true
+}
+
+/// Whether no text is standard input.
+fn all_files(texts: &[&str]) -> bool
+    ensures { result ≡ list_all (λ t. is_file t.now) texts.now }
+{
+    texts
+        .iter()
+        .all(|text| text.as_bytes() != STREAM.as_bytes())
+}
+
+/// Whether none of the local files is standard input, and no two go under one path.
+pub(crate) fn are_locals(texts: &[&str], is_renaming: bool) -> bool
+    ensures { result ≡ are_locals is_renaming (map (λ t. t.now) texts.now) }
+{
+    all_files(texts) && are_apart(texts, is_renaming)
+}
+
+/// The first file that goes under the path of one before it, beside that one.
+fn clash_of<'a>(texts: &[&'a str], is_renaming: bool) -> Option<Clash<'a>> {
+    for j in 0..texts.len() {
+        let path = path_for(texts[j], is_renaming);
+        for i in 0..j {
+            if is_same_path(&path_for(texts[i], is_renaming), &path) {
+                return Some(Clash {
+                    first: texts[i],
+                    second: texts[j],
+                });
+            }
+        }
+    }
+    None
+}
+
+/// What is wrong with local files of which one is standard input, or two go under one path.
+pub(crate) fn bad_locals<'a>(texts: &[&'a str], is_renaming: bool) -> Unread<'a> {
+    if all_files(texts) {
+        if let Some(files) = clash_of(texts, is_renaming) {
+            return Unread::Clash(files);
+        }
+    }
+    Unread::Bad(BadWord {
+        text: STREAM,
+        place: "LOCAL",
+        form: LOCALS_FORM,
+    })
+}

@@ -1,0 +1,88 @@
+-- A slot that is passed over, since its connection has nothing to serve.
+use Rattle.std.proofs.Common.{◌≡◌, ℕ, Bool, false, List, [], ◌∷◌, ◌++◌, Option, Some, None, option_map, Ok, refl, ap, sym, subst, arith, ◌∙◌, slice_set}
+use Rattle.std.proofs.lemmas.List.{append-nil}
+use Rattle.chaos_packet.specs.Packet.{PacketView}
+use Rattle.chaos_packet.specs.Outbox.{OutboxView}
+use Rattle.chaos_conn.specs.View.{ConnView}
+use Rattle.chaos_file.specs.Session.{SessionView}
+use Rattle.chaos_file.specs.Store.{StoreChange}
+use Rattle.chaos_host.specs.Acted.{HostActed, HostDoes, no_effect}
+use Rattle.chaos_host.specs.Slot.{named_slot}
+use Rattle.chaos_host.specs.View.{HostView, id_at, host_look, look_slot}
+use Rattle.chaos_host.specs.declared.slot.Slot.{Slot}
+use Rattle.chaos_link.specs.Link.{QueueView}
+use Rattle.chaos_link.specs.declared.carriage.Carriage.{Carriage}
+use Rattle.chaos_link.specs.declared.carriage.Carriage.TheVariants.{One, Two}
+use Rattle.chaos_serve.specs.Calls.{DoesWorkByCalls, is_served}
+use Rattle.chaos_serve.specs.Host.{ServesOne}
+use Rattle.chaos_serve.specs.Work.{Work, NotOpen, Nothing, Full, LastItem, Command, work_of}
+use Rattle.chaos_serve.specs.declared.served.Served.{Served}
+use Rattle.chaos_serve.specs.declared.served.Served.TheVariants as told
+use Rattle.chaos_serve.proofs.Slots.{serves_one}
+use Rattle.chaos_turn.specs.Link.{Sends, has_packets, sent_by}
+use Rattle.file_server.specs.Serve.{ServerDoes, ServesSlot, serving_after}
+use Rattle.file_server.specs.Sessions.{Serving, eof_after, serving_at, serving_of}
+use Rattle.chaos_turn.specs.Station.{station}
+use Rattle.file_server.specs.Server.{server}
+use Rattle.chaos_turn.proofs.Queue.{sends_nothing}
+use Rattle.file_server.proofs.Relation.{kept_so, slot_so}
+
+-- what serving would tell, where it serves nothing
+abbrev told_without : Work → Served
+told_without (NotOpen state) = told.Ended state
+told_without Full = told.NoRoom
+told_without _ = told.Idle
+
+stays : (work : Work) (eof : Bool) → eof_after eof (told_without work) ≡ eof
+stays (NotOpen state) eof = refl
+stays Nothing eof = refl
+stays Full eof = refl
+stays LastItem eof = refl
+stays (Command body) eof = refl
+
+nothing_put : (out : OutboxView) → out ≡ record out { packets = out.packets ++ [] }
+nothing_put out = ap (λ (ps : List PacketView). record out { packets = ps }) (sym (append-nil out.packets))
+
+nothing_done : (h : HostView) (out : OutboxView) (answer : Served) → HostDoes h 2 (no_effect h answer) h out out answer
+nothing_done h out answer = record { view = refl; packets = nothing_put out; answers = refl; few = omega arith; config = refl; size = refl }
+
+module _ (store : StoreChange) (s : SessionView) (h : HostView) (id now : ℕ) (out : OutboxView) (same : store.same) where
+  by_calls : (work : Work) → is_served (Some work) ≡ false → DoesWorkByCalls store s s (λ acted. HostDoes h 2 acted h out out (told_without work)) h id now (Some work)
+  by_calls (NotOpen state) e = ((refl, same), nothing_done h out (told.Ended state))
+  by_calls Nothing e = ((refl, same), nothing_done h out told.Idle)
+  by_calls Full e = ((refl, same), nothing_done h out told.NoRoom)
+  by_calls LastItem e = absurd (cc)
+  by_calls (Command body) e = absurd (cc)
+
+  serves_none : (slot : Slot) → named_slot h.slots id ≡ Some slot → is_served (Some (work_of slot.conn)) ≡ false → ServesOne store s s h id now h out out (told_without (work_of slot.conn))
+  serves_none slot e none =
+      let does : HostActed Served → Type 0 = λ acted. HostDoes h 2 acted h out out (told_without (work_of slot.conn)) in
+      serves_one store s s h id now h out out (told_without (work_of slot.conn))
+      (subst (λ (o : Option Slot). DoesWorkByCalls store s s does h id now (option_map (λ slot. work_of slot.conn) o)) (sym e) (by_calls (work_of slot.conn) none))
+
+-- the slot whose connection an index shows
+looked_at : (found : Option Slot) (conn : ConnView) → look_slot (λ c. c) found ≡ Ok conn → (slot : Slot) × (found ≡ Some slot) × (slot.conn ≡ conn)
+looked_at None conn e = absurd (cc)
+looked_at (Some slot) conn e = (slot, refl, cc)
+
+nothing_sent : (carriage : Carriage) (queue : Option QueueView) (packets : List PacketView) → packets ≡ [] → Sends queue (sent_by carriage (packets ∷ [])) queue
+nothing_sent One queue packets e = rw e (sends_nothing queue)
+nothing_sent Two queue packets e = rw e (sends_nothing queue)
+
+module _ {S : Type 0} (changes : S → S → StoreChange) where
+  -- where it has nothing to serve, and its session is there, serving its slot changes nothing
+  pub passed_so : (carriage : Carriage) (here : Serving) (sessions kept : List Serving) (store : S) (place id now : ℕ) (host : HostView) (conn : ConnView) (out : OutboxView) (queue : Option QueueView)
+      → id_at host place ≡ Some id → here ≡ serving_at sessions place → kept ≡ slice_set sessions place here → serving_of id here ≡ here → host_look host id (λ c. c) ≡ Ok conn → is_served (Some (work_of conn)) ≡ false
+      → (changes store store).same → out.packets ≡ []
+      → ServerDoes carriage (ServesSlot changes now place) (station (server host sessions store) queue out) (station (server host kept store) queue out) false
+  passed_so carriage here sessions kept store place id now host conn out queue e e' set serves shows none same empty =
+      let found = looked_at (named_slot host.slots id) conn shows in
+      let slot = found.0 in
+      let idle : is_served (Some (work_of slot.conn)) ≡ false = ap (λ (c : ConnView). is_served (Some (work_of c))) found.2 ∙ none in
+      let answer = told_without (work_of slot.conn) in
+      let left : here ≡ serving_after (serving_of id here) (serving_of id here).session answer =
+      ap (λ (b : Bool). record here { eof = b }) (sym (stays (work_of slot.conn) here.eof)) ∙ ap (λ (s : Serving). serving_after s s.session answer) (sym serves) in
+      let over : out ≡ record { packets = []; cap = out.cap } = ap (λ (ps : List PacketView). record { packets = ps; cap = out.cap }) empty in
+      slot_so changes carriage here here sessions kept store store place id now host host out out out queue queue false e e' set empty
+      (nothing_sent carriage queue out.packets empty) over (sym (ap (λ (ps : List PacketView). has_packets (ps ∷ [])) empty))
+      (kept_so (changes store store) (serving_of id here) here (serving_of id here).session host id now host out out answer left (serves_none (changes store store) (serving_of id here).session host id now out same slot found.1 idle))

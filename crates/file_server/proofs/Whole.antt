@@ -1,0 +1,50 @@
+-- A whole turn of a server of its parts.
+use Rattle.std.proofs.Common.{◌≡◌, ℕ, Bool, true, if◌then◌else◌, ◌++◌, length, refl, ap, sym, ◌∙◌, subst}
+use Rattle.chaos_host.specs.View.{HostView}
+use Rattle.chaos_link.specs.declared.carriage.Carriage.{Carriage}
+use Rattle.chaos_file.specs.Store.{StoreChange}
+use Rattle.chaos_turn.specs.Arrive.{Arrival}
+use Rattle.chaos_turn.specs.Link.{has_packets}
+use Rattle.chaos_turn.specs.Phase.{DoesPhase}
+use Rattle.chaos_turn.specs.Station.{Station, station}
+use Rattle.chaos_turn.proofs.Queue.{sends_both}
+use Rattle.chaos_turn.proofs.Whole.{has_all}
+use Rattle.file_server.specs.Arrive.{arrive_at_server}
+use Rattle.file_server.specs.Serve.{ServerDoes, ServesSlots}
+use Rattle.file_server.specs.Server.{Server, with_host}
+use Rattle.file_server.specs.Slots.{end_phases}
+use Rattle.file_server.specs.Turn.{IsTurn}
+
+-- a server at its link, of whose station its host's phases see the host
+abbrev pub host_at : {S : Type 0} → Station (Server S) → Station HostView
+host_at a = station a.node.host a.queue a.outbox
+
+module _ {S : Type 0} (changes : S → S → StoreChange) where
+  -- what came, then each slot served, then the last phases
+  pub turn_so : (carriage : Carriage) (came : Arrival) (start now : ℕ) (a b c d : Station (Server S)) (x y z all : Bool)
+      → b.node ≡ with_host a.node b.node.host → d.node ≡ with_host c.node d.node.host
+      → DoesPhase carriage (arrive_at_server came start now a.node.host) (host_at a) (host_at b) x
+      → ServerDoes carriage (ServesSlots changes now (length b.node.host.slots)) b c y
+      → DoesPhase carriage (end_phases c.node.sessions now c.node.host) (host_at c) (host_at d) z
+      → all ≡ (if x then true else (if y then true else z))
+      → ServerDoes carriage (IsTurn changes came start now) a d all
+  turn_so carriage came start now a b c d x y z all same same' one two three e =
+      let first = arrive_at_server came start now a.node.host in
+      let last = end_phases c.node.sessions now c.node.host in
+      let arrived : b.node ≡ with_host a.node first.host = same ∙ ap (with_host a.node) one.host in
+      let each : ServesSlots changes now (length a.node.host.slots) (with_host a.node first.host) c.node two.lots
+      = subst (λ (n : ℕ). ServesSlots changes now n (with_host a.node first.host) c.node two.lots) one.size
+      (subst (λ (s : Server S). ServesSlots changes now (length b.node.host.slots) s c.node two.lots) arrived two.done) in
+      record {
+        lots = first.lots ++ (two.lots ++ last.lots);
+        done = record { served = c.node; replies = two.lots; serves = each; ended = same' ∙ ap (with_host c.node) three.host; out = refl };
+        sends = sends_both carriage a.queue b.queue d.queue first.lots (two.lots ++ last.lots) one.sends (sends_both carriage b.queue c.queue d.queue two.lots last.lots two.sends three.sends);
+        outbox = three.outbox ∙ (two.outbox ∙ one.outbox);
+        told = e ∙ (ap (λ (t : Bool). if t then true else (if y then true else z)) one.told
+            ∙ (ap (λ (t : Bool). if has_packets first.lots then true else (if t then true else z)) two.told
+            ∙ (ap (λ (t : Bool). if has_packets first.lots then true else (if has_packets two.lots then true else t)) three.told
+            ∙ sym (has_all first.lots two.lots last.lots))));
+        config = three.config ∙ (two.config ∙ one.config);
+        size = three.size ∙ (two.size ∙ one.size);
+        count = ap (λ (s : Server S). length s.sessions) same' ∙ (two.count ∙ ap (λ (s : Server S). length s.sessions) same);
+      }

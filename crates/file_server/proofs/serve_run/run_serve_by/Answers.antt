@@ -1,0 +1,31 @@
+use Rattle.std.proofs.Common.{◌≡◌, ◌∙◌, ℕ, refl, subst, add-one, arith, rules}
+use Rattle.chaos_file.specs.Store.{StoreChange}
+use Rattle.chaos_link.specs.declared.carriage.Carriage.{Carriage}
+use Rattle.chaos_turn.specs.Station.{Station}
+use Rattle.chaos_turn.specs.declared.end.TurnEnd.{TurnEnd}
+use Rattle.file_server.specs.Server.{Server}
+use Rattle.file_server.specs.Service.{service_of, ServesTurn}
+use Rattle.file_server.specs.Turn.{RunsTurn}
+use Rattle.file_server.proofs.serve_run.run_serve_by.Goals as goal
+
+-- a turn by the carriage of the server
+turned : {S : Type 0} (changes : S → S → StoreChange) (carriage wanted : Carriage) (start now : ℕ) (before after : Station (Server S)) (end : TurnEnd)
+    → carriage ≡ wanted → RunsTurn changes carriage start now before after end → ServesTurn changes wanted before after
+turned changes carriage wanted start now before after end e done =
+    record { start = start; now = now; end = end; turn = subst (λ (c : Carriage). RunsTurn changes c start now before after end) e done }
+
+pub loop-turn-preserved : goal.loop-turn-preserved
+loop-turn-preserved g c = record {
+  well = search rules;
+  carriage = c.turn-end.ensures.carriage ∙ c.loop-turn.invariant.carriage;
+  made = rw (add-one c.loop-turn.turn) (
+    service_of c.loop-turn.server c.loop-turn.store (g.L.Link.queue c.loop-turn.link),
+    c.loop-turn.invariant.made,
+    turned _ _ _ _ _ _ _ _ c.loop-turn.invariant.carriage c.turn-end.ensures.serves,
+  );
+}
+
+pub returns-clause-turns : goal.returns-clause-turns
+returns-clause-turns g c =
+    let all : c.args.options.turns ≡ c.loop-turn.turn = omega arith in
+    rw all (service_of c.loop-turn.server c.loop-turn.store (g.L.Link.queue c.loop-turn.link), c.loop-turn.invariant.made, refl, refl)

@@ -1,0 +1,11 @@
+pub mod Arrive
+pub mod Fault
+pub mod Serve
+pub mod Server
+pub mod Service
+pub mod Sessions
+pub mod Slots
+pub mod Status
+pub mod Turn
+pub mod Waiting
+pub mod Watch

@@ -1,0 +1,17 @@
+-- What a server's turn works on.
+use Rattle.std.specs.Prelude.{List}
+use Rattle.chaos_host.specs.View.{HostView}
+use Rattle.file_server.specs.Sessions.{Serving}
+
+-- a server of FILE: a host, a session for each of its slots, and a store
+pub record Server (S : Type 0) : Type 0 where
+  pub host : HostView
+  pub sessions : List Serving
+  pub store : S
+
+module _ {S : Type 0} where
+  abbrev pub server : HostView → List Serving → S → Server S
+  server h sessions store = record { host = h; sessions = sessions; store = store }
+
+  abbrev pub with_host : Server S → HostView → Server S
+  with_host s h = record s { host = h }

@@ -1,0 +1,30 @@
+-- One turn of a server: what came is taken, then each slot is served, closed, released and ticked.
+use Rattle.std.specs.Prelude.{◌≡◌, ℕ, List, ◌++◌, length}
+use Rattle.chaos_packet.specs.Packet.{PacketView}
+use Rattle.chaos_file.specs.Store.{StoreChange}
+use Rattle.chaos_link.specs.declared.carriage.Carriage.{Carriage}
+use Rattle.chaos_turn.specs.Arrive.{Arrival}
+use Rattle.chaos_turn.specs.Station.{Station}
+use Rattle.chaos_turn.specs.Turn.{GoesOver}
+use Rattle.chaos_turn.specs.declared.end.TurnEnd.{TurnEnd}
+use Rattle.file_server.specs.Arrive.{arrive_at_server}
+use Rattle.file_server.specs.Serve.{ServesSlots}
+use Rattle.file_server.specs.Server.{Server, with_host}
+use Rattle.file_server.specs.Slots.{end_phases}
+
+module _ {S : Type 0} (changes : S → S → StoreChange) where
+  -- A turn of a server to which this came: what it became, and the packets that went out, lot by lot.
+  pub record IsTurn (came : Arrival) (start now : ℕ) (s t : Server S) (lots : List (List PacketView)) : Type 0 where
+    -- the server after each slot was served, and the replies
+    pub served : Server S
+    pub replies : List (List PacketView)
+    pub serves : ServesSlots changes now (length s.host.slots) (with_host s (arrive_at_server came start now s.host).host) served replies
+    pub ended : t ≡ with_host served (end_phases served.sessions now served.host).host
+    pub out : lots ≡ (arrive_at_server came start now s.host).lots ++ (replies ++ (end_phases served.sessions now served.host).lots)
+
+  -- A whole turn of a server at its link, by this carriage.
+  pub record RunsTurn (carriage : Carriage) (start now : ℕ) (before after : Station (Server S)) (result : TurnEnd) : Type 0 where
+    pub came : Arrival
+    pub lots : List (List PacketView)
+    pub turn : IsTurn came start now before.node after.node lots
+    pub link : GoesOver carriage came lots before after result

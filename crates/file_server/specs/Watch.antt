@@ -1,0 +1,93 @@
+-- Which connections opened and ended between the looks at a server.
+use Rattle.std.specs.Prelude.{ℕ, zero, suc, ◌==◌, Bool, true, false, if◌then◌else◌, List, [], ◌∷◌, ◌++◌, Option, Some, None, option_map, Result, Ok, Err, slice_index_or, slice_set}
+use Rattle.chaos_conn.specs.Calls.{peer_of}
+use Rattle.chaos_conn.specs.declared.state.End.{End}
+use Rattle.chaos_conn.specs.declared.state.State.{State}
+use Rattle.chaos_conn.specs.declared.state.State.TheVariants as state
+use Rattle.chaos_host.specs.declared.fault.CallFault.{CallFault}
+use Rattle.chaos_host.specs.View.{HostView, host_look, id_at}
+use Rattle.file_server.specs.Sessions.{Serving, serving_at}
+use Rattle.file_server.specs.declared.log.Ending.{Ending}
+use Rattle.file_server.specs.declared.log.Ending.TheVariants.{Done, HostDown, Closed}
+use Rattle.file_server.specs.declared.watch.Seen.{Seen}
+
+-- what a log is told: the peer of a connection that opened; and of one that ended, the name that its user gave, and why
+pub data Event : Type 0 where
+  Opened : (peer : End) → Event
+  Ended : (peer : End) → (login : Option (List ℕ)) → (ending : Ending) → Event
+
+abbrev pub told_with : Event → Option (List Event) → Option (List Event)
+told_with event told = option_map (λ events. events ++ event ∷ []) told
+
+abbrev pub told_opened : End → Option (List Event) → Option (List Event)
+told_opened peer told = told_with (Opened peer) told
+
+abbrev pub told_ended : End → Option (List ℕ) → Ending → Option (List Event) → Option (List Event)
+told_ended peer login ending told = told_with (Ended peer login ending) told
+
+-- ---- one look
+
+abbrev pub end_in : Option (ℕ × Option ℕ) → End
+end_in (Some (address, Some index)) = record { address = address; index = index }
+end_in (Some (address, None)) = record { address = address; index = 0 }
+end_in None = record { address = 0; index = 0 }
+
+abbrev pub end_told : Result (Option (ℕ × Option ℕ)) CallFault → End
+end_told (Ok peer) = end_in peer
+end_told (Err _) = record { address = 0; index = 0 }
+
+abbrev pub is_down : Result State CallFault → Bool
+is_down (Ok state.HostDown) = true
+is_down _ = false
+
+-- the connection with an own index
+abbrev pub seen_of : HostView → ℕ → Seen
+seen_of h id = record { id = id; peer = end_told (host_look h id (λ conn. peer_of conn)); is_down = is_down (host_look h id (λ conn. conn.state)) }
+
+abbrev pub seen_at : HostView → ℕ → Option Seen
+seen_at h place = option_map (seen_of h) (id_at h place)
+
+-- ---- what a look tells beside the look before
+
+-- its host down in the look before, an EOF that was served, or else its peer's doing
+abbrev pub ending_of : Bool → Bool → Ending
+ending_of true eof = HostDown
+ending_of false true = Done
+ending_of false false = Closed
+
+abbrev pub after_end : Option Seen → Serving → Option (List Event) → Option (List Event)
+after_end None serving told = told
+after_end (Some was) serving told = told_ended was.peer serving.session.name (ending_of was.is_down serving.eof) told
+
+abbrev pub after_opening : Option Seen → Option (List Event) → Option (List Event)
+after_opening None told = told
+after_opening (Some there) told = told_opened there.peer told
+
+abbrev pub is_same : Option Seen → Option Seen → Bool
+is_same None None = true
+is_same (Some was) (Some there) = was.id == there.id
+is_same _ _ = false
+
+abbrev pub after_change : Option Seen → Option Seen → Serving → Option (List Event) → Option (List Event)
+after_change was there serving told = if is_same was there then told else after_opening there (after_end was serving told)
+
+-- ---- a look at each slot
+
+-- what was seen in each slot, and what was told
+pub record Watched : Type 0 where
+  pub seen : List (Option Seen)
+  pub told : Option (List Event)
+
+abbrev pub watched : List (Option Seen) → Option (List Event) → Watched
+watched seen told = record { seen = seen; told = told }
+
+abbrev pub watched_at : HostView → List Serving → ℕ → Watched → Watched
+watched_at h sessions place w = record {
+  seen = slice_set w.seen place (seen_at h place);
+  told = after_change (slice_index_or w.seen place None) (seen_at h place) (serving_at sessions place) w.told;
+}
+
+-- the first so many slots, in rising order
+abbrev pub watched_slots : HostView → List Serving → ℕ → Watched → Watched
+watched_slots h sessions zero w = w
+watched_slots h sessions (suc n) w = watched_at h sessions n (watched_slots h sessions n w)

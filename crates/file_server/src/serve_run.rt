@@ -1,0 +1,102 @@
+//! The engine `serve`.
+ghost use Rattle.std.specs.Prelude.{◌≡◌, ◌<◌, ◌≤◌, Err, IfErr, OnOk};
+ghost use Rattle.chaos_file.specs.Store.{change};
+ghost use Rattle.file_server.specs.Fault.{IsServiceFault};
+ghost use Rattle.file_server.specs.Service.{Serves, ServesBy};
+
+use crate::log::{Log, Silent};
+use crate::server::Server;
+use crate::watch::Watch;
+use chaos_conn::ConnConfig;
+use chaos_file::Store;
+use chaos_link::{Carriage, Link};
+use chaos_turn::TurnEnd;
+use chaosd_clock::Beginning;
+use chaosd_io::RunFault;
+use std::alloc::Global;
+use std::time::Clock;
+
+/// What a service is asked for.
+#[derive(Clone, Copy)]
+pub struct ServeOptions {
+    /// The address of its host.
+    pub me: u16,
+    /// The configuration of its connections: its windows say how many commands of a client may be in flight.
+    pub config: ConnConfig,
+    /// How many turns it makes.
+    pub turns: u64,
+    /// As which datagrams its packets go out.
+    pub carriage: Carriage,
+}
+
+/// Serves FILE on a store, as the host `me`, for so many turns: its host has 16 connections of the usual configuration, and listens to
+/// `FILE`. The address isn't 0.
+///
+/// Moments are milliseconds since the run began, by the clock; a connection begins with the number that the low 16 bits of the
+/// clock's milliseconds since 1970 tell then. A command in which the store fails is answered so, and the service goes on. A turn
+/// waits only as the link does; what it sends goes out by the carriage, and datagrams of both versions are read. The host takes its
+/// memory first, and later only files take some.
+///
+/// # Errors
+/// [`RunFault`]: 4 where there is no memory for the host, 6 where the link failed, after the turn in which it did, 7 where the clock
+/// can't be read.
+pub fn run_serve<C: Clock, L: Link, S: Store>(
+    clock: &C,
+    alloc: Global,
+    link: &mut L,
+    store: &mut S,
+    me: u16,
+    turns: u64,
+    carriage: Carriage,
+) -> Result<(), RunFault>
+    requires { 0 < me }
+    ensures faults { IfErr result IsServiceFault }
+    // Where it ends well it made all its turns.
+    ensures turns { OnOk result (Serves (change S.contents S.may_give S.count) carriage turns me store.old store.new (L.queue link.old) (L.queue link.new)) }
+    // It ends well only where the link's count of failures didn't rise, and by LinkFault only where failures were counted.
+    ensures well { OnOk result (L.count link.new ≤ L.count link.old) }
+    ensures failed { result ≡ Err RunFault.LinkFault → 0 < L.count link.new }
+{
+    let config = ConnConfig::usual();
+    let options = ServeOptions {
+        me,
+        config,
+        turns,
+        carriage,
+    };
+    run_serve_by(clock, alloc, link, store, options, &mut Silent)
+}
+
+/// Serves as [`run_serve`] does, by these options. The log is told of each connection that a turn opened or ended.
+///
+/// # Errors
+/// Those of [`run_serve`].
+pub fn run_serve_by<C: Clock, L: Link, S: Store, G: Log>(
+    clock: &C,
+    alloc: Global,
+    link: &mut L,
+    store: &mut S,
+    options: ServeOptions,
+    log: &mut G,
+) -> Result<(), RunFault>
+    requires { 0 < options.me }
+    ensures faults { IfErr result IsServiceFault }
+    // Where it ends well it made all its turns.
+    ensures turns { OnOk result (ServesBy (change S.contents S.may_give S.count) options.carriage options.config options.turns options.me store.old store.new (L.queue link.old) (L.queue link.new)) }
+    // It ends well only where the link's count of failures didn't rise, and by LinkFault only where failures were counted.
+    ensures well { OnOk result (L.count link.new ≤ L.count link.old) }
+    ensures failed { result ≡ Err RunFault.LinkFault → 0 < L.count link.new }
+{
+    let beginning = Beginning::new(clock)?;
+    let mut server = Server::new(alloc, options.me, options.config, options.carriage)?;
+    let mut watch = Watch::new();
+    for turn in 0..options.turns {
+        let now = beginning.moment(clock)?;
+        let end = server.turn(alloc, store, link, beginning.number(now), now, true);
+        server.watch(&mut watch, log);
+        if end == TurnEnd::LinkFault {
+            return Err(RunFault::LinkFault);
+        }
+    }
+    Ok(())
+}

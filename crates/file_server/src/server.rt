@@ -1,0 +1,113 @@
+//! The host that serves FILE.
+ghost use Rattle.std.specs.Prelude.{◌≡◌, ◌<◌, ◌↔◌, length, IfErr};
+
+use crate::limits::SERVER_CONNS;
+use crate::log::Log;
+use crate::sessions::Sessions;
+use crate::terms::Terms;
+use crate::turn::make_turn;
+use crate::waiting::can_serve_any;
+use crate::watch::Watch;
+use chaos_conn::ConnConfig;
+use chaos_file::Store;
+use chaos_host::Host;
+use chaos_link::{Carriage, Link};
+use chaos_packet::PktNum;
+use chaos_serve::CONTACT;
+use chaos_turn::{Node, TurnEnd};
+use chaosd_io::RunFault;
+use std::alloc::Global;
+
+/// A node that listens to FILE, with a session for each of its host's connections.
+#[derive(Drop)]
+pub struct Server {
+    /// Its host, which listens to FILE, and what that needs for its turns.
+    pub node: Node,
+    /// The sessions of the host's slots.
+    pub sessions: Sessions,
+    pub ghost alike: { length sessions ≡ length node.host.slots },
+}
+
+impl Server {
+    ghost use Rattle.std.specs.Prelude.{[], min, replicate, IfOk};
+    ghost use Rattle.chaos_file.specs.Store.{change};
+    ghost use Rattle.chaos_packet.specs.Count.{Rose};
+    ghost use Rattle.chaos_turn.specs.declared.limits.TheConstants.{TURN_ROOM};
+    ghost use Rattle.file_server.specs.Sessions.{new_serving};
+    ghost use Rattle.file_server.specs.Service.{listening_host, service_of};
+    ghost use Rattle.file_server.specs.Turn.{RunsTurn};
+    ghost use Rattle.file_server.specs.Watch.{watched, watched_slots};
+
+    /// A server with this address, whose connections have this configuration, and whose packets go out by the carriage.
+    ///
+    /// # Errors
+    /// `NoMemory`.
+    pub fn new(
+        alloc: Global,
+        address: u16,
+        config: ConnConfig,
+        carriage: Carriage,
+    ) -> Result<Self, RunFault>
+        requires { 0 < address }
+        ensures faults { IfErr result (λ fault. fault ≡ RunFault.NoMemory) }
+        ensures host { IfOk result (λ server. server.node.host ≡ listening_host config address) }
+        ensures sessions { IfOk result (λ server. server.sessions ≡ replicate SERVER_CONNS new_serving) }
+        ensures out { IfOk result (λ server. server.node.out ≡ record { packets = []; cap = TURN_ROOM }) }
+        ensures carriage { IfOk result (λ server. server.node.carriage ≡ carriage) }
+    {
+        let Ok(mut host) = Host::new(alloc, address, SERVER_CONNS, config) else {
+            return Err(RunFault::NoMemory);
+        };
+        let _ = host.listen(CONTACT);
+        let Ok(sessions) = Sessions::new(alloc, SERVER_CONNS) else {
+            return Err(RunFault::NoMemory);
+        };
+        match Node::new(alloc, host, carriage) {
+            Ok(node) => Ok(Server { node, sessions }),
+            Err(_) => Err(RunFault::NoMemory),
+        }
+    }
+
+    /// One turn, as [`run_turn`](crate::run_turn) makes it. A new connection numbers what it writes from `start` on. Where nothing in
+    /// front is to be served it may wait for a datagram, where `may_wait` allows it.
+    pub fn turn<S: Store, L: Link>(
+        &mut self,
+        alloc: Global,
+        store: &mut S,
+        link: &mut L,
+        start: PktNum,
+        now: u64,
+        may_wait: bool,
+    ) -> TurnEnd
+        ensures fault { (result ≡ TurnEnd.LinkFault) ↔ Rose (L.count link.old) (L.count link.new) }
+        ensures serves { RunsTurn (change S.contents S.may_give S.count) self.old.node.carriage start now (service_of self.old store.old (L.queue link.old)) (service_of self.new store.new (L.queue link.new)) result }
+        ensures carriage { self.new.node.carriage ≡ self.old.node.carriage }
+    {
+        let terms = Terms {
+            alloc,
+            start,
+            moment: now,
+            carriage: self.node.carriage,
+            may_wait: may_wait && !can_serve_any(&self.node.host),
+        };
+        let node = &mut self.node;
+        make_turn(
+            &mut node.host,
+            &mut self.sessions,
+            store,
+            link,
+            &mut node.out,
+            &mut node.buffer,
+            &terms,
+        )
+    }
+
+    /// Looks at each slot, and tells of the connections that opened and ended since the last look.
+    pub(crate) fn watch<G: Log>(&self, watch: &mut Watch, log: &mut G)
+        ensures { watched watch.new.seen (G.told log.new) ≡ watched_slots self.now.node.host self.now.sessions (min SERVER_CONNS (length self.now.node.host.slots)) (watched watch.old.seen (G.told log.old)) }
+    {
+        for place in 0..SERVER_CONNS.min(self.node.host.conns()) {
+            watch.look(&self.node.host, &self.sessions, place, log);
+        }
+    }
+}

@@ -1,0 +1,142 @@
+//! A session for each slot of a host.
+ghost use Rattle.std.specs.Prelude.{◌≡◌, ◌<◌, IfOk, length, option_map, replicate, true};
+ghost use Rattle.file_server.specs.Sessions.{Serving, new_serving, serving_at, serving_of, eof_after};
+
+use chaos_file::{Reply, Session};
+use chaos_host::ConnId;
+use chaos_serve::Served;
+use std::alloc::{AllocError, Global};
+use std::marker::Model;
+
+/// A slot's session, the connection that it serves, and whether that connection's EOF was served.
+#[derive(Drop)]
+pub(crate) struct Kept {
+    pub(crate) id: Option<ConnId>,
+    pub(crate) eof: bool,
+    /// How many commands were replied to; no contract sees it.
+    commands: u64,
+    // In memory of its own: a turn walks over all slots, and looks at few of the sessions.
+    pub(crate) session: Box<Session, Global>,
+}
+
+impl Model for Kept {
+    ghost use Rattle.file_server.specs.Sessions.{Serving};
+
+    ghost Value = { Serving };
+
+    ghost view = { λ k. record { id = k.id; session = k.session.value; eof = k.eof } };
+}
+
+/// A session for each slot of a host, with the connection that it serves. A contract sees the sessions in the order of the
+/// slots.
+///
+/// A turn gives a slot a new session where another connection is there; the old one is dropped then.
+#[derive(Drop)]
+pub struct Sessions {
+    pub(crate) kept: Vec<Kept>,
+    /// The room in which each reply is made, one for all slots; no contract sees it.
+    pub(crate) reply: Reply,
+}
+
+impl Model for Sessions {
+    ghost use Rattle.std.specs.Prelude.{List};
+    ghost use Rattle.file_server.specs.Sessions.{Serving};
+
+    ghost Value = { List Serving };
+
+    ghost view = { λ s. s.kept.items };
+}
+
+impl Sessions {
+    /// A new session for each of so many slots, which serves no connection yet. A host's turn wants as many as
+    /// [`chaos_host::Host::conns`].
+    ///
+    /// # Errors
+    /// No memory for them.
+    pub fn new(alloc: Global, conns: usize) -> Result<Self, AllocError>
+        ensures { IfOk result (λ sessions. sessions ≡ replicate conns new_serving) }
+    {
+        let mut kept = Vec::with_capacity(alloc, conns)?;
+        for i in 0..conns {
+            kept.push(Kept::new(alloc)?)?;
+        }
+        Ok(Sessions {
+            kept,
+            reply: Reply::new(),
+        })
+    }
+
+    /// The number of slots for which it has a session.
+    pub fn conns(&self) -> usize
+        ensures { result ≡ length self.now }
+    {
+        self.kept.len()
+    }
+
+    /// The name that the user gave of the connection in a slot, or of the last one that was served there, where one was given.
+    pub fn name(&self, place: usize) -> Option<&[u8]>
+        requires { place < length self.now }
+        ensures { option_map (λ name. name.now) result ≡ (serving_at self.now place).session.name }
+    {
+        self.kept[place].session.name()
+    }
+
+    /// Whether the EOF of the connection in a slot was served, or of the last one that was served there.
+    pub fn eof(&self, place: usize) -> bool
+        requires { place < length self.now }
+        ensures { result ≡ (serving_at self.now place).eof }
+    {
+        self.kept[place].eof
+    }
+
+    /// How many commands of the connection in a slot were replied to, or of the last one that was served there.
+    pub fn commands(&self, place: usize) -> u64
+        requires { place < length self.now }
+    {
+        self.kept[place].commands
+    }
+}
+
+impl Kept {
+    /// A new session, which serves no connection yet.
+    fn new(alloc: Global) -> Result<Self, AllocError>
+        ensures { IfOk result (λ kept. kept ≡ new_serving) }
+    {
+        Ok(Kept {
+            id: None,
+            eof: false,
+            commands: 0,
+            session: Box::new(alloc, Session::new())?,
+        })
+    }
+
+    /// Whether it serves this connection already.
+    pub(crate) fn serves(&self, id: ConnId) -> bool
+        ensures { result ≡ true → serving_of id self.now ≡ self.now }
+    {
+        self.id == Some(id)
+    }
+
+    /// Turns to this connection: with a new session, unless it is the one that was served so far.
+    pub(crate) fn turn_to(&mut self, id: ConnId)
+        ensures { self.new ≡ serving_of id self.old }
+    {
+        if self.id != Some(id) {
+            self.id = Some(id);
+            self.eof = false;
+            self.commands = 0;
+            *self.session = Session::new();
+        }
+    }
+
+    /// Keeps that an EOF was served, or counts a command.
+    pub(crate) fn note(&mut self, served: Served)
+        ensures { self.new ≡ record self.old { eof = eof_after self.old.eof served } }
+    {
+        match served {
+            Served::Eof => self.eof = true,
+            Served::Replied => self.commands = self.commands.saturating_add(1),
+            _ => {}
+        }
+    }
+}

@@ -1,0 +1,20 @@
+//! How a turn is made.
+
+use chaos_link::Carriage;
+use chaos_packet::PktNum;
+use std::alloc::Global;
+
+/// What a turn of a server is handed beside what it works on.
+#[derive(Drop)]
+pub(crate) struct Terms {
+    /// Where memory is taken.
+    pub(crate) alloc: Global,
+    /// The number from which on a new connection numbers what it writes.
+    pub(crate) start: PktNum,
+    /// The moment, in milliseconds.
+    pub(crate) moment: u64,
+    /// As which datagrams packets go out.
+    pub(crate) carriage: Carriage,
+    /// Whether it may wait for a datagram.
+    pub(crate) may_wait: bool,
+}

@@ -1,0 +1,127 @@
+//! One turn of a server.
+ghost use Rattle.std.specs.Prelude.{◌≡◌, ◌≤◌, ◌↔◌, [], length};
+ghost use Rattle.chaos_packet.specs.Count.{Rose};
+ghost use Rattle.chaos_file.specs.Store.{change};
+ghost use Rattle.chaos_turn.specs.Station.{station};
+ghost use Rattle.file_server.specs.Serve.{ServerDoes};
+ghost use Rattle.file_server.specs.Server.{server};
+ghost use Rattle.file_server.specs.Turn.{IsTurn, RunsTurn};
+
+use crate::arriving::arrive_at_server;
+use crate::ending::end_slots;
+use crate::serving::serve_slots;
+use crate::sessions::Sessions;
+use crate::terms::Terms;
+use chaos_file::Store;
+use chaos_host::Host;
+use chaos_link::{Carriage, LINK_ROOM, Link, LinkFault, Packets};
+use chaos_packet::{Outbox, PktNum};
+use chaos_turn::{TURN_ROOM, TurnEnd, any_of, begin, end_of};
+use std::alloc::Global;
+
+/// Makes a turn of what came. Says whether packets went out.
+fn take_turn<S: Store, L: Link>(
+    host: &mut Host,
+    sessions: &mut Sessions,
+    store: &mut S,
+    came: Option<Result<Packets<'_>, LinkFault>>,
+    link: &mut L,
+    out: &mut Outbox,
+    terms: &Terms,
+) -> bool
+    requires alike { length sessions.old ≡ length host.old.slots }
+    requires room { TURN_ROOM ≤ out.old.cap }
+    requires empty { out.old.packets ≡ [] }
+    ensures { ServerDoes terms.now.carriage (IsTurn (change S.contents S.may_give S.count) came.entry terms.now.start terms.now.moment)
+        (station (server host.old sessions.old store.old) (L.queue link.old) out.old)
+        (station (server host.new sessions.new store.new) (L.queue link.new) out.new) result }
+{
+    let arrived = arrive_at_server(host, came, link, out, terms);
+    let served = serve_slots(host, sessions, store, link, out, terms);
+    let ended = end_slots(host, sessions, link, terms.moment, out, terms.carriage);
+    any_of(arrived, served, ended)
+}
+
+/// One turn on these terms, see [`run_turn`].
+pub(crate) fn make_turn<S: Store, L: Link>(
+    host: &mut Host,
+    sessions: &mut Sessions,
+    store: &mut S,
+    link: &mut L,
+    out: &mut Outbox,
+    buffer: &mut [u8; LINK_ROOM],
+    terms: &Terms,
+) -> TurnEnd
+    requires alike { length sessions.old ≡ length host.old.slots }
+    requires room { TURN_ROOM ≤ out.old.cap }
+    ensures fault { (result ≡ TurnEnd.LinkFault) ↔ Rose (L.count link.old) (L.count link.new) }
+    ensures turn { RunsTurn (change S.contents S.may_give S.count) terms.now.carriage terms.now.start terms.now.moment
+        (station (server host.old sessions.old store.old) (L.queue link.old) out.old)
+        (station (server host.new sessions.new store.new) (L.queue link.new) out.new) result }
+    ensures outbox { out.new ≡ record { packets = []; cap = out.old.cap } }
+    ensures alike { length sessions.new ≡ length host.new.slots }
+{
+    let begun = begin(link, out, terms.carriage, buffer, terms.may_wait);
+    let sent = take_turn(host, sessions, store, begun.came, link, out, terms);
+    end_of(begun.failures, link.failures(), begun.worked, sent)
+}
+
+/// One turn of a server of FILE: it sends what waits, receives at most one datagram, and does what is due at the moment
+/// `now`. What the host puts out is sent after each of its calls. In this order:
+///
+/// 1. Each packet of the datagram, which may be of either version, is delivered in order. A datagram that carries none is
+///    dropped.
+/// 2. Where one was a new request for contact FILE, the request is accepted before the next packet is delivered; what its
+///    connection writes is numbered from `start` on.
+/// 3. Each slot in use is served once, in rising order, by its own session. It is a new session where another connection
+///    was in the slot before.
+/// 4. Each connection whose EOF was served and whose peer read all is closed with an empty text.
+/// 5. Each ended connection is released.
+/// 6. Each slot is ticked.
+///
+/// By `carriage` packets that are sent at once go each in a datagram of version 1, or several to one host in a datagram of
+/// version 2.
+///
+/// The datagram is received into `buffer`, whatever that holds: a caller keeps it from turn to turn. Where none is there the
+/// turn waits for one as the link does, where `may_wait` allows it. A caller that leaves items in front, see
+/// [`can_serve_any`](crate::can_serve_any), isn't to let the next turn wait.
+///
+/// `LinkFault` exactly where the link's count of failures rose in the turn, or stands at its greatest; a packet whose send
+/// failed is lost, and the turn goes on to its end. Else `Worked` where a datagram came or a packet was sent, else `Idle`.
+///
+/// The sessions are as many as the host's slots, and the outbox has room for [`TURN_ROOM`] packets at least. A turn walks
+/// over the slots four times, and an RFC once more. No memory is taken but by [`chaos_file::Session::apply`].
+pub fn run_turn<S: Store, L: Link>(
+    alloc: Global,
+    host: &mut Host,
+    sessions: &mut Sessions,
+    store: &mut S,
+    link: &mut L,
+    start: PktNum,
+    now: u64,
+    out: &mut Outbox,
+    carriage: Carriage,
+    buffer: &mut [u8; LINK_ROOM],
+    may_wait: bool,
+) -> TurnEnd
+    requires alike { length sessions.old ≡ length host.old.slots }
+    requires room { TURN_ROOM ≤ out.old.cap }
+    ensures fault { (result ≡ TurnEnd.LinkFault) ↔ Rose (L.count link.old) (L.count link.new) }
+    // The turn is the definition; over a queue its packets went out in order.
+    ensures turn { RunsTurn (change S.contents S.may_give S.count) carriage start now
+        (station (server host.old sessions.old store.old) (L.queue link.old) out.old)
+        (station (server host.new sessions.new store.new) (L.queue link.new) out.new) result }
+    // All was sent.
+    ensures outbox { out.new ≡ record { packets = []; cap = out.old.cap } }
+    // A next turn finds as many sessions as slots.
+    ensures alike { length sessions.new ≡ length host.new.slots }
+{
+    let terms = Terms {
+        alloc,
+        start,
+        moment: now,
+        carriage,
+        may_wait,
+    };
+    make_turn(host, sessions, store, link, out, buffer, &terms)
+}

@@ -1,0 +1,29 @@
+//! Whether a turn is to wait.
+ghost use Rattle.std.specs.Prelude.{◌≡◌, ◌<◌, length};
+ghost use Rattle.chaos_host.specs.View.{id_at};
+ghost use Rattle.file_server.specs.Waiting.{can_serve_any, serves_by};
+
+use chaos_host::Host;
+use chaos_serve::can_serve;
+
+/// Whether the connection in a slot has something to serve.
+fn serves_at(host: &Host, place: usize) -> bool
+    ensures { result ≡ serves_by host.now (id_at host.now place) }
+{
+    match host.id_of(place) {
+        Some(id) => can_serve(host, id),
+        None => false,
+    }
+}
+
+/// Whether any connection has something to serve: a command in front for whose reply there is room, or an EOF. A server's turn
+/// over such a host isn't to wait for a datagram. The cost is a look at each slot.
+pub fn can_serve_any(host: &Host) -> bool
+    ensures { result ≡ can_serve_any host.now }
+{
+    let mut found = false;
+    for place in 0..host.conns() {
+        found = found || serves_at(host, place);
+    }
+    found
+}

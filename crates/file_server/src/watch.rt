@@ -1,0 +1,135 @@
+//! Which connections of a server open and end.
+ghost use Rattle.std.specs.Prelude.{◌≡◌, ◌<◌, length};
+ghost use Rattle.chaos_conn.specs.Calls.{peer_of};
+ghost use Rattle.chaos_host.specs.View.{host_look};
+ghost use Rattle.file_server.specs.Sessions.{serving_at};
+ghost use Rattle.file_server.specs.Watch.{after_change, end_told, ending_of, is_down, is_same, seen_at, watched, watched_at};
+
+use crate::limits::SERVER_CONNS;
+use crate::log::{Ending, Log};
+use crate::sessions::Sessions;
+use chaos_conn::{End, State};
+use chaos_host::{ConnId, Host};
+
+/// A connection that was seen in a slot.
+#[derive(Clone, Copy)]
+pub struct Seen {
+    id: ConnId,
+    peer: End,
+    /// Whether its peer's host was heard no more: the next turn releases it.
+    is_down: bool,
+}
+
+/// What was seen in each slot of a server behind its last turn.
+#[derive(Drop)]
+pub struct Watch {
+    pub(crate) seen: [Option<Seen>; SERVER_CONNS],
+}
+
+impl Watch {
+    /// Of a server that made no turn yet: no connection was seen.
+    pub fn new() -> Self {
+        Watch {
+            seen: [None; SERVER_CONNS],
+        }
+    }
+
+    /// Looks at a slot, and tells of the connection there that opened or ended since the last look. One that opened and ended
+    /// between two looks isn't told.
+    pub fn look<G: Log>(&mut self, host: &Host, sessions: &Sessions, place: usize, log: &mut G)
+        requires slot { place < SERVER_CONNS }
+        requires session { place < length sessions.now }
+        ensures { watched self.new.seen (G.told log.new) ≡ watched_at host.now sessions.now place (watched self.old.seen (G.told log.old)) }
+    {
+        let there = seen_at(host, place);
+        tell_change(&self.seen[place], &there, sessions, place, log);
+        self.seen[place] = there;
+    }
+}
+
+/// The connection in a slot, where one is there.
+fn seen_at(host: &Host, place: usize) -> Option<Seen>
+    ensures { result ≡ seen_at host.now place }
+{
+    let id = host.id_of(place)?;
+    Some(Seen {
+        id,
+        peer: peer_of(host, id),
+        is_down: is_down(host, id),
+    })
+}
+
+/// The peer of a connection. A server's connections were asked for, so that the peer's index is known.
+fn peer_of(host: &Host, id: ConnId) -> End
+    ensures { result ≡ end_told (host_look host.now id (λ conn. peer_of conn)) }
+{
+    match host.peer(id) {
+        Ok(Some((address, index))) => End {
+            address,
+            index: index.unwrap_or(0),
+        },
+        _ => End {
+            address: 0,
+            index: 0,
+        },
+    }
+}
+
+/// Whether the peer's host was heard no more.
+fn is_down(host: &Host, id: ConnId) -> bool
+    ensures { result ≡ is_down (host_look host.now id (λ conn. conn.state)) }
+{
+    matches!(host.state(id), Ok(State::HostDown))
+}
+
+/// Whether two looks saw the same connection, or none.
+fn is_same(was: &Option<Seen>, there: &Option<Seen>) -> bool
+    ensures { result ≡ is_same was.now there.now }
+{
+    match (was, there) {
+        (None, None) => true,
+        (Some(was), Some(there)) => was.id == there.id,
+        _ => false,
+    }
+}
+
+/// Why a connection ended.
+fn ending_of(is_down: bool, eof: bool) -> Ending
+    ensures { result ≡ ending_of is_down eof }
+{
+    if is_down {
+        Ending::HostDown
+    } else if eof {
+        Ending::Done
+    } else {
+        Ending::Closed
+    }
+}
+
+/// Tells what changed in a slot since the last look.
+fn tell_change<G: Log>(
+    was: &Option<Seen>,
+    there: &Option<Seen>,
+    sessions: &Sessions,
+    place: usize,
+    log: &mut G,
+)
+    requires { place < length sessions.now }
+    ensures { G.told log.new ≡ after_change was.now there.now (serving_at sessions.now place) (G.told log.old) }
+{
+    if is_same(was, there) {
+        return;
+    }
+    if let Some(was) = was {
+        let ending = ending_of(was.is_down, sessions.eof(place));
+        log.ended(
+            was.peer,
+            sessions.name(place),
+            sessions.commands(place),
+            ending,
+        );
+    }
+    if let Some(there) = there {
+        log.opened(there.peer);
+    }
+}
