@@ -19,6 +19,8 @@ pub(crate) struct CallDialog<'a, C: Dial> {
     waiting: &'a Waiting<'a, C>,
     /// Whether nobody listens there, as the last turn found.
     is_refused: bool,
+    /// How many commands were said to which no reply was heard.
+    unheard: u64,
     client: Peer,
 }
 
@@ -47,6 +49,7 @@ impl<'a, C: AllocGlobal + Dial + Eprint> CallDialog<'a, C> {
             call,
             waiting,
             is_refused: false,
+            unheard: 0,
             client,
         })
     }
@@ -60,11 +63,14 @@ impl<C: Dial + Eprint> Talk for CallDialog<'_, C> {
     ghost failed_by = { λ dialog. ⟦<Call<'static, C, UdpLink> as Talk>⟧.failed_by dialog.call };
 
     fn say(&mut self, command: &[u8]) -> bool {
-        self.call.say(command)
+        let is_said = self.call.say(command);
+        self.unheard = self.unheard.saturating_add(u64::from(is_said));
+        is_said
     }
 
     fn hear(&mut self) -> Option<Reply> {
         let reply = self.call.hear();
+        self.unheard = self.unheard.saturating_sub(u64::from(reply.is_some()));
         if reply.is_some() {
             self.waiting.hear();
         }
@@ -91,10 +97,15 @@ impl<C: Dial + Eprint> Dialog for CallDialog<'_, C> {
     type Why = Unanswered;
 
     fn begin(&mut self) -> Result<(), RunFault> {
+        self.unheard = 0;
         self.call.connect()
     }
 
+    /// Says farewell first, where every reply was heard: so no connection is left at the server where a CLS is lost.
     fn end(&mut self) {
+        if self.unheard == 0 && !self.is_refused {
+            let _ = self.call.end();
+        }
         let _ = self.call.hang_up();
     }
 
