@@ -39,6 +39,9 @@ impl Display for Unanswered {
         if self.why.is_open || self.why.end.is_some() {
             return Ok(());
         }
-        write!(f, ": does a server run at {server}, and does it have {address:o}={socket} as a PEER?")
+        write!(
+            f,
+            ": does a server run at {server}, and does it have {address:o}={socket} as a PEER?"
+        )
     }
 }

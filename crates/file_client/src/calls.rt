@@ -34,7 +34,12 @@ pub(crate) fn write_item(
 
 /// Reads the next item, where it is held, and says whether it is data, which are then left in the caller's place: a copy from where
 /// they lie. What is no data is dropped. Where none are taken, no clause says what the place holds.
-pub(crate) fn take_reply(host: &mut Host, id: Option<ConnId>, out: &mut Outbox, reply: &mut Reply) -> bool
+pub(crate) fn take_reply(
+    host: &mut Host,
+    id: Option<ConnId>,
+    out: &mut Outbox,
+    reply: &mut Reply,
+) -> bool
     requires { 0 < room_of out.old }
     ensures host { host.new ≡ (call_by host.old Read id).view }
     ensures out { out.new ≡ with_put out.old (call_by host.old Read id).packets }

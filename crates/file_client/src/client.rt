@@ -336,8 +336,7 @@ impl Client {
         ensures same_turns { (T.links turns.new ≡ T.links turns.old) × (T.time turns.new ≡ T.time turns.old) }
     {
         let mut told = None;
-        self.caller
-                    .turn(turns, self.now, &mut told, may_wait)?;
+        self.caller.turn(turns, self.now, &mut told, may_wait)?;
         self.patience.note(self.now, told);
         Ok(())
     }
