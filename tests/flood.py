@@ -22,8 +22,8 @@ BURST = 100
 # Packets that a datagram of version 2 may have.
 BUNDLE = 8
 # The growth of the server's memory that is still flat, in KiB: less than 4 bytes for each datagram. A program that was compiled with
-# checks of its memory touches some 1,300 more, once, with the first datagrams.
-FLAT, FLAT_WHERE_CHECKED = 256, 2_048
+# checks of its memory touches some 2,200 more, once, with the first datagrams: it keeps the frames of functions that have returned.
+FLAT, FLAT_WHERE_CHECKED = 256, 4_096
 CONNECTIONS = 16
 
 

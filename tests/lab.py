@@ -85,9 +85,9 @@ class Scripts(Case):
         ]:
             self.check(f"filelab: {name}", run(["filelab"], script).problems(status, text, b""))
         self.check(
-            "filelab: serve has no words", run(["filelab"], START + b"serve b\n").problems(BAD_LINE, START_TEXT, b"line 2: bad\n")
+            "filelab: serve has no words", run(["filelab"], START + b"serve b\n").problems(BAD_LINE, START_TEXT, [b"line 2: bad: "])
         )
-        self.check("lab has no serve", run(["lab"], START + b"serve\n").problems(BAD_LINE, START_TEXT, b"line 2: bad\n"))
+        self.check("lab has no serve", run(["lab"], START + b"serve\n").problems(BAD_LINE, START_TEXT, [b"line 2: bad: "]))
 
     def test_the_session_of_the_demo_comes_whole_where_every_copy_comes_twice(self):
         """The session of the demo, each of its eight commands asked and answered over a network that delivers every copy twice."""
@@ -188,7 +188,7 @@ class Scripts(Case):
         ]:
             self.check(f"settle: {name}", run(["lab"], script).problems(status, text, b""))
         for line in [b"settle ", b"settle a", b"Settle", b" settle"]:
-            self.check(f"{line} is bad", run(["lab"], START + line + b"\n").problems(BAD_LINE, START_TEXT, b"line 2: bad\n"))
+            self.check(f"{line} is bad", run(["lab"], START + line + b"\n").problems(BAD_LINE, START_TEXT, [b"line 2: bad: "]))
         self.check("filelab: settle before the opening", run(["filelab"], START + b"settle\n").problems(REFUSED, START_TEXT + cannot + STORED, b""))
 
     def test_every_byte_is_written_and_read_as_it_was(self):
@@ -230,10 +230,10 @@ class Limits(Case):
     seconds = 4
 
     def test_a_bad_line_is_told_by_its_number(self):
-        """A bad line is told by its number alone, the text of the lines before it stands, and the status is 2."""
+        """A bad line is told by its number, the text of the lines before it stands, and the status is 2."""
         firsts = [b"", b"\n", b"ends 2 2 2 2\n", b"ends 2 2 2 2 1 \n", b" ends 2 2 2 2 1\n", b"ends 0 2 2 2 1\n", b"ends 2 2 2 65 1\n"]
         for first in [*firsts, b"ends 2 2 2 2 65536\n", b"ends 2 2 02 2 1\n", b"read a\n", b"\r"]:
-            self.check(f"{first} is no first line", run(["lab"], first).problems(BAD_LINE, b"", b"line 1: bad\n"))
+            self.check(f"{first} is no first line", run(["lab"], first).problems(BAD_LINE, b"", [b"line 1: bad: "]))
         lines = [b"", b"read", b"read c", b"read a ", b"read  a", b"read A", b"Read a", b"tick a", b"tick a -1", b"tick a +1"]
         lines += [b"tick a 01", b"tick a 18446744073709551616", b"accept", b"accept 65536", b"deliver 18446744073709551616", b"deliver 0x1"]
         lines += [b"write a", b"write a 20 X", b"write a 400 X", b"write a 0200 X", b"write a 288 X", b"write a 200 \\8D", b"write a 200 \\8"]
@@ -242,11 +242,30 @@ class Limits(Case):
         lines += [b"ends 2 2 2 2 1", b"read a\r\r", b"read a" + b" " * 5_000, b"deliver " + b"9" * 40_000]
         for line in lines:
             ended = run(["lab"], START + line + b"\nread a\n")
-            self.check(f"{line[:40]} is a bad line", ended.problems(BAD_LINE, START_TEXT, b"line 2: bad\n"))
+            self.check(f"{line[:40]} is a bad line", ended.problems(BAD_LINE, START_TEXT, [b"line 2: bad: "]))
         ended = run(["lab"], START + b"read a\n" * 9_999 + b"read b")
         self.check("10,001 good lines", ended.problems(DONE, START_TEXT + b"read nothing\n" * 9_999 + b"read ended Inactive\n" + STORED, b""))
         ended = run(["lab"], START + b"read a\n" * 9_999 + b"read")
-        self.check("a bad last line without its end", ended.problems(BAD_LINE, START_TEXT + b"read nothing\n" * 9_999, b"line 10001: bad\n"))
+        self.check("a bad last line without its end", ended.problems(BAD_LINE, START_TEXT + b"read nothing\n" * 9_999, [b"line 10001: bad: "]))
+
+    def test_what_is_wrong_with_a_bad_line_is_told(self):
+        words = b"it is none of write, read, window, tick, close, accept, deliver, and settle, serve in `filelab`"
+        first = b"the first line is `ends SA RA SB RB N`: four windows from 1 to 64, and a number up to 65535"
+        for script, number, why in [
+            (b"ends 99 4 4 4 1\n", 1, first), (b"", 1, first), (b"# comment\n", 1, b"a script has no comments"),
+            (START + b"# comment\n", 2, b"a script has no comments"), (START + b"\r\n", 2, b"a script has no empty lines"),
+            (START + b"read a\n" * 5_000 + b"delivr 0\n", 5_002, words), (START + START, 2, b"`ends` is the first line alone"),
+            (START + b"write a 200 \t", 2, b"the text: its byte 13 is no printing character of ASCII"),
+            (START + b"write a 200 \\8D", 2, b"the text: two lower-case hexadecimal digits are wanted behind each \\"),
+            (START + b"close a " + b"x" * 489, 2, b"the text: it stands for more than 488 bytes"),
+            (START + b"tick a 01\r\n", 2, b"wanted is `tick SIDE MOMENT (a or b; milliseconds)`, with one space between fields"),
+            (START + b"read a" + b" " * 50_000 + b"\nread a\n", 2, b"it has more than 4096 bytes"),
+        ]:  # fmt: skip
+            for command in ["lab", "filelab"]:
+                ended = run([command], script)
+                self.check(f"{command}: {script[-20:]} is told", ended.problems(BAD_LINE, None, b"line %d: bad: %s\n" % (number, why)))
+        ended = run(["lab"], START + b"serve\n")
+        self.check("lab: serve is told", ended.problems(BAD_LINE, None, b"line 2: bad: `serve` is a line of `filelab`\n"))
 
     def test_the_longest_script_is_played_and_one_byte_more_is_a_fault(self):
         """The longest script, and one byte more; and too little memory."""
@@ -259,7 +278,7 @@ class Limits(Case):
         ended = run(["lab"], script + b"r")
         self.check("one byte more is a fault, status 1, behind the text", ended.problems(FAULT, text, [b"chaosd: ", b"1048576"]))
         ended = run(["lab"], script[:-7] + b"read c\n" + b"read a\n")
-        self.check("a bad line within the limit is met first", ended.problems(BAD_LINE, text[:-13], [b"line %d: bad\n" % (count + 1)]))
+        self.check("a bad line within the limit is met first", ended.problems(BAD_LINE, text[:-13], [b"line %d: bad: " % (count + 1)]))
 
     def test_a_copy_is_stale_once_32_640_items_were_written_since_it_was_sent(self):
         """A copy is delivered while one end has written 32,639 items since it was sent, and is stale behind one more."""
@@ -321,7 +340,7 @@ class Streams(Case):
             self.check(f"{name}, standard output closed: told, status 1", ended.problems(FAULT, None, [b"chaosd: the output"]))
         with open("/dev/full", "wb") as full:
             ended = run(["lab"], b"", stdout=full)
-        self.check("an empty script writes nothing: a bad line, status 2", ended.problems(BAD_LINE, None, b"line 1: bad\n"))
+        self.check("an empty script writes nothing: a bad line, status 2", ended.problems(BAD_LINE, None, [b"line 1: bad: "]))
         ended = run(["lab"], START + b"\n", closed=[2])
         self.check("a bad line with standard error closed: status 2", ended.problems(BAD_LINE, START_TEXT))
 

@@ -32,7 +32,7 @@ LOCALS_FORM = "a name for standard input, by --as"
 CLASH_FORM = "a path for each file, but '%s' goes under the same; name one by --as"
 OTHER_FORM = "another Chaosnet address than this host's own"
 TIMEOUT_FORM = "a decimal number without leading zeros, from 1 to 3600"
-OUTPUT_FORM = "one PATH alone"
+OUTPUT_FORM = "one PATH alone, or a folder that ends with /"
 
 BAD_CARRIAGES = ["", "0", "3", "01", "02", "+1", "1 ", " 2", "one", "12"]
 BAD_WINDOWS = ["", "0", "00", "01", "65", "+1", "x", "1x", " 1", "1.5", "0x1", "65536", "65600"]
@@ -94,7 +94,7 @@ HELP = {
         "  <PATH>...  Server's files: 1 to 64 letters, digits, dots, hyphens and underscores, no dot in front\n",
         "--login <NAME>       User's name: 1 to 16 letters and digits [default: CHAOSD]\n",
         "--window <N>         Commands in flight, 1 to 64, as far as the server's own window allows [default: 64]\n",
-        "--output <LOCAL>     Local file of the one path; - is standard output\n",
+        "--output <LOCAL>     Local file of the one path, or a folder that ends with / for all; - is standard output\n",
         "--text               A text of ASCII or the Lisp machine's set: newline, tab, backspace and page are 8D, 89, 88 and 8C ",
         "--verbose            Tells of each file, also where standard error is no terminal, and how the server is called\n",
     ],

@@ -22,6 +22,7 @@ mod parse;
 mod session;
 mod store;
 mod want;
+mod whole;
 
 pub use answer::Reply;
 pub use command::{Command, Parsed, Word};
@@ -39,3 +40,4 @@ pub use parse::parse_command;
 pub use session::Session;
 pub use store::{Got, Removed, Renamed, Store, Stored};
 pub use want::is_want;
+pub use whole::write_whole;

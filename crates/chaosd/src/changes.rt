@@ -29,7 +29,7 @@ where
     R: AllocGlobal + Dial + Eprint + Net,
 {
     let calling = &line.calling;
-    let mut link = match link_to_server(rt, calling.socket, calling.server) {
+    let mut link = match link_to_server(rt, calling) {
         Ok(link) => link,
         Err(error) => return tell_unopened(rt, &calling.socket, &error),
     };
@@ -64,7 +64,7 @@ where
     R: AllocGlobal + Dial + Eprint + Net,
 {
     let calling = &line.calling;
-    let mut link = match link_to_server(rt, calling.socket, calling.server) {
+    let mut link = match link_to_server(rt, calling) {
         Ok(link) => link,
         Err(error) => return tell_unopened(rt, &calling.socket, &error),
     };

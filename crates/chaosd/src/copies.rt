@@ -45,7 +45,7 @@ where
 {
     let copying = &line.copying;
     let calling = &copying.calling;
-    let mut link = match link_to_server(rt, calling.socket, calling.server) {
+    let mut link = match link_to_server(rt, calling) {
         Ok(link) => link,
         Err(error) => return tell_unopened(rt, &calling.socket, &error),
     };
@@ -111,7 +111,7 @@ where
     }
     let copying = &line.copying;
     let calling = &copying.calling;
-    let mut link = match link_to_server(rt, calling.socket, calling.server) {
+    let mut link = match link_to_server(rt, calling) {
         Ok(link) => link,
         Err(error) => return tell_unopened(rt, &calling.socket, &error),
     };

@@ -1,6 +1,7 @@
 //! A dialog over a call.
 ghost use Rattle.chaosd.specs.Over.{over_where};
 
+use crate::patient::{Hurried, Patient};
 use crate::unanswered::Unanswered;
 use crate::waiting::Waiting;
 use chaos_file::Reply;
@@ -15,7 +16,7 @@ use file_client::Call;
 /// A dialog with a server over a call, which claims what the call does. It is over too where nobody listens where the server is to be.
 #[derive(Drop)]
 pub(crate) struct CallDialog<'a, C: Dial> {
-    call: Call<'a, C, UdpLink>,
+    call: Hurried<Call<'a, C, Patient<'a, C, UdpLink>>>,
     waiting: &'a Waiting<'a, C>,
     /// Whether nobody listens there, as the last turn found.
     is_refused: bool,
@@ -28,7 +29,7 @@ impl<'a, C: AllocGlobal + Dial + Eprint> CallDialog<'a, C> {
     /// Nothing is sent yet.
     pub(crate) fn new(
         rt: &'a C,
-        link: &'a mut UdpLink,
+        link: &'a mut Patient<'a, C, UdpLink>,
         calling: &Calling<'_>,
         waiting: &'a Waiting<'a, C>,
     ) -> Result<Self, RunFault> {
@@ -46,7 +47,7 @@ impl<'a, C: AllocGlobal + Dial + Eprint> CallDialog<'a, C> {
             calling.carriage,
         )?;
         Ok(CallDialog {
-            call,
+            call: Hurried::new(call, calling.timeout),
             waiting,
             is_refused: false,
             unheard: 0,
@@ -56,11 +57,11 @@ impl<'a, C: AllocGlobal + Dial + Eprint> CallDialog<'a, C> {
 }
 
 impl<C: Dial + Eprint> Talk for CallDialog<'_, C> {
-    ghost talked = { λ dialog. ⟦<Call<'static, C, UdpLink> as Talk>⟧.talked dialog.call };
+    ghost talked = { λ dialog. ⟦<Hurried<Call<'static, C, Patient<'static, C, UdpLink>>> as Talk>⟧.talked dialog.call };
 
-    ghost course = { λ dialog. over_where dialog.is_refused (⟦<Call<'static, C, UdpLink> as Talk>⟧.course dialog.call) };
+    ghost course = { λ dialog. over_where dialog.is_refused (⟦<Hurried<Call<'static, C, Patient<'static, C, UdpLink>>> as Talk>⟧.course dialog.call) };
 
-    ghost failed_by = { λ dialog. ⟦<Call<'static, C, UdpLink> as Talk>⟧.failed_by dialog.call };
+    ghost failed_by = { λ dialog. ⟦<Hurried<Call<'static, C, Patient<'static, C, UdpLink>>> as Talk>⟧.failed_by dialog.call };
 
     fn say(&mut self, command: &[u8]) -> bool {
         let is_said = self.call.say(command);
@@ -98,20 +99,21 @@ impl<C: Dial + Eprint> Dialog for CallDialog<'_, C> {
 
     fn begin(&mut self) -> Result<(), RunFault> {
         self.unheard = 0;
-        self.call.connect()
+        self.call.begin();
+        self.call.inner.connect()
     }
 
     /// Says farewell first, where every reply was heard: so no connection is left at the server where a CLS is lost.
     fn end(&mut self) {
         if self.unheard == 0 && !self.is_refused {
-            let _ = self.call.end();
+            let _ = self.call.inner.end();
         }
-        let _ = self.call.hang_up();
+        let _ = self.call.inner.hang_up();
     }
 
     fn why(&mut self) -> Unanswered {
         Unanswered {
-            why: self.call.no_reply(),
+            why: self.call.inner.no_reply(),
             is_refused: self.is_refused,
             server: self.waiting.server(),
             client: self.client,

@@ -4,6 +4,7 @@
 //! the others, and ends with their status.
 #![tactic(auto)]
 
+mod asking;
 mod changes;
 mod connections;
 mod copies;
@@ -11,22 +12,27 @@ mod descriptors;
 mod dialog;
 mod file_words;
 mod network;
+mod patient;
 mod progress;
 mod run_ends;
 mod runs;
 mod serving;
 mod status;
+mod terminals;
+mod typed;
 mod unanswered;
 mod waiting;
 mod words;
 
+use crate::asking::run_ask_line;
 use crate::changes::{run_delete_line, run_rename_line};
 use crate::copies::{run_get_line, run_put_line};
 use crate::descriptors::fill_descriptors;
-use crate::network::{run_ask_line, run_loop_line};
+use crate::network::run_loop_line;
 use crate::runs::{run_filelab_line, run_lab_line, run_show_line};
 use crate::serving::run_serve_line;
 use crate::status::refused_status;
+use crate::terminals::Terminals;
 use crate::words::words_of;
 use chaosd_copies::ExitStatus;
 use chaosd_io::RunFault;
@@ -39,22 +45,22 @@ use std::process::ExitCode;
 use std::rt::Env;
 use std::time::Clock;
 
-/// Does what the line asks for. Where standard error is a terminal, more is told on it. The answer is the exit status.
-fn run_line<R>(rt: &R, line: Line<'_>, is_terminal: bool) -> ExitStatus
+/// Does what the line asks for. On terminals more is told. The answer is the exit status.
+fn run_line<R>(rt: &R, line: Line<'_>, terminals: Terminals) -> ExitStatus
 where
     R: AllocGlobal + Clock + Eprint + Files<File = File> + Input + Net + Print,
 {
     match line {
-        Line::Show(_) => run_show_line(rt),
+        Line::Show(is_file) => run_show_line(rt, is_file),
         Line::Lab => run_lab_line(rt),
         Line::FileLab => run_filelab_line(rt),
         Line::Loop(carriage) => run_loop_line(rt, carriage),
-        Line::Ask(ask) => run_ask_line(rt, ask, is_terminal),
+        Line::Ask(ask) => run_ask_line(rt, ask, terminals),
         Line::Serve(serve) => run_serve_line(rt, serve),
-        Line::Get(get) => run_get_line(rt, &get, is_terminal),
-        Line::Put(put) => run_put_line(rt, &put, is_terminal),
-        Line::Delete(delete) => run_delete_line(rt, &delete, is_terminal),
-        Line::Rename(rename) => run_rename_line(rt, &rename, is_terminal),
+        Line::Get(get) => run_get_line(rt, &get, terminals.errors),
+        Line::Put(put) => run_put_line(rt, &put, terminals.errors),
+        Line::Delete(delete) => run_delete_line(rt, &delete, terminals.errors),
+        Line::Rename(rename) => run_rename_line(rt, &rename, terminals.errors),
     }
 }
 
@@ -69,7 +75,7 @@ fn refuse<R: Print + Eprint>(rt: &R, error: &Error) -> ExitStatus {
 }
 
 /// Reads the command line and does what it asks for. The answer is the exit status.
-fn run<R>(rt: &R, is_terminal: bool) -> ExitStatus
+fn run<R>(rt: &R, terminals: Terminals) -> ExitStatus
 where
     R: AllocGlobal + Clock + Env + Eprint + Files<File = File> + Input + Net + Print,
 {
@@ -81,7 +87,7 @@ where
         }
     };
     match parse_line(rt.alloc(), words.as_slice()) {
-        Ok(line) => run_line(rt, line, is_terminal),
+        Ok(line) => run_line(rt, line, terminals),
         Err(error) => refuse(rt, &error),
     }
 }
@@ -89,5 +95,9 @@ where
 /// The program.
 fn main(rt: HostRuntime) -> ExitCode {
     let _held = fill_descriptors(&rt);
-    ExitCode::from(run(&rt, rt.stderr().is_terminal()).number())
+    let terminals = Terminals {
+        input: rt.stdin().is_terminal(),
+        errors: rt.stderr().is_terminal(),
+    };
+    ExitCode::from(run(&rt, terminals).number())
 }

@@ -1,25 +1,23 @@
-//! The runs of clients over sockets: `loop` and `ask`.
+//! The links of clients over sockets, and the run of `loop`.
+use crate::patient::Patient;
 use crate::run_ends::{tell_script, tell_unopened};
-use crate::unanswered::Unanswered;
-use crate::waiting::{Waiting, WaitingSocket};
 use chaos_link::{Carriage, Peer, Peers, UdpLink};
+use chaosd_clock::Dial;
 use chaosd_copies::ExitStatus;
-use chaosd_file::{LOOP_CLIENT, LOOP_SERVER, NOBODY, ScriptEnd, Why, run_ask, run_loop};
+use chaosd_file::{LOOP_CLIENT, LOOP_SERVER, ScriptEnd, Why, run_loop};
 use chaosd_io::RunFault;
-use chaosd_line::Ask;
+use chaosd_line::Calling;
 use std::io;
 use std::io::Read;
 use std::net::{Ipv4Addr, Net, SocketAddr, SocketAddrV4, UdpSocket};
-use std::time::Clock;
 
-/// A link over a socket at this UDP address, to one server.
-pub(crate) fn link_to_server<R: Net>(
-    rt: &R,
-    socket: SocketAddrV4,
-    server: Peer,
-) -> io::Result<UdpLink> {
-    let socket = UdpSocket::bind(rt, SocketAddr::V4(socket))?;
-    Ok(link_to(socket, server))
+/// A link over a socket at the UDP address of a caller, to its server.
+pub(crate) fn link_to_server<'a, R: Dial + Net>(
+    rt: &'a R,
+    calling: &Calling<'_>,
+) -> io::Result<Patient<'a, R, UdpLink>> {
+    let socket = UdpSocket::bind(rt, SocketAddr::V4(calling.socket))?;
+    Ok(Patient::new(rt, link_to(socket, calling.server), calling.timeout))
 }
 
 /// A socket of this machine alone, at a port that the system chooses, and its UDP address.
@@ -60,22 +58,13 @@ pub(crate) fn has_input<R: Input>(rt: &R) -> bool {
 }
 
 /// Tells how a script ended, and gives the exit status.
-fn end_script<R: Eprint>(
+pub(crate) fn end_script<R: Eprint>(
     rt: &R,
     end: &Result<ScriptEnd, RunFault>,
     why: &Option<Why>,
 ) -> ExitStatus {
     tell_script(rt, end, why);
     ExitStatus::of_run(end.map(|end| end.replied == end.commands))
-}
-
-/// The host that is asked: this one where it is a peer. Of one that is none nothing can be asked, which is told.
-fn asked_host<R: Eprint>(rt: &R, to: u16, peers: &Peers) -> u16 {
-    if peers.find(to).is_some() {
-        return to;
-    }
-    let _ = eprintln!(rt; "chaosd: host {to:06o} is no PEER");
-    NOBODY
 }
 
 /// Runs `loop` from standard input to standard output.
@@ -101,75 +90,4 @@ pub(crate) fn run_loop_line<R: AllocGlobal + Eprint + Input + Net + Print>(
         carriage,
     );
     end_script(rt, &end, &why)
-}
-
-/// Runs `ask` from standard input to standard output.
-pub(crate) fn run_ask_line<R: AllocGlobal + Clock + Eprint + Input + Net + Print>(
-    rt: &R,
-    line: Ask,
-    is_terminal: bool,
-) -> ExitStatus {
-    let Ask {
-        carriage,
-        timeout: _,
-        is_strict: _,
-        address,
-        socket,
-        to,
-        peers,
-    } = line;
-    if !has_input(rt) {
-        return end_script(rt, &Err(RunFault::ReadFault), &None);
-    }
-    let to = asked_host(rt, to, &peers);
-    let server = Peer {
-        address: to,
-        socket: peers.find(to).unwrap_or(socket),
-    };
-    let waiting = Waiting::new(rt, server, is_terminal);
-    let mut link = match UdpSocket::bind(rt, SocketAddr::V4(socket)) {
-        Ok(bound) => UdpLink::new(WaitingSocket::new(bound, &waiting), peers),
-        Err(error) => return tell_unopened(rt, &socket, &error),
-    };
-    let mut why = None;
-    let end = run_ask(
-        rt,
-        rt.alloc(),
-        &mut rt.reader(),
-        &mut io::writer(rt),
-        &mut link,
-        address,
-        to,
-        &mut why,
-        carriage,
-    );
-    match why {
-        // That the host is no peer was told.
-        Some(Why::NoReply(_)) if to == NOBODY => end_script(rt, &end, &None),
-        Some(Why::NoReply(why)) => {
-            let client = Peer { address, socket };
-            end_unanswered(rt, &end, Unanswered::new(why, server, client))
-        }
-        _ if waiting.is_over() => end_refused(rt, server),
-        why => end_script(rt, &end, &why),
-    }
-}
-
-/// Tells why a command of a script got no reply, and gives the exit status.
-fn end_unanswered<R: Eprint>(
-    rt: &R,
-    end: &Result<ScriptEnd, RunFault>,
-    unanswered: Unanswered,
-) -> ExitStatus {
-    let _ = eprintln!(rt; "chaosd: {unanswered}");
-    end_script(rt, end, &None)
-}
-
-/// Tells that nobody listens where the server is to be, so that the first command gets no reply, and gives the exit status.
-fn end_refused<R: Eprint + Print>(rt: &R, server: Peer) -> ExitStatus {
-    let _ = eprintln!(rt; "chaosd: no server listens at {}", server.socket);
-    match println!(rt; "no reply") {
-        Ok(()) => ExitStatus::Refused,
-        Err(_) => end_script(rt, &Err(RunFault::WriteFault), &None),
-    }
 }

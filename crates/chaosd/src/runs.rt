@@ -2,27 +2,56 @@
 use crate::run_ends::tell_end;
 use chaosd_copies::ExitStatus;
 use chaosd_filelab::run_filelab;
+use chaosd_io::{RunFault, without_return};
 use chaosd_lab::run_lab;
 use chaosd_show::run_show;
+use chaosd_told::{Kept, Laboratory, Reports, why_bad};
 use std::io;
+use std::io::Read;
 
-/// Runs `show` from standard input to standard output.
-pub(crate) fn run_show_line<R: Input + Print + Eprint>(rt: &R) -> ExitStatus {
-    let end = run_show(&mut rt.reader(), &mut io::writer(rt));
+/// Runs `show` from standard input to standard output. Where it is asked for, what data say stands in the reports too.
+pub(crate) fn run_show_line<R: Input + Print + Eprint>(rt: &R, is_file: bool) -> ExitStatus {
+    let end = if is_file {
+        let mut writer = io::writer(rt);
+        run_show(&mut rt.reader(), &mut Reports::new(&mut writer))
+    } else {
+        run_show(&mut rt.reader(), &mut io::writer(rt))
+    };
     tell_end(rt, &end);
     ExitStatus::of_run(end.map(|tally| tally.refused == 0))
 }
 
+/// Tells how a run over a laboratory's script ended: as [`tell_end`] does, and what is wrong with a bad line.
+fn tell_lab<R: Eprint, I: Read, T>(
+    rt: &R,
+    end: &Result<T, RunFault>,
+    reader: &Kept<'_, I>,
+    laboratory: Laboratory,
+) {
+    if let Err(fault @ RunFault::BadScript(number)) = end {
+        if let Some(line) = reader.line(*number) {
+            let why = why_bad(without_return(line), *number, laboratory);
+            let _ = eprintln!(rt; "{fault}: {why}");
+            return;
+        }
+    }
+    tell_end(rt, end);
+}
+
 /// Runs `lab` from standard input to standard output.
 pub(crate) fn run_lab_line<R: AllocGlobal + Input + Print + Eprint>(rt: &R) -> ExitStatus {
-    let end = run_lab(rt.alloc(), &mut rt.reader(), &mut io::writer(rt));
-    tell_end(rt, &end);
+    let mut input = rt.reader();
+    let mut reader = Kept::new(rt.alloc(), &mut input);
+    let end = run_lab(rt.alloc(), &mut reader, &mut io::writer(rt));
+    tell_lab(rt, &end, &reader, Laboratory::Ends);
     ExitStatus::of_run(end.map(|refused| refused == 0))
 }
 
 /// Runs `filelab` from standard input to standard output.
 pub(crate) fn run_filelab_line<R: AllocGlobal + Input + Print + Eprint>(rt: &R) -> ExitStatus {
-    let end = run_filelab(rt.alloc(), &mut rt.reader(), &mut io::writer(rt));
-    tell_end(rt, &end);
+    let mut input = rt.reader();
+    let mut reader = Kept::new(rt.alloc(), &mut input);
+    let end = run_filelab(rt.alloc(), &mut reader, &mut io::writer(rt));
+    tell_lab(rt, &end, &reader, Laboratory::Files);
     ExitStatus::of_run(end.map(|refused| refused == 0))
 }

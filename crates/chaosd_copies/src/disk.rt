@@ -2,7 +2,7 @@
 ghost use Rattle.std.specs.Prelude.{None};
 
 use crate::local::Locals;
-use crate::whole::{check_whole, write_whole};
+use crate::whole::{check_whole, write_at};
 use chaosd_copy::read_whole;
 use std::fs::File;
 use std::io::Write;
@@ -84,7 +84,7 @@ impl<R: AllocGlobal + Files<File = File> + Input + Print> Locals for Disk<'_, R>
         match place_of(name) {
             Place::Stream => write_stream(self.rt, bytes),
             Place::Nowhere => Ok(()),
-            Place::File => write_whole(self.rt, self.rt.alloc(), name, self.mark, bytes),
+            Place::File => write_at(self.rt, self.rt.alloc(), name, self.mark, bytes),
         }
     }
 

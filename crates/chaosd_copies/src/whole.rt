@@ -1,19 +1,12 @@
 //! Local files that are written whole.
+use chaos_file::write_whole;
 use chaosd_copy::last_name;
-use libc::getrlimit;
-use libc::types::rlimit;
 use std::alloc::Global;
 use std::fs::{File, Metadata, OpenFile};
-use std::io::{ErrorKind, Write};
+use std::io::ErrorKind;
 use std::os::unix::fs::FileTypeExt;
 use std::rt::Files;
 use std::{fs, io};
-
-/// The number of the process's limit on the size of a file that it writes.
-const RLIMIT_FSIZE: i32 = 1;
-
-/// The system's number of the fault that a file is too large.
-const EFBIG: i32 = 27;
 
 /// The folder that a path leads to.
 fn folder_of(path: &str) -> &str {
@@ -72,46 +65,6 @@ pub(crate) fn check_whole<R: Files>(
     fs::remove_file(rt, part.as_str())
 }
 
-/// A file of more bytes than the process may write is refused: the system would end the process at its write.
-fn require_room(bytes: &[u8]) -> io::Result<()> {
-    let mut limit = rlimit {
-        rlim_cur: u64::MAX,
-        rlim_max: u64::MAX,
-    };
-    let _status = getrlimit(RLIMIT_FSIZE, &mut limit);
-    if bytes.len() as u64 > limit.rlim_cur {
-        return Err(io::Error::from_raw_os_error(EFBIG));
-    }
-    Ok(())
-}
-
-/// Writes a new file, with the mode of the one that it will replace, and flushes it to the disk.
-fn write_new<R: Files>(
-    rt: &R,
-    path: &str,
-    replaced: Option<Metadata>,
-    bytes: &[u8],
-) -> io::Result<()> {
-    let mut file = File::create_new(rt, path)?;
-    if let Some(info) = replaced {
-        file.set_permissions(info.permissions())?;
-    }
-    file.write_all(bytes)?;
-    file.sync_all()
-}
-
-/// Writes a file under its other name, and then gives it its own.
-fn write_and_rename<R: Files>(
-    rt: &R,
-    part: &str,
-    path: &str,
-    replaced: Option<Metadata>,
-    bytes: &[u8],
-) -> io::Result<()> {
-    write_new(rt, part, replaced, bytes)?;
-    fs::rename(rt, part, path)
-}
-
 /// Writes a file whole: beside its place first, under a name with a dot in front and this mark; then it is flushed, and then it gets its
 /// name, in place of a file that had it, whose mode it has. So no half file ever has the name. The mark is one that no other writer of
 /// this folder has.
@@ -119,21 +72,18 @@ fn write_and_rename<R: Files>(
 /// # Errors
 /// Those of the system, and where it is longer than the process may write: then what had the name has it still, but where the last flush
 /// of the folder failed; and nothing is left beside it, but where that could not be removed either.
-pub(crate) fn write_whole<R: Files>(
+pub(crate) fn write_at<R: Files>(
     rt: &R,
     alloc: Global,
     path: &str,
     mark: u16,
     bytes: &[u8],
 ) -> io::Result<()> {
-    require_room(bytes)?;
     let part = part_of(alloc, path, mark)?;
     let replaced = replaced_at(rt, path)?;
     let folder = fs::open(rt, folder_of(path))?;
     let _ = fs::remove_file(rt, part.as_str());
-    if let Err(e) = write_and_rename(rt, part.as_str(), path, replaced, bytes) {
-        let _ = fs::remove_file(rt, part.as_str());
-        return Err(e);
-    }
+    let mode = replaced.map(|info| info.permissions());
+    write_whole(rt, part.as_str(), path, mode, bytes)?;
     folder.sync_all()
 }

@@ -3,7 +3,7 @@ use Rattle.std.proofs.Common.{◌≡◌, ◌∙◌, ◌&&◌, Bool, true, false,
 use Rattle.std.specs.Prelude.{IfErr, IfOk}
 use Rattle.clap.specs.Words.{Row, Text, first_of}
 use Rattle.chaosd_line.proofs.Unique.{one_flag, one_value}
-use Rattle.chaosd_line.specs.Files.{GivesFiles, IfBad, IsCalling, IsCopying, IsDelete, IsDeleteOf, IsGet, IsGetOf, IsPut, IsPutOf, are_named, are_paths, fits_one, words_of}
+use Rattle.chaosd_line.specs.Files.{GivesFiles, IfBad, IsCalling, IsCopying, IsDelete, IsDeleteOf, IsGet, IsGetOf, IsPut, IsPutOf, are_named, are_paths, fits_output, words_of}
 use Rattle.std.specs.Option.{IsSomeAnd}
 use Rattle.chaosd_line.specs.Values.{IsFlag}
 use Rattle.chaosd_line.specs.declared.line.Calling.{Calling}
@@ -24,10 +24,10 @@ not_false a e h = cc
 
 pub gives_get : (rows : List Row) (copying : Copying) (o : Option Text) (texts : List Text) (r : Result Get Unread)
     → IsCopying rows copying → o ≡ first_of (codes "output") rows → texts ≡ words_of (codes "PATH") rows
-    → IfOk r (IsGetOf copying o texts) → IfErr r (λ e. IfBad e ((are_paths texts && fits_one o texts) ≡ false))
+    → IfOk r (IsGetOf copying o texts) → IfErr r (λ e. IfBad e ((are_paths texts && fits_output o texts) ≡ false))
     → GivesFiles (IsGet rows) r
 gives_get rows copying o texts (Ok get) h p q ok err =
-    let one : fits_one (first_of (codes "output") rows) (words_of (codes "PATH") rows) ≡ fits_one o texts = λ i. fits_one (sym p i) (sym q i) in
+    let one : fits_output (first_of (codes "output") rows) (words_of (codes "PATH") rows) ≡ fits_output o texts = λ i. fits_output (sym p i) (sym q i) in
     record {
       copying = subst (IsCopying rows) (sym ok.0) h;
       output = ok.1 ∙ p;
@@ -36,11 +36,11 @@ gives_get rows copying o texts (Ok get) h p q ok err =
       paths = ok.2 ∙ q;
     }
 gives_get rows copying o texts (Err (Bad word)) h p q ok err =
-    let one : fits_one o texts ≡ fits_one (first_of (codes "output") rows) (words_of (codes "PATH") rows) = λ i. fits_one (p i) (q i) in
-    λ get k. not_both (are_paths texts) (fits_one o texts) err (ap are_paths q ∙ k.legal) (one ∙ k.one)
+    let one : fits_output o texts ≡ fits_output (first_of (codes "output") rows) (words_of (codes "PATH") rows) = λ i. fits_output (p i) (q i) in
+    λ get k. not_both (are_paths texts) (fits_output o texts) err (ap are_paths q ∙ k.legal) (one ∙ k.one)
 gives_get rows copying o texts (Err (Clash files)) h p q ok err =
-    let one : fits_one o texts ≡ fits_one (first_of (codes "output") rows) (words_of (codes "PATH") rows) = λ i. fits_one (p i) (q i) in
-    λ get k. not_both (are_paths texts) (fits_one o texts) err (ap are_paths q ∙ k.legal) (one ∙ k.one)
+    let one : fits_output o texts ≡ fits_output (first_of (codes "output") rows) (words_of (codes "PATH") rows) = λ i. fits_output (p i) (q i) in
+    λ get k. not_both (are_paths texts) (fits_output o texts) err (ap are_paths q ∙ k.legal) (one ∙ k.one)
 gives_get rows copying o texts (Err NoMemory) h p q ok err = tt
 
 -- the flag that was read is that of every such line

@@ -1,5 +1,5 @@
 -- The values of the commands that call a server: `get`, `put`, `delete` and `rename`.
-use Rattle.std.specs.Prelude.{◌≡◌, ◌≢◌, ◌==◌, ◌&&◌, ◌||◌, ◌++◌, ◌∷◌, ⊤, ℕ, Bool, true, false, not, List, [], Option, None, Some, is_some, Result, MatchResult, if◌then◌else◌, codes, length, map, option_map, unwrap_or}
+use Rattle.std.specs.Prelude.{◌≡◌, ◌≢◌, ◌==◌, ◌-◌, ◌&&◌, ◌||◌, ◌++◌, ◌∷◌, ⊤, ℕ, Bool, true, false, not, List, [], Option, None, Some, slice_get, Result, MatchResult, if◌then◌else◌, codes, length, map, option_map, unwrap_or}
 use Rattle.std.specs.List.{list_all, list_any}
 use Rattle.std.specs.Option.{IsSomeAnd}
 use Rattle.std.specs.Str.{bytes_eq}
@@ -75,9 +75,19 @@ is_file text = not (bytes_eq text (codes "-"))
 abbrev pub are_locals : Bool → List Text → Bool
 are_locals is_renaming texts = list_all is_file texts && are_apart (goes_same is_renaming) texts
 
--- a name of their own is for one file alone
-abbrev pub fits_one : Option Text → List Text → Bool
-fits_one named texts = not (is_some named) || length texts == 1
+-- a slash (47)
+abbrev pub is_slash : Option ℕ → Bool
+is_slash None = false
+is_slash (Some b) = b == 47
+
+-- a name that ends with a slash is a folder's
+abbrev pub is_folder : Text → Bool
+is_folder text = is_slash (slice_get text (length text - 1))
+
+-- a local file's name is for one file alone, and a folder's for any number
+abbrev pub fits_output : Option Text → List Text → Bool
+fits_output None texts = true
+fits_output (Some name) texts = is_folder name || length texts == 1
 
 -- local files go under paths of their own, or one of them under the path that is given
 abbrev pub are_named : Bool → Option Text → List Text → Bool
@@ -91,7 +101,7 @@ words_of place rows = unwrap_or (all_of place rows) []
 -- the values of `get` beside those in common, for its words
 abbrev pub IsGetOf : Copying → Option Text → List Text → Get → Type 0
 IsGetOf copying output texts get = (get.copying ≡ copying) × (option_map (λ t. t.now) get.output ≡ output)
-    × (map (λ t. t.now) get.paths.items ≡ texts) × (are_paths texts ≡ true) × (fits_one output texts ≡ true)
+    × (map (λ t. t.now) get.paths.items ≡ texts) × (are_paths texts ≡ true) × (fits_output output texts ≡ true)
 
 -- likewise of `put`
 abbrev pub IsPutOf : Copying → Bool → Option Text → List Text → Put → Type 0
@@ -130,7 +140,7 @@ pub record IsGet (rows : List Row) (get : Get) : Type 0 where
   pub copying : IsCopying rows get.copying
   pub output : option_map (λ t. t.now) get.output ≡ first_of (codes "output") rows
   pub legal : are_paths (words_of (codes "PATH") rows) ≡ true
-  pub one : fits_one (first_of (codes "output") rows) (words_of (codes "PATH") rows) ≡ true
+  pub one : fits_output (first_of (codes "output") rows) (words_of (codes "PATH") rows) ≡ true
   pub paths : map (λ t. t.now) get.paths.items ≡ words_of (codes "PATH") rows
 
 -- the values of `put`

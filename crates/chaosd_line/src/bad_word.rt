@@ -54,7 +54,7 @@ pub(crate) const OTHER_FORM: &str = "another Chaosnet address than this host's o
 pub(crate) const TIMEOUT_FORM: &str = "a decimal number without leading zeros, from 1 to 3600";
 
 /// What is wanted of the local file that a single file is got into.
-pub(crate) const OUTPUT_FORM: &str = "one PATH alone";
+pub(crate) const OUTPUT_FORM: &str = "one PATH alone, or a folder that ends with /";
 
 /// What is wanted of the name that a single file is put under.
 pub(crate) const AS_FORM: &str =

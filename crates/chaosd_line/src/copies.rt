@@ -1,7 +1,7 @@
 //! The values that clap gives for `get` and `put`, and the lines that they ask for.
 ghost use Rattle.std.specs.Prelude.{◌≡◌, ◌&&◌, false, map, option_map, IfErr, IfOk};
 ghost use Rattle.clap.specs.Words.{found_of, rows_of};
-ghost use Rattle.chaosd_line.specs.Files.{IfBad, IsGet, IsGetOf, IsPut, IsPutOf, IsCopying, are_named, are_paths, fits_one, GivesFiles};
+ghost use Rattle.chaosd_line.specs.Files.{IfBad, IsGet, IsGetOf, IsPut, IsPutOf, IsCopying, are_named, are_paths, fits_output, is_folder, GivesFiles};
 ghost use Rattle.chaosd_line.specs.Values.{Reads};
 
 use crate::bad_word::{AS_FORM, BadWord, OUTPUT_FORM};
@@ -31,6 +31,26 @@ fn copying_of<'a>(matches: &ArgMatches<'a>) -> Result<Copying<'a>, BadWord<'a>>
     })
 }
 
+/// Whether a name is a folder's: it ends with a slash.
+fn is_folder(name: &str) -> bool
+    ensures { result ≡ is_folder name.now }
+{
+    match name.as_bytes().last() {
+        Some(byte) => *byte == b'/',
+        None => false,
+    }
+}
+
+/// Whether what the files go to fits them: a local file is for one alone.
+fn fits_output(output: Option<&str>, words: &[&str]) -> bool
+    ensures { result ≡ fits_output (option_map (λ t. t.now) output.entry) (map (λ t. t.now) words.now) }
+{
+    match output {
+        Some(name) => is_folder(name) || words.len() == 1,
+        None => true,
+    }
+}
+
 /// What `get` is asked for with these words.
 fn get_with<'a>(
     alloc: Global,
@@ -39,20 +59,17 @@ fn get_with<'a>(
     words: &[&'a str],
 ) -> Result<Get<'a>, Unread<'a>>
     ensures ok { IfOk result (IsGetOf copying.entry (option_map (λ t. t.now) output.entry) (map (λ t. t.now) words.now)) }
-    ensures err { IfErr result (λ e. IfBad e (are_paths (map (λ t. t.now) words.now) && fits_one (option_map (λ t. t.now) output.entry) (map (λ t. t.now) words.now) ≡ false)) }
+    ensures err { IfErr result (λ e. IfBad e (are_paths (map (λ t. t.now) words.now) && fits_output (option_map (λ t. t.now) output.entry) (map (λ t. t.now) words.now) ≡ false)) }
 {
     if !are_paths(words) {
         return Err(Unread::Bad(bad_paths(words)));
     }
-    match output {
-        Some(text) if words.len() != 1 => {
-            return Err(Unread::Bad(BadWord {
-                text,
-                place: "--output",
-                form: OUTPUT_FORM,
-            }));
-        }
-        _ => {}
+    if !fits_output(output, words) {
+        return Err(Unread::Bad(BadWord {
+            text: output.unwrap_or(""),
+            place: "--output",
+            form: OUTPUT_FORM,
+        }));
     }
     match kept(alloc, words) {
         Ok(paths) => Ok(Get {

@@ -101,7 +101,8 @@ pub(crate) const VERBOSE: &str =
     "Tells of each file, also where standard error is no terminal, and how the server is called";
 
 /// The local file of `get`.
-pub(crate) const OUTPUT: &str = "Local file of the one path; - is standard output";
+pub(crate) const OUTPUT: &str =
+    "Local file of the one path, or a folder that ends with / for all; - is standard output";
 
 /// The server's file of `put`.
 pub(crate) const AS: &str = "Path of the one local file at the server";

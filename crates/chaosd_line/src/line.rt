@@ -131,7 +131,8 @@ pub struct Copying<'a> {
 pub struct Get<'a> {
     /// What it has in common with `put`.
     pub copying: Copying<'a>,
-    /// The local file in place of one of the path's name, where there is one file; `-` is standard output.
+    /// The local file in place of one of the path's name, where there is one file; `-` is standard output. Where it ends with a slash, it is
+    /// the folder of the local files.
     pub output: Option<&'a str>,
     /// The server's files, each once: legal paths of FILE.
     pub paths: Vec<&'a str>,

@@ -2,9 +2,10 @@
 ghost use Rattle.std.specs.Prelude.{◌≡◌, ◌≤◌, true, length, IfOk, IfSome};
 ghost use Rattle.chaos_file.specs.Names.{is_path};
 
+use crate::whole::write_whole;
 use std::alloc::Global;
 use std::fs::{File, Metadata, OpenFile, TryLockError};
-use std::io::{ErrorKind, Read, Write};
+use std::io::{ErrorKind, Read};
 use std::rt::Files;
 use std::{fs, io};
 
@@ -135,30 +136,21 @@ impl<R: Files> Folder<R> {
 
     /// Writes a file whole, and then gives it its path. The bytes are on the disk before the path leads to them, and the
     /// path is on the disk at the end. What may be refused is tried before the path changes, but for the last flush. Where
-    /// the path didn't change, what was written is taken away.
+    /// the path didn't change, what was written is taken away. A file that is replaced leaves its mode to the new one.
     pub(crate) fn put(&self, alloc: Global, path: &[u8], bytes: &[u8]) -> io::Result<()>
         requires { is_path path.now ≡ true }
     {
         let place = self.place(alloc, path)?;
         let replaced = self.file_at(place.as_str())?;
         self.clear_fresh()?;
-        if let Err(fault) = self.replace(place.as_str(), replaced, bytes) {
-            let _ = self.clear_fresh();
-            return Err(fault);
-        }
+        write_whole(
+            &self.rt,
+            self.fresh.as_str(),
+            place.as_str(),
+            replaced.map(|info| info.permissions()),
+            bytes,
+        )?;
         self.locked.sync_all()
-    }
-
-    /// Writes a new file and gives it this place, with the mode of the file that it replaces.
-    fn replace(&self, place: &str, replaced: Option<Metadata>, bytes: &[u8]) -> io::Result<()> {
-        let fresh = self.fresh.as_str();
-        let mut file = File::create_new(&self.rt, fresh)?;
-        if let Some(info) = replaced {
-            file.set_permissions(info.permissions())?;
-        }
-        file.write_all(bytes)?;
-        file.sync_all()?;
-        fs::rename(&self.rt, fresh, place)
     }
 
     /// Takes away what was left of a put, where there is such: a link itself, and never what it leads to.

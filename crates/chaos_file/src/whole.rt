@@ -1,0 +1,79 @@
+//! Files of the system that are written whole.
+use libc::getrlimit;
+use libc::types::rlimit;
+use std::fs::{File, OpenFile, Permissions};
+use std::io::Write;
+use std::rt::Files;
+use std::{fs, io};
+
+/// The number of the process's limit on the size of a file that it writes.
+const RLIMIT_FSIZE: i32 = 1;
+
+/// The system's number of the fault that a file is too large.
+const EFBIG: i32 = 27;
+
+/// The most bytes that the process may write into a file: as many as there are numbers for where that can't be had.
+fn most_bytes() -> u64 {
+    let mut limit = rlimit {
+        rlim_cur: u64::MAX,
+        rlim_max: u64::MAX,
+    };
+    let _status = getrlimit(RLIMIT_FSIZE, &mut limit);
+    limit.rlim_cur
+}
+
+/// A file of more bytes than the process may write is refused: the system would end the process at its write.
+fn require_room(bytes: &[u8]) -> io::Result<()> {
+    if bytes.len() as u64 > most_bytes() {
+        return Err(io::Error::from_raw_os_error(EFBIG));
+    }
+    Ok(())
+}
+
+/// Writes a new file, with this mode where one is given, and flushes it to the disk.
+fn write_new<R: Files>(
+    rt: &R,
+    fresh: &str,
+    mode: Option<Permissions>,
+    bytes: &[u8],
+) -> io::Result<()> {
+    let mut file = File::create_new(rt, fresh)?;
+    if let Some(mode) = mode {
+        file.set_permissions(mode)?;
+    }
+    file.write_all(bytes)?;
+    file.sync_all()
+}
+
+/// Writes a new file and gives it its place.
+fn write_and_rename<R: Files>(
+    rt: &R,
+    fresh: &str,
+    place: &str,
+    mode: Option<Permissions>,
+    bytes: &[u8],
+) -> io::Result<()> {
+    write_new(rt, fresh, mode, bytes)?;
+    fs::rename(rt, fresh, place)
+}
+
+/// Writes a file whole under a fresh name, where nothing is, flushes it to the disk, and then gives it its place, also in place of a file
+/// that is there, whose mode the caller may hand in. So no half file ever has the place.
+///
+/// # Errors
+/// Those of the system, and where the file is longer than the process may write: then what had the place has it still, and nothing is
+/// left under the fresh name, but where it could not be removed either.
+pub fn write_whole<R: Files>(
+    rt: &R,
+    fresh: &str,
+    place: &str,
+    mode: Option<Permissions>,
+    bytes: &[u8],
+) -> io::Result<()> {
+    require_room(bytes)?;
+    if let Err(fault) = write_and_rename(rt, fresh, place, mode, bytes) {
+        let _ = fs::remove_file(rt, fresh);
+        return Err(fault);
+    }
+    Ok(())
+}

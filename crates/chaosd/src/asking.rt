@@ -1,0 +1,188 @@
+//! The run of `ask`.
+ghost use Rattle.std.specs.Prelude.{◌<◌};
+
+use crate::network::{end_script, has_input};
+use crate::patient::Patient;
+use crate::run_ends::tell_unopened;
+use crate::terminals::Terminals;
+use crate::typed::Typed;
+use crate::unanswered::Unanswered;
+use crate::waiting::{Waiting, WaitingSocket};
+use chaos_link::{Carriage, Link, Peer, Peers, UdpLink};
+use file_client::Shown;
+use chaosd_copies::ExitStatus;
+use chaosd_file::{NOBODY, ScriptEnd, Why, run_ask};
+use chaosd_io::RunFault;
+use chaosd_line::Ask;
+use chaosd_told::{Name, Notes, Replies};
+use std::io;
+use std::net::{Net, SocketAddr, SocketAddrV4, UdpSocket};
+use std::time::Clock;
+
+/// The host that is asked: this one where it is a peer. Of one that is none nothing can be asked, which is told.
+fn asked_host<R: Eprint>(rt: &R, to: u16, peers: &Peers) -> u16 {
+    if peers.find(to).is_some() {
+        return to;
+    }
+    let _ = eprintln!(rt; "chaosd: host {to:06o} is no PEER");
+    NOBODY
+}
+
+/// Who asks whom, and how.
+#[derive(Drop)]
+struct Asked {
+    carriage: Carriage,
+    is_strict: bool,
+    address: u16,
+    socket: SocketAddrV4,
+    server: Peer,
+    ghost named: { 0 < address },
+}
+
+/// How a script ended, and why.
+#[derive(Drop)]
+struct Answered {
+    end: Result<ScriptEnd, RunFault>,
+    why: Option<Why>,
+    /// Whether a reply was an error.
+    has_error: bool,
+}
+
+/// Tells of each handle that was written and not closed: what was written to it became no file.
+fn tell_written<R: Eprint>(rt: &R, handles: &[Name]) {
+    for handle in handles {
+        let name = Shown(handle.as_slice());
+        let _ = eprintln!(rt;
+            "chaosd: handle {name} was written and not closed, so its file was not kept"
+        );
+    }
+}
+
+/// Puts the script on standard input over the link.
+fn ask_over<R: AllocGlobal + Clock + Eprint + Input + Print, L: Link>(
+    rt: &R,
+    link: &mut L,
+    asked: &Asked,
+    terminals: Terminals,
+) -> Answered {
+    let notes = Notes::new();
+    let mut reader = rt.reader();
+    let mut typed = Typed::new(rt, &mut reader, &notes, asked.is_strict, terminals);
+    let mut writer = io::writer(rt);
+    let mut replies = Replies::new(&mut writer, &notes);
+    let mut why = None;
+    let end = run_ask(
+        rt,
+        rt.alloc(),
+        &mut typed,
+        &mut replies,
+        link,
+        asked.address,
+        asked.server.address,
+        &mut why,
+        asked.carriage,
+    );
+    if end.is_ok() {
+        tell_written(rt, replies.written());
+    }
+    Answered {
+        end,
+        why,
+        has_error: notes.has_error.get(),
+    }
+}
+
+/// Tells how a script ended, and gives the exit status.
+fn end_asked<R: Clock + Eprint + Print>(
+    rt: &R,
+    asked: &Asked,
+    waiting: &Waiting<'_, R>,
+    answered: Answered,
+) -> ExitStatus {
+    let Answered {
+        end,
+        why,
+        has_error,
+    } = answered;
+    match why {
+        // That the host is no peer was told.
+        Some(Why::NoReply(_)) if asked.server.address == NOBODY => end_script(rt, &end, &None),
+        Some(Why::NoReply(why)) => {
+            let client = Peer {
+                address: asked.address,
+                socket: asked.socket,
+            };
+            end_unanswered(rt, &end, Unanswered::new(why, asked.server, client))
+        }
+        _ if waiting.is_over() => end_refused(rt, asked.server),
+        why => strict_status(end_script(rt, &end, &why), asked.is_strict && has_error),
+    }
+}
+
+/// The exit status of a run over a script, which is refused where it was to end by an error, and did.
+fn strict_status(status: ExitStatus, was_error: bool) -> ExitStatus {
+    if status == ExitStatus::Done && was_error {
+        ExitStatus::Refused
+    } else {
+        status
+    }
+}
+
+/// Runs `ask` from standard input to standard output.
+pub(crate) fn run_ask_line<R: AllocGlobal + Clock + Eprint + Input + Net + Print>(
+    rt: &R,
+    line: Ask,
+    terminals: Terminals,
+) -> ExitStatus {
+    let Ask {
+        carriage,
+        timeout,
+        is_strict,
+        address,
+        socket,
+        to,
+        peers,
+    } = line;
+    if !has_input(rt) {
+        return end_script(rt, &Err(RunFault::ReadFault), &None);
+    }
+    let to = asked_host(rt, to, &peers);
+    let server = Peer {
+        address: to,
+        socket: peers.find(to).unwrap_or(socket),
+    };
+    let waiting = Waiting::new(rt, server, terminals.errors);
+    let link = match UdpSocket::bind(rt, SocketAddr::V4(socket)) {
+        Ok(bound) => UdpLink::new(WaitingSocket::new(bound, &waiting), peers),
+        Err(error) => return tell_unopened(rt, &socket, &error),
+    };
+    let asked = Asked {
+        carriage,
+        is_strict,
+        address,
+        socket,
+        server,
+    };
+    let mut link = Patient::new(rt, link, timeout);
+    let answered = ask_over(rt, &mut link, &asked, terminals);
+    end_asked(rt, &asked, &waiting, answered)
+}
+
+/// Tells why a command of a script got no reply, and gives the exit status.
+fn end_unanswered<R: Eprint>(
+    rt: &R,
+    end: &Result<ScriptEnd, RunFault>,
+    unanswered: Unanswered,
+) -> ExitStatus {
+    let _ = eprintln!(rt; "chaosd: {unanswered}");
+    end_script(rt, end, &None)
+}
+
+/// Tells that nobody listens where the server is to be, so that the first command gets no reply, and gives the exit status.
+fn end_refused<R: Eprint + Print>(rt: &R, server: Peer) -> ExitStatus {
+    let _ = eprintln!(rt; "chaosd: no server listens at {}", server.socket);
+    match println!(rt; "no reply") {
+        Ok(()) => ExitStatus::Refused,
+        Err(_) => end_script(rt, &Err(RunFault::WriteFault), &None),
+    }
+}

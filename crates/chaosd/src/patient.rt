@@ -1,0 +1,172 @@
+//! A link and a talk that wait for a reply as long as a user wants.
+ghost use Rattle.std.specs.Prelude.{◌≡◌, ◌||◌, None};
+
+use chaos_file::Reply;
+use chaos_link::{LINK_ROOM, Link, Received, Sent};
+use chaosd_clock::{Beginning, Dial};
+use chaosd_copy::Talk;
+use chaosd_io::RunFault;
+
+/// How a link's waits are counted.
+#[derive(Drop)]
+struct Waits {
+    beginning: Beginning,
+    /// The milliseconds that a turn may wait: a thousandth of what a reply is waited for.
+    share: u64,
+    /// The milliseconds that the turns so far might wait, and those that they waited.
+    granted: u64,
+    spent: u64,
+}
+
+/// A link in which a thousand turns that wait take as many seconds as a user wants, or as long as those of the link behind it. It claims
+/// what that link claims.
+#[derive(Drop)]
+pub(crate) struct Patient<'a, C: Dial, L> {
+    clock: &'a C,
+    inner: L,
+    waits: Option<Waits>,
+}
+
+impl<'a, C: Dial, L> Patient<'a, C, L> {
+    /// Where the clock can't be read it waits as the link does.
+    pub(crate) fn new(clock: &'a C, inner: L, seconds: Option<u16>) -> Self {
+        let waits = match (seconds, Beginning::new(clock)) {
+            (Some(seconds), Ok(beginning)) => Some(Waits {
+                beginning,
+                share: u64::from(seconds),
+                granted: 0,
+                spent: 0,
+            }),
+            _ => None,
+        };
+        Patient {
+            clock,
+            inner,
+            waits,
+        }
+    }
+}
+
+impl Waits {
+    /// The moment, and 0 where it can't be read.
+    fn moment<C: Dial>(&self, clock: &C) -> u64 {
+        self.beginning.moment(clock).unwrap_or(0)
+    }
+
+    /// Receives as [`Link::receive`] does, in a turn that may wait for its share of the time.
+    fn receive<C: Dial, L: Link>(
+        &mut self,
+        clock: &C,
+        inner: &mut L,
+        buffer: &mut [u8; LINK_ROOM],
+    ) -> Received {
+        self.granted = self.granted.saturating_add(self.share);
+        while self.spent < self.granted {
+            let before = self.moment(clock);
+            let got = inner.receive(buffer, true);
+            let waited = self.moment(clock).saturating_sub(before);
+            self.spent = self.spent.saturating_add(waited.max(1));
+            if got != Received::Nothing {
+                self.spent = self.granted;
+                return got;
+            }
+        }
+        inner.receive(buffer, false)
+    }
+}
+
+impl<C: Dial, L: Link> Link for Patient<'_, C, L> {
+    ghost count = { λ link. L.count link.inner };
+
+    ghost queue = { λ _. None };
+
+    fn send(&mut self, to_address: u16, bytes: &[u8]) -> Sent {
+        self.inner.send(to_address, bytes)
+    }
+
+    fn receive(&mut self, buffer: &mut [u8; LINK_ROOM], may_wait: bool) -> Received {
+        match &mut self.waits {
+            Some(waits) if may_wait => waits.receive(self.clock, &mut self.inner, buffer),
+            _ => self.inner.receive(buffer, may_wait),
+        }
+    }
+
+    fn failures(&self) -> u64 {
+        self.inner.failures()
+    }
+}
+
+/// A talk that is over where no reply came for as long as a user wants.
+#[derive(Drop)]
+pub(crate) struct Hurried<T: Talk> {
+    pub(crate) inner: T,
+    /// The most milliseconds that a reply is waited for.
+    limit: Option<u64>,
+    /// Since when one is waited for, where a turn was taken since.
+    since: Option<u64>,
+    is_late: bool,
+}
+
+impl<T: Talk> Hurried<T> {
+    pub(crate) fn new(inner: T, seconds: Option<u16>) -> Self {
+        Hurried {
+            inner,
+            limit: seconds.map(|seconds| u64::from(seconds) * 1_000),
+            since: None,
+            is_late: false,
+        }
+    }
+
+    /// A reply is waited for from now on.
+    pub(crate) fn begin(&mut self) {
+        self.since = None;
+        self.is_late = false;
+    }
+
+    /// Takes note of a turn.
+    fn note(&mut self)
+        ensures { self.new.inner ≡ self.old.inner }
+    {
+        let now = self.inner.moment();
+        match (self.since, self.limit) {
+            (Some(since), Some(limit)) => self.is_late = now.saturating_sub(since) >= limit,
+            (None, _) => self.since = Some(now),
+            _ => {}
+        }
+    }
+}
+
+impl<T: Talk> Talk for Hurried<T> {
+    ghost talked = { λ h. T.talked h.inner };
+
+    ghost course = { λ h. record (T.course h.inner) { is_over = (T.course h.inner).is_over || h.is_late } };
+
+    ghost failed_by = { λ h. T.failed_by h.inner };
+
+    fn say(&mut self, command: &[u8]) -> bool {
+        self.inner.say(command)
+    }
+
+    fn hear(&mut self) -> Option<Reply> {
+        let reply = self.inner.hear();
+        if reply.is_some() {
+            self.since = None;
+            self.is_late = false;
+        }
+        reply
+    }
+
+    fn turn(&mut self) -> Result<(), RunFault> {
+        let turned = self.inner.turn();
+        self.note();
+        turned
+    }
+
+    fn moment(&self) -> u64 {
+        self.inner.moment()
+    }
+
+    fn is_over(&self) -> bool {
+        self.inner.is_over() || self.is_late
+    }
+}

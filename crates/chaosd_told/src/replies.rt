@@ -1,0 +1,159 @@
+//! What the replies of a script leave undone.
+use arrayvec::ArrayVec;
+use std::cell::Cell;
+use std::io;
+use std::io::Write;
+
+/// The most bytes of a handle's name.
+const MAX_NAME: usize = 8;
+
+/// The most handles of a session.
+const MAX_HANDLES: usize = 8;
+
+/// As many bytes of a reply's front as its name, its handle and the word of its answer may have.
+const FRONT: usize = 32;
+
+/// A handle's name.
+pub type Name = ArrayVec<u8, MAX_NAME>;
+
+/// What was seen in the replies that were printed so far.
+#[derive(Drop)]
+pub struct Notes {
+    /// Whether one was an error.
+    pub has_error: Cell<bool>,
+    /// Whether the last one was an error for a handle LOGIN: then a command had one space where two are wanted.
+    pub is_login: Cell<bool>,
+}
+
+impl Notes {
+    /// Nothing was printed yet.
+    pub fn new() -> Self {
+        Notes {
+            has_error: Cell::new(false),
+            is_login: Cell::new(false),
+        }
+    }
+}
+
+/// A writer of replies that hands them on to another, and looks at each one's front.
+#[derive(Drop)]
+pub struct Replies<'a, W: Write> {
+    inner: &'a mut W,
+    watch: Watch<'a>,
+}
+
+/// What is seen of replies.
+#[derive(Drop)]
+struct Watch<'a> {
+    notes: &'a Notes,
+    /// The front of the reply that is being written.
+    front: ArrayVec<u8, FRONT>,
+    /// The handles that were written and not closed.
+    written: ArrayVec<Name, MAX_HANDLES>,
+}
+
+/// The name of a handle, where it is no longer than it may be.
+fn name_of(handle: &[u8]) -> Name {
+    let mut name = Name::new();
+    let _fits = name.try_extend_from_slice(handle);
+    name
+}
+
+/// What a reply says.
+#[derive(Clone, Copy, PartialEq, Eq)]
+enum Answer {
+    Error,
+    Wrote,
+    Closed,
+    Other,
+}
+
+/// The handle of a reply, and what it says, by the front of its line.
+fn read_front(front: &[u8]) -> (Name, Answer) {
+    let mut fields = front.splitn(4, |b| *b == b' ');
+    let _tid = fields.next();
+    let handle = name_of(fields.next().unwrap_or(b""));
+    let word = fields.next().unwrap_or(b"");
+    let answer = if word == b"ERROR".as_slice() {
+        Answer::Error
+    } else if word == b"WRITE".as_slice() {
+        Answer::Wrote
+    } else if word == b"CLOSE".as_slice() {
+        Answer::Closed
+    } else {
+        Answer::Other
+    };
+    (handle, answer)
+}
+
+impl Watch<'_> {
+    /// A handle was written.
+    fn note_write(&mut self, handle: &[u8]) {
+        if !self.written.iter().any(|name| name.as_slice() == handle) {
+            let _fits = self.written.try_push(name_of(handle));
+        }
+    }
+
+    /// A reply was written, of whose line the front is there.
+    fn note_reply(&mut self) {
+        let (handle, answer) = read_front(self.front.as_slice());
+        self.front.clear();
+        let handle = handle.as_slice();
+        let is_error = answer == Answer::Error;
+        self.notes
+            .is_login
+            .set(is_error && handle == b"LOGIN".as_slice());
+        match answer {
+            Answer::Error => self.notes.has_error.set(true),
+            Answer::Wrote => self.note_write(handle),
+            Answer::Closed => self.written.retain(|name| name.as_slice() != handle),
+            Answer::Other => {}
+        }
+    }
+
+    /// These bytes were written.
+    fn note(&mut self, bytes: &[u8]) {
+        for byte in bytes {
+            if *byte == b'\n' {
+                self.note_reply();
+            } else {
+                let _fits = self.front.try_push(*byte);
+            }
+        }
+    }
+}
+
+impl<'a, W: Write> Replies<'a, W> {
+    /// Nothing was printed yet.
+    pub fn new(inner: &'a mut W, notes: &'a Notes) -> Self {
+        Replies {
+            inner,
+            watch: Watch {
+                notes,
+                front: ArrayVec::new(),
+                written: ArrayVec::new(),
+            },
+        }
+    }
+
+    /// The handles that were written and not closed.
+    pub fn written(&self) -> &[Name] {
+        self.watch.written.as_slice()
+    }
+}
+
+impl<W: Write> Write for Replies<'_, W> {
+    ghost contents = { λ replies. W.contents replies.inner.now };
+
+    fn write(&mut self, buf: &[u8]) -> io::Result<usize> {
+        let wrote = self.inner.write(buf);
+        if let Ok(count) = &wrote {
+            self.watch.note(&buf[..*count]);
+        }
+        wrote
+    }
+
+    fn flush(&mut self) -> io::Result<()> {
+        self.inner.flush()
+    }
+}

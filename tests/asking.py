@@ -1,0 +1,149 @@
+"""Tests `chaosd ask` as its users meet it: at a terminal, in a script that has to know whether it worked, and with a time of its own."""
+
+import contextlib
+import os
+import pty
+import select
+import socket
+import time
+
+from tests.scripts import NO_REPLY
+from tests.support import DONE, LONG, REFUSED, SOON, Case, Ended, at, folder, free_ports, run, serving, started
+
+LOGIN = b"T1  LOGIN LISPM\n"
+NOT_KEPT = b"chaosd: handle %s was written and not closed, so its file was not kept\n"
+
+
+class Terminal:
+    """A run whose three standard streams are a terminal, which shows no echo."""
+
+    def __init__(self, words):
+        self.master, slave = pty.openpty()
+        self.process = started(words, stdin=slave, stdout=slave, stderr=slave)
+        os.close(slave)
+
+    def shown(self, last):
+        """What the terminal shows until that comes last, or its time is over."""
+        seen, end = b"", time.monotonic() + SOON
+        while not seen.endswith(last) and select.select([self.master], [], [], max(0, end - time.monotonic()))[0]:
+            try:
+                seen += os.read(self.master, 4_096).replace(b"\r\n", b"\n")
+            except OSError:
+                break
+        return seen
+
+    def typed(self, line, last=b"> "):
+        """What is shown once this was typed, without what was typed."""
+        os.write(self.master, line)
+        return self.shown(last).removeprefix(line)
+
+    def end(self):
+        self.process.kill()
+        self.process.wait()
+        os.close(self.master)
+
+
+class Typing(Case):
+    """Somebody types commands."""
+
+    seconds = 4
+
+    def test_a_terminal_asks_for_each_line_and_a_bad_one_ends_nothing(self):
+        with serving() as server:
+            terminal = Terminal(server.words())
+            try:
+                shown = [terminal.shown(b"> ")]
+                for line in [b"T1 LOGIN LISPM\n", b"T1  L\xc3\xa9\n", LOGIN, b"T2 H OPEN WRITE^A\n", b"T3 H WRITE^(A\\5)\n", b"T4 H WRITE^(A)\n"]:
+                    shown.append(terminal.typed(line))
+                shown.append(terminal.typed(b"\x04", NOT_KEPT % b"H"))
+                status = terminal.process.wait(SOON)
+            finally:
+                terminal.end()
+        hint = b"chaosd: LOGIN was taken for a handle: two spaces stand where a command has none, as in `T1  LOGIN LISPM`\n"
+        wanted = [
+            b"> ",
+            b"T1 LOGIN ERROR UKC Unknown command.\n" + hint + b"> ",
+            b"chaosd: not sent: its byte 6 is no printing character of ASCII\n" + hint + b"> ",
+            LOGIN + b"> ",
+            b"T2 H OPEN 0\n> ",
+            b"chaosd: not sent: two lower-case hexadecimal digits are wanted behind each \\\n> ",
+            b"T4 H WRITE 3\n> ",
+            NOT_KEPT % b"H",
+        ]
+        for name, seen, told in zip(["the prompt", "one space", "a key", "LOGIN", "OPEN", "an escape", "WRITE", "the end"], shown, wanted):
+            self.check(f"{name} at a terminal", [] if seen.endswith(told) else [f"{seen!r} and not {told!r}"])
+        self.check("the run ends", [] if status == DONE else [f"status {status}"])
+
+
+class Scripts(Case):
+    """Scripts that have to know whether they worked."""
+
+    seconds = 6
+
+    def test_a_strict_run_ends_by_the_first_error(self):
+        script = LOGIN + b"T2  DELETE^A\nT3  DELETE^NONE\nT4  DELETE^B\n"
+        replies = LOGIN + b"T2  DELETE\nT3  ERROR FNF No such file.\n"
+        with serving() as server:
+            for options, status, out in [(["--strict"], REFUSED, replies), ([], DONE, replies + b"T4  DELETE\n")]:
+                for name in "AB":
+                    (server.folder / name).write_bytes(b"x")
+                problems = run(server.words(options=options), script).problems(status, out, b"")
+                left = [each.name for each in server.folder.iterdir()]
+                problems += [] if left == (["B"] if options else []) else [f"{left} are left"]
+                self.check(f"ask {' '.join(options)}: status {status}", problems)
+            good = LOGIN + b"T2 H OPEN WRITE^A\nT3 H CLOSE\n"
+            ended = run(server.words(options=["--strict"]), good)
+            self.check("ask --strict without an error: status 0", ended.problems(DONE, LOGIN + b"T2 H OPEN 0\nT3 H CLOSE 0\n", b""))
+
+    def test_handles_that_were_written_and_not_closed_are_told_at_the_end(self):
+        script = LOGIN + b"A H OPEN WRITE^A\nA H WRITE^x\nB I OPEN WRITE^B\nB I WRITE^x\nB I CLOSE\nC J OPEN WRITE^C\nD K OPEN READ^B\n"
+        with serving() as server:
+            ended = run(server.words(), script)
+            problems = ended.problems(DONE, None, NOT_KEPT % b"H")
+            problems += [f"{name} is there" for name in "AC" if (server.folder / name).exists()]
+            self.check("a script that forgets a CLOSE: told, status 0", problems)
+
+
+@contextlib.contextmanager
+def silent():
+    """A socket at which nobody answers, and its port."""
+    with socket.socket(socket.AF_INET, socket.SOCK_DGRAM) as one:
+        (port,) = free_ports(1)
+        one.bind(("127.0.0.1", port))
+        yield one, port
+
+
+class Timeouts(Case):
+    """Times that a reply is waited for."""
+
+    seconds = 26
+
+    def check_time(self, name, begun, least, most):
+        took = time.monotonic() - begun
+        self.check(name, [] if least <= took <= most else [f"it took {took:.1f} s and not {least} to {most}"])
+
+    def test_a_timeout_is_kept(self):
+        with silent() as (_, port):
+            for words in [["get", "A"], ["delete", "A"], ["rename", "A", "B"]]:
+                begun = time.monotonic()
+                ended = run([words[0], "--timeout", "2", "402", at(free_ports(1)[0]), f"401={at(port)}", *words[1:]])
+                self.check(f"{words[0]}: no reply", ended.problems(REFUSED, b"", [b"chaosd: A: no connection opened in 2"]))
+                self.check_time(f"{words[0]} --timeout 2", begun, 2, 2 + SOON)
+            begun = time.monotonic()
+            ended = run(["ask", "--timeout", "2", "402", at(free_ports(1)[0]), "401", f"401={at(port)}"], LOGIN)
+            self.check("ask: no reply", ended.problems(REFUSED, NO_REPLY, [b"chaosd: no connection opened in "]))
+            self.check_time("ask --timeout 2", begun, 2, 2 + SOON)
+
+    def test_a_longer_timeout_waits_for_a_server_that_comes_late(self):
+        with silent() as (one, port), folder() as here:
+            (client,) = free_ports(1)
+            running = started(["get", "--timeout", "60", "402", at(client), f"401={at(port)}", "NONE"], stderr=-1, stdout=-1)
+            time.sleep(19)
+            problems = [] if running.poll() is None else ["it gave up before"]
+            one.close()
+            server = started(["serve", "401", at(port), str(here), f"402={at(client)}"], stderr=-1)
+            out, err = running.communicate(timeout=LONG)
+            server.kill()
+            server.communicate()
+        ended = Ended(running.returncode, out, err)
+        self.check("get --timeout 60: the server comes after 19 s", problems + ended.problems(REFUSED, b"", [b"FNF No such file."]))
