@@ -41,6 +41,13 @@ impl Handles {
         self.open.len()
     }
 
+    /// Lets all handles go.
+    pub(crate) fn clear(&mut self)
+        ensures { self.new ≡ [] }
+    {
+        self.open.clear();
+    }
+
     fn place(&self, name: &[u8]) -> Option<usize>
         ensures value { result ≡ position (is_named name.now) self.now }
         ensures within { IfSome result (λ at. at < length self.now) }

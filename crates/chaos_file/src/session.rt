@@ -1,5 +1,5 @@
 //! A user's session: one reply for each command.
-ghost use Rattle.std.specs.Prelude.{◌≡◌, ◌≤◌, length, option_map};
+ghost use Rattle.std.specs.Prelude.{◌≡◌, ◌≤◌, [], length, option_map};
 ghost use Rattle.chaos_file.specs.Session.{SessionView, new_session};
 ghost use Rattle.chaos_file.specs.Command.{word_said};
 ghost use Rattle.chaos_file.specs.Views.{command_view, parsed_view, CommandFits, ParsedFits};
@@ -60,6 +60,21 @@ impl Session {
             Some(name) => Some(name.as_slice()),
             None => None,
         }
+    }
+
+    /// How many files are open.
+    pub fn open_files(&self) -> usize
+        ensures { result ≡ length self.now.handles }
+    {
+        self.handles.len()
+    }
+
+    /// Gives the open files back, as where the connection ended: what their handles had written and not closed is lost. The
+    /// user's name stays.
+    pub fn drop_files(&mut self)
+        ensures { self.new ≡ record self.old { handles = [] } }
+    {
+        self.handles.clear();
     }
 
     /// Carries out a command, and answers it by one reply.

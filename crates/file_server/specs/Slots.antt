@@ -1,5 +1,5 @@
 -- What a server's turn does in one slot, beside serving it.
-use Rattle.std.specs.Prelude.{ℕ, Bool, false, ◌&&◌, if◌then◌else◌, List, [], length, Option, Some, None}
+use Rattle.std.specs.Prelude.{zero, suc, ℕ, Bool, false, ◌&&◌, if◌then◌else◌, List, [], length, Option, Some, None, slice_set}
 use Rattle.chaos_conn.specs.Act.{Close}
 use Rattle.chaos_conn.specs.Calls.{is_drained}
 use Rattle.chaos_host.specs.declared.slot.Slot.{Slot}
@@ -8,7 +8,7 @@ use Rattle.chaos_host.specs.Calls.{host_end, host_release}
 use Rattle.chaos_host.specs.View.{HostView, id_at}
 use Rattle.chaos_turn.specs.Phase.{Effect, no_effect_on, effect_of, and_then, over_slots}
 use Rattle.chaos_turn.specs.Slots.{tick_at}
-use Rattle.file_server.specs.Sessions.{Serving, serving_at}
+use Rattle.file_server.specs.Sessions.{Serving, serving_at, without_files}
 
 -- the EOF was served, and the peer read all
 abbrev pub is_over : Bool → Option Slot → Bool
@@ -30,6 +30,16 @@ release_by h (Some id) = effect_of (host_release h id)
 
 abbrev pub release_at : ℕ → HostView → Effect
 release_at place h = release_by h (id_at h place)
+
+-- the files of a slot without a connection are given back
+abbrev pub given_back_at : Option ℕ → ℕ → List Serving → List Serving
+given_back_at None place sessions = slice_set sessions place (without_files (serving_at sessions place))
+given_back_at (Some id) place sessions = sessions
+
+-- those of each of the first so many slots
+abbrev pub given_back : HostView → ℕ → List Serving → List Serving
+given_back h zero sessions = sessions
+given_back h (suc n) sessions = given_back_at (id_at h n) n (given_back h n sessions)
 
 -- ---- the last phases of a turn, each over all slots
 

@@ -1,4 +1,5 @@
--- One turn of a server: what came is taken, then each slot is served, closed, released and ticked.
+-- One turn of a server: what came is taken, then each slot is served, closed, released and ticked, and the files of sessions whose
+-- connection has ended are given back.
 use Rattle.std.specs.Prelude.{◌≡◌, ℕ, List, ◌++◌, length}
 use Rattle.chaos_packet.specs.Packet.{PacketView}
 use Rattle.chaos_file.specs.Store.{StoreChange}
@@ -9,7 +10,7 @@ use Rattle.chaos_turn.specs.Turn.{GoesOver}
 use Rattle.chaos_turn.specs.declared.end.TurnEnd.{TurnEnd}
 use Rattle.file_server.specs.Arrive.{arrive_at_server}
 use Rattle.file_server.specs.Serve.{ServesSlots}
-use Rattle.file_server.specs.Server.{Server, with_host}
+use Rattle.file_server.specs.Server.{Server, after_giving_back, with_host}
 use Rattle.file_server.specs.Slots.{end_phases}
 
 module _ {S : Type 0} (changes : S → S → StoreChange) where
@@ -19,7 +20,7 @@ module _ {S : Type 0} (changes : S → S → StoreChange) where
     pub served : Server S
     pub replies : List (List PacketView)
     pub serves : ServesSlots changes now (length s.host.slots) (with_host s (arrive_at_server came start now s.host).host) served replies
-    pub ended : t ≡ with_host served (end_phases served.sessions now served.host).host
+    pub ended : t ≡ after_giving_back (with_host served (end_phases served.sessions now served.host).host)
     pub out : lots ≡ (arrive_at_server came start now s.host).lots ++ (replies ++ (end_phases served.sessions now served.host).lots)
 
   -- A whole turn of a server at its link, by this carriage.

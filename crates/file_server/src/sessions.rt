@@ -1,9 +1,11 @@
 //! A session for each slot of a host.
 ghost use Rattle.std.specs.Prelude.{◌≡◌, ◌<◌, IfOk, length, option_map, replicate, true};
-ghost use Rattle.file_server.specs.Sessions.{Serving, new_serving, serving_at, serving_of, eof_after};
+ghost use Rattle.chaos_host.specs.View.{id_at};
+ghost use Rattle.file_server.specs.Sessions.{Serving, new_serving, serving_at, serving_of, eof_after, without_files};
+ghost use Rattle.file_server.specs.Slots.{given_back, given_back_at};
 
 use chaos_file::{Reply, Session};
-use chaos_host::ConnId;
+use chaos_host::{ConnId, Host};
 use chaos_serve::Served;
 use std::alloc::{AllocError, Global};
 use std::marker::Model;
@@ -30,7 +32,8 @@ impl Model for Kept {
 /// A session for each slot of a host, with the connection that it serves. A contract sees the sessions in the order of the
 /// slots.
 ///
-/// A turn gives a slot a new session where another connection is there; the old one is dropped then.
+/// A turn gives a slot a new session where another connection is there, and gives the files of a session back where its connection
+/// has ended.
 #[derive(Drop)]
 pub struct Sessions {
     pub(crate) kept: Vec<Kept>,
@@ -89,6 +92,35 @@ impl Sessions {
         self.kept[place].eof
     }
 
+    /// How many files the session of a slot has open: none where no connection is there behind a turn.
+    pub fn open_files(&self, place: usize) -> usize
+        requires { place < length self.now }
+        ensures { result ≡ length (serving_at self.now place).session.handles }
+    {
+        self.kept[place].session.open_files()
+    }
+
+    /// Gives the files of each slot back that has no connection any more. The name of its user and its counts stay, for who tells
+    /// of its end.
+    pub(crate) fn give_back(&mut self, host: &Host)
+        requires { length self.old ≡ length host.now.slots }
+        ensures { self.new ≡ given_back host.now (length host.now.slots) self.old }
+    {
+        for place in 0..host.conns() {
+            self.give_back_at(host, place);
+        }
+    }
+
+    /// Gives the files of a slot back, where it has no connection.
+    fn give_back_at(&mut self, host: &Host, place: usize)
+        requires { place < length self.old }
+        ensures { self.new ≡ given_back_at (id_at host.now place) place self.old }
+    {
+        if host.id_of(place).is_none() {
+            self.kept[place].drop_files();
+        }
+    }
+
     /// How many commands of the connection in a slot were replied to, or of the last one that was served there.
     pub fn commands(&self, place: usize) -> u64
         requires { place < length self.now }
@@ -127,6 +159,13 @@ impl Kept {
             self.commands = 0;
             *self.session = Session::new();
         }
+    }
+
+    /// Gives its files back.
+    fn drop_files(&mut self)
+        ensures { self.new ≡ without_files self.old }
+    {
+        self.session.drop_files();
     }
 
     /// Keeps that an EOF was served, or counts a command.

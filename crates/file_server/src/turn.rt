@@ -39,6 +39,7 @@ fn take_turn<S: Store, L: Link>(
     let arrived = arrive_at_server(host, came, link, out, terms);
     let served = serve_slots(host, sessions, store, link, out, terms);
     let ended = end_slots(host, sessions, link, terms.moment, out, terms.carriage);
+    sessions.give_back(host);
     any_of(arrived, served, ended)
 }
 
@@ -78,6 +79,7 @@ pub(crate) fn make_turn<S: Store, L: Link>(
 /// 4. Each connection whose EOF was served and whose peer read all is closed with an empty text.
 /// 5. Each ended connection is released.
 /// 6. Each slot is ticked.
+/// 7. The open files of each slot without a connection are given back.
 ///
 /// By `carriage` packets that are sent at once go each in a datagram of version 1, or several to one host in a datagram of
 /// version 2.
@@ -90,7 +92,7 @@ pub(crate) fn make_turn<S: Store, L: Link>(
 /// failed is lost, and the turn goes on to its end. Else `Worked` where a datagram came or a packet was sent, else `Idle`.
 ///
 /// The sessions are as many as the host's slots, and the outbox has room for [`TURN_ROOM`] packets at least. A turn walks
-/// over the slots four times, and an RFC once more. No memory is taken but by [`chaos_file::Session::apply`].
+/// over the slots five times, and an RFC once more. No memory is taken but by [`chaos_file::Session::apply`].
 pub fn run_turn<S: Store, L: Link>(
     alloc: Global,
     host: &mut Host,

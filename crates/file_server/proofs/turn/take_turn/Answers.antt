@@ -1,7 +1,8 @@
-use Rattle.std.proofs.Common.{refl}
+use Rattle.std.proofs.Common.{List, ap, refl}
 use Rattle.chaos_file.specs.Store.{change}
 use Rattle.chaos_turn.specs.Station.{station}
 use Rattle.file_server.specs.Server.{server}
+use Rattle.file_server.specs.Sessions.{Serving}
 use Rattle.file_server.proofs.Whole.{turn_so}
 use Rattle.file_server.proofs.turn.take_turn.Goals as goal
 
@@ -15,5 +16,5 @@ returns g c =
     (station (server c.args.host.now c.args.sessions.now c.args.store.now) (link c.args.link.now) c.args.out.now)
     (station (server arrived.new.host c.args.sessions.now c.args.store.now) (link arrived.new.link) arrived.new.out)
     (station (server served.new.host served.new.sessions served.new.store) (link served.new.link) served.new.out)
-    (station (server ended.new.host served.new.sessions served.new.store) (link ended.new.link) ended.new.out)
-    arrived.result served.result ended.result c.any_of.result refl refl arrived.ensures served.ensures ended.ensures c.any_of.ensures
+    (station (server ended.new.host c.give_back.new.self served.new.store) (link ended.new.link) ended.new.out)
+    arrived.result served.result ended.result c.any_of.result refl (ap (λ (ss : List Serving). server ended.new.host ss served.new.store) c.give_back.ensures) arrived.ensures served.ensures ended.ensures c.any_of.ensures
