@@ -5,10 +5,10 @@ import struct
 import time
 
 from tests.copying import changing, copied, copying, told_problems
-from tests.packets import CLS, datagram
+from tests.packets import CLS, RFC, datagram
 from tests.support import (
     CLIENT, COPYING_WINDOW, DONE, LONG, SERVER, USUAL_WINDOW,
-    Case, Lossy, finished, folder, free_ports, mixed_content, network_before, serving, stored_problems,
+    Case, Lossy, Relay, finished, folder, free_ports, mixed_content, network_before, serving, stored_problems,
 )  # fmt: skip
 
 
@@ -47,6 +47,44 @@ class Nobody(Case):
             ended = finished(process, patience=LONG)
         problems = told_problems(ended, rb"chaosd: A: it refused the connection: Go away\.\nchaosd: B: not tried\n")
         self.check("get from a peer that refuses the connection: its text is told", problems)
+
+
+class Collision(Relay):
+    """A network whose server has a connection already, of the first index from which the client asks: of one that was killed. What that
+    connection sends is lost."""
+
+    def __init__(self, port, ends):
+        super().__init__(port, ends)
+        self.server, self.first = ends[0], None
+
+    def passed(self, datagram, port):
+        to, source = datagram[8:12], datagram[12:16]
+        if port != self.server:
+            return [] if to == self.first else [(datagram, port)]
+        if self.first is None and datagram[4] == RFC:
+            self.first = source
+            number = struct.unpack(">H", datagram[16:18])[0]
+            older = datagram[:16] + struct.pack(">H", (number + 100) % 65_536) + datagram[18:]
+            return [(older, port), (datagram, port)]
+        return [(datagram, port)]
+
+
+class Dead(Case):
+    """A server that has a connection of a client that was killed, with the address and the index of the next."""
+
+    seconds = 4
+
+    def test_the_next_client_asks_from_another_index(self):
+        content = mixed_content(10_000)
+        with serving() as server, network_before(server, Collision) as network, folder() as here:
+            (here / "UP").write_bytes(content)
+            begun = time.monotonic()
+            problems = copied(network, "put", "UP", cwd=here).problems(DONE)
+            took = time.monotonic() - begun
+            problems += stored_problems(server.folder / "UP", content)
+            problems += [] if 1.9 < took < 8 else [f"it took {took:.1f} seconds"]
+            problems += [] if network.first else ["no request was seen"]
+        self.check("put past the connection of a client that was killed: after 2 seconds, from another index", problems)
 
 
 class Silence(Case):

@@ -3,6 +3,7 @@
 import contextlib
 import os
 import pty
+import select
 import socket
 import subprocess
 import time
@@ -95,20 +96,24 @@ class Unknown(Case):
         self.check("the own address", ended.problems(BAD_LINE, b"", [b"another Chaosnet address"]))
 
 
-def shown(words, patience):
-    """What a terminal as standard error shows in so many seconds, and what a run without one tells."""
+def shown(words, wanted, patience=LONG):
+    """What a terminal as standard error shows up to this text, or in so many seconds."""
     master, slave = pty.openpty()
     process = subprocess.Popen([PROGRAM, *words], stdin=subprocess.PIPE, stdout=subprocess.DEVNULL, stderr=slave)
     os.close(slave)
     with contextlib.suppress(BrokenPipeError):
         process.stdin.write(b"T  LOGIN M\n")
         process.stdin.flush()
-    time.sleep(patience)
+    seen, end = "", time.monotonic() + patience
+    while wanted not in seen and select.select([master], [], [], max(0, end - time.monotonic()))[0]:
+        with contextlib.suppress(OSError):
+            seen += os.read(master, 65_536).decode().replace("\r\n", "\n")
+            continue
+        break
     process.kill()
     process.communicate()
-    with contextlib.suppress(OSError):
-        return os.read(master, 65_536).decode().replace("\r\n", "\n")
-    return ""
+    os.close(master)
+    return seen
 
 
 class Terminal(Case):
@@ -128,7 +133,7 @@ class Terminal(Case):
                 ("delete", ["delete", "402", at(own), f"401={server}", "A"]),
                 ("ask", ["ask", "402", at(own), "401", f"401={server}"]),
             ]:
-                seen = shown(words, 3)
+                seen = shown(words, wanted)
                 self.check(f"{name} shows it once", [] if seen.count(wanted) == 1 else [f"it showed {seen!r}"])
-            quiet = shown(["get", "--quiet", "402", at(own), f"401={server}", "--output", "/dev/null", "A"], 3)
+            quiet = shown(["get", "--quiet", "402", at(own), f"401={server}", "--output", "/dev/null", "A"], wanted, 3)
             self.check("get --quiet shows nothing", [] if quiet == "" else [f"it showed {quiet!r}"])

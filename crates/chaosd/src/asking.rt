@@ -9,7 +9,7 @@ use crate::typed::Typed;
 use crate::unanswered::Unanswered;
 use crate::waiting::{Waiting, WaitingSocket};
 use chaos_link::{Carriage, Link, Peer, Peers, UdpLink};
-use chaosd_client::Shown;
+use file_client::Shown;
 use chaosd_copies::ExitStatus;
 use chaosd_file::{NOBODY, ScriptEnd, Why, run_ask};
 use chaosd_io::RunFault;

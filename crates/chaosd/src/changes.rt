@@ -6,7 +6,7 @@ use crate::progress::ProgressLine;
 use crate::run_ends::{tell_unbegun, tell_unopened};
 use crate::waiting::Waiting;
 use chaos_file::MAX_PATH;
-use chaosd_client::Dial;
+use chaosd_clock::Dial;
 use chaosd_copies::{
     Deletes, Dialog, ExitStatus, Outcome, Session, Target, Teller, Viewer, run_copies,
 };

@@ -2,8 +2,8 @@
 ghost use Rattle.std.specs.Prelude.{None};
 
 use chaos_conn::End;
-use chaosd_client::Shown;
 use chaosd_log::{Journal, Matter};
+use file_client::Shown;
 use file_server::{Ending, Log};
 use std::time::Clock;
 

@@ -8,7 +8,7 @@ use crate::network::{has_input, link_to_server};
 use crate::progress::ProgressLine;
 use crate::run_ends::{tell_unbegun, tell_unopened};
 use crate::waiting::Waiting;
-use chaosd_client::Dial;
+use chaosd_clock::Dial;
 use chaosd_copies::{Disk, ExitStatus, FilePath, Gets, Naming, Puts, Session, Target, run_copies};
 use chaosd_io::RunFault;
 use chaosd_line::{Copying, Get, Put, path_for};

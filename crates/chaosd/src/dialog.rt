@@ -6,12 +6,12 @@ use crate::unanswered::Unanswered;
 use crate::waiting::Waiting;
 use chaos_file::Reply;
 use chaos_link::{Peer, UdpLink};
-use chaosd_call::Call;
-use chaosd_client::Dial;
+use chaosd_clock::Dial;
 use chaosd_copies::Dialog;
 use chaosd_copy::Talk;
 use chaosd_io::RunFault;
 use chaosd_line::Calling;
+use file_client::Call;
 
 /// A dialog with a server over a call, which claims what the call does. It is over too where nobody listens where the server is to be.
 #[derive(Drop)]
@@ -20,6 +20,8 @@ pub(crate) struct CallDialog<'a, C: Dial> {
     waiting: &'a Waiting<'a, C>,
     /// Whether nobody listens there, as the last turn found.
     is_refused: bool,
+    /// How many commands were said to which no reply was heard.
+    unheard: u64,
     client: Peer,
 }
 
@@ -48,6 +50,7 @@ impl<'a, C: AllocGlobal + Dial + Eprint> CallDialog<'a, C> {
             call: Hurried::new(call, calling.timeout),
             waiting,
             is_refused: false,
+            unheard: 0,
             client,
         })
     }
@@ -61,11 +64,14 @@ impl<C: Dial + Eprint> Talk for CallDialog<'_, C> {
     ghost failed_by = { λ dialog. ⟦<Hurried<Call<'static, C, Patient<'static, C, UdpLink>>> as Talk>⟧.failed_by dialog.call };
 
     fn say(&mut self, command: &[u8]) -> bool {
-        self.call.say(command)
+        let is_said = self.call.say(command);
+        self.unheard = self.unheard.saturating_add(u64::from(is_said));
+        is_said
     }
 
     fn hear(&mut self) -> Option<Reply> {
         let reply = self.call.hear();
+        self.unheard = self.unheard.saturating_sub(u64::from(reply.is_some()));
         if reply.is_some() {
             self.waiting.hear();
         }
@@ -92,11 +98,16 @@ impl<C: Dial + Eprint> Dialog for CallDialog<'_, C> {
     type Why = Unanswered;
 
     fn begin(&mut self) -> Result<(), RunFault> {
+        self.unheard = 0;
         self.call.begin();
         self.call.inner.connect()
     }
 
+    /// Says farewell first, where every reply was heard: so no connection is left at the server where a CLS is lost.
     fn end(&mut self) {
+        if self.unheard == 0 && !self.is_refused {
+            let _ = self.call.inner.end();
+        }
         let _ = self.call.inner.hang_up();
     }
 

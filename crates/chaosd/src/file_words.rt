@@ -2,8 +2,8 @@
 ghost use Rattle.std.specs.Prelude.{None};
 
 use chaos_file::{MAX_FILE, MAX_PATH, Reply};
-use chaosd_client::Shown;
 use chaosd_copies::{Contents, Lost, Outcome, Target, Teller};
+use file_client::Shown;
 use std::fmt::{Display, Formatter};
 use std::{fmt, io};
 

@@ -1,5 +1,5 @@
 //! `chaosd`: a thin main over the command line (`chaosd_line`) and the engines (`chaosd_show`, `chaosd_lab`,
-//! `chaosd_filelab`, `chaosd_file`, `file_server`, `chaosd_copies` over `chaosd_call`).
+//! `chaosd_filelab`, `chaosd_file`, `file_server`, `chaosd_copies` over `file_client`).
 //! It hands the words to the one, opens the folder and the sockets that they name, hands these with standard input and output to
 //! the others, and ends with their status.
 #![tactic(auto)]

@@ -1,6 +1,6 @@
 //! Why a server didn't answer, for a user.
 use chaos_link::Peer;
-use chaosd_client::NoReply;
+use file_client::NoReply;
 use std::fmt;
 use std::fmt::{Display, Formatter};
 use std::net::SocketAddrV4;

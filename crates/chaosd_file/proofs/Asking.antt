@@ -18,17 +18,17 @@ use Rattle.chaosd_io.specs.Lines.{all_but_last, is_newline, pieces_of, without_e
 use Rattle.chaosd_io.specs.Reader.{LinesView, Gives, Done, GivesMore, GivesNext, GivesLast}
 use Rattle.chaosd_io.proofs.Steps.{length-strip_last}
 use Rattle.chaosd_file.specs.Command.{command_of}
-use Rattle.chaosd_client.specs.Fault.{IsTurnFault}
+use Rattle.file_client.specs.Fault.{IsTurnFault}
 use Rattle.chaosd_file.specs.Printed.{ending_of, reply_line, replies_text, no_reply_line, PrintsReplies}
 use Rattle.chaosd_file.specs.Script.{IsCommand, IsFirstBad, BeginWithCommands, AreCommands, lines_within, Ran, Runs}
 use Rattle.chaosd_file.specs.Asking.{Asked, AskedAll, AsksLine}
 use Rattle.chaosd_file.specs.Conversation.{AsksAll, Converses, commands_said, item_for}
 use Rattle.chaos_link.specs.Link.{QueueView}
-use Rattle.chaosd_file.specs.Exchange.{SaysFarewell, command_item}
-use Rattle.chaosd_file.specs.Talk.{Talker, and_later, silence}
+use Rattle.file_client.specs.Pace.{Pace}
+use Rattle.file_client.specs.Talk.{Talker, SaysFarewell, and_later, command_item, silence}
 use Rattle.chaosd_file.specs.declared.end.ScriptEnd.{ScriptEnd}
 use Rattle.chaos_packet.specs.Item.{ItemView}
-use Rattle.chaosd_file.proofs.Talking.{talks_none, talks_on}
+use Rattle.file_client.proofs.Talking.{talks_none, talks_on}
 
 -- ---- what is kept of a line decides what it stands for
 
@@ -135,9 +135,9 @@ said_more given before said raw command so_far now is =
     ap (λ l. l ++ said) so_far ∙ ap (λ l. commands_said given ++ l) (now ∙ sym (one_said raw command is)) ∙ sym (flat_map-append (λ line. item_for (command_of line)) given (raw ∷ []))
 
 -- a command got its reply
-pub asked_more : (first mid last : Talker) (before between after : Option (List ℕ)) (replied : ℕ) (given : List (List ℕ)) (line raw : List ℕ) → take KEPT_LEN line ≡ take KEPT_LEN raw → Asked first mid before between replied given
-    → AsksLine mid last replied line between after (Ok true) → Asked first last before after (replied + 1) (given ++ raw ∷ [])
-asked_more first mid last before between after replied given line raw front s (command, reply, is, (talk, talks, (said, heard)), printed) = record {
+pub asked_more : (p : Pace) (first mid last : Talker) (before between after : Option (List ℕ)) (replied : ℕ) (given : List (List ℕ)) (line raw : List ℕ) → take KEPT_LEN line ≡ take KEPT_LEN raw → Asked p first mid before between replied given
+    → AsksLine p mid last replied line between after (Ok true) → Asked p first last before after (replied + 1) (given ++ raw ∷ [])
+asked_more p first mid last before between after replied given line raw front s (command, reply, is, (talk, talks, (said, heard)), printed) = record {
   count = length-append given (raw ∷ []) ∙ ap (λ n. n + 1) s.count;
   commands = All-push IsCommand given raw s.commands (some_command line raw command front is);
   printed = record {
@@ -146,15 +146,15 @@ asked_more first mid last before between after replied given line raw front s (c
     text = text_more before between after s.printed.replies reply s.printed.text printed;
   };
   talk = and_later s.talk talk;
-  talks = talks_on first mid last s.talk talk s.talks talks;
+  talks = talks_on p first mid last s.talk talk s.talks talks;
   said = said_more given s.talk.said talk.said raw command s.said said (kept_decides line raw front ∙ is);
   heard = ap (λ l. s.talk.heard ++ l) heard ∙ ap (λ l. l ++ reply ∷ []) s.heard;
 }
 
-pub last_asked : (first mid last : Talker) (input rest before between after : Option (List ℕ)) (replied : ℕ) (given : List (List ℕ)) (line : List ℕ) → Asked first mid before between replied given
-    → GivesLast KEPT_LEN INPUT_LIMIT input rest given (Some line) → AsksLine mid last replied line between after (Ok true) → AskedAll first last input rest before after (replied + 1)
-last_asked first mid last input rest before between after replied given line s (raw, front, done) asks =
-    (given ++ raw ∷ [], asked_more first mid last before between after replied given line raw front s asks, done)
+pub last_asked : (p : Pace) (first mid last : Talker) (input rest before between after : Option (List ℕ)) (replied : ℕ) (given : List (List ℕ)) (line : List ℕ) → Asked p first mid before between replied given
+    → GivesLast KEPT_LEN INPUT_LIMIT input rest given (Some line) → AsksLine p mid last replied line between after (Ok true) → AskedAll p first last input rest before after (replied + 1)
+last_asked p first mid last input rest before between after replied given line s (raw, front, done) asks =
+    (given ++ raw ∷ [], asked_more p first mid last before between after replied given line raw front s asks, done)
 
 -- ---- how a run ends
 
@@ -185,8 +185,8 @@ all_given None rest given replied count commands s = tt
 all_given (Some all) rest given replied count commands s = (s.lines.0, (subst (All IsCommand) (sym s.lines.1) commands, ap length s.lines.1 ∙ count))
 
 -- each command got a reply
-pub ran_to_end : (first last : Talker) (input rest before after : Option (List ℕ)) (replied : ℕ) → AskedAll first last input rest before after replied → Ran input rest before after (record { commands = replied; replied = replied })
-ran_to_end first last input rest before after replied (given, s, done) = record {
+pub ran_to_end : (p : Pace) (first last : Talker) (input rest before after : Option (List ℕ)) (replied : ℕ) → AskedAll p first last input rest before after replied → Ran input rest before after (record { commands = replied; replied = replied })
+ran_to_end p first last input rest before after replied (given, s, done) = record {
   counts = (omega arith, omega arith);
   text = record {
     replies = s.printed.replies;
@@ -199,9 +199,9 @@ ran_to_end first last input rest before after replied (given, s, done) = record 
 }
 
 -- a command got no reply
-pub ran_in_part : (first mid last : Talker) (input rest before between after : Option (List ℕ)) (replied : ℕ) (given : List (List ℕ)) (line : List ℕ) → Asked first mid before between replied given
-    → IsNext input given line → AsksLine mid last replied line between after (Ok false) → Ran input rest before after (record { commands = replied + 1; replied = replied })
-ran_in_part first mid last input rest before between after replied given line s (raw, front, begun) (command, is, exchange, printed) =
+pub ran_in_part : (p : Pace) (first mid last : Talker) (input rest before between after : Option (List ℕ)) (replied : ℕ) (given : List (List ℕ)) (line : List ℕ) → Asked p first mid before between replied given
+    → IsNext input given line → AsksLine p mid last replied line between after (Ok false) → Ran input rest before after (record { commands = replied + 1; replied = replied })
+ran_in_part p first mid last input rest before between after replied given line s (raw, front, begun) (command, is, exchange, printed) =
     let differ : replied ≡ replied + 1 → ⊥ = λ same. omega (arith, same) in
     record {
       counts = (omega arith, omega arith);
@@ -228,25 +228,25 @@ first_bad (Some all) given raw replied count commands none h = record {
   count = ap (λ n. n + 1) (sym count);
 }
 
-met_bad : (first last : Talker) (input rest before between after : Option (List ℕ)) (replied : ℕ) (given : List (List ℕ)) (line : List ℕ) → Asked first last before between replied given
+met_bad : (p : Pace) (first last : Talker) (input rest before between after : Option (List ℕ)) (replied : ℕ) (given : List (List ℕ)) (line : List ℕ) → Asked p first last before between replied given
     → IsNext input given line → command_of line ≡ None → after ≡ between → Runs input rest before after (Err (BadScript (replied + 1)))
-met_bad first last input rest before between after replied given line s (raw, front, begun) is same =
+met_bad p first last input rest before between after replied given line s (raw, front, begun) is same =
     let number : replied ≡ replied + 1 - 1 = omega arith in (
       first_bad input given raw replied s.count s.commands (kept_decides line raw front ∙ is) begun,
       subst (λ n. PrintsReplies n before after) number (subst (PrintsReplies replied before) (sym same) s.printed),
     )
 
 -- a line stands for no command, or its turns or its text met a fault
-pub line_runs : (first mid last : Talker) (input rest before between after : Option (List ℕ)) (replied : ℕ) (given : List (List ℕ)) (line : List ℕ) (fault : RunFault) → Asked first mid before between replied given
-    → IsNext input given line → AsksLine mid last replied line between after (Err fault) → Runs input rest before after (Err fault)
-line_runs first mid last input rest before between after replied given line (BadScript number) s next (none, e, same) =
-    subst (λ n. Runs input rest before after (Err (BadScript n))) (sym e) (met_bad first mid input rest before between after replied given line s next none same)
-line_runs first mid last input rest before between after replied given line WriteFault s next h = tt
-line_runs first mid last input rest before between after replied given line LinkFault s next h = tt
-line_runs first mid last input rest before between after replied given line ClockFault s next h = tt
-line_runs first mid last input rest before between after replied given line NoMemory s next h = absurd h
-line_runs first mid last input rest before between after replied given line ReadFault s next h = absurd h
-line_runs first mid last input rest before between after replied given line InputTooLong s next h = absurd h
+pub line_runs : (p q : Pace) (first mid last : Talker) (input rest before between after : Option (List ℕ)) (replied : ℕ) (given : List (List ℕ)) (line : List ℕ) (fault : RunFault) → Asked p first mid before between replied given
+    → IsNext input given line → AsksLine q mid last replied line between after (Err fault) → Runs input rest before after (Err fault)
+line_runs p q first mid last input rest before between after replied given line (BadScript number) s next (none, e, same) =
+    subst (λ n. Runs input rest before after (Err (BadScript n))) (sym e) (met_bad p first mid input rest before between after replied given line s next none same)
+line_runs p q first mid last input rest before between after replied given line WriteFault s next h = tt
+line_runs p q first mid last input rest before between after replied given line LinkFault s next h = tt
+line_runs p q first mid last input rest before between after replied given line ClockFault s next h = tt
+line_runs p q first mid last input rest before between after replied given line NoMemory s next h = absurd h
+line_runs p q first mid last input rest before between after replied given line ReadFault s next h = absurd h
+line_runs p q first mid last input rest before between after replied given line InputTooLong s next h = absurd h
 
 replies_to : (given lines : List (List ℕ)) (before after : Option (List ℕ)) (replied : ℕ) → given ≡ lines → length given ≡ replied → All IsCommand given → PrintsReplies replied before after
     → All IsCommand lines × PrintsReplies (length lines) before after
@@ -259,15 +259,15 @@ past_runs None before after given replied count commands printed h = tt
 past_runs (Some all) before after given replied count commands printed h = (h.0, replies_to given _ before after replied h.1 count commands printed)
 
 -- no more could be had
-pub unread_runs : (first last : Talker) (input rest before after : Option (List ℕ)) (replied : ℕ) (given : List (List ℕ)) (v : LinesView) (fault : RunFault) → Asked first last before after replied given
+pub unread_runs : (p : Pace) (first last : Talker) (input rest before after : Option (List ℕ)) (replied : ℕ) (given : List (List ℕ)) (v : LinesView) (fault : RunFault) → Asked p first last before after replied given
     → GivesMore KEPT_LEN INPUT_LIMIT input rest given v (Err fault) → Runs input rest before after (Err fault)
-unread_runs first last input rest before after replied given v ReadFault s (read, consumed, e) = (read, consumed, replies_to given _ before after replied e s.count s.commands s.printed)
-unread_runs first last input rest before after replied given v InputTooLong s h = past_runs input before after given replied s.count s.commands s.printed h
-unread_runs first last input rest before after replied given v WriteFault s h = absurd h
-unread_runs first last input rest before after replied given v NoMemory s h = absurd h
-unread_runs first last input rest before after replied given v (BadScript number) s h = absurd h
-unread_runs first last input rest before after replied given v LinkFault s h = absurd h
-unread_runs first last input rest before after replied given v ClockFault s h = absurd h
+unread_runs p first last input rest before after replied given v ReadFault s (read, consumed, e) = (read, consumed, replies_to given _ before after replied e s.count s.commands s.printed)
+unread_runs p first last input rest before after replied given v InputTooLong s h = past_runs input before after given replied s.count s.commands s.printed h
+unread_runs p first last input rest before after replied given v WriteFault s h = absurd h
+unread_runs p first last input rest before after replied given v NoMemory s h = absurd h
+unread_runs p first last input rest before after replied given v (BadScript number) s h = absurd h
+unread_runs p first last input rest before after replied given v LinkFault s h = absurd h
+unread_runs p first last input rest before after replied given v ClockFault s h = absurd h
 
 -- a fault of a turn says nothing
 pub turn_runs : (input rest before after : Option (List ℕ)) (count : ℕ) (fault : RunFault) → IsTurnFault count fault → Runs input rest before after (Err fault)
@@ -283,13 +283,13 @@ pub write_runs : (input rest before after : Option (List ℕ)) (fault : RunFault
 write_runs input rest before after fault same = subst (λ f. Runs input rest before after (Err f)) (sym same) tt
 
 -- nothing was asked yet
-pub nothing_asked : (first : Talker) (before : Option (List ℕ)) → Asked first first before before 0 []
-nothing_asked first before = record {
+pub nothing_asked : (p : Pace) (first : Talker) (before : Option (List ℕ)) → Asked p first first before before 0 []
+nothing_asked p first before = record {
   count = refl;
   commands = All-nil _;
   printed = record { replies = []; number = refl; text = Appends-nil before };
   talk = silence;
-  talks = talks_none first;
+  talks = talks_none p first;
   said = refl;
   heard = refl;
 }
@@ -316,9 +316,9 @@ heard_text : (before after : Option (List ℕ)) (printed heard : List (List ℕ)
 heard_text before after printed heard more e h = subst (λ l. Appends before after (replies_text l ++ more)) (sym e) h
 
 -- each command got a reply
-pub asks_to_end : (first last parted : Talker) (input rest before after : Option (List ℕ)) (replied : ℕ) → AskedAll first last input rest before after replied → SaysFarewell last parted
-    → AsksAll first parted input before after (record { commands = replied; replied = replied })
-asks_to_end first last parted input rest before after replied (given, s, done) farewell = record {
+pub asks_to_end : (p : Pace) (first last parted : Talker) (input rest before after : Option (List ℕ)) (replied : ℕ) → AskedAll p first last input rest before after replied → SaysFarewell p last parted
+    → AsksAll p first parted input before after (record { commands = replied; replied = replied })
+asks_to_end p first last parted input rest before after replied (given, s, done) farewell = record {
   talk = s.talk;
   replied = last;
   asks = s.talks;
@@ -330,9 +330,9 @@ asks_to_end first last parted input rest before after replied (given, s, done) f
 }
 
 -- a command got no reply
-pub asks_in_part : (first last parted : Talker) (input before between after : Option (List ℕ)) (replied : ℕ) (given : List (List ℕ)) (line : List ℕ) → Asked first last before between replied given
-    → IsNext input given line → AsksLine last parted replied line between after (Ok false) → AsksAll first parted input before after (record { commands = replied + 1; replied = replied })
-asks_in_part first last parted input before between after replied given line s (raw, front, begun) (command, is, exchange, printed) = record {
+pub asks_in_part : (p : Pace) (first last parted : Talker) (input before between after : Option (List ℕ)) (replied : ℕ) (given : List (List ℕ)) (line : List ℕ) → Asked p first last before between replied given
+    → IsNext input given line → AsksLine p last parted replied line between after (Ok false) → AsksAll p first parted input before after (record { commands = replied + 1; replied = replied })
+asks_in_part p first last parted input before between after replied given line s (raw, front, begun) (command, is, exchange, printed) = record {
   talk = s.talk;
   replied = last;
   asks = s.talks;
@@ -347,9 +347,3 @@ asks_in_part first last parted input before between after replied given line s (
         (length-append given (raw ∷ []) ∙ ap (λ n. n + 1) s.count) begun,
   );
 }
-
--- of the same client, and over the same queue
-pub converses_as : (first other : Talker) (queue queue' : Option QueueView) (input before after : Option (List ℕ)) (result : Result ScriptEnd RunFault) → first ≡ other → queue ≡ queue'
-    → IfOk result (λ end. Converses first queue input before after end) → IfOk result (λ end. Converses other queue' input before after end)
-converses_as first other queue queue' input before after (Ok end) p q h = rw (← p, ← q) h
-converses_as first other queue queue' input before after (Err fault) p q h = tt

@@ -10,7 +10,8 @@ use Rattle.chaosd_file.specs.Asking.{Asked, AskedGiven}
 use Rattle.chaosd_file.specs.Conversation.{AsksAll}
 use Rattle.chaosd_file.specs.Printed.{PrintsReplies}
 use Rattle.chaosd_file.specs.Script.{PrintsRepliesTo, Ran, Runs}
-use Rattle.chaosd_file.specs.Talk.{Talker}
+use Rattle.file_client.specs.Pace.{Pace}
+use Rattle.file_client.specs.Talk.{Talker}
 use Rattle.chaosd_file.specs.declared.end.ScriptEnd.{ScriptEnd}
 use Rattle.chaosd_io.specs.Reader.{LinesView, Gives, GivesMore}
 
@@ -20,10 +21,10 @@ prints_kept count before between after s kept = record { replies = s.replies; nu
 prints_to_kept : (lines : List (List ℕ)) (before between after : Option (List ℕ)) → PrintsRepliesTo lines before between → Keeps between after → PrintsRepliesTo lines before after
 prints_to_kept lines before between after (commands, printed) kept = (commands, prints_kept _ before between after printed kept)
 
-asked_kept : (first last : Talker) (before between after : Option (List ℕ)) (replied : ℕ) (given : List (List ℕ)) → Asked first last before between replied given → Keeps between after
-    → Asked first last before after replied given
+asked_kept : (p : Pace) (first last : Talker) (before between after : Option (List ℕ)) (replied : ℕ) (given : List (List ℕ)) → Asked p first last before between replied given → Keeps between after
+    → Asked p first last before after replied given
 unfolding prints_kept
-asked_kept first last before between after replied given s kept = record {
+asked_kept p first last before between after replied given s kept = record {
   count = s.count;
   commands = s.commands;
   printed = prints_kept replied before between after s.printed kept;
@@ -34,9 +35,9 @@ asked_kept first last before between after replied given s kept = record {
 }
 
 -- what was asked stays asked where the replies are handed on
-pub given_kept : (first last : Talker) (input rest before between after : Option (List ℕ)) (replied : ℕ) (v : LinesView) → AskedGiven first last input rest before between replied v → Keeps between after
-    → AskedGiven first last input rest before after replied v
-given_kept first last input rest before between after replied v (given, asked, gives) kept = (given, asked_kept first last before between after replied given asked kept, gives)
+pub given_kept : (p : Pace) (first last : Talker) (input rest before between after : Option (List ℕ)) (replied : ℕ) (v : LinesView) → AskedGiven p first last input rest before between replied v → Keeps between after
+    → AskedGiven p first last input rest before after replied v
+given_kept p first last input rest before between after replied v (given, asked, gives) kept = (given, asked_kept p first last before between after replied given asked kept, gives)
 
 -- more lines came
 pub some_came : (kept limit : ℕ) (input rest : Option (List ℕ)) (given : List (List ℕ)) (v : LinesView) (more : Bool) → more ≡ true → GivesMore kept limit input rest given v (Ok more)
@@ -84,8 +85,8 @@ runs_handed input rest before between held begun waiting result none runs kept e
     let from : written_of before begun ≡ before = ap (written_of before) none ∙ begun_with before in
     runs_kept input rest before between held result (subst (λ o. Runs input rest o between result) from runs) (nothing_waits between held waiting empty kept)
 
-asks_kept : (first parted : Talker) (input before between after : Option (List ℕ)) (end : ScriptEnd) → AsksAll first parted input before between end → Keeps between after → AsksAll first parted input before after end
-asks_kept first parted input before between after end s kept = record {
+asks_kept : (p : Pace) (first parted : Talker) (input before between after : Option (List ℕ)) (end : ScriptEnd) → AsksAll p first parted input before between end → Keeps between after → AsksAll p first parted input before after end
+asks_kept p first parted input before between after end s kept = record {
   talk = s.talk;
   replied = s.replied;
   asks = s.asks;
@@ -96,10 +97,10 @@ asks_kept first parted input before between after end s kept = record {
   in_part = s.in_part;
 }
 
-pub asks_handed : (first parted : Talker) (input before between held : Option (List ℕ)) (begun waiting : List ℕ) (result : Result ScriptEnd RunFault) → begun ≡ []
-    → IfOk result (λ end. AsksAll first parted input (written_of before begun) between end) → Keeps between (written_of held waiting) → waiting ≡ []
-    → IfOk result (λ end. AsksAll first parted input before held end)
-asks_handed first parted input before between held begun waiting (Err fault) none asks kept empty = tt
-asks_handed first parted input before between held begun waiting (Ok end) none asks kept empty =
+pub asks_handed : (p : Pace) (first parted : Talker) (input before between held : Option (List ℕ)) (begun waiting : List ℕ) (result : Result ScriptEnd RunFault) → begun ≡ []
+    → IfOk result (λ end. AsksAll p first parted input (written_of before begun) between end) → Keeps between (written_of held waiting) → waiting ≡ []
+    → IfOk result (λ end. AsksAll p first parted input before held end)
+asks_handed p first parted input before between held begun waiting (Err fault) none asks kept empty = tt
+asks_handed p first parted input before between held begun waiting (Ok end) none asks kept empty =
     let from : written_of before begun ≡ before = ap (written_of before) none ∙ begun_with before in
-    asks_kept first parted input before between held end (subst (λ o. AsksAll first parted input o between end) from asks) (nothing_waits between held waiting empty kept)
+    asks_kept p first parted input before between held end (subst (λ o. AsksAll p first parted input o between end) from asks) (nothing_waits between held waiting empty kept)

@@ -7,41 +7,41 @@ use Rattle.chaosd_io.specs.declared.limits.TheConstants.{INPUT_LIMIT, KEPT_LEN}
 use Rattle.chaosd_io.specs.Reader.{LinesView, Gives, Done}
 use Rattle.chaosd_file.specs.Command.{command_of}
 use Rattle.chaosd_file.specs.Conversation.{commands_said}
-use Rattle.chaosd_file.specs.Exchange.{Exchanges}
 use Rattle.chaosd_file.specs.Printed.{PrintsReplies, reply_line, no_reply_line}
 use Rattle.chaosd_file.specs.Script.{IsCommand}
-use Rattle.chaosd_file.specs.Talk.{Talker, Talk, Talks}
+use Rattle.file_client.specs.Pace.{Pace}
+use Rattle.file_client.specs.Talk.{Talker, Talk, Talks, Exchanges}
 
 -- Each line that was given stands for a command that got a reply, and the replies were printed. `last`: the client after `first`,
 -- whose connection wrote these commands and read these replies.
-pub record Asked (first last : Talker) (before after : Option (List ℕ)) (replied : ℕ) (given : List (List ℕ)) : Type 0 where
+pub record Asked (p : Pace) (first last : Talker) (before after : Option (List ℕ)) (replied : ℕ) (given : List (List ℕ)) : Type 0 where
   pub count : length given ≡ replied
   pub commands : All IsCommand given
   pub printed : PrintsReplies replied before after
   pub talk : Talk
-  pub talks : Talks first talk last
+  pub talks : Talks p first talk last
   pub said : talk.said ≡ commands_said given
   pub heard : talk.heard ≡ printed.replies
 
 -- So it is with the lines that the reader gave of an input.
-abbrev pub AskedGiven : Talker → Talker → Option (List ℕ) → Option (List ℕ) → Option (List ℕ) → Option (List ℕ) → ℕ → LinesView → Type 0
-AskedGiven first last input rest before after replied lines = (given : List (List ℕ)) × Asked first last before after replied given × Gives KEPT_LEN INPUT_LIMIT input rest given lines
+abbrev pub AskedGiven : Pace → Talker → Talker → Option (List ℕ) → Option (List ℕ) → Option (List ℕ) → Option (List ℕ) → ℕ → LinesView → Type 0
+AskedGiven p first last input rest before after replied lines = (given : List (List ℕ)) × Asked p first last before after replied given × Gives KEPT_LEN INPUT_LIMIT input rest given lines
 
 -- So it is with all lines of an input.
-abbrev pub AskedAll : Talker → Talker → Option (List ℕ) → Option (List ℕ) → Option (List ℕ) → Option (List ℕ) → ℕ → Type 0
-AskedAll first last input rest before after replied = (given : List (List ℕ)) × Asked first last before after replied given × Done INPUT_LIMIT input rest given
+abbrev pub AskedAll : Pace → Talker → Talker → Option (List ℕ) → Option (List ℕ) → Option (List ℕ) → Option (List ℕ) → ℕ → Type 0
+AskedAll p first last input rest before after replied = (given : List (List ℕ)) × Asked p first last before after replied given × Done INPUT_LIMIT input rest given
 
 -- The line stands for a command, and its reply was printed; or that it got none was. Or it stands for none, and nothing was printed;
 -- or there was a fault of a turn or of the writer.
-abbrev pub AsksLine : Talker → Talker → ℕ → List ℕ → Option (List ℕ) → Option (List ℕ) → Result Bool RunFault → Type 0
-AsksLine first last replied line before after (Ok true) =
-    (command : List ℕ) × (reply : List ℕ) × (command_of line ≡ Some command) × Exchanges first command (Some reply) last × Appends before after (reply_line reply)
-AsksLine first last replied line before after (Ok false) =
-    (command : List ℕ) × (command_of line ≡ Some command) × Exchanges first command None last × Appends before after no_reply_line
-AsksLine first last replied line before after (Err (BadScript number)) = (command_of line ≡ None) × (number ≡ replied + 1) × (after ≡ before)
-AsksLine first last replied line before after (Err WriteFault) = Unit {0}
-AsksLine first last replied line before after (Err LinkFault) = Unit {0}
-AsksLine first last replied line before after (Err ClockFault) = Unit {0}
-AsksLine first last replied line before after (Err NoMemory) = ⊥
-AsksLine first last replied line before after (Err ReadFault) = ⊥
-AsksLine first last replied line before after (Err InputTooLong) = ⊥
+abbrev pub AsksLine : Pace → Talker → Talker → ℕ → List ℕ → Option (List ℕ) → Option (List ℕ) → Result Bool RunFault → Type 0
+AsksLine p first last replied line before after (Ok true) =
+    (command : List ℕ) × (reply : List ℕ) × (command_of line ≡ Some command) × Exchanges p first command (Some reply) last × Appends before after (reply_line reply)
+AsksLine p first last replied line before after (Ok false) =
+    (command : List ℕ) × (command_of line ≡ Some command) × Exchanges p first command None last × Appends before after no_reply_line
+AsksLine p first last replied line before after (Err (BadScript number)) = (command_of line ≡ None) × (number ≡ replied + 1) × (after ≡ before)
+AsksLine p first last replied line before after (Err WriteFault) = Unit {0}
+AsksLine p first last replied line before after (Err LinkFault) = Unit {0}
+AsksLine p first last replied line before after (Err ClockFault) = Unit {0}
+AsksLine p first last replied line before after (Err NoMemory) = ⊥
+AsksLine p first last replied line before after (Err ReadFault) = ⊥
+AsksLine p first last replied line before after (Err InputTooLong) = ⊥

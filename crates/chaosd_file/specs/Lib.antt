@@ -1,7 +1,5 @@
 pub mod Status
 pub mod Command
-pub mod Talk
-pub mod Exchange
 pub mod Printed
 pub mod Script
 pub mod Conversation

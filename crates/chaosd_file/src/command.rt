@@ -2,13 +2,15 @@
 ghost use Rattle.std.specs.Prelude.{◌≡◌, option_map};
 ghost use Rattle.chaosd_file.specs.Command.{command_of};
 
+use crate::why::Why;
 use chaosd_io::{Data, LINE_LIMIT, read_data, without_return};
 
-/// The places of a command and of its reply, which are kept from line to line.
+/// The places of a command and of its reply, which are kept from line to line, and of what is wrong with a line or a command.
 #[derive(Drop)]
 pub struct Places {
     pub command: Data,
     pub reply: Data,
+    pub why: Option<Why>,
 }
 
 /// Reads the bytes of the command that a line stands for into a place of the caller's, where it is a text of at most 4,096 bytes that

@@ -1,12 +1,10 @@
 //! The engines of the program `chaosd` that run a script of FILE: `loop` and `ask`.
 //!
 //! They work on readers, writers, links and a clock that their callers hand in. `command` reads a line of a script,
-//! `replies` prints, `client` is the end that asks, `turns` is what a client takes turns with, `script` runs a script, and `loop_run`
-//! and `ask_run` are the engines. `why` has what a user is told of a run besides.
+//! `replies` prints, `script` runs a script by a client, and `loop_run` and `ask_run` are the engines. `why` has what a user is told of a run besides.
 #![tactic(auto)]
 
 mod ask_run;
-mod client;
 mod command;
 mod end;
 mod limits;
@@ -14,7 +12,6 @@ mod loop_run;
 mod replies;
 mod script;
 mod status;
-mod turns;
 mod why;
 
 pub use ask_run::run_ask;

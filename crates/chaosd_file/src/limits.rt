@@ -1,12 +1,6 @@
 //! The numbers that the engines keep to.
 use chaos_packet::{Opcode, PktNum};
 
-/// The turns that a command waits for its reply, those before the connection is open and has room among them.
-pub const COMMAND_TURNS: u32 = 1_000;
-
-/// The turns that the EOF behind the last command waits to be acknowledged.
-pub const END_TURNS: u32 = 100;
-
 /// No host's address. Of nobody no connection is asked for, so that a run ends at its first command.
 pub const NOBODY: u16 = 0;
 
@@ -24,3 +18,6 @@ pub const LOOP_SERVER_START: PktNum = PktNum(65_530);
 
 /// The milliseconds of a turn in `loop`.
 pub const LOOP_TURN: u64 = 10;
+
+/// The windows of a script's client, in packets: the usual ones.
+pub const SCRIPT_WINDOW: u16 = 13;

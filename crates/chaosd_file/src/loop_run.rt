@@ -1,26 +1,25 @@
 //! The engine `loop`.
-ghost use Rattle.std.specs.Prelude.{◌≡◌, ◌<◌, ◌≤◌, ◌+◌, ◌-◌, ℕ, Err, length, take, IfOk, IfSome, OnOk};
-ghost use Rattle.std.specs.Io.KnownBytes.{IsAtEnd};
-ghost use Rattle.chaosd_io.specs.declared.limits.TheConstants.{INPUT_LIMIT};
-ghost use Rattle.chaosd_io.specs.Lines.{lines_of, ended_lines};
-ghost use Rattle.chaosd_file.specs.Conversation.{Converses};
-ghost use Rattle.chaosd_file.specs.Talk.{new_talker};
-ghost use Rattle.chaosd_file.specs.Printed.{PrintsReplies, PrintsScript};
-ghost use Rattle.chaosd_file.specs.Script.{AreCommands, BeginWithCommands, IsFirstBad, lines_within, PrintsRepliesTo, RepliesRead, Runs};
+ghost use Rattle.std.specs.Prelude.{◌≡◌, ◌<◌, ◌≤◌, ◌+◌, ℕ, Err, IfOk, OnOk};
+ghost use Rattle.chaosd_file.specs.Conversation.{Converses, loop_pace};
+ghost use Rattle.chaosd_file.specs.Script.{Runs};
+ghost use Rattle.chaosd_file.specs.declared.limits.TheConstants.{LOOP_CLIENT, LOOP_SERVER, SCRIPT_WINDOW};
+ghost use Rattle.file_client.specs.Caller.{new_caller};
+ghost use Rattle.file_client.specs.Talk.{talker};
 
-use crate::client::Client;
 use crate::end::ScriptEnd;
-use crate::limits::{LOOP_CLIENT, LOOP_CLIENT_START, LOOP_SERVER, LOOP_SERVER_START, LOOP_TURN};
+use crate::limits::{
+    LOOP_CLIENT, LOOP_CLIENT_START, LOOP_SERVER, LOOP_SERVER_START, LOOP_TURN, SCRIPT_WINDOW,
+};
 use crate::script::run_script;
-use crate::turns::Turns;
 use crate::why::Why;
 use chaos_conn::ConnConfig;
 use chaos_file::MemStore;
 use chaos_host::{Host, HostDelivered};
 use chaos_link::{Carriage, LINK_ROOM, Link};
-use chaos_packet::Outbox;
+use chaos_packet::{Outbox, PktNum};
 use chaos_turn::{TURN_ROOM, TurnEnd, client_turn};
 use chaosd_io::RunFault;
+use file_client::{Client, Turns};
 use file_server::Server;
 use std::alloc::Global;
 use std::io::{Read, Write};
@@ -41,9 +40,21 @@ struct Both<'a, A: Link, B: Link> {
 }
 
 impl<A: Link, B: Link> Turns for Both<'_, A, B> {
-    ghost use Rattle.std.specs.Prelude.{◌∷◌, []};
+    ghost use Rattle.std.specs.Prelude.{◌∷◌, ◌+◌, ◌⊎◌, []};
+    ghost use Rattle.chaos_packet.specs.Count.{Rose};
+    ghost use Rattle.chaosd_file.specs.Conversation.{loop_pace};
+
+    ghost Time = { Unit {0} };
+
+    ghost time = { λ _. tt };
+
+    ghost pace = { λ _. loop_pace };
+
+    ghost passed = { λ _. 0 };
 
     ghost failures = { λ turns. A.count turns.near.now + B.count turns.far.now };
+
+    ghost failed = { λ before after. Rose (A.count before.near.now) (A.count after.near.now) ⊎ Rose (B.count before.far.now) (B.count after.far.now) };
 
     ghost links = { λ turns. turns.near.ghost_name ∷ turns.far.ghost_name ∷ [] };
 
@@ -51,6 +62,18 @@ impl<A: Link, B: Link> Turns for Both<'_, A, B> {
 
     fn now(&self) -> Result<u64, RunFault> {
         Ok(self.turns.saturating_mul(LOOP_TURN))
+    }
+
+    fn start(&self, _now: u64) -> PktNum {
+        LOOP_CLIENT_START
+    }
+
+    fn wait(&self) -> u64 {
+        u64::MAX
+    }
+
+    fn passed(&self) -> u8 {
+        0
     }
 
     /// A turn of the client, and then one of the server. While one acts, the other can't: so both poll, but the client waits for
@@ -122,84 +145,35 @@ pub fn run_loop<R: Read, W: Write, A: Link, B: Link>(
     why: &mut Option<Why>,
     carriage: Carriage,
 ) -> Result<ScriptEnd, RunFault>
+    // Which lines were commands, what was printed, and how it ended.
+    ensures runs { Runs (R.remaining reader.old) (R.remaining reader.new) (W.contents writer.old) (W.contents writer.new) result }
+    // What its connection wrote are the commands of these lines, in order, and then an EOF, and what was printed are the data that it
+    // read, in order.
+    ensures talk { IfOk result (λ end. Converses loop_pace (talker (new_caller LOOP_CLIENT LOOP_SERVER SCRIPT_WINDOW carriage 0) (A.queue link_a.old)) (A.queue link_a.new) (R.remaining reader.old) (W.contents writer.old) (W.contents writer.new) end) }
     // It ends well only where the links' counts of failures, together, didn't rise.
     ensures well { OnOk result (A.count link_a.new + B.count link_b.new ≤ A.count link_a.old + B.count link_b.old) }
     // It ends by a LinkFault only where a link counted failures.
     ensures failed { result ≡ Err RunFault.LinkFault → 0 < A.count link_a.new + B.count link_b.new }
-    // As many commands were tried as were replied to, or one more, the last.
-    ensures counts { IfOk result (λ end. (end.replied ≤ end.commands) × (end.commands ≤ end.replied + 1)) }
-    // What was printed are that many replies, each on its line, and then `no reply` where the last command got none.
-    ensures text { IfOk result (λ end. PrintsScript end (W.contents writer.old) (W.contents writer.new)) }
-    // What its connection wrote are the commands of these lines, in order, and then an EOF, and what was printed are the data that it
-    // read, in order.
-    ensures talk { IfOk result (λ end. Converses (new_talker carriage LOOP_CLIENT LOOP_SERVER 65534 0 (A.queue link_a.old)) (A.queue link_a.new) (R.remaining reader.old) (W.contents writer.old) (W.contents writer.new) end) }
-    // The commands are the first lines; where each got a reply they are all lines, and the input was read to its end.
-    ensures tried { IfOk result (λ end. IfSome (R.remaining reader.old) (λ input. BeginWithCommands end.commands (lines_within input))) }
-    ensures whole { IfOk result (λ end. end.replied ≡ end.commands
-        → IfSome (R.remaining reader.old) (λ input. (length input ≤ INPUT_LIMIT) × AreCommands end.commands (lines_of input))) }
-    ensures ended { IfOk result (λ end. end.replied ≡ end.commands → IsAtEnd (R.remaining reader.new)) }
-
-    // The line that is told is the first that stands for no command, and replies to those before it were printed.
-    ensures bad { (number : ℕ) → result ≡ Err (RunFault.BadScript number)
-        → IfSome (R.remaining reader.old) (λ input. IsFirstBad number (lines_within input)) × PrintsReplies (number - 1) (W.contents writer.old) (W.contents writer.new) }
-
-    // A script is refused as too long only where it is, and replies to the lines that ended within the limit were printed.
-    ensures too_long { result ≡ Err RunFault.InputTooLong → IfSome (R.remaining reader.old) (λ input.
-        (INPUT_LIMIT < length input) × PrintsRepliesTo (ended_lines (take INPUT_LIMIT input)) (W.contents writer.old) (W.contents writer.new)) }
-
-    // Where the reader failed, replies to the lines that ended in what it had given were printed, and no more.
-    ensures unread { result ≡ Err RunFault.ReadFault
-        → RepliesRead (R.remaining reader.old) (R.remaining reader.new) (W.contents writer.old) (W.contents writer.new) }
 {
     let mut server = Server::new(alloc, LOOP_SERVER, ConnConfig::usual(), carriage)?;
     let mut store = MemStore::new(alloc);
-    run_between(
-        alloc,
-        reader,
-        writer,
-        link_a,
-        link_b,
-        &mut server,
-        &mut store,
-        why,
-        carriage,
-    )
-}
-
-/// Runs a script between a new client and this server.
-fn run_between<R: Read, W: Write, A: Link, B: Link>(
-    alloc: Global,
-    reader: &mut R,
-    writer: &mut W,
-    near: &mut A,
-    far: &mut B,
-    server: &mut Server,
-    store: &mut MemStore,
-    why: &mut Option<Why>,
-    carriage: Carriage,
-) -> Result<ScriptEnd, RunFault>
-    ensures runs { Runs (R.remaining reader.old) (R.remaining reader.new) (W.contents writer.old) (W.contents writer.new) result }
-    ensures talk { IfOk result (λ end. Converses (new_talker carriage LOOP_CLIENT LOOP_SERVER 65534 0 (A.queue near.old)) (A.queue near.new) (R.remaining reader.old) (W.contents writer.old) (W.contents writer.new) end) }
-    ensures failed { result ≡ Err RunFault.LinkFault → 0 < A.count near.new + B.count far.new }
-    ensures well { OnOk result (A.count near.new + B.count far.new ≤ A.count near.old + B.count far.old) }
-{
-    let mut client = Client::new(
-        alloc,
-        LOOP_CLIENT,
-        LOOP_SERVER,
-        LOOP_CLIENT_START,
-        0,
-        carriage,
-    )?;
     let mut turns = Both {
         alloc,
-        near,
-        far,
-        server,
-        store,
+        near: link_a,
+        far: link_b,
+        server: &mut server,
+        store: &mut store,
         turns: 0,
         buffer: [0; LINK_ROOM],
         is_idle: false,
     };
+    let mut client = Client::new(
+        alloc,
+        &turns,
+        LOOP_CLIENT,
+        LOOP_SERVER,
+        SCRIPT_WINDOW,
+        carriage,
+    )?;
     run_script(&mut client, &mut turns, reader, writer, why)
 }

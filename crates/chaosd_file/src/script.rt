@@ -4,16 +4,15 @@ ghost use Rattle.chaosd_io.specs.Buffer.{written_of};
 ghost use Rattle.chaosd_io.specs.declared.limits.TheConstants.{INPUT_LIMIT};
 ghost use Rattle.chaosd_file.specs.Asking.{AsksLine};
 ghost use Rattle.chaosd_file.specs.Conversation.{AsksAll, Converses};
-ghost use Rattle.chaosd_file.specs.Exchange.{talker_of};
 ghost use Rattle.chaosd_file.specs.Script.{Runs};
+ghost use Rattle.file_client.specs.Talk.{talker};
 
-use crate::client::Client;
 use crate::command::{Places, read_command};
 use crate::end::ScriptEnd;
 use crate::replies::{hand_on, print_none, print_reply};
-use crate::turns::Turns;
 use crate::why::{Why, bad_line};
 use chaosd_io::{Data, INPUT_LIMIT, KEPT_LEN, LineReader, RunFault, WriteBuffer};
+use file_client::{Client, Turns};
 use std::io::{Read, Write};
 
 /// Asks each command of a script, and closes the connection however that ends, but for a fault of a link or of the clock: no turn
@@ -27,10 +26,10 @@ pub fn run_script<T: Turns, R: Read, W: Write>(
     why: &mut Option<Why>,
 ) -> Result<ScriptEnd, RunFault>
     ensures runs { Runs (R.remaining reader.old) (R.remaining reader.new) (W.contents writer.old) (W.contents writer.new) result }
-    ensures same_links { T.links turns.new ≡ T.links turns.old }
+    ensures same_turns { (T.links turns.new ≡ T.links turns.old) × (T.time turns.new ≡ T.time turns.old) }
     ensures failed { result ≡ Err RunFault.LinkFault → 0 < T.failures turns.new }
     ensures well { OnOk result (T.failures turns.new ≤ T.failures turns.old) }
-    ensures talk { IfOk result (λ end. Converses (talker_of client.old (T.queue turns.old)) (T.queue turns.new) (R.remaining reader.old) (W.contents writer.old) (W.contents writer.new) end) }
+    ensures talk { IfOk result (λ end. Converses (T.pace (T.time turns.old)) (talker client.old.caller (T.queue turns.old)) (T.queue turns.new) (R.remaining reader.old) (W.contents writer.old) (W.contents writer.new) end) }
 {
     let end = ask_all(client, turns, reader, writer, why);
     match end {
@@ -53,17 +52,19 @@ fn ask_all<T: Turns, R: Read, W: Write>(
     why: &mut Option<Why>,
 ) -> Result<ScriptEnd, RunFault>
     ensures runs { Runs (R.remaining reader.old) (R.remaining reader.new) (W.contents writer.old) (W.contents writer.new) result }
-    ensures same_links { T.links turns.new ≡ T.links turns.old }
+    ensures same_turns { (T.links turns.new ≡ T.links turns.old) × (T.time turns.new ≡ T.time turns.old) }
     ensures failed { result ≡ Err RunFault.LinkFault → 0 < T.failures turns.new }
     ensures well { OnOk result (T.failures turns.new ≤ T.failures turns.old) }
-    ensures talk { IfOk result (λ end. AsksAll (talker_of client.old (T.queue turns.old)) (talker_of client.new (T.queue turns.new)) (R.remaining reader.old) (W.contents writer.old) (W.contents writer.new) end) }
+    ensures talk { IfOk result (λ end. AsksAll (T.pace (T.time turns.old)) (talker client.old.caller (T.queue turns.old)) (talker client.new.caller (T.queue turns.new)) (R.remaining reader.old) (W.contents writer.old) (W.contents writer.new) end) }
 {
     let mut out = WriteBuffer::new();
     let mut places = Places {
         command: Data::new(),
         reply: Data::new(),
+        why: None,
     };
-    let end = ask_lines(client, turns, reader, &mut places, &mut out, writer, why);
+    let end = ask_lines(client, turns, reader, &mut places, &mut out, writer);
+    *why = places.why.take();
     if let Err(RunFault::LinkFault | RunFault::ClockFault) = end {
         let _later = hand_on(&mut out, writer);
         return end;
@@ -80,13 +81,12 @@ fn ask_lines<T: Turns, R: Read, W: Write>(
     places: &mut Places,
     out: &mut WriteBuffer,
     writer: &mut W,
-    why: &mut Option<Why>,
 ) -> Result<ScriptEnd, RunFault>
     ensures runs { Runs (R.remaining reader.old) (R.remaining reader.new) (written_of (W.contents writer.old) out.old) (written_of (W.contents writer.new) out.new) result }
-    ensures same_links { T.links turns.new ≡ T.links turns.old }
+    ensures same_turns { (T.links turns.new ≡ T.links turns.old) × (T.time turns.new ≡ T.time turns.old) }
     ensures failed { result ≡ Err RunFault.LinkFault → 0 < T.failures turns.new }
     ensures well { OnOk result (T.failures turns.new ≤ T.failures turns.old) }
-    ensures talk { IfOk result (λ end. AsksAll (talker_of client.old (T.queue turns.old)) (talker_of client.new (T.queue turns.new)) (R.remaining reader.old)
+    ensures talk { IfOk result (λ end. AsksAll (T.pace (T.time turns.old)) (talker client.old.caller (T.queue turns.old)) (talker client.new.caller (T.queue turns.new)) (R.remaining reader.old)
         (written_of (W.contents writer.old) out.old) (written_of (W.contents writer.new) out.new) end) }
 {
     let mut lines: LineReader<KEPT_LEN> = LineReader::new(INPUT_LIMIT);
@@ -94,7 +94,7 @@ fn ask_lines<T: Turns, R: Read, W: Write>(
     'reads: loop {
         'lines: while lines.cut() {
             let line = lines.line();
-            if !ask_line(client, turns, line, replied, places, out, writer, why)? {
+            if !ask_line(client, turns, line, replied, places, out, writer)? {
                 return Ok(ScriptEnd {
                     commands: replied + 1,
                     replied,
@@ -108,7 +108,7 @@ fn ask_lines<T: Turns, R: Read, W: Write>(
         }
     }
     if let Some(line) = lines.last() {
-        if !ask_line(client, turns, line, replied, places, out, writer, why)? {
+        if !ask_line(client, turns, line, replied, places, out, writer)? {
             return Ok(ScriptEnd {
                 commands: replied + 1,
                 replied,
@@ -132,21 +132,20 @@ fn ask_line<T: Turns, W: Write>(
     places: &mut Places,
     out: &mut WriteBuffer,
     writer: &mut W,
-    why: &mut Option<Why>,
 ) -> Result<bool, RunFault>
     requires few { replied ≤ INPUT_LIMIT }
-    ensures asks { AsksLine (talker_of client.old (T.queue turns.old)) (talker_of client.new (T.queue turns.new)) replied line.now
+    ensures asks { AsksLine (T.pace (T.time turns.old)) (talker client.old.caller (T.queue turns.old)) (talker client.new.caller (T.queue turns.new)) replied line.now
         (written_of (W.contents writer.old) out.old) (written_of (W.contents writer.new) out.new) result }
-    ensures same_links { T.links turns.new ≡ T.links turns.old }
+    ensures same_turns { (T.links turns.new ≡ T.links turns.old) × (T.time turns.new ≡ T.time turns.old) }
     ensures failed { result ≡ Err RunFault.LinkFault → 0 < T.failures turns.new }
     ensures well { OnOk result (T.failures turns.new ≤ T.failures turns.old) }
 {
     let Some(()) = read_command(line, &mut places.command) else {
-        *why = Some(Why::BadLine(bad_line(line)));
+        places.why = Some(Why::BadLine(bad_line(line)));
         return Err(RunFault::BadScript(replied + 1));
     };
     if !client.ask(turns, places.command.as_slice(), &mut places.reply)? {
-        *why = Some(Why::NoReply(client.no_reply()));
+        places.why = Some(Why::NoReply(client.no_reply()));
         print_none(out, writer)?;
         return Ok(false);
     }

@@ -1,6 +1,0 @@
-use Rattle.std.proofs.Common.{ap, sym}
-use Rattle.chaosd_copy.specs.Talk.{counted}
-use Rattle.chaosd_call.proofs.call.CallTalk.TheImpl.Goals as goal
-
-pub hear-tells : goal.hear-tells
-hear-tells g c = record { heard = sym c.ensures.talk; still = ap counted c.ensures.still; unfailed = c.ensures.unfailed }

@@ -1,0 +1,6 @@
+pub mod Calls
+pub mod Fault
+pub mod Pace
+pub mod Turn
+pub mod Caller
+pub mod Talk

@@ -1,0 +1,17 @@
+-- What a client goes by.
+use Rattle.std.specs.Prelude.{ℕ}
+use Rattle.chaosd_clock.specs.Clock.{IsMoment, number_of}
+use Rattle.chaosd_clock.specs.declared.clock.Beginning.{Beginning}
+use Rattle.file_client.specs.declared.limits.TheConstants.{OPEN_MILLIS}
+
+pub record Pace : Type 1 where
+  -- the moments that its clock may show
+  pub Shows : ℕ → Type 0
+  -- the number with which a connection that is asked for at a moment begins
+  pub starts : ℕ → ℕ
+  -- after so many milliseconds without an OPN it asks for another connection
+  pub wait : ℕ
+
+-- what a client by this clock goes by
+abbrev pub clock_pace : (ℕ → Type 0) → Beginning → Pace
+clock_pace Shows beginning = record { Shows = IsMoment Shows beginning; starts = number_of beginning; wait = OPEN_MILLIS }

@@ -1,0 +1,119 @@
+-- What a client's connection says and is told.
+use Rattle.std.specs.Prelude.{◌≡◌, ◌≤◌, ◌⊎◌, ℕ, ◌+◌, Bool, true, false, List, [], ◌∷◌, ◌++◌, Option, Some, None}
+use Rattle.chaos_packet.specs.Item.{ItemView}
+use Rattle.chaos_packet.specs.Opcode.{op_data, op_eof}
+use Rattle.chaos_link.specs.Link.{QueueView}
+use Rattle.file_client.specs.Calls.{is_over}
+use Rattle.file_client.specs.Caller.{CallerView, Hears, Says, TurnsAt, all_read, asked, asked_again}
+use Rattle.file_client.specs.Pace.{Pace}
+use Rattle.file_client.specs.declared.limits.TheConstants.{COMMAND_TURNS, END_TURNS}
+
+-- A client's host, and the queue that its link is.
+pub record Talker : Type 0 where
+  pub caller : CallerView
+  pub queue : Option QueueView
+
+abbrev pub talker : CallerView → Option QueueView → Talker
+talker caller queue = record { caller = caller; queue = queue }
+
+-- the items that its connection wrote and the data that it was given, in order, and how many turns it took
+pub record Talk : Type 0 where
+  pub said : List ItemView
+  pub heard : List (List ℕ)
+  pub turns : ℕ
+
+abbrev pub silence : Talk
+silence = record { said = []; heard = []; turns = 0 }
+
+-- one after the other
+abbrev pub and_later : Talk → Talk → Talk
+and_later first later = record { said = first.said ++ later.said; heard = first.heard ++ later.heard; turns = first.turns + later.turns }
+
+-- ---- what a client does
+
+pub data Step : Type 0 where
+  Calls : (now : ℕ) → Step
+  Writes : (item : ItemView) → (now : ℕ) → (taken : Bool) → Step
+  Reads : (got : Option (List ℕ)) → Step
+  Turns : (now : ℕ) → Step
+
+-- what a step adds to the talk: an item that is taken, data that are read, a turn
+abbrev pub and_then : Talk → Step → Talk
+and_then talk (Calls now) = talk
+and_then talk (Writes item now true) = record talk { said = talk.said ++ item ∷ [] }
+and_then talk (Writes item now false) = talk
+and_then talk (Reads None) = talk
+and_then talk (Reads (Some bytes)) = record talk { heard = talk.heard ++ bytes ∷ [] }
+and_then talk (Turns now) = record talk { turns = talk.turns + 1 }
+
+abbrev pub talk_of : List Step → Talk
+talk_of [] = silence
+talk_of (step ∷ before) = and_then (talk_of before) step
+
+-- what was said where an item was or wasn't written before, and is or isn't now
+abbrev pub newly_said : Bool → Bool → ItemView → List ItemView
+newly_said false true item = item ∷ []
+newly_said was is item = []
+
+abbrev pub eof_item : ItemView
+eof_item = record { op = op_eof; body = [] }
+
+module _ (p : Pace) where
+  -- What a step makes of a client: it asks for a connection; it tries to write an item; it reads; it takes a turn, before which it asks
+  -- again where no OPN came for long.
+  abbrev pub Does : Talker → Step → Talker → Type 0
+  Does c (Calls now) d = p.Shows now × (c.caller.id ≡ None) × (d ≡ talker (asked (p.starts now) now c.caller) c.queue)
+  Does c (Writes item now taken) d = p.Shows now × Says item now taken c.caller d.caller × (d.queue ≡ c.queue)
+  Does c (Reads got) d = Hears got c.caller d.caller × (d.queue ≡ c.queue)
+  Does c (Turns now) d = p.Shows now × TurnsAt now c.queue d.queue (asked_again p now c.caller) d.caller
+
+  -- A client took these steps, the last one first.
+  abbrev pub Goes : Talker → List Step → Talker → Type 0
+  Goes first [] last = last ≡ first
+  Goes first (step ∷ before) last = (between : Talker) × Goes first before between × Does between step last
+
+  -- A client became another, and said and heard this meanwhile.
+  pub record Talks (first : Talker) (talk : Talk) (last : Talker) : Type 0 where
+    pub steps : List Step
+    pub goes : Goes first steps last
+    pub same : talk_of steps ≡ talk
+
+  -- An item was written where it wasn't before and was taken, and so many turns were taken.
+  abbrev pub WritesAndTurns : ℕ → Talker → ItemView → Bool → Bool → Talker → Type 0
+  WritesAndTurns turns first item was is last = (was ≡ true → is ≡ true) × Talks first (record { said = newly_said was is item; heard = []; turns = turns }) last
+
+-- So many turns were taken, or the connection has ended, or there is none.
+abbrev pub GivesUp : ℕ → Talk → Talker → Type 0
+GivesUp most talk last = (talk.turns ≡ most) ⊎ (is_over last.caller.host last.caller.id ≡ true)
+
+-- ---- one command
+
+abbrev pub command_item : List ℕ → ItemView
+command_item bytes = record { op = op_data; body = bytes }
+
+-- what is heard by one read
+abbrev pub hearing : Option (List ℕ) → Talk
+hearing None = silence
+hearing (Some bytes) = record silence { heard = bytes ∷ [] }
+
+-- The command was written, and this was read in answer; or nothing came within 1,000 turns, or the connection has ended.
+abbrev pub IsExchange : List ℕ → Option (List ℕ) → Talk → Talker → Type 0
+IsExchange command (Some reply) talk last = (talk.said ≡ command_item command ∷ []) × (talk.heard ≡ reply ∷ [])
+IsExchange command None talk last = (is_written : Bool) × (talk.said ≡ newly_said false is_written (command_item command)) × (talk.heard ≡ []) × GivesUp COMMAND_TURNS talk last
+
+abbrev pub Exchanges : Pace → Talker → List ℕ → Option (List ℕ) → Talker → Type 0
+Exchanges p first command reply last = (talk : Talk) × Talks p first talk last × IsExchange command reply talk last
+
+-- ---- a farewell
+
+-- The EOF was written or wasn't taken, and nothing was heard. It ended where the server had read all, after 100 turns, or where the
+-- connection had ended or there was none.
+pub record IsFarewell (talk : Talk) (last : Talker) : Type 0 where
+  pub is_written : Bool
+  pub said : talk.said ≡ newly_said false is_written eof_item
+  pub heard : talk.heard ≡ []
+  pub within : talk.turns ≤ END_TURNS
+  pub ends : GivesUp END_TURNS talk last ⊎ ((is_written ≡ true) × (all_read last.caller.host last.caller.id ≡ true))
+
+abbrev pub SaysFarewell : Pace → Talker → Talker → Type 0
+SaysFarewell p first last = (talk : Talk) × Talks p first talk last × IsFarewell talk last

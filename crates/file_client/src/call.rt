@@ -1,0 +1,161 @@
+//! A call to a FILE server over a link, by a clock.
+ghost use Rattle.std.specs.Prelude.{◌≡◌, ◌<◌, ◌≤◌, ◌⊎◌, Err, IfErr, IfOk, None, OnOk, option_map};
+ghost use Rattle.chaos_packet.specs.Count.{Rose};
+ghost use Rattle.chaos_packet.specs.Opcode.{op_data};
+ghost use Rattle.chaosd_copy.specs.Talk.{Turned, after_hear, after_say, counted};
+ghost use Rattle.file_client.specs.Calls.{is_over};
+ghost use Rattle.file_client.specs.Caller.{Connects, HangsUp, Hears, Says, TurnsAt, asked_again, new_caller};
+ghost use Rattle.chaosd_clock.specs.Clock.{BeginsBy, low_bits_of};
+ghost use Rattle.file_client.specs.Fault.{IsTurnFault};
+ghost use Rattle.file_client.specs.Pace.{clock_pace};
+ghost use Rattle.file_client.specs.Talk.{SaysFarewell, talker};
+
+use crate::client::Client;
+use crate::patience::NoReply;
+use crate::timed::Timed;
+use chaos_file::Reply;
+use chaos_link::{Carriage, Link};
+use chaos_packet::Opcode;
+use chaosd_clock::Dial;
+use chaosd_copy::Talk;
+use chaosd_io::RunFault;
+use std::alloc::Global;
+
+/// A client over a link to another process, by a clock, with the turns that it takes. It tells nothing of what was said and heard, since
+/// a network can't be known.
+#[derive(Drop)]
+pub struct Call<'a, C: Dial, L: Link> {
+    client: Client,
+    turns: Timed<'a, C, L>,
+}
+
+impl<'a, C: Dial, L: Link> Call<'a, C, L> {
+    /// The host `me`, which will ask the host `to` for connections, as [`Client::new`] says. Nothing is sent yet.
+    ///
+    /// # Errors
+    /// `ClockFault` and `NoMemory`.
+    pub fn new(
+        clock: &'a C,
+        alloc: Global,
+        link: &'a mut L,
+        me: u16,
+        to: u16,
+        window: u16,
+        carriage: Carriage,
+    ) -> Result<Self, RunFault>
+        requires { 0 < me }
+        ensures faults { IfErr result (λ fault. (fault ≡ RunFault.ClockFault) ⊎ (fault ≡ RunFault.NoMemory)) }
+        ensures begins { IfOk result (λ call. (call.turns.clock.now ≡ clock.now) × BeginsBy (C.shows clock.now) (C.dates clock.now) call.turns.beginning) }
+        ensures made { IfOk result (λ call. call.client.caller ≡ new_caller me to window carriage (low_bits_of call.turns.beginning)) }
+    {
+        let turns = Timed::new(clock, link)?;
+        let client = Client::new(alloc, &turns, me, to, window, carriage)?;
+        Ok(Call { client, turns })
+    }
+
+    /// Asks for a connection, in place of one that there was. It is open once the server has answered, within turns.
+    ///
+    /// # Errors
+    /// `ClockFault` and `LinkFault`.
+    pub fn connect(&mut self) -> Result<(), RunFault>
+        ensures faults { IfErr result (IsTurnFault (L.count self.new.turns.link.now)) }
+        ensures well { OnOk result (Connects (clock_pace (C.shows self.old.turns.clock.now) self.old.turns.beginning) self.new.client.now (L.queue self.old.turns.link.now) (L.queue self.new.turns.link.now) self.old.client.caller self.new.client.caller) }
+        ensures unfailed { OnOk result (L.count self.new.turns.link.now ≤ L.count self.old.turns.link.now) }
+        ensures same_server { (self.new.client.caller.to ≡ self.old.client.caller.to) × (self.new.client.caller.carriage ≡ self.old.client.caller.carriage) }
+        ensures same_clock { (self.new.turns.clock.now ≡ self.old.turns.clock.now) × (self.new.turns.beginning ≡ self.old.turns.beginning) }
+    {
+        self.client.connect(&mut self.turns)
+    }
+
+    /// Says farewell, as [`Client::end`] does: writes an EOF, and waits until the server has read all, 100 turns at most.
+    ///
+    /// # Errors
+    /// `ClockFault` and `LinkFault`.
+    pub fn end(&mut self) -> Result<(), RunFault>
+        ensures faults { IfErr result (IsTurnFault (L.count self.new.turns.link.now)) }
+        ensures talk { OnOk result (SaysFarewell (clock_pace (C.shows self.old.turns.clock.now) self.old.turns.beginning) (talker self.old.client.caller (L.queue self.old.turns.link.now)) (talker self.new.client.caller (L.queue self.new.turns.link.now))) }
+        ensures unfailed { OnOk result (L.count self.new.turns.link.now ≤ L.count self.old.turns.link.now) }
+    {
+        self.client.end(&mut self.turns)
+    }
+
+    /// Closes the connection, as [`Client::hang_up`] does.
+    ///
+    /// # Errors
+    /// `ClockFault` and `LinkFault`. The connection is given up also then.
+    pub fn hang_up(&mut self) -> Result<(), RunFault>
+        ensures faults { IfErr result (IsTurnFault (L.count self.new.turns.link.now)) }
+        ensures well { OnOk result (HangsUp (clock_pace (C.shows self.old.turns.clock.now) self.old.turns.beginning) (L.queue self.old.turns.link.now) (L.queue self.new.turns.link.now) self.old.client.caller self.new.client.caller) }
+        ensures unfailed { OnOk result (L.count self.new.turns.link.now ≤ L.count self.old.turns.link.now) }
+        ensures gone { self.new.client.caller.id ≡ None }
+        ensures same_server { (self.new.client.caller.to ≡ self.old.client.caller.to) × (self.new.client.caller.carriage ≡ self.old.client.caller.carriage) }
+        ensures same_clock { (self.new.turns.clock.now ≡ self.old.turns.clock.now) × (self.new.turns.beginning ≡ self.old.turns.beginning) }
+    {
+        self.client.hang_up(&mut self.turns)
+    }
+
+    /// Why no reply came, as [`Client::no_reply`] tells it.
+    pub fn no_reply(&mut self) -> NoReply
+        ensures { (self.new.client.caller ≡ self.old.client.caller) × (self.new.turns ≡ self.old.turns) }
+    {
+        self.client.no_reply()
+    }
+}
+
+impl<C: Dial, L: Link> Talk for Call<'_, C, L> {
+    ghost talked = { λ _. None };
+
+    /// It counts turns as far as they can be.
+    ghost course = { λ call. record { turns = counted call.client.count; moment = call.client.now; is_over = is_over call.client.caller.host call.client.caller.id; failures = L.count call.turns.link.now } };
+
+    /// A fault of the clock, or of the link, where it counts a failure.
+    ghost failed_by = { λ call. IsTurnFault (L.count call.turns.link.now) };
+
+    fn say(&mut self, command: &[u8]) -> bool
+        ensures talk { after_say result command.now None ≡ None }
+        ensures said { Says (record { op = op_data; body = command.now }) self.old.client.now result self.old.client.caller self.new.client.caller }
+        ensures still { self.new.client.count ≡ self.old.client.count }
+        ensures unfailed { L.count self.new.turns.link.now ≡ L.count self.old.turns.link.now }
+        ensures same { (self.new.turns ≡ self.old.turns) × (self.new.client.now ≡ self.old.client.now) }
+    {
+        self.client.write(Opcode::DATA, command)
+    }
+
+    fn hear(&mut self) -> Option<Reply>
+        ensures talk { after_hear (option_map (λ v. v.items) result) None ≡ None }
+        ensures heard { Hears (option_map (λ v. v.items) result) self.old.client.caller self.new.client.caller }
+        ensures still { self.new.client.count ≡ self.old.client.count }
+        ensures unfailed { L.count self.new.turns.link.now ≡ L.count self.old.turns.link.now }
+        ensures same { (self.new.turns ≡ self.old.turns) × (self.new.client.now ≡ self.old.client.now) }
+    {
+        let mut reply = Reply::new();
+        if !self.client.take(&mut reply) {
+            return None;
+        }
+        Some(reply)
+    }
+
+    /// As [`Client::turn`]: where no OPN came for 2 seconds another connection is asked for first.
+    fn turn(&mut self) -> Result<(), RunFault>
+        ensures faults { IfErr result (IsTurnFault (L.count self.new.turns.link.now)) }
+        ensures failed { result ≡ Err RunFault.LinkFault → Rose (L.count self.old.turns.link.now) (L.count self.new.turns.link.now) }
+        ensures well { OnOk result (TurnsAt self.new.client.now (L.queue self.old.turns.link.now) (L.queue self.new.turns.link.now) (asked_again (clock_pace (C.shows self.old.turns.clock.now) self.old.turns.beginning) self.new.client.now self.old.client.caller) self.new.client.caller) }
+        ensures moment { OnOk result ((clock_pace (C.shows self.old.turns.clock.now) self.old.turns.beginning).Shows self.new.client.now) }
+        ensures counted { Turned 1 (counted self.old.client.count) (counted self.new.client.count) }
+        ensures unfailed { OnOk result (L.count self.new.turns.link.now ≤ L.count self.old.turns.link.now) }
+        ensures same_server { (self.new.client.caller.to ≡ self.old.client.caller.to) × (self.new.client.caller.carriage ≡ self.old.client.caller.carriage) }
+        ensures same_clock { (self.new.turns.clock.now ≡ self.old.turns.clock.now) × (self.new.turns.beginning ≡ self.old.turns.beginning) }
+    {
+        self.client.turn(&mut self.turns)
+    }
+
+    fn moment(&self) -> u64 {
+        self.client.now
+    }
+
+    fn is_over(&self) -> bool
+        ensures { result ≡ is_over self.now.client.caller.host self.now.client.caller.id }
+    {
+        self.client.is_over()
+    }
+}

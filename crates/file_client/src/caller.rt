@@ -1,0 +1,202 @@
+//! A host that calls, by one connection after another.
+ghost use Rattle.std.specs.Prelude.{◌≡◌, ◌<◌, ◌≤◌, ◌↔◌, Err, IfErr, IfOk, OnOk, [], is_some, true};
+ghost use Rattle.file_client.specs.Calls.{is_over, taken};
+ghost use Rattle.file_client.specs.Caller.{Says, Hears, TurnsAt, all_read, asked, closed, is_asking, is_late, new_caller};
+ghost use Rattle.file_client.specs.Fault.{IsTurnFault};
+
+use crate::calls::{is_over, take_reply, write_item};
+use crate::indices::pass_indices;
+use crate::turns::Turns;
+use chaos_conn::{ConnConfig, State};
+use chaos_file::Reply;
+use chaos_host::{ConnId, Host, HostDelivered};
+use chaos_link::Carriage;
+use chaos_packet::{Opcode, Outbox, PktNum};
+use chaos_serve::CONTACT;
+use chaos_turn::TURN_ROOM;
+use chaosd_io::RunFault;
+use std::alloc::Global;
+use std::marker::Model;
+
+/// A host with the one connection that it has asked for last, and what waits to be sent.
+#[derive(Drop)]
+pub(crate) struct Caller {
+    host: Host,
+    out: Outbox,
+    /// The server's address.
+    to: u16,
+    /// How packets are sent.
+    carriage: Carriage,
+    id: Option<ConnId>,
+    /// The moment at which a connection was asked for last.
+    since: u64,
+}
+
+impl Model for Caller {
+    ghost use Rattle.std.specs.Prelude.{◌≡◌};
+    ghost use Rattle.file_client.specs.Caller.{CallerView};
+    ghost use Rattle.chaos_turn.specs.declared.limits.TheConstants.{TURN_ROOM};
+
+    ghost Value = { CallerView };
+
+    ghost view = { λ c. record { host = c.host; to = c.to; carriage = c.carriage; id = c.id; since = c.since; out = c.out } };
+
+    ghost invariant = { λ c. c.out.cap ≡ TURN_ROOM };
+}
+
+impl Caller {
+    /// The host `me`, which will ask the host `to` for connections and has none yet.
+    pub(crate) fn new(
+        alloc: Global,
+        me: u16,
+        to: u16,
+        window: u16,
+        carriage: Carriage,
+        passed: u8,
+    ) -> Result<Self, RunFault>
+        requires { 0 < me }
+        ensures faults { IfErr result (λ fault. fault ≡ RunFault.NoMemory) }
+        ensures made { IfOk result (λ caller. caller ≡ new_caller me to window carriage passed) }
+    {
+        let Ok(mut host) = Host::new(alloc, me, 1, ConnConfig::with_window(window)) else {
+            return Err(RunFault::NoMemory);
+        };
+        let Ok(mut out) = Outbox::new(alloc, TURN_ROOM) else {
+            return Err(RunFault::NoMemory);
+        };
+        pass_indices(&mut host, to, passed, &mut out);
+        Ok(Caller {
+            host,
+            out,
+            to,
+            carriage,
+            id: None,
+            since: 0,
+        })
+    }
+
+    /// Asks for a connection, where there is room for its RFC.
+    pub(crate) fn ask(&mut self, start: PktNum, now: u64)
+        ensures { self.new ≡ asked start now self.old }
+    {
+        self.since = now;
+        self.id = None;
+        if self.out.room() > 0 {
+            self.id = self
+                .host
+                .connect(self.to, CONTACT, start, now, &mut self.out)
+                .ok();
+        }
+    }
+
+    /// Closes the connection, where there is one, with an empty text, where there is room for its CLS.
+    pub(crate) fn close(&mut self)
+        ensures { self.new ≡ closed self.old }
+    {
+        let Some(id) = self.id else {
+            return;
+        };
+        self.id = None;
+        if self.out.room() > 0 {
+            let _ = self.host.close(id, b"", &mut self.out);
+        }
+    }
+
+    /// Whether a connection was asked for, and no OPN came.
+    fn is_asking(&self) -> bool
+        ensures { result ≡ is_asking self.now.host self.now.id }
+    {
+        match self.id {
+            Some(id) => matches!(self.host.state(id), Ok(State::RfcSent)),
+            None => false,
+        }
+    }
+
+    /// Whether a connection was asked for so many milliseconds ago, or more, and no OPN came.
+    pub(crate) fn is_late(&self, wait: u64, now: u64) -> bool
+        ensures { result ≡ is_late wait now self.now }
+    {
+        self.is_asking() && now.saturating_sub(self.since) >= wait
+    }
+
+    /// Whether there is a connection.
+    pub(crate) fn has_connection(&self) -> bool
+        ensures { result ≡ is_some self.now.id }
+    {
+        self.id.is_some()
+    }
+
+    /// Whether nothing waits to be sent.
+    pub(crate) fn has_sent_all(&self) -> bool
+        ensures { result ≡ true ↔ (self.now.out.packets ≡ []) }
+    {
+        self.out.room() == TURN_ROOM
+    }
+
+    /// Writes an item, where there is room for it and a packet more, and says whether the connection took it.
+    pub(crate) fn write(&mut self, op: Opcode, bytes: &[u8], now: u64) -> bool
+        ensures { Says (record { op = op; body = bytes.now }) now result self.old self.new }
+    {
+        if self.out.room() < 2 {
+            return false;
+        }
+        write_item(&mut self.host, self.id, op, bytes, now, &mut self.out)
+    }
+
+    /// Reads the next item, where there is room for what that sends, and says whether it is data, which are then left in the caller's
+    /// place.
+    pub(crate) fn read(&mut self, reply: &mut Reply) -> bool
+        ensures { Hears (taken result reply.new.items) self.old self.new }
+    {
+        if self.out.room() == 0 {
+            return false;
+        }
+        take_reply(&mut self.host, self.id, &mut self.out, reply)
+    }
+
+    /// Whether the connection has ended, or there is none.
+    pub(crate) fn is_over(&self) -> bool
+        ensures { result ≡ is_over self.now.host self.now.id }
+    {
+        is_over(&self.host, self.id)
+    }
+
+    /// Whether the server read all that was written.
+    pub(crate) fn is_drained(&self) -> bool
+        ensures { result ≡ all_read self.now.host self.now.id }
+    {
+        let Some(id) = self.id else {
+            return false;
+        };
+        match self.host.drained(id) {
+            Ok(drained) => drained,
+            Err(_) => false,
+        }
+    }
+
+    /// A turn, which may wait for a datagram or not.
+    pub(crate) fn turn<T: Turns>(
+        &mut self,
+        turns: &mut T,
+        now: u64,
+        told: &mut Option<HostDelivered>,
+        may_wait: bool,
+    ) -> Result<(), RunFault>
+        ensures turned { OnOk result (TurnsAt now (T.queue turns.old) (T.queue turns.new) self.old self.new) }
+        ensures same { (self.new.to ≡ self.old.to) × (self.new.carriage ≡ self.old.carriage) × (self.new.id ≡ self.old.id) }
+        ensures same_links { T.links turns.new ≡ T.links turns.old }
+        ensures same_time { T.time turns.new ≡ T.time turns.old }
+        ensures well { OnOk result (T.failures turns.new ≤ T.failures turns.old) }
+        ensures faults { IfErr result (IsTurnFault (T.failures turns.new)) }
+        ensures failed { result ≡ Err RunFault.LinkFault → T.failed turns.old turns.new }
+    {
+        turns.turn(
+            &mut self.host,
+            now,
+            &mut self.out,
+            told,
+            self.carriage,
+            may_wait,
+        )
+    }
+}

@@ -1,0 +1,84 @@
+//! What a client takes turns with.
+ghost use Rattle.std.specs.Prelude.{◌≡◌, ◌≤◌, ℕ, List, [], Err, Option, IfErr, IfOk, OnOk};
+ghost use Rattle.std.specs.Borrow.{GName};
+ghost use Rattle.chaos_link.specs.Link.{QueueView};
+ghost use Rattle.file_client.specs.Fault.{IsTurnFault};
+ghost use Rattle.file_client.specs.Pace.{Pace};
+ghost use Rattle.file_client.specs.Turn.{TakesTurn};
+
+use chaos_host::{Host, HostDelivered};
+use chaos_link::Carriage;
+use chaos_packet::{Outbox, PktNum};
+use chaos_turn::TURN_ROOM;
+use chaosd_io::RunFault;
+
+/// The turns of a client: what takes part in them beside its host, and the moments.
+pub trait Turns: Drop {
+    /// What tells the moments: a clock and its reading when the run began, where there is one.
+    ghost Time: { Type 0 };
+
+    ghost time: { Self → Time };
+
+    /// The moments that it may tell, the numbers that connections begin with, and how long an OPN is waited for.
+    ghost pace: { Time → Pace };
+
+    /// How many indices a new client passes over.
+    ghost passed: { Time → ℕ };
+
+    /// How many failures its links have counted, together.
+    ghost failures: { Self → ℕ };
+
+    /// That a link counted a failure from the one state to the other.
+    ghost failed: { Self → Self → Type 0 };
+
+    /// Which links these are: the names of the references to them.
+    ghost links: { Self → List GName };
+
+    /// The queue that the client's link is. `None` for a link that is none.
+    ghost queue: { Self → Option QueueView };
+
+    /// The moment, in milliseconds, of the next turn and of the calls before it.
+    ///
+    /// # Errors
+    /// `ClockFault` where it can't be told.
+    fn now(&self) -> Result<u64, RunFault>
+        ensures shown { IfOk result (λ now. (pace (time self.now)).Shows now) }
+        ensures faults { IfErr result (λ fault. fault ≡ RunFault.ClockFault) };
+
+    /// The number with which a connection that is asked for at this moment begins.
+    fn start(&self, now: u64) -> PktNum
+        ensures { result ≡ (pace (time self.now)).starts now };
+
+    /// The milliseconds without an OPN after which another connection is asked for.
+    fn wait(&self) -> u64
+        ensures { result ≡ (pace (time self.now)).wait };
+
+    /// How many indices a new client passes over, which an older process may have had.
+    fn passed(&self) -> u8
+        ensures { result ≡ passed (time self.now) };
+
+    /// One turn, of the client's host and of all that takes part. What waits in the outbox is sent by this carriage, and what became
+    /// of the last packet that came is left in `told`. The client's own turn may wait for a datagram where `may_wait` allows it.
+    ///
+    /// # Errors
+    /// `LinkFault` where a link failed in the turn, which went on to its end.
+    fn turn(
+        &mut self,
+        host: &mut Host,
+        now: u64,
+        out: &mut Outbox,
+        told: &mut Option<HostDelivered>,
+        carriage: Carriage,
+        may_wait: bool,
+    ) -> Result<(), RunFault>
+        requires { TURN_ROOM ≤ out.old.cap }
+        ensures turned { TakesTurn carriage now host.old host.new (queue self.old) (queue self.new) out.old out.new }
+        ensures sent { out.new ≡ record { packets = []; cap = out.old.cap } }
+        ensures same_links { links self.new ≡ links self.old }
+        ensures same_time { time self.new ≡ time self.old }
+        // It ends well only where no link's count rose.
+        ensures well { OnOk result (failures self.new ≤ failures self.old) }
+        // A fault of a link is told only where one failed, and failures were counted.
+        ensures faults { IfErr result (IsTurnFault (failures self.new)) }
+        ensures failed { result ≡ Err RunFault.LinkFault → failed self.old self.new };
+}
