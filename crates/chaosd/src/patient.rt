@@ -1,5 +1,8 @@
 //! A link and a talk that wait for a reply as long as a user wants.
 ghost use Rattle.std.specs.Prelude.{◌≡◌, ◌||◌, None};
+ghost use Rattle.chaos_packet.specs.Count.{with_failure};
+ghost use Rattle.chaos_link.specs.Link.{IsWithin};
+ghost use Rattle.chaos_link.specs.declared.limits.TheConstants.{LINK_ROOM};
 
 use chaos_file::Reply;
 use chaos_link::{LINK_ROOM, Link, Received, Sent};
@@ -18,13 +21,14 @@ struct Waits {
     spent: u64,
 }
 
-/// A link in which a thousand turns that wait take as many seconds as a user wants, or as long as those of the link behind it. It claims
-/// what that link claims.
+/// A link in which a thousand turns that wait take as many seconds as a user wants, or as long as those of the link behind it. It counts
+/// its own failures, since in one turn it may receive several times.
 #[derive(Drop)]
 pub(crate) struct Patient<'a, C: Dial, L> {
     clock: &'a C,
     inner: L,
     waits: Option<Waits>,
+    failures: u64,
 }
 
 impl<'a, C: Dial, L> Patient<'a, C, L> {
@@ -43,6 +47,7 @@ impl<'a, C: Dial, L> Patient<'a, C, L> {
             clock,
             inner,
             waits,
+            failures: 0,
         }
     }
 }
@@ -59,9 +64,15 @@ impl Waits {
         clock: &C,
         inner: &mut L,
         buffer: &mut [u8; LINK_ROOM],
-    ) -> Received {
+    ) -> Received
+        ensures within { IsWithin LINK_ROOM result }
+    {
         self.granted = self.granted.saturating_add(self.share);
-        while self.spent < self.granted {
+        // each wait spends a millisecond at least
+        for _ in self.spent..self.granted {
+            if self.spent >= self.granted {
+                break;
+            }
             let before = self.moment(clock);
             let got = inner.receive(buffer, true);
             let waited = self.moment(clock).saturating_sub(before);
@@ -76,24 +87,39 @@ impl Waits {
 }
 
 impl<C: Dial, L: Link> Link for Patient<'_, C, L> {
-    ghost count = { λ link. L.count link.inner };
+    ghost count = { λ link. link.failures };
 
     ghost queue = { λ _. None };
 
     fn send(&mut self, to_address: u16, bytes: &[u8]) -> Sent {
-        self.inner.send(to_address, bytes)
+        let sent = self.inner.send(to_address, bytes);
+        if sent == Sent::Failed {
+            count_failure(&mut self.failures);
+        }
+        sent
     }
 
     fn receive(&mut self, buffer: &mut [u8; LINK_ROOM], may_wait: bool) -> Received {
-        match &mut self.waits {
+        let got = match &mut self.waits {
             Some(waits) if may_wait => waits.receive(self.clock, &mut self.inner, buffer),
             _ => self.inner.receive(buffer, may_wait),
+        };
+        if got == Received::Failed {
+            count_failure(&mut self.failures);
         }
+        got
     }
 
     fn failures(&self) -> u64 {
-        self.inner.failures()
+        self.failures
     }
+}
+
+/// One failure more. The greatest number stands for that many and more.
+fn count_failure(failures: &mut u64)
+    ensures { failures.new ≡ with_failure failures.old }
+{
+    *failures = failures.saturating_add(1);
 }
 
 /// A talk that is over where no reply came for as long as a user wants.

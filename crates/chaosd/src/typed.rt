@@ -1,5 +1,6 @@
 //! A script as it is typed.
-ghost use Rattle.std.specs.Prelude.{◌≡◌, ◌≤◌, length};
+ghost use Rattle.std.specs.Prelude.{◌≡◌, ◌≤◌, ◌+◌, length, IfOk};
+ghost use Rattle.std.specs.Counts.{IsPrefixLen};
 
 use crate::terminals::Terminals;
 use chaosd_told::{Notes, why_text};
@@ -78,11 +79,14 @@ impl<'a, R: Eprint, I: Read> Typed<'a, R, I> {
         let _ = eprint!(self.rt; "> ");
     }
 
-    /// Whether the line is left out, which is told.
-    fn is_left_out(&self, line: &[u8]) -> bool {
-        if !self.is_typed {
+    /// Whether the line of this length that is given next is left out, which is told.
+    fn is_left_out(&self, length: usize) -> bool
+        requires { self.now.given + length ≤ self.now.came }
+    {
+        if !self.is_typed || length == 0 {
             return false;
         }
+        let line = &self.chunk[self.given..self.given + length];
         match why_text(bare(line), 0) {
             Some(why) => {
                 let _ = eprintln!(self.rt; "chaosd: not sent: {why}");
@@ -105,7 +109,9 @@ impl<'a, R: Eprint, I: Read> Typed<'a, R, I> {
     }
 
     /// Gives the next line, or as much of it as there is room for.
-    fn give(&mut self, buf: &mut [u8]) -> io::Result<usize> {
+    fn give(&mut self, buf: &mut [u8]) -> io::Result<usize>
+        ensures bound { IfOk result (λ n. IsPrefixLen n buf.new) }
+    {
         for _ in 0..u64::MAX {
             if self.is_strict && self.notes.has_error.get() {
                 return Ok(0);
@@ -113,15 +119,14 @@ impl<'a, R: Eprint, I: Read> Typed<'a, R, I> {
             if self.given == self.came {
                 self.fill()?;
             }
-            let rest = &self.chunk[self.given..self.came];
-            let length = line_length(rest).min(buf.len());
-            let line = &rest[..length];
-            if line.is_empty() || !self.is_left_out(line) {
-                buf[..length].copy_from_slice(line);
-                self.given += length;
+            let length = line_length(&self.chunk[self.given..self.came]).min(buf.len());
+            let is_left_out = self.is_left_out(length);
+            let from = self.given;
+            self.given += length;
+            if !is_left_out {
+                buf[..length].copy_from_slice(&self.chunk[from..from + length]);
                 return Ok(length);
             }
-            self.given += length;
         }
         Ok(0)
     }
