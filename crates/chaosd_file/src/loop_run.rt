@@ -157,12 +157,42 @@ pub fn run_loop<R: Read, W: Write, A: Link, B: Link>(
 {
     let mut server = Server::new(alloc, LOOP_SERVER, ConnConfig::usual(), carriage)?;
     let mut store = MemStore::new(alloc);
+    run_between(
+        alloc,
+        reader,
+        writer,
+        link_a,
+        link_b,
+        &mut server,
+        &mut store,
+        why,
+        carriage,
+    )
+}
+
+/// Runs a script between a new client and this server.
+fn run_between<R: Read, W: Write, A: Link, B: Link>(
+    alloc: Global,
+    reader: &mut R,
+    writer: &mut W,
+    near: &mut A,
+    far: &mut B,
+    server: &mut Server,
+    store: &mut MemStore,
+    why: &mut Option<Why>,
+    carriage: Carriage,
+) -> Result<ScriptEnd, RunFault>
+    ensures runs { Runs (R.remaining reader.old) (R.remaining reader.new) (W.contents writer.old) (W.contents writer.new) result }
+    ensures talk { IfOk result (λ end. Converses loop_pace (talker (new_caller LOOP_CLIENT LOOP_SERVER SCRIPT_WINDOW carriage 0) (A.queue near.old)) (A.queue near.new) (R.remaining reader.old) (W.contents writer.old) (W.contents writer.new) end) }
+    ensures well { OnOk result (A.count near.new + B.count far.new ≤ A.count near.old + B.count far.old) }
+    ensures failed { result ≡ Err RunFault.LinkFault → 0 < A.count near.new + B.count far.new }
+{
     let mut turns = Both {
         alloc,
-        near: link_a,
-        far: link_b,
-        server: &mut server,
-        store: &mut store,
+        near,
+        far,
+        server,
+        store,
         turns: 0,
         buffer: [0; LINK_ROOM],
         is_idle: false,
