@@ -86,8 +86,11 @@ class Whole(Case):
                 self.check(f"serve --carriage {version}, put and get --carriage {own}", problems)
 
     def test_a_copy_needs_little_of_the_stack(self):
+        # a program with checks takes more of it
+        stack = 262_144 if IS_CHECKED else 131_072
+
         def limited():
-            resource.setrlimit(resource.RLIMIT_STACK, (131_072, 131_072))
+            resource.setrlimit(resource.RLIMIT_STACK, (stack, stack))
 
         content = mixed_content(FILE_LIMIT)
         with serving() as server, folder() as here:
@@ -96,7 +99,7 @@ class Whole(Case):
             for subcommand, name, seen in [("put", "UP", server.folder / "UP"), ("get", "DOWN", here / "DOWN")]:
                 ended = copied(server, subcommand, name, cwd=here, prepare=limited)
                 problems = ended.problems(DONE) + stored_problems(seen, content)
-                self.check(f"{subcommand} of 1 MiB with a stack of 128 KiB", problems)
+                self.check(f"{subcommand} of 1 MiB with a stack of {stack // 1024} KiB", problems)
 
 
 class Windows(Case):

@@ -150,7 +150,8 @@ class Files:
             told = b"chaosd: SUB: STF Store fault.\nchaosd: BIG has more than 1048576 bytes\n"
             ended = ran(self.client, ["put", *host.words(), "SUB", "BIG", "T"], cwd=here)
             self.check(self.named("put of what can't be put"), ended.problems(REFUSED, b"", told) + stored_problems(host.folder / "T", b"\x8d"))
-            told = b"chaosd: T has a byte 8D, which --text would not give back; leave --text out\n"
+            place = b" at line 1, byte 1" if self.client == FIRST else b""
+            told = b"chaosd: T has a byte 8D%s, which --text would not give back; leave --text out\n" % place
             ended = ran(self.client, ["put", "--text", *host.words(), "T"], cwd=here)
             self.check(self.named("put --text of a byte that wouldn't come back"), ended.problems(REFUSED, b"", told))
 

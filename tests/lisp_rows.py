@@ -58,7 +58,10 @@ class Played:
         self.index, self.number = self.request[1][3], self.request[1][4]
 
     def next(self):
-        return packets_of(self.socket.recv(2_048))[0]
+        """The next packet: an empty datagram, by which chaosd asks whether anybody listens, has none."""
+        while not (received := self.socket.recv(2_048)):
+            pass
+        return packets_of(received)[0]
 
     def next_of(self, op):
         """The next packet of an opcode: others, as what is sent again, are passed over."""
@@ -292,7 +295,8 @@ class Alike(Case):
                 process = begun(FIRST, ["ask", address, own, "401", server], stdin=subprocess.PIPE)
                 ended = finished(process, script)
                 kept = {path.name: path.read_bytes() for path in host.folder.iterdir() if path.name != ".new"}
-                seen[which] = (ended.out.splitlines(), kept, ended.problems(DONE, None, b""))
+                told = b"".join(b"chaosd: handle %s was written and not closed, so its file was not kept\n" % name for name in [b"H2", b"h"])
+                seen[which] = (ended.out.splitlines(), kept, ended.problems(DONE, None, told))
         first, other = seen[FIRST], seen[SECOND]
         lines = script.splitlines()
         problems = first[2] + other[2] + ([] if len(first[0]) == len(lines) else [f"{len(first[0])} replies"])

@@ -112,17 +112,23 @@ class Network(threading.Thread):
     def unlucky(self):
         return self.random.randrange(100) < self.bad
 
+    def take(self, seen, source):
+        """Hands a datagram of either end on, as often and when it comes. One of another port is nobody's."""
+        port = source[1]
+        if port not in self.other:
+            return
+        self.sent[port].append(seen)
+        for _ in range(0 if self.unlucky() else 2 if self.unlucky() else 1):
+            if self.unlucky():
+                self.late.append((time.monotonic() + self.random.random() * 0.06, seen, self.other[port]))
+            else:
+                self.socket.sendto(seen, ("127.0.0.1", self.other[port]))
+
     def run(self):
         with contextlib.suppress(OSError, ValueError):
             while True:
                 if select.select([self.socket], [], [], 0.005)[0]:
-                    seen, (_, port) = self.socket.recvfrom(2_048)
-                    self.sent[port].append(seen)
-                    for _ in range(0 if self.unlucky() else 2 if self.unlucky() else 1):
-                        if self.unlucky():
-                            self.late.append((time.monotonic() + self.random.random() * 0.06, seen, self.other[port]))
-                        else:
-                            self.socket.sendto(seen, ("127.0.0.1", self.other[port]))
+                    self.take(*self.socket.recvfrom(2_048))
                 due = [one for one in self.late if one[0] <= time.monotonic()]
                 self.late = [one for one in self.late if one not in due]
                 for _, seen, port in due:

@@ -16,6 +16,7 @@ use chaosd_line::Ask;
 use chaosd_told::{Name, Notes, Replies};
 use file_client::Shown;
 use std::io;
+use std::io::{Read, Write};
 use std::net::{Net, SocketAddr, SocketAddrV4, UdpSocket};
 use std::time::Clock;
 
@@ -67,9 +68,22 @@ fn ask_over<R: AllocGlobal + Clock + Eprint + Input + Print, L: Link>(
 ) -> Answered {
     let notes = Notes::new();
     let mut reader = rt.reader();
-    let mut typed = Typed::new(rt, &mut reader, &notes, asked.is_strict, terminals);
     let mut writer = io::writer(rt);
-    let mut replies = Replies::new(&mut writer, &notes);
+    ask_through(rt, link, asked, terminals, &notes, &mut reader, &mut writer)
+}
+
+/// Puts the reader's script over the link, and its replies into the writer.
+fn ask_through<'a, R: AllocGlobal + Clock + Eprint, L: Link, I: Read, W: Write>(
+    rt: &'a R,
+    link: &mut L,
+    asked: &Asked,
+    terminals: Terminals,
+    notes: &'a Notes,
+    reader: &'a mut I,
+    writer: &'a mut W,
+) -> Answered {
+    let mut typed = Typed::new(rt, reader, notes, asked.is_strict, terminals);
+    let mut replies = Replies::new(writer, notes);
     let mut why = None;
     let end = run_ask(
         rt,

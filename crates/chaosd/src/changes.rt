@@ -2,10 +2,12 @@
 use crate::dialog::CallDialog;
 use crate::file_words::{CHANGE_UNKNOWN, FileWords};
 use crate::network::link_to_server;
+use crate::patient::Patient;
 use crate::progress::ProgressLine;
 use crate::run_ends::{tell_unbegun, tell_unopened};
 use crate::waiting::Waiting;
 use chaos_file::MAX_PATH;
+use chaos_link::UdpLink;
 use chaosd_clock::Dial;
 use chaosd_copies::{
     Deletes, Dialog, ExitStatus, Outcome, Session, Target, Teller, Viewer, run_copies,
@@ -14,7 +16,7 @@ use chaosd_line::{Delete, Rename};
 use std::net::Net;
 
 /// Whoever tells of changes: of one that was made nothing.
-fn words_of<'a, R: Eprint>(rt: &'a R) -> FileWords<'a, R> {
+fn words_of<'a, R: Eprint>(rt: &'a R) -> FileWords<'a, 'static, R> {
     FileWords {
         rt,
         is_told: false,
@@ -29,12 +31,25 @@ where
     R: AllocGlobal + Dial + Eprint + Net,
 {
     let calling = &line.calling;
-    let mut link = match link_to_server(rt, calling) {
-        Ok(link) => link,
-        Err(error) => return tell_unopened(rt, &calling.socket, &error),
-    };
     let waiting = Waiting::new(rt, calling.server, is_terminal);
-    let dialog = match CallDialog::new(rt, &mut link, calling, &waiting) {
+    match link_to_server(rt, calling) {
+        Ok(mut link) => delete_over(&*rt, &mut link, &waiting, line),
+        Err(error) => tell_unopened(rt, &calling.socket, &error),
+    }
+}
+
+/// Deletes files over a link.
+fn delete_over<'a, 'r, R>(
+    rt: &'a R,
+    link: &'a mut Patient<'r, R, UdpLink>,
+    waiting: &'a Waiting<'r, R>,
+    line: &Delete<'_>,
+) -> ExitStatus
+where
+    R: AllocGlobal + Dial + Eprint + Net,
+{
+    let calling = &line.calling;
+    let dialog = match CallDialog::new(rt, link, calling, waiting) {
         Ok(dialog) => dialog,
         Err(fault) => return tell_unbegun(rt, fault),
     };
@@ -64,12 +79,25 @@ where
     R: AllocGlobal + Dial + Eprint + Net,
 {
     let calling = &line.calling;
-    let mut link = match link_to_server(rt, calling) {
-        Ok(link) => link,
-        Err(error) => return tell_unopened(rt, &calling.socket, &error),
-    };
     let waiting = Waiting::new(rt, calling.server, is_terminal);
-    let dialog = match CallDialog::new(rt, &mut link, calling, &waiting) {
+    match link_to_server(rt, calling) {
+        Ok(mut link) => rename_over(&*rt, &mut link, &waiting, line),
+        Err(error) => tell_unopened(rt, &calling.socket, &error),
+    }
+}
+
+/// Renames a file over a link.
+fn rename_over<'a, 'r, R>(
+    rt: &'a R,
+    link: &'a mut Patient<'r, R, UdpLink>,
+    waiting: &'a Waiting<'r, R>,
+    line: &Rename<'_>,
+) -> ExitStatus
+where
+    R: AllocGlobal + Dial + Eprint + Net,
+{
+    let calling = &line.calling;
+    let dialog = match CallDialog::new(rt, link, calling, waiting) {
         Ok(dialog) => dialog,
         Err(fault) => return tell_unbegun(rt, fault),
     };

@@ -5,9 +5,11 @@ ghost use Rattle.chaosd.specs.Paths.{path_under};
 use crate::dialog::CallDialog;
 use crate::file_words::{FileWords, PUT_UNKNOWN};
 use crate::network::{has_input, link_to_server};
+use crate::patient::Patient;
 use crate::progress::ProgressLine;
 use crate::run_ends::{tell_unbegun, tell_unopened};
 use crate::waiting::Waiting;
+use chaos_link::UdpLink;
 use chaosd_clock::Dial;
 use chaosd_copies::{Disk, ExitStatus, FilePath, Gets, Naming, Puts, Session, Target, run_copies};
 use chaosd_io::RunFault;
@@ -45,29 +47,43 @@ where
 {
     let copying = &line.copying;
     let calling = &copying.calling;
-    let mut link = match link_to_server(rt, calling) {
-        Ok(link) => link,
-        Err(error) => return tell_unopened(rt, &calling.socket, &error),
-    };
     let waiting = Waiting::new(rt, calling.server, is_terminal && !copying.is_quiet);
-    let dialog = match CallDialog::new(rt, &mut link, calling, &waiting) {
+    match link_to_server(rt, calling) {
+        Ok(mut link) => get_over(&*rt, &mut link, &waiting, line, is_terminal),
+        Err(error) => tell_unopened(rt, &calling.socket, &error),
+    }
+}
+
+/// Gets files over a link.
+fn get_over<'a, 'r, R>(
+    rt: &'a R,
+    link: &'a mut Patient<'r, R, UdpLink>,
+    waiting: &'a Waiting<'r, R>,
+    line: &Get<'_>,
+    is_terminal: bool,
+) -> ExitStatus
+where
+    R: AllocGlobal + Dial + Eprint + Files<File = File> + Input + Net + Print,
+{
+    let copying = &line.copying;
+    let calling = &copying.calling;
+    let dialog = match CallDialog::new(rt, link, calling, waiting) {
         Ok(dialog) => dialog,
         Err(fault) => return tell_unbegun(rt, fault),
     };
-    let target = Target::of(line.output);
     let progress = progress_of(rt, copying, is_terminal);
     let mut gets = Gets {
         alloc: rt.alloc(),
         session: Session::new(dialog, progress, calling.login),
         locals: Disk::new(rt, calling.socket.port()),
-        target,
+        target: Target::of(line.output),
         is_text: copying.is_text,
         is_digested: copying.is_verbose,
     };
     let mut words = FileWords {
         rt,
         is_told: is_told(copying, is_terminal),
-        target,
+        target: Target::of(line.output),
         unknown: PUT_UNKNOWN,
     };
     let status = run_copies(&mut gets, &mut words, line.paths.as_slice());
@@ -111,12 +127,27 @@ where
     }
     let copying = &line.copying;
     let calling = &copying.calling;
-    let mut link = match link_to_server(rt, calling) {
-        Ok(link) => link,
-        Err(error) => return tell_unopened(rt, &calling.socket, &error),
-    };
     let waiting = Waiting::new(rt, calling.server, is_terminal && !copying.is_quiet);
-    let dialog = match CallDialog::new(rt, &mut link, calling, &waiting) {
+    match link_to_server(rt, calling) {
+        Ok(mut link) => put_over(&*rt, &mut link, &waiting, line, is_terminal),
+        Err(error) => tell_unopened(rt, &calling.socket, &error),
+    }
+}
+
+/// Puts files over a link.
+fn put_over<'a, 'r, R>(
+    rt: &'a R,
+    link: &'a mut Patient<'r, R, UdpLink>,
+    waiting: &'a Waiting<'r, R>,
+    line: &Put<'_>,
+    is_terminal: bool,
+) -> ExitStatus
+where
+    R: AllocGlobal + Dial + Eprint + Files<File = File> + Input + Net + Print,
+{
+    let copying = &line.copying;
+    let calling = &copying.calling;
+    let dialog = match CallDialog::new(rt, link, calling, waiting) {
         Ok(dialog) => dialog,
         Err(fault) => return tell_unbegun(rt, fault),
     };

@@ -15,9 +15,9 @@ use file_client::Call;
 
 /// A dialog with a server over a call, which claims what the call does. It is over too where nobody listens where the server is to be.
 #[derive(Drop)]
-pub(crate) struct CallDialog<'a, C: Dial> {
-    call: Hurried<Call<'a, C, Patient<'a, C, UdpLink>>>,
-    waiting: &'a Waiting<'a, C>,
+pub(crate) struct CallDialog<'a, 'r, C: Dial> {
+    call: Hurried<Call<'a, C, Patient<'r, C, UdpLink>>>,
+    waiting: &'a Waiting<'r, C>,
     /// Whether nobody listens there, as the last turn found.
     is_refused: bool,
     /// How many commands were said to which no reply was heard.
@@ -25,13 +25,13 @@ pub(crate) struct CallDialog<'a, C: Dial> {
     client: Peer,
 }
 
-impl<'a, C: AllocGlobal + Dial + Eprint> CallDialog<'a, C> {
+impl<'a, 'r, C: AllocGlobal + Dial + Eprint> CallDialog<'a, 'r, C> {
     /// Nothing is sent yet.
     pub(crate) fn new(
         rt: &'a C,
-        link: &'a mut Patient<'a, C, UdpLink>,
+        link: &'a mut Patient<'r, C, UdpLink>,
         calling: &Calling<'_>,
-        waiting: &'a Waiting<'a, C>,
+        waiting: &'a Waiting<'r, C>,
     ) -> Result<Self, RunFault> {
         let client = Peer {
             address: calling.address,
@@ -56,7 +56,7 @@ impl<'a, C: AllocGlobal + Dial + Eprint> CallDialog<'a, C> {
     }
 }
 
-impl<C: Dial + Eprint> Talk for CallDialog<'_, C> {
+impl<C: Dial + Eprint> Talk for CallDialog<'_, '_, C> {
     ghost talked = { λ dialog. ⟦<Hurried<Call<'static, C, Patient<'static, C, UdpLink>>> as Talk>⟧.talked dialog.call };
 
     ghost course = { λ dialog. over_where dialog.is_refused (⟦<Hurried<Call<'static, C, Patient<'static, C, UdpLink>>> as Talk>⟧.course dialog.call) };
@@ -94,7 +94,7 @@ impl<C: Dial + Eprint> Talk for CallDialog<'_, C> {
     }
 }
 
-impl<C: Dial + Eprint> Dialog for CallDialog<'_, C> {
+impl<C: Dial + Eprint> Dialog for CallDialog<'_, '_, C> {
     type Why = Unanswered;
 
     fn begin(&mut self) -> Result<(), RunFault> {

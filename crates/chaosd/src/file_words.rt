@@ -9,12 +9,12 @@ use std::{fmt, io};
 
 /// Tells on standard error what came of each file.
 #[derive(Drop)]
-pub(crate) struct FileWords<'a, R: Eprint> {
+pub(crate) struct FileWords<'a, 't, R: Eprint> {
     pub(crate) rt: &'a R,
     /// Whether a file that was copied is told.
     pub(crate) is_told: bool,
     /// Where files go that are got.
-    pub(crate) target: Target<'a>,
+    pub(crate) target: Target<'t>,
     /// What is told of a file where it isn't known whether it was done with it what was asked for.
     pub(crate) unknown: &'static str,
 }
@@ -97,7 +97,7 @@ fn error_text(reply: &Reply) -> &[u8] {
     words.next().unwrap_or(bytes)
 }
 
-impl<W: Display, R: Eprint> Teller<W> for FileWords<'_, R> {
+impl<W: Display, R: Eprint> Teller<W> for FileWords<'_, '_, R> {
     ghost told = { λ _. None };
 
     fn tell(&mut self, name: &str, outcome: &Outcome<W>) {
