@@ -38,14 +38,17 @@ module _ {A : Type 0} where
 
 at_most_keeps : (v : ConnView) (most : Option ℕ) (item : ItemView) (t : ℕ) → KeepsConfig v (write_at_most v most item t)
 at_most_keeps v None item t = refl
-at_most_keeps v (Some most) item t = either (KeepsConfig v) (nat_lt most (length item.body)) _ _ refl (either (KeepsConfig v) (has_window v.send) _ _ refl refl)
+at_most_keeps v (Some most) item t =
+    either (KeepsConfig v) (nat_lt most (length item.body)) _ _ refl
+    (either (KeepsConfig v) (has_window v.send) _ _ refl refl)
 
 open_front : (v : ConnView) (front : Option ItemView) → KeepsConfig v (read_at_open v front)
 open_front v None = refl
 open_front v (Some item) =
     let w : ConnView = record v { recv = after_advance v.recv; untold = v.untold + 1 } in
     let told : KeepsConfig v (with_sts w (end.Item item)) = refl in
-    either (KeepsConfig v) (nat_le w.recv.window (3 * w.untold)) (with_sts w (end.Item item)) (quietly w (end.Item item)) told refl
+    either (KeepsConfig v) (nat_le w.recv.window (3 * w.untold)) (with_sts w (end.Item item))
+    (quietly w (end.Item item)) told refl
 
 end_front : (v : ConnView) (front : Option ItemView) → KeepsConfig v (read_at_end v front)
 end_front v None = refl
@@ -64,19 +67,23 @@ away_keeps v op bytes =
 
 -- ---- packets that come
 
-opn_keeps : (v : ConnView) (p : PacketView) (now : ℕ) (told : Option (ℕ × ℕ)) → KeepsConfig v (after_opn_telling v p now told)
+opn_keeps : (v : ConnView) (p : PacketView) (now : ℕ) (told : Option (ℕ × ℕ))
+    → KeepsConfig v (after_opn_telling v p now told)
 opn_keeps v p now None = refl
 opn_keeps v p now (Some told) = refl
 
-second_opn_keeps : (v : ConnView) (p : PacketView) (now : ℕ) (told : Option (ℕ × ℕ)) → KeepsConfig v (after_second_opn_telling v p now told)
+second_opn_keeps : (v : ConnView) (p : PacketView) (now : ℕ) (told : Option (ℕ × ℕ))
+    → KeepsConfig v (after_second_opn_telling v p now told)
 second_opn_keeps v p now None = refl
 second_opn_keeps v p now (Some told) = refl
 
-sts_keeps : (v : ConnView) (p : PacketView) (now : ℕ) (told : Option (ℕ × ℕ)) → KeepsConfig v (after_sts_telling v p now told)
+sts_keeps : (v : ConnView) (p : PacketView) (now : ℕ) (told : Option (ℕ × ℕ))
+    → KeepsConfig v (after_sts_telling v p now told)
 sts_keeps v p now None = refl
 sts_keeps v p now (Some told) = refl
 
-arrived_keeps : (v u : ConnView) (a : Arrived) (number : ℕ) (item : ItemView) → u.config ≡ v.config → KeepsConfig v (after_arrived u a number item)
+arrived_keeps : (v u : ConnView) (a : Arrived) (number : ℕ) (item : ItemView) → u.config ≡ v.config
+    → KeepsConfig v (after_arrived u a number item)
 arrived_keeps v u arr.Took number item e = e
 arrived_keeps v u arr.Duplicate number item e = e
 arrived_keeps v u arr.Outside number item e = e
@@ -121,7 +128,8 @@ open_keeps v p now kind.Sns = refl
 open_keeps v p now kind.Sts = sts_keeps v p now (status_of p)
 open_keeps v p now kind.Los = refl
 open_keeps v p now kind.Lsn = refl
-open_keeps v p now kind.Eof = arrived_keeps v (heard_with_ack v p now) (arrival_of v.recv p.num) p.num (record { op = p.op; body = [] }) refl
+open_keeps v p now kind.Eof =
+    arrived_keeps v (heard_with_ack v p now) (arrival_of v.recv p.num) p.num (record { op = p.op; body = [] }) refl
 open_keeps v p now kind.Unc = refl
 open_keeps v p now kind.Data = arrived_keeps v (heard_with_ack v p now) (arrival_of v.recv p.num) p.num (item_of p) refl
 open_keeps v p now kind.Other = refl
@@ -155,22 +163,39 @@ rfc_keeps v p now =
 
 deliver_keeps : (v : ConnView) (p : PacketView) (now : ℕ) → KeepsConfig v (act_deliver v p now)
 deliver_keeps v p now =
-    either (KeepsConfig v) (not (is_live v.state)) _ _ refl (either (KeepsConfig v) (not (is_between_hosts v p)) _ _ refl
-    (either (KeepsConfig v) (is_rfc (kind_of p.op)) _ _ (rfc_keeps v p now) (either (KeepsConfig v) (not (is_between_indices v p)) _ _ refl (in_keeps v p now v.state))))
+    either (KeepsConfig v) (not (is_live v.state)) _ _ refl
+    (either (KeepsConfig v) (not (is_between_hosts v p)) _ _ refl
+    (either (KeepsConfig v) (is_rfc (kind_of p.op)) _ _ (rfc_keeps v p now)
+    (either (KeepsConfig v) (not (is_between_indices v p)) _ _ refl (in_keeps v p now v.state))))
 
 pub config_stays : ConfigStays
 config_stays v (Request me peer contact start now) =
-    either (KeepsConfig v) (nat_lt MAX_DATA (length contact)) _ _ refl (either (KeepsConfig v) (is_inactive v.state) _ _ (either (KeepsConfig v) (me.address == 0 || peer == 0) _ _ refl refl) refl)
+    either (KeepsConfig v) (nat_lt MAX_DATA (length contact)) _ _ refl
+    (either (KeepsConfig v) (is_inactive v.state) _ _
+    (either (KeepsConfig v) (me.address == 0 || peer == 0) _ _ refl refl) refl)
 config_stays v (TakeRequest rfc me now) =
-    either (KeepsConfig v) (is_inactive v.state) _ _ (either (KeepsConfig v) (me.address == 0 || rfc.src == 0) _ _ refl (either (KeepsConfig v) (is_rfc (kind_of rfc.op)) _ _ refl refl)) refl
+    either (KeepsConfig v) (is_inactive v.state) _ _
+    (either (KeepsConfig v) (me.address == 0 || rfc.src == 0) _ _ refl
+    (either (KeepsConfig v) (is_rfc (kind_of rfc.op)) _ _ refl refl))
+    refl
 config_stays v (Accept start now) = either (KeepsConfig v) (is_requested v.state) _ _ refl refl
 config_stays v (Answer bytes) = away_keeps v op_ans bytes
 config_stays v (Reject text) = away_keeps v op_cls text
 config_stays v (Deliver p now) = deliver_keeps v p now
-config_stays v (Write op bytes now) = either (KeepsConfig v) (is_open v.state) _ _ (at_most_keeps v (most_bytes (kind_of op)) (record { op = op; body = bytes }) (moment v now)) refl
-config_stays v (Unc bytes) = either (KeepsConfig v) (is_open v.state) _ _ (either (KeepsConfig v) (nat_lt MAX_DATA (length bytes)) _ _ refl refl) refl
-config_stays v Read = either (KeepsConfig v) (is_opening v.state) _ _ refl (either (KeepsConfig v) (is_open v.state) _ _ (open_front v (front_of v)) (end_front v (front_of v)))
-config_stays v FinishRead = either (KeepsConfig v) (is_opening v.state) _ _ refl (either (KeepsConfig v) (is_open v.state) _ _ (open_front v (front_of v)) (end_front v (front_of v)))
-config_stays v (Announce window) = either (KeepsConfig v) (is_open v.state) _ _ (either (KeepsConfig v) (nat_lt v.config.recv_cap window) _ _ refl refl) refl
+config_stays v (Write op bytes now) =
+    either (KeepsConfig v) (is_open v.state) _ _
+    (at_most_keeps v (most_bytes (kind_of op)) (record { op = op; body = bytes }) (moment v now)) refl
+config_stays v (Unc bytes) =
+    either (KeepsConfig v) (is_open v.state) _ _ (either (KeepsConfig v) (nat_lt MAX_DATA (length bytes)) _ _ refl refl)
+    refl
+config_stays v Read =
+    either (KeepsConfig v) (is_opening v.state) _ _ refl
+    (either (KeepsConfig v) (is_open v.state) _ _ (open_front v (front_of v)) (end_front v (front_of v)))
+config_stays v FinishRead =
+    either (KeepsConfig v) (is_opening v.state) _ _ refl
+    (either (KeepsConfig v) (is_open v.state) _ _ (open_front v (front_of v)) (end_front v (front_of v)))
+config_stays v (Announce window) =
+    either (KeepsConfig v) (is_open v.state) _ _
+    (either (KeepsConfig v) (nat_lt v.config.recv_cap window) _ _ refl refl) refl
 config_stays v (Close text) = either (KeepsConfig v) (nat_lt MAX_DATA (length text)) _ _ refl refl
 config_stays v (Tick now) = ticked_keeps v now (due_of (at_moment v now))

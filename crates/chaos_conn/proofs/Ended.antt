@@ -20,8 +20,13 @@ ended_is_over Inactive e = absurd (cc)
 ended_is_over RfcSent e = absurd (cc)
 ended_is_over RfcReceived e = absurd (cc)
 ended_is_over Open e = absurd (cc)
-ended_is_over Answered e = record { not_live = refl; not_opening = refl; not_inactive = refl; not_requested = refl; not_open = refl; awaits_nobody = refl; tells_no_close = refl }
-ended_is_over ClsReceived e = record { not_live = refl; not_opening = refl; not_inactive = refl; not_requested = refl; not_open = refl; awaits_nobody = refl; tells_no_close = refl }
-ended_is_over LosReceived e = record { not_live = refl; not_opening = refl; not_inactive = refl; not_requested = refl; not_open = refl; awaits_nobody = refl; tells_no_close = refl }
-ended_is_over HostDown e = record { not_live = refl; not_opening = refl; not_inactive = refl; not_requested = refl; not_open = refl; awaits_nobody = refl; tells_no_close = refl }
-ended_is_over Forwarded e = record { not_live = refl; not_opening = refl; not_inactive = refl; not_requested = refl; not_open = refl; awaits_nobody = refl; tells_no_close = refl }
+ended_is_over Answered e =
+    record { not_live = refl; not_opening = refl; not_inactive = refl; not_requested = refl; not_open = refl; awaits_nobody = refl; tells_no_close = refl }
+ended_is_over ClsReceived e =
+    record { not_live = refl; not_opening = refl; not_inactive = refl; not_requested = refl; not_open = refl; awaits_nobody = refl; tells_no_close = refl }
+ended_is_over LosReceived e =
+    record { not_live = refl; not_opening = refl; not_inactive = refl; not_requested = refl; not_open = refl; awaits_nobody = refl; tells_no_close = refl }
+ended_is_over HostDown e =
+    record { not_live = refl; not_opening = refl; not_inactive = refl; not_requested = refl; not_open = refl; awaits_nobody = refl; tells_no_close = refl }
+ended_is_over Forwarded e =
+    record { not_live = refl; not_opening = refl; not_inactive = refl; not_requested = refl; not_open = refl; awaits_nobody = refl; tells_no_close = refl }

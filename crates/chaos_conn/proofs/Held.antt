@@ -62,7 +62,8 @@ module _ {A : Type 0} where
 
 -- ---- the user's calls, and the tick
 
-at_most_leaves : (v : ConnView) (most : Option ℕ) (item : ItemView) (t : ℕ) → has_met v.state ≡ true → Leaves v (write_at_most v most item t)
+at_most_leaves : (v : ConnView) (most : Option ℕ) (item : ItemView) (t : ℕ) → has_met v.state ≡ true
+    → Leaves v (write_at_most v most item t)
 at_most_leaves v None item t h = as_it_was v h
 at_most_leaves v (Some most) item t h =
     either v (nat_lt most (length item.body)) _ _ (as_it_was v h)
@@ -96,7 +97,9 @@ record IsEmptyPlace (v : ReceiveView) (offset : ℕ) : Type 0 where
 taken_at : (v : ReceiveView) (offset : ℕ) → arrival_at v offset ≡ arr.Took → IsEmptyPlace v offset
 taken_at v offset h = by (is_held v offset) (is_within v offset) (is_past v offset) refl refl h
   where
-    by : (a b c : Bool) → is_held v offset ≡ a → is_within v offset ≡ b → (if a then arr.Duplicate else (if b then arr.Took else (if c then arr.Outside else arr.Duplicate))) ≡ arr.Took → IsEmptyPlace v offset
+    by : (a b c : Bool) → is_held v offset ≡ a → is_within v offset ≡ b
+        → (if a then arr.Duplicate else (if b then arr.Took else (if c then arr.Outside else arr.Duplicate))) ≡ arr.Took
+        → IsEmptyPlace v offset
     by true b c p q h = let no : arr.Duplicate ≡ arr.Took = h in absurd (cc)
     by false true c p q h = record { empty = p; within = q }
     by false false true p q h = let no : arr.Outside ≡ arr.Took = h in absurd (cc)
@@ -106,7 +109,9 @@ from_one : (v : ReceiveView) (offset : ℕ) → is_within v offset ≡ true → 
 from_one v zero h = absurd (false≢true h)
 from_one v (suc k) h = (k, omega arith)
 
-arrived_held : (v : ReceiveView) (number : ℕ) (item : ItemView) (a : Arrived) → arrival_of v number ≡ a → (place : ℕ) (one : ItemView) → item_at v (place + 1) ≡ Some one → item_at (after_answer a v (off number v.read) item) (place + 1) ≡ Some one
+arrived_held : (v : ReceiveView) (number : ℕ) (item : ItemView) (a : Arrived) → arrival_of v number ≡ a
+    → (place : ℕ) (one : ItemView) → item_at v (place + 1) ≡ Some one
+    → item_at (after_answer a v (off number v.read) item) (place + 1) ≡ Some one
 arrived_held v number item arr.Duplicate is place one there = there
 arrived_held v number item arr.Outside is place one there = there
 arrived_held v number item arr.Took is place one there =
@@ -122,33 +127,44 @@ arrived_held v number item arr.Took is place one there =
     ∙ sym (item_at_next v place)
     ∙ there
 
-came_leaves : (v u : ConnView) (number : ℕ) (item : ItemView) (a : Arrived) → arrival_of v.recv number ≡ a → u.recv ≡ v.recv → has_met u.state ≡ true → Leaves v (after_arrived u a number item)
+came_leaves : (v u : ConnView) (number : ℕ) (item : ItemView) (a : Arrived) → arrival_of v.recv number ≡ a
+    → u.recv ≡ v.recv → has_met u.state ≡ true → Leaves v (after_arrived u a number item)
 came_leaves v u number item arr.Took is same h = inr (record {
   met = h;
-  held = λ place one there. ap (λ r. item_at (after_arrival r number item) (place + 1)) same ∙ ap (λ a. item_at (after_answer a v.recv (off number v.recv.read) item) (place + 1)) is ∙ arrived_held v.recv number item arr.Took is place one there;
+  held =
+      λ place one there. ap (λ r. item_at (after_arrival r number item) (place + 1)) same
+      ∙ ap (λ a. item_at (after_answer a v.recv (off number v.recv.read) item) (place + 1)) is
+      ∙ arrived_held v.recv number item arr.Took is place one there;
 })
-came_leaves v u number item arr.Duplicate is same h = inr (record { met = h; held = λ place one there. ap (λ r. item_at r (place + 1)) same ∙ there })
-came_leaves v u number item arr.Outside is same h = inr (record { met = h; held = λ place one there. ap (λ r. item_at r (place + 1)) same ∙ there })
+came_leaves v u number item arr.Duplicate is same h =
+    inr (record { met = h; held = λ place one there. ap (λ r. item_at r (place + 1)) same ∙ there })
+came_leaves v u number item arr.Outside is same h =
+    inr (record { met = h; held = λ place one there. ap (λ r. item_at r (place + 1)) same ∙ there })
 
 -- ---- packets that come
 
-second_opn_leaves : (v : ConnView) (p : PacketView) (now : ℕ) (told : Option (ℕ × ℕ)) → has_met v.state ≡ true → Leaves v (after_second_opn_telling v p now told)
+second_opn_leaves : (v : ConnView) (p : PacketView) (now : ℕ) (told : Option (ℕ × ℕ)) → has_met v.state ≡ true
+    → Leaves v (after_second_opn_telling v p now told)
 second_opn_leaves v p now None h = as_it_was v h
 second_opn_leaves v p now (Some told) h = inr (record { met = h; held = λ place one there. there })
 
-sts_leaves : (v : ConnView) (p : PacketView) (now : ℕ) (told : Option (ℕ × ℕ)) → has_met v.state ≡ true → Leaves v (after_sts_telling v p now told)
+sts_leaves : (v : ConnView) (p : PacketView) (now : ℕ) (told : Option (ℕ × ℕ)) → has_met v.state ≡ true
+    → Leaves v (after_sts_telling v p now told)
 sts_leaves v p now None h = as_it_was v h
 sts_leaves v p now (Some told) h = inr (record { met = h; held = λ place one there. there })
 
 -- one that ends it leaves what is held
-end_leaves : (v u : ConnView) (state : State) → u.recv ≡ v.recv → is_requested u.state ≡ false → has_met state ≡ true → Goes v (after_end u state)
+end_leaves : (v u : ConnView) (state : State) → u.recv ≡ v.recv → is_requested u.state ≡ false → has_met state ≡ true
+    → Goes v (after_end u state)
 end_leaves v u state same apart h = by (is_requested u.state) apart
   where
-    by : (b : Bool) → b ≡ false → Goes v (record u { state = state; recv = if b then clear_receive u.recv.cap else u.recv })
+    by : (b : Bool) → b ≡ false
+        → Goes v (record u { state = state; recv = if b then clear_receive u.recv.cap else u.recv })
     by true closed = absurd (false≢true (sym closed))
     by false closed = inr (record { met = h; held = λ place one there. ap (λ r. item_at r (place + 1)) same ∙ there })
 
-open_leaves : (v : ConnView) (p : PacketView) (now : ℕ) (k : Kind) → has_met v.state ≡ true → Leaves v (deliver_open v p now k)
+open_leaves : (v : ConnView) (p : PacketView) (now : ℕ) (k : Kind) → has_met v.state ≡ true
+    → Leaves v (deliver_open v p now k)
 open_leaves v p now kind.Opn h = second_opn_leaves v p now (status_of p) h
 open_leaves v p now kind.Rfc h = as_it_was v h
 open_leaves v p now kind.Cls h = end_leaves v (heard_at v now) st.ClsReceived refl (not_requested v.state h) refl
@@ -158,12 +174,15 @@ open_leaves v p now kind.Sns h = inr (record { met = h; held = λ place one ther
 open_leaves v p now kind.Sts h = sts_leaves v p now (status_of p) h
 open_leaves v p now kind.Los h = end_leaves v (heard_at v now) st.LosReceived refl (not_requested v.state h) refl
 open_leaves v p now kind.Lsn h = as_it_was v h
-open_leaves v p now kind.Eof h = came_leaves v (heard_with_ack v p now) p.num (record { op = p.op; body = [] }) (arrival_of v.recv p.num) refl refl h
+open_leaves v p now kind.Eof h =
+    came_leaves v (heard_with_ack v p now) p.num (record { op = p.op; body = [] }) (arrival_of v.recv p.num) refl refl h
 open_leaves v p now kind.Unc h = inr (record { met = h; held = λ place one there. there })
-open_leaves v p now kind.Data h = came_leaves v (heard_with_ack v p now) p.num (item_of p) (arrival_of v.recv p.num) refl refl h
+open_leaves v p now kind.Data h =
+    came_leaves v (heard_with_ack v p now) p.num (item_of p) (arrival_of v.recv p.num) refl refl h
 open_leaves v p now kind.Other h = as_it_was v h
 
-in_leaves : (v : ConnView) (p : PacketView) (now : ℕ) (s : State) → has_met s ≡ true → has_met v.state ≡ true → Leaves v (deliver_in s v p now)
+in_leaves : (v : ConnView) (p : PacketView) (now : ℕ) (s : State) → has_met s ≡ true → has_met v.state ≡ true
+    → Leaves v (deliver_in s v p now)
 in_leaves v p now st.Open k h = open_leaves v p now (kind_of p.op) h
 in_leaves v p now st.RfcSent k h = absurd (false≢true k)
 in_leaves v p now st.RfcReceived k h = absurd (false≢true k)
@@ -174,7 +193,8 @@ in_leaves v p now st.LosReceived k h = as_it_was v h
 in_leaves v p now st.HostDown k h = as_it_was v h
 in_leaves v p now st.Forwarded k h = as_it_was v h
 
-repeated_leaves : (v : ConnView) (now : ℕ) (s : State) → has_met v.state ≡ true → Leaves v (repeated_request (heard_at v now) s)
+repeated_leaves : (v : ConnView) (now : ℕ) (s : State) → has_met v.state ≡ true
+    → Leaves v (repeated_request (heard_at v now) s)
 repeated_leaves v now st.Open h = inr (record { met = h; held = λ place one there. there })
 repeated_leaves v now s h = inr (record { met = h; held = λ place one there. there })
 
@@ -186,7 +206,8 @@ rfc_leaves v p now h =
 deliver_leaves : (v : ConnView) (p : PacketView) (now : ℕ) → has_met v.state ≡ true → Leaves v (act_deliver v p now)
 deliver_leaves v p now h =
     either v (not (is_live v.state)) _ _ (as_it_was v h) (either v (not (is_between_hosts v p)) _ _ (as_it_was v h)
-    (either v (is_rfc (kind_of p.op)) _ _ (rfc_leaves v p now h) (either v (not (is_between_indices v p)) _ _ (as_it_was v h) (in_leaves v p now v.state h h))))
+    (either v (is_rfc (kind_of p.op)) _ _ (rfc_leaves v p now h)
+    (either v (not (is_between_indices v p)) _ _ (as_it_was v h) (in_leaves v p now v.state h h))))
 
 -- ---- every call but a read
 
@@ -197,28 +218,39 @@ held_stays v (Accept start now) b r h = unasked v (is_requested v.state) _ _ (no
 held_stays v (Answer bytes) b r h = away_leaves v op_ans bytes h
 held_stays v (Reject text) b r h = away_leaves v op_cls text h
 held_stays v (Deliver p now) b r h = deliver_leaves v p now h
-held_stays v (Write op bytes now) b r h = either v (is_open v.state) _ _ (at_most_leaves v (most_bytes (kind_of op)) (record { op = op; body = bytes }) (moment v now) h) (as_it_was v h)
-held_stays v (Unc bytes) b r h = either v (is_open v.state) _ _ (either v (nat_lt MAX_DATA (length bytes)) _ _ (as_it_was v h) (as_it_was v h)) (as_it_was v h)
+held_stays v (Write op bytes now) b r h =
+    either v (is_open v.state) _ _
+    (at_most_leaves v (most_bytes (kind_of op)) (record { op = op; body = bytes }) (moment v now) h) (as_it_was v h)
+held_stays v (Unc bytes) b r h =
+    either v (is_open v.state) _ _ (either v (nat_lt MAX_DATA (length bytes)) _ _ (as_it_was v h) (as_it_was v h))
+    (as_it_was v h)
 held_stays v Read b r h = absurd (false≢true (sym r))
 held_stays v FinishRead b r h = absurd (false≢true (sym r))
-held_stays v (Announce window) b r h = either v (is_open v.state) _ _ (either v (nat_lt v.config.recv_cap window) _ _ (as_it_was v h) (inr (record { met = h; held = λ place one there. there }))) (as_it_was v h)
+held_stays v (Announce window) b r h =
+    either v (is_open v.state) _ _
+    (either v (nat_lt v.config.recv_cap window) _ _ (as_it_was v h)
+    (inr (record { met = h; held = λ place one there. there })))
+    (as_it_was v h)
 held_stays v (Close text) b r h = either v (nat_lt MAX_DATA (length text)) _ _ (as_it_was v h) (inl refl)
 held_stays v (Tick now) b r h = ticked_leaves v now (due_of (at_moment v now)) h
 
 -- ---- a read
 
-pushed_get : {X : Type 0} (xs : List (Option X)) (k : ℕ) → unwrap_or (slice_get (xs ++ None ∷ []) k) None ≡ unwrap_or (slice_get xs k) None
+pushed_get : {X : Type 0} (xs : List (Option X)) (k : ℕ)
+    → unwrap_or (slice_get (xs ++ None ∷ []) k) None ≡ unwrap_or (slice_get xs k) None
 pushed_get [] zero = refl
 pushed_get [] (suc k) = refl
 pushed_get (x ∷ xs) zero = refl
 pushed_get (x ∷ xs) (suc k) = pushed_get xs k
 
-lowered_get : {X : Type 0} (xs : List (Option X)) (k : ℕ) → unwrap_or (slice_get (drop 1 xs ++ None ∷ []) k) None ≡ unwrap_or (slice_get xs (suc k)) None
+lowered_get : {X : Type 0} (xs : List (Option X)) (k : ℕ)
+    → unwrap_or (slice_get (drop 1 xs ++ None ∷ []) k) None ≡ unwrap_or (slice_get xs (suc k)) None
 lowered_get [] zero = refl
 lowered_get [] (suc k) = refl
 lowered_get (x ∷ xs) k = pushed_get xs k
 
-read_nearer : (v : ReceiveView) (front : ItemView) → item_at v 1 ≡ Some front → (place : ℕ) (item : ItemView) → item_at v (place + 1 + 1) ≡ Some item → item_at (after_advance v) (place + 1) ≡ Some item
+read_nearer : (v : ReceiveView) (front : ItemView) → item_at v 1 ≡ Some front → (place : ℕ) (item : ItemView)
+    → item_at v (place + 1 + 1) ≡ Some item → item_at (after_advance v) (place + 1) ≡ Some item
 read_nearer v front is place item there =
     let next : place + 1 ≡ suc place = omega arith in
     ap (λ o. item_at (after_reading o v) (place + 1)) is
@@ -232,24 +264,29 @@ none_some : {X : Type 0} {P : Type 0} (o : Option X) (x : X) → o ≡ None → 
 none_some o x p q = let no : None ≡ Some x = sym p ∙ q in absurd (cc)
 
 -- an item in front is read, whatever is told
-read_item : (v w : ConnView) (item : ItemView) → front_of v ≡ Some item → has_met w.state ≡ true → w.recv ≡ after_advance v.recv → IsReadBy v (quietly w (end.Item item))
+read_item : (v w : ConnView) (item : ItemView) → front_of v ≡ Some item → has_met w.state ≡ true
+    → w.recv ≡ after_advance v.recv → IsReadBy v (quietly w (end.Item item))
 read_item v w item front h is = record {
   gives = sym front;
   met = h;
-  nearer = λ one there place other far. ap (λ r. item_at r (place + 1)) is ∙ read_nearer v.recv one there place other far;
+  nearer =
+      λ one there place other far. ap (λ r. item_at r (place + 1)) is ∙ read_nearer v.recv one there place other far;
   stays = λ none. none_some (front_of v) item none front;
 }
 
-told_or_not : (v w : ConnView) (item : ItemView) (b : Bool) → front_of v ≡ Some item → has_met w.state ≡ true → w.recv ≡ after_advance v.recv → IsReadBy v (if b then with_sts w (end.Item item) else quietly w (end.Item item))
+told_or_not : (v w : ConnView) (item : ItemView) (b : Bool) → front_of v ≡ Some item → has_met w.state ≡ true
+    → w.recv ≡ after_advance v.recv → IsReadBy v (if b then with_sts w (end.Item item) else quietly w (end.Item item))
 told_or_not v w item true front h is = record {
   gives = sym front;
   met = h;
-  nearer = λ one there place other far. ap (λ r. item_at r (place + 1)) is ∙ read_nearer v.recv one there place other far;
+  nearer =
+      λ one there place other far. ap (λ r. item_at r (place + 1)) is ∙ read_nearer v.recv one there place other far;
   stays = λ none. none_some (front_of v) item none front;
 }
 told_or_not v w item false front h is = read_item v w item front h is
 
-nothing_read : (v : ConnView) (given : ReadEnd) → given_by given ≡ None → front_of v ≡ None → has_met v.state ≡ true → IsReadBy v (quietly v given)
+nothing_read : (v : ConnView) (given : ReadEnd) → given_by given ≡ None → front_of v ≡ None → has_met v.state ≡ true
+    → IsReadBy v (quietly v given)
 nothing_read v given none front h = record {
   gives = none ∙ sym front;
   met = h;
@@ -270,7 +307,10 @@ at_end v (Some item) front h = read_item v (record v { recv = after_advance v.re
 pub held_is_read : HeldIsRead
 held_is_read v h = by (is_opening v.state) (is_open v.state) (not_opening v.state h)
   where
-    by : (a b : Bool) → a ≡ false → IsReadBy v (if a then quietly v end.Nothing else (if b then read_at_open v (front_of v) else read_at_end v (front_of v)))
+    by : (a b : Bool) → a ≡ false
+        → IsReadBy v
+        (if a then quietly v end.Nothing
+        else (if b then read_at_open v (front_of v) else read_at_end v (front_of v)))
     by true b opening = absurd (false≢true (sym opening))
     by false true opening = at_open v (front_of v) refl h
     by false false opening = at_end v (front_of v) refl h

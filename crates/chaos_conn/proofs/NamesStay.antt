@@ -39,14 +39,17 @@ module _ {A : Type 0} where
 
 at_most_keeps : (v : ConnView) (most : Option ℕ) (item : ItemView) (t : ℕ) → Names v (write_at_most v most item t)
 at_most_keeps v None item t = (refl, refl, refl)
-at_most_keeps v (Some most) item t = either (Names v) (nat_lt most (length item.body)) _ _ (refl, refl, refl) (either (Names v) (has_window v.send) _ _ (refl, refl, refl) (refl, refl, refl))
+at_most_keeps v (Some most) item t =
+    either (Names v) (nat_lt most (length item.body)) _ _ (refl, refl, refl)
+    (either (Names v) (has_window v.send) _ _ (refl, refl, refl) (refl, refl, refl))
 
 open_front : (v : ConnView) (front : Option ItemView) → Names v (read_at_open v front)
 open_front v None = (refl, refl, refl)
 open_front v (Some item) =
     let w : ConnView = record v { recv = after_advance v.recv; untold = v.untold + 1 } in
     let told : Names v (with_sts w (end.Item item)) = (refl, refl, refl) in
-    either (Names v) (nat_le w.recv.window (3 * w.untold)) (with_sts w (end.Item item)) (quietly w (end.Item item)) told (refl, refl, refl)
+    either (Names v) (nat_le w.recv.window (3 * w.untold)) (with_sts w (end.Item item)) (quietly w (end.Item item)) told
+    (refl, refl, refl)
 
 end_front : (v : ConnView) (front : Option ItemView) → Names v (read_at_end v front)
 end_front v None = (refl, refl, refl)
@@ -61,15 +64,27 @@ ticked_keeps v now due.Nothing = (refl, refl, refl)
 pub names_stay : NamesStay
 names_stay v (Request me peer contact start now) b e d = absurd (false≢true (sym b))
 names_stay v (TakeRequest rfc me now) b e d = absurd (false≢true (sym b))
-names_stay v (Accept start now) b e d = either (Names v) (is_requested v.state) _ _ (refl, refl, refl) (refl, refl, refl)
+names_stay v (Accept start now) b e d =
+    either (Names v) (is_requested v.state) _ _ (refl, refl, refl) (refl, refl, refl)
 names_stay v (Answer bytes) b e d = absurd (false≢true (sym e))
 names_stay v (Reject text) b e d = absurd (false≢true (sym e))
 names_stay v (Deliver p now) b e d = absurd (false≢true (sym d))
-names_stay v (Write op bytes now) b e d = either (Names v) (is_open v.state) _ _ (at_most_keeps v (most_bytes (kind_of op)) (record { op = op; body = bytes }) (moment v now)) (refl, refl, refl)
-names_stay v (Unc bytes) b e d = either (Names v) (is_open v.state) _ _ (either (Names v) (nat_lt MAX_DATA (length bytes)) _ _ (refl, refl, refl) (refl, refl, refl)) (refl, refl, refl)
-names_stay v Read b e d = either (Names v) (is_opening v.state) _ _ (refl, refl, refl) (either (Names v) (is_open v.state) _ _ (open_front v (front_of v)) (end_front v (front_of v)))
-names_stay v FinishRead b e d = either (Names v) (is_opening v.state) _ _ (refl, refl, refl) (either (Names v) (is_open v.state) _ _ (open_front v (front_of v)) (end_front v (front_of v)))
-names_stay v (Announce window) b e d = either (Names v) (is_open v.state) _ _ (either (Names v) (nat_lt v.config.recv_cap window) _ _ (refl, refl, refl) (refl, refl, refl)) (refl, refl, refl)
+names_stay v (Write op bytes now) b e d =
+    either (Names v) (is_open v.state) _ _
+    (at_most_keeps v (most_bytes (kind_of op)) (record { op = op; body = bytes }) (moment v now)) (refl, refl, refl)
+names_stay v (Unc bytes) b e d =
+    either (Names v) (is_open v.state) _ _
+    (either (Names v) (nat_lt MAX_DATA (length bytes)) _ _ (refl, refl, refl) (refl, refl, refl)) (refl, refl, refl)
+names_stay v Read b e d =
+    either (Names v) (is_opening v.state) _ _ (refl, refl, refl)
+    (either (Names v) (is_open v.state) _ _ (open_front v (front_of v)) (end_front v (front_of v)))
+names_stay v FinishRead b e d =
+    either (Names v) (is_opening v.state) _ _ (refl, refl, refl)
+    (either (Names v) (is_open v.state) _ _ (open_front v (front_of v)) (end_front v (front_of v)))
+names_stay v (Announce window) b e d =
+    either (Names v) (is_open v.state) _ _
+    (either (Names v) (nat_lt v.config.recv_cap window) _ _ (refl, refl, refl) (refl, refl, refl))
+    (refl, refl, refl)
 names_stay v (Close text) b e d = absurd (false≢true (sym e))
 names_stay v (Tick now) b e d = ticked_keeps v now (due_of (at_moment v now))
 
@@ -79,25 +94,39 @@ abbrev Either : ConnView → PacketView → Acted Delivered → Type 0
 Either v p acted = Opens v p acted ⊎ Stays v p acted
 
 -- nothing changes
-same : (v : ConnView) (p : PacketView) (acted : Acted Delivered) → acted.view ≡ v → acted.packets ≡ [] → is_opened acted.answer ≡ false → Either v p acted
+same : (v : ConnView) (p : PacketView) (acted : Acted Delivered) → acted.view ≡ v → acted.packets ≡ []
+    → is_opened acted.answer ≡ false → Either v p acted
 same v p acted view packets shut =
-    inr (record { opened = shut; names = (ap (λ w. w.me) view, ap (λ w. w.peer) view, ap (λ w. w.peer_index) view); asked = λ _ _. (view, packets); dead = λ _. (view, packets) })
+    inr
+    (record
+    { opened = shut; names = (ap (λ w. w.me) view, ap (λ w. w.peer) view, ap (λ w. w.peer_index) view); asked = λ _ _. (view, packets); dead = λ _. (view, packets) })
 
 -- at an end that is live, and hasn't asked or gets a bare packet
-kept : (v : ConnView) (p : PacketView) (acted : Acted Delivered) (s : State) → v.state ≡ s → is_live s ≡ true → (s ≡ st.RfcSent → carries_ack (kind_of p.op) ≡ true → ⊥) → is_opened acted.answer ≡ false → Names v acted → Either v p acted
+kept : (v : ConnView) (p : PacketView) (acted : Acted Delivered) (s : State) → v.state ≡ s → is_live s ≡ true
+    → (s ≡ st.RfcSent → carries_ack (kind_of p.op) ≡ true → ⊥) → is_opened acted.answer ≡ false → Names v acted
+    → Either v p acted
 kept v p acted s is live apart shut names =
-    inr (record { opened = shut; names = names; asked = λ asks ack. absurd (apart (sym is ∙ asks) ack); dead = λ dead. absurd (false≢true (sym dead ∙ ap is_live is ∙ live)) })
+    inr
+    (record
+    { opened = shut; names = names; asked = λ asks ack. absurd (apart (sym is ∙ asks) ack); dead = λ dead. absurd (false≢true (sym dead ∙ ap is_live is ∙ live)) })
 
-opened_by : (v : ConnView) (p : PacketView) (now : ℕ) (told : Option (ℕ × ℕ)) → v.state ≡ st.RfcSent → carries_ack (kind_of p.op) ≡ true → is_named v p ≡ true → Either v p (after_opn_telling v p now told)
+opened_by : (v : ConnView) (p : PacketView) (now : ℕ) (told : Option (ℕ × ℕ)) → v.state ≡ st.RfcSent
+    → carries_ack (kind_of p.op) ≡ true → is_named v p ≡ true → Either v p (after_opn_telling v p now told)
 opened_by v p now None is ack named = same v p _ refl refl refl
-opened_by v p now (Some told) is ack named = inl (record { opened = refl; asked = is; ack = ack; named = named; me = refl; peer = refl; peer_index = refl })
+opened_by v p now (Some told) is ack named =
+    inl (record { opened = refl; asked = is; ack = ack; named = named; me = refl; peer = refl; peer_index = refl })
 
-asking : (v : ConnView) (p : PacketView) (now : ℕ) (k : Kind) → kind_of p.op ≡ k → v.state ≡ st.RfcSent → is_named v p ≡ true → Either v p (deliver_asking v p now k)
+asking : (v : ConnView) (p : PacketView) (now : ℕ) (k : Kind) → kind_of p.op ≡ k → v.state ≡ st.RfcSent
+    → is_named v p ≡ true → Either v p (deliver_asking v p now k)
 asking v p now kind.Opn k is named = opened_by v p now (status_of p) is (ap carries_ack k) named
-asking v p now kind.Ans k is named = kept v p _ st.RfcSent is refl (λ _ ack. false≢true (sym (ap carries_ack k) ∙ ack)) refl (refl, refl, refl)
-asking v p now kind.Fwd k is named = kept v p _ st.RfcSent is refl (λ _ ack. false≢true (sym (ap carries_ack k) ∙ ack)) refl (refl, refl, refl)
-asking v p now kind.Cls k is named = kept v p _ st.RfcSent is refl (λ _ ack. false≢true (sym (ap carries_ack k) ∙ ack)) refl (refl, refl, refl)
-asking v p now kind.Los k is named = kept v p _ st.RfcSent is refl (λ _ ack. false≢true (sym (ap carries_ack k) ∙ ack)) refl (refl, refl, refl)
+asking v p now kind.Ans k is named =
+    kept v p _ st.RfcSent is refl (λ _ ack. false≢true (sym (ap carries_ack k) ∙ ack)) refl (refl, refl, refl)
+asking v p now kind.Fwd k is named =
+    kept v p _ st.RfcSent is refl (λ _ ack. false≢true (sym (ap carries_ack k) ∙ ack)) refl (refl, refl, refl)
+asking v p now kind.Cls k is named =
+    kept v p _ st.RfcSent is refl (λ _ ack. false≢true (sym (ap carries_ack k) ∙ ack)) refl (refl, refl, refl)
+asking v p now kind.Los k is named =
+    kept v p _ st.RfcSent is refl (λ _ ack. false≢true (sym (ap carries_ack k) ∙ ack)) refl (refl, refl, refl)
 asking v p now kind.Rfc k is named = same v p _ refl refl refl
 asking v p now kind.Sns k is named = same v p _ refl refl refl
 asking v p now kind.Sts k is named = same v p _ refl refl refl
@@ -107,11 +136,14 @@ asking v p now kind.Unc k is named = same v p _ refl refl refl
 asking v p now kind.Data k is named = same v p _ refl refl refl
 asking v p now kind.Other k is named = same v p _ refl refl refl
 
-pending : (v : ConnView) (p : PacketView) (now : ℕ) (k : Kind) → v.state ≡ st.RfcReceived → Either v p (deliver_requested v p now k)
+pending : (v : ConnView) (p : PacketView) (now : ℕ) (k : Kind) → v.state ≡ st.RfcReceived
+    → Either v p (deliver_requested v p now k)
 pending v p now k is = by k
   where
     went : (acted : Acted Delivered) → is_opened acted.answer ≡ false → Names v acted → Either v p acted
-    went acted shut names = kept v p acted st.RfcReceived is refl (λ q _. let no : st.RfcReceived ≡ st.RfcSent = q in absurd (cc)) shut names
+    went acted shut names =
+        kept v p acted st.RfcReceived is refl (λ q _. let no : st.RfcReceived ≡ st.RfcSent = q in absurd (cc)) shut
+        names
 
     by : (k : Kind) → Either v p (deliver_requested v p now k)
     by kind.Cls = went _ refl (refl, refl, refl)
@@ -128,13 +160,16 @@ pending v p now k is = by k
     by kind.Data = went _ refl (refl, refl, refl)
     by kind.Other = went _ refl (refl, refl, refl)
 
-open_end : (v : ConnView) (p : PacketView) (now : ℕ) (k : Kind) → v.state ≡ st.Open → Either v p (deliver_open v p now k)
+open_end : (v : ConnView) (p : PacketView) (now : ℕ) (k : Kind) → v.state ≡ st.Open
+    → Either v p (deliver_open v p now k)
 open_end v p now k is = by k
   where
     went : (acted : Acted Delivered) → is_opened acted.answer ≡ false → Names v acted → Either v p acted
-    went acted shut names = kept v p acted st.Open is refl (λ q _. let no : st.Open ≡ st.RfcSent = q in absurd (cc)) shut names
+    went acted shut names =
+        kept v p acted st.Open is refl (λ q _. let no : st.Open ≡ st.RfcSent = q in absurd (cc)) shut names
 
-    arrived : (u : ConnView) (a : Arrived) (number : ℕ) (item : ItemView) → KeepsNames v u → Either v p (after_arrived u a number item)
+    arrived : (u : ConnView) (a : Arrived) (number : ℕ) (item : ItemView) → KeepsNames v u
+        → Either v p (after_arrived u a number item)
     arrived u arr.Took number item n = went _ refl n
     arrived u arr.Duplicate number item n = went _ refl n
     arrived u arr.Outside number item n = went _ refl n
@@ -149,7 +184,9 @@ open_end v p now k is = by k
 
     by : (k : Kind) → Either v p (deliver_open v p now k)
     by kind.Data = arrived (heard_with_ack v p now) (arrival_of v.recv p.num) p.num (item_of p) (refl, refl, refl)
-    by kind.Eof = arrived (heard_with_ack v p now) (arrival_of v.recv p.num) p.num (record { op = p.op; body = [] }) (refl, refl, refl)
+    by kind.Eof =
+        arrived (heard_with_ack v p now) (arrival_of v.recv p.num) p.num (record { op = p.op; body = [] })
+        (refl, refl, refl)
     by kind.Opn = second (status_of p)
     by kind.Sts = status (status_of p)
     by kind.Sns = went _ refl (refl, refl, refl)
@@ -162,7 +199,8 @@ open_end v p now k is = by k
     by kind.Lsn = went _ refl (refl, refl, refl)
     by kind.Other = went _ refl (refl, refl, refl)
 
-came_in : (v : ConnView) (p : PacketView) (now : ℕ) (s : State) → v.state ≡ s → is_named v p ≡ true → Either v p (deliver_in s v p now)
+came_in : (v : ConnView) (p : PacketView) (now : ℕ) (s : State) → v.state ≡ s → is_named v p ≡ true
+    → Either v p (deliver_in s v p now)
 came_in v p now st.RfcSent is named = asking v p now (kind_of p.op) refl is named
 came_in v p now st.RfcReceived is named = pending v p now (kind_of p.op) is
 came_in v p now st.Open is named = open_end v p now (kind_of p.op) is
@@ -189,18 +227,24 @@ rfc_bare kind.Unc h = absurd (false≢true h)
 rfc_bare kind.Data h = absurd (false≢true h)
 rfc_bare kind.Other h = absurd (false≢true h)
 
-by_test : (P : Acted Delivered → Type 0) (b : Bool) (x y : Acted Delivered) → (b ≡ true → P x) → (b ≡ false → P y) → P (if b then x else y)
+by_test : (P : Acted Delivered → Type 0) (b : Bool) (x y : Acted Delivered) → (b ≡ true → P x) → (b ≡ false → P y)
+    → P (if b then x else y)
 by_test P true x y p q = p refl
 by_test P false x y p q = q refl
 
-came_rfc : (v : ConnView) (p : PacketView) (now : ℕ) → is_live v.state ≡ true → is_rfc (kind_of p.op) ≡ true → Either v p (after_rfc v p now)
+came_rfc : (v : ConnView) (p : PacketView) (now : ℕ) → is_live v.state ≡ true → is_rfc (kind_of p.op) ≡ true
+    → Either v p (after_rfc v p now)
 came_rfc v p now live rfc =
     by_test (Either v p) v.asked _ _ (λ _. same v p _ refl refl refl)
     (λ _. by_test (Either v p) (not (is_index v.peer_index p.src_index)) _ _ (λ _. same v p _ refl refl refl)
-    (λ _. by_test (Either v p) (not (p.num == v.request)) _ _ (λ _. same v p _ refl refl refl) (λ _. again v.state refl)))
+    (λ _. by_test (Either v p) (not (p.num == v.request)) _ _ (λ _. same v p _ refl refl refl)
+    (λ _. again v.state refl)))
   where
-    went : (s : State) (acted : Acted Delivered) → v.state ≡ s → is_opened acted.answer ≡ false → Names v acted → Either v p acted
-    went s acted is shut names = kept v p acted s is (sym (ap is_live is) ∙ live) (λ _ ack. false≢true (sym (rfc_bare (kind_of p.op) rfc) ∙ ack)) shut names
+    went : (s : State) (acted : Acted Delivered) → v.state ≡ s → is_opened acted.answer ≡ false → Names v acted
+        → Either v p acted
+    went s acted is shut names =
+        kept v p acted s is (sym (ap is_live is) ∙ live) (λ _ ack. false≢true (sym (rfc_bare (kind_of p.op) rfc) ∙ ack))
+        shut names
 
     again : (s : State) → v.state ≡ s → Either v p (repeated_request (heard_at v now) s)
     again st.Open is = went st.Open _ is refl (refl, refl, refl)

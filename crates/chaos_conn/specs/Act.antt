@@ -62,12 +62,13 @@ most_packets v (Tick now) = v.config.send_cap
 most_packets v _ = 1
 
 -- A call did what it is to do: the view after it, the packets that it put out, and its answer. The configuration stays.
-pub record Does (old : ConnView) (call : Call) (new : ConnView) (before after : OutboxView) (reply : Reply) : Type 0 where
-  pub view : new ≡ (act old call).view
-  pub packets : after ≡ with_put before (act old call).packets
-  pub answer : reply ≡ (act old call).answer
-  pub few : length (act old call).packets ≤ most_packets old call
-  pub config : new.config ≡ old.config
+pub record Does (old : ConnView) (call : Call) (new : ConnView) (before after : OutboxView) (reply : Reply) : Type 0
+  where
+    pub view : new ≡ (act old call).view
+    pub packets : after ≡ with_put before (act old call).packets
+    pub answer : reply ≡ (act old call).answer
+    pub few : length (act old call).packets ≤ most_packets old call
+    pub config : new.config ≡ old.config
 
 -- A call without an outbox did what it is to do, and puts nothing out.
 pub record DoesQuietly (old : ConnView) (call : Call) (new : ConnView) (reply : Reply) : Type 0 where

@@ -21,12 +21,13 @@ module _ {A : Type 0} where
   quietly v answer = record { view = v; packets = []; answer = answer }
 
   -- A part of a call did this: at most one packet went out, and the configuration stayed.
-  pub record Acts (old : ConnView) (acted : Acted A) (new : ConnView) (before after : OutboxView) (answer : A) : Type 0 where
-    pub view : new ≡ acted.view
-    pub packets : after ≡ with_put before acted.packets
-    pub answers : answer ≡ acted.answer
-    pub few : length acted.packets ≤ 1
-    pub config : new.config ≡ old.config
+  pub record Acts (old : ConnView) (acted : Acted A) (new : ConnView) (before after : OutboxView) (answer : A) : Type 0
+    where
+      pub view : new ≡ acted.view
+      pub packets : after ≡ with_put before acted.packets
+      pub answers : answer ≡ acted.answer
+      pub few : length acted.packets ≤ 1
+      pub config : new.config ≡ old.config
 
   -- A part of a call did this, and no packet went out.
   pub record ActsQuietly (old : ConnView) (acted : Acted A) (new : ConnView) (answer : A) : Type 0 where

@@ -32,7 +32,8 @@ with_ack v ack = record v { send = after_acknowledgement v.send ack }
 
 -- with an acknowledgement, a receipt and a window taken, in this order
 abbrev pub with_status : ConnView → ℕ → ℕ × ℕ → ConnView
-with_status v ack told = record v { send = after_window (after_receipt (after_acknowledgement v.send ack) told.0) told.1 }
+with_status v ack told =
+    record v { send = after_window (after_receipt (after_acknowledgement v.send ack) told.0) told.1 }
 
 -- with the peer heard, and the packet's acknowledgement taken
 abbrev pub heard_with_ack : ConnView → PacketView → ℕ → ConnView

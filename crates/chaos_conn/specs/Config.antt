@@ -45,7 +45,8 @@ usual_config = record { send_cap = 13; recv_cap = 13; retransmit = 500; probe = 
 
 -- the usual configuration with both windows of so many packets, where a window can have as many
 abbrev pub config_with : ℕ → ConfigView
-config_with window = if is_window window then record usual_config { send_cap = window; recv_cap = window } else usual_config
+config_with window =
+    if is_window window then record usual_config { send_cap = window; recv_cap = window } else usual_config
 
 -- What holds of every configuration.
 pub record IsConfig (c : ConfigView) : Type 0 where

@@ -35,7 +35,8 @@ is_read Read = true
 is_read FinishRead = true
 is_read _ = false
 
--- Whatever comes, and whatever its user and the clock do but read, an end that has met its peer holds what it held, or is closed.
+-- Whatever comes, and whatever its user and the clock do but read, an end that has met its peer holds what it held, or
+-- is closed.
 abbrev pub HeldStays : Type 0
 HeldStays = (v : ConnView) (call : Call) → begins call ≡ false → is_read call ≡ false → has_met v.state ≡ true
     → (is_inactive (act v call).view.state ≡ true) ⊎ HoldsAs v (act v call).view
@@ -49,7 +50,8 @@ given_by _ = None
 pub record IsReadBy (v : ConnView) (acted : Acted ReadEnd) : Type 0 where
   pub gives : given_by acted.answer ≡ front_of v
   pub met : has_met acted.view.state ≡ true
-  pub nearer : (front : ItemView) → front_of v ≡ Some front → (place : ℕ) (item : ItemView) → held_at v (place + 1) ≡ Some item → held_at acted.view place ≡ Some item
+  pub nearer : (front : ItemView) → front_of v ≡ Some front → (place : ℕ) (item : ItemView)
+      → held_at v (place + 1) ≡ Some item → held_at acted.view place ≡ Some item
   pub stays : front_of v ≡ None → HoldsAs v acted.view
 
 -- So it is with each read of an end that has met its peer.

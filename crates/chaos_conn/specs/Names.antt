@@ -1,5 +1,5 @@
--- What a connection's names are to it: the own address and index, and the peer's. Two connections that differ in these alone do the
--- same, but for the names on their packets; and a packet of other names changes nothing.
+-- What a connection's names are to it: the own address and index, and the peer's. Two connections that differ in these
+-- alone do the same, but for the names on their packets; and a packet of other names changes nothing.
 use Rattle.std.specs.Prelude.{◌≡◌, ℕ, Bool, true, false, ◌&&◌, if◌then◌else◌, List, [], map, Option, Some, None, unwrap_or, ⊤, ◌⊎◌, Err}
 use Rattle.std.specs.List.{AllByRecursion}
 use Rattle.chaos_packet.specs.Opcode.{kind_of, is_rfc}
@@ -51,7 +51,8 @@ renamed_in n p = record p { dst = n.me.address; dst_index = n.me.index; src = n.
 module _ {A : Type 0} where
   -- the same of what a call makes
   abbrev pub renamed_acted : Names → Acted A → Acted A
-  renamed_acted n acted = record { view = renamed n acted.view; packets = map (renamed_packet n acted.view.peer_index) acted.packets; answer = acted.answer }
+  renamed_acted n acted =
+      record { view = renamed n acted.view; packets = map (renamed_packet n acted.view.peer_index) acted.packets; answer = acted.answer }
 
 -- the calls that are alike under any names: those of the user of a connection that goes on, and the tick
 abbrev pub is_alike : Call → Bool
@@ -65,7 +66,9 @@ is_alike _ = false
 
 -- Such a call does the same under other names.
 abbrev pub ActsAlike : Type 0
-ActsAlike = (n : Names) (v : ConnView) (call : Call) → is_alike call ≡ true → act (renamed n v) call ≡ renamed_acted n (act v call)
+ActsAlike =
+    (n : Names) (v : ConnView) (call : Call) → is_alike call ≡ true
+    → act (renamed n v) call ≡ renamed_acted n (act v call)
 
 -- the packet is for the own end, from the peer's
 abbrev pub is_named : ConnView → PacketView → Bool
@@ -73,7 +76,8 @@ is_named v p = is_between_hosts v p && is_between_indices v p
 
 -- A packet that carries an acknowledgement, under the connection's names, does the same under other names.
 abbrev pub ComesAlike : Type 0
-ComesAlike = (n : Names) (v : ConnView) (p : PacketView) (now : ℕ) → is_named v p ≡ true → carries_ack (kind_of p.op) ≡ true
+ComesAlike =
+    (n : Names) (v : ConnView) (p : PacketView) (now : ℕ) → is_named v p ≡ true → carries_ack (kind_of p.op) ≡ true
     → act_deliver (renamed n v) (renamed_in n p) now ≡ renamed_acted n (act_deliver v p now)
 
 -- ---- packets that make little of a connection
@@ -118,10 +122,11 @@ pub record IsLost (acted : Acted Delivered) : Type 0 where
   pub packets : acted.packets ≡ []
   pub answer : is_opened acted.answer ≡ false
 
--- A packet without an acknowledgement, and one of other names, makes little of a connection: what it holds to read, what it
--- keeps, and its numbers stay, but where a request that waits is lost.
+-- A packet without an acknowledgement, and one of other names, makes little of a connection: what it holds to read,
+-- what it keeps, and its numbers stay, but where a request that waits is lost.
 abbrev pub ForeignIsQuiet : Type 0
-ForeignIsQuiet = (v : ConnView) (p : PacketView) (now : ℕ) → (carries_ack (kind_of p.op) ≡ false) ⊎ (is_named v p ≡ false)
+ForeignIsQuiet =
+    (v : ConnView) (p : PacketView) (now : ℕ) → (carries_ack (kind_of p.op) ≡ false) ⊎ (is_named v p ≡ false)
     → IsQuiet v now (act_deliver v p now) ⊎ IsLost (act_deliver v p now)
 
 -- ---- connections that are over
@@ -140,11 +145,15 @@ is_refused _ = false
 
 -- A connection that is over stays so, whatever its user and the network do, and puts nothing out.
 abbrev pub OverStays : Type 0
-OverStays = (v : ConnView) (call : Call) → begins call ≡ false → IsOver v → IsOver (act v call).view × ((act v call).packets ≡ [])
+OverStays =
+    (v : ConnView) (call : Call) → begins call ≡ false → IsOver v
+    → IsOver (act v call).view × ((act v call).packets ≡ [])
 
 -- A call that is refused changes nothing.
 abbrev pub RefusedIsSame : Type 0
-RefusedIsSame = (v : ConnView) (call : Call) → is_refused (act v call).answer ≡ true → ((act v call).view ≡ v) × ((act v call).packets ≡ [])
+RefusedIsSame =
+    (v : ConnView) (call : Call) → is_refused (act v call).answer ≡ true
+    → ((act v call).view ≡ v) × ((act v call).packets ≡ [])
 
 -- the calls by which a user ends a connection
 abbrev pub ends : Call → Bool
@@ -159,7 +168,9 @@ IsBare p = (carries_ack (kind_of p.op) ≡ false) × (is_rfc (kind_of p.op) ≡ 
 
 -- Such a call leaves a connection that is over, or changes nothing, and puts out no more than a bare packet.
 abbrev pub EndsAreOver : Type 0
-EndsAreOver = (v : ConnView) (call : Call) → ends call ≡ true → (IsOver (act v call).view ⊎ ((act v call).view ≡ v)) × AllByRecursion IsBare (act v call).packets
+EndsAreOver =
+    (v : ConnView) (call : Call) → ends call ≡ true
+    → (IsOver (act v call).view ⊎ ((act v call).view ≡ v)) × AllByRecursion IsBare (act v call).packets
 
 -- ---- the names on packets
 
@@ -172,12 +183,16 @@ pub record IsFrom (v : ConnView) (known : Option ℕ) (p : PacketView) : Type 0 
 
 -- Each packet that a connection puts out carries its names, with the peer's index as it is known then.
 abbrev pub PutsItsNames : Type 0
-PutsItsNames = (v : ConnView) (call : Call) → begins call ≡ false → AllByRecursion (IsFrom v (act v call).view.peer_index) (act v call).packets
+PutsItsNames =
+    (v : ConnView) (call : Call) → begins call ≡ false
+    → AllByRecursion (IsFrom v (act v call).view.peer_index) (act v call).packets
 
 -- and those that begin it
 abbrev pub RequestHasNames : Type 0
 RequestHasNames = (v : ConnView) (me : End) (peer : ℕ) (contact : List ℕ) (start now : ℕ)
-    → AllByRecursion (λ p. (p.src ≡ me.address) × (p.src_index ≡ me.index) × (p.dst ≡ peer) × (is_rfc (kind_of p.op) ≡ true)) (act v (Request me peer contact start now)).packets
+    → AllByRecursion
+    (λ p. (p.src ≡ me.address) × (p.src_index ≡ me.index) × (p.dst ≡ peer) × (is_rfc (kind_of p.op) ≡ true))
+    (act v (Request me peer contact start now)).packets
 
 -- No call changes a connection's configuration.
 abbrev pub ConfigStays : Type 0
@@ -195,9 +210,12 @@ is_delivery _ = false
 
 -- A connection keeps its names, but where it begins or is closed, and where a packet comes.
 abbrev pub NamesStay : Type 0
-NamesStay = (v : ConnView) (call : Call) → begins call ≡ false → ends call ≡ false → is_delivery call ≡ false → KeepsNames v (act v call).view
+NamesStay =
+    (v : ConnView) (call : Call) → begins call ≡ false → ends call ≡ false → is_delivery call ≡ false
+    → KeepsNames v (act v call).view
 
--- an OPN opened it: it had asked, the packet is under its names, and the packet's source index is the peer's from then on
+-- an OPN opened it: it had asked, the packet is under its names, and the packet's source index is the peer's from then
+-- on
 pub record Opens (v : ConnView) (p : PacketView) (acted : Acted Delivered) : Type 0 where
   pub opened : is_opened acted.answer ≡ true
   pub asked : v.state ≡ st.RfcSent
@@ -207,8 +225,8 @@ pub record Opens (v : ConnView) (p : PacketView) (acted : Acted Delivered) : Typ
   pub peer : acted.view.peer ≡ v.peer
   pub peer_index : acted.view.peer_index ≡ Some p.src_index
 
--- it wasn't opened, and keeps its names; and where it had asked and the packet carries an acknowledgement, or where it isn't live,
--- nothing changes
+-- it wasn't opened, and keeps its names; and where it had asked and the packet carries an acknowledgement, or where it
+-- isn't live, nothing changes
 pub record Stays (v : ConnView) (p : PacketView) (acted : Acted Delivered) : Type 0 where
   pub opened : is_opened acted.answer ≡ false
   pub names : KeepsNames v acted.view
@@ -216,4 +234,5 @@ pub record Stays (v : ConnView) (p : PacketView) (acted : Acted Delivered) : Typ
   pub dead : is_live v.state ≡ false → (acted.view ≡ v) × (acted.packets ≡ [])
 
 abbrev pub OpensOrStays : Type 0
-OpensOrStays = (v : ConnView) (p : PacketView) (now : ℕ) → Opens v p (act_deliver v p now) ⊎ Stays v p (act_deliver v p now)
+OpensOrStays =
+    (v : ConnView) (p : PacketView) (now : ℕ) → Opens v p (act_deliver v p now) ⊎ Stays v p (act_deliver v p now)

@@ -26,7 +26,8 @@ IsNextDue v due = (now : ℕ) → now < 2 ^ 64 → is_quiet_at v now ≡ is_befo
 
 -- A quiet tick puts nothing out, and changes nothing but the moment of the last call.
 abbrev pub QuietIsIdle : Type 0
-QuietIsIdle = (v : ConnView) (now : ℕ) → is_quiet_at v now ≡ true → act_tick v now ≡ quietly (at_moment v now) ticked.Quiet
+QuietIsIdle =
+    (v : ConnView) (now : ℕ) → is_quiet_at v now ≡ true → act_tick v now ≡ quietly (at_moment v now) ticked.Quiet
 
 -- ---- the parts
 

@@ -73,7 +73,8 @@ after_taking_rfc v rfc me t = record v {
 
 -- only an RFC is a request
 abbrev pub take_rfc : ConnView → PacketView → End → ℕ → Acted Outcome
-take_rfc v rfc me t = if is_rfc (kind_of rfc.op) then quietly (after_taking_rfc v rfc me t) (Ok tt) else refusal v fault.BadRequest
+take_rfc v rfc me t =
+    if is_rfc (kind_of rfc.op) then quietly (after_taking_rfc v rfc me t) (Ok tt) else refusal v fault.BadRequest
 
 abbrev pub act_take_request : ConnView → PacketView → End → ℕ → Acted Outcome
 act_take_request v rfc me now =

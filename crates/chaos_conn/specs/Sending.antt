@@ -65,7 +65,8 @@ index_with v item = if is_rfc (kind_of item.op) then 0 else unwrap_or v.peer_ind
 
 -- an item as a packet with a number, and the present acknowledgement where it carries one
 abbrev pub item_packet : ConnView → ℕ → ItemView → PacketView
-item_packet v number item = record (packet_to_peer v item.op number (ack_with v item) item.body) { dst_index = index_with v item }
+item_packet v number item =
+    record (packet_to_peer v item.op number (ack_with v item) item.body) { dst_index = index_with v item }
 
 -- items as packets, numbered one after the other
 abbrev pub packets_from : ConnView → ℕ → List ItemView → List PacketView

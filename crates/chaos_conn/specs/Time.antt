@@ -19,7 +19,8 @@ is_down v = awaits_peer v.state && nat_le v.config.down (v.last - v.heard)
 
 -- items are kept, and were not sent again for so long that they are now
 abbrev pub is_resend_due : ConnView → Bool
-is_resend_due v = awaits_peer v.state && (nat_lt 0 (length v.send.kept) && nat_le v.config.retransmit (v.last - v.resent))
+is_resend_due v =
+    awaits_peer v.state && (nat_lt 0 (length v.send.kept) && nat_le v.config.retransmit (v.last - v.resent))
 
 -- the peer was neither heard nor probed for so long that it is probed now
 abbrev pub is_probe_due : ConnView → Bool

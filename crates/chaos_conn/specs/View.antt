@@ -8,8 +8,8 @@ use Rattle.chaos_conn.specs.declared.state.End.{End}
 use Rattle.chaos_conn.specs.Config.{ConfigView}
 
 -- The state; both ends, and whether the peer's index is known; whether this end made the request, and the request's
--- number; the configuration; the moments of the last call, of the last packet heard, of the last sending again and of the
--- last probe; how many items were read since the peer was told; and both windows.
+-- number; the configuration; the moments of the last call, of the last packet heard, of the last sending again and of
+-- the last probe; how many items were read since the peer was told; and both windows.
 pub record ConnView : Type 0 where
   pub state : State
   pub me : End

@@ -35,7 +35,8 @@ small_more : (hs : List HandleView) (h : HandleView) → AreSmall hs → length 
 small_more [] h s k = (k, tt)
 small_more (g ∷ hs) h s k = (s.0, small_more hs h s.1 k)
 
-small_set : (hs : List HandleView) (i : ℕ) (h : HandleView) → AreSmall hs → length h.bytes ≤ MAX_FILE → AreSmall (slice_set hs i h)
+small_set : (hs : List HandleView) (i : ℕ) (h : HandleView) → AreSmall hs → length h.bytes ≤ MAX_FILE
+    → AreSmall (slice_set hs i h)
 small_set [] i h s k = tt
 small_set (g ∷ hs) zero h s k = (k, s.1)
 small_set (g ∷ hs) (suc i) h s k = (s.0, small_set hs i h s.1 k)
@@ -119,18 +120,27 @@ read_fits s (Some f) small k =
     by_if PlanFits f.1.writes _ _ tt
     (small_set s.handles f.0 _ small k, by_if AnswerFits (is_nil (next_bytes f.1)) AtEnd (Given (next_bytes f.1)) (omega arith) (given_fits f.1))
 
-write_more : (bytes : List ℕ) (s : SessionView) (f : ℕ × HandleView) → AreSmall s.handles → (b : Bool) → nat_lt MAX_FILE (length f.1.bytes + length bytes) ≡ b → PlanFits (if b then Refuse e.FileTooBig else Grow (record s { handles = slice_set s.handles f.0 (record f.1 { bytes = f.1.bytes ++ bytes }) }) (Wrote (length f.1.bytes + length bytes)))
+write_more : (bytes : List ℕ) (s : SessionView) (f : ℕ × HandleView) → AreSmall s.handles → (b : Bool)
+    → nat_lt MAX_FILE (length f.1.bytes + length bytes) ≡ b
+    → PlanFits
+    (if b then Refuse e.FileTooBig else Grow
+    (record s { handles = slice_set s.handles f.0 (record f.1 { bytes = f.1.bytes ++ bytes }) })
+    (Wrote (length f.1.bytes + length bytes)))
 write_more bytes s f small true is = tt
 write_more bytes s f small false is =
     let within = ltb-false MAX_FILE (length f.1.bytes + length bytes) is in
     let all = length-append f.1.bytes bytes in
     (small_set s.handles f.0 _ small (omega arith), count_fits (codes "WRITE ") (length f.1.bytes + length bytes) (omega arith) (omega arith))
 
-write_fits : (bytes : List ℕ) (s : SessionView) (o : Option (ℕ × HandleView)) → AreSmall s.handles → PlanFits (plan_write bytes s o)
+write_fits : (bytes : List ℕ) (s : SessionView) (o : Option (ℕ × HandleView)) → AreSmall s.handles
+    → PlanFits (plan_write bytes s o)
 write_fits bytes s None small = tt
-write_fits bytes s (Some f) small = by_if PlanFits f.1.writes _ _ (write_more bytes s f small (nat_lt MAX_FILE (length f.1.bytes + length bytes)) refl) tt
+write_fits bytes s (Some f) small =
+    by_if PlanFits f.1.writes _ _ (write_more bytes s f small (nat_lt MAX_FILE (length f.1.bytes + length bytes)) refl)
+    tt
 
-close_fits : (s : SessionView) (o : Option (ℕ × HandleView)) → AreSmall s.handles → SmallOne o → PlanFits (plan_close s o)
+close_fits : (s : SessionView) (o : Option (ℕ × HandleView)) → AreSmall s.handles → SmallOne o
+    → PlanFits (plan_close s o)
 close_fits s None small k = tt
 close_fits s (Some f) small k =
     let rest = small_remove s.handles f.0 small in
@@ -142,23 +152,32 @@ unless_fits (Some error) plan k = tt
 
 name_short : (least most : ℕ) (name : List ℕ) → is_name least most name ≡ true → length name ≤ most
 name_short least most name h =
-    leb-true (length name) most (both_right (nat_le least (length name)) (nat_le (length name) most) (both_left (nat_le least (length name) && nat_le (length name) most) _ h))
+    leb-true (length name) most
+    (both_right (nat_le least (length name)) (nat_le (length name) most)
+    (both_left (nat_le least (length name) && nat_le (length name) most) _ h))
 
-command_fits : (s : SessionView) (bare : Bool) (handle : List ℕ) (command : CommandView) → is_legal bare command ≡ true → AreSmall s.handles → PlanFits (plan_command s handle command)
+command_fits : (s : SessionView) (bare : Bool) (handle : List ℕ) (command : CommandView) → is_legal bare command ≡ true
+    → AreSmall s.handles → PlanFits (plan_command s handle command)
 command_fits s bare handle (Login name) legal small =
     let short = name_short 1 MAX_NAME name (both_right bare (is_name 1 MAX_NAME name) legal) in
     let all = length-append (codes "LOGIN ") name in
     (small, omega arith)
 command_fits s bare handle (OpenRead path) legal small = unless_fits (open_error s (handle_named handle s.handles)) _ tt
 command_fits s bare handle (OpenWrite path) legal small =
-    unless_fits (open_error s (handle_named handle s.handles)) _ (small_more s.handles _ small (omega arith), count_fits (codes "OPEN ") 0 (omega arith) (omega arith))
-command_fits s bare handle Read legal small = read_fits s (handle_named handle s.handles) small (small_place s.handles (position (is_named handle) s.handles) small)
+    unless_fits (open_error s (handle_named handle s.handles)) _
+    (small_more s.handles _ small (omega arith), count_fits (codes "OPEN ") 0 (omega arith) (omega arith))
+command_fits s bare handle Read legal small =
+    read_fits s (handle_named handle s.handles) small
+    (small_place s.handles (position (is_named handle) s.handles) small)
 command_fits s bare handle (Write bytes) legal small = write_fits bytes s (handle_named handle s.handles) small
-command_fits s bare handle Close legal small = close_fits s (handle_named handle s.handles) small (small_place s.handles (position (is_named handle) s.handles) small)
+command_fits s bare handle Close legal small =
+    close_fits s (handle_named handle s.handles) small
+    (small_place s.handles (position (is_named handle) s.handles) small)
 command_fits s bare handle (Rename old new) legal small = tt
 command_fits s bare handle (Delete path) legal small = tt
 
-planned_fits : (s : SessionView) (c : List ℕ) (p : ParsedView) → parse_of c ≡ p → AreSmall s.handles → PlanFits (plan_of s p)
+planned_fits : (s : SessionView) (c : List ℕ) (p : ParsedView) → parse_of c ≡ p → AreSmall s.handles
+    → PlanFits (plan_of s p)
 planned_fits s c BadHead is small = tt
 planned_fits s c (NoWord tid handle) is small = tt
 planned_fits s c (Unknown tid handle) is small = tt
@@ -166,7 +185,9 @@ planned_fits s c (BadForm tid handle word) is small = by_if PlanFits (may_say s 
 planned_fits s c (BadPath tid handle word) is small = by_if PlanFits (may_say s word) _ _ tt tt
 planned_fits s c (Good tid handle command) is small =
     let good = read_good c tid handle command is in
-    let legal = both_right (is_name 0 MAX_HANDLE handle) (is_legal (is_nil handle) command) (both_right (is_name 1 MAX_TID tid) _ good) in
+    let legal =
+    both_right (is_name 0 MAX_HANDLE handle) (is_legal (is_nil handle) command)
+    (both_right (is_name 1 MAX_TID tid) _ good) in
     by_if PlanFits (may_say s (word_said command)) _ _ (command_fits s (is_nil handle) handle command legal small) tt
 
 -- ---- outcomes
@@ -180,7 +201,8 @@ abbrev FoundFits : Look → Type 0
 FoundFits (Found bytes) = length bytes ≤ MAX_FILE
 FoundFits look = Unit {0}
 
-bytes_found : (bytes : List ℕ) (b : Bool) → nat_lt MAX_FILE (length bytes) ≡ b → FoundFits (if b then Over else Found bytes)
+bytes_found : (bytes : List ℕ) (b : Bool) → nat_lt MAX_FILE (length bytes) ≡ b
+    → FoundFits (if b then Over else Found bytes)
 bytes_found bytes true is = tt
 bytes_found bytes false is = let within = ltb-false MAX_FILE (length bytes) is in omega arith
 
@@ -188,18 +210,24 @@ found_fits : (o : Option (List ℕ)) → FoundFits (look_within MAX_FILE o)
 found_fits None = tt
 found_fits (Some bytes) = bytes_found bytes (nat_lt MAX_FILE (length bytes)) refl
 
-look_fits : (m : Files) (s : SessionView) (name path : List ℕ) (look : Look) → FoundFits look → AreSmall s.handles → LeftFits (outcome_of_look m s name path look)
+look_fits : (m : Files) (s : SessionView) (name path : List ℕ) (look : Look) → FoundFits look → AreSmall s.handles
+    → LeftFits (outcome_of_look m s name path look)
 look_fits m s name path Missing k small = tt
 look_fits m s name path Over k small = tt
-look_fits m s name path (Found bytes) k small = (small_more s.handles _ small k, count_fits (codes "OPEN ") (length bytes) (omega arith) k)
+look_fits m s name path (Found bytes) k small =
+    (small_more s.handles _ small k, count_fits (codes "OPEN ") (length bytes) (omega arith) k)
 
-request_fits : (m : Files) (s : SessionView) (request : Request) → RequestFits request → AreSmall s.handles → LeftFits (outcome_of_request m s request)
-request_fits m s (GetFile name path) k small = look_fits m s name path (look_for m path MAX_FILE) (found_fits (map.get m path)) small
+request_fits : (m : Files) (s : SessionView) (request : Request) → RequestFits request → AreSmall s.handles
+    → LeftFits (outcome_of_request m s request)
+request_fits m s (GetFile name path) k small =
+    look_fits m s name path (look_for m path MAX_FILE) (found_fits (map.get m path)) small
 request_fits m s (PutFile path bytes t) k small = (k.1, count_fits (codes "CLOSE ") (length bytes) (omega arith) k.0)
-request_fits m s (RenameFile old new) k small = by_if LeftFits (is_there m old) _ _ (by_if LeftFits (is_there m new) _ _ tt (small, omega arith)) tt
+request_fits m s (RenameFile old new) k small =
+    by_if LeftFits (is_there m old) _ _ (by_if LeftFits (is_there m new) _ _ tt (small, omega arith)) tt
 request_fits m s (RemoveFile path) k small = by_if LeftFits (is_there m path) _ _ (small, omega arith) tt
 
-outcome_fits : (m : Files) (s : SessionView) (plan : Plan) → PlanFits plan → AreSmall s.handles → LeftFits (outcome_of m s plan)
+outcome_fits : (m : Files) (s : SessionView) (plan : Plan) → PlanFits plan → AreSmall s.handles
+    → LeftFits (outcome_of m s plan)
 outcome_fits m s (Refuse error) k small = tt
 outcome_fits m s (Tell t answer) k small = k
 outcome_fits m s (Grow t answer) k small = k
@@ -214,13 +242,15 @@ front_short t h a b =
     let three = length-append t (space ∷ []) in
     omega arith
 
-front_by : (c : List ℕ) (o : Option Head) → head_of c ≡ o → length (reply_front (tid_of (parse_of_head o)) (handle_of (parse_of_head o))) ≤ 18
+front_by : (c : List ℕ) (o : Option Head) → head_of c ≡ o
+    → length (reply_front (tid_of (parse_of_head o)) (handle_of (parse_of_head o))) ≤ 18
 unfolding IsHead
 front_by c None is = omega arith
 front_by c (Some g) is =
     let i : IsHead c g = head_parts c g (cut space c) refl is in
     let back = head_gives g in
-    front_short _ _ (subst (λ t. length t ≤ 8) (sym back.tid) (name_short 1 MAX_TID g.tid i.1)) (subst (λ t. length t ≤ 8) (sym back.handle) (name_short 0 MAX_HANDLE g.handle i.2))
+    front_short _ _ (subst (λ t. length t ≤ 8) (sym back.tid) (name_short 1 MAX_TID g.tid i.1))
+    (subst (λ t. length t ≤ 8) (sym back.handle) (name_short 0 MAX_HANDLE g.handle i.2))
 
 front_fits : (c : List ℕ) → length (reply_front (tid_of (parse_of c)) (handle_of (parse_of c))) ≤ 18
 front_fits c = front_by c (head_of c) refl
@@ -237,7 +267,8 @@ record StepFits (m : Files) (s : SessionView) (c : List ℕ) (o : Result Left Fi
   reply : length (step_of m s (parse_of c) o).reply ≤ 488
   small : AreSmall (step_of m s (parse_of c) o).session.handles
 
-step_fits : (m : Files) (s : SessionView) (c : List ℕ) (o : Result Left FileError) → LeftFits o → AreSmall s.handles → StepFits m s c o
+step_fits : (m : Files) (s : SessionView) (c : List ℕ) (o : Result Left FileError) → LeftFits o → AreSmall s.handles
+    → StepFits m s c o
 step_fits m s c (Ok l) k small =
     let p : ParsedView = parse_of c in
     let all = length-append (reply_front (tid_of p) (handle_of p)) (answer_text l.answer) in
@@ -253,9 +284,13 @@ step_fits m s c (Err error) k small =
 pub fits : (m : Files) (s : SessionView) (c : List ℕ) → AreSmall s.handles → Fits m s c
 fits m s c small =
     let plan : Plan = plan_of s (parse_of c) in
-    let r = step_fits m s c (outcome_of m s plan) (outcome_fits m s plan (planned_fits s c (parse_of c) refl small) small) small in
+    let r =
+    step_fits m s c (outcome_of m s plan) (outcome_fits m s plan (planned_fits s c (parse_of c) refl small) small)
+    small in
     record { reply = r.reply; small = r.small }
 
-pub small_after : (commands : List (List ℕ)) (m : Files) (s : SessionView) → AreSmall s.handles → AreSmall (session_after m s commands).handles
+pub small_after : (commands : List (List ℕ)) (m : Files) (s : SessionView) → AreSmall s.handles
+    → AreSmall (session_after m s commands).handles
 small_after [] m s small = small
-small_after (c ∷ commands) m s small = small_after commands (file_step m s c).files (file_step m s c).session (fits m s c small).small
+small_after (c ∷ commands) m s small =
+    small_after commands (file_step m s c).files (file_step m s c).session (fits m s c small).small

@@ -34,19 +34,24 @@ word_gives : (t h rest : List ℕ) (o : Option Word) → GivesBack t h (parse_of
 word_gives t h rest None = record { tid = refl; handle = refl }
 word_gives t h rest (Some word) = form_gives t h word (form_of word (is_nil h) rest)
 
-tail_gives : (t h : List ℕ) (p : ParsedView) → GivesBack t h p → (v : Bool) → GivesBack t h (if v then NoWord t h else p)
+tail_gives : (t h : List ℕ) (p : ParsedView) → GivesBack t h p → (v : Bool)
+    → GivesBack t h (if v then NoWord t h else p)
 tail_gives t h p g true = record { tid = refl; handle = refl }
 tail_gives t h p g false = g
 
 pub head_gives : (g : Head) → GivesBack g.tid g.handle (parse_of_head (Some g))
-head_gives g = tail_gives g.tid g.handle _ (word_gives g.tid g.handle (drop (word_end g.tail) g.tail) (word_of (take (word_end g.tail) g.tail))) (word_end g.tail == 0)
+head_gives g =
+    tail_gives g.tid g.handle _
+    (word_gives g.tid g.handle (drop (word_end g.tail) g.tail) (word_of (take (word_end g.tail) g.tail)))
+    (word_end g.tail == 0)
 
 -- names without a space
 Spaceless : List ℕ → Type 0
 Spaceless xs = list_all (λ x. not (x == space)) xs ≡ true
 
 -- no other outcome is spelled as that one
-text_told : (outcome : Result Answer FileError) → bytes_eq (outcome_text outcome) (error_text e.NoMemory) ≡ is_no_memory outcome
+text_told : (outcome : Result Answer FileError)
+    → bytes_eq (outcome_text outcome) (error_text e.NoMemory) ≡ is_no_memory outcome
 text_told (Ok (LoggedIn name)) = refl
 text_told (Ok (Opened count)) = refl
 text_told (Ok (Given bytes)) = refl
@@ -69,11 +74,14 @@ text_told (Err e.FileExists) = refl
 text_told (Err e.StoreFault) = refl
 text_told (Err e.NoMemory) = refl
 
-want_of : (tid handle text : List ℕ) → Spaceless tid → Spaceless handle → is_want (tid ++ space ∷ (handle ++ space ∷ text)) ≡ bytes_eq text (error_text e.NoMemory)
+want_of : (tid handle text : List ℕ) → Spaceless tid → Spaceless handle
+    → is_want (tid ++ space ∷ (handle ++ space ∷ text)) ≡ bytes_eq text (error_text e.NoMemory)
 unfolding Spaceless
-want_of tid handle text t h = ap want_after (cut_front space tid (handle ++ space ∷ text) t) ∙ ap want_text (cut_front space handle text h)
+want_of tid handle text t h =
+    ap want_after (cut_front space tid (handle ++ space ∷ text) t) ∙ ap want_text (cut_front space handle text h)
 
-named_want : (tid handle : List ℕ) (p : ParsedView) (outcome : Result Answer FileError) → GivesBack tid handle p → Spaceless tid → Spaceless handle → is_want (reply_to p outcome) ≡ is_no_memory outcome
+named_want : (tid handle : List ℕ) (p : ParsedView) (outcome : Result Answer FileError) → GivesBack tid handle p
+    → Spaceless tid → Spaceless handle → is_want (reply_to p outcome) ≡ is_no_memory outcome
 named_want tid handle p outcome g t h =
     let text : List ℕ = outcome_text outcome in
     ap is_want
@@ -83,16 +91,19 @@ named_want tid handle p outcome g t h =
     ∙ append_assoc tid (space ∷ []) (handle ++ space ∷ text))
     ∙ want_of tid handle text t h ∙ text_told outcome
 
-by_head : (c : List ℕ) (outcome : Result Answer FileError) (o : Option Head) → head_of c ≡ o → is_want (reply_to (parse_of_head o) outcome) ≡ is_no_memory outcome
+by_head : (c : List ℕ) (outcome : Result Answer FileError) (o : Option Head) → head_of c ≡ o
+    → is_want (reply_to (parse_of_head o) outcome) ≡ is_no_memory outcome
 unfolding IsHead Spaceless
-by_head c outcome None is = named_want [] [] (parse_of_head None) outcome (record { tid = refl; handle = refl }) refl refl
+by_head c outcome None is =
+    named_want [] [] (parse_of_head None) outcome (record { tid = refl; handle = refl }) refl refl
 by_head c outcome (Some g) is =
     let i : IsHead c g = head_parts c g (cut space c) refl is in
     named_want g.tid g.handle (parse_of_head (Some g)) outcome (head_gives g)
     (without is_ascii_alphanumeric space refl g.tid (name_letters 1 MAX_TID g.tid i.1))
     (without is_ascii_alphanumeric space refl g.handle (name_letters 0 MAX_HANDLE g.handle i.2))
 
-pub want_told : (c : List ℕ) (outcome : Result Answer FileError) → is_want (reply_to (parse_of c) outcome) ≡ is_no_memory outcome
+pub want_told : (c : List ℕ) (outcome : Result Answer FileError)
+    → is_want (reply_to (parse_of c) outcome) ≡ is_no_memory outcome
 want_told c outcome = by_head c outcome (head_of c) refl
 
 -- ---- the definition never wants memory
@@ -108,7 +119,8 @@ some_lost : Option FileError → Bool
 some_lost None = false
 some_lost (Some error) = is_lost error
 
-by_if : {X : Type 0} (lost : X → Bool) (b : Bool) (x y : X) → lost x ≡ false → lost y ≡ false → lost (if b then x else y) ≡ false
+by_if : {X : Type 0} (lost : X → Bool) (b : Bool) (x y : X) → lost x ≡ false → lost y ≡ false
+    → lost (if b then x else y) ≡ false
 by_if lost true x y h k = h
 by_if lost false x y h k = k
 
@@ -120,7 +132,9 @@ read_lost s (Some f) = by_if plan_lost f.1.writes _ _ refl refl
 write_lost : (bytes : List ℕ) (s : SessionView) (o : Option (ℕ × HandleView)) → plan_lost (plan_write bytes s o) ≡ false
 unfolding plan_lost is_lost
 write_lost bytes s None = refl
-write_lost bytes s (Some f) = by_if plan_lost f.1.writes _ _ (by_if plan_lost (nat_lt MAX_FILE (length f.1.bytes + length bytes)) _ _ refl refl) refl
+write_lost bytes s (Some f) =
+    by_if plan_lost f.1.writes _ _ (by_if plan_lost (nat_lt MAX_FILE (length f.1.bytes + length bytes)) _ _ refl refl)
+    refl
 
 close_lost : (s : SessionView) (o : Option (ℕ × HandleView)) → plan_lost (plan_close s o) ≡ false
 unfolding plan_lost is_lost
@@ -132,23 +146,28 @@ unfolding some_lost is_lost
 open_lost s (Some f) = refl
 open_lost s None = by_if some_lost (nat_lt (length s.handles) MAX_HANDLES) _ _ refl refl
 
-unless_lost : (o : Option FileError) (plan : Plan) → some_lost o ≡ false → plan_lost plan ≡ false → plan_lost (plan_unless o plan) ≡ false
+unless_lost : (o : Option FileError) (plan : Plan) → some_lost o ≡ false → plan_lost plan ≡ false
+    → plan_lost (plan_unless o plan) ≡ false
 unfolding plan_lost some_lost is_lost
 unless_lost None plan h k = k
 unless_lost (Some error) plan h k = h
 
-command_lost : (s : SessionView) (handle : List ℕ) (command : CommandView) → plan_lost (plan_command s handle command) ≡ false
+command_lost : (s : SessionView) (handle : List ℕ) (command : CommandView)
+    → plan_lost (plan_command s handle command) ≡ false
 unfolding plan_lost is_lost
 command_lost s handle (Login name) = refl
-command_lost s handle (OpenRead path) = unless_lost (open_error s (handle_named handle s.handles)) _ (open_lost s (handle_named handle s.handles)) refl
-command_lost s handle (OpenWrite path) = unless_lost (open_error s (handle_named handle s.handles)) _ (open_lost s (handle_named handle s.handles)) refl
+command_lost s handle (OpenRead path) =
+    unless_lost (open_error s (handle_named handle s.handles)) _ (open_lost s (handle_named handle s.handles)) refl
+command_lost s handle (OpenWrite path) =
+    unless_lost (open_error s (handle_named handle s.handles)) _ (open_lost s (handle_named handle s.handles)) refl
 command_lost s handle Read = read_lost s (handle_named handle s.handles)
 command_lost s handle (Write bytes) = write_lost bytes s (handle_named handle s.handles)
 command_lost s handle Close = close_lost s (handle_named handle s.handles)
 command_lost s handle (Rename old new) = refl
 command_lost s handle (Delete path) = refl
 
-known_lost : (s : SessionView) (word : Word) (plan : Plan) → plan_lost plan ≡ false → plan_lost (if_known s word plan) ≡ false
+known_lost : (s : SessionView) (word : Word) (plan : Plan) → plan_lost plan ≡ false
+    → plan_lost (if_known s word plan) ≡ false
 unfolding plan_lost is_lost
 known_lost s word plan h = by_if plan_lost (may_say s word) _ _ h refl
 
@@ -165,7 +184,8 @@ left_lost : Result Left FileError → Bool
 left_lost (Ok left) = false
 left_lost (Err error) = is_lost error
 
-look_lost : (m : Files) (s : SessionView) (name path : List ℕ) (look : Look) → left_lost (outcome_of_look m s name path look) ≡ false
+look_lost : (m : Files) (s : SessionView) (name path : List ℕ) (look : Look)
+    → left_lost (outcome_of_look m s name path look) ≡ false
 unfolding left_lost is_lost
 look_lost m s name path Missing = refl
 look_lost m s name path Over = refl
@@ -175,20 +195,25 @@ request_lost : (m : Files) (s : SessionView) (request : Request) → left_lost (
 unfolding left_lost is_lost
 request_lost m s (GetFile name path) = look_lost m s name path (look_for m path MAX_FILE)
 request_lost m s (PutFile path bytes t) = refl
-request_lost m s (RenameFile old new) = by_if left_lost (is_there m old) _ _ (by_if left_lost (is_there m new) _ _ refl refl) refl
+request_lost m s (RenameFile old new) =
+    by_if left_lost (is_there m old) _ _ (by_if left_lost (is_there m new) _ _ refl refl) refl
 request_lost m s (RemoveFile path) = by_if left_lost (is_there m path) _ _ refl refl
 
-outcome_lost : (m : Files) (s : SessionView) (plan : Plan) → plan_lost plan ≡ false → left_lost (outcome_of m s plan) ≡ false
+outcome_lost : (m : Files) (s : SessionView) (plan : Plan) → plan_lost plan ≡ false
+    → left_lost (outcome_of m s plan) ≡ false
 unfolding plan_lost left_lost
 outcome_lost m s (Refuse error) h = h
 outcome_lost m s (Tell t answer) h = refl
 outcome_lost m s (Grow t answer) h = refl
 outcome_lost m s (Ask request) h = request_lost m s request
 
-step_wants : (m : Files) (s : SessionView) (c : List ℕ) (o : Result Left FileError) → left_lost o ≡ false → is_want (step_of m s (parse_of c) o).reply ≡ false
+step_wants : (m : Files) (s : SessionView) (c : List ℕ) (o : Result Left FileError) → left_lost o ≡ false
+    → is_want (step_of m s (parse_of c) o).reply ≡ false
 unfolding left_lost is_lost
 step_wants m s c (Ok left) h = want_told c (Ok left.answer)
 step_wants m s c (Err error) h = want_told c (Err error) ∙ h
 
 pub none_wanted : (m : Files) (s : SessionView) (c : List ℕ) → is_want (file_step m s c).reply ≡ false
-none_wanted m s c = step_wants m s c (outcome_of m s (plan_of s (parse_of c))) (outcome_lost m s (plan_of s (parse_of c)) (planned_lost s (parse_of c)))
+none_wanted m s c =
+    step_wants m s c (outcome_of m s (plan_of s (parse_of c)))
+    (outcome_lost m s (plan_of s (parse_of c)) (planned_lost s (parse_of c)))

@@ -30,14 +30,17 @@ suc_goes_on true m k h = let e : 0 ≡ suc k = h in omega arith
 suc_goes_on false m k h = let e : 1 + m ≡ suc k = h in omega arith
 
 -- a list about the first element that passes
-split_at : (p : ℕ → Bool) (xs : List ℕ) (n : ℕ) → prefix_len (λ x. not (p x)) xs ≡ n → n < length xs → (b : ℕ) × (p b ≡ true) × (xs ≡ take n xs ++ b ∷ drop (suc n) xs)
+split_at : (p : ℕ → Bool) (xs : List ℕ) (n : ℕ) → prefix_len (λ x. not (p x)) xs ≡ n → n < length xs
+    → (b : ℕ) × (p b ≡ true) × (xs ≡ take n xs ++ b ∷ drop (suc n) xs)
 split_at p [] n e l = absurd (omega arith)
 split_at p (x ∷ xs) zero e l = (x, zero_passes (p x) (prefix_len (λ y. not (p y)) xs) e, refl)
 split_at p (x ∷ xs) (suc k) e l =
-    let rest : (b : ℕ) × (p b ≡ true) × (xs ≡ take k xs ++ b ∷ drop (suc k) xs) = split_at p xs k (suc_goes_on (p x) (prefix_len (λ y. not (p y)) xs) k e) (omega arith) in
+    let rest : (b : ℕ) × (p b ≡ true) × (xs ≡ take k xs ++ b ∷ drop (suc k) xs) =
+    split_at p xs k (suc_goes_on (p x) (prefix_len (λ y. not (p y)) xs) k e) (omega arith) in
     (rest.0, rest.1, ap (λ ys. x ∷ ys) rest.2)
 
-cut_inner : (f : ℕ → List ℕ × List ℕ) (v : Bool) (n : ℕ) (q : List ℕ × List ℕ) → option_map f (cond v (Some n) None) ≡ Some q → (v ≡ true) × (f n ≡ q)
+cut_inner : (f : ℕ → List ℕ × List ℕ) (v : Bool) (n : ℕ) (q : List ℕ × List ℕ)
+    → option_map f (cond v (Some n) None) ≡ Some q → (v ≡ true) × (f n ≡ q)
 cut_inner f true n q h = (refl, cc)
 cut_inner f false n q h = (cc, cc)
 
@@ -58,7 +61,8 @@ front_inner false d rest h = (cc, cc)
 
 front_parts : (front bytes rest : List ℕ) → after_front front bytes ≡ Some rest → bytes ≡ front ++ rest
 front_parts front bytes rest h =
-    let c : (starts_with nat_eq bytes front ≡ true) × (drop (length front) bytes ≡ rest) = front_inner (starts_with nat_eq bytes front) (drop (length front) bytes) rest h in
+    let c : (starts_with nat_eq bytes front ≡ true) × (drop (length front) bytes ≡ rest) =
+    front_inner (starts_with nat_eq bytes front) (drop (length front) bytes) rest h in
     sym (take-append-drop (length front) bytes)
     ∙ ap (λ x. x ++ drop (length front) bytes) (sym (bytes_same front (take (length front) bytes) c.0))
     ∙ ap (λ r. front ++ r) c.1
@@ -77,11 +81,13 @@ legal_parts : (v : Bool) (c d : CommandView) → legal_if v c ≡ Formed d → (
 legal_parts true c d h = (refl, cc)
 legal_parts false c d h = (cc, cc)
 
-unless_parts : (v : Bool) (f : FormView) (c : CommandView) → (if v then Malformed else f) ≡ Formed c → (v ≡ false) × (f ≡ Formed c)
+unless_parts : (v : Bool) (f : FormView) (c : CommandView) → (if v then Malformed else f) ≡ Formed c
+    → (v ≡ false) × (f ≡ Formed c)
 unless_parts true f c h = (cc, cc)
 unless_parts false f c h = (refl, h)
 
-where_parts : (v : Bool) (f : FormView) (c : CommandView) → (if v then f else Malformed) ≡ Formed c → (v ≡ true) × (f ≡ Formed c)
+where_parts : (v : Bool) (f : FormView) (c : CommandView) → (if v then f else Malformed) ≡ Formed c
+    → (v ≡ true) × (f ≡ Formed c)
 where_parts true f c h = (refl, h)
 where_parts false f c h = (cc, cc)
 
@@ -89,60 +95,79 @@ where_parts false f c h = (cc, cc)
 Spells : List ℕ → List ℕ → Bool → CommandView → Type 0
 Spells word rest bare command = (word ++ rest ≡ spelling_of_command command) × (is_legal bare command ≡ true)
 
-spells : (word rest : List ℕ) (bare : Bool) (c d : CommandView) → c ≡ d → word ++ rest ≡ spelling_of_command c → is_legal bare c ≡ true → Spells word rest bare d
+spells : (word rest : List ℕ) (bare : Bool) (c d : CommandView) → c ≡ d → word ++ rest ≡ spelling_of_command c
+    → is_legal bare c ≡ true → Spells word rest bare d
 unfolding Spells
 spells word rest bare c d e h k = (h ∙ ap spelling_of_command e, ap (is_legal bare) (sym e) ∙ k)
 
 unmade : (c : CommandView) → Malformed ≡ Formed c → ⊥
 unmade c h = cc
 
-login_parts : (bare : Bool) (rest : List ℕ) (c : CommandView) → (o : Option (List ℕ)) → after_front (space ∷ []) rest ≡ o → login_form bare o ≡ Formed c → Spells (codes "LOGIN") rest bare c
+login_parts : (bare : Bool) (rest : List ℕ) (c : CommandView) → (o : Option (List ℕ))
+    → after_front (space ∷ []) rest ≡ o → login_form bare o ≡ Formed c → Spells (codes "LOGIN") rest bare c
 login_parts bare rest c None e h = absurd (unmade c h)
 login_parts bare rest c (Some name) e h =
-    let p : ((bare && is_name 1 MAX_NAME name) ≡ true) × (Login name ≡ c) = formed_parts (bare && is_name 1 MAX_NAME name) (Login name) c h in
-    spells (codes "LOGIN") rest bare (Login name) c p.1 (ap (λ r. codes "LOGIN" ++ r) (front_parts (space ∷ []) rest name e)) p.0
+    let p : ((bare && is_name 1 MAX_NAME name) ≡ true) × (Login name ≡ c) =
+    formed_parts (bare && is_name 1 MAX_NAME name) (Login name) c h in
+    spells (codes "LOGIN") rest bare (Login name) c p.1
+    (ap (λ r. codes "LOGIN" ++ r) (front_parts (space ∷ []) rest name e)) p.0
 
-open_write_parts : (rest : List ℕ) (c : CommandView) → (o : Option (List ℕ)) → after_front (codes " WRITE" ++ NL ∷ []) rest ≡ o → open_write_form o ≡ Formed c → Spells (codes "OPEN") rest false c
+open_write_parts : (rest : List ℕ) (c : CommandView) → (o : Option (List ℕ))
+    → after_front (codes " WRITE" ++ NL ∷ []) rest ≡ o → open_write_form o ≡ Formed c
+    → Spells (codes "OPEN") rest false c
 open_write_parts rest c None e h = absurd (unmade c h)
 open_write_parts rest c (Some path) e h =
     let p : (is_path path ≡ true) × (OpenWrite path ≡ c) = legal_parts (is_path path) (OpenWrite path) c h in
-    spells (codes "OPEN") rest false (OpenWrite path) c p.1 (ap (λ r. codes "OPEN" ++ r) (front_parts (codes " WRITE" ++ NL ∷ []) rest path e)) p.0
+    spells (codes "OPEN") rest false (OpenWrite path) c p.1
+    (ap (λ r. codes "OPEN" ++ r) (front_parts (codes " WRITE" ++ NL ∷ []) rest path e)) p.0
 
-open_parts : (rest : List ℕ) (c : CommandView) → (o : Option (List ℕ)) → after_front (codes " READ" ++ NL ∷ []) rest ≡ o → open_form rest o ≡ Formed c → Spells (codes "OPEN") rest false c
+open_parts : (rest : List ℕ) (c : CommandView) → (o : Option (List ℕ)) → after_front (codes " READ" ++ NL ∷ []) rest ≡ o
+    → open_form rest o ≡ Formed c → Spells (codes "OPEN") rest false c
 open_parts rest c None e h = open_write_parts rest c (after_front (codes " WRITE" ++ NL ∷ []) rest) refl h
 open_parts rest c (Some path) e h =
     let p : (is_path path ≡ true) × (OpenRead path ≡ c) = legal_parts (is_path path) (OpenRead path) c h in
-    spells (codes "OPEN") rest false (OpenRead path) c p.1 (ap (λ r. codes "OPEN" ++ r) (front_parts (codes " READ" ++ NL ∷ []) rest path e)) p.0
+    spells (codes "OPEN") rest false (OpenRead path) c p.1
+    (ap (λ r. codes "OPEN" ++ r) (front_parts (codes " READ" ++ NL ∷ []) rest path e)) p.0
 
 -- a word with nothing behind it
-alone_parts : (word rest : List ℕ) (bare : Bool) (c d : CommandView) → word ++ [] ≡ spelling_of_command c → not bare ≡ is_legal bare c → formed_if (not bare && is_nil rest) c ≡ Formed d → Spells word rest bare d
+alone_parts : (word rest : List ℕ) (bare : Bool) (c d : CommandView) → word ++ [] ≡ spelling_of_command c
+    → not bare ≡ is_legal bare c → formed_if (not bare && is_nil rest) c ≡ Formed d → Spells word rest bare d
 alone_parts word rest bare c d s l h =
     let p : ((not bare && is_nil rest) ≡ true) × (c ≡ d) = formed_parts (not bare && is_nil rest) c d h in
     spells word rest bare c d p.1
     (ap (λ r. word ++ r) (nil_parts rest (both_right (not bare) (is_nil rest) p.0)) ∙ s)
     (sym l ∙ both_left (not bare) (is_nil rest) p.0)
 
-write_parts : (rest : List ℕ) (c : CommandView) → (o : Option (List ℕ)) → after_front (NL ∷ []) rest ≡ o → write_form o ≡ Formed c → Spells (codes "WRITE") rest false c
+write_parts : (rest : List ℕ) (c : CommandView) → (o : Option (List ℕ)) → after_front (NL ∷ []) rest ≡ o
+    → write_form o ≡ Formed c → Spells (codes "WRITE") rest false c
 write_parts rest c None e h = absurd (unmade c h)
 write_parts rest c (Some bytes) e h =
-    let p : (nat_le (length bytes) MAX_CHUNK ≡ true) × (Write bytes ≡ c) = formed_parts (nat_le (length bytes) MAX_CHUNK) (Write bytes) c h in
-    spells (codes "WRITE") rest false (Write bytes) c p.1 (ap (λ r. codes "WRITE" ++ r) (front_parts (NL ∷ []) rest bytes e)) p.0
+    let p : (nat_le (length bytes) MAX_CHUNK ≡ true) × (Write bytes ≡ c) =
+    formed_parts (nat_le (length bytes) MAX_CHUNK) (Write bytes) c h in
+    spells (codes "WRITE") rest false (Write bytes) c p.1
+    (ap (λ r. codes "WRITE" ++ r) (front_parts (NL ∷ []) rest bytes e)) p.0
 
-paths_parts : (rest text : List ℕ) (c : CommandView) → rest ≡ NL ∷ text → (o : Option (List ℕ × List ℕ)) → cut NL text ≡ o → paths_form o ≡ Formed c → Spells (codes "RENAME") rest true c
+paths_parts : (rest text : List ℕ) (c : CommandView) → rest ≡ NL ∷ text → (o : Option (List ℕ × List ℕ))
+    → cut NL text ≡ o → paths_form o ≡ Formed c → Spells (codes "RENAME") rest true c
 paths_parts rest text c f None e h = absurd (unmade c h)
 paths_parts rest text c f (Some q) e h =
-    let p : ((is_path q.0 && is_path q.1) ≡ true) × (Rename q.0 q.1 ≡ c) = legal_parts (is_path q.0 && is_path q.1) (Rename q.0 q.1) c h in
-    spells (codes "RENAME") rest true (Rename q.0 q.1) c p.1 (ap (λ r. codes "RENAME" ++ r) (f ∙ ap (λ t. NL ∷ t) (cut_parts NL text q e))) p.0
+    let p : ((is_path q.0 && is_path q.1) ≡ true) × (Rename q.0 q.1 ≡ c) =
+    legal_parts (is_path q.0 && is_path q.1) (Rename q.0 q.1) c h in
+    spells (codes "RENAME") rest true (Rename q.0 q.1) c p.1
+    (ap (λ r. codes "RENAME" ++ r) (f ∙ ap (λ t. NL ∷ t) (cut_parts NL text q e))) p.0
 
-rename_parts : (rest : List ℕ) (c : CommandView) → (o : Option (List ℕ)) → after_front (NL ∷ []) rest ≡ o → rename_form o ≡ Formed c → Spells (codes "RENAME") rest true c
+rename_parts : (rest : List ℕ) (c : CommandView) → (o : Option (List ℕ)) → after_front (NL ∷ []) rest ≡ o
+    → rename_form o ≡ Formed c → Spells (codes "RENAME") rest true c
 rename_parts rest c None e h = absurd (unmade c h)
 rename_parts rest c (Some text) e h = paths_parts rest text c (front_parts (NL ∷ []) rest text e) (cut NL text) refl h
 
-delete_parts : (rest : List ℕ) (c : CommandView) → (o : Option (List ℕ)) → after_front (NL ∷ []) rest ≡ o → delete_form o ≡ Formed c → Spells (codes "DELETE") rest true c
+delete_parts : (rest : List ℕ) (c : CommandView) → (o : Option (List ℕ)) → after_front (NL ∷ []) rest ≡ o
+    → delete_form o ≡ Formed c → Spells (codes "DELETE") rest true c
 delete_parts rest c None e h = absurd (unmade c h)
 delete_parts rest c (Some path) e h =
     let p : (is_path path ≡ true) × (Delete path ≡ c) = legal_parts (is_path path) (Delete path) c h in
-    spells (codes "DELETE") rest true (Delete path) c p.1 (ap (λ r. codes "DELETE" ++ r) (front_parts (NL ∷ []) rest path e)) p.0
+    spells (codes "DELETE") rest true (Delete path) c p.1
+    (ap (λ r. codes "DELETE" ++ r) (front_parts (NL ∷ []) rest path e)) p.0
 
 -- the letters of a word
 letters : Word → List ℕ
@@ -154,35 +179,47 @@ letters w.Close = codes "CLOSE"
 letters w.Rename = codes "RENAME"
 letters w.Delete = codes "DELETE"
 
-barely : (word rest : List ℕ) (v bare : Bool) (c : CommandView) → bare ≡ v → Spells word rest v c → Spells word rest bare c
+barely : (word rest : List ℕ) (v bare : Bool) (c : CommandView) → bare ≡ v → Spells word rest v c
+    → Spells word rest bare c
 barely word rest v bare c e h = let P : Bool → Type 0 = λ b. Spells word rest b c in subst P (sym e) h
 
-form_parts : (bare : Bool) (rest : List ℕ) (c : CommandView) → (word : Word) → form_of word bare rest ≡ Formed c → Spells (letters word) rest bare c
+form_parts : (bare : Bool) (rest : List ℕ) (c : CommandView) → (word : Word) → form_of word bare rest ≡ Formed c
+    → Spells (letters word) rest bare c
 unfolding letters
 form_parts bare rest c w.Login h = login_parts bare rest c (after_front (space ∷ []) rest) refl h
 form_parts bare rest c w.Open h =
-    let p : (bare ≡ false) × (open_form rest (after_front (codes " READ" ++ NL ∷ []) rest) ≡ Formed c) = unless_parts bare (open_form rest (after_front (codes " READ" ++ NL ∷ []) rest)) c h in
-    barely (codes "OPEN") rest false bare c p.0 (open_parts rest c (after_front (codes " READ" ++ NL ∷ []) rest) refl p.1)
+    let p : (bare ≡ false) × (open_form rest (after_front (codes " READ" ++ NL ∷ []) rest) ≡ Formed c) =
+    unless_parts bare (open_form rest (after_front (codes " READ" ++ NL ∷ []) rest)) c h in
+    barely (codes "OPEN") rest false bare c p.0
+    (open_parts rest c (after_front (codes " READ" ++ NL ∷ []) rest) refl p.1)
 form_parts bare rest c w.Read h = alone_parts (codes "READ") rest bare Read c refl refl h
 form_parts bare rest c w.Write h =
-    let p : (bare ≡ false) × (write_form (after_front (NL ∷ []) rest) ≡ Formed c) = unless_parts bare (write_form (after_front (NL ∷ []) rest)) c h in
+    let p : (bare ≡ false) × (write_form (after_front (NL ∷ []) rest) ≡ Formed c) =
+    unless_parts bare (write_form (after_front (NL ∷ []) rest)) c h in
     barely (codes "WRITE") rest false bare c p.0 (write_parts rest c (after_front (NL ∷ []) rest) refl p.1)
 form_parts bare rest c w.Close h = alone_parts (codes "CLOSE") rest bare Close c refl refl h
 form_parts bare rest c w.Rename h =
-    let p : (bare ≡ true) × (rename_form (after_front (NL ∷ []) rest) ≡ Formed c) = where_parts bare (rename_form (after_front (NL ∷ []) rest)) c h in
+    let p : (bare ≡ true) × (rename_form (after_front (NL ∷ []) rest) ≡ Formed c) =
+    where_parts bare (rename_form (after_front (NL ∷ []) rest)) c h in
     barely (codes "RENAME") rest true bare c p.0 (rename_parts rest c (after_front (NL ∷ []) rest) refl p.1)
 form_parts bare rest c w.Delete h =
-    let p : (bare ≡ true) × (delete_form (after_front (NL ∷ []) rest) ≡ Formed c) = where_parts bare (delete_form (after_front (NL ∷ []) rest)) c h in
+    let p : (bare ≡ true) × (delete_form (after_front (NL ∷ []) rest) ≡ Formed c) =
+    where_parts bare (delete_form (after_front (NL ∷ []) rest)) c h in
     barely (codes "DELETE") rest true bare c p.0 (delete_parts rest c (after_front (NL ∷ []) rest) refl p.1)
 
 -- ---- the word
 
-word_or : (v : Bool) (bytes name : List ℕ) (a word : Word) (others : Option Word) → (v ≡ true → bytes ≡ name) → name ≡ letters a → (others ≡ Some word → bytes ≡ letters word) → (if v then Some a else others) ≡ Some word → bytes ≡ letters word
+word_or : (v : Bool) (bytes name : List ℕ) (a word : Word) (others : Option Word) → (v ≡ true → bytes ≡ name)
+    → name ≡ letters a → (others ≡ Some word → bytes ≡ letters word) → (if v then Some a else others) ≡ Some word
+    → bytes ≡ letters word
 word_or true bytes name a word others f s g h = let e : a ≡ word = cc in f refl ∙ s ∙ ap letters e
 word_or false bytes name a word others f s g h = g h
 
-word_next : (bytes name : List ℕ) (a word : Word) (others : Option Word) → name ≡ letters a → (others ≡ Some word → bytes ≡ letters word) → (if bytes_eq bytes name then Some a else others) ≡ Some word → bytes ≡ letters word
-word_next bytes name a word others s g h = word_or (bytes_eq bytes name) bytes name a word others (bytes_same bytes name) s g h
+word_next : (bytes name : List ℕ) (a word : Word) (others : Option Word) → name ≡ letters a
+    → (others ≡ Some word → bytes ≡ letters word) → (if bytes_eq bytes name then Some a else others) ≡ Some word
+    → bytes ≡ letters word
+word_next bytes name a word others s g h =
+    word_or (bytes_eq bytes name) bytes name a word others (bytes_same bytes name) s g h
 
 no_word : (bytes : List ℕ) (word : Word) → ◌≡◌ {A = Option Word} None (Some word) → bytes ≡ letters word
 no_word bytes word h = cc
@@ -206,32 +243,43 @@ SpellsTail t h tail (Good tid handle command) =
     (t ≡ tid) × (h ≡ handle) × (tail ≡ spelling_of_command command) × (is_legal (is_nil h) command ≡ true)
 SpellsTail t h tail _ = Unit {0}
 
-form_spells : (t h : List ℕ) (word : Word) (end : ℕ) (tail : List ℕ) → take end tail ≡ letters word → (f : FormView) → form_of word (is_nil h) (drop end tail) ≡ f → SpellsTail t h tail (parse_of_form t h word f)
+form_spells : (t h : List ℕ) (word : Word) (end : ℕ) (tail : List ℕ) → take end tail ≡ letters word → (f : FormView)
+    → form_of word (is_nil h) (drop end tail) ≡ f → SpellsTail t h tail (parse_of_form t h word f)
 unfolding SpellsTail Spells
 form_spells t h word end tail e Malformed f = tt
 form_spells t h word end tail e IllegalPath f = tt
 form_spells t h word end tail e (Formed command) f =
-    let s : Spells (letters word) (drop end tail) (is_nil h) command = form_parts (is_nil h) (drop end tail) command word f in
+    let s : Spells (letters word) (drop end tail) (is_nil h) command =
+    form_parts (is_nil h) (drop end tail) command word f in
     (refl, refl, sym (take-append-drop end tail) ∙ ap (λ x. x ++ drop end tail) e ∙ s.0, s.1)
 
-word_spells : (t h : List ℕ) (end : ℕ) (tail : List ℕ) → (o : Option Word) → word_of (take end tail) ≡ o → SpellsTail t h tail (parse_of_word t h (drop end tail) o)
+word_spells : (t h : List ℕ) (end : ℕ) (tail : List ℕ) → (o : Option Word) → word_of (take end tail) ≡ o
+    → SpellsTail t h tail (parse_of_word t h (drop end tail) o)
 unfolding SpellsTail
 word_spells t h end tail None e = tt
-word_spells t h end tail (Some word) e = form_spells t h word end tail (word_parts (take end tail) word e) (form_of word (is_nil h) (drop end tail)) refl
+word_spells t h end tail (Some word) e =
+    form_spells t h word end tail (word_parts (take end tail) word e) (form_of word (is_nil h) (drop end tail)) refl
 
-tail_or : (t h tail : List ℕ) (p : ParsedView) → SpellsTail t h tail p → (v : Bool) → SpellsTail t h tail (if v then NoWord t h else p)
+tail_or : (t h tail : List ℕ) (p : ParsedView) → SpellsTail t h tail p → (v : Bool)
+    → SpellsTail t h tail (if v then NoWord t h else p)
 unfolding SpellsTail
 tail_or t h tail p s true = tt
 tail_or t h tail p s false = s
 
 tail_spells : (t h tail : List ℕ) (end : ℕ) → SpellsTail t h tail (parse_of_tail t h tail end)
-tail_spells t h tail end = tail_or t h tail (parse_of_word t h (drop end tail) (word_of (take end tail))) (word_spells t h end tail (word_of (take end tail)) refl) (end == 0)
+tail_spells t h tail end =
+    tail_or t h tail (parse_of_word t h (drop end tail) (word_of (take end tail)))
+    (word_spells t h end tail (word_of (take end tail)) refl) (end == 0)
 
 -- the head of a command: its two legal names, and what follows
 unfoldable pub IsHead : List ℕ → Head → Type 0
-IsHead bytes h = (bytes ≡ h.tid ++ space ∷ (h.handle ++ space ∷ h.tail)) × (is_name 1 MAX_TID h.tid ≡ true) × (is_name 0 MAX_HANDLE h.handle ≡ true)
+IsHead bytes h =
+    (bytes ≡ h.tid ++ space ∷ (h.handle ++ space ∷ h.tail)) × (is_name 1 MAX_TID h.tid ≡ true)
+    × (is_name 0 MAX_HANDLE h.handle ≡ true)
 
-head_if : (bytes : List ℕ) (g h : Head) (a b : Bool) → bytes ≡ g.tid ++ space ∷ (g.handle ++ space ∷ g.tail) → is_name 1 MAX_TID g.tid ≡ a → is_name 0 MAX_HANDLE g.handle ≡ b → (if a && b then Some g else None) ≡ Some h → IsHead bytes h
+head_if : (bytes : List ℕ) (g h : Head) (a b : Bool) → bytes ≡ g.tid ++ space ∷ (g.handle ++ space ∷ g.tail)
+    → is_name 1 MAX_TID g.tid ≡ a → is_name 0 MAX_HANDLE g.handle ≡ b → (if a && b then Some g else None) ≡ Some h
+    → IsHead bytes h
 unfolding IsHead
 head_if bytes g h true true e p q k =
     let same : g ≡ h = cc in
@@ -240,34 +288,49 @@ head_if bytes g h true true e p q k =
 head_if bytes g h true false e p q k = (cc, cc, cc)
 head_if bytes g h false b e p q k = (cc, cc, cc)
 
-named_parts : (bytes tid after : List ℕ) (h : Head) → bytes ≡ tid ++ space ∷ after → (o : Option (List ℕ × List ℕ)) → cut space after ≡ o → named_head tid o ≡ Some h → IsHead bytes h
+named_parts : (bytes tid after : List ℕ) (h : Head) → bytes ≡ tid ++ space ∷ after → (o : Option (List ℕ × List ℕ))
+    → cut space after ≡ o → named_head tid o ≡ Some h → IsHead bytes h
 unfolding IsHead
 named_parts bytes tid after h e None f k = (cc, cc, cc)
 named_parts bytes tid after h e (Some q) f k =
-    head_if bytes (record { tid = tid; handle = q.0; tail = q.1 }) h (is_name 1 MAX_TID tid) (is_name 0 MAX_HANDLE q.0) (e ∙ ap (λ x. tid ++ space ∷ x) (cut_parts space after q f)) refl refl k
+    head_if bytes (record { tid = tid; handle = q.0; tail = q.1 }) h (is_name 1 MAX_TID tid) (is_name 0 MAX_HANDLE q.0)
+    (e ∙ ap (λ x. tid ++ space ∷ x) (cut_parts space after q f)) refl refl k
 
-pub head_parts : (bytes : List ℕ) (h : Head) → (o : Option (List ℕ × List ℕ)) → cut space bytes ≡ o → head_after o ≡ Some h → IsHead bytes h
+pub head_parts : (bytes : List ℕ) (h : Head) → (o : Option (List ℕ × List ℕ)) → cut space bytes ≡ o
+    → head_after o ≡ Some h → IsHead bytes h
 unfolding IsHead
 head_parts bytes h None e k = (cc, cc, cc)
 head_parts bytes h (Some q) e k = named_parts bytes q.0 q.1 h (cut_parts space bytes q e) (cut space q.1) refl k
 
-whole : (bytes : List ℕ) (h : Head) (tid handle : List ℕ) (command : CommandView) → IsHead bytes h → (p : ParsedView) → SpellsTail h.tid h.handle h.tail p → p ≡ Good tid handle command → (bytes ≡ spelling_of tid handle command) × (is_good tid handle command ≡ true)
+whole : (bytes : List ℕ) (h : Head) (tid handle : List ℕ) (command : CommandView) → IsHead bytes h → (p : ParsedView)
+    → SpellsTail h.tid h.handle h.tail p → p ≡ Good tid handle command
+    → (bytes ≡ spelling_of tid handle command) × (is_good tid handle command ≡ true)
 unfolding IsHead SpellsTail
 whole bytes h tid handle command i p s e =
     let P : ParsedView → Type 0 = λ x. SpellsTail h.tid h.handle h.tail x in
-    let g : (h.tid ≡ tid) × (h.handle ≡ handle) × (h.tail ≡ spelling_of_command command) × (is_legal (is_nil h.handle) command ≡ true) = subst P e s in (
-      i.0 ∙ ap (λ x. x ++ space ∷ (h.handle ++ space ∷ h.tail)) g.0 ∙ ap (λ x. tid ++ space ∷ (x ++ space ∷ h.tail)) g.1 ∙ ap (λ x. tid ++ space ∷ (handle ++ space ∷ x)) g.2,
-      both (is_name 1 MAX_TID tid) (is_name 0 MAX_HANDLE handle && is_legal (is_nil handle) command) (ap (is_name 1 MAX_TID) (sym g.0) ∙ i.1)
-          (both (is_name 0 MAX_HANDLE handle) (is_legal (is_nil handle) command) (ap (is_name 0 MAX_HANDLE) (sym g.1) ∙ i.2) (ap (λ x. is_legal (is_nil x) command) (sym g.1) ∙ g.3)),
+    let g : (h.tid ≡ tid) × (h.handle ≡ handle) × (h.tail ≡ spelling_of_command command)
+    × (is_legal (is_nil h.handle) command ≡ true) =
+    subst P e s in (
+      i.0 ∙ ap (λ x. x ++ space ∷ (h.handle ++ space ∷ h.tail)) g.0 ∙ ap (λ x. tid ++ space ∷ (x ++ space ∷ h.tail)) g.1
+          ∙ ap (λ x. tid ++ space ∷ (handle ++ space ∷ x)) g.2,
+      both (is_name 1 MAX_TID tid) (is_name 0 MAX_HANDLE handle && is_legal (is_nil handle) command)
+          (ap (is_name 1 MAX_TID) (sym g.0) ∙ i.1)
+          (both (is_name 0 MAX_HANDLE handle) (is_legal (is_nil handle) command)
+          (ap (is_name 0 MAX_HANDLE) (sym g.1) ∙ i.2) (ap (λ x. is_legal (is_nil x) command) (sym g.1) ∙ g.3)),
     )
 
-read_from : (bytes tid handle : List ℕ) (command : CommandView) → (o : Option Head) → head_of bytes ≡ o → parse_of_head o ≡ Good tid handle command → (bytes ≡ spelling_of tid handle command) × (is_good tid handle command ≡ true)
+read_from : (bytes tid handle : List ℕ) (command : CommandView) → (o : Option Head) → head_of bytes ≡ o
+    → parse_of_head o ≡ Good tid handle command
+    → (bytes ≡ spelling_of tid handle command) × (is_good tid handle command ≡ true)
 read_from bytes tid handle command None e h = (cc, cc)
 read_from bytes tid handle command (Some g) e h =
-    whole bytes g tid handle command (head_parts bytes g (cut space bytes) refl e) (parse_of_tail g.tid g.handle g.tail (word_end g.tail)) (tail_spells g.tid g.handle g.tail (word_end g.tail)) h
+    whole bytes g tid handle command (head_parts bytes g (cut space bytes) refl e)
+    (parse_of_tail g.tid g.handle g.tail (word_end g.tail)) (tail_spells g.tid g.handle g.tail (word_end g.tail)) h
 
-pub read_spelled : (bytes tid handle : List ℕ) (command : CommandView) → parse_of bytes ≡ Good tid handle command → bytes ≡ spelling_of tid handle command
+pub read_spelled : (bytes tid handle : List ℕ) (command : CommandView) → parse_of bytes ≡ Good tid handle command
+    → bytes ≡ spelling_of tid handle command
 read_spelled bytes tid handle command h = (read_from bytes tid handle command (head_of bytes) refl h).0
 
-pub read_good : (bytes tid handle : List ℕ) (command : CommandView) → parse_of bytes ≡ Good tid handle command → is_good tid handle command ≡ true
+pub read_good : (bytes tid handle : List ℕ) (command : CommandView) → parse_of bytes ≡ Good tid handle command
+    → is_good tid handle command ≡ true
 read_good bytes tid handle command h = (read_from bytes tid handle command (head_of bytes) refl h).1

@@ -49,7 +49,8 @@ Applies store m s t command reply =
 
 -- ---- over any store
 
--- the reply and the session where the store has done as asked: a handle that reads holds bytes such as its `get` may give
+-- the reply and the session where the store has done as asked: a handle that reads holds bytes such as its `get` may
+-- give
 abbrev pub IsServed : StoreChange → Request → ParsedView → List ℕ → SessionView → SessionView → Type 0
 IsServed store (GetFile name path) p reply s t =
     (bytes : List ℕ) × store.may_give path bytes × (reply ≡ reply_to p (Ok (Opened (length bytes))))
@@ -81,4 +82,5 @@ pub record IsApplied (store : StoreChange) (s t : SessionView) (command reply : 
   -- after an ERROR reply the session is as it was
   pub kept : (error : FileError) → reply ≡ reply_to (parse_of command) (Err error) → t ≡ s
   -- and so are the files
-  pub kept_files : IfSome store.before (λ m. (error : FileError) → reply ≡ reply_to (parse_of command) (Err error) → store.after ≡ Some m)
+  pub kept_files : IfSome store.before
+      (λ m. (error : FileError) → reply ≡ reply_to (parse_of command) (Err error) → store.after ≡ Some m)

@@ -2,8 +2,8 @@
 use Rattle.std.specs.Prelude.{ℕ, ◌+◌, ◌-◌, min}
 use Rattle.chaos_packet.specs.Count.{max_count, with_failure}
 
--- the store behind the fuse, how many calls are left up to and with the one that fails (0 where none fails any more), and how
--- many failed by the fuse
+-- the store behind the fuse, how many calls are left up to and with the one that fails (0 where none fails any more),
+-- and how many failed by the fuse
 pub record FuseView (S : Type 0) : Type 0 where
   pub inner : S
   pub calls_left : ℕ

@@ -64,7 +64,8 @@ abbrev pub Serves : StoreChange → Request → Work → Type 0
 Serves store (GetFile name path) work =
     (bytes : List ℕ) × store.may_give path bytes × (work.reply ≡ work.front ++ answer_text (Opened (length bytes)))
     × (work.new ≡ with_new_handle work.old (reader name path bytes))
-Serves store (PutFile path bytes u) work = (work.reply ≡ work.front ++ answer_text (Closed (length bytes))) × (work.new ≡ u)
+Serves store (PutFile path bytes u) work =
+    (work.reply ≡ work.front ++ answer_text (Closed (length bytes))) × (work.new ≡ u)
 Serves store (RenameFile old new) work = (work.reply ≡ work.front ++ answer_text Renamed) × (work.new ≡ work.old)
 Serves store (RemoveFile path) work = (work.reply ≡ work.front ++ answer_text Deleted) × (work.new ≡ work.old)
 

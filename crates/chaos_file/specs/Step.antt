@@ -27,7 +27,8 @@ outcome_of_look m s name path (Found bytes) =
 -- what the store decides
 abbrev pub outcome_of_request : Files → SessionView → Request → Result Left FileError
 outcome_of_request m s (GetFile name path) = outcome_of_look m s name path (look_for m path MAX_FILE)
-outcome_of_request m s (PutFile path bytes t) = Ok (record { files = map.insert m path bytes; session = t; answer = Closed (length bytes) })
+outcome_of_request m s (PutFile path bytes t) =
+    Ok (record { files = map.insert m path bytes; session = t; answer = Closed (length bytes) })
 outcome_of_request m s (RenameFile old new) =
     if is_there m old then
     (if is_there m new then Err e.FileExists

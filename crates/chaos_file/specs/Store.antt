@@ -71,7 +71,8 @@ Removes path d.NoMemory after m = after ≡ Some m
 
 -- a file moved to a path that is free; the old path is looked for first
 abbrev pub Renames : List ℕ → List ℕ → Renamed → Option Files → Files → Type 0
-Renames old new r.Done after m = (is_there m old ≡ true) × (is_there m new ≡ false) × (after ≡ Some (with_moved m old new))
+Renames old new r.Done after m =
+    (is_there m old ≡ true) × (is_there m new ≡ false) × (after ≡ Some (with_moved m old new))
 Renames old new r.Absent after m = (is_there m old ≡ false) × (after ≡ Some m)
 Renames old new r.Exists after m = (is_there m old ≡ true) × (is_there m new ≡ true) × (after ≡ Some m)
 Renames old new r.Failed after m = after ≡ Some m
@@ -97,8 +98,8 @@ failures_after_rename _ count = count
 
 -- ---- what a command leaves of a store
 
--- its files before and afterwards, where it is honest; which bytes a `get` of a path may give, never more than the greatest
--- file; that its count of failures rose; and that it is as it was
+-- its files before and afterwards, where it is honest; which bytes a `get` of a path may give, never more than the
+-- greatest file; that its count of failures rose; and that it is as it was
 pub record StoreChange : Type 1 where
   pub before : Option Files
   pub after : Option Files
@@ -107,7 +108,8 @@ pub record StoreChange : Type 1 where
   pub same : Type 0
 
 -- how a store changed, by its files, by what it may give within a limit, and by its count
-abbrev pub change : {A : Type 0} → (A → Option Files) → (A → List ℕ → ℕ → List ℕ → Type 0) → (A → ℕ) → A → A → StoreChange
+abbrev pub change : {A : Type 0} → (A → Option Files) → (A → List ℕ → ℕ → List ℕ → Type 0) → (A → ℕ) → A → A
+    → StoreChange
 change contents may_give count old new = record {
   before = contents old;
   after = contents new;

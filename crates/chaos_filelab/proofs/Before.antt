@@ -11,7 +11,8 @@ use Rattle.chaos_filelab.specs.Exact.{file_happen, IsExact}
 use Rattle.chaos_filelab.specs.Settling.{after_events, Stopped}
 
 -- a laboratory after the first events of a list, and the rest of the list
-pub record Before (start : FileLabView) (whole : List FileHappening) (now : FileLabView) (rest : List FileHappening) : Type 0 where
+pub record Before (start : FileLabView) (whole : List FileHappening) (now : FileLabView)
+    (rest : List FileHappening) : Type 0 where
   pub done : List FileHappening
   pub at : now ≡ after_events start done
   pub all : whole ≡ done ++ rest
@@ -19,11 +20,14 @@ pub record Before (start : FileLabView) (whole : List FileHappening) (now : File
 pub before_none : (l : FileLabView) (whole rest : List FileHappening) → rest ≡ whole → Before l whole l rest
 before_none l whole rest same = record { done = []; at = refl; all = sym same }
 
-after_both : (l : FileLabView) (es fs : List FileHappening) → after_events l (es ++ fs) ≡ after_events (after_events l es) fs
+after_both : (l : FileLabView) (es fs : List FileHappening)
+    → after_events l (es ++ fs) ≡ after_events (after_events l es) fs
 after_both l [] fs = refl
 after_both l (event ∷ es) fs = after_both (file_happen l event).view es fs
 
-pub before_one : (l : FileLabView) (whole : List FileHappening) (now next : FileLabView) (event : FileHappening) (rest others : List FileHappening) → Before l whole now rest → rest ≡ event ∷ others → next ≡ (file_happen now event).view → Before l whole next others
+pub before_one : (l : FileLabView) (whole : List FileHappening) (now next : FileLabView) (event : FileHappening)
+    (rest others : List FileHappening)
+    → Before l whole now rest → rest ≡ event ∷ others → next ≡ (file_happen now event).view → Before l whole next others
 before_one l whole now next event rest others b is goes =
     record {
       done = b.done ++ event ∷ [];
@@ -31,15 +35,19 @@ before_one l whole now next event rest others b is goes =
       all = b.all ∙ ap (λ es. b.done ++ es) is ∙ sym (append_assoc b.done (event ∷ []) others);
     }
 
-pub before_all : (l : FileLabView) (whole : List FileHappening) (now : FileLabView) (rest : List FileHappening) → Before l whole now rest → rest ≡ [] → now ≡ after_events l whole
-before_all l whole now rest b none = b.at ∙ ap (after_events l) (sym (b.all ∙ ap (λ es. b.done ++ es) none ∙ append-nil b.done))
+pub before_all : (l : FileLabView) (whole : List FileHappening) (now : FileLabView) (rest : List FileHappening)
+    → Before l whole now rest → rest ≡ [] → now ≡ after_events l whole
+before_all l whole now rest b none =
+    b.at ∙ ap (after_events l) (sym (b.all ∙ ap (λ es. b.done ++ es) none ∙ append-nil b.done))
 
 first_of : (done rest : List FileHappening) → take (length done) (done ++ rest) ≡ done
 first_of [] rest = refl
 first_of (e ∷ done) rest = ap (λ es. e ∷ es) (first_of done rest)
 
 -- there was no memory for the next one
-pub stopped_before : (l : FileLabView) (whole : List FileHappening) (now new : FileLabView) (event : FileHappening) (rest others : List FileHappening) → Before l whole now rest → rest ≡ event ∷ others → new ≡ now → Stopped l whole new
+pub stopped_before : (l : FileLabView) (whole : List FileHappening) (now new : FileLabView) (event : FileHappening)
+    (rest others : List FileHappening)
+    → Before l whole now rest → rest ≡ event ∷ others → new ≡ now → Stopped l whole new
 stopped_before l whole now new event rest others b is same =
     let all : whole ≡ b.done ++ event ∷ others = b.all ∙ ap (λ es. b.done ++ es) is in
     let long = length-append b.done (event ∷ others) in
@@ -47,7 +55,8 @@ stopped_before l whole now new event rest others b is same =
     (length b.done, omega (arith, long, count), same ∙ b.at ∙ ap (after_events l) (sym (ap (take (length b.done)) all ∙ first_of b.done (event ∷ others))))
 
 -- an event that isn't refused, where memory is not wanted, did what it does
-pub exact_goes : (l m : FileLabView) (event : FileHappening) (answer : Result FileStepped LabFault) → IsExact l event m answer → is_err answer ≡ false → m ≡ (file_happen l event).view
+pub exact_goes : (l m : FileLabView) (event : FileHappening) (answer : Result FileStepped LabFault)
+    → IsExact l event m answer → is_err answer ≡ false → m ≡ (file_happen l event).view
 exact_goes l m event answer (inl h) ok = h.0
 exact_goes l m event answer (inr h) ok = absurd (false≢true (sym ok ∙ ap is_err h.1))
 

@@ -13,7 +13,8 @@ use Rattle.chaos_file.specs.Want.{is_want}
 use Rattle.chaos_filelab.specs.Bodies.{with_body, data_bodies, is_data_kind, is_mem, some_mem, told_want}
 use Rattle.chaos_serve.specs.declared.served.Served.TheVariants as told
 
-with_any : (k : Kind) (body : List ℕ) (bodies : List (List ℕ)) → list_any is_want (with_body k body bodies) ≡ ((is_data_kind k && is_want body) || list_any is_want bodies)
+with_any : (k : Kind) (body : List ℕ) (bodies : List (List ℕ))
+    → list_any is_want (with_body k body bodies) ≡ ((is_data_kind k && is_want body) || list_any is_want bodies)
 with_any kind.Data body bodies = refl
 with_any kind.Rfc body bodies = refl
 with_any kind.Opn body bodies = refl
@@ -30,9 +31,11 @@ with_any kind.Other body bodies = refl
 
 pub any_bodies : (items : List ItemView) → list_any is_want (data_bodies items) ≡ list_any is_mem items
 any_bodies [] = refl
-any_bodies (item ∷ items) = with_any (kind_of item.op) item.body (data_bodies items) ∙ ap (λ b. is_mem item || b) (any_bodies items)
+any_bodies (item ∷ items) =
+    with_any (kind_of item.op) item.body (data_bodies items) ∙ ap (λ b. is_mem item || b) (any_bodies items)
 
-with_append : (k : Kind) (body : List ℕ) (xs ys : List (List ℕ)) → with_body k body xs ++ ys ≡ with_body k body (xs ++ ys)
+with_append : (k : Kind) (body : List ℕ) (xs ys : List (List ℕ))
+    → with_body k body xs ++ ys ≡ with_body k body (xs ++ ys)
 with_append kind.Data body xs ys = refl
 with_append kind.Rfc body xs ys = refl
 with_append kind.Opn body xs ys = refl
@@ -49,7 +52,9 @@ with_append kind.Other body xs ys = refl
 
 pub bodies_append : (xs ys : List ItemView) → data_bodies (xs ++ ys) ≡ data_bodies xs ++ data_bodies ys
 bodies_append [] ys = refl
-bodies_append (x ∷ xs) ys = ap (with_body (kind_of x.op) x.body) (bodies_append xs ys) ∙ sym (with_append (kind_of x.op) x.body (data_bodies xs) (data_bodies ys))
+bodies_append (x ∷ xs) ys =
+    ap (with_body (kind_of x.op) x.body) (bodies_append xs ys)
+    ∙ sym (with_append (kind_of x.op) x.body (data_bodies xs) (data_bodies ys))
 
 -- ---- beginnings
 
@@ -60,7 +65,9 @@ pub begins_whole : {X : Type 0} (xs ys zs : List X) → ys ≡ xs ++ zs → Begi
 begins_whole xs ys zs e = subst (λ l. Begins xs l) (sym e) (take-append_seam xs zs)
 
 pub bodies_begin : (xs ys : List ItemView) → Begins xs ys → Begins (data_bodies xs) (data_bodies ys)
-bodies_begin xs ys h = begins_whole (data_bodies xs) (data_bodies ys) (data_bodies (drop (length xs) ys)) (ap data_bodies (begins_split xs ys h) ∙ bodies_append xs (drop (length xs) ys))
+bodies_begin xs ys h =
+    begins_whole (data_bodies xs) (data_bodies ys) (data_bodies (drop (length xs) ys))
+    (ap data_bodies (begins_split xs ys h) ∙ bodies_append xs (drop (length xs) ys))
 
 -- ---- items of a list
 
@@ -88,11 +95,13 @@ any_more [] x = sym (or_false (is_mem x))
 any_more (y ∷ xs) x = or_more (is_mem y) (list_any is_mem xs) (is_mem x) ∙ ap (λ b. is_mem y || b) (any_more xs x)
 
 -- nothing was written
-pub want_same : (xs : List ItemView) (flag : Bool) → flag ≡ list_any is_want (data_bodies xs) → (flag || false) ≡ list_any is_want (data_bodies xs)
+pub want_same : (xs : List ItemView) (flag : Bool) → flag ≡ list_any is_want (data_bodies xs)
+    → (flag || false) ≡ list_any is_want (data_bodies xs)
 want_same xs flag is = or_false flag ∙ is
 
 -- a reply was
-pub want_more : (xs : List ItemView) (x : ItemView) (flag : Bool) → flag ≡ list_any is_want (data_bodies xs) → (flag || told_want told.Replied (xs ++ x ∷ [])) ≡ list_any is_want (data_bodies (xs ++ x ∷ []))
+pub want_more : (xs : List ItemView) (x : ItemView) (flag : Bool) → flag ≡ list_any is_want (data_bodies xs)
+    → (flag || told_want told.Replied (xs ++ x ∷ [])) ≡ list_any is_want (data_bodies (xs ++ x ∷ []))
 want_more xs x flag is =
     let last : length (xs ++ x ∷ []) - 1 ≡ length xs = omega (arith, length-append xs (x ∷ [])) in
     ap (λ b. b || told_want told.Replied (xs ++ x ∷ [])) (is ∙ any_bodies xs)

@@ -41,7 +41,8 @@ pub record SavedCopy (n room k i : ℕ) (w : Machine) : Type 0 where
 pub record Saved (n room before : ℕ) (w : Machine) : Type 0 where
   pub receipted : ℕ
   pub arrived : (i : ℕ) → i < receipted → contains w.b.arrived i ≡ true
-  pub copies : (i : ℕ) → receipted ≤ i → i < length w.a.written → SavedCopy n room (before - (length w.a.written - i)) i w
+  pub copies : (i : ℕ) → receipted ≤ i → i < length w.a.written
+      → SavedCopy n room (before - (length w.a.written - i)) i w
 
 pub saved_keeps : (n room before : ℕ) (w v : Machine) → Keeps w v → Saved n room before w → Saved n room before v
 saved_keeps n room before w v k s =
@@ -84,7 +85,8 @@ pub record Fetched (n copy : ℕ) (w : Machine) (l : LabView) : Type 0 where
   pub plays : Plays n w l (fetching copy l) machine
   pub next : HasNext machine
 
-fetched : PhaseLaws → (n room before unread : ℕ) (w : Machine) (l : LabView) → Ties w l → AreOpen w → 1 ≤ w.b.announced → Saved n room before w → length w.b.read + suc unread ≡ length w.a.written → Fetched n (before - suc unread) w l
+fetched : PhaseLaws → (n room before unread : ℕ) (w : Machine) (l : LabView) → Ties w l → AreOpen w → 1 ≤ w.b.announced
+    → Saved n room before w → length w.b.read + suc unread ≡ length w.a.written → Fetched n (before - suc unread) w l
 fetched laws n room before unread w l t opens some saved count =
     let r = cond_both (is_none (front_of (conn_at l B))) (DeliverCopy (before - suc unread) ∷ []) [] Front waits here in
     record { machine = r.0; plays = r.1; next = r.2 }
@@ -96,14 +98,16 @@ fetched laws n room before unread w l t opens some saved count =
     here h =
         let i : ℕ = length w.b.read in
         let e = end_holds w B (reached_holds w t.tied.reached) in
-        let front : front_of (conn_at l B) ≡ there_at w.a w.b i = ap front_of (shows B w l t (opens B)).is ∙ front_is (first_at l A) w.a w.b e.ok.caps.2 in
+        let front : front_of (conn_at l B) ≡ there_at w.a w.b i =
+        ap front_of (shows B w l t (opens B)).is ∙ front_is (first_at l A) w.a w.b e.ok.caps.2 in
         (w, plays_none n w l t, some_there w.a w.b i (ap is_none (sym front) ∙ h))
 
     waits : is_none (front_of (conn_at l B)) ≡ true → Front (DeliverCopy (before - suc unread) ∷ [])
     waits none =
         let number : ℕ = before - suc unread in
         let i : ℕ = length w.b.read in
-        let missing : contains w.b.arrived i ≡ false = waiting B w l t (opens B) (none_is (front_of (conn_at l B)) none) in
+        let missing : contains w.b.arrived i ≡ false =
+        waiting B w l t (opens B) (none_is (front_of (conn_at l B)) none) in
         let low : saved.receipted ≤ i =
         ⊎_elim
         (λ (u : i < saved.receipted). absurd (false≢true (sym missing ∙ saved.arrived i u)))
@@ -111,14 +115,17 @@ fetched laws n room before unread w l t opens some saved count =
         (cases_lt i saved.receipted) in
         let c = saved.copies i low (omega (arith, count)) in
         let place : before - (length w.a.written - i) ≡ number = omega (arith, count) in
-        let at : CopyAt w A number c.copy = record { there = ap (slice_get w.copies) (sym place) ∙ c.there; sender = c.sender; fresh = (c.fresh_a, omega (arith, c.fresh_b)) } in
+        let at : CopyAt w A number c.copy =
+        record { there = ap (slice_get w.copies) (sym place) ∙ c.there; sender = c.sender; fresh = (c.fresh_a, omega (arith, c.fresh_b)) } in
         let apart : c.copy.kind ≡ Cls → ⊥ = λ is. let no : Nth i ≡ Cls = sym c.kind ∙ is in absurd (cc) in
         let d = copy_event A w l number c.copy t at (opens B) apart in
         let v : Machine = d.machine in
         let m : LabView = (happen l (DeliverCopy number)).lab in
         let quiet = quiet_all laws (DeliverCopy number ∷ []) l (tt, tt) (record { plain = w; ties = t }) in
         let same : length v.b.read ≡ i = ap length (sym (read_at B v m d.ties) ∙ quiet.read ∙ read_at B w l t) in
-        let there : IsThere v.b i = subst (λ (e : Plain). IsThere e i) (sym d.came.is) (took_there c.copy.kind i c.copy.told w.a w.b c.kind (omega arith) some) in (
+        let there : IsThere v.b i =
+        subst (λ (e : Plain). IsThere e i) (sym d.came.is)
+        (took_there c.copy.kind i c.copy.told w.a w.b c.kind (omega arith) some) in (
           v,
           plays_one n w v l (DeliverCopy number) (omega (arith, c.late, place)) d.taken d.ties d.came.keeps,
           ⊎_elim
@@ -139,7 +146,9 @@ pub record Asked (n copy : ℕ) (w : Machine) (l : LabView) : Type 0 where
   pub heard : length w.a.read ≤ machine.b.acknowledged
   pub room : 1 ≤ machine.b.window
 
-pub asked : PhaseLaws → (n room before unread : ℕ) (w : Machine) (l : LabView) → Ties w l → AreOpen w → n ≤ length l.copies → 1 ≤ w.b.announced → Saved n room before w → length w.b.read + suc unread ≡ length w.a.written → Asked n (before - suc unread) w l
+pub asked : PhaseLaws → (n room before unread : ℕ) (w : Machine) (l : LabView) → Ties w l → AreOpen w
+    → n ≤ length l.copies → 1 ≤ w.b.announced → Saved n room before w
+    → length w.b.read + suc unread ≡ length w.a.written → Asked n (before - suc unread) w l
 asked laws n room before unread w l t opens from some saved count =
     let copy : ℕ = before - suc unread in
     let f = fetched laws n room before unread w l t opens some saved count in
@@ -148,15 +157,19 @@ asked laws n room before unread w l t opens from some saved count =
     let m : LabView = after_all l es in
     let first : length l.copies ≡ length w.copies = same_count w l t in
     let mid : length m.copies ≡ length u.copies = same_count u m f.plays.ties in
-    let h = told_by n B u m f.plays.ties (stay_open w u f.plays.keeps opens) (omega (arith, first, mid, f.plays.keeps.count, from)) in
+    let h =
+    told_by n B u m f.plays.ties (stay_open w u f.plays.keeps opens)
+    (omega (arith, first, mid, f.plays.keeps.count, from)) in
     let v : Machine = h.machine in
     let quiet : AreQuiet (asking copy l) = quiet_both es (telling A m) (quiet_fetching copy l) (quiet_telling A m) in
     let plays = plays_both n w u v l es (telling A m) f.plays h.plays in
     let k : LabView = after_all l (asking copy l) in
     let stays = quiet_all laws (asking copy l) l quiet (record { plain = w; ties = t }) in
     let now = quiet_all laws es l (quiet_fetching copy l) (record { plain = w; ties = t }) in
-    let same : length v.b.read ≡ length w.b.read = ap length (sym (read_at B v k plays.ties) ∙ stays.read ∙ read_at B w l t) in
-    let before_it : length u.b.read ≡ length w.b.read = ap length (sym (read_at B u m f.plays.ties) ∙ now.read ∙ read_at B w l t) in
+    let same : length v.b.read ≡ length w.b.read =
+    ap length (sym (read_at B v k plays.ties) ∙ stays.read ∙ read_at B w l t) in
+    let before_it : length u.b.read ≡ length w.b.read =
+    ap length (sym (read_at B u m f.plays.ties) ∙ now.read ∙ read_at B w l t) in
     record {
       machine = v;
       plays = plays;

@@ -22,11 +22,15 @@ pub record Passes (n : ℕ) (l : FileLabView) (events : List FileHappening) (m :
 pub passes_none : (n : ℕ) (l : FileLabView) → Passes n l [] l 0
 passes_none n l = record { few = omega arith; help = tt; taken = tt; after = refl }
 
-pub passes_most : (n : ℕ) (l m : FileLabView) (events : List FileHappening) (most more : ℕ) → most ≤ more → Passes n l events m most → Passes n l events m more
-passes_most n l m events most more h p = record { few = omega (arith, p.few, h); help = p.help; taken = p.taken; after = p.after }
+pub passes_most : (n : ℕ) (l m : FileLabView) (events : List FileHappening) (most more : ℕ) → most ≤ more
+    → Passes n l events m most → Passes n l events m more
+passes_most n l m events most more h p =
+    record { few = omega (arith, p.few, h); help = p.help; taken = p.taken; after = p.after }
 
 -- an event, and then others
-pub passes_first : (n : ℕ) (l m : FileLabView) (event : FileHappening) (events : List FileHappening) (most : ℕ) → AreFileHelp n (event ∷ []) → IsDone (file_happen l event).answer → Passes n (file_happen l event).view events m most → Passes n l (event ∷ events) m (most + 1)
+pub passes_first : (n : ℕ) (l m : FileLabView) (event : FileHappening) (events : List FileHappening) (most : ℕ)
+    → AreFileHelp n (event ∷ []) → IsDone (file_happen l event).answer
+    → Passes n (file_happen l event).view events m most → Passes n l (event ∷ events) m (most + 1)
 passes_first n l m event events most help done rest =
     record { few = omega (arith, rest.few); help = (help.0, rest.help); taken = (done, rest.taken); after = rest.after }
 
@@ -39,14 +43,20 @@ lab_is_done : (r : Result Stepped LabFault) (s : Stepped) → r ≡ Ok s → IsD
 lab_is_done (Ok x) s is = tt
 lab_is_done (Err why) s is = absurd (cc)
 
-pub passes_lab : (events : List Happening) (n : ℕ) (l m : FileLabView) (others : List FileHappening) (most : ℕ) → AreQuiet events → AreHelp n events → AreTaken l.lab events → Passes n (in_lab l events) others m most → Passes n l (map At events ++ others) m (length events + most)
-passes_lab [] n l m others most q help taken rest = record { few = omega (arith, rest.few); help = rest.help; taken = rest.taken; after = rest.after }
+pub passes_lab : (events : List Happening) (n : ℕ) (l m : FileLabView) (others : List FileHappening) (most : ℕ)
+    → AreQuiet events → AreHelp n events → AreTaken l.lab events → Passes n (in_lab l events) others m most
+    → Passes n l (map At events ++ others) m (length events + most)
+passes_lab [] n l m others most q help taken rest =
+    record { few = omega (arith, rest.few); help = rest.help; taken = rest.taken; after = rest.after }
 passes_lab (event ∷ events) n l m others most q help taken rest =
     let is = quiet_is l event q.0 in
     let next : FileLabView = record l { lab = (happen l.lab event).lab } in
     let view : (file_happen l (At event)).view ≡ next = ap (λ (d : FileDone). d.view) is in
     let more = passes_lab events n next m others most q.1 help.1 taken.1 rest in
-    let done : IsDone (file_happen l (At event)).answer = subst IsDone (sym (ap (λ (d : FileDone). d.answer) is)) (lab_is_done (happen l.lab event).answer taken.0.0 taken.0.1) in
-    let here : Passes n (file_happen l (At event)).view (map At events ++ others) m (length events + most) = subst (λ k. Passes n k (map At events ++ others) m (length events + most)) (sym view) more in
+    let done : IsDone (file_happen l (At event)).answer =
+    subst IsDone (sym (ap (λ (d : FileDone). d.answer) is))
+    (lab_is_done (happen l.lab event).answer taken.0.0 taken.0.1) in
+    let here : Passes n (file_happen l (At event)).view (map At events ++ others) m (length events + most) =
+    subst (λ k. Passes n k (map At events ++ others) m (length events + most)) (sym view) more in
     let all = passes_first n l m (At event) (map At events ++ others) (length events + most) (help.0, tt) done here in
     record { few = omega (arith, all.few); help = all.help; taken = all.taken; after = all.after }

@@ -20,7 +20,8 @@ use Rattle.chaos_filelab.specs.declared.event.FileStepped.{FileStepped}
 use Rattle.chaos_filelab.specs.Events.{FileHappening, At, Serve, IsRefused, LabHappens, FileHappens, HasPassed, is_by_server, lab_answer}
 
 -- want of memory is no answer of an event itself
-no_memory_by : (l : LabView) (x : Side) (call : Call) (o : Option ConnFault) → (call_effect l x call o).answer ≡ Err fault.NoMemory → ⊥
+no_memory_by : (l : LabView) (x : Side) (call : Call) (o : Option ConnFault)
+    → (call_effect l x call o).answer ≡ Err fault.NoMemory → ⊥
 no_memory_by l x call None h = absurd (cc)
 no_memory_by l x call (Some why) h = absurd (cc)
 
@@ -30,7 +31,8 @@ no_memory_at l x call = no_memory_by l x call (refusal_of (act (lab_end l x).con
 no_memory_copy : (l : LabView) (o : Option Stamped) → (delivery_effect l o).answer ≡ Err fault.NoMemory → ⊥
 no_memory_copy l None h = absurd (cc)
 no_memory_copy l (Some s) h =
-    cond_both (is_fresh l.a l.b s) (call_at l (other s.side) (delivery l.asked l.clock s)) (refusal l fault.Stale) (λ (d : Done). d.answer ≡ Err fault.NoMemory → ⊥)
+    cond_both (is_fresh l.a l.b s) (call_at l (other s.side) (delivery l.asked l.clock s)) (refusal l fault.Stale)
+    (λ (d : Done). d.answer ≡ Err fault.NoMemory → ⊥)
     (λ _. no_memory_at l (other s.side) (delivery l.asked l.clock s))
     (λ _ (t : Err fault.Stale ≡ Err fault.NoMemory). absurd (cc))
     h
@@ -44,7 +46,8 @@ no_memory l (CloseBy x text) = no_memory_at l x (Close text)
 no_memory l (AcceptFrom start) = no_memory_at l B (Accept start l.clock)
 no_memory l (DeliverCopy k) = no_memory_copy l (slice_get l.copies k)
 
-lab_passed : (old new : LabView) (event : Happening) (done : Result Stepped LabFault) → Happens old event new done → lab_answer done ≡ Err fault.NoMemory → check old event ≡ None
+lab_passed : (old new : LabView) (event : Happening) (done : Result Stepped LabFault) → Happens old event new done
+    → lab_answer done ≡ Err fault.NoMemory → check old event ≡ None
 lab_passed old new event (Ok s) h is = absurd (cc)
 lab_passed old new event (Err why) (inl h) is = absurd (no_memory old event (sym h.1 ∙ ap Err same))
   where
@@ -52,10 +55,14 @@ lab_passed old new event (Err why) (inl h) is = absurd (no_memory old event (sym
     same = cc
 lab_passed old new event (Err why) (inr h) is = h.0
 
-pub passed : (old new : FileLabView) (event : FileHappening) (answer : Result FileStepped LabFault) → FileHappens old event new answer → answer ≡ Err fault.NoMemory → HasPassed old event
+pub passed : (old new : FileLabView) (event : FileHappening) (answer : Result FileStepped LabFault)
+    → FileHappens old event new answer → answer ≡ Err fault.NoMemory → HasPassed old event
 passed old new Serve answer h is = tt
 passed old new (At event) answer h is = by (is_by_server event) h
   where
-    by : (b : Bool) → MatchBool b (IsRefused old new fault.ByServer answer) (LabHappens old event new answer) → (b ≡ false) × (check old.lab event ≡ None)
-    by true r = let no : ◌≡◌ {A = Result FileStepped LabFault} (Err fault.ByServer) (Err fault.NoMemory) = sym r.1 ∙ is in absurd (cc)
+    by : (b : Bool) → MatchBool b (IsRefused old new fault.ByServer answer) (LabHappens old event new answer)
+        → (b ≡ false) × (check old.lab event ≡ None)
+    by true r =
+        let no : ◌≡◌ {A = Result FileStepped LabFault} (Err fault.ByServer) (Err fault.NoMemory) = sym r.1
+        ∙ is in absurd (cc)
     by false d = (refl, lab_passed old.lab new.lab event d.done d.lab (sym d.answered ∙ is))

@@ -51,7 +51,9 @@ quiet_reading l = cond_both (is_none (front_of l.a.conn)) [] (ReadBy A ∷ []) A
 
 quiet_reading_on : (k : ℕ) (l : LabView) → AreQuiet (reading_on A k l)
 quiet_reading_on zero l = tt
-quiet_reading_on (suc k) l = quiet_both (reading A l) (reading_on A k (after_all l (reading A l))) (quiet_reading l) (quiet_reading_on k (after_all l (reading A l)))
+quiet_reading_on (suc k) l =
+    quiet_both (reading A l) (reading_on A k (after_all l (reading A l))) (quiet_reading l)
+    (quiet_reading_on k (after_all l (reading A l)))
 
 quiet_coming : (k copy : ℕ) (l : LabView) → AreQuiet (coming A copy k l)
 quiet_coming zero copy l = tt
@@ -63,7 +65,8 @@ quiet_taking : (first last : ℕ) (l : LabView) → AreQuiet (taking_in A first 
 quiet_taking first last l =
     let times : ℕ = (lab_end l A).conn.config.recv_cap in
     let m : LabView = after_all l (reading_on A times l) in
-    quiet_both (reading_on A times l) (coming A first (last - first) m) (quiet_reading_on times l) (quiet_coming (last - first) first m)
+    quiet_both (reading_on A times l) (coming A first (last - first) m) (quiet_reading_on times l)
+    (quiet_coming (last - first) first m)
 
 pub quiet_hearing : (l : LabView) → AreQuiet (b_hearing l)
 quiet_hearing l =
@@ -72,12 +75,14 @@ quiet_hearing l =
     (tt, (tt, (tt, quiet_taking (length m.copies) (length q.copies) q)))
 
 pub quiet_fetching : (copy : ℕ) (l : LabView) → AreQuiet (fetching copy l)
-quiet_fetching copy l = cond_both (is_none (front_of l.b.conn)) (DeliverCopy copy ∷ []) [] AreQuiet (λ _. (tt, tt)) (λ _. tt)
+quiet_fetching copy l =
+    cond_both (is_none (front_of l.b.conn)) (DeliverCopy copy ∷ []) [] AreQuiet (λ _. (tt, tt)) (λ _. tt)
 
 pub quiet_replying : (wrote : ℕ) (l : LabView) → AreQuiet (replying wrote l)
 quiet_replying wrote l =
     let copy : ℕ = length l.copies - 1 in
-    cond_both (nat_lt wrote (length l.b.written)) (DeliverCopy copy ∷ reading A (happen l (DeliverCopy copy)).lab) [] AreQuiet
+    cond_both (nat_lt wrote (length l.b.written)) (DeliverCopy copy ∷ reading A (happen l (DeliverCopy copy)).lab) []
+    AreQuiet
     (λ _. (tt, quiet_reading (happen l (DeliverCopy copy)).lab))
     (λ _. tt)
 
@@ -89,7 +94,8 @@ pub record QuietAfter (l m : LabView) : Type 0 where
   pub read : m.b.read ≡ l.b.read
   pub written : m.b.written ≡ l.b.written
 
-stays_by : PhaseLaws → (event : Happening) (w v : Machine) (l : LabView) → IsQuiet event → Reached w → Step w (plain_event l event) v → Stays w.b v.b
+stays_by : PhaseLaws → (event : Happening) (w v : Machine) (l : LabView) → IsQuiet event → Reached w
+    → Step w (plain_event l event) v → Stays w.b v.b
 stays_by laws (ReadBy A) w v l q r s = at_a Read w v s
 stays_by laws (AnnounceBy A window) w v l q r s = at_a (Resize window) w v s
 stays_by laws (AnnounceBy B window) w v l q r s = at_b (Resize window) w v (resize_stays window w.a w.b) s
@@ -101,7 +107,8 @@ stays_by laws (ReadBy B) w v l q r s = absurd q
 stays_by laws (CloseBy x text) w v l q r s = absurd q
 stays_by laws (AcceptFrom start) w v l q r s = absurd q
 
-quiet_one : PhaseLaws → (l : LabView) (event : Happening) → IsQuiet event → HasMachine l → QuietAfter l (happen l event).lab
+quiet_one : PhaseLaws → (l : LabView) (event : Happening) → IsQuiet event → HasMachine l
+    → QuietAfter l (happen l event).lab
 quiet_one laws l event q h = by (event_ties h.plain l event h.ties)
   where
     by : Outcome h.plain (plain_event l event) l (happen l event) → QuietAfter l (happen l event).lab
@@ -116,7 +123,8 @@ quiet_one laws l event q h = by (event_ties h.plain l event h.ties)
           written = s.ties.written_b ∙ stays.written ∙ sym h.ties.written_b;
         }
 
-pub quiet_all : PhaseLaws → (events : List Happening) (l : LabView) → AreQuiet events → HasMachine l → QuietAfter l (after_all l events)
+pub quiet_all : PhaseLaws → (events : List Happening) (l : LabView) → AreQuiet events → HasMachine l
+    → QuietAfter l (after_all l events)
 quiet_all laws [] l q h = record { machine = h; read = refl; written = refl }
 quiet_all laws (event ∷ events) l q h =
     let one = quiet_one laws l event q.0 h in

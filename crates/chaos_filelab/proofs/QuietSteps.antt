@@ -41,7 +41,8 @@ heard (Status a r w) e = record { written = refl; read = refl }
 
 taken : (i : ℕ) (e : Plain) → Stays e (take_in i e)
 taken i e =
-    cond_both (nat_le (length e.read) i && nat_lt i (length e.read + e.announced)) (record e { arrived = insert e.arrived i }) e (Stays e)
+    cond_both (nat_le (length e.read) i && nat_lt i (length e.read + e.announced))
+    (record e { arrived = insert e.arrived i }) e (Stays e)
     (λ _. record { written = refl; read = refl })
     (λ _. record { written = refl; read = refl })
 
@@ -59,7 +60,8 @@ end_stays p e f h = stays_to e f _ h.1 (record { written = refl; read = refl })
 comes_stays : (c : Copy) (p e f : Plain) → (e.phase ≡ RfcSent → ⊥) → Comes c p e f → Stays e f
 comes_stays c p e f isnt (inl h) = stays_to e f _ h.2 (record { written = refl; read = refl })
 comes_stays c p e f isnt (inr (inl h)) = absurd (isnt h.1)
-comes_stays c p e f isnt (inr (inr (inl h))) = stays_to e f _ h.3 (through e (hear c.told e) _ (heard c.told e) (taken h.1 (hear c.told e)))
+comes_stays c p e f isnt (inr (inr (inl h))) =
+    stays_to e f _ h.3 (through e (hear c.told e) _ (heard c.told e) (taken h.1 (hear c.told e)))
 comes_stays c p e f isnt (inr (inr (inr (inl h)))) = stays_to e f _ h.2 (heard c.told e)
 comes_stays c p e f isnt (inr (inr (inr (inr h)))) = end_stays p e f h.1
 
@@ -86,7 +88,8 @@ at_b row w v by m =
 pub at_a : (row : Row) (w v : Machine) → Moves row w A v → Stays w.b v.b
 at_a row w v m = stays_same w.b v.b (ap (λ n. n.b) m.2.2)
 
-pub comes_to : (x : Side) (c : Copy) (w v : Machine) → (w.b.phase ≡ RfcSent → ⊥) → Moves (Comes c) w (other x) v → Stays w.b v.b
+pub comes_to : (x : Side) (c : Copy) (w v : Machine) → (w.b.phase ≡ RfcSent → ⊥) → Moves (Comes c) w (other x) v
+    → Stays w.b v.b
 comes_to A c w v isnt m = at_b (Comes c) w v (λ f. comes_stays c w.a w.b f isnt) m
 comes_to B c w v isnt m = at_a (Comes c) w v m
 
@@ -107,14 +110,16 @@ some_is : {X : Type 0} → {x y : X} → Some x ≡ Some y → x ≡ y
 some_is h = cc
 
 -- an item 0 that isn't data adds no body
-first_read : (p e : Plain) (o : Option ItemView) → length e.read ≡ 0 → ((item : ItemView) → o ≡ Some item → item.op ≡ 1) → data_bodies (read_item o e).read ≡ data_bodies e.read
+first_read : (p e : Plain) (o : Option ItemView) → length e.read ≡ 0 → ((item : ItemView) → o ≡ Some item → item.op ≡ 1)
+    → data_bodies (read_item o e).read ≡ data_bodies e.read
 first_read p e None none first = refl
 first_read p e (Some item) none first =
     bodies_append e.read (item ∷ [])
     ∙ ap (λ op. data_bodies e.read ++ with_body (kind_of op) item.body []) (first item refl)
     ∙ append-nil (data_bodies e.read)
 
-accepted : PhaseLaws → (opn : ItemView) (w v : Machine) (l m : LabView) → Ties w l → Ties v m → Moves (Accept opn) w B v → SameBodies (w.b.written, w.b.read) (v.b.written, v.b.read)
+accepted : PhaseLaws → (opn : ItemView) (w v : Machine) (l m : LabView) → Ties w l → Ties v m → Moves (Accept opn) w B v
+    → SameBodies (w.b.written, w.b.read) (v.b.written, v.b.read)
 accepted laws opn w v l m t u moved = by moved.1
   where
     to : v.b ≡ moved.0
@@ -138,26 +143,33 @@ accepted laws opn w v l m t u moved = by moved.1
 
 -- ---- any event
 
-stepped : PhaseLaws → (event : Happening) (w v : Machine) (l m : LabView) → is_by_server event ≡ false → Ties w l → Ties v m → Step w (plain_event l event) v → SameBodies (w.b.written, w.b.read) (v.b.written, v.b.read)
-stepped laws (WriteBy A op bytes) w v l m isnt t u s = stays_bodies w.b v.b (at_a (Write (record { op = op; body = bytes })) w v s)
+stepped : PhaseLaws → (event : Happening) (w v : Machine) (l m : LabView) → is_by_server event ≡ false → Ties w l
+    → Ties v m → Step w (plain_event l event) v → SameBodies (w.b.written, w.b.read) (v.b.written, v.b.read)
+stepped laws (WriteBy A op bytes) w v l m isnt t u s =
+    stays_bodies w.b v.b (at_a (Write (record { op = op; body = bytes })) w v s)
 stepped laws (WriteBy B op bytes) w v l m isnt t u s = absurd (false≢true (sym isnt))
 stepped laws (ReadBy A) w v l m isnt t u s = stays_bodies w.b v.b (at_a Read w v s)
 stepped laws (ReadBy B) w v l m isnt t u s = absurd (false≢true (sym isnt))
 stepped laws (AnnounceBy A window) w v l m isnt t u s = stays_bodies w.b v.b (at_a (Resize window) w v s)
-stepped laws (AnnounceBy B window) w v l m isnt t u s = stays_bodies w.b v.b (at_b (Resize window) w v (resize_stays window w.a w.b) s)
+stepped laws (AnnounceBy B window) w v l m isnt t u s =
+    stays_bodies w.b v.b (at_b (Resize window) w v (resize_stays window w.a w.b) s)
 stepped laws (TickOf A now) w v l m isnt t u s = stays_bodies w.b v.b (at_a Tick w v s)
 stepped laws (TickOf B now) w v l m isnt t u s = stays_bodies w.b v.b (at_b Tick w v (tick_stays w.a w.b) s)
 stepped laws (CloseBy A text) w v l m isnt t u s = stays_bodies w.b v.b (at_a Close w v s)
 stepped laws (CloseBy B text) w v l m isnt t u s = stays_bodies w.b v.b (at_b Close w v (close_stays w.a w.b) s)
 stepped laws (AcceptFrom start) w v l m isnt t u s = accepted laws _ w v l m t u s
-stepped laws (DeliverCopy n) w v l m isnt t u s = stays_bodies w.b v.b (comes_to s.0.sender s.0 w v (laws.answers w t.tied.reached) s.3)
+stepped laws (DeliverCopy n) w v l m isnt t u s =
+    stays_bodies w.b v.b (comes_to s.0.sender s.0 w v (laws.answers w t.tied.reached) s.3)
 
 -- what a step of the laboratory promises
 abbrev pub StepOf : LabView → Happening → LabView → Result Stepped LabFault → Type 0
-StepOf l event m r = OnErr r (m ≡ l) × IfOk r (λ _. (w : Machine) → Ties w l → (v : Machine) × Step w (plain_event l event) v × Ties v m)
+StepOf l event m r =
+    OnErr r (m ≡ l) × IfOk r (λ _. (w : Machine) → Ties w l → (v : Machine) × Step w (plain_event l event) v × Ties v m)
 
-pub quiet : PhaseLaws → (l m : LabView) (event : Happening) (r : Result Stepped LabFault) → HasMachine l → is_by_server event ≡ false → StepOf l event m r → SameBodies (l.b.written, l.b.read) (m.b.written, m.b.read)
-quiet laws l m event (Err why) h isnt s = record { written = ap (λ k. data_bodies k.b.written) s.0; read = ap (λ k. data_bodies k.b.read) s.0 }
+pub quiet : PhaseLaws → (l m : LabView) (event : Happening) (r : Result Stepped LabFault) → HasMachine l
+    → is_by_server event ≡ false → StepOf l event m r → SameBodies (l.b.written, l.b.read) (m.b.written, m.b.read)
+quiet laws l m event (Err why) h isnt s =
+    record { written = ap (λ k. data_bodies k.b.written) s.0; read = ap (λ k. data_bodies k.b.read) s.0 }
 quiet laws l m event (Ok x) h isnt s =
     let v = s.1 h.plain h.ties in
     let b = stepped laws event h.plain v.0 l m isnt h.ties v.2 v.1 in

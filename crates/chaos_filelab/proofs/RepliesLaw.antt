@@ -12,9 +12,13 @@ use Rattle.chaos_filelab.proofs.BodyLists.{begins_split, begins_whole, bodies_be
 
 -- the replies to more commands go on where those before them ended
 abbrev pub GoOn : Type 0
-GoOn = (m : Files) (xs ys : List (List ℕ)) → replies_of m (xs ++ ys) ≡ replies_of m xs ++ replies_from (files_after m new_session xs) (session_after m new_session xs) ys
+GoOn =
+    (m : Files) (xs ys : List (List ℕ))
+    → replies_of m (xs ++ ys)
+    ≡ replies_of m xs ++ replies_from (files_after m new_session xs) (session_after m new_session xs) ys
 
-pub replies_begin : (l : FileLabView) → GoOn → Begins l.lab.a.read l.lab.b.written → Begins l.lab.b.read l.lab.a.written → IsServed l → RepliesBegin l
+pub replies_begin : (l : FileLabView) → GoOn → Begins l.lab.a.read l.lab.b.written → Begins l.lab.b.read l.lab.a.written
+    → IsServed l → RepliesBegin l
 replies_begin l go_on to_a to_b served isnt =
     let s = served isnt in
     let read = replies_to_a l in
@@ -27,4 +31,5 @@ replies_begin l go_on to_a to_b served isnt =
     let replies : wrote ≡ read ++ more = begins_split read wrote (bodies_begin l.lab.a.read l.lab.b.written to_a) in
     let commands : asked ≡ got ++ others = begins_split got asked (bodies_begin l.lab.b.read l.lab.a.written to_b) in
     begins_whole read (replies_of map.empty asked) (more ++ rest)
-    (ap (replies_of map.empty) commands ∙ go_on map.empty got others ∙ ap (λ rs. rs ++ rest) (sym s.replies ∙ replies) ∙ append_assoc read more rest)
+    (ap (replies_of map.empty) commands ∙ go_on map.empty got others ∙ ap (λ rs. rs ++ rest) (sym s.replies ∙ replies)
+    ∙ append_assoc read more rest)

@@ -62,11 +62,13 @@ pub record AtFront (l : LabView) : Type 0 where
   pub users : IsUsers item
   pub room : can_write l.b.conn ≡ true
 
-users_at : (w : Machine) (l : LabView) (i : ℕ) (item : ItemView) → Ties w l → 1 ≤ i → slice_get w.a.written i ≡ Some item → IsUsers item
+users_at : (w : Machine) (l : LabView) (i : ℕ) (item : ItemView) → Ties w l → 1 ≤ i
+    → slice_get w.a.written i ≡ Some item → IsUsers item
 users_at w l zero item t some at = absurd (omega (arith, some))
 users_at w l (suc i) item t some at = t.tied.items_a.users i item at
 
-pub at_front : (w : Machine) (l : LabView) → Ties w l → AreOpen w → HasNext w → length w.b.written ≤ w.b.acknowledged → 1 ≤ w.b.window → AtFront l
+pub at_front : (w : Machine) (l : LabView) → Ties w l → AreOpen w → HasNext w → length w.b.written ≤ w.b.acknowledged
+    → 1 ≤ w.b.window → AtFront l
 at_front w l t opens next known room =
     let v : ConnView = conn_at l B in
     let h = end_holds w B (reached_holds w t.tied.reached) in
@@ -75,12 +77,19 @@ at_front w l t opens next known room =
     let found = member_at w.a.written i (h.reader.within i next) in
     let state : v.state ≡ st.Open = ap (λ (c : ConnView). c.state) view.is in
     let front : front_of v ≡ Some found.0 =
-    ap front_of view.is ∙ front_is (first_at l A) w.a w.b h.ok.caps.2 ∙ cond-true (contains w.b.arrived i) (slice_get w.a.written i) None next ∙ found.1 in
-    let begun : 1 ≤ i = let some = opened l B (record { plain = w; ties = t }) state in let same = ap length (read_at B w l t) in omega (arith, some, same) in
+    ap front_of view.is ∙ front_is (first_at l A) w.a w.b h.ok.caps.2
+    ∙ cond-true (contains w.b.arrived i) (slice_get w.a.written i) None next ∙ found.1 in
+    let begun : 1 ≤ i =
+    let some = opened l B (record { plain = w; ties = t }) state in let same = ap length (read_at B w l t) in omega
+    (arith, some, same) in
     let read = begins_shorter w.a.read w.b.written h.writer.begins in
     let same : w.b.acknowledged ≡ length w.b.written = omega (arith, known, h.writer.acked_read, read) in
-    let none : off (told_num (first_at l B) (length w.b.written)) (told_num (first_at l B) w.b.acknowledged) ≡ 0 = omega (arith, same) in
-    let free : nat_lt (off (told_num (first_at l B) (length w.b.written)) (told_num (first_at l B) w.b.acknowledged)) w.b.window ≡ true = lt-ltb _ _ (omega (arith, none, room)) in
+    let none : off (told_num (first_at l B) (length w.b.written)) (told_num (first_at l B) w.b.acknowledged) ≡ 0 =
+    omega (arith, same) in
+    let free : nat_lt (off (told_num (first_at l B) (length w.b.written)) (told_num (first_at l B) w.b.acknowledged))
+    w.b.window
+    ≡ true =
+    lt-ltb _ _ (omega (arith, none, room)) in
     record {
       is_open = state;
       item = found.0;
@@ -125,8 +134,11 @@ one_longer : (xs : List ItemView) (x : ItemView) → length (xs ++ x ∷ []) ≤
 one_longer xs x = let all = length-append xs (x ∷ []) in omega (arith, all)
 
 writes_row : (item : ItemView) (p e f : Plain) → OrNothing (WriteRow item) p e f → Writes item e f
-writes_row item p e f (inl r) = subst (Writes item e) (sym r.2) (record { phase = refl; arrived = refl; announced = refl; wrote = one_longer e.written item })
-writes_row item p e f (inr r) = subst (Writes item e) (sym r.1) (record { phase = refl; arrived = refl; announced = refl; wrote = omega arith })
+writes_row item p e f (inl r) =
+    subst (Writes item e) (sym r.2)
+    (record { phase = refl; arrived = refl; announced = refl; wrote = one_longer e.written item })
+writes_row item p e f (inr r) =
+    subst (Writes item e) (sym r.1) (record { phase = refl; arrived = refl; announced = refl; wrote = omega arith })
 
 goes_on : (w u v : Machine) (item : ItemView) → Keeps w u → Step u (WriteAt B item) v → Goes w v
 goes_on w u v item s step =
@@ -138,10 +150,14 @@ goes_on w u v item s step =
     let long : length v.b.written ≡ length step.0.written = ap (λ (e : Plain). length e.written) same in
     record {
       a = subst (EndKeeps w.a) (sym a) (s.ends A);
-      arrived = λ i h. ap (λ (e : Plain). contains e.arrived i) same ∙ ap (λ xs. contains xs i) row.arrived ∙ (s.ends B).arrived i h;
+      arrived =
+          λ i h. ap (λ (e : Plain). contains e.arrived i) same ∙ ap (λ xs. contains xs i) row.arrived
+          ∙ (s.ends B).arrived i h;
       wrote = omega (arith, row.wrote, b, long);
       opened = λ h. ap (λ (e : Plain). e.phase) same ∙ row.phase ∙ (s.ends B).opened h;
-      announces = λ h. let is : v.b.announced ≡ u.b.announced = ap (λ (e : Plain). e.announced) same ∙ row.announced in let one = (s.ends B).announces h in omega (arith, is, one);
+      announces =
+          λ h. let is : v.b.announced ≡ u.b.announced = ap (λ (e : Plain). e.announced) same
+          ∙ row.announced in let one = (s.ends B).announces h in omega (arith, is, one);
       copies = λ n c h. ap (λ cs. slice_get cs n) all ∙ front_stays u.copies step.2.0 n c (s.copies n c h);
     }
 
@@ -154,7 +170,8 @@ pub record Served (w : Machine) (l m : LabView) (item : ItemView) : Type 0 where
   pub read : m.b.read ≡ l.b.read ++ item ∷ []
   pub count : length l.copies ≤ length m.copies
 
-pub serves_eof : (w : Machine) (l : LabView) → Ties w l → AreOpen w → (f : AtFront l) → Served w l (after_all l (ReadBy B ∷ [])) f.item
+pub serves_eof : (w : Machine) (l : LabView) → Ties w l → AreOpen w → (f : AtFront l)
+    → Served w l (after_all l (ReadBy B ∷ [])) f.item
 serves_eof w l t opens f =
     let r = read_event B w l t (opens B) in
     let m : LabView = (happen l (ReadBy B)).lab in
@@ -173,7 +190,8 @@ open_leaves : (v : ConnView) (o : Option ItemView) → Leaves v (read_at_open v 
 open_leaves v None = record { send = refl; state = refl }
 open_leaves v (Some item) =
     let u : ConnView = record v { recv = after_advance v.recv; untold = v.untold + 1 } in
-    cond_both (nat_le u.recv.window (3 * u.untold)) (with_sts u (gave.Item item)) (quietly u (gave.Item item)) (λ (a : Acted ReadEnd). Leaves v a.view)
+    cond_both (nat_le u.recv.window (3 * u.untold)) (with_sts u (gave.Item item)) (quietly u (gave.Item item))
+    (λ (a : Acted ReadEnd). Leaves v a.view)
     (λ _. record { send = refl; state = refl })
     (λ _. record { send = refl; state = refl })
 
@@ -181,11 +199,16 @@ read_leaves : (v : ConnView) → HasFront v → Leaves v (act_read v).view
 read_leaves v h = subst (λ (a : Acted ReadEnd). Leaves v a.view) (sym (read_open_is v h)) (open_leaves v (front_of v))
 
 -- a write of data that fits, at an open end whose window has room
-write_is : (u : ConnView) (reply : List ℕ) (now : ℕ) → u.state ≡ st.Open → has_window u.send ≡ true → length reply ≤ MAX_DATA → act_write u op_data reply now ≡ with_item (record u { last = moment u now; untold = 0 }) (record { op = op_data; body = reply }) (Ok (next_of u.send))
+write_is : (u : ConnView) (reply : List ℕ) (now : ℕ) → u.state ≡ st.Open → has_window u.send ≡ true
+    → length reply ≤ MAX_DATA
+    → act_write u op_data reply now
+    ≡ with_item (record u { last = moment u now; untold = 0 }) (record { op = op_data; body = reply })
+    (Ok (next_of u.send))
 write_is u reply now is room fits =
     let item : ItemView = record { op = op_data; body = reply } in
     cond-true (is_open u.state) (write_at_most u (Some MAX_DATA) item (moment u now)) _ (ap is_open is)
-    ∙ cond-false (nat_lt MAX_DATA (length reply)) _ (write_item u item (moment u now)) (le-ltb MAX_DATA (length reply) fits)
+    ∙ cond-false (nat_lt MAX_DATA (length reply)) _ (write_item u item (moment u now))
+    (le-ltb MAX_DATA (length reply) fits)
     ∙ cond-true (has_window u.send) _ _ room
 
 -- what the write puts out is a copy of the reply, the last of all
@@ -201,7 +224,11 @@ pub record Replied (w : Machine) (l m : LabView) (item : ItemView) (reply : List
   pub copy : IsReply served.machine l m
 
 -- the reply is the last copy
-reply_copy : (u v : Machine) (l m : LabView) (reply : List ℕ) (step : Step u (WriteAt B (record { op = op_data; body = reply })) v) → Ties u l → Ties v m → AreOpen u → m ≡ after_call l B (Write op_data reply l.clock) → l.b.conn.state ≡ st.Open → has_window l.b.conn.send ≡ true → length reply ≤ MAX_DATA → m.b.written ≡ l.b.written ++ (record { op = op_data; body = reply }) ∷ [] → IsReply v l m
+reply_copy : (u v : Machine) (l m : LabView) (reply : List ℕ)
+    (step : Step u (WriteAt B (record { op = op_data; body = reply })) v)
+    → Ties u l → Ties v m → AreOpen u → m ≡ after_call l B (Write op_data reply l.clock) → l.b.conn.state ≡ st.Open
+    → has_window l.b.conn.send ≡ true → length reply ≤ MAX_DATA
+    → m.b.written ≡ l.b.written ++ (record { op = op_data; body = reply }) ∷ [] → IsReply v l m
 reply_copy u v l m reply step t tv opens is state room fits written =
     let item : ItemView = record { op = op_data; body = reply } in
     let call : Call = Write op_data reply l.clock in
@@ -212,35 +239,50 @@ reply_copy u v l m reply step t tv opens is state room fits written =
     let n : ℕ = length l.copies in
     let sent_pk : Sent = stamp_after l B call pk in
     let first : slice_get (act (conn_at l B) call).packets 0 ≡ Some pk = ap (λ ps. slice_get ps 0) packets in
-    let put : slice_get m.copies n ≡ Some sent_pk = ap (λ (q : LabView). slice_get q.copies n) is ∙ put_at B l call n 0 pk (omega arith) first in
+    let put : slice_get m.copies n ≡ Some sent_pk =
+    ap (λ (q : LabView). slice_get q.copies n) is ∙ put_at B l call n 0 pk (omega arith) first in
     let count : length l.copies ≡ length u.copies = same_count u l t in
     let sent = sent_at B u v step.0 m n 0 sent_pk tv step.2 (omega (arith, count)) put in
     let long : length m.copies ≡ length l.copies + 1 =
-    ap (λ (q : LabView). length q.copies) is ∙ ap length (copies_after B l call) ∙ length-append l.copies (map (stamp_after l B call) (act l.b.conn call).packets)
+    ap (λ (q : LabView). length q.copies) is ∙ ap length (copies_after B l call)
+    ∙ length-append l.copies (map (stamp_after l B call) (act l.b.conn call).packets)
     ∙ ap (λ ps. length l.copies + length (map (stamp_after l B call) ps)) packets in
     let place : n ≡ length m.copies - 1 = omega (arith, long) in
     let i : ℕ = length l.b.written in
     let holds = reached_holds v tv.tied.reached in
-    let ok : KindOk sent.copy.kind v.b (len_of sent.copy B) = subst (λ (y : Side). KindOk sent.copy.kind (end_of v y) (len_of sent.copy y)) sent.at.sender (copy_at v n sent.copy holds sent.at.there).kind_ok in
+    let ok : KindOk sent.copy.kind v.b (len_of sent.copy B) =
+    subst (λ (y : Side). KindOk sent.copy.kind (end_of v y) (len_of sent.copy y)) sent.at.sender
+    (copy_at v n sent.copy holds sent.at.there).kind_ok in
     let wrote : v.b.written ≡ l.b.written ++ item ∷ [] = sym (written_at B v m tv) ∙ written in
     let longer : length v.b.written ≡ i + 1 = ap length wrote ∙ length-append l.b.written (item ∷ []) in
     let same : length l.b.written ≡ length u.b.written = ap length (written_at B u l t) in
     let base : first_at m B ≡ first_at l B = ap (λ (q : LabView). q.b.first) is in
-    let told : l.b.conn.send.sent ≡ told_num (first_at l B) (length u.b.written) = ap (λ (q : ConnView). q.send.sent) (shows B u l t (opens B)).is in
-    let number : pk.num ≡ num (first_at m B) i = ap (λ q. num q 1) told ∙ (let after : num (told_num (first_at l B) (length u.b.written)) 1 ≡ num (first_at l B) (length u.b.written) = omega arith in after) ∙ (λ j. num (sym base j) (sym same j)) in
+    let told : l.b.conn.send.sent ≡ told_num (first_at l B) (length u.b.written) =
+    ap (λ (q : ConnView). q.send.sent) (shows B u l t (opens B)).is in
+    let number : pk.num ≡ num (first_at m B) i =
+    ap (λ q. num q 1) told
+    ∙ (let after : num (told_num (first_at l B) (length u.b.written)) 1
+    ≡ num (first_at l B) (length u.b.written) = omega arith in after)
+    ∙ (λ j. num (sym base j) (sym same j)) in
     record {
       copy = sent.copy;
       at = subst (λ q. CopyAt v B q sent.copy) place sent.at;
-      kind = nth_of sent.copy.kind B (first_at m B) (first_at m A) i (len_of sent.copy B) v.b pk (items_at B v m tv) (sent_what B v m n sent_pk sent) ok (end_holds v B holds).ok.caps.1
-          (omega (arith, sent.len)) (ap (λ ws. slice_get ws i) wrote ∙ last_item l.b.written item) number (omega (arith, longer)) (omega (arith, sent.len, longer));
+      kind =
+          nth_of sent.copy.kind B (first_at m B) (first_at m A) i (len_of sent.copy B) v.b pk (items_at B v m tv)
+          (sent_what B v m n sent_pk sent) ok (end_holds v B holds).ok.caps.1
+          (omega (arith, sent.len)) (ap (λ ws. slice_get ws i) wrote ∙ last_item l.b.written item) number
+          (omega (arith, longer)) (omega (arith, sent.len, longer));
       late = omega (arith, place);
     }
 
-not_refused : (w : Machine) (l : LabView) (call : Call) (item : ItemView) → refusal_at l B call ≡ None → Refuses B w l call (WriteAt B item) → Stepped w (WriteAt B item) (after_call l B call)
+not_refused : (w : Machine) (l : LabView) (call : Call) (item : ItemView) → refusal_at l B call ≡ None
+    → Refuses B w l call (WriteAt B item) → Stepped w (WriteAt B item) (after_call l B call)
 not_refused w l call item none (inl r) = let no : None ≡ Some r.0 = sym none ∙ r.1 in absurd (cc)
 not_refused w l call item none (inr s) = s
 
-pub serves_command : IsReplyTaken → (w : Machine) (l : LabView) (reply : List ℕ) → Ties w l → AreOpen w → (f : AtFront l) → length reply ≤ MAX_DATA → Replied w l (after_all l (turn_events (Replies op_data reply))) f.item reply
+pub serves_command : IsReplyTaken → (w : Machine) (l : LabView) (reply : List ℕ) → Ties w l → AreOpen w
+    → (f : AtFront l) → length reply ≤ MAX_DATA
+    → Replied w l (after_all l (turn_events (Replies op_data reply))) f.item reply
 serves_command law w l reply t opens f fits =
     let item : ItemView = record { op = op_data; body = reply } in
     let h : HasFront l.b.conn = has_front l f in
@@ -254,7 +296,8 @@ serves_command law w l reply t opens f fits =
     let both = replied l op_data reply turn in
     let none : refusal_at k1 B call ≡ None = ap refusal_of taken in
     let lab : m ≡ after_call k1 B call = ap (λ o. (call_effect k1 B call o).lab) none in
-    let s : Stepped u (WriteAt B item) (after_call k1 B call) = not_refused u k1 call item none (write_ties B u k1 op_data reply l.clock r.ties) in
+    let s : Stepped u (WriteAt B item) (after_call k1 B call) =
+    not_refused u k1 call item none (write_ties B u k1 op_data reply l.clock r.ties) in
     let v : Machine = s.machine in
     let tv : Ties v m = subst (Ties v) (sym lab) s.ties in
     let left = read_leaves l.b.conn h in
@@ -262,7 +305,9 @@ serves_command law w l reply t opens f fits =
     let room : has_window l.b.conn.send ≡ true = has_room l.b.conn f.room in
     let before : length l.copies ≡ length w.copies = same_count w l t in
     let mid : length k1.copies ≡ length u.copies = same_count u k1 r.ties in
-    let copy = reply_copy u v k1 m reply s.step r.ties tv opens_u lab (left.state ∙ f.is_open) (ap has_window left.send ∙ room) fits both.written in
+    let copy =
+    reply_copy u v k1 m reply s.step r.ties tv opens_u lab (left.state ∙ f.is_open) (ap has_window left.send ∙ room)
+    fits both.written in
     record {
       served = record {
         machine = v;
@@ -272,7 +317,8 @@ serves_command law w l reply t opens f fits =
         count = omega (arith, before, mid, r.keeps.count, copy.late);
       };
       written = both.written;
-      copy = record { copy = copy.copy; at = copy.at; kind = copy.kind; late = omega (arith, copy.late, before, mid, r.keeps.count) };
+      copy =
+          record { copy = copy.copy; at = copy.at; kind = copy.kind; late = omega (arith, copy.late, before, mid, r.keeps.count) };
     }
   where
     has_room : (v : ConnView) → can_write v ≡ true → has_window v.send ≡ true

@@ -38,7 +38,8 @@ use Rattle.chaos_filelab.proofs.Walk.{Rests, Ready, Finished, answered_lab, walk
 
 -- ---- what A sent again
 
-saved_by : (n room : ℕ) (w : Machine) (l : LabView) → (r : Resends n A w l) → n ≤ length l.copies → room ≤ 64 → Saved n room (length (resent A l).copies) r.machine
+saved_by : (n room : ℕ) (w : Machine) (l : LabView) → (r : Resends n A w l) → n ≤ length l.copies → room ≤ 64
+    → Saved n room (length (resent A l).copies) r.machine
 saved_by n room w l r from few =
     let u : Machine = r.machine in
     let first : ℕ = length (told B l).copies in
@@ -49,7 +50,8 @@ saved_by n room w l r from few =
           let j : ℕ = i - r.receipted in
           let c = r.burst.copies j (omega (arith, low, high)) in
           let all = r.exact (omega (arith, low, high)) in
-          let place : first + j ≡ length (resent A l).copies - (length u.a.written - i) = omega (arith, all, low, high) in
+          let place : first + j ≡ length (resent A l).copies - (length u.a.written - i) =
+          omega (arith, all, low, high) in
           let stamped = r.stamped (first + j) c.0 (omega arith) c.1.there in
           record {
             late = omega (arith, place, from, r.from);
@@ -90,10 +92,12 @@ record Sent (n : ℕ) (w : Machine) (l : LabView) : Type 0 where
   time : Timely (conn_at (resent A l) B)
   moment : HasMoment B (resent A l)
 
-sends : (n : ℕ) (w : Machine) (l : LabView) → Ties w l → AreOpen w → n ≤ length l.copies → ((x : Side) → Timely (conn_at l x)) → settling_moment l ≤ last_moment → Sent n w l
+sends : (n : ℕ) (w : Machine) (l : LabView) → Ties w l → AreOpen w → n ≤ length l.copies
+    → ((x : Side) → Timely (conn_at l x)) → settling_moment l ≤ last_moment → Sent n w l
 sends n w l t opens from time moments =
     let a = resends n A w l t opens from (time A) (omega (arith, moments)) in
-    let retransmit : (conn_at (resent A l) B).config.retransmit ≡ (conn_at l B).config.retransmit = ap (λ c. c.retransmit) a.speaks.config in
+    let retransmit : (conn_at (resent A l) B).config.retransmit ≡ (conn_at l B).config.retransmit =
+    ap (λ c. c.retransmit) a.speaks.config in
     record {
       machine = a.machine;
       plays = a.plays;
@@ -107,7 +111,8 @@ sends n w l t opens from time moments =
 
 -- ---- A's user reads the replies that were there
 
-taking_in_fits : (first last : ℕ) (w : Machine) (l : LabView) → Ties w l → (end_of w A).phase ≡ Open → last ≤ first + 64 → length (taking_in A first last l) ≤ 192
+taking_in_fits : (first last : ℕ) (w : Machine) (l : LabView) → Ties w l → (end_of w A).phase ≡ Open → last ≤ first + 64
+    → length (taking_in A first last l) ≤ 192
 taking_in_fits first last w l t at near =
     let times : ℕ = (lab_end l A).conn.config.recv_cap in
     let m : LabView = after_all l (reading_on A times l) in
@@ -128,7 +133,8 @@ record BringsHome (n : ℕ) (u : Machine) (m : LabView) : Type 0 where
   home : length machine.b.written ≤ length machine.a.read
   few : length (b_hearing m) ≤ 195
 
-brings_home : (n : ℕ) (u : Machine) (m : LabView) → Ties u m → AreOpen u → n ≤ length m.copies → Timely (conn_at m B) → HasMoment B m → BringsHome n u m
+brings_home : (n : ℕ) (u : Machine) (m : LabView) → Ties u m → AreOpen u → n ≤ length m.copies → Timely (conn_at m B)
+    → HasMoment B m → BringsHome n u m
 brings_home n u m t opens from time moment =
     let b = resends n B u m t opens from time moment in
     let v : Machine = b.machine in
@@ -136,18 +142,26 @@ brings_home n u m t opens from time moment =
     let from_b : ℕ = length (told A m).copies in
     let to_b : ℕ = length q.copies in
     let open_v = stay_open u v b.plays.keeps opens in
-    let home = takes_in n B from_b to_b b.receipted v q b.ties open_v b.some b.burst b.all b.upto b.enough (omega (arith, from, b.from)) in
+    let home =
+    takes_in n B from_b to_b b.receipted v q b.ties open_v b.some b.burst b.all b.upto b.enough
+    (omega (arith, from, b.from)) in
     let taking = taking_in_fits from_b to_b v q b.ties (open_v A) b.few in
     record {
       machine = home.machine;
-      plays = plays_both n u v home.machine m (telling A m ++ TickOf B (resend_moment B (told A m)) ∷ []) (taking_in A from_b to_b q) b.plays home.plays;
+      plays =
+          plays_both n u v home.machine m (telling A m ++ TickOf B (resend_moment B (told A m)) ∷ [])
+          (taking_in A from_b to_b q) b.plays home.plays;
       home = home.read;
-      few = three_more (AnnounceBy A (conn_at m A).config.recv_cap) (DeliverCopy (length m.copies)) (TickOf B (resend_moment B (told A m))) (taking_in A from_b to_b q) taking;
+      few =
+          three_more (AnnounceBy A (conn_at m A).config.recv_cap) (DeliverCopy (length m.copies))
+          (TickOf B (resend_moment B (told A m))) (taking_in A from_b to_b q) taking;
     }
 
 -- ---- so B may begin to serve
 
-ready_by : Rests → (n before : ℕ) (u : Machine) (l : FileLabView) → Ties u l.lab → AreOpen u → n ≤ length l.lab.copies → 1 ≤ u.b.announced → Saved n (unread l.lab) before u → AreAnswered l → (h : BringsHome n u l.lab) → Ready n (unread l.lab) before (in_lab l (b_hearing l.lab)) h.machine
+ready_by : Rests → (n before : ℕ) (u : Machine) (l : FileLabView) → Ties u l.lab → AreOpen u → n ≤ length l.lab.copies
+    → 1 ≤ u.b.announced → Saved n (unread l.lab) before u → AreAnswered l → (h : BringsHome n u l.lab)
+    → Ready n (unread l.lab) before (in_lab l (b_hearing l.lab)) h.machine
 ready_by laws n before u l t opens from some saved answered h =
     let y : Machine = h.machine in
     let m : LabView = l.lab in
@@ -170,13 +184,16 @@ ready_by laws n before u l t opens from some saved answered h =
       left = omega (arith, read_y, read_u, wrote_u, wrote_y, short);
       some = (kuy.ends B).announces some;
       saved = saved_keeps n (unread m) before u y kuy saved;
-      small = subst (λ (s : SessionView). AreSmall s.handles) (sym answered.session) (small_after (commands_at_b l) map.empty new_session tt);
+      small =
+          subst (λ (s : SessionView). AreSmall s.handles) (sym answered.session)
+          (small_after (commands_at_b l) map.empty new_session tt);
       answered = answered_lab laws.phases l (b_hearing m) u quiet t answered;
     }
 
 -- ---- all of it
 
-served_all : (l : FileLabView) (events : List FileHappening) (n most : ℕ) → Finished n l events most → AllServed l (after_events l events)
+served_all : (l : FileLabView) (events : List FileHappening) (n most : ℕ) → Finished n l events most
+    → AllServed l (after_events l events)
 served_all l events n most f = subst (AllServed l) (sym f.passes.after) all
   where
     m : FileLabView
@@ -188,12 +205,16 @@ served_all l events n most f = subst (AllServed l) (sym f.passes.after) all
     all : AllServed l m
     all = record {
       written = f.written;
-      replies = ap data_bodies (at_end.read B) ∙ f.answered.replies ∙ ap (λ ws. replies_of map.empty (data_bodies ws)) (at_end.read A ∙ f.written);
+      replies =
+          ap data_bodies (at_end.read B) ∙ f.answered.replies
+          ∙ ap (λ ws. replies_of map.empty (data_bodies ws)) (at_end.read A ∙ f.written);
       settled = at_end;
     }
 
 -- from the state in which A has sent again
-home_serves : Rests → (n : ℕ) (u : Machine) (l : FileLabView) → Ties u l.lab → AreOpen u → n ≤ length l.lab.copies → 1 ≤ u.b.announced → Saved n (unread l.lab) (length l.lab.copies) u → AreAnswered l → Timely (conn_at l.lab B) → HasMoment B l.lab → Finished n l (homing l) 583
+home_serves : Rests → (n : ℕ) (u : Machine) (l : FileLabView) → Ties u l.lab → AreOpen u → n ≤ length l.lab.copies
+    → 1 ≤ u.b.announced → Saved n (unread l.lab) (length l.lab.copies) u → AreAnswered l → Timely (conn_at l.lab B)
+    → HasMoment B l.lab → Finished n l (homing l) 583
 home_serves laws n u l t opens from some saved answered time moment =
     let h = brings_home n u l.lab t opens from time moment in
     let k : FileLabView = in_lab l (b_hearing l.lab) in
@@ -201,27 +222,38 @@ home_serves laws n u l t opens from some saved answered time moment =
     let left : ℕ = unread l.lab in
     let few = few_unread u l.lab t in
     let w = walks laws left n before k h.machine (ready_by laws n before u l t opens from some saved answered h) in
-    let on = passes_lab (b_hearing l.lab) n l w.after (serving before left k) (left * 6 + 4) (quiet_hearing l.lab) h.plays.help h.plays.taken w.passes in
+    let on =
+    passes_lab (b_hearing l.lab) n l w.after (serving before left k) (left * 6 + 4) (quiet_hearing l.lab)
+    h.plays.help h.plays.taken w.passes in
     record {
       after = w.after;
-      passes = passes_most n l w.after (homing l) (length (b_hearing l.lab) + (left * 6 + 4)) 583 (omega (arith, h.few, few)) on;
+      passes =
+          passes_most n l w.after (homing l) (length (b_hearing l.lab) + (left * 6 + 4)) 583 (omega (arith, h.few, few))
+          on;
       machine = w.machine;
       ties = w.ties;
       opens = w.opens;
       done = w.done;
-      written = w.written ∙ written_at A h.machine k.lab h.plays.ties ∙ (h.plays.keeps.ends A).written ∙ sym (written_at A u l.lab t);
+      written =
+          w.written ∙ written_at A h.machine k.lab h.plays.ties ∙ (h.plays.keeps.ends A).written
+          ∙ sym (written_at A u l.lab t);
       answered = w.answered;
     }
 
-finished : Rests → (l : FileLabView) (w : Machine) → Ties w l.lab → ((x : Side) → IsConn (lab_end l.lab x).conn) → CanSettle l.lab → AreAnswered l → Finished (length l.lab.copies) l (file_settling l) most_file_events
+finished : Rests → (l : FileLabView) (w : Machine) → Ties w l.lab → ((x : Side) → IsConn (lab_end l.lab x).conn)
+    → CanSettle l.lab → AreAnswered l → Finished (length l.lab.copies) l (file_settling l) most_file_events
 finished laws l w t conns can answered =
     let n : ℕ = length l.lab.copies in
     let opens : AreOpen w = λ x. open_at x w l.lab t (in_time l.lab can x).open_end in
-    let a = sends n w l.lab t opens (omega arith) (λ x. timely (conn_at l.lab x) (conns x) (in_time l.lab can x)) can.moments in
+    let a =
+    sends n w l.lab t opens (omega arith) (λ x. timely (conn_at l.lab x) (conns x) (in_time l.lab can x))
+    can.moments in
     let u : Machine = a.machine in
     let quiet : AreQuiet (a_sent l.lab) = (tt, (tt, (tt, tt))) in
     let m : FileLabView = in_lab l (a_sent l.lab) in
-    let h = home_serves laws n u m a.ties (stay_open w u a.plays.keeps opens) a.from a.some a.saved (answered_lab laws.phases l (a_sent l.lab) w quiet t answered) a.time a.moment in
+    let h =
+    home_serves laws n u m a.ties (stay_open w u a.plays.keeps opens) a.from a.some a.saved
+    (answered_lab laws.phases l (a_sent l.lab) w quiet t answered) a.time a.moment in
     record {
       after = h.after;
       passes = passes_most n l h.after (file_settling l) (length (a_sent l.lab) + 583) most_file_events (omega arith)
@@ -234,7 +266,8 @@ finished laws l w t conns can answered =
       answered = h.answered;
     }
 
-pub serves : Rests → (l : FileLabView) → HasMachine l.lab → ((x : Side) → IsConn (lab_end l.lab x).conn) → CanSettle l.lab → AreAnswered l → Serves l (file_settling l)
+pub serves : Rests → (l : FileLabView) → HasMachine l.lab → ((x : Side) → IsConn (lab_end l.lab x).conn)
+    → CanSettle l.lab → AreAnswered l → Serves l (file_settling l)
 serves laws l h conns can answered =
     let done = finished laws l h.plain h.ties conns can answered in
     record {

@@ -67,9 +67,11 @@ record Serves1 (l : FileLabView) (w : Machine) (d : FileDone) : Type 0 where
   count : length l.lab.copies ≤ length d.view.lab.copies
   small : AreSmall d.view.session.handles
   answered : AreAnswered d.view
-  wrote : (d.view.lab.b.written ≡ l.lab.b.written) ⊎ ((length d.view.lab.b.written ≡ suc (length l.lab.b.written)) × IsReply machine l.lab d.view.lab)
+  wrote : (d.view.lab.b.written ≡ l.lab.b.written)
+      ⊎ ((length d.view.lab.b.written ≡ suc (length l.lab.b.written)) × IsReply machine l.lab d.view.lab)
 
-read_one : (w v : Machine) (l m : LabView) (item : ItemView) → Ties w l → Ties v m → m.b.read ≡ l.b.read ++ item ∷ [] → length v.b.read ≡ suc (length w.b.read)
+read_one : (w v : Machine) (l m : LabView) (item : ItemView) → Ties w l → Ties v m → m.b.read ≡ l.b.read ++ item ∷ []
+    → length v.b.read ≡ suc (length w.b.read)
 read_one w v l m item t tv is =
     let one = length-append l.b.read (item ∷ []) in
     let before : length l.b.read ≡ length w.b.read = ap length (read_at B w l t) in
@@ -143,7 +145,9 @@ saved_goes n room before w v g s =
     }
 
 reading_few : (l : LabView) → length (reading A l) ≤ 1
-reading_few l = cond_both (is_none (front_of l.a.conn)) [] (ReadBy A ∷ []) (λ (es : List Happening). length es ≤ 1) (λ _. omega arith) (λ _. omega arith)
+reading_few l =
+    cond_both (is_none (front_of l.a.conn)) [] (ReadBy A ∷ []) (λ (es : List Happening). length es ≤ 1)
+    (λ _. omega arith) (λ _. omega arith)
 
 record Home (n : ℕ) (w : Machine) (l : LabView) (events : List Happening) : Type 0 where
   machine : Machine
@@ -151,7 +155,10 @@ record Home (n : ℕ) (w : Machine) (l : LabView) (events : List Happening) : Ty
   home : length machine.b.written ≤ length machine.a.read
   few : length events ≤ 2
 
-replies_home : (n : ℕ) (w : Machine) (before l : LabView) → Ties w l → AreOpen w → n ≤ length before.copies → 1 ≤ w.a.announced → length before.b.written ≤ length w.a.read → ((l.b.written ≡ before.b.written) ⊎ ((length l.b.written ≡ suc (length before.b.written)) × IsReply w before l)) → Home n w l (replying (length before.b.written) l)
+replies_home : (n : ℕ) (w : Machine) (before l : LabView) → Ties w l → AreOpen w → n ≤ length before.copies
+    → 1 ≤ w.a.announced → length before.b.written ≤ length w.a.read
+    → ((l.b.written ≡ before.b.written) ⊎ ((length l.b.written ≡ suc (length before.b.written)) × IsReply w before l))
+    → Home n w l (replying (length before.b.written) l)
 replies_home n w before l t opens from some home wrote = ⊎_elim none one wrote
   where
     -- it wrote nothing
@@ -160,10 +167,13 @@ replies_home n w before l t opens from some home wrote = ⊎_elim none one wrote
         let i : ℕ = length before.b.written in
         let count : length l.b.written ≡ length w.b.written = ap length (written_at B w l t) in
         let long : length l.b.written ≡ i = ap length same in
-        subst (Home n w l) (sym (cond-false (nat_lt i (length l.b.written)) _ [] (le-ltb i (length l.b.written) (omega (arith, long)))))
+        subst (Home n w l)
+        (sym
+        (cond-false (nat_lt i (length l.b.written)) _ [] (le-ltb i (length l.b.written) (omega (arith, long)))))
         (record { machine = w; plays = plays_none n w l t; home = omega (arith, home, count, long); few = omega arith })
 
-    one : (length l.b.written ≡ suc (length before.b.written)) × IsReply w before l → Home n w l (replying (length before.b.written) l)
+    one : (length l.b.written ≡ suc (length before.b.written)) × IsReply w before l
+        → Home n w l (replying (length before.b.written) l)
     one h =
         let i : ℕ = length before.b.written in
         let copy : ℕ = length l.copies - 1 in
@@ -173,8 +183,13 @@ replies_home n w before l t opens from some home wrote = ⊎_elim none one wrote
         let v : Machine = c.comes.machine in
         let same : length v.b.written ≡ length w.b.written = ap length (c.comes.plays.keeps.ends B).written in
         let few = reading_few (happen l (DeliverCopy copy)).lab in
-        subst (Home n w l) (sym (cond-true (nat_lt i (length l.b.written)) (DeliverCopy copy ∷ reading A (happen l (DeliverCopy copy)).lab) [] (lt-ltb i (length l.b.written) (omega (arith, h.0)))))
-        (record { machine = v; plays = c.comes.plays; home = omega (arith, c.more, same, count, h.0); few = omega (arith, few) })
+        subst (Home n w l)
+        (sym
+        (cond-true (nat_lt i (length l.b.written))
+        (DeliverCopy copy ∷ reading A (happen l (DeliverCopy copy)).lab) []
+        (lt-ltb i (length l.b.written) (omega (arith, h.0)))))
+        (record
+        { machine = v; plays = c.comes.plays; home = omega (arith, c.more, same, count, h.0); few = omega (arith, few) })
 
 -- ---- all are served, and both users tell
 
@@ -190,12 +205,14 @@ pub record Finished (n : ℕ) (l : FileLabView) (events : List FileHappening) (m
   pub answered : AreAnswered after
 
 -- what events of the laboratory leave, that are none of B's server
-pub answered_lab : PhaseLaws → (l : FileLabView) (events : List Happening) (w : Machine) → AreQuiet events → Ties w l.lab → AreAnswered l → AreAnswered (in_lab l events)
+pub answered_lab : PhaseLaws → (l : FileLabView) (events : List Happening) (w : Machine) → AreQuiet events
+    → Ties w l.lab → AreAnswered l → AreAnswered (in_lab l events)
 answered_lab laws l events w quiet t s =
     let q = quiet_all laws events l.lab quiet (record { plain = w; ties = t }) in
     answered_same l (in_lab l events) (ap data_bodies q.read) (ap data_bodies q.written) refl refl s
 
-finishes : Rests → (n before : ℕ) (l : FileLabView) (w : Machine) → Ready n 0 before l w → Finished n l (serving before 0 l) 4
+finishes : Rests → (n before : ℕ) (l : FileLabView) (w : Machine) → Ready n 0 before l w
+    → Finished n l (serving before 0 l) 4
 finishes laws n before l w r =
     let m : LabView = told A l.lab in
     let es : List Happening = telling A l.lab ++ telling B m in
@@ -213,16 +230,21 @@ finishes laws n before l w r =
     let wrote_b : length v.b.written ≡ length w.b.written = ap length (plays.keeps.ends B).written in
     record {
       after = k;
-      passes = passes_most n l k (serving before 0 l) (length es + 0) 4 (omega arith) (passes_lab es n l k [] 0 quiet plays.help plays.taken (passes_none n k));
+      passes =
+          passes_most n l k (serving before 0 l) (length es + 0) 4 (omega arith)
+          (passes_lab es n l k [] 0 quiet plays.help plays.taken (passes_none n k));
       machine = v;
       ties = plays.ties;
       opens = stay_open w v plays.keeps r.opens;
-      done = both v (omega (arith, wrote_a, r.left, (a.plays.keeps.ends B).read, b.heard)) (omega (arith, wrote_b, r.home, a.heard, (b.plays.keeps.ends B).acknowledged));
+      done =
+          both v (omega (arith, wrote_a, r.left, (a.plays.keeps.ends B).read, b.heard))
+          (omega (arith, wrote_b, r.home, a.heard, (b.plays.keeps.ends B).acknowledged));
       written = written_at A v k.lab plays.ties ∙ (plays.keeps.ends A).written ∙ sym (written_at A w l.lab r.ties);
       answered = answered_lab laws.phases l es w quiet r.ties r.answered;
     }
   where
-    both : (v : Machine) → length v.a.written ≤ v.a.acknowledged → length v.b.written ≤ v.b.acknowledged → (x : Side) → KnowsAll v x
+    both : (v : Machine) → length v.a.written ≤ v.a.acknowledged → length v.b.written ≤ v.b.acknowledged → (x : Side)
+        → KnowsAll v x
     both v h j A = h
     both v h j B = j
 
@@ -231,7 +253,9 @@ finishes laws n before l w r =
 asking_few : (copy : ℕ) (l : LabView) → length (asking copy l) ≤ 3
 asking_few copy l =
     let fetch : List Happening = fetching copy l in
-    let few = cond_both (is_none (front_of l.b.conn)) (DeliverCopy copy ∷ []) [] (λ (es : List Happening). length es ≤ 1) (λ _. omega arith) (λ _. omega arith) in
+    let few =
+    cond_both (is_none (front_of l.b.conn)) (DeliverCopy copy ∷ []) [] (λ (es : List Happening). length es ≤ 1)
+    (λ _. omega arith) (λ _. omega arith) in
     let all = length-append fetch (telling A (after_all l fetch)) in
     omega (arith, few, all)
 
@@ -244,7 +268,8 @@ record InFront (n unread before : ℕ) (l : FileLabView) (w : Machine) (events :
   read : length machine.b.read ≡ length w.b.read
   some : 1 ≤ machine.a.announced
 
-in_front : Rests → (n unread before : ℕ) (l : FileLabView) (w : Machine) → Ready n (suc unread) before l w → InFront n unread before l w (asking (before - suc unread) l.lab)
+in_front : Rests → (n unread before : ℕ) (l : FileLabView) (w : Machine) → Ready n (suc unread) before l w
+    → InFront n unread before l w (asking (before - suc unread) l.lab)
 in_front laws n unread before l w r =
     let a = asked laws.phases n (suc unread) before unread w l.lab r.ties r.opens r.from r.some r.saved r.left in
     let v : Machine = a.machine in
@@ -253,7 +278,9 @@ in_front laws n unread before l w r =
       machine = v;
       plays = a.plays;
       quiet = a.quiet;
-      front = at_front v (in_lab l (asking (before - suc unread) l.lab)).lab a.plays.ties (stay_open w v a.plays.keeps r.opens) a.next (omega (arith, wrote, r.home, a.heard)) a.room;
+      front =
+          at_front v (in_lab l (asking (before - suc unread) l.lab)).lab a.plays.ties
+          (stay_open w v a.plays.keeps r.opens) a.next (omega (arith, wrote, r.home, a.heard)) a.room;
       read = a.read;
       some = a.some;
     }
@@ -264,33 +291,43 @@ record Round (n unread before : ℕ) (l : FileLabView) (w : Machine) : Type 0 wh
   machine : Machine
   ready : Ready n unread before after machine
   written : after.lab.a.written ≡ l.lab.a.written
-  on : (others : FileLabView → List FileHappening) (end : FileLabView) (most : ℕ) → Passes n after (others after) end most → Passes n l (then_on (asking (before - suc unread) l.lab) (λ m. answering others m) l) end (most + 6)
+  on : (others : FileLabView → List FileHappening) (end : FileLabView) (most : ℕ)
+      → Passes n after (others after) end most
+      → Passes n l (then_on (asking (before - suc unread) l.lab) (λ m. answering others m) l) end (most + 6)
 
-round : Rests → (n unread before : ℕ) (l : FileLabView) (w : Machine) → Ready n (suc unread) before l w → Round n unread before l w
+round : Rests → (n unread before : ℕ) (l : FileLabView) (w : Machine) → Ready n (suc unread) before l w
+    → Round n unread before l w
 round laws n unread before l w r =
     let ask : List Happening = asking (before - suc unread) l.lab in
     let i = in_front laws n unread before l w r in
     let u : Machine = i.machine in
     let m : FileLabView = in_lab l ask in
     let opens_u = stay_open w u i.plays.keeps r.opens in
-    let s = serves_one laws m u i.plays.ties opens_u i.front r.small (answered_lab laws.phases l ask w i.quiet r.ties r.answered) in
+    let s =
+    serves_one laws m u i.plays.ties opens_u i.front r.small
+    (answered_lab laws.phases l ask w i.quiet r.ties r.answered) in
     let v : Machine = s.machine in
     let k : FileLabView = (file_happen m Serve).view in
     let opens_v : AreOpen v = open_both v (s.goes.a.opened (opens_u A)) (s.goes.opened (opens_u B)) in
     let first : length l.lab.copies ≡ length w.copies = same_count w l.lab r.ties in
     let mid : length m.lab.copies ≡ length u.copies = same_count u m.lab i.plays.ties in
     let from_m : n ≤ length m.lab.copies = omega (arith, first, mid, i.plays.keeps.count, r.from) in
-    let wrote_m : length m.lab.b.written ≡ length w.b.written = ap length (written_at B u m.lab i.plays.ties ∙ (i.plays.keeps.ends B).written) in
-    let h = replies_home n v m.lab k.lab s.ties opens_v from_m (s.goes.a.announces i.some) (omega (arith, wrote_m, r.home, (i.plays.keeps.ends A).read, s.goes.a.read)) s.wrote in
+    let wrote_m : length m.lab.b.written ≡ length w.b.written =
+    ap length (written_at B u m.lab i.plays.ties ∙ (i.plays.keeps.ends B).written) in
+    let h =
+    replies_home n v m.lab k.lab s.ties opens_v from_m (s.goes.a.announces i.some)
+    (omega (arith, wrote_m, r.home, (i.plays.keeps.ends A).read, s.goes.a.read)) s.wrote in
     let z : Machine = h.machine in
     let reply : List Happening = replying (length m.lab.b.written) k.lab in
     let end : FileLabView = in_lab k reply in
     let quiet = quiet_replying (length m.lab.b.written) k.lab in
     let stays = quiet_all laws.phases reply k.lab quiet (record { plain = v; ties = s.ties }) in
-    let read_z : length z.b.read ≡ length v.b.read = ap length (sym (read_at B z end.lab h.plays.ties) ∙ stays.read ∙ read_at B v k.lab s.ties) in
+    let read_z : length z.b.read ≡ length v.b.read =
+    ap length (sym (read_at B z end.lab h.plays.ties) ∙ stays.read ∙ read_at B v k.lab s.ties) in
     let kc : length k.lab.copies ≡ length v.copies = same_count v k.lab s.ties in
     let ec : length end.lab.copies ≡ length z.copies = same_count z end.lab h.plays.ties in
-    let wrote_a : z.a.written ≡ w.a.written = (h.plays.keeps.ends A).written ∙ s.goes.a.written ∙ (i.plays.keeps.ends A).written in
+    let wrote_a : z.a.written ≡ w.a.written =
+    (h.plays.keeps.ends A).written ∙ s.goes.a.written ∙ (i.plays.keeps.ends A).written in
     let long_a : length z.a.written ≡ length w.a.written = ap length wrote_a in
     let few = asking_few (before - suc unread) l.lab in
     record {
@@ -303,15 +340,21 @@ round laws n unread before l w r =
         home = h.home;
         left = omega (arith, r.left, long_a, read_z, s.read, i.read);
         some = (h.plays.keeps.ends B).announces (s.goes.announces ((i.plays.keeps.ends B).announces r.some));
-        saved = saved_keeps n unread before v z h.plays.keeps (saved_goes n unread before u v s.goes (saved_keeps n (suc unread) before w u i.plays.keeps r.saved));
+        saved =
+            saved_keeps n unread before v z h.plays.keeps
+            (saved_goes n unread before u v s.goes (saved_keeps n (suc unread) before w u i.plays.keeps r.saved));
         small = s.small;
         answered = answered_lab laws.phases k reply v quiet s.ties s.answered;
       };
       written = written_at A z end.lab h.plays.ties ∙ wrote_a ∙ sym (written_at A w l.lab r.ties);
       on = λ others last most p.
           let after_reply = passes_lab reply n k last (others end) most quiet h.plays.help h.plays.taken p in
-          let served = passes_first n m last Serve (map At reply ++ others end) (length reply + most) (tt, tt) s.done after_reply in
-          let all = passes_lab ask n l last (Serve ∷ (map At reply ++ others end)) (length reply + most + 1) i.quiet i.plays.help i.plays.taken served in
+          let served =
+          passes_first n m last Serve (map At reply ++ others end) (length reply + most) (tt, tt) s.done
+          after_reply in
+          let all =
+          passes_lab ask n l last (Serve ∷ (map At reply ++ others end)) (length reply + most + 1) i.quiet
+          i.plays.help i.plays.taken served in
           passes_most n l last _ (length ask + (length reply + most + 1)) (most + 6) (omega (arith, few, h.few)) all;
     }
   where
@@ -319,14 +362,17 @@ round laws n unread before l w r =
     open_both v h j A = h
     open_both v h j B = j
 
-pub walks : Rests → (unread n before : ℕ) (l : FileLabView) (w : Machine) → Ready n unread before l w → Finished n l (serving before unread l) (unread * 6 + 4)
+pub walks : Rests → (unread n before : ℕ) (l : FileLabView) (w : Machine) → Ready n unread before l w
+    → Finished n l (serving before unread l) (unread * 6 + 4)
 walks laws zero n before l w r = finishes laws n before l w r
 walks laws (suc unread) n before l w r =
     let one = round laws n unread before l w r in
     let rest = walks laws unread n before one.after one.machine one.ready in
     record {
       after = rest.after;
-      passes = passes_most n l rest.after _ (unread * 6 + 4 + 6) (suc unread * 6 + 4) (omega arith) (one.on (λ k. serving before unread k) rest.after (unread * 6 + 4) rest.passes);
+      passes =
+          passes_most n l rest.after _ (unread * 6 + 4 + 6) (suc unread * 6 + 4) (omega arith)
+          (one.on (λ k. serving before unread k) rest.after (unread * 6 + 4) rest.passes);
       machine = rest.machine;
       ties = rest.ties;
       opens = rest.opens;

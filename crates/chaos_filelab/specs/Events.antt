@@ -45,7 +45,8 @@ abbrev pub IsRefused : (old new : FileLabView) → LabFault → Result FileStepp
 IsRefused old new why answer = (new ≡ old) × (answer ≡ Err why)
 
 -- the laboratory's own event; the session and its files stay
-pub record LabHappens (old : FileLabView) (event : Happening) (new : FileLabView) (answer : Result FileStepped LabFault) : Type 0 where
+pub record LabHappens (old : FileLabView) (event : Happening) (new : FileLabView)
+    (answer : Result FileStepped LabFault) : Type 0 where
   pub done : Result Stepped LabFault
   pub lab : Happens old.lab event new.lab done
   pub answered : answer ≡ lab_answer done
@@ -63,23 +64,27 @@ pub record Serving (old new : FileLabView) (served : Served) : Type 0 where
 
 -- it served, or there was no memory for the histories
 abbrev pub ServeHappens : (old new : FileLabView) → Result FileStepped LabFault → Type 0
-ServeHappens old new answer = ((served : Served) × Serving old new served × (answer ≡ Ok (stepped.Served served))) ⊎ IsRefused old new fault.NoMemory answer
+ServeHappens old new answer =
+    ((served : Served) × Serving old new served × (answer ≡ Ok (stepped.Served served)))
+    ⊎ IsRefused old new fault.NoMemory answer
 
 abbrev pub FileHappens : FileLabView → FileHappening → FileLabView → Result FileStepped LabFault → Type 0
-FileHappens old (At event) new answer = MatchBool (is_by_server event) (IsRefused old new fault.ByServer answer) (LabHappens old event new answer)
+FileHappens old (At event) new answer =
+    MatchBool (is_by_server event) (IsRefused old new fault.ByServer answer) (LabHappens old event new answer)
 FileHappens old Serve new answer = ServeHappens old new answer
 
 -- an event happened, or was refused, and memory was not wanted
 abbrev pub Passes : FileLabView → FileHappening → FileLabView → Type 0
-Passes old event new = (answer : Result FileStepped LabFault) × FileHappens old event new answer × (answer ≢ Err fault.NoMemory)
+Passes old event new =
+    (answer : Result FileStepped LabFault) × FileHappens old event new answer × (answer ≢ Err fault.NoMemory)
 
 -- a list of events, the refused ones passed over
 abbrev pub Runs : FileLabView → List FileHappening → FileLabView → Type 0
 Runs old [] new = new ≡ old
 Runs old (event ∷ events) new = (mid : FileLabView) × Passes old event mid × Runs mid events new
 
--- it has passed the checks that come before all else: it isn't B's server's, and what the laboratory checks. Nothing is checked before
--- a serve
+-- it has passed the checks that come before all else: it isn't B's server's, and what the laboratory checks. Nothing is
+-- checked before a serve
 abbrev pub HasPassed : FileLabView → FileHappening → Type 0
 HasPassed l (At event) = (is_by_server event ≡ false) × (check l.lab event ≡ None)
 HasPassed l Serve = ⊤

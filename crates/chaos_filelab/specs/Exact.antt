@@ -28,17 +28,20 @@ abbrev pub serve_work : FileLabView → Work → FileDone
 serve_work l (NotOpen state) = record { view = l; answer = Ok (stepped.Served (told.Ended state)) }
 serve_work l Nothing = record { view = l; answer = Ok (stepped.Served told.Idle) }
 serve_work l Full = record { view = l; answer = Ok (stepped.Served told.NoRoom) }
-serve_work l LastItem = record { view = record l { lab = after_all l.lab (turn_events Reads) }; answer = Ok (stepped.Served told.Eof) }
+serve_work l LastItem =
+    record { view = record l { lab = after_all l.lab (turn_events Reads) }; answer = Ok (stepped.Served told.Eof) }
 serve_work l (Command body) =
     let s = file_step l.files l.session body in
     record {
-      view = record { lab = after_all l.lab (turn_events (Replies op_data s.reply)); session = s.session; files = s.files };
+      view =
+          record { lab = after_all l.lab (turn_events (Replies op_data s.reply)); session = s.session; files = s.files };
       answer = Ok (stepped.Served told.Replied);
     }
 
 -- an event of the laboratory, which leaves the session and the files
 abbrev pub lab_done : FileLabView → Happening → FileDone
-lab_done l event = record { view = record l { lab = (happen l.lab event).lab }; answer = lab_answer (happen l.lab event).answer }
+lab_done l event =
+    record { view = record l { lab = (happen l.lab event).lab }; answer = lab_answer (happen l.lab event).answer }
 
 abbrev pub refused_done : FileLabView → LabFault → FileDone
 refused_done l why = record { view = l; answer = Err why }
@@ -50,15 +53,18 @@ file_happen l Serve = serve_work l (work_of l.lab.b.conn)
 -- an event did that; or there was no memory for the histories, and nothing changed
 abbrev pub IsExact : FileLabView → FileHappening → FileLabView → Result FileStepped LabFault → Type 0
 IsExact old event new answer =
-    ((new ≡ (file_happen old event).view) × (answer ≡ (file_happen old event).answer)) ⊎ ((new ≡ old) × (answer ≡ Err fault.NoMemory))
+    ((new ≡ (file_happen old event).view) × (answer ≡ (file_happen old event).answer))
+    ⊎ ((new ≡ old) × (answer ≡ Err fault.NoMemory))
 
--- B's server found no memory for the command in front, one that may take some: its reply says so, and is written as any other;
--- neither the session nor the files changed
+-- B's server found no memory for the command in front, one that may take some: its reply says so, and is written as any
+-- other; neither the session nor the files changed
 pub record ServeWants (old new : FileLabView) (answer : Result FileStepped LabFault) : Type 0 where
   pub body : List ℕ
   pub front : work_of old.lab.b.conn ≡ Command body
   pub may_grow : MayGrow (plan_of old.session (parse_of body))
-  pub after : new ≡ record old { lab = after_all old.lab (turn_events (Replies op_data (reply_to (parse_of body) (Err e.NoMemory)))) }
+  pub after : new
+      ≡ record old
+      { lab = after_all old.lab (turn_events (Replies op_data (reply_to (parse_of body) (Err e.NoMemory)))) }
   pub answered : answer ≡ Ok (stepped.Served told.Replied)
   pub wrote : wrote_mem new ≡ true
 

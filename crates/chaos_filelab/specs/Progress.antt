@@ -37,8 +37,8 @@ abbrev pub AreDone : FileLabView → List FileHappening → Type 0
 AreDone l [] = ⊤
 AreDone l (event ∷ events) = IsDone (file_happen l event).answer × AreDone (file_happen l event).view events
 
--- In m each command that A wrote in l was served, and its reply read. Nothing is left to be read or sent at either end, and both are
--- open.
+-- In m each command that A wrote in l was served, and its reply read. Nothing is left to be read or sent at either end,
+-- and both are open.
 pub record AllServed (l m : FileLabView) : Type 0 where
   pub written : m.lab.a.written ≡ l.lab.a.written
   pub replies : replies_to_a m ≡ replies_of map.empty (commands_of l)
@@ -48,8 +48,8 @@ pub record AllServed (l m : FileLabView) : Type 0 where
 abbrev pub most_file_events : ℕ
 most_file_events = 586
 
--- These events are few, none is a write, a close or an acceptance of the client's and none is refused, and they deliver only what was
--- sent since. After them all was served.
+-- These events are few, none is a write, a close or an acceptance of the client's and none is refused, and they deliver
+-- only what was sent since. After them all was served.
 pub record Serves (l : FileLabView) (events : List FileHappening) : Type 0 where
   pub few : length events ≤ most_file_events
   pub help : AreFileHelp (length l.lab.copies) events

@@ -50,8 +50,8 @@ answering others l =
     let m = (file_happen l Serve).view in
     Serve ∷ then_on (replying (length l.lab.b.written) m.lab) others m
 
--- So many items of A are served. They were sent again, the last of them just before this copy. At the end both users tell their
--- status.
+-- So many items of A are served. They were sent again, the last of them just before this copy. At the end both users
+-- tell their status.
 abbrev pub serving : ℕ → ℕ → FileLabView → List FileHappening
 serving before zero l = then_on (telling A l.lab ++ telling B (told A l.lab)) no_more l
 serving before (suc n) l = then_on (asking (before - suc n) l.lab) (λ m. answering (λ k. serving before n k) m) l

@@ -25,7 +25,8 @@ left_at (place.HearB copy) s l =
     then_on (DeliverCopy copy ∷ TickOf A (resend_moment A (happen l.lab (DeliverCopy copy)).lab) ∷ []) homing l
 left_at place.ResendA s l = then_on (TickOf A (resend_moment A l.lab) ∷ []) homing l
 left_at place.Home s l = homing l
-left_at (place.HearA copy) s l = then_on (DeliverCopy copy ∷ b_sending (happen l.lab (DeliverCopy copy)).lab) (others s) l
+left_at (place.HearA copy) s l =
+    then_on (DeliverCopy copy ∷ b_sending (happen l.lab (DeliverCopy copy)).lab) (others s) l
 left_at place.ResendB s l = then_on (b_sending l.lab) (others s) l
 left_at place.Take s l = then_on (taking_in A s.from (length l.lab.copies) l.lab) (others s) l
 left_at (place.Read times) s l =

@@ -62,12 +62,14 @@ stays : (slot : Slot) → is_free slot ≡ false → slot ≡ after_ending slot
 stays slot h = sym (cond-false (is_free slot) _ slot h)
 
 -- by the test
-pub either_where : {A : Type 0} (P : A → Type 0) (b : Bool) (x y : A) → (b ≡ true → P x) → (b ≡ false → P y) → P (if b then x else y)
+pub either_where : {A : Type 0} (P : A → Type 0) (b : Bool) (x y : A) → (b ≡ true → P x) → (b ≡ false → P y)
+    → P (if b then x else y)
 either_where P true x y p q = p refl
 either_where P false x y p q = q refl
 
 -- both by the same test
-pub both_where : {A B : Type 0} (P : A → B → Type 0) (b : Bool) (x y : A) (u v : B) → (b ≡ true → P x u) → (b ≡ false → P y v) → P (if b then x else y) (if b then u else v)
+pub both_where : {A B : Type 0} (P : A → B → Type 0) (b : Bool) (x y : A) (u v : B) → (b ≡ true → P x u)
+    → (b ≡ false → P y v) → P (if b then x else y) (if b then u else v)
 both_where P true x y u v p q = p refl
 both_where P false x y u v p q = q refl
 
@@ -75,7 +77,8 @@ nothing : (v : HostView) → IsNothing v (record { view = v; packets = [] })
 nothing v = record { address = refl; config = refl; slots = refl; packets = tt }
 
 -- a call that begins nothing fits a slot in use
-fits_used : (v : HostView) (place : ℕ) (slot : Slot) (call : Call) → begins call ≡ false → is_free slot ≡ false → FitsSlot v place slot call
+fits_used : (v : HostView) (place : ℕ) (slot : Slot) (call : Call) → begins call ≡ false → is_free slot ≡ false
+    → FitsSlot v place slot call
 fits_used v place slot (Request me peer contact start now) b h = absurd (false≢true (sym b))
 fits_used v place slot (TakeRequest rfc me now) b h = absurd (false≢true (sym b))
 fits_used v place slot (Accept start now) b h = h
@@ -122,8 +125,10 @@ ends_begin_none (Close text) h = refl
 ends_begin_none (Tick now) h = absurd (false≢true h)
 
 -- a call on a connection in use that goes on
-goes_on : (v : HostView) (place : ℕ) (slot : Slot) (call : Call) → slice_get v.slots place ≡ Some slot → is_free slot ≡ false → begins call ≡ false → may_end call ≡ false
-    → IsDone v place call (record { view = with_slot v place (slot_after_call slot call); packets = (act slot.conn call).packets })
+goes_on : (v : HostView) (place : ℕ) (slot : Slot) (call : Call) → slice_get v.slots place ≡ Some slot
+    → is_free slot ≡ false → begins call ≡ false → may_end call ≡ false
+    → IsDone v place call
+    (record { view = with_slot v place (slot_after_call slot call); packets = (act slot.conn call).packets })
 goes_on v place slot call there used b e = record {
   slot = slot;
   there = there;
@@ -132,26 +137,33 @@ goes_on v place slot call there used b e = record {
   packets = refl;
 }
 
-ends_here : (v : HostView) (place : ℕ) (slot : Slot) (call : Call) → slice_get v.slots place ≡ Some slot → is_free slot ≡ false → begins call ≡ false
-    → IsDone v place call (record { view = with_slot v place (after_ending (slot_after_call slot call)); packets = (act slot.conn call).packets })
-ends_here v place slot call there used b = record { slot = slot; there = there; fits = fits_used v place slot call b used; view = refl; packets = refl }
+ends_here : (v : HostView) (place : ℕ) (slot : Slot) (call : Call) → slice_get v.slots place ≡ Some slot
+    → is_free slot ≡ false → begins call ≡ false
+    → IsDone v place call
+    (record
+    { view = with_slot v place (after_ending (slot_after_call slot call)); packets = (act slot.conn call).packets })
+ends_here v place slot call there used b =
+    record { slot = slot; there = there; fits = fits_used v place slot call b used; view = refl; packets = refl }
 
 -- ---- the user's calls
 
-called : (v : HostView) (id : ℕ) (call : Call) (o : Option Slot) → named_slot v.slots id ≡ o → is_users call ≡ true → IsDeed v (by_named id call o) (made_of (call_slot v id call o))
+called : (v : HostView) (id : ℕ) (call : Call) (o : Option Slot) → named_slot v.slots id ≡ o → is_users call ≡ true
+    → IsDeed v (by_named id call o) (made_of (call_slot v id call o))
 called v id call None is u = nothing v
 called v id call (Some slot) is u =
     let n = named_is id (slice_get v.slots (place_of id)) slot is in
     let g = users_go_on call u in
     goes_on v (place_of id) slot call n.0 (free_of_used slot n.1) g.0 g.1
 
-ended : (v : HostView) (id : ℕ) (call : Call) (o : Option Slot) → named_slot v.slots id ≡ o → ends call ≡ true → IsDeed v (by_named id call o) (made_of (end_slot v id call o))
+ended : (v : HostView) (id : ℕ) (call : Call) (o : Option Slot) → named_slot v.slots id ≡ o → ends call ≡ true
+    → IsDeed v (by_named id call o) (made_of (end_slot v id call o))
 ended v id call None is u = nothing v
 ended v id call (Some slot) is u =
     let n = named_is id (slice_get v.slots (place_of id)) slot is in
     ends_here v (place_of id) slot call n.0 (free_of_used slot n.1) (ends_begin_none call u)
 
-released : (v : HostView) (id : ℕ) (o : Option Slot) → named_slot v.slots id ≡ o → IsDeed v (by_ended id o) (made_of (release_slot v id o))
+released : (v : HostView) (id : ℕ) (o : Option Slot) → named_slot v.slots id ≡ o
+    → IsDeed v (by_ended id o) (made_of (release_slot v id o))
 released v id None is = nothing v
 released v id (Some slot) is =
     let n = named_is id (slice_get v.slots (place_of id)) slot is in
@@ -159,7 +171,8 @@ released v id (Some slot) is =
     (λ _. ends_here v (place_of id) slot (Close []) n.0 (free_of_used slot n.1) refl)
     (λ _. nothing v)
 
-ticked : (v : HostView) (place now : ℕ) (o : Option Slot) → slice_get v.slots place ≡ o → IsDeed v (by_used place (Tick now) o) (made_of (tick_slot v place now o))
+ticked : (v : HostView) (place now : ℕ) (o : Option Slot) → slice_get v.slots place ≡ o
+    → IsDeed v (by_used place (Tick now) o) (made_of (tick_slot v place now o))
 ticked v place now None is = nothing v
 ticked v place now (Some slot) is =
     both_where (λ d a. IsDeed v d (made_of a)) (is_used slot) _ _ _ _
@@ -167,19 +180,23 @@ ticked v place now (Some slot) is =
     (λ _. nothing v)
 
 -- the place of the lowest free slot has a free slot
-pub free_there : (slots : List Slot) (place : ℕ) (slot : Slot) → free_place slots ≡ Some place → slice_get slots place ≡ Some slot → is_free slot ≡ true
+pub free_there : (slots : List Slot) (place : ℕ) (slot : Slot) → free_place slots ≡ Some place
+    → slice_get slots place ≡ Some slot → is_free slot ≡ true
 free_there slots place slot h there =
     let at = position-Some is_free slots place slot h in
     sym (ap is_free (get_or_from_slice_get slots place slot slot there)) ∙ at.1
 
 -- what a free slot takes is in use
-begun : (v : HostView) (place : ℕ) (slot : Slot) (call : Call) → is_free (slot_after_call slot call) ≡ false → with_slot v place (slot_after_call slot call) ≡ with_slot v place (after_ending (slot_after_call slot call))
+begun : (v : HostView) (place : ℕ) (slot : Slot) (call : Call) → is_free (slot_after_call slot call) ≡ false
+    → with_slot v place (slot_after_call slot call) ≡ with_slot v place (after_ending (slot_after_call slot call))
 begun v place slot call used = ap (with_slot v place) (stays (slot_after_call slot call) used)
 
 pub fits_data : (n : ℕ) → nat_lt MAX_DATA n ≡ false → n ≤ MAX_DATA
 fits_data n h = grind (arith, nat_tests)
 
-asked : (v : HostView) (place peer : ℕ) (contact : List ℕ) (start now : ℕ) (o : Option Slot) → IsHost v → free_place v.slots ≡ Some place → slice_get v.slots place ≡ o → nat_lt MAX_DATA (length contact) ≡ false → (peer == 0) ≡ false
+asked : (v : HostView) (place peer : ℕ) (contact : List ℕ) (start now : ℕ) (o : Option Slot) → IsHost v
+    → free_place v.slots ≡ Some place → slice_get v.slots place ≡ o → nat_lt MAX_DATA (length contact) ≡ false
+    → (peer == 0) ≡ false
     → IsDeed v (by_asking v place peer contact start now o) (made_of (connect_slot v place peer contact start now o))
 asked v place peer contact start now None host lowest is short far = nothing v
 asked v place peer contact start now (Some slot) host lowest is short far =
@@ -189,11 +206,17 @@ asked v place peer contact start now (Some slot) host lowest is short far =
       slot = slot;
       there = is;
       fits = (free, refl, short, far);
-      view = begun v place slot call (ap is_inactive (asks slot.conn (own_end v place slot) peer contact start now free (not_zero v.address host.address) far (fits_data (length contact) short)));
+      view =
+          begun v place slot call
+          (ap is_inactive
+          (asks slot.conn (own_end v place slot) peer contact start now free (not_zero v.address host.address)
+          far (fits_data (length contact) short)));
       packets = refl;
     }
 
-connected : (v : HostView) (peer : ℕ) (contact : List ℕ) (start now : ℕ) (o : Option ℕ) → IsHost v → free_place v.slots ≡ o → IsDeed v (by_lowest v peer contact start now o) (made_of (connect_at v peer contact start now o))
+connected : (v : HostView) (peer : ℕ) (contact : List ℕ) (start now : ℕ) (o : Option ℕ) → IsHost v
+    → free_place v.slots ≡ o
+    → IsDeed v (by_lowest v peer contact start now o) (made_of (connect_at v peer contact start now o))
 connected v peer contact start now None host is = nothing v
 connected v peer contact start now (Some place) host is =
     both_where (λ d a. IsDeed v d (made_of a)) (nat_lt MAX_DATA (length contact)) _ _ _ _
@@ -202,7 +225,8 @@ connected v peer contact start now (Some place) host is =
     (λ _. nothing v)
     (λ far. asked v place peer contact start now (slice_get v.slots place) host is refl short far))
 
-listened : (v : HostView) (contact : List ℕ) (o : Option ListenFault) → IsNothing v (record { view = after_listen o v contact; packets = [] })
+listened : (v : HostView) (contact : List ℕ) (o : Option ListenFault)
+    → IsNothing v (record { view = after_listen o v contact; packets = [] })
 listened v contact None = record { address = refl; config = refl; slots = refl; packets = tt }
 listened v contact (Some fault) = record { address = refl; config = refl; slots = refl; packets = tt }
 
@@ -210,17 +234,21 @@ listened v contact (Some fault) = record { address = refl; config = refl; slots 
 
 -- a new request is an RFC, and the place of the lowest free slot is told
 abbrev pub Routed : HostView → PacketView → Route → Type 0
-Routed v p (to.Request place) = (free_place v.slots ≡ Some place) × ((p.src == 0) ≡ false) × (is_rfc (kind_of p.op) ≡ true)
+Routed v p (to.Request place) =
+    (free_place v.slots ≡ Some place) × ((p.src == 0) ≡ false) × (is_rfc (kind_of p.op) ≡ true)
 Routed v p _ = Unit {0}
 
-routed_request : (v : HostView) (p : PacketView) (o : Option ℕ) → free_place v.slots ≡ o → (p.src == 0) ≡ false → is_rfc (kind_of p.op) ≡ true → Routed v p (route_request o)
+routed_request : (v : HostView) (p : PacketView) (o : Option ℕ) → free_place v.slots ≡ o → (p.src == 0) ≡ false
+    → is_rfc (kind_of p.op) ≡ true → Routed v p (route_request o)
 routed_request v p None is far rfc = tt
 routed_request v p (Some place) is far rfc = (is, far, rfc)
 
-routed_taken : (v : HostView) (p : PacketView) (o : Option ℕ) → (p.src == 0) ≡ false → is_rfc (kind_of p.op) ≡ true → Routed v p (route_taken v p o)
+routed_taken : (v : HostView) (p : PacketView) (o : Option ℕ) → (p.src == 0) ≡ false → is_rfc (kind_of p.op) ≡ true
+    → Routed v p (route_taken v p o)
 routed_taken v p (Some place) far rfc = tt
 routed_taken v p None far rfc =
-    either_where (Routed v p) (has_listener v.listeners (contact_of p)) _ _ (λ _. routed_request v p (free_place v.slots) refl far rfc) (λ _. tt)
+    either_where (Routed v p) (has_listener v.listeners (contact_of p)) _ _
+    (λ _. routed_request v p (free_place v.slots) refl far rfc) (λ _. tt)
 
 routed_none : (v : HostView) (p : PacketView) → Routed v p (route_no_conn p)
 routed_none v p = either_where (Routed v p) (needs_conn (kind_of p.op)) _ _ (λ _. tt) (λ _. tt)
@@ -249,26 +277,35 @@ not_live st.HostDown h = refl
 not_live st.Forwarded h = refl
 
 -- an inactive connection makes nothing of a packet
-unmoved : (v : HostView) (p : PacketView) (now place : ℕ) (slot : Slot) → slice_get v.slots place ≡ Some slot → is_free slot ≡ true → IsNothing v (record { view = with_slot v place (slot_after_call slot (Deliver p now)); packets = (act slot.conn (Deliver p now)).packets })
+unmoved : (v : HostView) (p : PacketView) (now place : ℕ) (slot : Slot) → slice_get v.slots place ≡ Some slot
+    → is_free slot ≡ true
+    → IsNothing v
+    (record
+    { view = with_slot v place (slot_after_call slot (Deliver p now)); packets = (act slot.conn (Deliver p now)).packets })
 unmoved v p now place slot there free =
     let dead = not_live slot.conn.state free in
-    let still : act_deliver slot.conn p now ≡ quietly slot.conn (answer.Dropped why.NotOpen) = cond-true _ _ _ (ap not dead) in
+    let still : act_deliver slot.conn p now ≡ quietly slot.conn (answer.Dropped why.NotOpen) =
+    cond-true _ _ _ (ap not dead) in
     let same : slot_after_call slot (Deliver p now) ≡ slot = λ j. record slot { conn = (still j).view } in
     record {
       address = refl;
       config = refl;
-      slots = ap (slice_set v.slots place) (same ∙ sym (get_or_from_slice_get v.slots place slot slot there)) ∙ set-get_or v.slots place slot;
+      slots =
+          ap (slice_set v.slots place) (same ∙ sym (get_or_from_slice_get v.slots place slot slot there))
+          ∙ set-get_or v.slots place slot;
       packets = subst (AllByRecursion IsBare) (sym (ap (λ a. a.packets) still)) tt;
     }
 
-came_used : (v : HostView) (p : PacketView) (now place : ℕ) (o : Option Slot) → slice_get v.slots place ≡ o → IsDeed v (by_used place (Deliver p now) o) (made_of (deliver_slot v p now place o))
+came_used : (v : HostView) (p : PacketView) (now place : ℕ) (o : Option Slot) → slice_get v.slots place ≡ o
+    → IsDeed v (by_used place (Deliver p now) o) (made_of (deliver_slot v p now place o))
 came_used v p now place None is = nothing v
 came_used v p now place (Some slot) is =
     either_where (λ d. IsDeed v d (made_of (deliver_slot v p now place (Some slot)))) (is_used slot) _ _
     (λ used. goes_on v place slot (Deliver p now) is (free_of_used slot used) refl refl)
     (λ unused. unmoved v p now place slot is (free_of_unused slot unused))
 
-came_free : (v : HostView) (p : PacketView) (now place : ℕ) (o : Option Slot) → IsHost v → slice_get v.slots place ≡ o → Routed v p (to.Request place) → IsDeed v (by_free v p now place o) (made_of (take_request_slot v p now place o))
+came_free : (v : HostView) (p : PacketView) (now place : ℕ) (o : Option Slot) → IsHost v → slice_get v.slots place ≡ o
+    → Routed v p (to.Request place) → IsDeed v (by_free v p now place o) (made_of (take_request_slot v p now place o))
 came_free v p now place None host is r = nothing v
 came_free v p now place (Some slot) host is r =
     let free = free_there v.slots place slot r.0 is in
@@ -277,11 +314,15 @@ came_free v p now place (Some slot) host is r =
       slot = slot;
       there = is;
       fits = (free, refl, r.1, r.2);
-      view = begun v place slot call (ap is_inactive (takes slot.conn p (own_end v place slot) now free (not_zero v.address host.address) r.1 r.2));
+      view =
+          begun v place slot call
+          (ap is_inactive
+          (takes slot.conn p (own_end v place slot) now free (not_zero v.address host.address) r.1 r.2));
       packets = refl;
     }
 
-came : (v : HostView) (p : PacketView) (now : ℕ) (r : Route) → IsHost v → Routed v p r → IsDeed v (deed_by v p now r) (made_of (deliver_by v p now r))
+came : (v : HostView) (p : PacketView) (now : ℕ) (r : Route) → IsHost v → Routed v p r
+    → IsDeed v (deed_by v p now r) (made_of (deliver_by v p now r))
 came v p now to.NotOurs host r = nothing v
 came v p now to.NoSource host r = nothing v
 came v p now (to.Slot place) host r = came_used v p now place (slice_get v.slots place) refl
@@ -302,7 +343,8 @@ has_deeds v (Ticks place now) host e = ticked v place now (slice_get v.slots pla
 
 -- ---- it leaves a host
 
-stays_by : ConfigStays → (v : HostView) (deed : Deed) (made : HostMade) → IsHost v → IsDeed v deed made → IsHost made.view
+stays_by : ConfigStays → (v : HostView) (deed : Deed) (made : HostMade) → IsHost v → IsDeed v deed made
+    → IsHost made.view
 stays_by config v Nothing made host d = record {
   address = subst (λ a. 1 ≤ a) (sym d.address) host.address;
   table = subst (λ (z : _ × _). IsTable z.0 z.1) (λ j. (sym d.config j, sym d.slots j)) host.table;
@@ -314,8 +356,11 @@ stays_by config v (Does place call) made host d =
     subst IsHost (sym d.view)
     (record {
       address = host.address;
-      table = table_ended v.config v.slots place d.slot acted (after_ending acted) call within read refl (config d.slot.conn call) refl host.table;
+      table =
+          table_ended v.config v.slots place d.slot acted (after_ending acted) call within read refl
+          (config d.slot.conn call) refl host.table;
     })
 
 pub stays_host : ConfigStays → StaysHost
-stays_host config v event host e = stays_by config v (deed_of v event) (host_made v event) host (has_deeds v event host e)
+stays_host config v event host e =
+    stays_by config v (deed_of v event) (host_made v event) host (has_deeds v event host e)

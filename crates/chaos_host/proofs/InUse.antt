@@ -40,15 +40,18 @@ module _ (misses : State → Bool) (none : Misses misses) where
 
   -- ---- what arrives
 
-  used_opn : (v : ConnView) (p : PacketView) (now : ℕ) (told : Option (ℕ × ℕ)) → Used v → Used (after_opn_telling v p now told).view
+  used_opn : (v : ConnView) (p : PacketView) (now : ℕ) (told : Option (ℕ × ℕ)) → Used v
+      → Used (after_opn_telling v p now told).view
   used_opn v p now None h = h
   used_opn v p now (Some told) h = none.opened
 
-  used_second_opn : (v : ConnView) (p : PacketView) (now : ℕ) (told : Option (ℕ × ℕ)) → Used v → Used (after_second_opn_telling v p now told).view
+  used_second_opn : (v : ConnView) (p : PacketView) (now : ℕ) (told : Option (ℕ × ℕ)) → Used v
+      → Used (after_second_opn_telling v p now told).view
   used_second_opn v p now None h = h
   used_second_opn v p now (Some told) h = h
 
-  used_sts : (v : ConnView) (p : PacketView) (now : ℕ) (told : Option (ℕ × ℕ)) → Used v → Used (after_sts_telling v p now told).view
+  used_sts : (v : ConnView) (p : PacketView) (now : ℕ) (told : Option (ℕ × ℕ)) → Used v
+      → Used (after_sts_telling v p now told).view
   used_sts v p now None h = h
   used_sts v p now (Some told) h = h
 
@@ -70,7 +73,8 @@ module _ (misses : State → Bool) (none : Misses misses) where
   used_asking v p now kind.Data h = h
   used_asking v p now kind.Other h = h
 
-  used_requested : (v : ConnView) (p : PacketView) (now : ℕ) (k : Kind) → Used v → Used (deliver_requested v p now k).view
+  used_requested : (v : ConnView) (p : PacketView) (now : ℕ) (k : Kind) → Used v
+      → Used (deliver_requested v p now k).view
   used_requested v p now kind.Rfc h = h
   used_requested v p now kind.Opn h = h
   used_requested v p now kind.Cls h = none.closed
@@ -124,27 +128,34 @@ module _ (misses : State → Bool) (none : Misses misses) where
 
   used_rfc : (v : ConnView) (p : PacketView) (now : ℕ) → Used v → Used (after_rfc v p now).view
   used_rfc v p now h =
-      either v.asked _ _ h (either (not (is_index v.peer_index p.src_index)) _ _ h (either (not (p.num == v.request)) _ _ h (used_repeated (heard_at v now) v.state h)))
+      either v.asked _ _ h
+      (either (not (is_index v.peer_index p.src_index)) _ _ h
+      (either (not (p.num == v.request)) _ _ h (used_repeated (heard_at v now) v.state h)))
 
   used_deliver : (v : ConnView) (p : PacketView) (now : ℕ) → Used v → Used (act_deliver v p now).view
   used_deliver v p now h =
       either (not (is_live v.state)) _ _ h (either (not (is_between_hosts v p)) _ _ h
-      (either (is_rfc (kind_of p.op)) _ _ (used_rfc v p now h) (either (not (is_between_indices v p)) _ _ h (used_in v.state v p now h))))
+      (either (is_rfc (kind_of p.op)) _ _ (used_rfc v p now h)
+      (either (not (is_between_indices v p)) _ _ h (used_in v.state v p now h))))
 
   -- ---- time, and the user's calls
 
   -- what is due is one or the other
-  used_due : {D A : Type 0} (does : D → ConnView → Acted A) (v : ConnView) (b : Bool) (x y : D) → Used (does x v).view → Used (does y v).view → Used (does (if b then x else y) v).view
+  used_due : {D A : Type 0} (does : D → ConnView → Acted A) (v : ConnView) (b : Bool) (x y : D) → Used (does x v).view
+      → Used (does y v).view → Used (does (if b then x else y) v).view
   used_due does v true x y hx hy = hx
   used_due does v false x y hx hy = hy
 
   used_ticked : (v : ConnView) → Used v → Used (ticked_by (due_of v) v).view
-  used_ticked v h = used_due ticked_by v (is_down v) _ _ none.down (used_due ticked_by v (is_resend_due v) _ _ h (used_due ticked_by v (is_probe_due v) _ _ h h))
+  used_ticked v h =
+      used_due ticked_by v (is_down v) _ _ none.down
+      (used_due ticked_by v (is_resend_due v) _ _ h (used_due ticked_by v (is_probe_due v) _ _ h h))
 
   used_tick : (v : ConnView) (now : ℕ) → Used v → Used (act_tick v now).view
   used_tick v now h = used_ticked (at_moment v now) h
 
-  used_write_at_most : (v : ConnView) (most : Option ℕ) (item : ItemView) (t : ℕ) → Used v → Used (write_at_most v most item t).view
+  used_write_at_most : (v : ConnView) (most : Option ℕ) (item : ItemView) (t : ℕ) → Used v
+      → Used (write_at_most v most item t).view
   used_write_at_most v None item t h = h
   used_write_at_most v (Some most) item t h = either (nat_lt most (length item.body)) _ _ h (either _ _ _ h h)
 
@@ -157,30 +168,41 @@ module _ (misses : State → Bool) (none : Misses misses) where
   used_read_at_end v (Some item) h = h
 
   used_read : (v : ConnView) → Used v → Used (act_read v).view
-  used_read v h = either (is_opening v.state) _ _ h (either (is_open v.state) _ _ (used_read_at_open v _ h) (used_read_at_end v _ h))
+  used_read v h =
+      either (is_opening v.state) _ _ h
+      (either (is_open v.state) _ _ (used_read_at_open v _ h) (used_read_at_end v _ h))
 
-  used_request : (v : ConnView) (me : End) (peer : ℕ) (contact : List ℕ) (start now : ℕ) → is_inactive v.state ≡ false → Used v → Used (act_request v me peer contact start now).view
+  used_request : (v : ConnView) (me : End) (peer : ℕ) (contact : List ℕ) (start now : ℕ) → is_inactive v.state ≡ false
+      → Used v → Used (act_request v me peer contact start now).view
   used_request v me peer contact start now used h = either (nat_lt MAX_DATA (length contact)) _ _ h (rw used h)
 
-  used_take_request : (v : ConnView) (p : PacketView) (me : End) (now : ℕ) → is_inactive v.state ≡ false → Used v → Used (act_take_request v p me now).view
+  used_take_request : (v : ConnView) (p : PacketView) (me : End) (now : ℕ) → is_inactive v.state ≡ false → Used v
+      → Used (act_take_request v p me now).view
   used_take_request v p me now used h = rw used h
 
   -- Each call but those by which a user ends the connection.
-  pub goes_on : (v : ConnView) (call : Call) → may_end call ≡ false → is_inactive v.state ≡ false → Used v → Used (act v call).view
+  pub goes_on : (v : ConnView) (call : Call) → may_end call ≡ false → is_inactive v.state ≡ false → Used v
+      → Used (act v call).view
   goes_on v (Request me peer contact start now) e used h = used_request v me peer contact start now used h
   goes_on v (TakeRequest p me now) e used h = used_take_request v p me now used h
   goes_on v (Accept start now) e used h = either (is_requested v.state) _ _ none.opened h
   goes_on v (Answer bytes) e used h = absurd (cc)
   goes_on v (Reject text) e used h = absurd (cc)
   goes_on v (Deliver p now) e used h = used_deliver v p now h
-  goes_on v (Write op bytes now) e used h = either (is_open v.state) _ _ (used_write_at_most v (most_bytes (kind_of op)) (record { op = op; body = bytes }) (moment v now) h) h
+  goes_on v (Write op bytes now) e used h =
+      either (is_open v.state) _ _
+      (used_write_at_most v (most_bytes (kind_of op)) (record { op = op; body = bytes }) (moment v now) h) h
   goes_on v (Unc bytes) e used h = either (is_open v.state) _ _ (either (nat_lt MAX_DATA (length bytes)) _ _ h h) h
   goes_on v Read e used h = used_read v h
   goes_on v FinishRead e used h = used_read v h
-  goes_on v (Announce window) e used h = either (is_open v.state) _ _ (either (nat_lt v.config.recv_cap window) _ _ h h) h
+  goes_on v (Announce window) e used h =
+      either (is_open v.state) _ _ (either (nat_lt v.config.recv_cap window) _ _ h h) h
   goes_on v (Close text) e used h = absurd (cc)
   goes_on v (Tick now) e used h = used_tick v now h
 
 -- a connection in use isn't inactive after such a call
 pub stays_in_use : StaysInUse
-stays_in_use v call e used = goes_on is_inactive (record { opened = refl; answered = refl; closed = refl; lost = refl; down = refl; forwarded = refl }) v call e used used
+stays_in_use v call e used =
+    goes_on is_inactive
+    (record { opened = refl; answered = refl; closed = refl; lost = refl; down = refl; forwarded = refl }) v call e
+    used used

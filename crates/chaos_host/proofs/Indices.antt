@@ -22,7 +22,8 @@ both : (a b : Bool) → (a && b) ≡ true → (a ≡ true) × (b ≡ true)
 both true b h = (refl, h)
 both false b h = absurd (cc)
 
-pub named_is : (id : ℕ) (o : Option Slot) (slot : Slot) → with_index id o ≡ Some slot → (o ≡ Some slot) × (is_used slot ≡ true) × (index_of (place_of id) slot ≡ id)
+pub named_is : (id : ℕ) (o : Option Slot) (slot : Slot) → with_index id o ≡ Some slot
+    → (o ≡ Some slot) × (is_used slot ≡ true) × (index_of (place_of id) slot ≡ id)
 named_is id None slot h = absurd (cc)
 named_is id (Some s) slot h =
     let picked = chosen (is_used s && (index_of (place_of id) s == id)) s slot h in

@@ -32,7 +32,8 @@ ticked_by : (v : HostView) (place now : ℕ) (slot : Slot) (inactive : Bool) →
 ticked_by v place now slot true e = rw e (sym (idle slot.conn.state slot.conn now refl e))
 ticked_by v place now slot false e = rw e refl
 
-ticked : (v : HostView) (place now : ℕ) (slot : Slot) → is_quiet (tick_slot v place now (Some slot)).answer ≡ is_quiet_at slot.conn now
+ticked : (v : HostView) (place now : ℕ) (slot : Slot)
+    → is_quiet (tick_slot v place now (Some slot)).answer ≡ is_quiet_at slot.conn now
 ticked v place now slot = ticked_by v place now slot (is_inactive slot.conn.state) refl
 
 -- ---- all slots
@@ -48,7 +49,8 @@ module _ {X : Type 0} (p : X → Bool) where
   abbrev FailsAt : List X → Type 0
   FailsAt xs = (i : ℕ) × (x : X) × (slice_get xs i ≡ Some x) × (p x ≡ false)
 
-  fails_by : (b : Bool) (x : X) (xs : List X) → p x ≡ b → (b && list_all p xs) ≡ false → (list_all p xs ≡ false → FailsAt xs) → FailsAt (x ∷ xs)
+  fails_by : (b : Bool) (x : X) (xs : List X) → p x ≡ b → (b && list_all p xs) ≡ false
+      → (list_all p xs ≡ false → FailsAt xs) → FailsAt (x ∷ xs)
   fails_by true x xs e h later = let rest = later h in (suc rest.0, rest.1, rest.2, rest.3)
   fails_by false x xs e h later = (0, x, refl, e)
 
@@ -57,18 +59,22 @@ module _ {X : Type 0} (p : X → Bool) where
   fails (x ∷ xs) h = fails_by (p x) x xs refl h (fails xs)
 
 module _ (v : HostView) (now : ℕ) where
-  quiet_slot : (place : ℕ) (o : Option Slot) → slice_get v.slots place ≡ o → list_all (λ slot. is_quiet_at slot.conn now) v.slots ≡ true
+  quiet_slot : (place : ℕ) (o : Option Slot) → slice_get v.slots place ≡ o
+      → list_all (λ slot. is_quiet_at slot.conn now) v.slots ≡ true
       → is_quiet (tick_slot v place now o).answer ≡ true
   quiet_slot place None e h = refl
-  quiet_slot place (Some slot) e h = ticked v place now slot ∙ passes (λ s. is_quiet_at s.conn now) v.slots place slot h e
+  quiet_slot place (Some slot) e h =
+      ticked v place now slot ∙ passes (λ s. is_quiet_at s.conn now) v.slots place slot h e
 
-  some_slot : list_all (λ slot. is_quiet_at slot.conn now) v.slots ≡ false → (place : ℕ) × (is_quiet (host_tick v place now).answer ≡ false)
+  some_slot : list_all (λ slot. is_quiet_at slot.conn now) v.slots ≡ false
+      → (place : ℕ) × (is_quiet (host_tick v place now).answer ≡ false)
   some_slot h =
       let found = fails (λ s. is_quiet_at s.conn now) v.slots h in
       (found.0, rw found.2 (ticked v found.0 now found.1 ∙ found.3))
 
   -- The next moment is told where each slot is quiet before it, and not each from then on.
-  pub tells : (due : Option ℕ) → list_all (λ slot. is_quiet_at slot.conn now) v.slots ≡ is_before now due → TellsDue v due now
+  pub tells : (due : Option ℕ) → list_all (λ slot. is_quiet_at slot.conn now) v.slots ≡ is_before now due
+      → TellsDue v due now
   tells due e = record {
     before = λ h place. quiet_slot place (slice_get v.slots place) refl (e ∙ h);
     after = λ h. some_slot (e ∙ h);

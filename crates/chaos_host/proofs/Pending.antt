@@ -49,8 +49,10 @@ some_suc zero h = absurd (omega arith)
 some_suc (suc n) h = (n, refl)
 
 -- a request that a closed connection takes is held alone
-pub alone : (conn : ConnView) (rfc : PacketView) (me : End) (t n : ℕ) → conn.config.recv_cap ≡ suc n → is_rfc (kind_of rfc.op) ≡ true
-    → HoldsRequest (after_taking_rfc (closed_conn conn) rfc me t) × (front_of (after_taking_rfc (closed_conn conn) rfc me t) ≡ Some (item_of rfc))
+pub alone : (conn : ConnView) (rfc : PacketView) (me : End) (t n : ℕ) → conn.config.recv_cap ≡ suc n
+    → is_rfc (kind_of rfc.op) ≡ true
+    → HoldsRequest (after_taking_rfc (closed_conn conn) rfc me t)
+    × (front_of (after_taking_rfc (closed_conn conn) rfc me t) ≡ Some (item_of rfc))
 alone conn rfc me t n cap asks =
     let one = count_one (item_of rfc) n in
     let request : HoldsRequest (after_taking_rfc (closed_conn conn) rfc me t) = record {
@@ -71,8 +73,10 @@ taken P false false v w f g h e = absurd (cc)
 pub takes_one : TakesOne
 takes_one conn rfc me now some e =
     let cap = some_suc conn.config.recv_cap some in
-    taken (λ c. HoldsRequest c × (front_of c ≡ Some (item_of rfc))) (me.address == 0 || rfc.src == 0) (is_rfc (kind_of rfc.op)) (closed_conn conn)
-    (after_taking_rfc (closed_conn conn) rfc me (moment (closed_conn conn) now)) _ _ (alone conn rfc me (moment (closed_conn conn) now) cap.0 cap.1) e
+    taken (λ c. HoldsRequest c × (front_of c ≡ Some (item_of rfc))) (me.address == 0 || rfc.src == 0)
+    (is_rfc (kind_of rfc.op)) (closed_conn conn)
+    (after_taking_rfc (closed_conn conn) rfc me (moment (closed_conn conn) now)) _ _
+    (alone conn rfc me (moment (closed_conn conn) now) cap.0 cap.1) e
 
 -- ---- and stays so
 
@@ -80,7 +84,8 @@ takes_one conn rfc me now some e =
 abbrev Keeps : {A : Type 0} → ConnView → Acted A → Type 0
 Keeps conn acted = acted.view.state ≡ st.RfcReceived → (acted.view.send ≡ conn.send) × (acted.view.recv ≡ conn.recv)
 
-either : {A : Type 0} (conn : ConnView) (b : Bool) (x y : Acted A) → Keeps conn x → Keeps conn y → Keeps conn (if b then x else y)
+either : {A : Type 0} (conn : ConnView) (b : Bool) (x y : Acted A) → Keeps conn x → Keeps conn y
+    → Keeps conn (if b then x else y)
 either conn true x y hx hy = hx
 either conn false x y hx hy = hy
 
@@ -117,16 +122,21 @@ keeps_rfc v p now e =
 
 keeps_deliver : (v : ConnView) (p : PacketView) (now : ℕ) → v.state ≡ st.RfcReceived → Keeps v (act_deliver v p now)
 keeps_deliver v p now e =
-    either v (not (is_live v.state)) _ _ (λ h. (refl, refl)) (either v (not (is_between_hosts v p)) _ _ (λ h. (refl, refl))
-    (either v (is_rfc (kind_of p.op)) _ _ (keeps_rfc v p now e) (either v (not (is_between_indices v p)) _ _ (λ h. (refl, refl))
+    either v (not (is_live v.state)) _ _ (λ h. (refl, refl))
+    (either v (not (is_between_hosts v p)) _ _ (λ h. (refl, refl))
+    (either v (is_rfc (kind_of p.op)) _ _ (keeps_rfc v p now e)
+    (either v (not (is_between_indices v p)) _ _ (λ h. (refl, refl))
     (keeps_in v.state v p now e))))
 
 pub pending_stays : PendingStays
-pending_stays v (Request me peer contact start now) e h = either v (nat_lt MAX_DATA (length contact)) _ _ (λ k. (refl, refl)) (λ k. rw e (refl, refl)) h
+pending_stays v (Request me peer contact start now) e h =
+    either v (nat_lt MAX_DATA (length contact)) _ _ (λ k. (refl, refl)) (λ k. rw e (refl, refl)) h
 pending_stays v (TakeRequest p me now) e h = rw e (refl, refl)
 pending_stays v (Accept start now) e h = let g = rw e at h in absurd (cc)
-pending_stays v (Answer bytes) e h = either v (nat_lt MAX_DATA (length bytes)) _ _ (λ k. (refl, refl)) (λ k. let g = rw e at k in absurd (cc)) h
-pending_stays v (Reject text) e h = either v (nat_lt MAX_DATA (length text)) _ _ (λ k. (refl, refl)) (λ k. let g = rw e at k in absurd (cc)) h
+pending_stays v (Answer bytes) e h =
+    either v (nat_lt MAX_DATA (length bytes)) _ _ (λ k. (refl, refl)) (λ k. let g = rw e at k in absurd (cc)) h
+pending_stays v (Reject text) e h =
+    either v (nat_lt MAX_DATA (length text)) _ _ (λ k. (refl, refl)) (λ k. let g = rw e at k in absurd (cc)) h
 pending_stays v (Deliver p now) e h = keeps_deliver v p now e h
 pending_stays v (Write op bytes now) e h = rw e (refl, refl)
 pending_stays v (Unc bytes) e h = rw e (refl, refl)

@@ -27,7 +27,8 @@ use Rattle.chaos_host.specs.Tick.{host_tick}
 use Rattle.chaos_host.proofs.Table.{table_called, table_ended}
 
 -- a slot of a table has its configuration
-pub config_at : (config : ConfigView) (slots : List Slot) (i : ℕ) (slot : Slot) → All (HasConfig config) slots → slice_get slots i ≡ Some slot → slot.conn.config ≡ config
+pub config_at : (config : ConfigView) (slots : List Slot) (i : ℕ) (slot : Slot) → All (HasConfig config) slots
+    → slice_get slots i ≡ Some slot → slot.conn.config ≡ config
 config_at config slots i slot all there =
     let here = all i slot (slice_get_within slots i slot there) in
     rw (get_or_from_slice_get slots i slot slot there) at here
@@ -41,37 +42,45 @@ abbrev pub host_with : HostView → ℕ → Slot → HostView
 host_with v place slot = record v { slots = slice_set v.slots place slot }
 
 -- what was read at a place stands there
-pub stands : (slots : List Slot) (place : ℕ) (slot : Slot) → place < length slots → slot ≡ slice_index_or slots place slot → slice_get slots place ≡ Some slot
+pub stands : (slots : List Slot) (place : ℕ) (slot : Slot) → place < length slots
+    → slot ≡ slice_index_or slots place slot → slice_get slots place ≡ Some slot
 stands slots place slot within read = slice_get_read slots (length slots) place slot refl within read
 
 -- what stands at a place can be read there
 within_at : (slots : List Slot) (place : ℕ) (slot : Slot) → slice_get slots place ≡ Some slot → place < length slots
 within_at slots place slot there = slice_get_within slots place slot there
 
-read_at : (slots : List Slot) (place : ℕ) (slot : Slot) → slice_get slots place ≡ Some slot → slot ≡ slice_index_or slots place slot
+read_at : (slots : List Slot) (place : ℕ) (slot : Slot) → slice_get slots place ≡ Some slot
+    → slot ≡ slice_index_or slots place slot
 read_at slots place slot there = sym (get_or_from_slice_get slots place slot slot there)
 
 -- a host is one after each call on the connection in a slot
-pub host_called : (v : HostView) (place : ℕ) (slot : Slot) (call : Call) (conn : ConnView) (before after : OutboxView) (reply : Reply)
-    → IsHost v → place < length v.slots → slot ≡ slice_index_or v.slots place slot → Does slot.conn call conn before after reply
+pub host_called : (v : HostView) (place : ℕ) (slot : Slot) (call : Call) (conn : ConnView) (before after : OutboxView)
+    (reply : Reply)
+    → IsHost v → place < length v.slots → slot ≡ slice_index_or v.slots place slot
+    → Does slot.conn call conn before after reply
     → IsHost (host_with v place (with_conn slot conn))
 host_called v place slot call conn before after reply host within read does =
     record { address = host.address; table = table_called v.config v.slots place slot (with_conn slot conn) call within read does.view does.config host.table }
 
 pub host_called_quietly : (v : HostView) (place : ℕ) (slot : Slot) (call : Call) (conn : ConnView) (reply : Reply)
-    → IsHost v → place < length v.slots → slot ≡ slice_index_or v.slots place slot → DoesQuietly slot.conn call conn reply
+    → IsHost v → place < length v.slots → slot ≡ slice_index_or v.slots place slot
+    → DoesQuietly slot.conn call conn reply
     → IsHost (host_with v place (with_conn slot conn))
 host_called_quietly v place slot call conn reply host within read does =
     record { address = host.address; table = table_called v.config v.slots place slot (with_conn slot conn) call within read does.view does.config host.table }
 
-pub host_ended : (v : HostView) (place : ℕ) (slot new : Slot) (call : Call) (conn : ConnView) (before after : OutboxView) (reply : Reply)
-    → IsHost v → place < length v.slots → slot ≡ slice_index_or v.slots place slot → Does slot.conn call conn before after reply → new ≡ after_ending (with_conn slot conn)
+pub host_ended : (v : HostView) (place : ℕ) (slot new : Slot) (call : Call) (conn : ConnView)
+    (before after : OutboxView) (reply : Reply)
+    → IsHost v → place < length v.slots → slot ≡ slice_index_or v.slots place slot
+    → Does slot.conn call conn before after reply → new ≡ after_ending (with_conn slot conn)
     → IsHost (host_with v place new)
 host_ended v place slot new call conn before after reply host within read does ended =
     record { address = host.address; table = table_ended v.config v.slots place slot (with_conn slot conn) new call within read does.view does.config ended host.table }
 
 -- a call on the connection in one slot
-pub on_slot_done : {A : Type 0} (v : HostView) (place : ℕ) (slot : Slot) (most : ℕ) (call : Call) (conn : ConnView) (before after : OutboxView) (reply : Reply) (told answer : A)
+pub on_slot_done : {A : Type 0} (v : HostView) (place : ℕ) (slot : Slot) (most : ℕ) (call : Call) (conn : ConnView)
+    (before after : OutboxView) (reply : Reply) (told answer : A)
     → Does slot.conn call conn before after reply → most_packets slot.conn call ≤ most → answer ≡ told
     → HostDoes v most (on_slot v place slot call told) (host_with v place (with_conn slot conn)) before after answer
 on_slot_done v place slot most call conn before after reply told answer does room e = record {
@@ -84,23 +93,30 @@ on_slot_done v place slot most call conn before after reply told answer does roo
 }
 
 -- a packet was delivered to the connection in a slot
-pub delivered_done : (v : HostView) (p : PacketView) (now place : ℕ) (slot : Slot) (conn : ConnView) (before after : OutboxView) (id : ℕ) (result : Delivered)
+pub delivered_done : (v : HostView) (p : PacketView) (now place : ℕ) (slot : Slot) (conn : ConnView)
+    (before after : OutboxView) (id : ℕ) (result : Delivered)
     → place < length v.slots → slot ≡ slice_index_or v.slots place slot
     → ((s : Slot) → slice_get v.slots place ≡ Some s → id ≡ index_of place s)
     → Does slot.conn (Deliver p now) conn before after (Came result)
-    → HostDoes v 1 (deliver_slot v p now place (slice_get v.slots place)) (host_with v place (with_conn slot conn)) before after (answer.At id result)
+    → HostDoes v 1 (deliver_slot v p now place (slice_get v.slots place)) (host_with v place (with_conn slot conn))
+    before after (answer.At id result)
 delivered_done v p now place slot conn before after id result within read named does =
     let there = stands v.slots place slot within read in
     let index = named slot there in
     let same = does.answer in
-    rw there (on_slot_done v place slot 1 (Deliver p now) conn before after (Came result) (answer.At (index_of place slot) (act_deliver slot.conn p now).answer) (answer.At id result) does (omega arith) (cc))
+    rw there
+    (on_slot_done v place slot 1 (Deliver p now) conn before after (Came result)
+    (answer.At (index_of place slot) (act_deliver slot.conn p now).answer) (answer.At id result) does
+    (omega arith) (cc))
 
 -- a request was taken by the connection in a slot
-pub requested_done : (v : HostView) (p : PacketView) (now place : ℕ) (slot : Slot) (conn : ConnView) (out : OutboxView) (id : ℕ) (reply : Reply)
+pub requested_done : (v : HostView) (p : PacketView) (now place : ℕ) (slot : Slot) (conn : ConnView) (out : OutboxView)
+    (id : ℕ) (reply : Reply)
     → place < length v.slots → slot ≡ slice_index_or v.slots place slot
     → ((s : Slot) → slice_get v.slots place ≡ Some s → id ≡ index_of place s)
     → DoesQuietly slot.conn (TakeRequest p (record { address = v.address; index = id }) now) conn reply
-    → HostDoes v 1 (take_request_slot v p now place (slice_get v.slots place)) (host_with v place (with_conn slot conn)) out out (answer.Requested id)
+    → HostDoes v 1 (take_request_slot v p now place (slice_get v.slots place)) (host_with v place (with_conn slot conn))
+    out out (answer.Requested id)
 requested_done v p now place slot conn out id reply within read named acted =
     let there = stands v.slots place slot within read in
     let index = named slot there in
@@ -115,16 +131,21 @@ requested_done v p now place slot conn out id reply within read named acted =
     }
 
 -- a request was made by the connection in a slot
-pub connected_done : (v : HostView) (place peer : ℕ) (contact : List ℕ) (start now : ℕ) (slot : Slot) (conn : ConnView) (before after : OutboxView) (id : ℕ) (reply : Reply)
+pub connected_done : (v : HostView) (place peer : ℕ) (contact : List ℕ) (start now : ℕ) (slot : Slot) (conn : ConnView)
+    (before after : OutboxView) (id : ℕ) (reply : Reply)
     → place < length v.slots → slot ≡ slice_index_or v.slots place slot
     → ((s : Slot) → slice_get v.slots place ≡ Some s → id ≡ index_of place s)
-    → Does slot.conn (Request (record { address = v.address; index = id }) peer contact start now) conn before after reply
-    → HostDoes v 1 (connect_slot v place peer contact start now (slice_get v.slots place)) (host_with v place (with_conn slot conn)) before after (Ok id)
+    → Does slot.conn (Request (record { address = v.address; index = id }) peer contact start now) conn before after
+    reply
+    → HostDoes v 1 (connect_slot v place peer contact start now (slice_get v.slots place))
+    (host_with v place (with_conn slot conn)) before after (Ok id)
 connected_done v place peer contact start now slot conn before after id reply within read named acted =
     let there = stands v.slots place slot within read in
     let index = named slot there in
     let does = rw index at acted in
-    rw there (on_slot_done v place slot 1 _ conn before after reply (Ok (index_of place slot)) (Ok id) does (omega arith) (ap Ok index))
+    rw there
+    (on_slot_done v place slot 1 _ conn before after reply (Ok (index_of place slot)) (Ok id) does (omega arith)
+    (ap Ok index))
 
 -- the slot that an index names stands at the place in it
 in_place : (id : ℕ) (o : Option Slot) (slot : Slot) → with_index id o ≡ Some slot → o ≡ Some slot
@@ -137,28 +158,40 @@ in_place id (Some s) slot e = when (is_used s && (index_of (place_of id) s == id
 
 -- a host of these parts
 abbrev pub host_of : ℕ → ConfigView → List (List ℕ) → List Slot → HostView
-host_of address config listeners slots = record { address = address; config = config; listeners = listeners; slots = slots }
+host_of address config listeners slots =
+    record { address = address; config = config; listeners = listeners; slots = slots }
 
 -- a slot of these parts
 abbrev pub slot_of : ℕ → ConnView → Slot
 slot_of generation conn = record { generation = generation; conn = conn }
 
--- The connection that an index names did a call: the host is one. These lemmas take a host and a slot by their parts, so that
--- `search` finds them.
-pub named_called : (address : ℕ) (config : ConfigView) (listeners : List (List ℕ)) (slots : List Slot) (id generation : ℕ) (was conn : ConnView) (call : Call) (before after : OutboxView) (reply : Reply)
-    → IsHost (host_of address config listeners slots) → named_slot slots id ≡ Some (slot_of generation was) → Does was call conn before after reply
+-- The connection that an index names did a call: the host is one. These lemmas take a host and a slot by their parts,
+-- so that `search` finds them.
+pub named_called : (address : ℕ) (config : ConfigView) (listeners : List (List ℕ)) (slots : List Slot)
+    (id generation : ℕ) (was conn : ConnView) (call : Call) (before after : OutboxView) (reply : Reply)
+    → IsHost (host_of address config listeners slots) → named_slot slots id ≡ Some (slot_of generation was)
+    → Does was call conn before after reply
     → IsHost (host_of address config listeners (slice_set slots (place_of id) (slot_of generation conn)))
 named_called address config listeners slots id generation was conn call before after reply host which does =
     let slot = slot_of generation was in
     let there = in_place id (slice_get slots (place_of id)) slot which in
-    host_called (host_of address config listeners slots) (place_of id) slot call conn before after reply host (within_at slots (place_of id) slot there) (read_at slots (place_of id) slot there) does
+    host_called (host_of address config listeners slots) (place_of id) slot call conn before after reply host
+    (within_at slots (place_of id) slot there) (read_at slots (place_of id) slot there) does
 
 -- and it did that call
-pub called_done : (v : HostView) (address : ℕ) (config : ConfigView) (listeners : List (List ℕ)) (slots : List Slot) (id generation : ℕ) (was conn : ConnView) (call : Call) (before after : OutboxView) (reply : Reply) (told : HostReply)
-    → v ≡ host_of address config listeners slots → named_slot slots id ≡ Some (slot_of generation was) → Does was call conn before after reply → told ≡ Ok reply → most_packets was call ≤ 1
-    → HostDoes v 1 (host_call v id call) (host_of address config listeners (slice_set slots (place_of id) (slot_of generation conn))) before after told
-called_done v address config listeners slots id generation was conn call before after reply told host which does same one =
-    rw host (rw which (on_slot_done (host_of address config listeners slots) (place_of id) (slot_of generation was) 1 call conn before after reply (Ok (act was call).answer) told does one (same ∙ ap Ok does.answer)))
+pub called_done : (v : HostView) (address : ℕ) (config : ConfigView) (listeners : List (List ℕ)) (slots : List Slot)
+    (id generation : ℕ) (was conn : ConnView) (call : Call) (before after : OutboxView) (reply : Reply)
+    (told : HostReply)
+    → v ≡ host_of address config listeners slots → named_slot slots id ≡ Some (slot_of generation was)
+    → Does was call conn before after reply → told ≡ Ok reply → most_packets was call ≤ 1
+    → HostDoes v 1 (host_call v id call)
+    (host_of address config listeners (slice_set slots (place_of id) (slot_of generation conn))) before after told
+called_done v address config listeners slots id generation was conn call before after reply told host which does same
+    one =
+    rw host
+    (rw which
+    (on_slot_done (host_of address config listeners slots) (place_of id) (slot_of generation was) 1 call conn
+    before after reply (Ok (act was call).answer) told does one (same ∙ ap Ok does.answer)))
 
 -- a call that changes nothing
 pub untouched_done : {A : Type 0} (v : HostView) (most : ℕ) (out : OutboxView) (told answer : A) → answer ≡ told
@@ -173,11 +206,15 @@ untouched_done v most out told answer e = record {
 }
 
 -- a call that may end it was done by the connection in a slot
-pub ending_slot_done : {A : Type 0} (v : HostView) (place : ℕ) (slot new : Slot) (call : Call) (conn : ConnView) (before after : OutboxView) (reply : Reply) (told answer : A)
-    → Does slot.conn call conn before after reply → most_packets slot.conn call ≤ 1 → new ≡ after_ending (with_conn slot conn) → answer ≡ told
+pub ending_slot_done : {A : Type 0} (v : HostView) (place : ℕ) (slot new : Slot) (call : Call) (conn : ConnView)
+    (before after : OutboxView) (reply : Reply) (told answer : A)
+    → Does slot.conn call conn before after reply → most_packets slot.conn call ≤ 1
+    → new ≡ after_ending (with_conn slot conn) → answer ≡ told
     → HostDoes v 1 (on_slot_then_free v place slot call told) (host_with v place new) before after answer
 ending_slot_done v place slot new call conn before after reply told answer does one ended e = record {
-  view = ap (host_with v place) ended ∙ ap (λ (c : ConnView). host_with v place (after_ending (with_conn slot c))) does.view;
+  view =
+      ap (host_with v place) ended
+      ∙ ap (λ (c : ConnView). host_with v place (after_ending (with_conn slot c))) does.view;
   packets = does.packets;
   answers = e;
   few = let few = does.few in omega arith;
@@ -186,24 +223,38 @@ ending_slot_done v place slot new call conn before after reply told answer does 
 }
 
 -- The connection that an index names did a call that may end it: the host is one.
-pub named_ended : (address : ℕ) (config : ConfigView) (listeners : List (List ℕ)) (slots : List Slot) (id generation : ℕ) (was conn : ConnView) (new : Slot) (call : Call) (before after : OutboxView) (reply : Reply)
-    → IsHost (host_of address config listeners slots) → named_slot slots id ≡ Some (slot_of generation was) → Does was call conn before after reply → new ≡ after_ending (slot_of generation conn)
+pub named_ended : (address : ℕ) (config : ConfigView) (listeners : List (List ℕ)) (slots : List Slot)
+    (id generation : ℕ) (was conn : ConnView) (new : Slot) (call : Call) (before after : OutboxView) (reply : Reply)
+    → IsHost (host_of address config listeners slots) → named_slot slots id ≡ Some (slot_of generation was)
+    → Does was call conn before after reply → new ≡ after_ending (slot_of generation conn)
     → IsHost (host_of address config listeners (slice_set slots (place_of id) new))
 named_ended address config listeners slots id generation was conn new call before after reply host which does ended =
     let slot = slot_of generation was in
     let there = in_place id (slice_get slots (place_of id)) slot which in
-    host_ended (host_of address config listeners slots) (place_of id) slot new call conn before after reply host (within_at slots (place_of id) slot there) (read_at slots (place_of id) slot there) does ended
+    host_ended (host_of address config listeners slots) (place_of id) slot new call conn before after reply host
+    (within_at slots (place_of id) slot there) (read_at slots (place_of id) slot there) does ended
 
 -- and it did that call
-pub ending_done : (v : HostView) (address : ℕ) (config : ConfigView) (listeners : List (List ℕ)) (slots : List Slot) (id generation : ℕ) (was conn : ConnView) (new : Slot) (call : Call) (before after : OutboxView) (reply : Reply) (told : HostReply)
-    → v ≡ host_of address config listeners slots → named_slot slots id ≡ Some (slot_of generation was) → Does was call conn before after reply → new ≡ after_ending (slot_of generation conn) → told ≡ Ok reply → most_packets was call ≤ 1
-    → HostDoes v 1 (host_end v id call) (host_of address config listeners (slice_set slots (place_of id) new)) before after told
-ending_done v address config listeners slots id generation was conn new call before after reply told host which does ended same one =
-    rw host (rw which (ending_slot_done (host_of address config listeners slots) (place_of id) (slot_of generation was) new call conn before after reply (Ok (act was call).answer) told does one ended (same ∙ ap Ok does.answer)))
+pub ending_done : (v : HostView) (address : ℕ) (config : ConfigView) (listeners : List (List ℕ)) (slots : List Slot)
+    (id generation : ℕ) (was conn : ConnView) (new : Slot) (call : Call) (before after : OutboxView) (reply : Reply)
+    (told : HostReply)
+    → v ≡ host_of address config listeners slots → named_slot slots id ≡ Some (slot_of generation was)
+    → Does was call conn before after reply → new ≡ after_ending (slot_of generation conn) → told ≡ Ok reply
+    → most_packets was call ≤ 1
+    → HostDoes v 1 (host_end v id call) (host_of address config listeners (slice_set slots (place_of id) new)) before
+    after told
+ending_done v address config listeners slots id generation was conn new call before after reply told host which does
+    ended same one =
+    rw host
+    (rw which
+    (ending_slot_done (host_of address config listeners slots) (place_of id) (slot_of generation was) new call
+    conn before after reply (Ok (act was call).answer) told does one ended (same ∙ ap Ok does.answer)))
 
 -- a connection's refusal is told as one
-pub refusal_reply : {A : Type 0} (reply : Result A ConnFault → Reply) (done : Result A ConnFault) (result : Result A CallFault)
-    → MatchResult done (λ x. result ≡ Ok x) (λ why. IsErrAnd result (λ fault. fault ≡ Refused why)) → reply_of reply result ≡ Ok (reply done)
+pub refusal_reply : {A : Type 0} (reply : Result A ConnFault → Reply) (done : Result A ConnFault)
+    (result : Result A CallFault)
+    → MatchResult done (λ x. result ≡ Ok x) (λ why. IsErrAnd result (λ fault. fault ≡ Refused why))
+    → reply_of reply result ≡ Ok (reply done)
 refusal_reply reply (Ok x) result e = ap (reply_of reply) e
 refusal_reply reply (Err why) (Ok y) e = absurd e
 refusal_reply reply (Err why) (Err fault) e = rw e refl
@@ -211,30 +262,45 @@ refusal_reply reply (Err why) (Err fault) e = rw e refl
 -- ---- release
 
 -- what was found and left as it is changes nothing
-same_slots : (slots : List Slot) (id : ℕ) (slot : Slot) → named_slot slots id ≡ Some slot → slice_set slots (place_of id) slot ≡ slots
+same_slots : (slots : List Slot) (id : ℕ) (slot : Slot) → named_slot slots id ≡ Some slot
+    → slice_set slots (place_of id) slot ≡ slots
 same_slots slots id slot which =
     let there = in_place id (slice_get slots (place_of id)) slot which in
     let read = read_at slots (place_of id) slot there in
-    let set : slice_set slots (place_of id) (get_or slots (place_of id) slot) ≡ slots = set-get_or slots (place_of id) slot in
+    let set : slice_set slots (place_of id) (get_or slots (place_of id) slot) ≡ slots =
+    set-get_or slots (place_of id) slot in
     rw (get_or_from_slice_get slots (place_of id) slot slot there) at set
 
 -- an active connection is not released: the host is one
-pub named_kept : (address : ℕ) (config : ConfigView) (listeners : List (List ℕ)) (slots : List Slot) (id : ℕ) (slot : Slot)
-    → IsHost (host_of address config listeners slots) → named_slot slots id ≡ Some slot → IsHost (host_of address config listeners (slice_set slots (place_of id) slot))
+pub named_kept : (address : ℕ) (config : ConfigView) (listeners : List (List ℕ)) (slots : List Slot) (id : ℕ)
+    (slot : Slot)
+    → IsHost (host_of address config listeners slots) → named_slot slots id ≡ Some slot
+    → IsHost (host_of address config listeners (slice_set slots (place_of id) slot))
 named_kept address config listeners slots id slot host which = rw (same_slots slots id slot which) host
 
 -- and nothing changed
-pub unreleased_done : (v : HostView) (address : ℕ) (config : ConfigView) (listeners : List (List ℕ)) (slots : List Slot) (id generation : ℕ) (conn : ConnView) (out : OutboxView)
-    → v ≡ host_of address config listeners slots → named_slot slots id ≡ Some (slot_of generation conn) → is_ended conn.state ≡ false
-    → HostDoes v 1 (host_release v id) (host_of address config listeners (slice_set slots (place_of id) (slot_of generation conn))) out out (Err StillActive)
+pub unreleased_done : (v : HostView) (address : ℕ) (config : ConfigView) (listeners : List (List ℕ)) (slots : List Slot)
+    (id generation : ℕ) (conn : ConnView) (out : OutboxView)
+    → v ≡ host_of address config listeners slots → named_slot slots id ≡ Some (slot_of generation conn)
+    → is_ended conn.state ≡ false
+    → HostDoes v 1 (host_release v id)
+    (host_of address config listeners (slice_set slots (place_of id) (slot_of generation conn))) out out
+    (Err StillActive)
 unreleased_done v address config listeners slots id generation conn out host which active =
-    rw (same_slots slots id (slot_of generation conn) which) (rw host (rw which (rw active (untouched_done (host_of address config listeners slots) 1 out (Err StillActive) (Err StillActive) refl))))
+    rw (same_slots slots id (slot_of generation conn) which)
+    (rw host
+    (rw which
+    (rw active
+    (untouched_done (host_of address config listeners slots) 1 out (Err StillActive) (Err StillActive)
+    refl))))
 
 -- ---- ticks
 
 -- what is due was done in a slot in use
-pub ticked_done : (v : HostView) (place now : ℕ) (slot : Slot) (conn : ConnView) (before after : OutboxView) (result : Ticked)
-    → IsTable v.config v.slots → place < length v.slots → slot ≡ slice_index_or v.slots place slot → is_used_at v.slots place ≡ true
+pub ticked_done : (v : HostView) (place now : ℕ) (slot : Slot) (conn : ConnView) (before after : OutboxView)
+    (result : Ticked)
+    → IsTable v.config v.slots → place < length v.slots → slot ≡ slice_index_or v.slots place slot
+    → is_used_at v.slots place ≡ true
     → Does slot.conn (Tick now) conn before after (Ticks result)
     → HostDoes v v.config.send_cap (host_tick v place now) (host_with v place (with_conn slot conn)) before after result
 ticked_done v place now slot conn before after result table within read used does =
@@ -242,4 +308,7 @@ ticked_done v place now slot conn before after result table within read used doe
     let in_use : is_used slot ≡ true = rw there at used in
     let one : slot.conn.config ≡ v.config = config_at v.config v.slots place slot table.alike there in
     let same = does.answer in
-    rw there (rw in_use (on_slot_done v place slot v.config.send_cap (Tick now) conn before after (Ticks result) (act_tick slot.conn now).answer result does (rw one (omega arith)) (cc)))
+    rw there
+    (rw in_use
+    (on_slot_done v place slot v.config.send_cap (Tick now) conn before after (Ticks result)
+    (act_tick slot.conn now).answer result does (rw one (omega arith)) (cc)))

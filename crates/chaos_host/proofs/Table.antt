@@ -12,10 +12,12 @@ use Rattle.chaos_host.proofs.Settled.{IsSettled, stays_settled}
 
 -- what holds of each element holds of the one at a place
 pub at_place : {X : Type 0} (P : X → Type 0) (xs : List X) (i : ℕ) (x : X) → All P xs → slice_get xs i ≡ Some x → P x
-at_place P xs i x all there = let here = all i x (slice_get_within xs i x there) in rw (get_or_from_slice_get xs i x x there) at here
+at_place P xs i x all there =
+    let here = all i x (slice_get_within xs i x there) in rw (get_or_from_slice_get xs i x x there) at here
 
 -- the connection in a slot of a table is settled
-settled_at : (config : ConfigView) (slots : List Slot) (place : ℕ) (slot : Slot) → IsTable config slots → slice_get slots place ≡ Some slot → IsSettled slot.conn
+settled_at : (config : ConfigView) (slots : List Slot) (place : ℕ) (slot : Slot) → IsTable config slots
+    → slice_get slots place ≡ Some slot → IsSettled slot.conn
 settled_at config slots place slot table there = record {
   blank = at_place (λ s. IsBlank s.conn) slots place slot table.blank there;
   pending = at_place (λ s. HoldsRequestAlone s.conn) slots place slot table.pending there;
@@ -26,13 +28,16 @@ settled_as v w e h = rw e h
 
 -- A table with a slot whose connection did a call, and kept its configuration, is a table.
 pub table_called : (config : ConfigView) (slots : List Slot) (place : ℕ) (slot new : Slot) (call : Call)
-    → place < length slots → slot ≡ slice_index_or slots place slot → new.conn ≡ (act slot.conn call).view → new.conn.config ≡ slot.conn.config
+    → place < length slots → slot ≡ slice_index_or slots place slot → new.conn ≡ (act slot.conn call).view
+    → new.conn.config ≡ slot.conn.config
     → IsTable config slots → IsTable config (slice_set slots place new)
 table_called config slots place slot new call within read conn kept table =
     let there = slice_get_read slots (length slots) place slot refl within read in
     let one = at_place (HasConfig config) slots place slot table.alike there in
     let window : 1 ≤ slot.conn.config.recv_cap = rw one table.window in
-    let settled = settled_as new.conn (act slot.conn call).view conn (stays_settled slot.conn call window (settled_at config slots place slot table there)) in
+    let settled =
+    settled_as new.conn (act slot.conn call).view conn
+    (stays_settled slot.conn call window (settled_at config slots place slot table there)) in
     let size : length (slice_set slots place new) ≡ length slots = length-set slots place new in
     record {
       some = rw size table.some;
@@ -55,8 +60,10 @@ ended_conn slot new e = ap (λ (s : Slot). s.conn) e ∙ either_conn (is_free sl
 
 -- A table with a slot whose connection did such a call is a table.
 pub table_ended : (config : ConfigView) (slots : List Slot) (place : ℕ) (slot acted new : Slot) (call : Call)
-    → place < length slots → slot ≡ slice_index_or slots place slot → acted.conn ≡ (act slot.conn call).view → acted.conn.config ≡ slot.conn.config → new ≡ after_ending acted
+    → place < length slots → slot ≡ slice_index_or slots place slot → acted.conn ≡ (act slot.conn call).view
+    → acted.conn.config ≡ slot.conn.config → new ≡ after_ending acted
     → IsTable config slots → IsTable config (slice_set slots place new)
 table_ended config slots place slot acted new call within read conn kept e table =
     let same = ended_conn acted new e in
-    table_called config slots place slot new call within read (same ∙ conn) (ap (λ (c : ConnView). c.config) same ∙ kept) table
+    table_called config slots place slot new call within read (same ∙ conn)
+    (ap (λ (c : ConnView). c.config) same ∙ kept) table

@@ -44,7 +44,8 @@ module _ {A : Type 0} where
 
   -- A call did what it is to do: the view after it, the packets that it put out, not more than so many, and its answer.
   -- The configuration stays, and the number of slots.
-  pub record HostDoes (old : HostView) (most : ℕ) (acted : HostActed A) (new : HostView) (before after : OutboxView) (answer : A) : Type 0 where
+  pub record HostDoes (old : HostView) (most : ℕ) (acted : HostActed A) (new : HostView) (before after : OutboxView)
+      (answer : A) : Type 0 where
     pub view : new ≡ acted.view
     pub packets : after ≡ with_put before acted.packets
     pub answers : answer ≡ acted.answer

@@ -49,7 +49,8 @@ host_release v id = release_slot v id (named_slot v.slots id)
 -- ---- what callers are told
 
 module _ {A : Type 0} where
-  -- of a call that the connection may refuse: its refusal is a reply of the connection, and every other fault is the host's own
+  -- of a call that the connection may refuse: its refusal is a reply of the connection, and every other fault is the
+  -- host's own
   abbrev pub reply_of : (Result A ConnFault → Reply) → Result A CallFault → HostReply
   reply_of reply (Ok done) = Ok (reply (Ok done))
   reply_of reply (Err (Refused why)) = Ok (reply (Err why))

@@ -62,7 +62,8 @@ host_made v (Calls id call) = made_of (host_call v id call)
 host_made v (Ends id call) = made_of (host_end v id call)
 host_made v (Releases id) = made_of (host_release v id)
 host_made v (Connects peer contact start now) = made_of (host_connect v peer contact start now)
-host_made v (Listens contact) = record { view = after_listen (listen_fault v.listeners contact) v contact; packets = [] }
+host_made v (Listens contact) =
+    record { view = after_listen (listen_fault v.listeners contact) v contact; packets = [] }
 host_made v (Ticks place now) = made_of (host_tick v place now)
 
 -- ---- the connection that does something
@@ -98,7 +99,8 @@ by_ended id (Some slot) = if is_ended slot.conn.state then Does (place_of id) (C
 
 abbrev pub by_asking : HostView → ℕ → ℕ → List ℕ → ℕ → ℕ → Option Slot → Deed
 by_asking v place peer contact start now None = Nothing
-by_asking v place peer contact start now (Some slot) = Does place (Request (own_end v place slot) peer contact start now)
+by_asking v place peer contact start now (Some slot) =
+    Does place (Request (own_end v place slot) peer contact start now)
 
 abbrev pub by_lowest : HostView → ℕ → List ℕ → ℕ → ℕ → Option ℕ → Deed
 by_lowest v peer contact start now None = Nothing
@@ -120,12 +122,15 @@ deed_of v (Ticks place now) = by_used place (Tick now) (slice_get v.slots place)
 
 -- A call that begins a connection is made in a free slot, with its own end, and succeeds.
 abbrev pub FitsSlot : HostView → ℕ → Slot → Call → Type 0
-FitsSlot v place slot (Request me peer contact start now) = (is_free slot ≡ true) × (me ≡ own_end v place slot) × (nat_lt MAX_DATA (length contact) ≡ false) × ((peer == 0) ≡ false)
-FitsSlot v place slot (TakeRequest rfc me now) = (is_free slot ≡ true) × (me ≡ own_end v place slot) × ((rfc.src == 0) ≡ false) × (is_rfc (kind_of rfc.op) ≡ true)
+FitsSlot v place slot (Request me peer contact start now) =
+    (is_free slot ≡ true) × (me ≡ own_end v place slot) × (nat_lt MAX_DATA (length contact) ≡ false)
+    × ((peer == 0) ≡ false)
+FitsSlot v place slot (TakeRequest rfc me now) =
+    (is_free slot ≡ true) × (me ≡ own_end v place slot) × ((rfc.src == 0) ≡ false) × (is_rfc (kind_of rfc.op) ≡ true)
 FitsSlot v place slot call = is_free slot ≡ false
 
--- No slot changes, and each packet is the host's own, or the connection in the slot does the call: it is freed where it is
--- inactive then, no other slot changes, and the packets are those of the connection.
+-- No slot changes, and each packet is the host's own, or the connection in the slot does the call: it is freed where it
+-- is inactive then, no other slot changes, and the packets are those of the connection.
 pub record IsDone (v : HostView) (place : ℕ) (call : Call) (made : HostMade) : Type 0 where
   pub slot : Slot
   pub there : slice_get v.slots place ≡ Some slot
@@ -145,7 +150,8 @@ IsDeed v (Does place call) made = IsDone v place call made
 
 -- Each step of a host is its deed, and leaves a host.
 abbrev pub HasDeeds : Type 0
-HasDeeds = (v : HostView) (event : HostEvent) → IsHost v → IsEvent event → IsDeed v (deed_of v event) (host_made v event)
+HasDeeds =
+    (v : HostView) (event : HostEvent) → IsHost v → IsEvent event → IsDeed v (deed_of v event) (host_made v event)
 
 abbrev pub StaysHost : Type 0
 StaysHost = (v : HostView) (event : HostEvent) → IsHost v → IsEvent event → IsHost (host_made v event).view

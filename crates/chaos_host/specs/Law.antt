@@ -21,23 +21,33 @@ may_end _ = false
 
 -- A connection in use stays so, whatever call is made, but for an answer, a rejection and a close.
 abbrev pub StaysInUse : Type 0
-StaysInUse = (conn : ConnView) (call : Call) → may_end call ≡ false → is_inactive conn.state ≡ false → is_inactive (act conn call).view.state ≡ false
+StaysInUse =
+    (conn : ConnView) (call : Call) → may_end call ≡ false → is_inactive conn.state ≡ false
+    → is_inactive (act conn call).view.state ≡ false
 
 -- In a table of at most MAX_CONNS slots an own index names the slot in use that has it.
 abbrev pub IndexNames : Type 0
-IndexNames = (slots : List Slot) (place id : ℕ) (slot : Slot) → length slots ≤ MAX_CONNS → slice_get slots place ≡ Some slot → is_used slot ≡ true → index_of place slot ≡ id
+IndexNames =
+    (slots : List Slot) (place id : ℕ) (slot : Slot) → length slots ≤ MAX_CONNS → slice_get slots place ≡ Some slot
+    → is_used slot ≡ true → index_of place slot ≡ id
     → named_slot slots id ≡ Some slot
 
 -- And it names no other: the slot that it names is in use, and has that index at its place.
 abbrev pub IndexIsOf : Type 0
-IndexIsOf = (slots : List Slot) (id : ℕ) (slot : Slot) → named_slot slots id ≡ Some slot → (place : ℕ) × (slice_get slots place ≡ Some slot) × (is_used slot ≡ true) × (index_of place slot ≡ id)
+IndexIsOf =
+    (slots : List Slot) (id : ℕ) (slot : Slot) → named_slot slots id ≡ Some slot
+    → (place : ℕ) × (slice_get slots place ≡ Some slot) × (is_used slot ≡ true) × (index_of place slot ≡ id)
 
 -- A connection that is new or was closed, and takes a request, holds that request in front, and stores nothing else.
 abbrev pub TakesOne : Type 0
-TakesOne = (conn : ConnView) (rfc : PacketView) (me : End) (now : ℕ) → 1 ≤ conn.config.recv_cap → (act (closed_conn conn) (TakeRequest rfc me now)).answer ≡ Did (Ok tt)
-    → HoldsRequest (act (closed_conn conn) (TakeRequest rfc me now)).view × (front_of (act (closed_conn conn) (TakeRequest rfc me now)).view ≡ Some (item_of rfc))
+TakesOne =
+    (conn : ConnView) (rfc : PacketView) (me : End) (now : ℕ) → 1 ≤ conn.config.recv_cap
+    → (act (closed_conn conn) (TakeRequest rfc me now)).answer ≡ Did (Ok tt)
+    → HoldsRequest (act (closed_conn conn) (TakeRequest rfc me now)).view
+    × (front_of (act (closed_conn conn) (TakeRequest rfc me now)).view ≡ Some (item_of rfc))
 
--- While a request is pending, no call changes what its connection stores, but for one after which it is pending no more.
+-- While a request is pending, no call changes what its connection stores, but for one after which it is pending no
+-- more.
 abbrev pub PendingStays : Type 0
 PendingStays = (conn : ConnView) (call : Call) → conn.state ≡ RfcReceived → (act conn call).view.state ≡ RfcReceived
     → ((act conn call).view.send ≡ conn.send) × ((act conn call).view.recv ≡ conn.recv)

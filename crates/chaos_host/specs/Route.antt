@@ -11,7 +11,8 @@ use Rattle.chaos_host.specs.Slot.{named_slot, place_of, free_place, is_used_at, 
 use Rattle.chaos_host.specs.Listening.{has_listener}
 use Rattle.chaos_host.specs.View.{HostView}
 
--- a packet asks for a connection, and this slot can take it: it is an RFC of an address that isn't 0, and the slot is free
+-- a packet asks for a connection, and this slot can take it: it is an RFC of an address that isn't 0, and the slot is
+-- free
 pub record IsRequest (v : HostView) (p : PacketView) (place : ℕ) : Type 0 where
   pub within : place < length v.slots
   pub vacant : is_used_at v.slots place ≡ false
@@ -68,8 +69,8 @@ route v p =
     else (if is_rfc (kind_of p.op) then route_rfc v p
     else route_other v p))
 
--- What holds of a packet's route: a place that it names is in the table, and a new request is an RFC of an address that isn't
--- 0, and its slot is free.
+-- What holds of a packet's route: a place that it names is in the table, and a new request is an RFC of an address that
+-- isn't 0, and its slot is free.
 abbrev pub IsRouted : HostView → PacketView → Route → Type 0
 IsRouted v p (to.Slot place) = place < length v.slots
 IsRouted v p (to.Request place) = IsRequest v p place

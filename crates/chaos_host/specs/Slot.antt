@@ -108,8 +108,8 @@ pub record HoldsRequest (conn : ConnView) : Type 0 where
 abbrev pub HoldsRequestAlone : ConnView → Type 0
 HoldsRequestAlone conn = conn.state ≡ RfcReceived → HoldsRequest conn
 
--- The slots are from 1 to 255, and their connections have one configuration, with a receive window. What stands in a free
--- slot is as a new connection, and a pending request is the one item that its slot stores.
+-- The slots are from 1 to 255, and their connections have one configuration, with a receive window. What stands in a
+-- free slot is as a new connection, and a pending request is the one item that its slot stores.
 pub record IsTable (config : ConfigView) (slots : List Slot) : Type 0 where
   pub some : 1 ≤ length slots
   pub few : length slots ≤ MAX_CONNS

@@ -31,7 +31,8 @@ new_slot config = record { generation = 0; conn = new_conn config }
 
 -- a host with so many free slots, which listens to nothing
 abbrev pub new_host : ℕ → ℕ → ConfigView → HostView
-new_host address conns config = record { address = address; config = config; listeners = []; slots = replicate conns (new_slot config) }
+new_host address conns config =
+    record { address = address; config = config; listeners = []; slots = replicate conns (new_slot config) }
 
 -- the first fault of an address and a number of connections
 abbrev pub make_fault : ℕ → ℕ → Option MakeFault

@@ -46,12 +46,14 @@ answer_by false true state (Some item) = end.Item item
 answer_by false false state None = end.Ended state
 answer_by false false state (Some item) = end.Item item
 
-told_or_not : {A : Type 0} (b : Bool) (v : ConnView) (answer : A) → (if b then with_sts v answer else quietly v answer).answer ≡ answer
+told_or_not : {A : Type 0} (b : Bool) (v : ConnView) (answer : A)
+    → (if b then with_sts v answer else quietly v answer).answer ≡ answer
 told_or_not true v answer = refl
 told_or_not false v answer = refl
 
 answer_is : (opening opened : Bool) (v : ConnView) (front : Option ItemView)
-    → (if opening then quietly v end.Nothing else (if opened then read_at_open v front else read_at_end v front)).answer ≡ answer_by opening opened v.state front
+    → (if opening then quietly v end.Nothing else (if opened then read_at_open v front else read_at_end v front)).answer
+    ≡ answer_by opening opened v.state front
 answer_is true opened v front = refl
 answer_is false true v None = refl
 answer_is false true v (Some item) = told_or_not _ _ _
@@ -67,29 +69,39 @@ looks_alike v w place l =
     let by_front = ap (λ front. answer_by (is_opening v.state) (is_open v.state) v.state front) l.front in
     ap (λ read. read_sight read place) (answer_of w ∙ by_state ∙ by_front ∙ sym (answer_of v))
 
-either : {A : Type 0} (v : ConnView) (b : Bool) (x y : Acted A) → Leaves v x.view → Leaves v y.view → Leaves v (if b then x else y).view
+either : {A : Type 0} (v : ConnView) (b : Bool) (x y : Acted A) → Leaves v x.view → Leaves v y.view
+    → Leaves v (if b then x else y).view
 either v true x y l m = l
 either v false x y l m = m
 
 item_leaves : (v : ConnView) (item : ItemView) (t : ℕ) → Leaves v (write_item v item t).view
 item_leaves v item t = either v (has_window v.send) _ _ (record { state = refl; front = refl }) (leaves_same v)
 
-at_most_leaves : (v : ConnView) (most : Option ℕ) (item : ItemView) (t : ℕ) → Leaves v (write_at_most v most item t).view
+at_most_leaves : (v : ConnView) (most : Option ℕ) (item : ItemView) (t : ℕ)
+    → Leaves v (write_at_most v most item t).view
 at_most_leaves v None item t = leaves_same v
-at_most_leaves v (Some most) item t = either v (nat_lt most (length item.body)) _ _ (leaves_same v) (item_leaves v item t)
+at_most_leaves v (Some most) item t =
+    either v (nat_lt most (length item.body)) _ _ (leaves_same v) (item_leaves v item t)
 
 write_leaves : (v : ConnView) (op : ℕ) (bytes : List ℕ) (now : ℕ) → Leaves v (act v (Write op bytes now)).view
-write_leaves v op bytes now = either v (is_open v.state) _ _ (at_most_leaves v (most_bytes (kind_of op)) (record { op = op; body = bytes }) (moment v now)) (leaves_same v)
+write_leaves v op bytes now =
+    either v (is_open v.state) _ _
+    (at_most_leaves v (most_bytes (kind_of op)) (record { op = op; body = bytes }) (moment v now)) (leaves_same v)
 
-put_or_stop : (b : Bool) (v : ConnView) (count : ℕ) (more stop : Put) → Leaves v more.view → Leaves v stop.view → Leaves v (if b then after_taking count more else stop).view
+put_or_stop : (b : Bool) (v : ConnView) (count : ℕ) (more stop : Put) → Leaves v more.view → Leaves v stop.view
+    → Leaves v (if b then after_taking count more else stop).view
 put_or_stop true v count more stop l m = l
 put_or_stop false v count more stop l m = m
 
-cuts_leave : (cuts : List (List ℕ)) (v : ConnView) (out : OutboxView) (now : ℕ) → Leaves v (put_cuts v out now cuts).view
+cuts_leave : (cuts : List (List ℕ)) (v : ConnView) (out : OutboxView) (now : ℕ)
+    → Leaves v (put_cuts v out now cuts).view
 cuts_leave [] v out now = leaves_same v
 cuts_leave (cut ∷ cuts) v out now =
     let wrote = act v (Write op_data cut now) in
-    put_or_stop (can_put v out) v (length cut) _ _ (leaves_then v wrote.view _ (write_leaves v op_data cut now) (cuts_leave cuts wrote.view (with_put out wrote.packets) now)) (leaves_same v)
+    put_or_stop (can_put v out) v (length cut) _ _
+    (leaves_then v wrote.view _ (write_leaves v op_data cut now)
+    (cuts_leave cuts wrote.view (with_put out wrote.packets) now))
+    (leaves_same v)
 
 -- ---- of the connection that an own index names
 
@@ -101,20 +113,25 @@ module _ (old new : HostView) (id place : ℕ) (before after : OutboxView) where
   named_as : new ≡ old → named_slot new.slots id ≡ named_slot old.slots id
   named_as e = ap (λ (h : HostView). named_slot h.slots id) e
 
-  put_in : (bytes : List ℕ) (now : ℕ) (answer : Result ℕ CallFault) (found : Option Slot) → named_slot old.slots id ≡ found
-      → DoesFound (PutsBytes before bytes now after) old id found new before after answer → Shown (named_slot new.slots id) ≡ Shown found
+  put_in : (bytes : List ℕ) (now : ℕ) (answer : Result ℕ CallFault) (found : Option Slot)
+      → named_slot old.slots id ≡ found
+      → DoesFound (PutsBytes before bytes now after) old id found new before after answer
+      → Shown (named_slot new.slots id) ≡ Shown found
   put_in bytes now answer None there did = ap Shown (named_as did.view ∙ there)
   put_in bytes now (Err fault) (Some slot) there did = absurd did
   put_in bytes now (Ok taken) (Some slot) there did =
       let same : peek_of did.conn place ≡ peek_of slot.conn place =
-      ap (λ conn. peek_of conn place) did.did.exact.view ∙ looks_alike slot.conn _ place (cuts_leave (cuts_of bytes) slot.conn before now) in
+      ap (λ conn. peek_of conn place) did.did.exact.view
+      ∙ looks_alike slot.conn _ place (cuts_leave (cuts_of bytes) slot.conn before now) in
       ap Shown did.named ∙ ap Ok same
 
-  pub looks_after_bytes : (bytes : List ℕ) (now : ℕ) (answer : Result ℕ CallFault) → DoesFound (PutsBytes before bytes now after) old id (named_slot old.slots id) new before after answer
+  pub looks_after_bytes : (bytes : List ℕ) (now : ℕ) (answer : Result ℕ CallFault)
+      → DoesFound (PutsBytes before bytes now after) old id (named_slot old.slots id) new before after answer
       → Shown (named_slot new.slots id) ≡ Shown (named_slot old.slots id)
   looks_after_bytes bytes now answer did = put_in bytes now answer (named_slot old.slots id) refl did
 
-  wrote_in : (op : ℕ) (bytes : List ℕ) (now : ℕ) (reply : HostReply) → HostDoes old 1 (host_call old id (Write op bytes now)) new before after reply
+  wrote_in : (op : ℕ) (bytes : List ℕ) (now : ℕ) (reply : HostReply)
+      → HostDoes old 1 (host_call old id (Write op bytes now)) new before after reply
       → (found : Option Slot) → named_slot old.slots id ≡ found → Shown (named_slot new.slots id) ≡ Shown found
   wrote_in op bytes now reply did None there =
       let called = ap (λ found. call_slot old id (Write op bytes now) found) there in
@@ -123,10 +140,12 @@ module _ (old new : HostView) (id place : ℕ) (before after : OutboxView) where
       let write = Write op bytes now in
       let called = ap (λ found. call_slot old id write found) there in
       let conn = (act slot.conn write).view in
-      let named = named_with old id slot conn there (stays_in_use slot.conn write refl (named_used old id slot there)) in
+      let named =
+      named_with old id slot conn there (stays_in_use slot.conn write refl (named_used old id slot there)) in
       ap (λ (h : HostView). Shown (named_slot h.slots id)) (did.view ∙ ap (λ acted. acted.view) called) ∙ ap Shown named
       ∙ ap Ok (looks_alike slot.conn conn place (write_leaves slot.conn op bytes now))
 
-  pub looks_after_write : (op : ℕ) (bytes : List ℕ) (now : ℕ) (reply : HostReply) → HostDoes old 1 (host_call old id (Write op bytes now)) new before after reply
+  pub looks_after_write : (op : ℕ) (bytes : List ℕ) (now : ℕ) (reply : HostReply)
+      → HostDoes old 1 (host_call old id (Write op bytes now)) new before after reply
       → Shown (named_slot new.slots id) ≡ Shown (named_slot old.slots id)
   looks_after_write op bytes now reply did = wrote_in op bytes now reply did (named_slot old.slots id) refl

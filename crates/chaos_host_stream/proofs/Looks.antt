@@ -25,7 +25,8 @@ use Rattle.chaos_host_stream.specs.Stream.{StreamView}
 use Rattle.chaos_host_stream.specs.Reading.{sight_from, peek_at, ConsumesBytes, ConsumesFound, ConsumesAt}
 use Rattle.chaos_host_stream.proofs.Named.{with_same, named_used, became}
 
-item_from : (k : Kind) (body : List ℕ) (place : ℕ) → sight_from (item_sight k (drop 0 body)) place ≡ item_sight k (drop place body)
+item_from : (k : Kind) (body : List ℕ) (place : ℕ)
+    → sight_from (item_sight k (drop 0 body)) place ≡ item_sight k (drop place body)
 item_from kind.Data body place = refl
 item_from kind.Eof body place = refl
 item_from _ body place = ap Bytes (drop-nil place)
@@ -40,19 +41,22 @@ pub peek_from : (v : ConnView) (place : ℕ) → sight_from (peek_of v 0) place 
 peek_from v place = read_from (act_read v).answer place
 
 -- and so of a connection that a host lends
-pub peek_found : (found : Option Slot) (v : ConnView) (place : ℕ) (sight : Sight) → Ok v ≡ look_slot (λ conn. conn) found → sight ≡ sight_from (peek_of v 0) place
+pub peek_found : (found : Option Slot) (v : ConnView) (place : ℕ) (sight : Sight)
+    → Ok v ≡ look_slot (λ conn. conn) found → sight ≡ sight_from (peek_of v 0) place
     → Ok sight ≡ look_slot (λ conn. peek_of conn place) found
 peek_found None v place sight e shown = absurd (cc)
 peek_found (Some slot) v place sight e shown =
     let same : v ≡ slot.conn = cc in
     ap Ok (shown ∙ peek_from v place ∙ ap (λ conn. peek_of conn place) same)
 
-pub peek_refused : {A B : Type 0} (look : ConnView → A) (other : ConnView → B) (found : Option Slot) (fault : CallFault) → Err fault ≡ look_slot look found → Err fault ≡ look_slot other found
+pub peek_refused : {A B : Type 0} (look : ConnView → A) (other : ConnView → B) (found : Option Slot) (fault : CallFault)
+    → Err fault ≡ look_slot look found → Err fault ≡ look_slot other found
 peek_refused look other None fault e = cc
 peek_refused look other (Some slot) fault e = absurd (cc)
 
 -- what is lent from a place on ends within a packet's bytes
-pub lent_fits : (whole : Sight) (place : ℕ) → place ≤ MAX_DATA → lent_by whole ≤ MAX_DATA → place + lent_by (sight_from whole place) ≤ MAX_DATA
+pub lent_fits : (whole : Sight) (place : ℕ) → place ≤ MAX_DATA → lent_by whole ≤ MAX_DATA
+    → place + lent_by (sight_from whole place) ≤ MAX_DATA
 lent_fits (Bytes bytes) place within fits = omega (arith, within, fits, length-drop place bytes)
 lent_fits Eof place within fits = omega (arith, within)
 lent_fits Nothing place within fits = omega (arith, within)
@@ -62,15 +66,20 @@ lent_fits Ended place within fits = omega (arith, within)
 
 module _ (h : HostView) (s t : StreamView) (count : ℕ) (sight : Sight) (before : OutboxView) where
   -- whether the item in front is used up is told by what was shown
-  used_by : (v : ConnView) → Ok sight ≡ look_slot (λ conn. peek_of conn s.place) (Some (record { generation = 0; conn = v })) → uses_up (peek_of v s.place) count ≡ uses_up sight count
+  used_by : (v : ConnView)
+      → Ok sight ≡ look_slot (λ conn. peek_of conn s.place) (Some (record { generation = 0; conn = v }))
+      → uses_up (peek_of v s.place) count ≡ uses_up sight count
   used_by v shown = let same : peek_of v s.place ≡ sight = cc in ap (λ x. uses_up x count) same
 
   with_put-nil : (out : OutboxView) → out ≡ with_put out []
   with_put-nil out = ap (λ ps. record out { packets = ps }) (sym (append-nil out.packets))
 
   -- bytes that use the item in front up: it is read
-  read_in : (new : HostView) (after : OutboxView) (reply : HostReply) → uses_up sight count ≡ true → t ≡ record { id = s.id; place = 0 } → HostDoes h 1 (host_call h s.id FinishRead) new before after reply
-      → (found : Option Slot) → named_slot h.slots s.id ≡ found → Ok sight ≡ look_slot (λ conn. peek_of conn s.place) found → ConsumesFound h s count found t new before after (Ok tt)
+  read_in : (new : HostView) (after : OutboxView) (reply : HostReply) → uses_up sight count ≡ true
+      → t ≡ record { id = s.id; place = 0 } → HostDoes h 1 (host_call h s.id FinishRead) new before after reply
+      → (found : Option Slot) → named_slot h.slots s.id ≡ found
+      → Ok sight ≡ look_slot (λ conn. peek_of conn s.place) found
+      → ConsumesFound h s count found t new before after (Ok tt)
   read_in new after reply used at does None there shown = absurd (cc)
   read_in new after reply used at does (Some slot) there shown =
       let v = slot.conn in
@@ -78,24 +87,31 @@ module _ (h : HostView) (s t : StreamView) (count : ℕ) (sight : Sight) (before
       let called = ap (λ found. call_slot h s.id FinishRead found) there in
       let few : length (act v FinishRead).packets ≤ 1 = subst (λ acted. length acted.packets ≤ 1) called does.few in
       became (ConsumesBytes before s t count after) h s.id new before after tt slot (act v FinishRead).view there
-      (does.view ∙ ap (λ acted. acted.view) called) (stays_in_use v FinishRead refl (named_used h s.id slot there)) record {
+      (does.view ∙ ap (λ acted. acted.view) called) (stays_in_use v FinishRead refl (named_used h s.id slot there))
+      record {
         consumes = record {
           place = ap (λ x. x.place) at ∙ sym (ap (λ c. c.place) done);
           view = sym (ap (λ c. c.view) done);
-          packets = does.packets ∙ ap (λ acted. with_put before acted.packets) called ∙ sym (ap (λ c. with_put before c.packets) done);
+          packets =
+              does.packets ∙ ap (λ acted. with_put before acted.packets) called
+              ∙ sym (ap (λ c. with_put before c.packets) done);
           few = subst (λ c. length c.packets ≤ 1) (sym done) few;
           config = config_stays v FinishRead;
         };
         id = ap (λ x. x.id) at;
       }
 
-  pub consumed_item : (new : HostView) (after : OutboxView) (reply : HostReply) → uses_up sight count ≡ true → t ≡ record { id = s.id; place = 0 } → HostDoes h 1 (host_call h s.id FinishRead) new before after reply
+  pub consumed_item : (new : HostView) (after : OutboxView) (reply : HostReply) → uses_up sight count ≡ true
+      → t ≡ record { id = s.id; place = 0 } → HostDoes h 1 (host_call h s.id FinishRead) new before after reply
       → Ok sight ≡ peek_at h s → ConsumesAt h s count t new before after (Ok tt)
-  consumed_item new after reply used at does shown = read_in new after reply used at does (named_slot h.slots s.id) refl shown
+  consumed_item new after reply used at does shown =
+      read_in new after reply used at does (named_slot h.slots s.id) refl shown
 
   -- others: the place alone moves
   passed_in : uses_up sight count ≡ false → t ≡ record { id = s.id; place = s.place + count }
-      → (found : Option Slot) → named_slot h.slots s.id ≡ found → Ok sight ≡ look_slot (λ conn. peek_of conn s.place) found → ConsumesFound h s count found t h before before (Ok tt)
+      → (found : Option Slot) → named_slot h.slots s.id ≡ found
+      → Ok sight ≡ look_slot (λ conn. peek_of conn s.place) found
+      → ConsumesFound h s count found t h before before (Ok tt)
   passed_in used at None there shown = absurd (cc)
   passed_in used at (Some slot) there shown =
       let v = slot.conn in
@@ -112,5 +128,6 @@ module _ (h : HostView) (s t : StreamView) (count : ℕ) (sight : Sight) (before
         id = ap (λ x. x.id) at;
       }
 
-  pub consumed_bytes : uses_up sight count ≡ false → t ≡ record { id = s.id; place = s.place + count } → Ok sight ≡ peek_at h s → ConsumesAt h s count t h before before (Ok tt)
+  pub consumed_bytes : uses_up sight count ≡ false → t ≡ record { id = s.id; place = s.place + count }
+      → Ok sight ≡ peek_at h s → ConsumesAt h s count t h before before (Ok tt)
   consumed_bytes used at shown = passed_in used at (named_slot h.slots s.id) refl shown

@@ -22,22 +22,27 @@ abbrev pub with_conn : HostView → ℕ → Slot → ConnView → HostView
 with_conn h id slot conn = with_slot h (place_of id) (record slot { conn = conn })
 
 -- the one that is there
-pub with_same : (h : HostView) (id : ℕ) (slot : Slot) → named_slot h.slots id ≡ Some slot → with_conn h id slot slot.conn ≡ h
+pub with_same : (h : HostView) (id : ℕ) (slot : Slot) → named_slot h.slots id ≡ Some slot
+    → with_conn h id slot slot.conn ≡ h
 with_same h id slot e =
     let there = (named_is id (slice_get h.slots (place_of id)) slot e).0 in
     let read = get_or_from_slice_get h.slots (place_of id) slot slot there in
-    ap (λ (slots : List Slot). record h { slots = slots }) (ap (λ (s : Slot). slice_set h.slots (place_of id) s) (sym read) ∙ set-get_or h.slots (place_of id) slot)
+    ap (λ (slots : List Slot). record h { slots = slots })
+    (ap (λ (s : Slot). slice_set h.slots (place_of id) s) (sym read) ∙ set-get_or h.slots (place_of id) slot)
 
 not_false : (b : Bool) → not b ≡ true → b ≡ false
 not_false false e = refl
 not_false true e = absurd (cc)
 
 -- it is in use
-pub named_used : (h : HostView) (id : ℕ) (slot : Slot) → named_slot h.slots id ≡ Some slot → is_inactive slot.conn.state ≡ false
-named_used h id slot e = not_false (is_inactive slot.conn.state) (named_is id (slice_get h.slots (place_of id)) slot e).1
+pub named_used : (h : HostView) (id : ℕ) (slot : Slot) → named_slot h.slots id ≡ Some slot
+    → is_inactive slot.conn.state ≡ false
+named_used h id slot e =
+    not_false (is_inactive slot.conn.state) (named_is id (slice_get h.slots (place_of id)) slot e).1
 
 -- one that is in use is named by the index
-pub named_with : (h : HostView) (id : ℕ) (slot : Slot) (conn : ConnView) → named_slot h.slots id ≡ Some slot → is_inactive conn.state ≡ false
+pub named_with : (h : HostView) (id : ℕ) (slot : Slot) (conn : ConnView) → named_slot h.slots id ≡ Some slot
+    → is_inactive conn.state ≡ false
     → named_slot (with_conn h id slot conn).slots id ≡ Some (record slot { conn = conn })
 named_with h id slot conn e active =
     let new : Slot = record slot { conn = conn } in
@@ -48,14 +53,18 @@ named_with h id slot conn e active =
 
 -- a call on it leaves these slots
 abbrev told : HostView → List Slot → ConnView → Call → HostActed HostReply
-told h slots conn call = record { view = record h { slots = slots }; packets = (act conn call).packets; answer = Ok (act conn call).answer }
+told h slots conn call =
+    record { view = record h { slots = slots }; packets = (act conn call).packets; answer = Ok (act conn call).answer }
 
 -- a call on it is made in its slot
-pub call_with : (h : HostView) (id : ℕ) (slot : Slot) (conn : ConnView) (call : Call) → named_slot h.slots id ≡ Some slot → is_inactive conn.state ≡ false
-    → host_call (with_conn h id slot conn) id call ≡ record { view = with_conn h id slot (act conn call).view; packets = (act conn call).packets; answer = Ok (act conn call).answer }
+pub call_with : (h : HostView) (id : ℕ) (slot : Slot) (conn : ConnView) (call : Call)
+    → named_slot h.slots id ≡ Some slot → is_inactive conn.state ≡ false
+    → host_call (with_conn h id slot conn) id call
+    ≡ record { view = with_conn h id slot (act conn call).view; packets = (act conn call).packets; answer = Ok (act conn call).answer }
 call_with h id slot conn call e active =
     let named = named_with h id slot conn e active in
-    let same = set-set h.slots (place_of id) (record slot { conn = conn }) (record slot { conn = (act conn call).view }) in
+    let same =
+    set-set h.slots (place_of id) (record slot { conn = conn }) (record slot { conn = (act conn call).view }) in
     rw named (ap (λ (slots : List Slot). told h slots conn call) same)
 
 -- a look finds it, or tells that there is none
@@ -65,17 +74,22 @@ module _ {A : Type 0} (look : ConnView → A) where
   looked_there (Some slot) a e = refl
 
 module _ {A B : Type 0} (does : ConnView → ConnView → A → Type 0) (old : HostView) (id : ℕ) where
-  pub refused_found : (look : ConnView → B) (found : Option Slot) (out : OutboxView) (fault : CallFault) → Err fault ≡ look_slot look found → DoesFound does old id found old out out (Err fault)
+  pub refused_found : (look : ConnView → B) (found : Option Slot) (out : OutboxView) (fault : CallFault)
+      → Err fault ≡ look_slot look found → DoesFound does old id found old out out (Err fault)
   refused_found look None out fault e = record { view = refl; out = refl; answers = cc }
   refused_found look (Some slot) out fault e = absurd (cc)
 
-module _ {A : Type 0} (does : ConnView → ConnView → A → Type 0) (old : HostView) (id : ℕ) (new : HostView) (before after : OutboxView) (answer : A) where
-  pub did_found : (found : Option Slot) → is_there found ≡ true → ((slot : Slot) → found ≡ Some slot → DoesInSlot does old id slot new answer) → DoesFound does old id found new before after (Ok answer)
+module _ {A : Type 0} (does : ConnView → ConnView → A → Type 0) (old : HostView) (id : ℕ) (new : HostView)
+    (before after : OutboxView) (answer : A) where
+  pub did_found : (found : Option Slot) → is_there found ≡ true
+      → ((slot : Slot) → found ≡ Some slot → DoesInSlot does old id slot new answer)
+      → DoesFound does old id found new before after (Ok answer)
   did_found None e did = absurd (cc)
   did_found (Some slot) e did = did slot refl
 
   -- the connection became this
-  pub became : (slot : Slot) (conn : ConnView) → named_slot old.slots id ≡ Some slot → new ≡ with_conn old id slot conn → is_inactive conn.state ≡ false → does slot.conn conn answer → DoesInSlot does old id slot new answer
+  pub became : (slot : Slot) (conn : ConnView) → named_slot old.slots id ≡ Some slot → new ≡ with_conn old id slot conn
+      → is_inactive conn.state ≡ false → does slot.conn conn answer → DoesInSlot does old id slot new answer
   became slot conn e is active did = record {
     conn = conn;
     did = did;

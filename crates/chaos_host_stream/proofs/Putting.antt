@@ -17,7 +17,8 @@ use Rattle.chaos_host_stream.specs.Named.{DoesInSlot}
 use Rattle.chaos_host_stream.specs.Writing.{can_put_in, can_put_at, PutsBytes}
 use Rattle.chaos_host_stream.proofs.Named.{with_conn, with_same, named_used, named_with, call_with, became}
 
-module _ (old : HostView) (before : OutboxView) (bytes : List ℕ) (now id : ℕ) (slot : Slot) (there : named_slot old.slots id ≡ Some slot) where
+module _ (old : HostView) (before : OutboxView) (bytes : List ℕ) (now id : ℕ) (slot : Slot)
+    (there : named_slot old.slots id ≡ Some slot) where
   -- Some bytes are put: what is put so far, and what comes of the rest, come to what comes of all.
   pub record Midway (host : HostView) (out : OutboxView) (taken : ℕ) : Type 0 where
     pub conn : ConnView
@@ -34,27 +35,40 @@ module _ (old : HostView) (before : OutboxView) (bytes : List ℕ) (now id : ℕ
   }
 
   -- whether more can be put is told by the connection
-  can_put_is : (host : HostView) (out : OutboxView) (conn : ConnView) → host ≡ with_conn old id slot conn → is_inactive conn.state ≡ false → can_put_at host id out ≡ can_put conn out
-  can_put_is host out conn is used = ap (λ (h : HostView). can_put_at h id out) is ∙ ap (λ found. can_put_in found out) (named_with old id slot conn there used)
+  can_put_is : (host : HostView) (out : OutboxView) (conn : ConnView) → host ≡ with_conn old id slot conn
+      → is_inactive conn.state ≡ false → can_put_at host id out ≡ can_put conn out
+  can_put_is host out conn is used =
+      ap (λ (h : HostView). can_put_at h id out) is
+      ∙ ap (λ found. can_put_in found out) (named_with old id slot conn there used)
 
-  pub midway_next : (host : HostView) (out : OutboxView) (taken : ℕ) (cut : List ℕ) (new : HostView) (after : OutboxView)
-      → cut ≡ take MAX_DATA (drop taken bytes) → new ≡ (host_call host id (Write op_data cut now)).view → after ≡ with_put out (host_call host id (Write op_data cut now)).packets
-      → taken < length bytes → can_put_at host id out ≡ true → Midway host out taken → Midway new after (taken + length cut)
+  pub midway_next : (host : HostView) (out : OutboxView) (taken : ℕ) (cut : List ℕ) (new : HostView)
+      (after : OutboxView)
+      → cut ≡ take MAX_DATA (drop taken bytes) → new ≡ (host_call host id (Write op_data cut now)).view
+      → after ≡ with_put out (host_call host id (Write op_data cut now)).packets
+      → taken < length bytes → can_put_at host id out ≡ true → Midway host out taken
+      → Midway new after (taken + length cut)
   midway_next host out taken cut new after cut_is view_is out_is less can m =
       let write = Write op_data cut now in
-      let called = ap (λ (h : HostView). host_call h id write) m.view ∙ call_with old id slot m.conn write there m.used in
+      let called =
+      ap (λ (h : HostView). host_call h id write) m.view ∙ call_with old id slot m.conn write there m.used in
       record {
         conn = (act m.conn write).view;
         view = view_is ∙ ap (λ acted. acted.view) called;
         used = stays_in_use m.conn write refl m.used;
-        all = put_turn m.conn out now taken bytes (put_of slot.conn before bytes now) cut (act m.conn write).view after cut_is refl
-            (out_is ∙ ap (λ acted. with_put out acted.packets) called) less (sym (can_put_is host out m.conn m.view m.used) ∙ can) m.all;
+        all =
+            put_turn m.conn out now taken bytes (put_of slot.conn before bytes now) cut (act m.conn write).view after
+            cut_is refl
+            (out_is ∙ ap (λ acted. with_put out acted.packets) called) less
+            (sym (can_put_is host out m.conn m.view m.used) ∙ can) m.all;
       }
 
-  pub midway_last : (host : HostView) (out : OutboxView) (taken : ℕ) → (taken < length bytes → can_put_at host id out ≡ false) → Midway host out taken
+  pub midway_last : (host : HostView) (out : OutboxView) (taken : ℕ)
+      → (taken < length bytes → can_put_at host id out ≡ false) → Midway host out taken
       → DoesInSlot (PutsBytes before bytes now out) old id slot host taken
   midway_last host out taken last m =
-      let ended = put_ended m.conn out now taken bytes (put_of slot.conn before bytes now) (λ less. sym (can_put_is host out m.conn m.view m.used) ∙ last less) m.all in
+      let ended =
+      put_ended m.conn out now taken bytes (put_of slot.conn before bytes now)
+      (λ less. sym (can_put_is host out m.conn m.view m.used) ∙ last less) m.all in
       let put = is_put_ended slot.conn before bytes now m.conn out taken ended in
       became (PutsBytes before bytes now out) old id host before out taken slot m.conn there m.view m.used record {
         exact = puts_ended slot.conn before bytes now m.conn out taken ended;

@@ -20,7 +20,8 @@ is_named h id = is_there (named_slot h.slots id)
 module _ {A : Type 0} where
   -- The connection in a slot did this, and no other slot changed, nor anything else of the host. The index names the
   -- connection as before.
-  pub record DoesInSlot (does : ConnView → ConnView → A → Type 0) (old : HostView) (id : ℕ) (slot : Slot) (new : HostView) (answer : A) : Type 0 where
+  pub record DoesInSlot (does : ConnView → ConnView → A → Type 0) (old : HostView) (id : ℕ) (slot : Slot)
+      (new : HostView) (answer : A) : Type 0 where
     pub conn : ConnView
     pub did : does slot.conn conn answer
     pub view : new ≡ with_slot old (place_of id) (record slot { conn = conn })
@@ -29,7 +30,8 @@ module _ {A : Type 0} where
     pub size : length new.slots ≡ length old.slots
 
   -- the connection in a slot did this, and answered
-  abbrev pub AnswersInSlot : (ConnView → ConnView → A → Type 0) → HostView → ℕ → Slot → HostView → Result A CallFault → Type 0
+  abbrev pub AnswersInSlot : (ConnView → ConnView → A → Type 0) → HostView → ℕ → Slot → HostView → Result A CallFault
+      → Type 0
   AnswersInSlot does old id slot new (Ok answer) = DoesInSlot does old id slot new answer
   AnswersInSlot does old id slot new (Err fault) = ⊥
 
@@ -40,6 +42,7 @@ module _ {A : Type 0} where
     pub answers : answer ≡ Err NoSuchConnection
 
   -- the connection in the slot that was found did this
-  abbrev pub DoesFound : (ConnView → ConnView → A → Type 0) → HostView → ℕ → Option Slot → HostView → OutboxView → OutboxView → Result A CallFault → Type 0
+  abbrev pub DoesFound : (ConnView → ConnView → A → Type 0) → HostView → ℕ → Option Slot → HostView → OutboxView
+      → OutboxView → Result A CallFault → Type 0
   DoesFound does old id None new before after answer = IsRefused old new before after answer
   DoesFound does old id (Some slot) new before after answer = AnswersInSlot does old id slot new answer

@@ -20,15 +20,21 @@ abbrev pub peek_at : HostView → StreamView → Result Sight CallFault
 peek_at h s = host_look h s.id (λ conn. peek_of conn s.place)
 
 -- A connection's bytes were consumed, as chaos_stream consumes them. The stream is still that connection's.
-pub record ConsumesBytes (before : OutboxView) (s t : StreamView) (count : ℕ) (after : OutboxView) (old new : ConnView) (answer : Unit {0}) : Type 0 where
+pub record ConsumesBytes (before : OutboxView) (s t : StreamView) (count : ℕ) (after : OutboxView) (old new : ConnView)
+    (answer : Unit {0}) : Type 0 where
   pub consumes : Consumes old s.place count t.place new before after
   pub id : t.id ≡ s.id
 
 -- the bytes of the connection in the slot that was found were consumed, and where none was the stream is as it was
-abbrev pub ConsumesFound : HostView → StreamView → ℕ → Option Slot → StreamView → HostView → OutboxView → OutboxView → Result (Unit {0}) CallFault → Type 0
-ConsumesFound old s count None t new before after answer = (t ≡ s) × DoesFound (ConsumesBytes before s t count after) old s.id None new before after answer
-ConsumesFound old s count (Some slot) t new before after answer = DoesFound (ConsumesBytes before s t count after) old s.id (Some slot) new before after answer
+abbrev pub ConsumesFound : HostView → StreamView → ℕ → Option Slot → StreamView → HostView → OutboxView → OutboxView
+    → Result (Unit {0}) CallFault → Type 0
+ConsumesFound old s count None t new before after answer =
+    (t ≡ s) × DoesFound (ConsumesBytes before s t count after) old s.id None new before after answer
+ConsumesFound old s count (Some slot) t new before after answer =
+    DoesFound (ConsumesBytes before s t count after) old s.id (Some slot) new before after answer
 
 -- those of the connection of a stream
-abbrev pub ConsumesAt : HostView → StreamView → ℕ → StreamView → HostView → OutboxView → OutboxView → Result (Unit {0}) CallFault → Type 0
-ConsumesAt old s count t new before after answer = ConsumesFound old s count (named_slot old.slots s.id) t new before after answer
+abbrev pub ConsumesAt : HostView → StreamView → ℕ → StreamView → HostView → OutboxView → OutboxView
+    → Result (Unit {0}) CallFault → Type 0
+ConsumesAt old s count t new before after answer =
+    ConsumesFound old s count (named_slot old.slots s.id) t new before after answer

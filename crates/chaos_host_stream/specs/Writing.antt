@@ -18,9 +18,10 @@ can_put_in (Some slot) out = can_put slot.conn out
 abbrev pub can_put_at : HostView → ℕ → OutboxView → Bool
 can_put_at h id out = can_put_in (named_slot h.slots id) out
 
--- Bytes were put to a connection, as chaos_stream puts them: what that leaves, to the letter; and in plain words how many are
--- taken, when not all are, and what goes out.
-pub record PutsBytes (before : OutboxView) (bytes : List ℕ) (now : ℕ) (after : OutboxView) (old new : ConnView) (taken : ℕ) : Type 0 where
+-- Bytes were put to a connection, as chaos_stream puts them: what that leaves, to the letter; and in plain words how
+-- many are taken, when not all are, and what goes out.
+pub record PutsBytes (before : OutboxView) (bytes : List ℕ) (now : ℕ) (after : OutboxView) (old new : ConnView)
+    (taken : ℕ) : Type 0 where
   pub exact : Puts old before bytes now new after taken
   pub within : taken ≤ length bytes
   pub short : taken < length bytes → can_put new after ≡ false
@@ -29,7 +30,8 @@ pub record PutsBytes (before : OutboxView) (bytes : List ℕ) (now : ℕ) (after
 -- a connection that is there put these bytes
 abbrev pub PutsNamed : HostView → ℕ → List ℕ → ℕ → HostView → OutboxView → OutboxView → ℕ → Type 0
 PutsNamed old id bytes now new before after taken =
-    (slot : Slot) → named_slot old.slots id ≡ Some slot → DoesInSlot (PutsBytes before bytes now after) old id slot new taken
+    (slot : Slot) → named_slot old.slots id ≡ Some slot
+    → DoesInSlot (PutsBytes before bytes now after) old id slot new taken
 
 -- the connection with an own index put these bytes
 abbrev pub PutsAt : HostView → ℕ → List ℕ → ℕ → HostView → OutboxView → OutboxView → Result ℕ CallFault → Type 0

@@ -10,10 +10,13 @@ use Rattle.chaos_conn.specs.Arriving.{act_deliver, drop_for, repeated_request, d
 use Rattle.chaos_conn.specs.State.{is_live}
 use Rattle.chaos_packet.specs.Opcode.{is_rfc}
 
-pub act_dead : (v : ConnView) (p : PacketView) (now : ℕ) → is_live v.state ≡ false → act_deliver v p now ≡ drop_for v wh.NotOpen
+pub act_dead : (v : ConnView) (p : PacketView) (now : ℕ) → is_live v.state ≡ false
+    → act_deliver v p now ≡ drop_for v wh.NotOpen
 act_dead v p now dead = cond-true _ _ _ (ap not dead)
 
-pub act_rfc : (v : ConnView) (p : PacketView) (now : ℕ) → is_live v.state ≡ true → p.dst ≡ v.me.address → p.src ≡ v.peer → kind_of p.op ≡ k.Rfc → v.asked ≡ false → v.peer_index ≡ Some p.src_index → p.num ≡ v.request → act_deliver v p now ≡ repeated_request (heard_at v now) v.state
+pub act_rfc : (v : ConnView) (p : PacketView) (now : ℕ) → is_live v.state ≡ true → p.dst ≡ v.me.address → p.src ≡ v.peer
+    → kind_of p.op ≡ k.Rfc → v.asked ≡ false → v.peer_index ≡ Some p.src_index → p.num ≡ v.request
+    → act_deliver v p now ≡ repeated_request (heard_at v now) v.state
 act_rfc v p now live dst src kind asked index number =
     cond-false _ _ _ (ap not live)
     ∙ cond-false _ _ _ (ap not (and_from _ _ (eq-eqb p.dst v.me.address dst) (eq-eqb p.src v.peer src)))
@@ -22,7 +25,9 @@ act_rfc v p now live dst src kind asked index number =
     ∙ cond-false _ _ _ (ap not (ap (λ o. is_index o p.src_index) index ∙ eq-eqb p.src_index p.src_index refl))
     ∙ cond-false _ _ _ (ap not (eq-eqb p.num v.request number))
 
-pub act_other : (v : ConnView) (p : PacketView) (now : ℕ) → is_live v.state ≡ true → p.dst ≡ v.me.address → p.src ≡ v.peer → is_rfc (kind_of p.op) ≡ false → p.dst_index ≡ v.me.index → may_be_index v.peer_index p.src_index ≡ true → act_deliver v p now ≡ deliver_in v.state v p now
+pub act_other : (v : ConnView) (p : PacketView) (now : ℕ) → is_live v.state ≡ true → p.dst ≡ v.me.address
+    → p.src ≡ v.peer → is_rfc (kind_of p.op) ≡ false → p.dst_index ≡ v.me.index
+    → may_be_index v.peer_index p.src_index ≡ true → act_deliver v p now ≡ deliver_in v.state v p now
 act_other v p now live dst src kind dst_index src_index =
     cond-false _ _ _ (ap not live)
     ∙ cond-false _ _ _ (ap not (and_from _ _ (eq-eqb p.dst v.me.address dst) (eq-eqb p.src v.peer src)))

@@ -45,7 +45,8 @@ use Rattle.chaos_lab.proofs.Helping.{IsTaken, stamped_of, same_count, fresh_is, 
 
 -- ---- what an end's state tells of its phase
 
-asked_by : (phase : Phase) (x : Side) (rest : Rest) (b b' : ℕ) (p e : Plain) → is_ended rest.ended ≡ true → (shown_at phase x rest b b' p e).state ≡ st.RfcSent → phase ≡ RfcSent
+asked_by : (phase : Phase) (x : Side) (rest : Rest) (b b' : ℕ) (p e : Plain) → is_ended rest.ended ≡ true
+    → (shown_at phase x rest b b' p e).state ≡ st.RfcSent → phase ≡ RfcSent
 asked_by Inactive x rest b b' p e end h = let no : st.Inactive ≡ st.RfcSent = h in absurd (cc)
 asked_by RfcSent x rest b b' p e end h = refl
 asked_by RfcReceived x rest b b' p e end h = let no : st.RfcReceived ≡ st.RfcSent = h in absurd (cc)
@@ -53,10 +54,14 @@ asked_by Open x rest b b' p e end h = let no : st.Open ≡ st.RfcSent = h in abs
 asked_by Ended x rest b b' p e end h = absurd (false≢true (sym (ap is_ended h) ∙ end))
 asked_by Closed x rest b b' p e end h = let no : st.Inactive ≡ st.RfcSent = h in absurd (cc)
 
-pub asked_at : (x : Side) (w : Machine) (l : LabView) → Ties w l → (conn_at l x).state ≡ st.RfcSent → (end_of w x).phase ≡ RfcSent
-asked_at x w l t h = let s = stands_at x w l t in asked_by (end_of w x).phase x s.0 _ _ (end_of w (other x)) (end_of w x) s.1 (sym (ap (λ v. v.state) s.2) ∙ h)
+pub asked_at : (x : Side) (w : Machine) (l : LabView) → Ties w l → (conn_at l x).state ≡ st.RfcSent
+    → (end_of w x).phase ≡ RfcSent
+asked_at x w l t h =
+    let s = stands_at x w l t in asked_by (end_of w x).phase x s.0 _ _ (end_of w (other x)) (end_of w x) s.1
+    (sym (ap (λ v. v.state) s.2) ∙ h)
 
-holding_by : (phase : Phase) (x : Side) (rest : Rest) (b b' : ℕ) (p e : Plain) → is_ended rest.ended ≡ true → (shown_at phase x rest b b' p e).state ≡ st.RfcReceived → phase ≡ RfcReceived
+holding_by : (phase : Phase) (x : Side) (rest : Rest) (b b' : ℕ) (p e : Plain) → is_ended rest.ended ≡ true
+    → (shown_at phase x rest b b' p e).state ≡ st.RfcReceived → phase ≡ RfcReceived
 holding_by Inactive x rest b b' p e end h = let no : st.Inactive ≡ st.RfcReceived = h in absurd (cc)
 holding_by RfcSent x rest b b' p e end h = let no : st.RfcSent ≡ st.RfcReceived = h in absurd (cc)
 holding_by RfcReceived x rest b b' p e end h = refl
@@ -64,8 +69,11 @@ holding_by Open x rest b b' p e end h = let no : st.Open ≡ st.RfcReceived = h 
 holding_by Ended x rest b b' p e end h = absurd (false≢true (sym (ap is_ended h) ∙ end))
 holding_by Closed x rest b b' p e end h = let no : st.Inactive ≡ st.RfcReceived = h in absurd (cc)
 
-pub holding_at : (x : Side) (w : Machine) (l : LabView) → Ties w l → (conn_at l x).state ≡ st.RfcReceived → (end_of w x).phase ≡ RfcReceived
-holding_at x w l t h = let s = stands_at x w l t in holding_by (end_of w x).phase x s.0 _ _ (end_of w (other x)) (end_of w x) s.1 (sym (ap (λ v. v.state) s.2) ∙ h)
+pub holding_at : (x : Side) (w : Machine) (l : LabView) → Ties w l → (conn_at l x).state ≡ st.RfcReceived
+    → (end_of w x).phase ≡ RfcReceived
+holding_at x w l t h =
+    let s = stands_at x w l t in holding_by (end_of w x).phase x s.0 _ _ (end_of w (other x)) (end_of w x) s.1
+    (sym (ap (λ v. v.state) s.2) ∙ h)
 
 -- ---- A sends its request again
 
@@ -77,7 +85,8 @@ none_receipted e p d none =
     (λ (no : e.receipted ≤ 0). omega (arith, no))
     (cases_lt 0 e.receipted)
 
-pub first_packet : (items : List ItemView) (v : ConnView) (n : ℕ) (item : ItemView) → slice_get items 0 ≡ Some item → slice_get (packets_from v n items) 0 ≡ Some (item_packet v n item)
+pub first_packet : (items : List ItemView) (v : ConnView) (n : ℕ) (item : ItemView) → slice_get items 0 ≡ Some item
+    → slice_get (packets_from v n items) 0 ≡ Some (item_packet v n item)
 first_packet [] v n item at = absurd (cc)
 first_packet (x ∷ items) v n item at = let same : x ≡ item = cc in λ j. Some (item_packet v n (same j))
 
@@ -97,7 +106,8 @@ keeps_rfc w l t at none =
     let receipted : e.receipted ≡ 0 = none_receipted e w.b h.writer none in
     let kept : l.a.conn.send.kept ≡ e.written =
     ap (λ (v : ConnView). v.send.kept) z.2 ∙ ap (λ ph. (shown_at ph A z.0 l.a.first l.b.first w.b e).send.kept) at
-    ∙ ap (λ s. s.kept) (cond-true _ (send_view l.a.first e) (clear_send e.send_cap) wrote) ∙ ap (λ r. drop r e.written) receipted in
+    ∙ ap (λ s. s.kept) (cond-true _ (send_view l.a.first e) (clear_send e.send_cap) wrote)
+    ∙ ap (λ r. drop r e.written) receipted in
     let first = member_at e.written 0 (omega (arith, new.0.1)) in
     record { item = first.0; op = (items_at A w l t).first first.0 first.1; first = ap (λ ks. slice_get ks 0) kept ∙ first.1 }
 
@@ -107,9 +117,11 @@ pub record Asks (w : Machine) (l : LabView) : Type 0 where
   pub copy : Copy
   pub at : CopyAt machine A (length l.copies) copy
   pub kind : copy.kind ≡ Nth 0
-  pub acts : act_tick l.a.conn (again_moment l.a.conn) ≡ ticked_by due.Resend (at_moment l.a.conn (again_moment l.a.conn))
+  pub acts : act_tick l.a.conn (again_moment l.a.conn)
+      ≡ ticked_by due.Resend (at_moment l.a.conn (again_moment l.a.conn))
 
-pub ask_event : (w : Machine) (l : LabView) → Ties w l → l.a.conn.state ≡ st.RfcSent → l.asked ≡ false → IsConn l.a.conn → SendsInTime l.a.conn → Asks w l
+pub ask_event : (w : Machine) (l : LabView) → Ties w l → l.a.conn.state ≡ st.RfcSent → l.asked ≡ false → IsConn l.a.conn
+    → SendsInTime l.a.conn → Asks w l
 ask_event w l t state unasked conn time =
     let v : ConnView = l.a.conn in
     let now : ℕ = again_moment v in
@@ -122,18 +134,22 @@ ask_event w l t state unasked conn time =
     let some : 0 < length v.send.kept = slice_get_within v.send.kept 0 rfc.item rfc.first in
     let acts = resends_due v now conn (due_again v (ap awaits_peer state) some time) in
     let pk : PacketView = item_packet u (num u.send.receipted 1) rfc.item in
-    let first : slice_get (act v call).packets 0 ≡ Some pk = ap (λ a. slice_get a.packets 0) acts ∙ first_packet v.send.kept u (num u.send.receipted 1) rfc.item rfc.first in
+    let first : slice_get (act v call).packets 0 ≡ Some pk =
+    ap (λ a. slice_get a.packets 0) acts ∙ first_packet v.send.kept u (num u.send.receipted 1) rfc.item rfc.first in
     let s : Stepped w (TickAt A) m = tick_ties A w l now t in
     let n : ℕ = length l.copies in
     let put : slice_get m.copies n ≡ Some (stamp_after l A call pk) = put_at A l call n 0 pk (omega arith) first in
     let count : length l.copies ≡ length w.copies = same_count w l t in
-    let sent = sent_at A w s.machine s.step.0 m n 0 (stamp_after l A call pk) s.ties s.step.2 (omega (arith, count)) put in
+    let sent =
+    sent_at A w s.machine s.step.0 m n 0 (stamp_after l A call pk) s.ties s.step.2 (omega (arith, count)) put in
     record {
       machine = s.machine;
       ties = s.ties;
       copy = sent.copy;
       at = sent.at;
-      kind = is_first sent.copy.kind (first_at m B) (first_at m A) s.machine.a pk (items_at A s.machine m s.ties) (sent_what A s.machine m n (stamp_after l A call pk) sent) (ap (λ op. is_rfc (kind_of op)) rfc.op);
+      kind =
+          is_first sent.copy.kind (first_at m B) (first_at m A) s.machine.a pk (items_at A s.machine m s.ties)
+          (sent_what A s.machine m n (stamp_after l A call pk) sent) (ap (λ op. is_rfc (kind_of op)) rfc.op);
       acts = acts;
     }
 
@@ -150,7 +166,8 @@ pub record FirstCopy (x : Side) (w : Machine) (l : LabView) (n : ℕ) : Type 0 w
   pub kind : copy.kind ≡ Nth 0
   pub known : CopyKnown copy.sender w l n stamped copy
 
-pub first_copy : (x : Side) (w : Machine) (l : LabView) (n : ℕ) (c : Copy) → Ties w l → CopyAt w x n c → c.kind ≡ Nth 0 → FirstCopy x w l n
+pub first_copy : (x : Side) (w : Machine) (l : LabView) (n : ℕ) (c : Copy) → Ties w l → CopyAt w x n c → c.kind ≡ Nth 0
+    → FirstCopy x w l n
 first_copy x w l n c t h kind =
     let found = stamped_of (StandsCopy l.a.first l.b.first w) l.copies w.copies n c t.tied.copies h.there in
     let s : Sent = found.0 in
@@ -169,22 +186,33 @@ first_copy x w l n c t h kind =
     }
 
 -- it is delivered by this call
-pub delivers : (x : Side) (w : Machine) (l : LabView) (n : ℕ) (f : FirstCopy x w l n) (call : Call) → delivery l.asked l.clock f.stamped ≡ call → happen l (DeliverCopy n) ≡ call_at l (other x) call
+pub delivers : (x : Side) (w : Machine) (l : LabView) (n : ℕ) (f : FirstCopy x w l n) (call : Call)
+    → delivery l.asked l.clock f.stamped ≡ call → happen l (DeliverCopy n) ≡ call_at l (other x) call
 delivers x w l n f call picks =
-    let goes : call_at l (other f.stamped.side) (delivery l.asked l.clock f.stamped) ≡ call_at l (other x) call = λ j. call_at l (other (f.side j)) (picks j) in
+    let goes : call_at l (other f.stamped.side) (delivery l.asked l.clock f.stamped) ≡ call_at l (other x) call =
+    λ j. call_at l (other (f.side j)) (picks j) in
     ap (delivery_effect l) f.there ∙ cond-true _ _ _ f.near ∙ goes
 
 -- it is an RFC, from A
-rfc_from_a : (w : Machine) (l : LabView) (n : ℕ) → Ties w l → (f : FirstCopy A w l n) → (is_rfc (kind_of f.stamped.packet.op) ≡ true) × (f.stamped.packet.src ≡ 257)
+rfc_from_a : (w : Machine) (l : LabView) (n : ℕ) → Ties w l → (f : FirstCopy A w l n)
+    → (is_rfc (kind_of f.stamped.packet.op) ≡ true) × (f.stamped.packet.src ≡ 257)
 rfc_from_a w l n t f =
-    let s = stands_at_side A f.copy.sender w l.a.first l.b.first f.stamped.packet f.copy.kind f.copy.told f.sender f.known.stands in
+    let s =
+    stands_at_side A f.copy.sender w l.a.first l.b.first f.stamped.packet f.copy.kind f.copy.told f.sender
+    f.known.stands in
     (first_is f.copy.kind l.b.first l.a.first w.a f.stamped.packet t.tied.items_a s.what f.kind, s.header.src)
 
 pub inactive : (w : Machine) (l : LabView) → Ties w l → w.b.phase ≡ Inactive → l.b.conn.state ≡ st.Inactive
-inactive w l t at = let z = stands_at B w l t in ap (λ v. v.state) z.2 ∙ ap (λ ph. (shown_at ph B z.0 l.b.first l.a.first w.a w.b).state) at
+inactive w l t at =
+    let z = stands_at B w l t in ap (λ v. v.state) z.2
+    ∙ ap (λ ph. (shown_at ph B z.0 l.b.first l.a.first w.a w.b).state) at
 
-takes_request : (v : ConnView) (pk : PacketView) (now : ℕ) → v.state ≡ st.Inactive → is_rfc (kind_of pk.op) ≡ true → pk.src ≡ 257 → act_take_request v pk (place_of B) now ≡ quietly (after_taking_rfc v pk (place_of B) (moment v now)) (Ok tt)
-takes_request v pk now state rfc src = cond-true _ _ _ (ap is_inactive state) ∙ cond-false _ _ _ (ap (λ n. (258 == 0) || (n == 0)) src) ∙ cond-true _ _ _ rfc
+takes_request : (v : ConnView) (pk : PacketView) (now : ℕ) → v.state ≡ st.Inactive → is_rfc (kind_of pk.op) ≡ true
+    → pk.src ≡ 257
+    → act_take_request v pk (place_of B) now ≡ quietly (after_taking_rfc v pk (place_of B) (moment v now)) (Ok tt)
+takes_request v pk now state rfc src =
+    cond-true _ _ _ (ap is_inactive state) ∙ cond-false _ _ _ (ap (λ n. (258 == 0) || (n == 0)) src)
+    ∙ cond-true _ _ _ rfc
 
 pub record Requests (w : Machine) (l : LabView) (n : ℕ) : Type 0 where
   pub machine : Machine
@@ -192,9 +220,11 @@ pub record Requests (w : Machine) (l : LabView) (n : ℕ) : Type 0 where
   pub taken : IsTaken l (DeliverCopy n)
   pub packet : PacketView
   pub lab : (happen l (DeliverCopy n)).lab ≡ after_call l B (TakeRequest packet (place_of B) l.clock)
-  pub acts : act_take_request l.b.conn packet (place_of B) l.clock ≡ quietly (after_taking_rfc l.b.conn packet (place_of B) (moment l.b.conn l.clock)) (Ok tt)
+  pub acts : act_take_request l.b.conn packet (place_of B) l.clock
+      ≡ quietly (after_taking_rfc l.b.conn packet (place_of B) (moment l.b.conn l.clock)) (Ok tt)
 
-pub request_event : (w : Machine) (l : LabView) (n : ℕ) (c : Copy) → Ties w l → CopyAt w A n c → c.kind ≡ Nth 0 → l.asked ≡ false → Requests w l n
+pub request_event : (w : Machine) (l : LabView) (n : ℕ) (c : Copy) → Ties w l → CopyAt w A n c → c.kind ≡ Nth 0
+    → l.asked ≡ false → Requests w l n
 request_event w l n c t h kind unasked =
     let f = first_copy A w l n c t h kind in
     let s : Sent = f.stamped in
@@ -206,9 +236,11 @@ request_event w l n c t h kind unasked =
     let acts = takes_request l.b.conn pk l.clock (inactive w l t new) rfc.0 rfc.1 in
     let none : refusal_at l B call ≡ None = ap (λ a. refusal_of (Did a.answer)) acts in
     let picks : delivery l.asked l.clock s ≡ call = cond-true _ _ _ request in
-    let done : happen l (DeliverCopy n) ≡ call_effect l B call None = delivers A w l n f call picks ∙ ap (call_effect l B call) none in
+    let done : happen l (DeliverCopy n) ≡ call_effect l B call None =
+    delivers A w l n f call picks ∙ ap (call_effect l B call) none in
     let lab : (happen l (DeliverCopy n)).lab ≡ after_call l B call = ap (λ (d : Done). d.lab) done in
-    let step : Stepped w (Deliver n) (after_call l B call) = takes_by_b w l n l.clock s f.copy f.sender f.kind t f.known new in
+    let step : Stepped w (Deliver n) (after_call l B call) =
+    takes_by_b w l n l.clock s f.copy f.sender f.kind t f.known new in
     record {
       machine = step.machine;
       ties = subst (Ties step.machine) (sym lab) step.ties;

@@ -1,5 +1,6 @@
--- What holds of each copy that was ever sent. The law needs that its item was written and its counts are true. How far both lie
--- behind the copy's stamp serves the tie to 16-bit numbers: so a fresh copy's numbers are near enough to be told apart.
+-- What holds of each copy that was ever sent. The law needs that its item was written and its counts are true. How far
+-- both lie behind the copy's stamp serves the tie to 16-bit numbers: so a fresh copy's numbers are near enough to be
+-- told apart.
 use Rattle.std.proofs.Common.{◌≡◌, ℕ, suc, ◌+◌, ◌<◌, ◌≤◌, length, true, arith}
 use Rattle.std.specs.Prelude.{⊤}
 use Rattle.std.specs.FinSet.{contains}
@@ -20,7 +21,8 @@ abbrev pub ToldOk : Told → PlainEnd → PlainEnd → ℕ → Type 0
 ToldOk Nothing e p len = ⊤
 ToldOk (Acknowledges a) e p len = (a ≤ length e.read) × (len ≤ a + p.send_cap)
 ToldOk (Status a r w) e p len =
-    (a ≤ length e.read) × (len ≤ a + p.send_cap) × ((i : ℕ) → i < r → contains e.arrived i ≡ true) × (len ≤ r + p.send_cap)
+    (a ≤ length e.read) × (len ≤ a + p.send_cap) × ((i : ℕ) → i < r → contains e.arrived i ≡ true)
+    × (len ≤ r + p.send_cap)
 
 -- an item after the first tells that its sender has read at least one
 abbrev pub TellsMet : Kind → Told → Type 0

@@ -41,7 +41,8 @@ use Rattle.chaos_lab.proofs.OnSide.{Stepped, stands_at, asked_keeps, renamed, ti
 
 -- the copy that a packet stands for
 module _ {X Y : Type 0} where
-  pub copy_of : (R : X → Y → Type 0) (xs : List X) (ys : List Y) (k : ℕ) (x : X) → AllZip R xs ys → slice_get xs k ≡ Some x → (y : Y) × (slice_get ys k ≡ Some y) × R x y
+  pub copy_of : (R : X → Y → Type 0) (xs : List X) (ys : List Y) (k : ℕ) (x : X) → AllZip R xs ys
+      → slice_get xs k ≡ Some x → (y : Y) × (slice_get ys k ≡ Some y) × R x y
   copy_of R [] ys k x h at = absurd (cc)
   copy_of R (z ∷ xs) [] k x h at = absurd h
   copy_of R (z ∷ xs) (y ∷ ys) zero x h at = (y, refl, subst (λ (q : X). R q y) (let e : z ≡ x = cc in e) h.0)
@@ -50,7 +51,8 @@ module _ {X Y : Type 0} where
 -- ---- what is read by a delivery
 
 -- only the OPN's opcode is of that kind
-pub not_opn : (x : Side) (kind : Kind) (b b' : ℕ) (p : Plain) (pk : PacketView) → HasItems x b p → IsWhat b' p pk kind → (kind ≡ Nth 0 → ⊥) → kind_of pk.op ≡ k.Opn → ⊥
+pub not_opn : (x : Side) (kind : Kind) (b b' : ℕ) (p : Plain) (pk : PacketView) → HasItems x b p → IsWhat b' p pk kind
+    → (kind ≡ Nth 0 → ⊥) → kind_of pk.op ≡ k.Opn → ⊥
 not_opn x (Nth zero) b b' p pk its what apart is = apart refl
 not_opn x (Nth (suc i)) b b' p pk its what apart is =
     ⊎_elim
@@ -62,23 +64,49 @@ not_opn x Sts b b' p pk its what apart is = let no : k.Sts ≡ k.Opn = sym (ap k
 not_opn x Cls b b' p pk its what apart is = let no : k.Cls ≡ k.Opn = sym (ap kind_of what.0) ∙ is in absurd (cc)
 
 -- where the end didn't ask, or the packet isn't item 0
-shut_reads : (phase : Phase) (x : Side) (kind : Kind) (told : Told) (b b' : ℕ) (e p : Plain) (pk : PacketView) (now : ℕ) (v : ConnView) → (phase ≡ RfcSent → kind ≡ Nth 0 → ⊥) → (v.state ≡ st.RfcSent → phase ≡ RfcSent) → HasItems (other x) b p → IsWhat b' p pk kind → with_opened (act_deliver v pk now).answer pk e.read ≡ (received phase kind told p e).read
+shut_reads : (phase : Phase) (x : Side) (kind : Kind) (told : Told) (b b' : ℕ) (e p : Plain) (pk : PacketView) (now : ℕ)
+    (v : ConnView)
+    → (phase ≡ RfcSent → kind ≡ Nth 0 → ⊥) → (v.state ≡ st.RfcSent → phase ≡ RfcSent) → HasItems (other x) b p
+    → IsWhat b' p pk kind → with_opened (act_deliver v pk now).answer pk e.read ≡ (received phase kind told p e).read
 shut_reads phase x kind told b b' e p pk now v apart asks its what =
-    nothing_opened (act_deliver v pk now).answer pk e.read (not_opened v pk now (λ s is. not_opn (other x) kind b b' p pk its what (apart (asks s)) is))
+    nothing_opened (act_deliver v pk now).answer pk e.read
+    (not_opened v pk now (λ s is. not_opn (other x) kind b b' p pk its what (apart (asks s)) is))
     ∙ sym (reads_by_opening phase kind told p e apart)
 
 ended_not_asking : (s : State) → is_ended s ≡ true → s ≡ st.RfcSent → ⊥
 ended_not_asking s h is = false≢true (sym (ap is_ended is) ∙ h)
 
-deliver_reads_at : (phase : Phase) (x : Side) (kind : Kind) (told : Told) (rest : Rest) (b b' : ℕ) (pk : PacketView) (now : ℕ) (e p : Plain) (len_e len_p : ℕ) → e.phase ≡ phase → is_ended rest.ended ≡ true → Known x b b' e p len_e len_p → Agrees (other x) kind told → StandsFor (other x) b' b p pk kind told → with_opened (act_deliver (shown_at phase x rest b b' p e) pk now).answer pk e.read ≡ (received phase kind told p e).read
-deliver_reads_at Inactive x kind told rest b b' pk now e p len_e len_p at end m ag s = shut_reads Inactive x kind told b b' e p pk now (shown_at Inactive x rest b b' p e) (λ i _. let no : Inactive ≡ RfcSent = i in absurd (cc)) (λ i. let no : st.Inactive ≡ st.RfcSent = i in absurd (cc)) m.items s.what
-deliver_reads_at RfcReceived x kind told rest b b' pk now e p len_e len_p at end m ag s = shut_reads RfcReceived x kind told b b' e p pk now (shown_at RfcReceived x rest b b' p e) (λ i _. let no : RfcReceived ≡ RfcSent = i in absurd (cc)) (λ i. let no : st.RfcReceived ≡ st.RfcSent = i in absurd (cc)) m.items s.what
-deliver_reads_at Open x kind told rest b b' pk now e p len_e len_p at end m ag s = shut_reads Open x kind told b b' e p pk now (shown_at Open x rest b b' p e) (λ i _. let no : Open ≡ RfcSent = i in absurd (cc)) (λ i. let no : st.Open ≡ st.RfcSent = i in absurd (cc)) m.items s.what
-deliver_reads_at Closed x kind told rest b b' pk now e p len_e len_p at end m ag s = shut_reads Closed x kind told b b' e p pk now (shown_at Closed x rest b b' p e) (λ i _. let no : Closed ≡ RfcSent = i in absurd (cc)) (λ i. let no : st.Inactive ≡ st.RfcSent = i in absurd (cc)) m.items s.what
-deliver_reads_at Ended x kind told rest b b' pk now e p len_e len_p at end m ag s = shut_reads Ended x kind told b b' e p pk now (shown_at Ended x rest b b' p e) (λ i _. let no : Ended ≡ RfcSent = i in absurd (cc)) (λ i. absurd (ended_not_asking rest.ended end i)) m.items s.what
-deliver_reads_at RfcSent B kind told rest b b' pk now e p len_e len_p at end m ag s = absurd (subst (λ (ph : Phase). Fits ph B e.written e.read e.arrived) at m.ok.fits)
+deliver_reads_at : (phase : Phase) (x : Side) (kind : Kind) (told : Told) (rest : Rest) (b b' : ℕ) (pk : PacketView)
+    (now : ℕ) (e p : Plain) (len_e len_p : ℕ)
+    → e.phase ≡ phase → is_ended rest.ended ≡ true → Known x b b' e p len_e len_p → Agrees (other x) kind told
+    → StandsFor (other x) b' b p pk kind told
+    → with_opened (act_deliver (shown_at phase x rest b b' p e) pk now).answer pk e.read
+    ≡ (received phase kind told p e).read
+deliver_reads_at Inactive x kind told rest b b' pk now e p len_e len_p at end m ag s =
+    shut_reads Inactive x kind told b b' e p pk now (shown_at Inactive x rest b b' p e)
+    (λ i _. let no : Inactive ≡ RfcSent = i in absurd (cc))
+    (λ i. let no : st.Inactive ≡ st.RfcSent = i in absurd (cc)) m.items s.what
+deliver_reads_at RfcReceived x kind told rest b b' pk now e p len_e len_p at end m ag s =
+    shut_reads RfcReceived x kind told b b' e p pk now (shown_at RfcReceived x rest b b' p e)
+    (λ i _. let no : RfcReceived ≡ RfcSent = i in absurd (cc))
+    (λ i. let no : st.RfcReceived ≡ st.RfcSent = i in absurd (cc)) m.items s.what
+deliver_reads_at Open x kind told rest b b' pk now e p len_e len_p at end m ag s =
+    shut_reads Open x kind told b b' e p pk now (shown_at Open x rest b b' p e)
+    (λ i _. let no : Open ≡ RfcSent = i in absurd (cc)) (λ i. let no : st.Open ≡ st.RfcSent = i in absurd (cc))
+    m.items s.what
+deliver_reads_at Closed x kind told rest b b' pk now e p len_e len_p at end m ag s =
+    shut_reads Closed x kind told b b' e p pk now (shown_at Closed x rest b b' p e)
+    (λ i _. let no : Closed ≡ RfcSent = i in absurd (cc))
+    (λ i. let no : st.Inactive ≡ st.RfcSent = i in absurd (cc)) m.items s.what
+deliver_reads_at Ended x kind told rest b b' pk now e p len_e len_p at end m ag s =
+    shut_reads Ended x kind told b b' e p pk now (shown_at Ended x rest b b' p e)
+    (λ i _. let no : Ended ≡ RfcSent = i in absurd (cc)) (λ i. absurd (ended_not_asking rest.ended end i)) m.items
+    s.what
+deliver_reads_at RfcSent B kind told rest b b' pk now e p len_e len_p at end m ag s =
+    absurd (subst (λ (ph : Phase). Fits ph B e.written e.read e.arrived) at m.ok.fits)
 deliver_reads_at RfcSent A (Nth zero) (Status r f w) rest b b' pk now e p len_e len_p at end m ag s =
-    let new : IsNew A e.written e.read × IsNone e.arrived = subst (λ (ph : Phase). Fits ph A e.written e.read e.arrived) at m.ok.fits in
+    let new : IsNew A e.written e.read × IsNone e.arrived =
+    subst (λ (ph : Phase). Fits ph A e.written e.read e.arrived) at m.ok.fits in
     let next : next_item p e ≡ Some (item_of pk) = ap (slice_get p.written) new.0.0 ∙ s.what.0 in
     let told : Told = Status r f w in
     ap (λ d. with_opened d pk e.read) (opened_answer rest b b' r f w pk now e p len_e len_p m at s)
@@ -86,10 +114,18 @@ deliver_reads_at RfcSent A (Nth zero) (Status r f w) rest b b' pk now e p len_e 
     ∙ ap (λ o. (read_item o (record e { phase = Open; arrived = insert e.arrived 0 })).read) next)
 deliver_reads_at RfcSent A (Nth zero) Nothing rest b b' pk now e p len_e len_p at end m ag s = absurd ag
 deliver_reads_at RfcSent A (Nth zero) (Acknowledges r) rest b b' pk now e p len_e len_p at end m ag s = absurd ag
-deliver_reads_at RfcSent A (Nth (suc i)) told rest b b' pk now e p len_e len_p at end m ag s = shut_reads RfcSent A (Nth (suc i)) told b b' e p pk now (shown_at RfcSent A rest b b' p e) (λ _ z. let no : (Nth (suc i)) ≡ Nth 0 = z in absurd (cc)) (λ _. refl) m.items s.what
-deliver_reads_at RfcSent A Sns told rest b b' pk now e p len_e len_p at end m ag s = shut_reads RfcSent A Sns told b b' e p pk now (shown_at RfcSent A rest b b' p e) (λ _ z. let no : Sns ≡ Nth 0 = z in absurd (cc)) (λ _. refl) m.items s.what
-deliver_reads_at RfcSent A Sts told rest b b' pk now e p len_e len_p at end m ag s = shut_reads RfcSent A Sts told b b' e p pk now (shown_at RfcSent A rest b b' p e) (λ _ z. let no : Sts ≡ Nth 0 = z in absurd (cc)) (λ _. refl) m.items s.what
-deliver_reads_at RfcSent A Cls told rest b b' pk now e p len_e len_p at end m ag s = shut_reads RfcSent A Cls told b b' e p pk now (shown_at RfcSent A rest b b' p e) (λ _ z. let no : Cls ≡ Nth 0 = z in absurd (cc)) (λ _. refl) m.items s.what
+deliver_reads_at RfcSent A (Nth (suc i)) told rest b b' pk now e p len_e len_p at end m ag s =
+    shut_reads RfcSent A (Nth (suc i)) told b b' e p pk now (shown_at RfcSent A rest b b' p e)
+    (λ _ z. let no : (Nth (suc i)) ≡ Nth 0 = z in absurd (cc)) (λ _. refl) m.items s.what
+deliver_reads_at RfcSent A Sns told rest b b' pk now e p len_e len_p at end m ag s =
+    shut_reads RfcSent A Sns told b b' e p pk now (shown_at RfcSent A rest b b' p e)
+    (λ _ z. let no : Sns ≡ Nth 0 = z in absurd (cc)) (λ _. refl) m.items s.what
+deliver_reads_at RfcSent A Sts told rest b b' pk now e p len_e len_p at end m ag s =
+    shut_reads RfcSent A Sts told b b' e p pk now (shown_at RfcSent A rest b b' p e)
+    (λ _ z. let no : Sts ≡ Nth 0 = z in absurd (cc)) (λ _. refl) m.items s.what
+deliver_reads_at RfcSent A Cls told rest b b' pk now e p len_e len_p at end m ag s =
+    shut_reads RfcSent A Cls told b b' e p pk now (shown_at RfcSent A rest b b' p e)
+    (λ _ z. let no : Cls ≡ Nth 0 = z in absurd (cc)) (λ _. refl) m.items s.what
 
 -- ---- a copy that comes as a packet
 
@@ -103,10 +139,12 @@ pub record CopyKnown (y : Side) (w : Machine) (l : LabView) (n : ℕ) (s : Sent)
   pub ok : IsCopyOk w c
   pub agrees : Agrees c.sender c.kind c.told
   pub met : MetBefore w c
-  pub stands : StandsFor c.sender (base_of l.a.first l.b.first c.sender) (base_of l.a.first l.b.first (other c.sender)) (end_of w c.sender) s.packet c.kind c.told
+  pub stands : StandsFor c.sender (base_of l.a.first l.b.first c.sender) (base_of l.a.first l.b.first (other c.sender))
+      (end_of w c.sender) s.packet c.kind c.told
 
 -- the copy, its sender's side being what its stamp says
-pub copy_known : (w : Machine) (l : LabView) (n : ℕ) (s : Sent) → Ties w l → slice_get l.copies n ≡ Some s → is_fresh l.a l.b s ≡ true → (c : Copy) × (s.side ≡ c.sender) × CopyKnown c.sender w l n s c
+pub copy_known : (w : Machine) (l : LabView) (n : ℕ) (s : Sent) → Ties w l → slice_get l.copies n ≡ Some s
+    → is_fresh l.a l.b s ≡ true → (c : Copy) × (s.side ≡ c.sender) × CopyKnown c.sender w l n s c
 copy_known w l n s t at near =
     let c = copy_of (StandsCopy l.a.first l.b.first w) l.copies w.copies n s t.tied.copies at in
     let h = reached_holds w t.tied.reached in
@@ -132,7 +170,8 @@ copy_known w l n s t at near =
       },
     )
 
-pub comes_to_a : (w : Machine) (l : LabView) (n now : ℕ) (s : Sent) (d : Copy) → d.sender ≡ B → Ties w l → CopyKnown d.sender w l n s d → Stepped w (Deliver n) (after_call l A (DeliverPacket s.packet now))
+pub comes_to_a : (w : Machine) (l : LabView) (n now : ℕ) (s : Sent) (d : Copy) → d.sender ≡ B → Ties w l
+    → CopyKnown d.sender w l n s d → Stepped w (Deliver n) (after_call l A (DeliverPacket s.packet now))
 comes_to_a w l n now s d from t know =
     let c : Copy = record d { sender = B } in
     let same : d ≡ c = λ j. record d { sender = from j } in
@@ -142,12 +181,17 @@ comes_to_a w l n now s d from t know =
     let e : Plain = w.a in
     let p : Plain = w.b in
     let f : Plain = received e.phase c.kind c.told p e in
-    let known : Known A l.a.first l.b.first e p c.len_a c.len_b = record { writer = h.ab; reader = h.ba; ok = h.a; peer_most = h.b.caps.1; fresh_e = m.fresh.0; fresh_p = m.fresh.1; items = t.tied.items_b } in
+    let known : Known A l.a.first l.b.first e p c.len_a c.len_b =
+    record { writer = h.ab; reader = h.ba; ok = h.a; peer_most = h.b.caps.1; fresh_e = m.fresh.0; fresh_p = m.fresh.1; items = t.tied.items_b } in
     let new : e.phase ≡ Inactive → c.kind ≡ Nth 0 → ⊥ = λ i _. absurd (fits_at A e Inactive h.a i) in
-    let k : Leaves A l.a.first l.b.first p f (act_deliver l.a.conn s.packet now) = subst (λ v. Leaves A l.a.first l.b.first p f (act_deliver v s.packet now)) (sym z.2)
-    (deliver_leaves A c.kind c.told z.0 l.a.first l.b.first s.packet now e p c.len_a c.len_b new z.1 known m.ok.kind_ok m.ok.told_ok m.ok.met m.agrees tt m.stands) in
-    let reads : with_opened (act_deliver l.a.conn s.packet now).answer s.packet e.read ≡ f.read = subst (λ v. with_opened (act_deliver v s.packet now).answer s.packet e.read ≡ f.read) (sym z.2)
-    (deliver_reads_at e.phase A c.kind c.told z.0 l.a.first l.b.first s.packet now e p c.len_a c.len_b refl z.1 known m.agrees m.stands) in
+    let k : Leaves A l.a.first l.b.first p f (act_deliver l.a.conn s.packet now) =
+    subst (λ v. Leaves A l.a.first l.b.first p f (act_deliver v s.packet now)) (sym z.2)
+    (deliver_leaves A c.kind c.told z.0 l.a.first l.b.first s.packet now e p c.len_a c.len_b new z.1 known m.ok.kind_ok
+    m.ok.told_ok m.ok.met m.agrees tt m.stands) in
+    let reads : with_opened (act_deliver l.a.conn s.packet now).answer s.packet e.read ≡ f.read =
+    subst (λ v. with_opened (act_deliver v s.packet now).answer s.packet e.read ≡ f.read) (sym z.2)
+    (deliver_reads_at e.phase A c.kind c.told z.0 l.a.first l.b.first s.packet now e p c.len_a c.len_b refl z.1 known
+    m.agrees m.stands) in
     let kept = same_received e.phase c.kind c.told p e in
     ties_on A w l (DeliverPacket s.packet now) (Deliver n) f t
     (record {
@@ -162,7 +206,9 @@ comes_to_a w l n now s d from t know =
       asked = asked_keeps A w l f t (new_by_request e.phase c.kind c.told p e refl new);
     })
 
-pub comes_to_b : (w : Machine) (l : LabView) (n now : ℕ) (s : Sent) (d : Copy) → d.sender ≡ A → Ties w l → CopyKnown d.sender w l n s d → (w.b.phase ≡ Inactive → d.kind ≡ Nth 0 → ⊥) → Stepped w (Deliver n) (after_call l B (DeliverPacket s.packet now))
+pub comes_to_b : (w : Machine) (l : LabView) (n now : ℕ) (s : Sent) (d : Copy) → d.sender ≡ A → Ties w l
+    → CopyKnown d.sender w l n s d → (w.b.phase ≡ Inactive → d.kind ≡ Nth 0 → ⊥)
+    → Stepped w (Deliver n) (after_call l B (DeliverPacket s.packet now))
 comes_to_b w l n now s d from t know new =
     let c : Copy = record d { sender = A } in
     let same : d ≡ c = λ j. record d { sender = from j } in
@@ -172,11 +218,16 @@ comes_to_b w l n now s d from t know new =
     let e : Plain = w.b in
     let p : Plain = w.a in
     let f : Plain = received e.phase c.kind c.told p e in
-    let known : Known B l.b.first l.a.first e p c.len_b c.len_a = record { writer = h.ba; reader = h.ab; ok = h.b; peer_most = h.a.caps.1; fresh_e = m.fresh.1; fresh_p = m.fresh.0; items = t.tied.items_a } in
-    let k : Leaves B l.b.first l.a.first p f (act_deliver l.b.conn s.packet now) = subst (λ v. Leaves B l.b.first l.a.first p f (act_deliver v s.packet now)) (sym z.2)
-    (deliver_leaves B c.kind c.told z.0 l.b.first l.a.first s.packet now e p c.len_b c.len_a new z.1 known m.ok.kind_ok m.ok.told_ok m.ok.met m.agrees (late_of c.kind e (m.met refl)) m.stands) in
-    let reads : with_opened (act_deliver l.b.conn s.packet now).answer s.packet e.read ≡ f.read = subst (λ v. with_opened (act_deliver v s.packet now).answer s.packet e.read ≡ f.read) (sym z.2)
-    (deliver_reads_at e.phase B c.kind c.told z.0 l.b.first l.a.first s.packet now e p c.len_b c.len_a refl z.1 known m.agrees m.stands) in
+    let known : Known B l.b.first l.a.first e p c.len_b c.len_a =
+    record { writer = h.ba; reader = h.ab; ok = h.b; peer_most = h.a.caps.1; fresh_e = m.fresh.1; fresh_p = m.fresh.0; items = t.tied.items_a } in
+    let k : Leaves B l.b.first l.a.first p f (act_deliver l.b.conn s.packet now) =
+    subst (λ v. Leaves B l.b.first l.a.first p f (act_deliver v s.packet now)) (sym z.2)
+    (deliver_leaves B c.kind c.told z.0 l.b.first l.a.first s.packet now e p c.len_b c.len_a new z.1 known m.ok.kind_ok
+    m.ok.told_ok m.ok.met m.agrees (late_of c.kind e (m.met refl)) m.stands) in
+    let reads : with_opened (act_deliver l.b.conn s.packet now).answer s.packet e.read ≡ f.read =
+    subst (λ v. with_opened (act_deliver v s.packet now).answer s.packet e.read ≡ f.read) (sym z.2)
+    (deliver_reads_at e.phase B c.kind c.told z.0 l.b.first l.a.first s.packet now e p c.len_b c.len_a refl z.1 known
+    m.agrees m.stands) in
     let kept = same_received e.phase c.kind c.told p e in
     ties_on B w l (DeliverPacket s.packet now) (Deliver n) f t
     (record {
@@ -197,7 +248,9 @@ nothing_told : (told : Told) → Agrees A (Nth 0) told → told ≡ Nothing
 nothing_told Nothing h = refl
 nothing_told _ h = absurd h
 
-pub takes_by_b : (w : Machine) (l : LabView) (n now : ℕ) (s : Sent) (d : Copy) → d.sender ≡ A → d.kind ≡ Nth 0 → Ties w l → CopyKnown d.sender w l n s d → w.b.phase ≡ Inactive → Stepped w (Deliver n) (after_call l B (TakeRequest s.packet (place_of B) now))
+pub takes_by_b : (w : Machine) (l : LabView) (n now : ℕ) (s : Sent) (d : Copy) → d.sender ≡ A → d.kind ≡ Nth 0
+    → Ties w l → CopyKnown d.sender w l n s d → w.b.phase ≡ Inactive
+    → Stepped w (Deliver n) (after_call l B (TakeRequest s.packet (place_of B) now))
 takes_by_b w l n now s d from kind t know new =
     let c1 : Copy = record d { sender = A; kind = Nth 0 } in
     let same1 : d ≡ c1 = λ j. record d { sender = from j; kind = kind j } in
@@ -211,12 +264,16 @@ takes_by_b w l n now s d from kind t know new =
     let e : Plain = w.b in
     let p : Plain = w.a in
     let f : Plain = received e.phase (Nth 0) Nothing p e in
-    let known : Known B l.b.first l.a.first e p c.len_b c.len_a = record { writer = h.ba; reader = h.ab; ok = h.b; peer_most = h.a.caps.1; fresh_e = m.fresh.1; fresh_p = m.fresh.0; items = t.tied.items_a } in
-    let k : Leaves B l.b.first l.a.first p f (act_take_request l.b.conn s.packet (place_of B) now) = subst (λ v. Leaves B l.b.first l.a.first p f (act_take_request v s.packet (place_of B) now)) (sym z.2)
+    let known : Known B l.b.first l.a.first e p c.len_b c.len_a =
+    record { writer = h.ba; reader = h.ab; ok = h.b; peer_most = h.a.caps.1; fresh_e = m.fresh.1; fresh_p = m.fresh.0; items = t.tied.items_a } in
+    let k : Leaves B l.b.first l.a.first p f (act_take_request l.b.conn s.packet (place_of B) now) =
+    subst (λ v. Leaves B l.b.first l.a.first p f (act_take_request v s.packet (place_of B) now)) (sym z.2)
     (request_leaves z.0 l.b.first l.a.first s.packet now e p c.len_b c.len_a z.1 known new m.ok.kind_ok m.stands) in
     let kept = same_received e.phase (Nth 0) Nothing p e in
     let phase : f.phase ≡ RfcReceived = ap (λ ph. (received ph (Nth 0) Nothing p e).phase) new in
-    let reads : f.read ≡ e.read = reads_by_opening e.phase (Nth 0) Nothing p e (λ i _. let no : Inactive ≡ RfcSent = sym new ∙ i in absurd (cc)) in
+    let reads : f.read ≡ e.read =
+    reads_by_opening e.phase (Nth 0) Nothing p e
+    (λ i _. let no : Inactive ≡ RfcSent = sym new ∙ i in absurd (cc)) in
     ties_on B w l (TakeRequest s.packet (place_of B) now) (Deliver n) f t
     (record {
       leaves = renamed Did B _ _ p f (act_take_request l.b.conn s.packet (place_of B) now) k;
@@ -227,5 +284,6 @@ takes_by_b w l n now s d from kind t know new =
       wrote = t.written_b ∙ sym kept.0;
       got = t.read_b ∙ sym reads;
       first = refl;
-      asked = record { new = λ i. absurd (cc); old = λ _ i. let no : RfcReceived ≡ Inactive = sym phase ∙ i in absurd (cc) };
+      asked =
+          record { new = λ i. absurd (cc); old = λ _ i. let no : RfcReceived ≡ Inactive = sym phase ∙ i in absurd (cc) };
     })

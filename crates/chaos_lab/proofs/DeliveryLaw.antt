@@ -24,7 +24,8 @@ pub sound : (m : Machine) (x : Side) → Reached m → Sound (writer m x) (reade
 sound m x r = (end_holds m x (reached_holds m r)).writer
 
 -- what each end of a reached machine goes on to by a run
-pub grows : (m n : Machine) (x : Side) (events : Schedule) → Reached m → Run m events n → Grows (end_of m x) (end_of n x)
+pub grows : (m n : Machine) (x : Side) (events : Schedule) → Reached m → Run m events n
+    → Grows (end_of m x) (end_of n x)
 grows m n x events r run = end_later m n x (run_goes m events n (reached_holds m r) run).later
 
 step_grows : (m n : Machine) (x : Side) (event : Event) → Reached m → Step m event n → Grows (end_of m x) (end_of n x)
@@ -48,7 +49,8 @@ receipted m x f r h = missing_between (writer m x) (reader m x) f (sound m x r) 
 pub some_missing : (m : Machine) (x : Side) → Reached m → (f : ℕ) × FirstMissing (reader m x) f
 some_missing m x r = first_missing (writer m x) (reader m x) (sound m x r)
 
-pub room : (m : Machine) (x : Side) → Reached m → length (writer m x).written - (writer m x).acknowledged ≤ (writer m x).send_cap
+pub room : (m : Machine) (x : Side) → Reached m
+    → length (writer m x).written - (writer m x).acknowledged ≤ (writer m x).send_cap
 room m x r = omega (arith, (sound m x r).room)
 
 -- ---- what stays
@@ -69,7 +71,8 @@ items_stay m n x events r run = ((grows m n x events r run).written, (grows m n 
 moves_by : (m n : Machine) (x : Side) (i : ℕ) → (d : DeliversInside m x i n) → Moves (Comes d.copy) m (other x) n
 moves_by m n x i d =
     let same : d.step.0 ≡ d.copy = let e = d.step.1 in let e' = d.sent in cc in
-    let s : Moves (Comes d.copy) m (other d.copy.sender) n = subst (λ (c : Copy). Moves (Comes c) m (other c.sender) n) same d.step.3 in
+    let s : Moves (Comes d.copy) m (other d.copy.sender) n =
+    subst (λ (c : Copy). Moves (Comes c) m (other c.sender) n) same d.step.3 in
     subst (λ (y : Side). Moves (Comes d.copy) m (other y) n) d.sender s
 
 pub arrives : (m n : Machine) (x : Side) (i : ℕ) → Reached m → DeliversInside m x i n → IsThere (reader n x) i
@@ -125,8 +128,10 @@ in_turn l m n o x events i r d run is_next s =
     let got =
     MatchBool-at_true {b = contains (reader n x).arrived (length (reader n x).read)} _ _
     (ap (contains (reader n x).arrived) is_next ∙ here) (read_now n o x rn may s) in
-    let before = item_stays (writer l x) (writer m x) i first.0 (step_grows l m x (Deliver d.number) r d.step) first.1 in
+    let before =
+    item_stays (writer l x) (writer m x) i first.0 (step_grows l m x (Deliver d.number) r d.step) first.1 in
     let after = item_stays (writer m x) (writer n x) i first.0 (grows m n x events rm run.0) before in
-    let found : slice_get (writer n x).written i ≡ Some got.0 = ap (slice_get (writer n x).written) (sym is_next) ∙ got.1 in
+    let found : slice_get (writer n x).written i ≡ Some got.0 =
+    ap (slice_get (writer n x).written) (sym is_next) ∙ got.1 in
     let same : got.0 ≡ first.0 = cc in
     (first.0, first.1, subst (λ (item : ItemView). ReadsItem item (reader n x) (reader o x)) same got.2)

@@ -12,7 +12,8 @@ use Rattle.chaos_lab.proofs.Lists.{contains-insert_cases, contains-insert_keeps,
 
 -- over the fields of its two ends, so that a change of any other field needs no proof
 pub record Direction
-    (written : List ItemView) (acknowledged receipted window send_cap : ℕ) (read : List ItemView) (arrived : FinSet nat_cmp) (recv_cap : ℕ) : Type 0 where
+    (written : List ItemView) (acknowledged receipted window send_cap : ℕ) (read : List ItemView)
+    (arrived : FinSet nat_cmp) (recv_cap : ℕ) : Type 0 where
   pub begins : Begins read written
   pub within : (i : ℕ) → contains arrived i ≡ true → i < length written
   pub inside : (i : ℕ) → contains arrived i ≡ true → i < length read + recv_cap
@@ -29,7 +30,8 @@ Sound e p = Direction e.written e.acknowledged e.receipted e.window e.send_cap p
 
 -- ---- the writer hears, and writes
 
-pub sound_acknowledges : (e p : PlainEnd) (read : ℕ) → Sound e p → read ≤ length p.read → Sound (hear (Acknowledges read) e) p
+pub sound_acknowledges : (e p : PlainEnd) (read : ℕ) → Sound e p → read ≤ length p.read
+    → Sound (hear (Acknowledges read) e) p
 sound_acknowledges e p read d le =
     record {
       begins = d.begins;
@@ -39,7 +41,8 @@ sound_acknowledges e p read d le =
       acked_read = omega (arith, d.acked_read);
       in_order = omega (arith, d.in_order);
       receipted_arrived = λ i h.
-          ⊎_elim (λ (t : i < e.receipted). d.receipted_arrived i t) (λ (t : i < read). d.front i (omega arith)) (grind arith);
+          ⊎_elim (λ (t : i < e.receipted). d.receipted_arrived i t) (λ (t : i < read). d.front i (omega arith))
+          (grind arith);
       room = omega (arith, d.room);
       window_cap = d.window_cap;
     }
@@ -110,7 +113,8 @@ sound_read e p item d here is =
       within = d.within;
       inside = λ i h. let w = d.inside i h in omega arith;
       front = λ i h.
-          ⊎_elim (λ (t : i < length p.read). d.front i t) (λ (t : i ≡ length p.read). ap (contains p.arrived) t ∙ here) (grind arith);
+          ⊎_elim (λ (t : i < length p.read). d.front i t) (λ (t : i ≡ length p.read). ap (contains p.arrived) t ∙ here)
+          (grind arith);
       acked_read = omega (arith, d.acked_read);
       in_order = d.in_order;
       receipted_arrived = d.receipted_arrived;
@@ -121,7 +125,8 @@ sound_read e p item d here is =
 -- ---- the first index that is missing
 
 -- the receipt reaches no further than it, and it no further than what was written
-pub missing_between : (e p : PlainEnd) (f : ℕ) → Sound e p → FirstMissing p f → (e.receipted ≤ f) × (f ≤ length e.written)
+pub missing_between : (e p : PlainEnd) (f : ℕ) → Sound e p → FirstMissing p f
+    → (e.receipted ≤ f) × (f ≤ length e.written)
 missing_between e p f d h = (
   ⊎_elim
       (λ (t : f < e.receipted). absurd (false≢true (sym h.1 ∙ d.receipted_arrived f t)))
@@ -145,7 +150,8 @@ missing_unread e p f d h =
 missing_from :
     (e : PlainEnd) (limit : ℕ) → ((i : ℕ) → contains e.arrived i ≡ true → i < limit) → (left n : ℕ) → n + left ≡ limit →
     ((i : ℕ) → i < n → contains e.arrived i ≡ true) → (f : ℕ) × FirstMissing e f
-missing_from e limit within zero n is below = (n, (below, false_from_ne_true (contains e.arrived n) (λ t. absurd (omega (arith, within n t)))))
+missing_from e limit within zero n is below =
+    (n, (below, false_from_ne_true (contains e.arrived n) (λ t. absurd (omega (arith, within n t)))))
 missing_from e limit within (suc left) n is below =
     ⊎_elim
     (λ (t : contains e.arrived n ≡ true).
@@ -155,4 +161,5 @@ missing_from e limit within (suc left) n is below =
     (cases_Bool (contains e.arrived n))
 
 pub first_missing : (e p : PlainEnd) → Sound e p → (f : ℕ) × FirstMissing p f
-first_missing e p d = missing_from p (length e.written) d.within (length e.written) 0 (omega arith) (λ i h. absurd (omega arith))
+first_missing e p d =
+    missing_from p (length e.written) d.within (length e.written) 0 (omega arith) (λ i h. absurd (omega arith))

@@ -84,11 +84,13 @@ pub step_through : (x : Side) (e p f g : PlainEnd) → EndStep x e p f → EndSt
 step_through x e p f g s t = record { after = t.after; grows = grows_through e f g s.grows t.grows }
 
 -- what fits an end in this phase
-pub fits_at : (x : Side) (e : PlainEnd) (phase : Phase) → EndOk x e → e.phase ≡ phase → Fits phase x e.written e.read e.arrived
+pub fits_at : (x : Side) (e : PlainEnd) (phase : Phase) → EndOk x e → e.phase ≡ phase
+    → Fits phase x e.written e.read e.arrived
 fits_at x e phase o at = subst (λ ph. Fits ph x e.written e.read e.arrived) at o.fits
 
 -- the window that an end in this phase announces
-pub announces_at : (x : Side) (e : PlainEnd) (phase : Phase) → EndOk x e → e.phase ≡ phase → Announces phase e.announced e.recv_cap
+pub announces_at : (x : Side) (e : PlainEnd) (phase : Phase) → EndOk x e → e.phase ≡ phase
+    → Announces phase e.announced e.recv_cap
 announces_at x e phase o at = subst (λ ph. Announces ph e.announced e.recv_cap) at o.announces
 
 pub announced_fits : (x : Side) (e : PlainEnd) → EndOk x e → e.announced ≤ e.recv_cap
@@ -104,7 +106,8 @@ step_phase x e p phase h fits announces =
       after = record {
         writer = h.writer;
         reader = h.reader;
-        ok = record { fits = fits; answered = h.ok.answered; calm = h.ok.calm; announces = announces; caps = h.ok.caps };
+        ok =
+            record { fits = fits; answered = h.ok.answered; calm = h.ok.calm; announces = announces; caps = h.ok.caps };
       };
       grows = let g = grows_same e in grows_by e (record e { phase = phase }) g.written g.read (λ i t. t) refl refl;
     }
@@ -169,26 +172,35 @@ step_announced x e p window h is_open most =
           caps = h.ok.caps;
         };
       };
-      grows = let g = grows_same e in grows_by e (record e { announced = window }) g.written g.read (λ i t. t) refl refl;
+      grows =
+          let g = grows_same e in grows_by e (record e { announced = window }) g.written g.read (λ i t. t) refl refl;
     }
 
 -- ---- an item comes to an open end
 
 pub step_took_in :
-    (x : Side) (e p : PlainEnd) (i : ℕ) → EndHolds x e p → e.phase ≡ Open → i < length p.written → (1 ≤ i → 1 ≤ e.receipted) →
+    (x : Side) (e p : PlainEnd) (i : ℕ) → EndHolds x e p → e.phase ≡ Open → i < length p.written
+    → (1 ≤ i → 1 ≤ e.receipted) →
     EndStep x e p (take_in i e)
 step_took_in x e p i h is_open within told =
-    cond_both (leb (length e.read) i && ltb i (length e.read + e.announced)) (record e { arrived = insert e.arrived i }) e (EndStep x e p)
+    cond_both (leb (length e.read) i && ltb i (length e.read + e.announced)) (record e { arrived = insert e.arrived i })
+    e (EndStep x e p)
     (λ t.
     let most = announced_fits x e h.ok in
-    let inside : i < length e.read + e.announced = ltb-true i (length e.read + e.announced) (and_parts (leb (length e.read) i) (ltb i (length e.read + e.announced)) t).1 in
+    let inside : i < length e.read + e.announced =
+    ltb-true i (length e.read + e.announced)
+    (and_parts (leb (length e.read) i) (ltb i (length e.read + e.announced)) t).1 in
     record {
       after = record {
         writer = h.writer;
         reader = sound_arrived p e i h.reader within (omega arith);
         ok = record {
-          fits = subst (λ ph. Fits ph x e.written e.read (insert e.arrived i)) (sym is_open) (fits_at x e Open h.ok is_open);
-          answered = λ j t. ⊎_elim (λ (u : suc j ≡ i). told (omega arith)) (h.ok.answered j) (contains-insert_cases i e.arrived (suc j) t);
+          fits =
+              subst (λ ph. Fits ph x e.written e.read (insert e.arrived i)) (sym is_open)
+              (fits_at x e Open h.ok is_open);
+          answered =
+              λ j t. ⊎_elim (λ (u : suc j ≡ i). told (omega arith)) (h.ok.answered j)
+              (contains-insert_cases i e.arrived (suc j) t);
           calm = h.ok.calm;
           announces = h.ok.announces;
           caps = h.ok.caps;
@@ -201,7 +213,8 @@ step_took_in x e p i h is_open within told =
 -- ---- its user reads an item, or writes one
 
 pub step_read :
-    (x : Side) (e p : PlainEnd) (item : ItemView) → EndHolds x e p → Fits e.phase x e.written (e.read ++ item ∷ []) e.arrived →
+    (x : Side) (e p : PlainEnd) (item : ItemView) → EndHolds x e p
+    → Fits e.phase x e.written (e.read ++ item ∷ []) e.arrived →
     contains e.arrived (length e.read) ≡ true → slice_get p.written (length e.read) ≡ Some item →
     EndStep x e p (record e { read = e.read ++ item ∷ [] })
 step_read x e p item h fits here is =
@@ -219,13 +232,15 @@ step_read x e p item h fits here is =
           window_cap = d.window_cap;
         };
         reader = sound_read p e item h.reader here is;
-        ok = record { fits = fits; answered = h.ok.answered; calm = h.ok.calm; announces = h.ok.announces; caps = h.ok.caps };
+        ok =
+            record { fits = fits; answered = h.ok.answered; calm = h.ok.calm; announces = h.ok.announces; caps = h.ok.caps };
       };
       grows = grows_read e item;
     }
 
 pub step_written :
-    (x : Side) (e p : PlainEnd) (item : ItemView) → EndHolds x e p → Fits e.phase x (e.written ++ item ∷ []) e.read e.arrived →
+    (x : Side) (e p : PlainEnd) (item : ItemView) → EndHolds x e p
+    → Fits e.phase x (e.written ++ item ∷ []) e.read e.arrived →
     length e.written < e.acknowledged + e.send_cap → EndStep x e p (record e { written = e.written ++ item ∷ [] })
 step_written x e p item h fits room =
     let longer = length-one_more e.written item in
@@ -233,7 +248,8 @@ step_written x e p item h fits room =
       after = record {
         writer = sound_written e p item h.writer room;
         reader = h.reader;
-        ok = record { fits = fits; answered = h.ok.answered; calm = λ t. absurd (omega arith); announces = h.ok.announces; caps = h.ok.caps };
+        ok =
+            record { fits = fits; answered = h.ok.answered; calm = λ t. absurd (omega arith); announces = h.ok.announces; caps = h.ok.caps };
       };
       grows = grows_written e item;
     }

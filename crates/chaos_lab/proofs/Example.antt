@@ -51,10 +51,12 @@ s2 = (m2.b, inl (refl, refl), (opn ∷ [], opn_sent, refl))
 
 -- A is open
 abbrev m3 : Machine
-m3 = with_end m2 A (hear (Status 1 1 2) (read_next m2.b (record m2.a { phase = Open; arrived = insert m2.a.arrived 0 })))
+m3 =
+    with_end m2 A (hear (Status 1 1 2) (read_next m2.b (record m2.a { phase = Open; arrived = insert m2.a.arrived 0 })))
 
 s3 : Step m2 (Deliver 1) m3
-s3 = (opn, refl, (omega arith, omega arith), (m3.a, inl (inr (inl (refl, refl, refl))), ([], All-nil (IsSent m3 A), refl)))
+s3 =
+    (opn, refl, (omega arith, omega arith), (m3.a, inl (inr (inl (refl, refl, refl))), ([], All-nil (IsSent m3 A), refl)))
 
 abbrev written : Copy
 written = record { sender = A; kind = Nth 1; told = Acknowledges 1; len_a = 2; len_b = 1 }
@@ -79,7 +81,8 @@ abbrev m5 : Machine
 m5 = with_end m4 B (take_in 1 (hear (Acknowledges 1) m4.b))
 
 s5 : Step m4 (Deliver 2) m5
-s5 = (written, refl, (omega arith, omega arith), (m5.b, inl (inr (inr (inl (refl, 1, refl, refl)))), ([], All-nil (IsSent m5 B), refl)))
+s5 =
+    (written, refl, (omega arith, omega arith), (m5.b, inl (inr (inr (inl (refl, 1, refl, refl)))), ([], All-nil (IsSent m5 B), refl)))
 
 -- B read it
 abbrev m6 : Machine

@@ -38,8 +38,10 @@ closed_phase _ = Closed
 -- ---- a copy
 
 pub step_received :
-    (phase : Phase) (kind : Kind) (told : Told) (x : Side) (e p : PlainEnd) (len_s len_r : ℕ) → e.phase ≡ phase → Sound e p → Sound p e →
-    EndOk x e → KindOk kind p len_s → ToldOk told p e len_r → TellsMet kind told → EndStep x e p (received phase kind told p e)
+    (phase : Phase) (kind : Kind) (told : Told) (x : Side) (e p : PlainEnd) (len_s len_r : ℕ) → e.phase ≡ phase
+    → Sound e p → Sound p e →
+    EndOk x e → KindOk kind p len_s → ToldOk told p e len_r → TellsMet kind told
+    → EndStep x e p (received phase kind told p e)
 step_received phase kind told x e p len_s len_r at ep pe o k t m =
     let c : Copy = record { sender = x; kind = kind; told = told; len_a = len_s; len_b = len_r } in
     let h : EndHolds x e p = record { writer = ep; reader = pe; ok = o } in
@@ -57,7 +59,9 @@ step_holds m event n h s = (step_goes m event n h s).holds
 -- ---- a read
 
 no_read : (phase : Phase) → may_read phase ≡ false → (phase ≡ Open) ⊎ (phase ≡ Ended) → ⊥
-no_read phase shut h = ⊎_elim (λ (t : phase ≡ Open). false≢true (sym shut ∙ ap may_read t)) (λ (t : phase ≡ Ended). false≢true (sym shut ∙ ap may_read t)) h
+no_read phase shut h =
+    ⊎_elim (λ (t : phase ≡ Open). false≢true (sym shut ∙ ap may_read t))
+    (λ (t : phase ≡ Ended). false≢true (sym shut ∙ ap may_read t)) h
 
 may_of : (phase : Phase) → may_read phase ≡ true → (phase ≡ Open) ⊎ (phase ≡ Ended)
 may_of Open h = inl refl
@@ -67,7 +71,8 @@ may_of RfcSent h = absurd (cc)
 may_of RfcReceived h = absurd (cc)
 may_of Closed h = absurd (cc)
 
-read_by : (b c : Bool) (p e : PlainEnd) → may_read e.phase ≡ b → contains e.arrived (length e.read) ≡ c → OrNothing Read p e (read_item (if b && c then next_item p e else None) e)
+read_by : (b c : Bool) (p e : PlainEnd) → may_read e.phase ≡ b → contains e.arrived (length e.read) ≡ c
+    → OrNothing Read p e (read_item (if b && c then next_item p e else None) e)
 read_by true true p e may here = inl (may_of e.phase may, here, refl)
 read_by true false p e may here = inr (λ g r. false≢true (sym here ∙ r.1), refl)
 read_by false c p e may here = inr (λ g r. no_read e.phase may r.0, refl)
@@ -77,7 +82,8 @@ read_row p e = read_by (may_read e.phase) (contains e.arrived (length e.read)) p
 
 -- ---- a close
 
-close_by : (phase : Phase) (p e : PlainEnd) → e.phase ≡ phase → OrNothing Close p e (record e { phase = closed_phase phase })
+close_by : (phase : Phase) (p e : PlainEnd) → e.phase ≡ phase
+    → OrNothing Close p e (record e { phase = closed_phase phase })
 close_by Inactive p e at = inr (λ g r. r.0 at, λ j. record e { phase = sym at j })
 close_by RfcSent p e at = inl (λ t. let q : RfcSent ≡ Inactive = sym at ∙ t in absurd (cc), refl)
 close_by RfcReceived p e at = inl (λ t. let q : RfcReceived ≡ Inactive = sym at ∙ t in absurd (cc), refl)
@@ -90,7 +96,8 @@ close_row p e = close_by e.phase p e refl
 
 -- ---- a tick
 
-tick_by : (phase : Phase) (p e : PlainEnd) → e.phase ≡ phase → OrNothing Tick p e (record e { phase = ended_phase phase })
+tick_by : (phase : Phase) (p e : PlainEnd) → e.phase ≡ phase
+    → OrNothing Tick p e (record e { phase = ended_phase phase })
 tick_by RfcSent p e at = inl (inl (inl at, refl))
 tick_by Open p e at = inl (inl (inr at, refl))
 tick_by Inactive p e at = inl (inr (λ j. record e { phase = sym at j }))

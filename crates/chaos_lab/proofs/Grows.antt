@@ -22,7 +22,8 @@ pub record Grows (e f : PlainEnd) : Type 0 where
 -- it follows from the lists, the set and the caps
 pub grows_by :
     (e f : PlainEnd) → Begins e.written f.written → Begins e.read f.read →
-    ((i : ℕ) → contains e.arrived i ≡ true → contains f.arrived i ≡ true) → e.send_cap ≡ f.send_cap → e.recv_cap ≡ f.recv_cap →
+    ((i : ℕ) → contains e.arrived i ≡ true → contains f.arrived i ≡ true) → e.send_cap ≡ f.send_cap
+    → e.recv_cap ≡ f.recv_cap →
     Grows e f
 grows_by e f written read arrived send recv =
     record {
@@ -68,5 +69,7 @@ grows_arrived e i =
 
 pub grows_heard : (told : Told) (e : PlainEnd) → Grows e (hear told e)
 grows_heard Nothing e = grows_same e
-grows_heard (Acknowledges a) e = grows_by e (hear (Acknowledges a) e) (begins_itself e.written) (begins_itself e.read) (λ i h. h) refl refl
-grows_heard (Status a r w) e = grows_by e (hear (Status a r w) e) (begins_itself e.written) (begins_itself e.read) (λ i h. h) refl refl
+grows_heard (Acknowledges a) e =
+    grows_by e (hear (Acknowledges a) e) (begins_itself e.written) (begins_itself e.read) (λ i h. h) refl refl
+grows_heard (Status a r w) e =
+    grows_by e (hear (Status a r w) e) (begins_itself e.written) (begins_itself e.read) (λ i h. h) refl refl

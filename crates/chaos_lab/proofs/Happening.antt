@@ -16,7 +16,8 @@ use Rattle.chaos_lab.specs.Laboratory.{LabView, Happening, Done, Happens, happen
 use Rattle.chaos_lab.specs.Laboratory.Happening.{WriteBy, ReadBy, AnnounceBy, TickOf, CloseBy, AcceptFrom, DeliverCopy}
 
 -- one event more
-pub after_more : (l : LabView) (events : List Happening) (i : ℕ) (event : Happening) → slice_get events i ≡ Some event → after_all l (take (suc i) events) ≡ (happen (after_all l (take i events)) event).lab
+pub after_more : (l : LabView) (events : List Happening) (i : ℕ) (event : Happening) → slice_get events i ≡ Some event
+    → after_all l (take (suc i) events) ≡ (happen (after_all l (take i events)) event).lab
 after_more l [] i event at = absurd (cc)
 after_more l (e ∷ events) zero event at = ap (λ x. (happen l x).lab) (some_is at)
   where
@@ -24,11 +25,15 @@ after_more l (e ∷ events) zero event at = ap (λ x. (happen l x).lab) (some_is
     some_is h = cc
 after_more l (e ∷ events) (suc i) event at = after_more (happen l e).lab events i event at
 
-pub after_next : (l : LabView) (events : List Happening) (i : ℕ) (event : Happening) → slice_get events i ≡ Some event → after_all l (take (i + 1) events) ≡ (happen (after_all l (take i events)) event).lab
-after_next l events i event at = ap (λ n. after_all l (take n events)) (let next : i + 1 ≡ suc i = omega arith in next) ∙ after_more l events i event at
+pub after_next : (l : LabView) (events : List Happening) (i : ℕ) (event : Happening) → slice_get events i ≡ Some event
+    → after_all l (take (i + 1) events) ≡ (happen (after_all l (take i events)) event).lab
+after_next l events i event at =
+    ap (λ n. after_all l (take n events)) (let next : i + 1 ≡ suc i = omega arith in next)
+    ∙ after_more l events i event at
 
 -- want of memory is no answer of an event itself
-no_memory_by : (l : LabView) (x : Side) (call : Call) (o : Option ConnFault) → (call_effect l x call o).answer ≡ Err fault.NoMemory → ⊥
+no_memory_by : (l : LabView) (x : Side) (call : Call) (o : Option ConnFault)
+    → (call_effect l x call o).answer ≡ Err fault.NoMemory → ⊥
 no_memory_by l x call None h = absurd (cc)
 no_memory_by l x call (Some why) h = absurd (cc)
 
@@ -38,7 +43,8 @@ no_memory_at l x call = no_memory_by l x call (refusal_of (act (lab_end l x).con
 no_memory_copy : (l : LabView) (o : Option Stamped) → (delivery_effect l o).answer ≡ Err fault.NoMemory → ⊥
 no_memory_copy l None h = absurd (cc)
 no_memory_copy l (Some s) h =
-    cond_both (is_fresh l.a l.b s) (call_at l (other s.side) (delivery l.asked l.clock s)) (refusal l fault.Stale) (λ (d : Done). d.answer ≡ Err fault.NoMemory → ⊥)
+    cond_both (is_fresh l.a l.b s) (call_at l (other s.side) (delivery l.asked l.clock s)) (refusal l fault.Stale)
+    (λ (d : Done). d.answer ≡ Err fault.NoMemory → ⊥)
     (λ _. no_memory_at l (other s.side) (delivery l.asked l.clock s))
     (λ _ (t : Err fault.Stale ≡ Err fault.NoMemory). absurd (cc))
     h
@@ -52,15 +58,18 @@ no_memory l (CloseBy x text) = no_memory_at l x (Close text)
 no_memory l (AcceptFrom start) = no_memory_at l B (Accept start l.clock)
 no_memory l (DeliverCopy k) = no_memory_copy l (slice_get l.copies k)
 
-pub met : (old : LabView) (event : Happening) (new : LabView) (answer : Result Stepped LabFault) → Happens old event new answer → answer ≡ Err fault.NoMemory → new ≡ old
+pub met : (old : LabView) (event : Happening) (new : LabView) (answer : Result Stepped LabFault)
+    → Happens old event new answer → answer ≡ Err fault.NoMemory → new ≡ old
 met old event new answer (inl h) is = absurd (no_memory old event (sym h.1 ∙ is))
 met old event new answer (inr h) is = h.1
 
 -- and comes at an event that passed its checks
-pub passed : (old : LabView) (event : Happening) (new : LabView) (answer : Result Stepped LabFault) → Happens old event new answer → answer ≡ Err fault.NoMemory → check old event ≡ None
+pub passed : (old : LabView) (event : Happening) (new : LabView) (answer : Result Stepped LabFault)
+    → Happens old event new answer → answer ≡ Err fault.NoMemory → check old event ≡ None
 passed old event new answer (inl h) is = absurd (no_memory old event (sym h.1 ∙ is))
 passed old event new answer (inr h) is = h.0
 
-pub unmet : (old : LabView) (event : Happening) (new : LabView) (answer : Result Stepped LabFault) → Happens old event new answer → (answer ≡ Err fault.NoMemory → ⊥) → new ≡ (happen old event).lab
+pub unmet : (old : LabView) (event : Happening) (new : LabView) (answer : Result Stepped LabFault)
+    → Happens old event new answer → (answer ≡ Err fault.NoMemory → ⊥) → new ≡ (happen old event).lab
 unmet old event new answer (inl h) isnt = h.0
 unmet old event new answer (inr h) isnt = absurd (isnt h.2)

@@ -38,13 +38,16 @@ same_read None e = (refl, refl)
 same_read (Some item) e = (refl, refl)
 
 same_took : (i : ℕ) (e f : Plain) → Same e f → Same e (take_in i f)
-same_took i e f s = cond_both (leb (length f.read) i && ltb i (length f.read + f.announced)) (record f { arrived = insert f.arrived i }) f (Same e) (λ _. s) (λ _. s)
+same_took i e f s =
+    cond_both (leb (length f.read) i && ltb i (length f.read + f.announced)) (record f { arrived = insert f.arrived i })
+    f (Same e) (λ _. s) (λ _. s)
 
 same_heard : (told : Told) (e f : Plain) → Same e f → Same e (hear told f)
 same_heard told e f s = (heard_written told f ∙ s.0, heard_cap told f ∙ s.1)
 
 pub same_received : (phase : Phase) (kind : Kind) (told : Told) (p e : Plain) → Same e (received phase kind told p e)
-same_received RfcSent (Nth zero) told p e = same_heard told e _ (same_read (next_item p e) (record e { phase = Open; arrived = insert e.arrived 0 }))
+same_received RfcSent (Nth zero) told p e =
+    same_heard told e _ (same_read (next_item p e) (record e { phase = Open; arrived = insert e.arrived 0 }))
 same_received Open (Nth i) told p e = same_took i e (hear told e) (same_heard told e e (refl, refl))
 same_received Open Sns told p e = same_heard told e e (refl, refl)
 same_received Open Sts told p e = same_heard told e e (refl, refl)
@@ -57,7 +60,9 @@ same_received _ _ told p e = (refl, refl)
 pub same_items : (x : Side) (b' : ℕ) (e f : Plain) → Same e f → HasItems x b' e → HasItems x b' f
 same_items x b' e f s its =
     record {
-      first = λ item h. subst (λ c. IsFirst x b' c item) (sym s.1) (its.first item (ap (λ ws. slice_get ws 0) (sym s.0) ∙ h));
+      first =
+          λ item h. subst (λ c. IsFirst x b' c item) (sym s.1)
+          (its.first item (ap (λ ws. slice_get ws 0) (sym s.0) ∙ h));
       users = λ i item h. its.users i item (ap (λ ws. slice_get ws (suc i)) (sym s.0) ∙ h);
     }
 
@@ -75,7 +80,8 @@ past_end [] x (suc i) h = refl
 past_end (y ∷ xs) x zero h = absurd (omega arith)
 past_end (y ∷ xs) x (suc i) h = past_end xs x i (omega arith)
 
-pub more_items : (x : Side) (b' : ℕ) (e : Plain) (item : ItemView) → 1 ≤ length e.written → IsUsers item → HasItems x b' e → HasItems x b' (record e { written = e.written ++ item ∷ [] })
+pub more_items : (x : Side) (b' : ℕ) (e : Plain) (item : ItemView) → 1 ≤ length e.written → IsUsers item
+    → HasItems x b' e → HasItems x b' (record e { written = e.written ++ item ∷ [] })
 more_items x b' e item some users its =
     record {
       first = λ y h. its.first y (front_same e.written (item ∷ []) 0 (omega arith) ∙ h);
@@ -84,10 +90,12 @@ more_items x b' e item some users its =
           (λ (t : suc i < length e.written). its.users i y (front_same e.written (item ∷ []) (suc i) t ∙ h))
           (λ (t : length e.written ≤ suc i).
           ⊎_elim
-          (λ (u : length e.written < suc i). let none : None ≡ Some y = sym (past_end e.written item (suc i) u) ∙ h in absurd (cc))
+          (λ (u : length e.written < suc i). let none : None ≡ Some y = sym (past_end e.written item (suc i) u)
+          ∙ h in absurd (cc))
           (λ (u : suc i ≤ length e.written).
           let same : length e.written ≡ suc i = omega arith in
-          let is : Some item ≡ Some y = sym (last_item e.written item) ∙ ap (slice_get (e.written ++ item ∷ [])) same ∙ h in
+          let is : Some item ≡ Some y =
+          sym (last_item e.written item) ∙ ap (slice_get (e.written ++ item ∷ [])) same ∙ h in
           subst IsUsers (some_is is) users)
           (cases_lt (length e.written) (suc i)))
           (cases_lt (suc i) (length e.written));
@@ -109,13 +117,18 @@ heard_phase (Acknowledges r) e = refl
 heard_phase (Status r f w) e = refl
 
 took_read : (i : ℕ) (e : Plain) → (take_in i e).read ≡ e.read
-took_read i e = cond_both (leb (length e.read) i && ltb i (length e.read + e.announced)) (record e { arrived = insert e.arrived i }) e (λ (f : Plain). f.read ≡ e.read) (λ _. refl) (λ _. refl)
+took_read i e =
+    cond_both (leb (length e.read) i && ltb i (length e.read + e.announced)) (record e { arrived = insert e.arrived i })
+    e (λ (f : Plain). f.read ≡ e.read) (λ _. refl) (λ _. refl)
 
 took_phase : (i : ℕ) (e : Plain) → (take_in i e).phase ≡ e.phase
-took_phase i e = cond_both (leb (length e.read) i && ltb i (length e.read + e.announced)) (record e { arrived = insert e.arrived i }) e (λ (f : Plain). f.phase ≡ e.phase) (λ _. refl) (λ _. refl)
+took_phase i e =
+    cond_both (leb (length e.read) i && ltb i (length e.read + e.announced)) (record e { arrived = insert e.arrived i })
+    e (λ (f : Plain). f.phase ≡ e.phase) (λ _. refl) (λ _. refl)
 
 -- only an OPN that opens the end is read
-pub reads_by_opening : (phase : Phase) (kind : Kind) (told : Told) (p e : Plain) → (phase ≡ RfcSent → kind ≡ Nth 0 → ⊥) → (received phase kind told p e).read ≡ e.read
+pub reads_by_opening : (phase : Phase) (kind : Kind) (told : Told) (p e : Plain) → (phase ≡ RfcSent → kind ≡ Nth 0 → ⊥)
+    → (received phase kind told p e).read ≡ e.read
 reads_by_opening RfcSent (Nth zero) told p e apart = absurd (apart refl refl)
 reads_by_opening RfcSent Cls told p e apart = refl
 reads_by_opening Open (Nth i) told p e apart = took_read i (hear told e) ∙ same_heard_read told e
@@ -149,9 +162,13 @@ read_phase : (o : Option ItemView) (e : Plain) → (read_item o e).phase ≡ e.p
 read_phase None e = refl
 read_phase (Some item) e = refl
 
-pub new_by_request : (phase : Phase) (kind : Kind) (told : Told) (p e : Plain) → e.phase ≡ phase → (phase ≡ Inactive → kind ≡ Nth 0 → ⊥) → SameNew e (received phase kind told p e)
+pub new_by_request : (phase : Phase) (kind : Kind) (told : Told) (p e : Plain) → e.phase ≡ phase
+    → (phase ≡ Inactive → kind ≡ Nth 0 → ⊥) → SameNew e (received phase kind told p e)
 new_by_request Inactive (Nth zero) told p e at apart = absurd (apart refl refl)
-new_by_request RfcSent (Nth zero) told p e at apart = not_new e _ (other_phase e.phase at) (open_phase _ (heard_phase told _ ∙ read_phase (next_item p e) (record e { phase = Open; arrived = insert e.arrived 0 })))
+new_by_request RfcSent (Nth zero) told p e at apart =
+    not_new e _ (other_phase e.phase at)
+    (open_phase _
+    (heard_phase told _ ∙ read_phase (next_item p e) (record e { phase = Open; arrived = insert e.arrived 0 })))
 new_by_request RfcSent Cls told p e at apart = not_new e _ (other_phase e.phase at) ended_not_new
 new_by_request Open (Nth i) told p e at apart = same_phase e _ (took_phase i (hear told e) ∙ heard_phase told e)
 new_by_request Open Sns told p e at apart = same_phase e _ (heard_phase told e)

@@ -18,7 +18,8 @@ use Rattle.chaos_lab.proofs.Machines.{reached_holds, end_holds}
 
 -- ---- an end
 
--- what it wrote stays; what was read, arrived and acknowledged only grows; it stays open, and its window stays more than none
+-- what it wrote stays; what was read, arrived and acknowledged only grows; it stays open, and its window stays more
+-- than none
 pub record EndKeeps (e f : Plain) : Type 0 where
   pub written : f.written ≡ e.written
   pub read : length e.read ≤ length f.read
@@ -28,7 +29,8 @@ pub record EndKeeps (e f : Plain) : Type 0 where
   pub announces : 1 ≤ e.announced → 1 ≤ f.announced
 
 pub end_same : (e : Plain) → EndKeeps e e
-end_same e = record { written = refl; read = omega arith; arrived = λ i h. h; acknowledged = omega arith; opened = λ h. h; announces = λ h. h }
+end_same e =
+    record { written = refl; read = omega arith; arrived = λ i h. h; acknowledged = omega arith; opened = λ h. h; announces = λ h. h }
 
 pub end_through : (e f g : Plain) → EndKeeps e f → EndKeeps f g → EndKeeps e g
 end_through e f g h k =
@@ -43,17 +45,22 @@ end_through e f g h k =
 
 heard_keeps : (told : Told) (e : Plain) → EndKeeps e (hear told e)
 heard_keeps Nothing e = end_same e
-heard_keeps (Acknowledges a) e = record { written = refl; read = omega arith; arrived = λ i h. h; acknowledged = omega arith; opened = λ h. h; announces = λ h. h }
-heard_keeps (Status a r w) e = record { written = refl; read = omega arith; arrived = λ i h. h; acknowledged = omega arith; opened = λ h. h; announces = λ h. h }
+heard_keeps (Acknowledges a) e =
+    record { written = refl; read = omega arith; arrived = λ i h. h; acknowledged = omega arith; opened = λ h. h; announces = λ h. h }
+heard_keeps (Status a r w) e =
+    record { written = refl; read = omega arith; arrived = λ i h. h; acknowledged = omega arith; opened = λ h. h; announces = λ h. h }
 
 took_keeps : (i : ℕ) (e : Plain) → EndKeeps e (take_in i e)
 took_keeps i e =
-    cond_both (leb (length e.read) i && ltb i (length e.read + e.announced)) (record e { arrived = insert e.arrived i }) e (EndKeeps e)
-    (λ _. record { written = refl; read = omega arith; arrived = contains-insert_keeps i e.arrived; acknowledged = omega arith; opened = λ h. h; announces = λ h. h })
+    cond_both (leb (length e.read) i && ltb i (length e.read + e.announced)) (record e { arrived = insert e.arrived i })
+    e (EndKeeps e)
+    (λ _.
+    record { written = refl; read = omega arith; arrived = contains-insert_keeps i e.arrived; acknowledged = omega arith; opened = λ h. h; announces = λ h. h })
     (λ _. end_same e)
 
 received_keeps : (kind : Kind) (told : Told) (p e : Plain) → (kind ≡ Cls → ⊥) → EndKeeps e (received Open kind told p e)
-received_keeps (Nth i) told p e apart = end_through e (hear told e) (take_in i (hear told e)) (heard_keeps told e) (took_keeps i (hear told e))
+received_keeps (Nth i) told p e apart =
+    end_through e (hear told e) (take_in i (hear told e)) (heard_keeps told e) (took_keeps i (hear told e))
 received_keeps Sns told p e apart = heard_keeps told e
 received_keeps Sts told p e apart = heard_keeps told e
 received_keeps Cls told p e apart = absurd (apart refl)
@@ -75,7 +82,8 @@ pub keeps_same : (w : Machine) → Keeps w w
 keeps_same w = record { ends = λ x. end_same (end_of w x); copies = λ k c h. h; count = omega arith }
 
 pub keeps_through : (u v w : Machine) → Keeps u v → Keeps v w → Keeps u w
-keeps_through u v w h k = record { ends = λ x. end_through (end_of u x) (end_of v x) (end_of w x) (h.ends x) (k.ends x); copies = λ n c t. k.copies n c (h.copies n c t); count = omega (arith, h.count, k.count) }
+keeps_through u v w h k =
+    record { ends = λ x. end_through (end_of u x) (end_of v x) (end_of w x) (h.ends x) (k.ends x); copies = λ n c t. k.copies n c (h.copies n c t); count = omega (arith, h.count, k.count) }
 
 module _ {X : Type 0} where
   pub front_stays : (xs ys : List X) (k : ℕ) (x : X) → slice_get xs k ≡ Some x → slice_get (xs ++ ys) k ≡ Some x
@@ -86,13 +94,18 @@ module _ {X : Type 0} where
 longer : {X : Type 0} → (xs ys : List X) → length xs ≤ length (xs ++ ys)
 longer xs ys = let all = length-append xs ys in omega arith
 
-becomes_keeps : (x : Side) (w : Machine) (f : Plain) (v : Machine) → EndKeeps (end_of w x) f → Becomes w x f v → Keeps w v
-becomes_keeps A w f v k b = subst (Keeps w) (sym b.2) (record { ends = by; copies = λ n c h. front_stays w.copies b.0 n c h; count = longer w.copies b.0 })
+becomes_keeps : (x : Side) (w : Machine) (f : Plain) (v : Machine) → EndKeeps (end_of w x) f → Becomes w x f v
+    → Keeps w v
+becomes_keeps A w f v k b =
+    subst (Keeps w) (sym b.2)
+    (record { ends = by; copies = λ n c h. front_stays w.copies b.0 n c h; count = longer w.copies b.0 })
   where
     by : (y : Side) → EndKeeps (end_of w y) (end_of (record (with_end w A f) { copies = w.copies ++ b.0 }) y)
     by A = k
     by B = end_same w.b
-becomes_keeps B w f v k b = subst (Keeps w) (sym b.2) (record { ends = by; copies = λ n c h. front_stays w.copies b.0 n c h; count = longer w.copies b.0 })
+becomes_keeps B w f v k b =
+    subst (Keeps w) (sym b.2)
+    (record { ends = by; copies = λ n c h. front_stays w.copies b.0 n c h; count = longer w.copies b.0 })
   where
     by : (y : Side) → EndKeeps (end_of w y) (end_of (record (with_end w B f) { copies = w.copies ++ b.0 }) y)
     by A = end_same w.a
@@ -108,7 +121,9 @@ pub read_goes : (y : Side) (w v : Machine) → Step w (ReadAt y) v → Keeps w v
 read_goes y w v s = becomes_keeps y w s.0 v (read_row_keeps (end_of w (other y)) (end_of w y) s.0 s.1) s.2
 
 -- the next item, which has arrived, is read
-pub read_reads : (y : Side) (w v : Machine) → Reached w → (end_of w y).phase ≡ Open → contains (end_of w y).arrived (length (end_of w y).read) ≡ true → Step w (ReadAt y) v → length (end_of w y).read < length (end_of v y).read
+pub read_reads : (y : Side) (w v : Machine) → Reached w → (end_of w y).phase ≡ Open
+    → contains (end_of w y).arrived (length (end_of w y).read) ≡ true → Step w (ReadAt y) v
+    → length (end_of w y).read < length (end_of v y).read
 read_reads y w v r at here s =
     let e : Plain = end_of w y in
     let reads = read_at_reads w v y (end_of w (other y)) refl (end_holds w y (reached_holds w r)).reader (inl at) s in
@@ -120,19 +135,25 @@ read_reads y w v r at here s =
 
 resize_row_keeps : (window : ℕ) (p e f : Plain) → 1 ≤ window → OrNothing (Resize window) p e f → EndKeeps e f
 resize_row_keeps window p e f some (inl r) =
-    subst (EndKeeps e) (sym r.2) (record { written = refl; read = omega arith; arrived = λ i h. h; acknowledged = omega arith; opened = λ h. h; announces = λ _. some })
+    subst (EndKeeps e) (sym r.2)
+    (record
+    { written = refl; read = omega arith; arrived = λ i h. h; acknowledged = omega arith; opened = λ h. h; announces = λ _. some })
 resize_row_keeps window p e f some (inr r) = subst (EndKeeps e) (sym r.1) (end_same e)
 
 pub resize_goes : (y : Side) (window : ℕ) (w v : Machine) → 1 ≤ window → Step w (ResizeAt y window) v → Keeps w v
-resize_goes y window w v some s = becomes_keeps y w s.0 v (resize_row_keeps window (end_of w (other y)) (end_of w y) s.0 some s.1) s.2
+resize_goes y window w v some s =
+    becomes_keeps y w s.0 v (resize_row_keeps window (end_of w (other y)) (end_of w y) s.0 some s.1) s.2
 
-resize_row_is : (window : ℕ) (p e f : Plain) → e.phase ≡ Open → window ≤ e.recv_cap → OrNothing (Resize window) p e f → f.announced ≡ window
+resize_row_is : (window : ℕ) (p e f : Plain) → e.phase ≡ Open → window ≤ e.recv_cap → OrNothing (Resize window) p e f
+    → f.announced ≡ window
 resize_row_is window p e f at fits (inl r) = ap (λ (g : Plain). g.announced) r.2
 resize_row_is window p e f at fits (inr r) = absurd (r.0 (record e { announced = window }) (at, fits, refl))
 
-pub resize_is : (y : Side) (window : ℕ) (w v : Machine) → (end_of w y).phase ≡ Open → window ≤ (end_of w y).recv_cap → Step w (ResizeAt y window) v → (end_of v y).announced ≡ window
+pub resize_is : (y : Side) (window : ℕ) (w v : Machine) → (end_of w y).phase ≡ Open → window ≤ (end_of w y).recv_cap
+    → Step w (ResizeAt y window) v → (end_of v y).announced ≡ window
 resize_is y window w v at fits s =
-    ap (λ (g : Plain). g.announced) (becomes_same w y s.0 v s.2) ∙ resize_row_is window (end_of w (other y)) (end_of w y) s.0 at fits s.1
+    ap (λ (g : Plain). g.announced) (becomes_same w y s.0 v s.2)
+    ∙ resize_row_is window (end_of w (other y)) (end_of w y) s.0 at fits s.1
 
 -- ---- a tick that leaves the end open
 
@@ -147,7 +168,9 @@ pub record Ticked (y : Side) (w v : Machine) : Type 0 where
 
 pub tick_goes : (y : Side) (w v : Machine) → (end_of v y).phase ≡ Open → Step w (TickAt y) v → Ticked y w v
 tick_goes y w v at s =
-    let same : s.0 ≡ end_of w y = tick_row_is (end_of w (other y)) (end_of w y) s.0 (ap (λ (g : Plain). g.phase) (sym (becomes_same w y s.0 v s.2)) ∙ at) s.1 in
+    let same : s.0 ≡ end_of w y =
+    tick_row_is (end_of w (other y)) (end_of w y) s.0
+    (ap (λ (g : Plain). g.phase) (sym (becomes_same w y s.0 v s.2)) ∙ at) s.1 in
     let b : Becomes w y (end_of w y) v = subst (λ (g : Plain). Becomes w y g v) same s.2 in
     record { keeps = becomes_keeps y w (end_of w y) v (end_same (end_of w y)) b; becomes = b }
 
@@ -166,12 +189,14 @@ copy_keeps w v x k c s h =
     record { there = s.copies k c h.there; sender = h.sender; fresh = (omega (arith, h.fresh.0, a), omega (arith, h.fresh.1, b)) }
 
 -- what comes to an open end
-pub came_by : (kind : Kind) (c : Copy) (p e f : Plain) → c.kind ≡ kind → e.phase ≡ Open → OrNothing (Comes c) p e f → f ≡ received Open kind c.told p e
+pub came_by : (kind : Kind) (c : Copy) (p e f : Plain) → c.kind ≡ kind → e.phase ≡ Open → OrNothing (Comes c) p e f
+    → f ≡ received Open kind c.told p e
 came_by kind c p e f is at (inl (inl r)) = let no : Open ≡ Inactive = sym at ∙ r.1 in absurd (cc)
 came_by kind c p e f is at (inl (inr (inl r))) = let no : Open ≡ RfcSent = sym at ∙ r.1 in absurd (cc)
 came_by kind c p e f is at (inl (inr (inr (inl r)))) = r.3 ∙ ap (λ k. received Open k c.told p e) (sym r.2 ∙ is)
 came_by kind c p e f is at (inl (inr (inr (inr (inl r))))) =
-    ⊎_elim (λ (t : c.kind ≡ Sns). r.2 ∙ ap (λ k. received Open k c.told p e) (sym t ∙ is)) (λ (t : c.kind ≡ Sts). r.2 ∙ ap (λ k. received Open k c.told p e) (sym t ∙ is)) r.1
+    ⊎_elim (λ (t : c.kind ≡ Sns). r.2 ∙ ap (λ k. received Open k c.told p e) (sym t ∙ is))
+    (λ (t : c.kind ≡ Sts). r.2 ∙ ap (λ k. received Open k c.told p e) (sym t ∙ is)) r.1
 came_by kind c p e f is at (inl (inr (inr (inr (inr r))))) = r.1.1 ∙ ap (λ k. received Open k c.told p e) (sym r.0 ∙ is)
 came_by (Nth i) c p e f is at (inr r) = absurd (r.0 _ (inr (inr (inl (at, i, is, refl)))))
 came_by Sns c p e f is at (inr r) = absurd (r.0 _ (inr (inr (inr (inl (at, inl is, refl))))))
@@ -183,15 +208,18 @@ pub record Came (w : Machine) (x : Side) (kind : Kind) (told : Told) (v : Machin
   pub keeps : Keeps w v
   pub is : end_of v (other x) ≡ received Open kind told (end_of w (other (other x))) (end_of w (other x))
 
-pub deliver_goes : (x : Side) (w v : Machine) (k : ℕ) (c : Copy) → CopyAt w x k c → (end_of w (other x)).phase ≡ Open → (c.kind ≡ Cls → ⊥) → Step w (Deliver k) v → Came w x c.kind c.told v
+pub deliver_goes : (x : Side) (w v : Machine) (k : ℕ) (c : Copy) → CopyAt w x k c → (end_of w (other x)).phase ≡ Open
+    → (c.kind ≡ Cls → ⊥) → Step w (Deliver k) v → Came w x c.kind c.told v
 deliver_goes x w v k c h at apart s =
     let same : s.0 ≡ c = let e = s.1 in let e' = h.there in cc in
-    let m : Moves (Comes c) w (other c.sender) v = subst (λ (d : Copy). Moves (Comes d) w (other d.sender) v) same s.3 in
+    let m : Moves (Comes c) w (other c.sender) v =
+    subst (λ (d : Copy). Moves (Comes d) w (other d.sender) v) same s.3 in
     let n : Moves (Comes c) w (other x) v = subst (λ (y : Side). Moves (Comes c) w (other y) v) h.sender m in
     let p : Plain = end_of w (other (other x)) in
     let e : Plain = end_of w (other x) in
     let is : n.0 ≡ received Open c.kind c.told p e = came_by c.kind c p e n.0 refl at n.1 in
     record {
-      keeps = becomes_keeps (other x) w n.0 v (subst (EndKeeps e) (sym is) (received_keeps c.kind c.told p e apart)) n.2;
+      keeps =
+          becomes_keeps (other x) w n.0 v (subst (EndKeeps e) (sym is) (received_keeps c.kind c.told p e apart)) n.2;
       is = becomes_same w (other x) n.0 v n.2 ∙ is;
     }

@@ -52,12 +52,17 @@ pub record SameButTold (e f : Plain) : Type 0 where
   pub recv_cap : f.recv_cap ≡ e.recv_cap
 
 pub heard_keeps : (told : Told) (e : Plain) → SameButTold e (hear told e)
-heard_keeps Nothing e = record { phase = refl; written = refl; read = refl; arrived = refl; send_cap = refl; announced = refl; recv_cap = refl }
-heard_keeps (Acknowledges read) e = record { phase = refl; written = refl; read = refl; arrived = refl; send_cap = refl; announced = refl; recv_cap = refl }
-heard_keeps (Status read arrived window) e = record { phase = refl; written = refl; read = refl; arrived = refl; send_cap = refl; announced = refl; recv_cap = refl }
+heard_keeps Nothing e =
+    record { phase = refl; written = refl; read = refl; arrived = refl; send_cap = refl; announced = refl; recv_cap = refl }
+heard_keeps (Acknowledges read) e =
+    record { phase = refl; written = refl; read = refl; arrived = refl; send_cap = refl; announced = refl; recv_cap = refl }
+heard_keeps (Status read arrived window) e =
+    record { phase = refl; written = refl; read = refl; arrived = refl; send_cap = refl; announced = refl; recv_cap = refl }
 
 pub took_phase : (i : ℕ) (e : Plain) → (take_in i e).phase ≡ e.phase
-took_phase i e = cond_both (leb (length e.read) i && ltb i (length e.read + e.announced)) (record e { arrived = insert e.arrived i }) e (λ (f : Plain). f.phase ≡ e.phase) (λ _. refl) (λ _. refl)
+took_phase i e =
+    cond_both (leb (length e.read) i && ltb i (length e.read + e.announced)) (record e { arrived = insert e.arrived i })
+    e (λ (f : Plain). f.phase ≡ e.phase) (λ _. refl) (λ _. refl)
 
 pub took_first : (told : Told) (e : Plain) → 1 ≤ length e.read → take_in 0 (hear told e) ≡ hear told e
 took_first Nothing e h = took_in_before 0 e (omega arith)
@@ -66,10 +71,15 @@ took_first (Status r f w) e h = took_in_before 0 (hear (Status r f w) e) (omega 
 
 -- ---- item i of the peer p comes to e, which has heard what it tells
 
-pub item_arrives : (b i r : ℕ) (item : ItemView) (e p : Plain) (len : ℕ) → Sound p e → p.send_cap ≤ 64 → e.recv_cap ≤ 64 → e.announced ≤ e.recv_cap → KindOk (Nth i) p len → length p.written < len + 32640 → slice_get p.written i ≡ Some item → after_arrival (recv_view b p (hear (Acknowledges r) e)) (num b i) item ≡ recv_view b p (take_in i (hear (Acknowledges r) e))
+pub item_arrives : (b i r : ℕ) (item : ItemView) (e p : Plain) (len : ℕ) → Sound p e → p.send_cap ≤ 64 → e.recv_cap ≤ 64
+    → e.announced ≤ e.recv_cap → KindOk (Nth i) p len → length p.written < len + 32640
+    → slice_get p.written i ≡ Some item
+    → after_arrival (recv_view b p (hear (Acknowledges r) e)) (num b i) item
+    ≡ recv_view b p (take_in i (hear (Acknowledges r) e))
 item_arrives b i r item e p len d most cap fits h fresh at =
     let within = read_within e p d in
-    arrived_is b i item p (hear (Acknowledges r) e) at h.0 (omega (arith, d.room, d.acked_read)) within (omega (arith, h.1)) cap fits
+    arrived_is b i item p (hear (Acknowledges r) e) at h.0 (omega (arith, d.room, d.acked_read)) within
+    (omega (arith, h.1)) cap fits
 
 -- the kinds of opcode
 pub first_of_a_kind : (b cap : ℕ) (item : ItemView) → IsFirst A b cap item → kind_of item.op ≡ k.Rfc

@@ -28,7 +28,8 @@ use Rattle.chaos_lab.proofs.CopyTies.{CopyKnown, copy_known, comes_to_a, comes_t
 
 -- ---- a copy for B: the RFC asks it, where it took no request yet
 
-pub is_first : (kind : Kind) (b b' : ℕ) (p : Plain) (pk : PacketView) → HasItems A b p → IsWhat b' p pk kind → is_rfc (kind_of pk.op) ≡ true → kind ≡ Nth 0
+pub is_first : (kind : Kind) (b b' : ℕ) (p : Plain) (pk : PacketView) → HasItems A b p → IsWhat b' p pk kind
+    → is_rfc (kind_of pk.op) ≡ true → kind ≡ Nth 0
 is_first (Nth zero) b b' p pk its what is = refl
 is_first (Nth (suc i)) b b' p pk its what is =
     ⊎_elim
@@ -39,7 +40,8 @@ is_first Sns b b' p pk its what is = absurd (false≢true (sym (ap (λ op. is_rf
 is_first Sts b b' p pk its what is = absurd (false≢true (sym (ap (λ op. is_rfc (kind_of op)) what.0) ∙ is))
 is_first Cls b b' p pk its what is = absurd (false≢true (sym (ap (λ op. is_rfc (kind_of op)) what.0) ∙ is))
 
-pub first_is : (kind : Kind) (b b' : ℕ) (p : Plain) (pk : PacketView) → HasItems A b p → IsWhat b' p pk kind → kind ≡ Nth 0 → is_rfc (kind_of pk.op) ≡ true
+pub first_is : (kind : Kind) (b b' : ℕ) (p : Plain) (pk : PacketView) → HasItems A b p → IsWhat b' p pk kind
+    → kind ≡ Nth 0 → is_rfc (kind_of pk.op) ≡ true
 first_is kind b b' p pk its what is =
     let first : IsWhat b' p pk (Nth 0) = subst (IsWhat b' p pk) is what in
     ap (λ op. is_rfc (kind_of op)) (its.first (record { op = pk.op; body = pk.body }) first.0)
@@ -71,20 +73,26 @@ for_b w l n s c side from t know =
     not_asked true h = absurd (h refl)
 
 -- B's copy comes to A
-for_a : (w : Machine) (l : LabView) (n : ℕ) (s : Sent) (c : Copy) → s.side ≡ B → c.sender ≡ B → Ties w l → CopyKnown c.sender w l n s c → Outcome w (Deliver n) l (call_at l A (delivery l.asked l.clock s))
+for_a : (w : Machine) (l : LabView) (n : ℕ) (s : Sent) (c : Copy) → s.side ≡ B → c.sender ≡ B → Ties w l
+    → CopyKnown c.sender w l n s c → Outcome w (Deliver n) l (call_at l A (delivery l.asked l.clock s))
 for_a w l n s c side from t know =
-    cond_both (is_request l.asked s) (TakeRequest s.packet (place_of B) l.clock) (DeliverPacket s.packet l.clock) (λ (call : Call). Outcome w (Deliver n) l (call_at l A call))
+    cond_both (is_request l.asked s) (TakeRequest s.packet (place_of B) l.clock) (DeliverPacket s.packet l.clock)
+    (λ (call : Call). Outcome w (Deliver n) l (call_at l A call))
     (λ (yes : is_request l.asked s ≡ true). absurd (false≢true (sym (ap is_a side) ∙ (and_parts _ _ yes).0)))
-    (λ (no : is_request l.asked s ≡ false). settle A w l (DeliverPacket s.packet l.clock) (Deliver n) (inr (comes_to_a w l n l.clock s c from t know)))
+    (λ (no : is_request l.asked s ≡ false). settle A w l (DeliverPacket s.packet l.clock) (Deliver n)
+    (inr (comes_to_a w l n l.clock s c from t know)))
 
-for_side : (y : Side) (w : Machine) (l : LabView) (n : ℕ) (s : Sent) (c : Copy) → s.side ≡ y → c.sender ≡ y → Ties w l → CopyKnown c.sender w l n s c → Outcome w (Deliver n) l (call_at l (other y) (delivery l.asked l.clock s))
+for_side : (y : Side) (w : Machine) (l : LabView) (n : ℕ) (s : Sent) (c : Copy) → s.side ≡ y → c.sender ≡ y → Ties w l
+    → CopyKnown c.sender w l n s c → Outcome w (Deliver n) l (call_at l (other y) (delivery l.asked l.clock s))
 for_side A w l n s c side from t know = for_b w l n s c side from t know
 for_side B w l n s c side from t know = for_a w l n s c side from t know
 
-copy_ties : (w : Machine) (l : LabView) (n : ℕ) (o : Option Sent) → slice_get l.copies n ≡ o → Ties w l → Outcome w (Deliver n) l (delivery_effect l o)
+copy_ties : (w : Machine) (l : LabView) (n : ℕ) (o : Option Sent) → slice_get l.copies n ≡ o → Ties w l
+    → Outcome w (Deliver n) l (delivery_effect l o)
 copy_ties w l n None at t = Refuses fault.NoSuchCopy refl
 copy_ties w l n (Some s) at t =
-    cond_both (is_fresh l.a l.b s) (call_at l (other s.side) (delivery l.asked l.clock s)) (refusal l fault.Stale) (Outcome w (Deliver n) l)
+    cond_both (is_fresh l.a l.b s) (call_at l (other s.side) (delivery l.asked l.clock s)) (refusal l fault.Stale)
+    (Outcome w (Deliver n) l)
     (λ (near : is_fresh l.a l.b s ≡ true).
     let c = copy_known w l n s t at near in
     for_side s.side w l n s c.0 refl (sym c.1) t c.2)
@@ -92,8 +100,11 @@ copy_ties w l n (Some s) at t =
 
 -- ---- any event
 
-pub event_ties : (w : Machine) (l : LabView) (event : Happening) → Ties w l → Outcome w (plain_event l event) l (happen l event)
-event_ties w l (WriteBy x op bytes) t = settle x w l (Write op bytes l.clock) (WriteAt x (record { op = op; body = bytes })) (write_ties x w l op bytes l.clock t)
+pub event_ties : (w : Machine) (l : LabView) (event : Happening) → Ties w l
+    → Outcome w (plain_event l event) l (happen l event)
+event_ties w l (WriteBy x op bytes) t =
+    settle x w l (Write op bytes l.clock) (WriteAt x (record { op = op; body = bytes }))
+    (write_ties x w l op bytes l.clock t)
 event_ties w l (ReadBy x) t = settle x w l Read (ReadAt x) (inr (read_ties x w l t))
 event_ties w l (AnnounceBy x window) t = settle x w l (Announce window) (ResizeAt x window) (resize_ties x w l window t)
 event_ties w l (TickOf x now) t = settle x w l (Tick now) (TickAt x) (inr (tick_ties x w l now t))
@@ -113,12 +124,15 @@ called_answers l x call (Some why) = inr (_, refl, refl)
 copy_answers : (l : LabView) (o : Option Sent) → Answered l (delivery_effect l o)
 copy_answers l None = inr (_, refl, refl)
 copy_answers l (Some s) =
-    cond_both (is_fresh l.a l.b s) (call_at l (other s.side) (delivery l.asked l.clock s)) (refusal l fault.Stale) (Answered l)
-    (λ _. called_answers l (other s.side) (delivery l.asked l.clock s) (refusal_at l (other s.side) (delivery l.asked l.clock s)))
+    cond_both (is_fresh l.a l.b s) (call_at l (other s.side) (delivery l.asked l.clock s)) (refusal l fault.Stale)
+    (Answered l)
+    (λ _. called_answers l (other s.side) (delivery l.asked l.clock s)
+    (refusal_at l (other s.side) (delivery l.asked l.clock s)))
     (λ _. inr (_, refl, refl))
 
 pub ok_or_refused : (l : LabView) (event : Happening) → Answered l (happen l event)
-ok_or_refused l (WriteBy x op bytes) = called_answers l x (Write op bytes l.clock) (refusal_at l x (Write op bytes l.clock))
+ok_or_refused l (WriteBy x op bytes) =
+    called_answers l x (Write op bytes l.clock) (refusal_at l x (Write op bytes l.clock))
 ok_or_refused l (ReadBy x) = called_answers l x Read (refusal_at l x Read)
 ok_or_refused l (AnnounceBy x window) = called_answers l x (Announce window) (refusal_at l x (Announce window))
 ok_or_refused l (TickOf x now) = called_answers l x (Tick now) (refusal_at l x (Tick now))

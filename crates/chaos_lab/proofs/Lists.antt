@@ -80,4 +80,5 @@ pub slice_get-begins :
 slice_get-begins [] ys i x b h = absurd (cc)
 slice_get-begins (z ∷ xs) [] i x b h = absurd (cc)
 slice_get-begins (z ∷ xs) (y ∷ ys) zero x b h = cc
-slice_get-begins (z ∷ xs) (y ∷ ys) (suc i) x b h = let tail : take (length xs) ys ≡ xs = cc in slice_get-begins xs ys i x tail h
+slice_get-begins (z ∷ xs) (y ∷ ys) (suc i) x b h =
+    let tail : take (length xs) ys ≡ xs = cc in slice_get-begins xs ys i x tail h

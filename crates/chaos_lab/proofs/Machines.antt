@@ -65,7 +65,8 @@ copy_of m x c is h =
 stamped :
     (c : Copy) (e p : PlainEnd) (len_e len_p : ℕ) → len_e ≡ length e.written → len_p ≡ length p.written →
     CopyOk c e p (length e.written) (length p.written) → CopyOk c e p len_e len_p
-stamped c e p len_e len_p same_e same_p h = subst (λ n. CopyOk c e p n len_p) (sym same_e) (subst (CopyOk c e p (length e.written)) (sym same_p) h)
+stamped c e p len_e len_p same_e same_p h =
+    subst (λ n. CopyOk c e p n len_p) (sym same_e) (subst (CopyOk c e p (length e.written)) (sym same_p) h)
 
 -- what the end at x sends after its step
 sent_ok :
@@ -74,20 +75,24 @@ sent_ok :
 sent_ok m A f sent all s h =
     let n : Machine = record (with_end m A f) { copies = all } in
     All-weaker (IsSent (with_end m A f) A) (IsCopyOk n)
-    (λ c k. copy_of n A c k.sender (stamped c f m.b c.len_a c.len_b k.len_a k.len_b (copy_sent c A f m.b s.after k.may k.tells)))
+    (λ c k. copy_of n A c k.sender
+    (stamped c f m.b c.len_a c.len_b k.len_a k.len_b (copy_sent c A f m.b s.after k.may k.tells)))
     sent h
 sent_ok m B f sent all s h =
     let n : Machine = record (with_end m B f) { copies = all } in
     All-weaker (IsSent (with_end m B f) B) (IsCopyOk n)
-    (λ c k. copy_of n B c k.sender (stamped c f m.a c.len_b c.len_a k.len_b k.len_a (copy_sent c B f m.a s.after k.may k.tells)))
+    (λ c k. copy_of n B c k.sender
+    (stamped c f m.a c.len_b c.len_a k.len_b k.len_a (copy_sent c B f m.a s.after k.may k.tells)))
     sent h
 
 pub copy_at : (m : Machine) (k : ℕ) (c : Copy) → Holds m → slice_get m.copies k ≡ Some c → IsCopyOk m c
-copy_at m k c h is = subst (IsCopyOk m) (get_or_from_slice_get m.copies k c c is) (h.copies k c (slice_get_within m.copies k c is))
+copy_at m k c h is =
+    subst (IsCopyOk m) (get_or_from_slice_get m.copies k c c is) (h.copies k c (slice_get_within m.copies k c is))
 
 -- ---- a step of one end
 
-becomes_later : (m : Machine) (x : Side) (f : PlainEnd) (n : Machine) → Grows (end_of m x) f → Becomes m x f n → Later m n
+becomes_later : (m : Machine) (x : Side) (f : PlainEnd) (n : Machine) → Grows (end_of m x) f → Becomes m x f n
+    → Later m n
 becomes_later m A f n g b = subst (Later m) (sym b.2) (record { a = g; b = grows_same m.b })
 becomes_later m B f n g b = subst (Later m) (sym b.2) (record { a = grows_same m.a; b = g })
 
@@ -142,18 +147,23 @@ comes_goes :
     (c : Copy) (m : Machine) (sender : Side) (n : Machine) → Holds m →
     CopyOk c (end_of m sender) (end_of m (other sender)) (len_of c sender) (len_of c (other sender)) →
     Moves (Comes c) m (other sender) n → Goes m n
-comes_goes c m A n h k s = moves_goes (Comes c) m B n h (λ f r. row_comes c B m.b m.a f c.len_a c.len_b (end_holds m B h) k r) s
-comes_goes c m B n h k s = moves_goes (Comes c) m A n h (λ f r. row_comes c A m.a m.b f c.len_b c.len_a (end_holds m A h) k r) s
+comes_goes c m A n h k s =
+    moves_goes (Comes c) m B n h (λ f r. row_comes c B m.b m.a f c.len_a c.len_b (end_holds m B h) k r) s
+comes_goes c m B n h k s =
+    moves_goes (Comes c) m A n h (λ f r. row_comes c A m.a m.b f c.len_b c.len_a (end_holds m A h) k r) s
 
 pub step_goes : (m : Machine) (event : Event) (n : Machine) → Holds m → Step m event n → Goes m n
 step_goes m (AcceptAt x opn) n h s =
     moves_goes (Accept opn) m x n h (λ f r. row_accept opn x (end_of m x) (end_of m (other x)) f (end_holds m x h) r) s
 step_goes m (WriteAt x item) n h s =
     moves_goes (Write item) m x n h (λ f r. row_write item x (end_of m x) (end_of m (other x)) f (end_holds m x h) r) s
-step_goes m (ReadAt x) n h s = moves_goes Read m x n h (λ f r. row_read x (end_of m x) (end_of m (other x)) f (end_holds m x h) r) s
+step_goes m (ReadAt x) n h s =
+    moves_goes Read m x n h (λ f r. row_read x (end_of m x) (end_of m (other x)) f (end_holds m x h) r) s
 step_goes m (ResizeAt x window) n h s =
-    moves_goes (Resize window) m x n h (λ f r. row_resize window x (end_of m x) (end_of m (other x)) f (end_holds m x h) r) s
-step_goes m (TickAt x) n h s = moves_goes Tick m x n h (λ f r. row_tick x (end_of m x) (end_of m (other x)) f (end_holds m x h) r) s
+    moves_goes (Resize window) m x n h
+    (λ f r. row_resize window x (end_of m x) (end_of m (other x)) f (end_holds m x h) r) s
+step_goes m (TickAt x) n h s =
+    moves_goes Tick m x n h (λ f r. row_tick x (end_of m x) (end_of m (other x)) f (end_holds m x h) r) s
 step_goes m (CloseAt x) n h s =
     moves_goes Close m x n h (λ f r. row_close x (end_of m x) (end_of m (other x)) f (end_holds m x h) r) s
 step_goes m (Deliver k) n h s = comes_goes s.0 m s.0.sender n h (copy_at m k s.0 h s.1) s.3
@@ -192,16 +202,21 @@ start_holds a b rfc ha hb =
     record {
       ab = start_sound RfcSent Inactive (rfc ∷ []) [] a b (omega (arith, ha.0));
       ba = start_sound Inactive RfcSent [] (rfc ∷ []) b a (omega arith);
-      a = record { fits = ((refl, refl), none_arrived); answered = λ i h. absurd (none_arrived (suc i) h); calm = λ t. refl; announces = refl; caps = ha };
-      b = record { fits = ((refl, refl), none_arrived); answered = λ i h. absurd (none_arrived (suc i) h); calm = λ t. refl; announces = refl; caps = hb };
+      a =
+          record { fits = ((refl, refl), none_arrived); answered = λ i h. absurd (none_arrived (suc i) h); calm = λ t. refl; announces = refl; caps = ha };
+      b =
+          record { fits = ((refl, refl), none_arrived); answered = λ i h. absurd (none_arrived (suc i) h); calm = λ t. refl; announces = refl; caps = hb };
       copies =
-          All-push (IsCopyOk (start a b rfc)) [] (record { sender = A; kind = Nth 0; told = Nothing; len_a = 1; len_b = 0 })
+          All-push (IsCopyOk (start a b rfc)) []
+          (record { sender = A; kind = Nth 0; told = Nothing; len_a = 1; len_b = 0 })
           (All-nil (IsCopyOk (start a b rfc)))
           (record { kind_ok = (omega arith, omega (arith, ha.0)); told_ok = tt; met = tt });
     }
 
 pub reached_holds : (m : Machine) → Reached m → Holds m
-reached_holds m r = (run_goes (start r.caps_a r.caps_b r.rfc) r.events m (start_holds r.caps_a r.caps_b r.rfc r.right_a r.right_b) r.run).holds
+reached_holds m r =
+    (run_goes (start r.caps_a r.caps_b r.rfc) r.events m (start_holds r.caps_a r.caps_b r.rfc r.right_a r.right_b)
+    r.run).holds
 
 -- ---- a run goes on
 

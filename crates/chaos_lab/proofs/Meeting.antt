@@ -40,7 +40,8 @@ use Rattle.chaos_lab.proofs.Helping.{IsTaken, stands_at_side, same_count, sent_a
 
 -- ---- what the plain machine makes of it
 
-opens_by : (c : Copy) (p e f : Plain) → c.kind ≡ Nth 0 → e.phase ≡ RfcSent → OrNothing (Comes c) p e f → f ≡ hear c.told (read_next p (record e { phase = Open; arrived = insert e.arrived 0 }))
+opens_by : (c : Copy) (p e f : Plain) → c.kind ≡ Nth 0 → e.phase ≡ RfcSent → OrNothing (Comes c) p e f
+    → f ≡ hear c.told (read_next p (record e { phase = Open; arrived = insert e.arrived 0 }))
 opens_by c p e f kind at (inl (inl r)) = let no : RfcSent ≡ Inactive = sym at ∙ r.1 in absurd (cc)
 opens_by c p e f kind at (inl (inr (inl r))) = r.2
 opens_by c p e f kind at (inl (inr (inr (inl r)))) = let no : RfcSent ≡ Open = sym at ∙ r.0 in absurd (cc)
@@ -49,14 +50,18 @@ opens_by c p e f kind at (inl (inr (inr (inr (inr r))))) = let no : Nth 0 ≡ Cl
 opens_by c p e f kind at (inr r) = absurd (r.0 _ (inr (inl (kind, at, refl))))
 
 -- the end knows that its peer read so many
-knows_read : (told : Told) (e : Plain) (read receipt window : ℕ) → told ≡ Status read receipt window → read ≤ (hear told e).acknowledged
+knows_read : (told : Told) (e : Plain) (read receipt window : ℕ) → told ≡ Status read receipt window
+    → read ≤ (hear told e).acknowledged
 knows_read told e read receipt window is = subst (λ (t : Told). read ≤ (hear t e).acknowledged) (sym is) (omega arith)
 
 -- A, to which this copy came
-acknowledged_at : (w v : Machine) (n : ℕ) (c : Copy) (read receipt window : ℕ) → w.a.phase ≡ RfcSent → slice_get w.copies n ≡ Some c → c.sender ≡ B → c.kind ≡ Nth 0 → c.told ≡ Status read receipt window → Step w (Deliver n) v → read ≤ v.a.acknowledged
+acknowledged_at : (w v : Machine) (n : ℕ) (c : Copy) (read receipt window : ℕ) → w.a.phase ≡ RfcSent
+    → slice_get w.copies n ≡ Some c → c.sender ≡ B → c.kind ≡ Nth 0 → c.told ≡ Status read receipt window
+    → Step w (Deliver n) v → read ≤ v.a.acknowledged
 acknowledged_at w v n c read receipt window at there from kind told s =
     let same : s.0 ≡ c = let e = s.1 in let e' = there in cc in
-    let m : Moves (Comes c) w (other c.sender) v = subst (λ (d : Copy). Moves (Comes d) w (other d.sender) v) same s.3 in
+    let m : Moves (Comes c) w (other c.sender) v =
+    subst (λ (d : Copy). Moves (Comes d) w (other d.sender) v) same s.3 in
     let g : Moves (Comes c) w A v = subst (λ y. Moves (Comes c) w (other y) v) from m in
     let is = becomes_same w A g.0 v g.2 ∙ opens_by c w.b w.a g.0 kind at g.1 in
     subst (λ (e : Plain). read ≤ e.acknowledged) (sym is) (knows_read c.told _ read receipt window told)
@@ -66,9 +71,11 @@ acknowledged_at w v n c read receipt window at there from kind told s =
 -- the OPN's status, as the packet tells it
 record OpnPacket (w : Machine) (l : LabView) (pk : PacketView) : Type 0 where
   told : ℕ × ℕ
-  acts : act_deliver l.a.conn pk l.clock ≡ with_sts (after_opening (heard_with_status l.a.conn pk l.clock told) pk) de.Opened
+  acts : act_deliver l.a.conn pk l.clock
+      ≡ with_sts (after_opening (heard_with_status l.a.conn pk l.clock told) pk) de.Opened
 
-opn_packet : (w : Machine) (l : LabView) (n read receipt window : ℕ) → Ties w l → l.a.conn.state ≡ st.RfcSent → (f : FirstCopy B w l n) → f.copy.told ≡ Status read receipt window → OpnPacket w l f.stamped.packet
+opn_packet : (w : Machine) (l : LabView) (n read receipt window : ℕ) → Ties w l → l.a.conn.state ≡ st.RfcSent
+    → (f : FirstCopy B w l n) → f.copy.told ≡ Status read receipt window → OpnPacket w l f.stamped.packet
 opn_packet w l n read receipt window t state f told =
     let pk : PacketView = f.stamped.packet in
     let e : Plain = w.a in
@@ -76,16 +83,26 @@ opn_packet w l n read receipt window t state f told =
     let h = end_holds w A (reached_holds w t.tied.reached) in
     let new : IsNew A e.written e.read × IsNone e.arrived = fits_at A e RfcSent h.ok at in
     let z = stands_at A w l t in
-    let view : l.a.conn ≡ shown_in st.RfcSent A z.0 l.a.first l.b.first w.b e = z.2 ∙ ap (λ ph. shown_at ph A z.0 l.a.first l.b.first w.b e) at in
+    let view : l.a.conn ≡ shown_in st.RfcSent A z.0 l.a.first l.b.first w.b e =
+    z.2 ∙ ap (λ ph. shown_at ph A z.0 l.a.first l.b.first w.b e) at in
     let s0 = stands_at_side B f.copy.sender w l.a.first l.b.first pk f.copy.kind f.copy.told f.sender f.known.stands in
-    let s : StandsFor B l.b.first l.a.first w.b pk (Nth 0) (Status read receipt window) = subst (λ (q : Kind × Told). StandsFor B l.b.first l.a.first w.b pk q.0 q.1) (λ j. (f.kind j, told j)) s0 in
-    let kind : kind_of pk.op ≡ k.Opn = ap kind_of (t.tied.items_b.first (record { op = pk.op; body = pk.body }) s.what.0).0 in
+    let s : StandsFor B l.b.first l.a.first w.b pk (Nth 0) (Status read receipt window) =
+    subst (λ (q : Kind × Told). StandsFor B l.b.first l.a.first w.b pk q.0 q.1) (λ j. (f.kind j, told j)) s0 in
+    let kind : kind_of pk.op ≡ k.Opn =
+    ap kind_of (t.tied.items_b.first (record { op = pk.op; body = pk.body }) s.what.0).0 in
     let v : ConnView = shown_in st.RfcSent A z.0 l.a.first l.b.first w.b e in
     let acts : act_deliver v pk l.clock ≡ after_opn_telling v pk l.clock (Some (told_num l.a.first receipt, window)) =
-    to_asked z.0 l.a.first l.b.first pk l.clock w.b e (Nth 0) new.0.0 s.header s.header.dst_index (ap is_rfc kind) ∙ ap (deliver_asking v pk l.clock) kind ∙ ap (after_opn_telling v pk l.clock) s.tells.1 in
+    to_asked z.0 l.a.first l.b.first pk l.clock w.b e (Nth 0) new.0.0 s.header s.header.dst_index (ap is_rfc kind)
+    ∙ ap (deliver_asking v pk l.clock) kind ∙ ap (after_opn_telling v pk l.clock) s.tells.1 in
     record {
       told = (told_num l.a.first receipt, window);
-      acts = ap (λ (u : ConnView). act_deliver u pk l.clock) view ∙ acts ∙ ap (λ (u : ConnView). with_sts (after_opening (heard_with_status u pk l.clock (told_num l.a.first receipt, window)) pk) de.Opened) (sym view);
+      acts =
+          ap (λ (u : ConnView). act_deliver u pk l.clock) view ∙ acts
+          ∙ ap
+          (λ (u : ConnView). with_sts
+          (after_opening (heard_with_status u pk l.clock (told_num l.a.first receipt, window)) pk)
+          de.Opened)
+          (sym view);
     }
 
 pub record Meets (w : Machine) (l : LabView) (n : ℕ) : Type 0 where
@@ -95,7 +112,8 @@ pub record Meets (w : Machine) (l : LabView) (n : ℕ) : Type 0 where
   pub packet : PacketView
   pub told : ℕ × ℕ
   pub lab : (happen l (DeliverCopy n)).lab ≡ after_call l A (DeliverPacket packet l.clock)
-  pub acts : act_deliver l.a.conn packet l.clock ≡ with_sts (after_opening (heard_with_status l.a.conn packet l.clock told) packet) de.Opened
+  pub acts : act_deliver l.a.conn packet l.clock
+      ≡ with_sts (after_opening (heard_with_status l.a.conn packet l.clock told) packet) de.Opened
   pub opens : machine.a.phase ≡ Open
   pub knows : 1 ≤ machine.a.acknowledged
   pub copy : Copy
@@ -123,13 +141,24 @@ meet_event w l n t state o =
     let opens : v.a.phase ≡ Open = open_at A v m step.ties (ap (λ a. a.view.state) opn.acts) in
     let sts : PacketView = sts_of (after_opening (heard_with_status l.a.conn pk l.clock opn.told) pk) in
     let number : ℕ = length l.copies in
-    let put : slice_get m.copies number ≡ Some (stamp_after l A call sts) = put_at A l call number 0 sts (omega arith) (ap (λ a. slice_get a.packets 0) opn.acts) in
+    let put : slice_get m.copies number ≡ Some (stamp_after l A call sts) =
+    put_at A l call number 0 sts (omega arith) (ap (λ a. slice_get a.packets 0) opn.acts) in
     let count : length l.copies ≡ length w.copies = same_count w l t in
     let goes = step.step.3 in
-    let moves : Moves (Comes step.step.0) w A v = subst (λ y. Moves (Comes step.step.0) w y v) (ap (λ (c : Copy). other c.sender) (let e = step.step.1 in let e' = o.at.there in let is : step.step.0 ≡ o.copy = cc in is) ∙ ap other o.at.sender) goes in
-    let sent = sent_at A w v moves.0 m number 0 (stamp_after l A call sts) step.ties moves.2 (omega (arith, count)) put in
-    let kind : sent.copy.kind ≡ Sts = sts_kind sent.copy.kind A (first_at m A) (first_at m B) v.a sts (items_at A v m step.ties) (sent_what A v m number (stamp_after l A call sts) sent) refl in
-    let knows : o.read ≤ v.a.acknowledged = acknowledged_at w v n o.copy o.read o.receipt o.window (asked_at A w l t state) o.at.there o.at.sender o.kind o.told step.step in
+    let moves : Moves (Comes step.step.0) w A v =
+    subst (λ y. Moves (Comes step.step.0) w y v)
+    (ap (λ (c : Copy). other c.sender)
+    (let e = step.step.1 in let e' = o.at.there in let is : step.step.0 ≡ o.copy = cc in is)
+    ∙ ap other o.at.sender)
+    goes in
+    let sent =
+    sent_at A w v moves.0 m number 0 (stamp_after l A call sts) step.ties moves.2 (omega (arith, count)) put in
+    let kind : sent.copy.kind ≡ Sts =
+    sts_kind sent.copy.kind A (first_at m A) (first_at m B) v.a sts (items_at A v m step.ties)
+    (sent_what A v m number (stamp_after l A call sts) sent) refl in
+    let knows : o.read ≤ v.a.acknowledged =
+    acknowledged_at w v n o.copy o.read o.receipt o.window (asked_at A w l t state) o.at.there o.at.sender o.kind
+    o.told step.step in
     record {
       machine = v;
       ties = subst (Ties v) (sym lab) step.ties;

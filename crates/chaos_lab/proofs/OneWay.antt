@@ -53,14 +53,17 @@ pub record Hears (n : ℕ) (y x : Side) (w : Machine) (l : LabView) : Type 0 whe
   pub speaks : SameTimes (conn_at l y) (conn_at (told y l) y)
   pub clock : (told y l).clock ≡ l.clock
 
-told_other : (n : ℕ) (y : Side) (w : Machine) (l : LabView) → Ties w l → AreOpen w → n ≤ length l.copies → Hears n y (other y) w l
+told_other : (n : ℕ) (y : Side) (w : Machine) (l : LabView) → Ties w l → AreOpen w → n ≤ length l.copies
+    → Hears n y (other y) w l
 told_other n y w l t opens from =
     let window : ℕ = (lab_end l y).conn.config.recv_cap in
     let cap : window ≡ (end_of w y).recv_cap = ap (λ (c : ConnView). c.config.recv_cap) (shows y w l t (opens y)).is in
     let a : Announces y w l window = subst (Announces y w l) (sym cap) (announce_event y w l t (opens y)) in
     let l1 : LabView = (happen l (AnnounceBy y window)).lab in
     let copy : ℕ = length l.copies in
-    let h = hears_at y a.machine l1 copy (length (end_of a.machine y).read) a.told.0 (end_of a.machine y).announced a.copy a.ties a.at a.kind a.told.1 (stay_open w a.machine a.keeps opens (other y)) in
+    let h =
+    hears_at y a.machine l1 copy (length (end_of a.machine y).read) a.told.0 (end_of a.machine y).announced a.copy
+    a.ties a.at a.kind a.told.1 (stay_open w a.machine a.keeps opens (other y)) in
     let l2 : LabView = told y l in
     record {
       machine = h.machine;
@@ -70,14 +73,18 @@ told_other n y w l t opens from =
       some = (h.keeps.ends y).announces a.some;
       heard = omega (arith, (a.keeps.ends y).read, h.heard);
       room = h.room a.some;
-      hears = subst (λ (u : ConnView × ℕ). HeardNow u.1 u.0 (conn_at l2 (other y))) (λ j. (a.peers (other y) refl j, a.clock j)) h.own;
+      hears =
+          subst (λ (u : ConnView × ℕ). HeardNow u.1 u.0 (conn_at l2 (other y)))
+          (λ j. (a.peers (other y) refl j, a.clock j)) h.own;
       speaks = subst (λ (u : ConnView). SameTimes (conn_at l y) u) (sym h.peers) a.own;
       clock = h.clock ∙ a.clock;
     }
 
 -- said of the end that hears
-pub told_by : (n : ℕ) (x : Side) (w : Machine) (l : LabView) → Ties w l → AreOpen w → n ≤ length l.copies → Hears n (other x) x w l
-told_by n x w l t opens from = subst (λ (z : Side). Hears n (other x) z w l) (other_other x) (told_other n (other x) w l t opens from)
+pub told_by : (n : ℕ) (x : Side) (w : Machine) (l : LabView) → Ties w l → AreOpen w → n ≤ length l.copies
+    → Hears n (other x) x w l
+told_by n x w l t opens from =
+    subst (λ (z : Side). Hears n (other x) z w l) (other_other x) (told_other n (other x) w l t opens from)
 
 -- ---- then x sends again what it has no receipt for
 
@@ -104,14 +111,18 @@ pub record IsStamped (w : Machine) (c : Copy) : Type 0 where
   pub len_b : c.len_b ≡ length w.b.written
 
 -- so those are that a tick puts out
-stamped_at : (x : Side) (w v : Machine) (n : ℕ) (c : Copy) → Keeps w v → Step w (TickAt x) v → length w.copies ≤ n → slice_get v.copies n ≡ Some c → IsStamped v c
+stamped_at : (x : Side) (w v : Machine) (n : ℕ) (c : Copy) → Keeps w v → Step w (TickAt x) v → length w.copies ≤ n
+    → slice_get v.copies n ≡ Some c → IsStamped v c
 stamped_at x w v n c k s from at =
     let b = s.2 in
     let j : ℕ = n - length w.copies in
     let place : n ≡ length w.copies + j = omega (arith, from) in
     let all : v.copies ≡ w.copies ++ b.0 = ap (λ (u : Machine). u.copies) b.2 in
-    let there : slice_get b.0 j ≡ Some c = sym (past_front w.copies b.0 n j place) ∙ ap (λ cs. slice_get cs n) (sym all) ∙ at in
-    let sent : IsSent (with_end w x s.0) x c = subst (IsSent (with_end w x s.0) x) (get_or_from_slice_get b.0 j c c there) (b.1 j c (slice_get_within b.0 j c there)) in
+    let there : slice_get b.0 j ≡ Some c =
+    sym (past_front w.copies b.0 n j place) ∙ ap (λ cs. slice_get cs n) (sym all) ∙ at in
+    let sent : IsSent (with_end w x s.0) x c =
+    subst (IsSent (with_end w x s.0) x) (get_or_from_slice_get b.0 j c c there)
+    (b.1 j c (slice_get_within b.0 j c there)) in
     record { len_a = sent.len_a ∙ sym (ap (λ (u : Machine). length u.a.written) b.2); len_b = sent.len_b ∙ sym (ap (λ (u : Machine). length u.b.written) b.2) }
 
 -- it has a moment left for that
@@ -131,16 +142,20 @@ pub record Resends (n : ℕ) (x : Side) (w : Machine) (l : LabView) : Type 0 whe
   pub burst : Burst machine x (length (told (other x) l).copies) receipted
   pub all : Copies machine x (length (told (other x) l).copies) (length (resent x l).copies)
   pub upto : length (told (other x) l).copies ≤ length (resent x l).copies
-  pub enough : length (end_of machine x).written ≤ receipted + (length (resent x l).copies - length (told (other x) l).copies)
+  pub enough : length (end_of machine x).written
+      ≤ receipted + (length (resent x l).copies - length (told (other x) l).copies)
   pub few : length (resent x l).copies ≤ length (told (other x) l).copies + 64
-  pub exact : receipted < length (end_of machine x).written → length (resent x l).copies ≡ length (told (other x) l).copies + (length (end_of machine x).written - receipted)
-  pub stamped : (number : ℕ) (c : Copy) → length (told (other x) l).copies ≤ number → slice_get machine.copies number ≡ Some c → IsStamped machine c
+  pub exact : receipted < length (end_of machine x).written
+      → length (resent x l).copies ≡ length (told (other x) l).copies + (length (end_of machine x).written - receipted)
+  pub stamped : (number : ℕ) (c : Copy) → length (told (other x) l).copies ≤ number
+      → slice_get machine.copies number ≡ Some c → IsStamped machine c
   pub from : length l.copies ≤ length (told (other x) l).copies
   pub speaks : SameTimes (conn_at l (other x)) (conn_at (resent x l) (other x))
   pub clock : (resent x l).clock ≡ max (conn_at l x).last l.clock + (conn_at l x).config.retransmit
 
 -- a copy of each item was put out
-all_put : (v : Machine) (m : LabView) (x : Side) (number r : ℕ) → Ties v m → Burst v x number r → length (end_of v x).written ≤ r + (length m.copies - number)
+all_put : (v : Machine) (m : LabView) (x : Side) (number r : ℕ) → Ties v m → Burst v x number r
+    → length (end_of v x).written ≤ r + (length m.copies - number)
 all_put v m x number r t burst =
     ⊎_elim
     (λ (less : r < length (end_of v x).written).
@@ -153,27 +168,36 @@ all_put v m x number r t burst =
     (cases_lt r (length (end_of v x).written))
 
 -- a tick puts out what is kept, or one packet, or none
-tick_count : (v : ConnView) (most : ℕ) → length v.send.kept ≤ most → 1 ≤ most → length (ticked_by (due_of v) v).packets ≤ most
+tick_count : (v : ConnView) (most : ℕ) → length v.send.kept ≤ most → 1 ≤ most
+    → length (ticked_by (due_of v) v).packets ≤ most
 tick_count v most kept one =
     cond_both (is_down v) _ _ Few (λ _. omega arith)
-    (λ _. cond_both (is_resend_due v) _ _ Few (λ _. let count = packets_count v.send.kept v (num v.send.receipted 1) in omega (arith, count, kept))
+    (λ _. cond_both (is_resend_due v) _ _ Few
+    (λ _. let count = packets_count v.send.kept v (num v.send.receipted 1) in omega (arith, count, kept))
     (λ _. cond_both (is_probe_due v) _ _ Few (λ _. one) (λ _. omega arith)))
   where
     Few : Due → Type 0
     Few due = length (ticked_by due v).packets ≤ most
 
-few_put : (x : Side) (v : Machine) (m : LabView) (now : ℕ) → Ties v m → (end_of v x).phase ≡ Open → length (happen m (TickOf x now)).lab.copies ≤ length m.copies + 64
+few_put : (x : Side) (v : Machine) (m : LabView) (now : ℕ) → Ties v m → (end_of v x).phase ≡ Open
+    → length (happen m (TickOf x now)).lab.copies ≤ length m.copies + 64
 few_put x v m now t at =
     let e : Plain = end_of v x in
     let u : ConnView = conn_at m x in
     let h = end_holds v x (reached_holds v t.tied.reached) in
-    let kept : length u.send.kept ≡ length e.written - e.receipted = ap (λ (c : ConnView). length c.send.kept) (shows x v m t at).is ∙ length-drop e.receipted e.written in
-    let few = tick_count (at_moment u now) 64 (omega (arith, kept, h.writer.room, h.writer.in_order, h.ok.caps.1)) (omega arith) in
+    let kept : length u.send.kept ≡ length e.written - e.receipted =
+    ap (λ (c : ConnView). length c.send.kept) (shows x v m t at).is ∙ length-drop e.receipted e.written in
+    let few =
+    tick_count (at_moment u now) 64 (omega (arith, kept, h.writer.room, h.writer.in_order, h.ok.caps.1))
+    (omega arith) in
     let packets = (act_tick u now).packets in
-    let long = ap length (copies_after x m (Tick now)) ∙ length-append m.copies (map (stamp_after m x (Tick now)) packets) ∙ ap (λ k. length m.copies + k) (length-map packets (stamp_after m x (Tick now))) in
+    let long =
+    ap length (copies_after x m (Tick now)) ∙ length-append m.copies (map (stamp_after m x (Tick now)) packets)
+    ∙ ap (λ k. length m.copies + k) (length-map packets (stamp_after m x (Tick now))) in
     omega (arith, few, long)
 
-pub resends : (n : ℕ) (x : Side) (w : Machine) (l : LabView) → Ties w l → AreOpen w → n ≤ length l.copies → Timely (conn_at l x) → HasMoment x l → Resends n x w l
+pub resends : (n : ℕ) (x : Side) (w : Machine) (l : LabView) → Ties w l → AreOpen w → n ≤ length l.copies
+    → Timely (conn_at l x) → HasMoment x l → Resends n x w l
 resends n x w l t opens from timely left =
     let y : Side = other x in
     let s = told_by n x w l t opens from in
@@ -181,10 +205,13 @@ resends n x w l t opens from timely left =
     let v : Machine = s.machine in
     let h : HeardNow l.clock (conn_at l x) (conn_at m x) = s.hears in
     let time : OnTime (conn_at m x) = on_time l.clock (conn_at l x) (conn_at m x) h timely in
-    let retransmit : (conn_at m x).config.retransmit ≡ (conn_at l x).config.retransmit = ap (λ c. c.retransmit) h.config in
-    let moment : resend_moment x m ≡ max (conn_at l x).last l.clock + (conn_at l x).config.retransmit = omega (arith, h.heard, h.last, retransmit, left) in
+    let retransmit : (conn_at m x).config.retransmit ≡ (conn_at l x).config.retransmit =
+    ap (λ c. c.retransmit) h.config in
+    let moment : resend_moment x m ≡ max (conn_at l x).last l.clock + (conn_at l x).config.retransmit =
+    omega (arith, h.heard, h.last, retransmit, left) in
     let now : next_moment (conn_at m x) ≡ resend_moment x m = omega (arith, h.heard, h.last, retransmit, left) in
-    let e : Sends x v m (resend_moment x m) = subst (Sends x v m) now (tick_event x v m s.plays.ties (stay_open w v s.plays.keeps opens x) time) in
+    let e : Sends x v m (resend_moment x m) =
+    subst (Sends x v m) now (tick_event x v m s.plays.ties (stay_open w v s.plays.keeps opens x) time) in
     let z : LabView = resent x l in
     let first : length l.copies ≡ length w.copies = same_count w l t in
     let before : length m.copies ≡ length v.copies = same_count v m s.plays.ties in
@@ -202,14 +229,21 @@ resends n x w l t opens from timely left =
       enough = all_put e.machine z x (length m.copies) (end_of v x).receipted e.ties e.burst;
       few = few_put x v m (resend_moment x m) s.plays.ties (stay_open w v s.plays.keeps opens x);
       exact = λ less.
-          let kept : length (conn_at m x).send.kept ≡ length (end_of v x).written - (end_of v x).receipted = ap (λ (c : ConnView). length c.send.kept) (shows x v m s.plays.ties (stay_open w v s.plays.keeps opens x)).is ∙ length-drop (end_of v x).receipted (end_of v x).written in
-          let same : length (end_of e.machine x).written ≡ length (end_of v x).written = ap length (e.keeps.ends x).written in
+          let kept : length (conn_at m x).send.kept ≡ length (end_of v x).written - (end_of v x).receipted =
+          ap (λ (c : ConnView). length c.send.kept)
+          (shows x v m s.plays.ties (stay_open w v s.plays.keeps opens x)).is
+          ∙ length-drop (end_of v x).receipted (end_of v x).written in
+          let same : length (end_of e.machine x).written ≡ length (end_of v x).written =
+          ap length (e.keeps.ends x).written in
           let all = e.exact (omega (arith, kept, same, less)) in
           omega (arith, all, kept, same);
       stamped = λ number c late at. stamped_at x v e.machine number c e.keeps e.step (omega (arith, before, late)) at;
       from = omega (arith, first, before, s.plays.keeps.count);
       speaks = subst (λ (u : ConnView). SameTimes (conn_at l y) u) (sym (e.peers y refl)) s.speaks;
-      clock = ap (λ (k : ℕ). max k (resend_moment x m)) s.clock ∙ (let last : max l.clock (resend_moment x m) ≡ max (conn_at l x).last l.clock + (conn_at l x).config.retransmit = omega (arith, moment) in last);
+      clock =
+          ap (λ (k : ℕ). max k (resend_moment x m)) s.clock
+          ∙ (let last : max l.clock (resend_moment x m)
+          ≡ max (conn_at l x).last l.clock + (conn_at l x).config.retransmit = omega (arith, moment) in last);
     }
 
 -- ---- the other user reads
@@ -221,21 +255,29 @@ none_is (Some item) h = absurd (false≢true h)
 pub record ReadsFront (n : ℕ) (y : Side) (w : Machine) (l : LabView) : Type 0 where
   pub machine : Machine
   pub plays : Plays n w l (reading y l) machine
-  pub reads : contains (end_of w y).arrived (length (end_of w y).read) ≡ true → length (end_of w y).read < length (end_of machine y).read
+  pub reads : contains (end_of w y).arrived (length (end_of w y).read) ≡ true
+      → length (end_of w y).read < length (end_of machine y).read
 
-pub reads_front : (n : ℕ) (y : Side) (w : Machine) (l : LabView) → Ties w l → (end_of w y).phase ≡ Open → ReadsFront n y w l
+pub reads_front : (n : ℕ) (y : Side) (w : Machine) (l : LabView) → Ties w l → (end_of w y).phase ≡ Open
+    → ReadsFront n y w l
 reads_front n y w l t at =
     let f : Front (reading y l) = cond_both (is_none (front_of (conn_at l y))) [] (ReadBy y ∷ []) Front waits some in
     record { machine = f.0; plays = f.1; reads = f.2 }
   where
     Front : List Happening → Type 0
-    Front events = (v : Machine) × Plays n w l events v × (contains (end_of w y).arrived (length (end_of w y).read) ≡ true → length (end_of w y).read < length (end_of v y).read)
+    Front events =
+        (v : Machine) × Plays n w l events v
+        × (contains (end_of w y).arrived (length (end_of w y).read) ≡ true
+        → length (end_of w y).read < length (end_of v y).read)
 
     waits : is_none (front_of (conn_at l y)) ≡ true → Front []
-    waits none = (w, plays_none n w l t, λ here. absurd (false≢true (sym (waiting y w l t at (none_is (front_of (conn_at l y)) none)) ∙ here)))
+    waits none =
+        (w, plays_none n w l t, λ here. absurd (false≢true (sym (waiting y w l t at (none_is (front_of (conn_at l y)) none)) ∙ here)))
 
     some : is_none (front_of (conn_at l y)) ≡ false → Front (ReadBy y ∷ [])
-    some h = let e = read_event y w l t at in (e.machine, plays_one n w e.machine l (ReadBy y) tt e.taken e.ties e.keeps, e.reads)
+    some h =
+        let e = read_event y w l t
+        at in (e.machine, plays_one n w e.machine l (ReadBy y) tt e.taken e.ties e.keeps, e.reads)
 
 -- so many times: it reads all that had come, or an item each time
 pub record ReadsOn (n : ℕ) (y : Side) (r k : ℕ) (w : Machine) (l : LabView) : Type 0 where
@@ -243,7 +285,8 @@ pub record ReadsOn (n : ℕ) (y : Side) (r k : ℕ) (w : Machine) (l : LabView) 
   pub plays : Plays n w l (reading_on y k l) machine
   pub read : (r ≤ length (end_of machine y).read) ⊎ (length (end_of w y).read + k ≤ length (end_of machine y).read)
 
-pub reads_on : (k n : ℕ) (y : Side) (r : ℕ) (w : Machine) (l : LabView) → Ties w l → (end_of w y).phase ≡ Open → ((i : ℕ) → i < r → contains (end_of w y).arrived i ≡ true) → ReadsOn n y r k w l
+pub reads_on : (k n : ℕ) (y : Side) (r : ℕ) (w : Machine) (l : LabView) → Ties w l → (end_of w y).phase ≡ Open
+    → ((i : ℕ) → i < r → contains (end_of w y).arrived i ≡ true) → ReadsOn n y r k w l
 reads_on zero n y r w l t at here = record { machine = w; plays = plays_none n w l t; read = inr (omega arith) }
 reads_on (suc k) n y r w l t at here =
     let e = reads_front n y w l t at in
@@ -274,7 +317,8 @@ pub record Comes (n : ℕ) (x : Side) (w : Machine) (l : LabView) (copy : ℕ) :
   pub machine : Machine
   pub plays : Plays n w l (DeliverCopy copy ∷ reading (other x) (happen l (DeliverCopy copy)).lab) machine
 
-comes : (n : ℕ) (x : Side) (w : Machine) (l : LabView) (copy : ℕ) (c : Copy) → Ties w l → CopyAt w x copy c → (c.kind ≡ Cls → ⊥) → (end_of w (other x)).phase ≡ Open → n ≤ copy → Comes n x w l copy
+comes : (n : ℕ) (x : Side) (w : Machine) (l : LabView) (copy : ℕ) (c : Copy) → Ties w l → CopyAt w x copy c
+    → (c.kind ≡ Cls → ⊥) → (end_of w (other x)).phase ≡ Open → n ≤ copy → Comes n x w l copy
 comes n x w l copy c t h apart at from =
     let y : Side = other x in
     let d = copy_event x w l copy c t h at apart in
@@ -282,18 +326,25 @@ comes n x w l copy c t h apart at from =
     let e = reads_front n y d.machine m d.ties ((d.came.keeps.ends y).opened at) in
     record {
       machine = e.machine;
-      plays = plays_first n w d.machine e.machine l (DeliverCopy copy) (reading y m) (plays_one n w d.machine l (DeliverCopy copy) from d.taken d.ties d.came.keeps) e.plays;
+      plays =
+          plays_first n w d.machine e.machine l (DeliverCopy copy) (reading y m)
+          (plays_one n w d.machine l (DeliverCopy copy) from d.taken d.ties d.came.keeps) e.plays;
     }
 
-pub took_there : (kind : Kind) (i : ℕ) (told : Told) (p e : Plain) → kind ≡ Nth i → i ≤ length e.read → 1 ≤ e.announced → IsThere (received Open kind told p e) i
-took_there kind i told p e is upto some = subst (λ (q : Kind). IsThere (received Open q told p e) i) (sym is) (heard_there told i e (omega (arith, upto, some)))
+pub took_there : (kind : Kind) (i : ℕ) (told : Told) (p e : Plain) → kind ≡ Nth i → i ≤ length e.read → 1 ≤ e.announced
+    → IsThere (received Open kind told p e) i
+took_there kind i told p e is upto some =
+    subst (λ (q : Kind). IsThere (received Open q told p e) i) (sym is)
+    (heard_there told i e (omega (arith, upto, some)))
 
 -- item i comes, and is read if it wasn't yet
 pub record ItemComes (n : ℕ) (x : Side) (w : Machine) (l : LabView) (copy i : ℕ) : Type 0 where
   pub comes : Comes n x w l copy
   pub more : i < length (end_of comes.machine (other x)).read
 
-pub item_comes : (n : ℕ) (x : Side) (w : Machine) (l : LabView) (copy i : ℕ) (c : Copy) → Ties w l → CopyAt w x copy c → c.kind ≡ Nth i → (end_of w (other x)).phase ≡ Open → 1 ≤ (end_of w (other x)).announced → i ≤ length (end_of w (other x)).read → n ≤ copy → ItemComes n x w l copy i
+pub item_comes : (n : ℕ) (x : Side) (w : Machine) (l : LabView) (copy i : ℕ) (c : Copy) → Ties w l → CopyAt w x copy c
+    → c.kind ≡ Nth i → (end_of w (other x)).phase ≡ Open → 1 ≤ (end_of w (other x)).announced
+    → i ≤ length (end_of w (other x)).read → n ≤ copy → ItemComes n x w l copy i
 item_comes n x w l copy i c t h kind at some upto from =
     let y : Side = other x in
     let apart : c.kind ≡ Cls → ⊥ = λ is. let no : Nth i ≡ Cls = sym kind ∙ is in absurd (cc) in
@@ -301,7 +352,9 @@ item_comes n x w l copy i c t h kind at some upto from =
     let v : Machine = d.machine in
     let m : LabView = (happen l (DeliverCopy copy)).lab in
     let k1 : Keeps w v = d.came.keeps in
-    let there : IsThere (end_of v y) i = subst (λ (e : Plain). IsThere e i) (sym d.came.is) (took_there c.kind i c.told (end_of w (other y)) (end_of w y) kind upto some) in
+    let there : IsThere (end_of v y) i =
+    subst (λ (e : Plain). IsThere e i) (sym d.came.is)
+    (took_there c.kind i c.told (end_of w (other y)) (end_of w y) kind upto some) in
     let e = reads_front n y v m d.ties ((k1.ends y).opened at) in
     let grown = (e.plays.keeps.ends y).read in
     let more : i < length (end_of e.machine y).read =
@@ -319,21 +372,27 @@ item_comes n x w l copy i c t h kind at some upto from =
     record {
       comes = record {
         machine = e.machine;
-        plays = plays_first n w v e.machine l (DeliverCopy copy) (reading y m) (plays_one n w v l (DeliverCopy copy) from d.taken d.ties k1) e.plays;
+        plays =
+            plays_first n w v e.machine l (DeliverCopy copy) (reading y m)
+            (plays_one n w v l (DeliverCopy copy) from d.taken d.ties k1) e.plays;
       };
       more = more;
     }
 
 -- what a reader has read when so many copies of a burst came: all, or the items of those
 abbrev HasTaken : Machine → Side → ℕ → Type 0
-HasTaken w x i = (length (end_of w x).written ≤ length (end_of w (other x)).read) ⊎ (i ≤ length (end_of w (other x)).read)
+HasTaken w x i =
+    (length (end_of w x).written ≤ length (end_of w (other x)).read) ⊎ (i ≤ length (end_of w (other x)).read)
 
 -- the next copy of a burst comes
 record NextComes (n : ℕ) (x : Side) (w : Machine) (l : LabView) (copy i : ℕ) : Type 0 where
   comes : Comes n x w l copy
   read : HasTaken comes.machine x (suc i)
 
-next_comes : (n : ℕ) (x : Side) (number r j last : ℕ) (w : Machine) (l : LabView) → Ties w l → (end_of w (other x)).phase ≡ Open → 1 ≤ (end_of w (other x)).announced → Burst w x number r → Copies w x number last → number + j < last → n ≤ number → HasTaken w x (r + j) → NextComes n x w l (number + j) (r + j)
+next_comes : (n : ℕ) (x : Side) (number r j last : ℕ) (w : Machine) (l : LabView) → Ties w l
+    → (end_of w (other x)).phase ≡ Open → 1 ≤ (end_of w (other x)).announced → Burst w x number r
+    → Copies w x number last → number + j < last → n ≤ number → HasTaken w x (r + j)
+    → NextComes n x w l (number + j) (r + j)
 next_comes n x number r j last w l t at some burst all within from taken =
     let y : Side = other x in
     ⊎_elim
@@ -349,13 +408,16 @@ next_comes n x number r j last w l t at some burst all within from taken =
     (λ (past : length (end_of w x).written ≤ r + j).
     let c = all (number + j) (omega arith) within in
     any c.0 c.1 c.2
-    (⊎_elim (λ (u : length (end_of w x).written ≤ length (end_of w y).read). u) (λ (u : r + j ≤ length (end_of w y).read). omega (arith, u, past)) taken))
+    (⊎_elim (λ (u : length (end_of w x).written ≤ length (end_of w y).read). u)
+    (λ (u : r + j ≤ length (end_of w y).read). omega (arith, u, past)) taken))
     (cases_lt (r + j) (length (end_of w x).written))
   where
-    any : (c : Copy) → CopyAt w x (number + j) c → (c.kind ≡ Cls → ⊥) → length (end_of w x).written ≤ length (end_of w (other x)).read → NextComes n x w l (number + j) (r + j)
+    any : (c : Copy) → CopyAt w x (number + j) c → (c.kind ≡ Cls → ⊥)
+        → length (end_of w x).written ≤ length (end_of w (other x)).read → NextComes n x w l (number + j) (r + j)
     any c h apart enough =
         let g = comes n x w l (number + j) c t h apart at (omega (arith, from)) in
-        let same : length (end_of g.machine x).written ≡ length (end_of w x).written = ap length (g.plays.keeps.ends x).written in
+        let same : length (end_of g.machine x).written ≡ length (end_of w x).written =
+        ap length (g.plays.keeps.ends x).written in
         let more = (g.plays.keeps.ends (other x)).read in
         record { comes = g; read = inl (omega (arith, enough, more, same)) }
 
@@ -364,17 +426,23 @@ record BurstComes (n : ℕ) (x : Side) (r j k copy : ℕ) (w : Machine) (l : Lab
   plays : Plays n w l (coming (other x) copy k l) machine
   read : HasTaken machine x (r + j + k)
 
-burst_comes : (k n : ℕ) (x : Side) (number r j last copy : ℕ) (w : Machine) (l : LabView) → copy ≡ number + j → Ties w l → (end_of w (other x)).phase ≡ Open → 1 ≤ (end_of w (other x)).announced → Burst w x number r → Copies w x number last → number + j + k ≤ last → n ≤ number → HasTaken w x (r + j) → BurstComes n x r j k copy w l
+burst_comes : (k n : ℕ) (x : Side) (number r j last copy : ℕ) (w : Machine) (l : LabView) → copy ≡ number + j → Ties w l
+    → (end_of w (other x)).phase ≡ Open → 1 ≤ (end_of w (other x)).announced → Burst w x number r
+    → Copies w x number last → number + j + k ≤ last → n ≤ number → HasTaken w x (r + j) → BurstComes n x r j k copy w l
 burst_comes zero n x number r j last copy w l is t at some burst all within from taken =
     record { machine = w; plays = plays_none n w l t; read = subst (HasTaken w x) (let same : r + j ≡ r + j + 0 = omega arith in same) taken }
 burst_comes (suc k) n x number r j last copy w l is t at some burst all within from taken =
     let y : Side = other x in
-    let g : NextComes n x w l copy (r + j) = subst (λ q. NextComes n x w l q (r + j)) (sym is) (next_comes n x number r j last w l t at some burst all (omega (arith, within)) from taken) in
+    let g : NextComes n x w l copy (r + j) =
+    subst (λ q. NextComes n x w l q (r + j)) (sym is)
+    (next_comes n x number r j last w l t at some burst all (omega (arith, within)) from taken) in
     let v : Machine = g.comes.machine in
     let es : List Happening = DeliverCopy copy ∷ reading y (happen l (DeliverCopy copy)).lab in
     let m : LabView = after_all l es in
     let keeps = g.comes.plays.keeps in
-    let rest = burst_comes k n x number r (suc j) last (copy + 1) v m (omega (arith, is)) g.comes.plays.ties ((keeps.ends y).opened at) ((keeps.ends y).announces some)
+    let rest =
+    burst_comes k n x number r (suc j) last (copy + 1) v m (omega (arith, is)) g.comes.plays.ties
+    ((keeps.ends y).opened at) ((keeps.ends y).announces some)
     (burst_keeps w v x number r keeps burst) (copies_keep w v x number last keeps all) (omega (arith, within)) from
     (subst (HasTaken v x) (let next : suc (r + j) ≡ r + suc j = omega arith in next) g.read) in
     record {
@@ -390,10 +458,13 @@ abbrev pub IsDone : Machine → Side → Type 0
 IsDone w x = length (end_of w x).written ≤ (end_of w x).acknowledged
 
 pub done_keeps : (w v : Machine) (x : Side) → Keeps w v → IsDone w x → IsDone v x
-done_keeps w v x k h = let same : length (end_of v x).written ≡ length (end_of w x).written = ap length (k.ends x).written in omega (arith, same, h, (k.ends x).acknowledged)
+done_keeps w v x k h =
+    let same : length (end_of v x).written
+    ≡ length (end_of w x).written = ap length (k.ends x).written in omega (arith, same, h, (k.ends x).acknowledged)
 
 -- what arrived without a gap reaches no further than the window
-arrived_near : (e p : Plain) (r : ℕ) → Sound e p → ((i : ℕ) → i < r → contains p.arrived i ≡ true) → r ≤ length p.read + p.recv_cap
+arrived_near : (e p : Plain) (r : ℕ) → Sound e p → ((i : ℕ) → i < r → contains p.arrived i ≡ true)
+    → r ≤ length p.read + p.recv_cap
 arrived_near e p zero d here = omega arith
 arrived_near e p (suc r) d here = let last = d.inside r (here r (omega arith)) in omega (arith, last)
 
@@ -403,7 +474,9 @@ pub record TakesIn (n : ℕ) (x : Side) (first last : ℕ) (w : Machine) (l : La
   pub plays : Plays n w l (taking_in (other x) first last l) machine
   pub read : length (end_of machine x).written ≤ length (end_of machine (other x)).read
 
-pub takes_in : (n : ℕ) (x : Side) (first last r : ℕ) (w : Machine) (l : LabView) → Ties w l → AreOpen w → 1 ≤ (end_of w (other x)).announced → Burst w x first r → Copies w x first last → first ≤ last → length (end_of w x).written ≤ r + (last - first) → n ≤ first → TakesIn n x first last w l
+pub takes_in : (n : ℕ) (x : Side) (first last r : ℕ) (w : Machine) (l : LabView) → Ties w l → AreOpen w
+    → 1 ≤ (end_of w (other x)).announced → Burst w x first r → Copies w x first last → first ≤ last
+    → length (end_of w x).written ≤ r + (last - first) → n ≤ first → TakesIn n x first last w l
 takes_in n x first last r w l t opens some burst all upto enough from =
     let y : Side = other x in
     let count : ℕ = last - first in
@@ -420,8 +493,11 @@ takes_in n x first last r w l t opens some burst all upto enough from =
     omega (arith, q, cap, far))
     a.read in
     let m : LabView = after_all l (reading_on y times l) in
-    let b = burst_comes count n x first r 0 last first u m (omega arith) a.plays.ties ((ku.ends y).opened (opens y)) ((ku.ends y).announces some)
-    (burst_keeps w u x first r ku burst) (copies_keep w u x first last ku all) (omega (arith, upto)) from (inr (omega (arith, read))) in
+    let b =
+    burst_comes count n x first r 0 last first u m (omega arith) a.plays.ties ((ku.ends y).opened (opens y))
+    ((ku.ends y).announces some)
+    (burst_keeps w u x first r ku burst) (copies_keep w u x first last ku all) (omega (arith, upto)) from
+    (inr (omega (arith, read))) in
     let v : Machine = b.machine in
     record {
       machine = v;
@@ -440,14 +516,18 @@ pub record Takes (n : ℕ) (x : Side) (first last : ℕ) (w : Machine) (l : LabV
   pub plays : Plays n w l (taking (other x) first last l) machine
   pub done : IsDone machine x
 
-taking_is : (y : Side) (first last : ℕ) (l : LabView) → taking_in y first last l ++ telling y (after_all l (taking_in y first last l)) ≡ taking y first last l
+taking_is : (y : Side) (first last : ℕ) (l : LabView)
+    → taking_in y first last l ++ telling y (after_all l (taking_in y first last l)) ≡ taking y first last l
 taking_is y first last l =
     let read : List Happening = reading_on y (lab_end l y).conn.config.recv_cap l in
     let m : LabView = after_all l read in
     let come : List Happening = coming y first (last - first) m in
-    ap (λ (k : LabView). (read ++ come) ++ telling y k) (after_both l read come) ∙ append_assoc read come (telling y (after_all m come))
+    ap (λ (k : LabView). (read ++ come) ++ telling y k) (after_both l read come)
+    ∙ append_assoc read come (telling y (after_all m come))
 
-pub takes : (n : ℕ) (x : Side) (first last r : ℕ) (w : Machine) (l : LabView) → Ties w l → AreOpen w → 1 ≤ (end_of w (other x)).announced → Burst w x first r → Copies w x first last → first ≤ last → length (end_of w x).written ≤ r + (last - first) → n ≤ first → n ≤ length l.copies → Takes n x first last w l
+pub takes : (n : ℕ) (x : Side) (first last r : ℕ) (w : Machine) (l : LabView) → Ties w l → AreOpen w
+    → 1 ≤ (end_of w (other x)).announced → Burst w x first r → Copies w x first last → first ≤ last
+    → length (end_of w x).written ≤ r + (last - first) → n ≤ first → n ≤ length l.copies → Takes n x first last w l
 takes n x first last r w l t opens some burst all upto enough from long =
     let y : Side = other x in
     let a = takes_in n x first last r w l t opens some burst all upto enough from in
@@ -456,11 +536,15 @@ takes n x first last r w l t opens some burst all upto enough from long =
     let q : LabView = after_all l es in
     let there : length l.copies ≡ length w.copies = same_count w l t in
     let here : length q.copies ≡ length v.copies = same_count v q a.plays.ties in
-    let c = told_by n x v q a.plays.ties (stay_open w v a.plays.keeps opens) (omega (arith, there, here, a.plays.keeps.count, long)) in
+    let c =
+    told_by n x v q a.plays.ties (stay_open w v a.plays.keeps opens)
+    (omega (arith, there, here, a.plays.keeps.count, long)) in
     let z : Machine = c.machine in
     let same : length (end_of z x).written ≡ length (end_of v x).written = ap length (c.plays.keeps.ends x).written in
     record {
       machine = z;
-      plays = subst (λ es. Plays n w l es z) (taking_is y first last l) (plays_both n w v z l es (telling y q) a.plays c.plays);
+      plays =
+          subst (λ es. Plays n w l es z) (taking_is y first last l)
+          (plays_both n w v z l es (telling y q) a.plays c.plays);
       done = omega (arith, a.read, same, c.heard);
     }

@@ -38,7 +38,8 @@ shut_rfc v p now =
     cond_both (not (is_index v.peer_index p.src_index)) _ _ Shut (λ _. tt) (λ _.
     cond_both (not (p.num == v.request)) _ _ Shut (λ _. tt) (λ _. shut_request v.state (heard_at v now))))
 
-shut_asking : (v : ConnView) (p : PacketView) (now : ℕ) (kind : Kind) → (kind ≡ k.Opn → ⊥) → Shut (deliver_asking v p now kind)
+shut_asking : (v : ConnView) (p : PacketView) (now : ℕ) (kind : Kind) → (kind ≡ k.Opn → ⊥)
+    → Shut (deliver_asking v p now kind)
 shut_asking v p now k.Opn h = absurd (h refl)
 shut_asking v p now k.Ans h = tt
 shut_asking v p now k.Fwd h = tt
@@ -65,8 +66,11 @@ shut_sts v p now None = tt
 shut_sts v p now (Some told) = tt
 
 shut_open : (v : ConnView) (p : PacketView) (now : ℕ) (kind : Kind) → Shut (deliver_open v p now kind)
-shut_open v p now k.Data = shut_arrived (heard_with_ack v p now) (arrival_of (heard_with_ack v p now).recv p.num) p.num (item_of p)
-shut_open v p now k.Eof = shut_arrived (heard_with_ack v p now) (arrival_of (heard_with_ack v p now).recv p.num) p.num (record { op = p.op; body = [] })
+shut_open v p now k.Data =
+    shut_arrived (heard_with_ack v p now) (arrival_of (heard_with_ack v p now).recv p.num) p.num (item_of p)
+shut_open v p now k.Eof =
+    shut_arrived (heard_with_ack v p now) (arrival_of (heard_with_ack v p now).recv p.num) p.num
+    (record { op = p.op; body = [] })
 shut_open v p now k.Opn = shut_opn v p now (status_of p)
 shut_open v p now k.Sns = tt
 shut_open v p now k.Sts = shut_sts v p now (status_of p)
@@ -75,13 +79,15 @@ shut_open v p now k.Cls = tt
 shut_open v p now k.Los = tt
 shut_open v p now _ = tt
 
-shut_in : (s : State) (v : ConnView) (p : PacketView) (now : ℕ) → (s ≡ st.RfcSent → kind_of p.op ≡ k.Opn → ⊥) → Shut (deliver_in s v p now)
+shut_in : (s : State) (v : ConnView) (p : PacketView) (now : ℕ) → (s ≡ st.RfcSent → kind_of p.op ≡ k.Opn → ⊥)
+    → Shut (deliver_in s v p now)
 shut_in st.RfcSent v p now h = shut_asking v p now (kind_of p.op) (h refl)
 shut_in st.RfcReceived v p now h = shut_requested v p now (kind_of p.op)
 shut_in st.Open v p now h = shut_open v p now (kind_of p.op)
 shut_in _ v p now h = tt
 
-pub not_opened : (v : ConnView) (p : PacketView) (now : ℕ) → (v.state ≡ st.RfcSent → kind_of p.op ≡ k.Opn → ⊥) → NotOpened (act_deliver v p now).answer
+pub not_opened : (v : ConnView) (p : PacketView) (now : ℕ) → (v.state ≡ st.RfcSent → kind_of p.op ≡ k.Opn → ⊥)
+    → NotOpened (act_deliver v p now).answer
 not_opened v p now h =
     cond_both (not (is_live v.state)) _ _ Shut (λ _. tt) (λ _.
     cond_both (not (is_between_hosts v p)) _ _ Shut (λ _. tt) (λ _.
@@ -89,6 +95,7 @@ not_opened v p now h =
     cond_both (not (is_between_indices v p)) _ _ Shut (λ _. tt) (λ _. shut_in v.state v p now h))))
 
 -- and then nothing was read
-pub nothing_opened : (d : Delivered) (p : PacketView) (items : List ItemView) → NotOpened d → with_opened d p items ≡ items
+pub nothing_opened : (d : Delivered) (p : PacketView) (items : List ItemView) → NotOpened d
+    → with_opened d p items ≡ items
 nothing_opened de.Opened p items h = absurd h
 nothing_opened _ p items h = refl

@@ -35,7 +35,9 @@ record Stays (t : ℕ) (l m : LabView) : Type 0 where
   last : (y : Side) → (conn_at m y).last ≤ t
   clock : m.clock ≤ t
 
-stays_on : (t : ℕ) (l m : LabView) (x : Side) (call : Call) → Stays t l m → (act (conn_at m x) call).view.config ≡ (conn_at m x).config → (act (conn_at m x) call).view.last ≤ t → clock_after m.clock call ≤ t → Stays t l (after_call m x call)
+stays_on : (t : ℕ) (l m : LabView) (x : Side) (call : Call) → Stays t l m
+    → (act (conn_at m x) call).view.config ≡ (conn_at m x).config → (act (conn_at m x) call).view.last ≤ t
+    → clock_after m.clock call ≤ t → Stays t l (after_call m x call)
 stays_on t l m A call s config last clock = record { config = configs; last = lasts; clock = clock }
   where
     configs : (y : Side) → (conn_at (after_call m A call) y).config ≡ (conn_at l y).config
@@ -75,7 +77,10 @@ record Goes (most : ℕ) (l : LabView) (events : List Happening) : Type 0 where
   stays : (t : ℕ) (first : LabView) → most ≤ t → Stays t first l → Stays t first (after_all l events)
 
 -- the OPN comes to A, and the STS to B
-meets : (w : Machine) (l : LabView) (n k : ℕ) → Ties w l → l.a.conn.state ≡ st.RfcSent → l.b.conn.state ≡ st.Open → OpnAt w n → k ≡ length l.copies → Goes 0 l (DeliverCopy n ∷ DeliverCopy k ∷ []) × ((after_all l (DeliverCopy n ∷ DeliverCopy k ∷ [])).b.written ≡ l.b.written)
+meets : (w : Machine) (l : LabView) (n k : ℕ) → Ties w l → l.a.conn.state ≡ st.RfcSent → l.b.conn.state ≡ st.Open
+    → OpnAt w n → k ≡ length l.copies
+    → Goes 0 l (DeliverCopy n ∷ DeliverCopy k ∷ [])
+    × ((after_all l (DeliverCopy n ∷ DeliverCopy k ∷ [])).b.written ≡ l.b.written)
 meets w l n k t asks accepted opn is =
     let o = meet_event w l n t asks opn in
     let v : Machine = o.machine in
@@ -86,7 +91,8 @@ meets w l n k t asks accepted opn is =
     let h = hears_at A v m k (length v.a.read) o.status.0 v.a.announced o.copy o.ties at o.kind o.status.1 b in
     let z : Machine = h.machine in
     let r : LabView = (happen m (DeliverCopy k)).lab in
-    let written : (y : Side) → (lab_end r y).written ≡ (lab_end m y).written = λ y. written_at y z r h.ties ∙ (h.keeps.ends y).written ∙ sym (written_at y v m o.ties) in (
+    let written : (y : Side) → (lab_end r y).written ≡ (lab_end m y).written =
+    λ y. written_at y z r h.ties ∙ (h.keeps.ends y).written ∙ sym (written_at y v m o.ties) in (
       record {
         machine = z;
         ties = h.ties;
@@ -97,7 +103,8 @@ meets w l n k t asks accepted opn is =
         stays = λ t first _ s.
             let last : (act l.a.conn call).view.last ≡ max l.a.conn.last l.clock = ap (λ a. a.view.last) o.acts in
             let one : Stays t first m = subst (Stays t first) (sym o.lab)
-            (stays_on t first l A call s (ap (λ a. a.view.config) o.acts) (let before = s.last A in omega (arith, last, before, s.clock)) s.clock) in
+            (stays_on t first l A call s (ap (λ a. a.view.config) o.acts)
+            (let before = s.last A in omega (arith, last, before, s.clock)) s.clock) in
             heard t first m r one h.own.config h.own.last h.peers h.clock;
       },
       written B ∙ ap (λ (u : LabView). u.b.written) o.lab,
@@ -107,19 +114,25 @@ meets w l n k t asks accepted opn is =
     both v a b A = a
     both v a b B = b
 
-    knows : (v z : Machine) → 1 ≤ v.a.acknowledged → v.a.acknowledged ≤ z.a.acknowledged → (r : ℕ) → 1 ≤ r → r ≤ z.b.acknowledged → (x : Side) → 1 ≤ (end_of z x).acknowledged
+    knows : (v z : Machine) → 1 ≤ v.a.acknowledged → v.a.acknowledged ≤ z.a.acknowledged → (r : ℕ) → 1 ≤ r
+        → r ≤ z.b.acknowledged → (x : Side) → 1 ≤ (end_of z x).acknowledged
     knows v z a more r some b A = omega (arith, a, more)
     knows v z a more r some b B = omega (arith, some, b)
 
-    heard : (t : ℕ) (first m r : LabView) → Stays t first m → r.b.conn.config ≡ m.b.conn.config → r.b.conn.last ≡ max m.b.conn.last m.clock → r.a.conn ≡ m.a.conn → r.clock ≡ m.clock → Stays t first r
-    heard t first m r s config last peer clock = record { config = configs; last = lasts; clock = omega (arith, clock, s.clock) }
+    heard : (t : ℕ) (first m r : LabView) → Stays t first m → r.b.conn.config ≡ m.b.conn.config
+        → r.b.conn.last ≡ max m.b.conn.last m.clock → r.a.conn ≡ m.a.conn → r.clock ≡ m.clock → Stays t first r
+    heard t first m r s config last peer clock =
+        record { config = configs; last = lasts; clock = omega (arith, clock, s.clock) }
       where
         configs : (y : Side) → (conn_at r y).config ≡ (conn_at first y).config
         configs A = ap (λ (u : ConnView). u.config) peer ∙ s.config A
         configs B = config ∙ s.config B
 
         lasts : (y : Side) → (conn_at r y).last ≤ t
-        lasts A = let same : r.a.conn.last ≡ m.a.conn.last = ap (λ (u : ConnView). u.last) peer in let before = s.last A in omega (arith, same, before)
+        lasts A =
+            let same : r.a.conn.last
+            ≡ m.a.conn.last = ap (λ (u : ConnView). u.last) peer in let before = s.last A in omega
+            (arith, same, before)
         lasts B = let before = s.last B in omega (arith, last, before, s.clock)
 
 -- ---- B holds the request
@@ -127,7 +140,9 @@ meets w l n k t asks accepted opn is =
 wrote : (before after : List ItemView) → WroteOpn before after → WritesOpn before after
 wrote before after h = inr (h.nothing, (h.opn, h.one, h.op))
 
-accepts : (w : Machine) (l : LabView) (start : ℕ) → Ties w l → l.a.conn.state ≡ st.RfcSent → l.b.conn.state ≡ st.RfcReceived → Goes 0 l (accepting start l) × WritesOpn l.b.written (after_all l (accepting start l)).b.written
+accepts : (w : Machine) (l : LabView) (start : ℕ) → Ties w l → l.a.conn.state ≡ st.RfcSent
+    → l.b.conn.state ≡ st.RfcReceived
+    → Goes 0 l (accepting start l) × WritesOpn l.b.written (after_all l (accepting start l)).b.written
 accepts w l start t asks holds =
     let a = accept_event w l start t holds in
     let call : Call = Accept start l.clock in
@@ -138,7 +153,9 @@ accepts w l start t asks holds =
     let g = meets a.machine m n (n + 1) a.ties (ap (λ (u : LabView). u.a.conn.state) a.lab ∙ asks) opens a.opn count in
     let last : (act l.b.conn call).view.last ≡ max l.b.conn.last l.clock = ap (λ d. d.view.last) a.acts in
     let config : (act l.b.conn call).view.config ≡ l.b.conn.config = ap (λ d. d.view.config) a.acts in
-    let after : WritesOpn l.b.written m.b.written = subst (λ (u : LabView). WritesOpn l.b.written u.b.written) (sym a.lab) (wrote l.b.written (after_call l B call).b.written a.wrote) in (
+    let after : WritesOpn l.b.written m.b.written =
+    subst (λ (u : LabView). WritesOpn l.b.written u.b.written) (sym a.lab)
+    (wrote l.b.written (after_call l B call).b.written a.wrote) in (
       record {
         machine = g.0.machine;
         ties = g.0.ties;
@@ -147,14 +164,19 @@ accepts w l start t asks holds =
         knows = g.0.knows;
         asker = g.0.asker ∙ ap (λ (u : LabView). u.a.written) a.lab;
         stays = λ t first some s. g.0.stays t first some
-            (subst (Stays t first) (sym a.lab) (stays_on t first l B call s config (let was = s.last B in omega (arith, last, was, s.clock)) s.clock));
+            (subst (Stays t first) (sym a.lab)
+            (stays_on t first l B call s config (let was = s.last B in omega (arith, last, was, s.clock)) s.clock));
       },
       subst (WritesOpn l.b.written) (sym g.1) after,
     )
 
 -- ---- B took no request yet
 
-asks_anew : (w : Machine) (l : LabView) (start : ℕ) → Ties w l → l.a.conn.state ≡ st.RfcSent → l.asked ≡ false → IsConn l.a.conn → SendsInTime l.a.conn → Goes (again_moment l.a.conn) l (asking l ++ accepting start (after_all l (asking l))) × WritesOpn l.b.written (after_all l (asking l ++ accepting start (after_all l (asking l)))).b.written × (length l.copies ≤ length (after_all l (asking l)).copies)
+asks_anew : (w : Machine) (l : LabView) (start : ℕ) → Ties w l → l.a.conn.state ≡ st.RfcSent → l.asked ≡ false
+    → IsConn l.a.conn → SendsInTime l.a.conn
+    → Goes (again_moment l.a.conn) l (asking l ++ accepting start (after_all l (asking l)))
+    × WritesOpn l.b.written (after_all l (asking l ++ accepting start (after_all l (asking l)))).b.written
+    × (length l.copies ≤ length (after_all l (asking l)).copies)
 asks_anew w l start t asks unasked conn time =
     let a = ask_event w l t asks unasked conn time in
     let tick : Call = Tick (again_moment l.a.conn) in
@@ -164,13 +186,15 @@ asks_anew w l start t asks unasked conn time =
     let take : Call = TakeRequest b.packet (place_of B) l1.clock in
     let l2 : LabView = (happen l1 (DeliverCopy n)).lab in
     let still : l1.a.conn.state ≡ st.RfcSent = ap (λ d. d.view.state) a.acts ∙ asks in
-    let holds : l2.b.conn.state ≡ st.RfcReceived = ap (λ (u : LabView). u.b.conn.state) b.lab ∙ ap (λ d. d.view.state) b.acts in
+    let holds : l2.b.conn.state ≡ st.RfcReceived =
+    ap (λ (u : LabView). u.b.conn.state) b.lab ∙ ap (λ d. d.view.state) b.acts in
     let g = accepts b.machine l2 start b.ties (ap (λ (u : LabView). u.a.conn.state) b.lab ∙ still) holds in
     let same : l2.b.written ≡ l.b.written = ap (λ (u : LabView). u.b.written) b.lab in
     let more : length l2.copies ≡ length (after_call l1 B take).copies = ap (λ (u : LabView). length u.copies) b.lab in
     let one = more_copies A l tick in
     let two = more_copies B l1 take in
-    let ticked : (act l.a.conn tick).view.last ≡ max l.a.conn.last (again_moment l.a.conn) = ap (λ d. d.view.last) a.acts in
+    let ticked : (act l.a.conn tick).view.last ≡ max l.a.conn.last (again_moment l.a.conn) =
+    ap (λ d. d.view.last) a.acts in
     let taken : (act l1.b.conn take).view.last ≡ max l1.b.conn.last l1.clock = ap (λ d. d.view.last) b.acts in (
       record {
         machine = g.0.machine;
@@ -180,8 +204,11 @@ asks_anew w l start t asks unasked conn time =
         knows = g.0.knows;
         asker = g.0.asker ∙ ap (λ (u : LabView). u.a.written) b.lab;
         stays = λ t first most s. g.0.stays t first (omega arith)
-            (let s1 : Stays t first l1 = stays_on t first l A tick s (ap (λ d. d.view.config) a.acts) (let was = s.last A in omega (arith, ticked, was, most)) (omega (arith, s.clock, most)) in
-            (subst (Stays t first) (sym b.lab) (stays_on t first l1 B take s1 (ap (λ d. d.view.config) b.acts) (let was = s1.last B in omega (arith, taken, was, s1.clock)) s1.clock)));
+            (let s1 : Stays t first l1 = stays_on t first l A tick s (ap (λ d. d.view.config) a.acts)
+            (let was = s.last A in omega (arith, ticked, was, most)) (omega (arith, s.clock, most)) in
+            (subst (Stays t first) (sym b.lab)
+            (stays_on t first l1 B take s1 (ap (λ d. d.view.config) b.acts)
+            (let was = s1.last B in omega (arith, taken, was, s1.clock)) s1.clock)));
       },
       subst (λ ws. WritesOpn ws (after_all l2 (accepting start l2)).b.written) same g.1,
       omega (arith, more, one, two),
@@ -189,15 +216,20 @@ asks_anew w l start t asks unasked conn time =
 
 -- ---- B is open, and its OPN was lost
 
-repeats : (w : Machine) (l : LabView) → Ties w l → l.a.conn.state ≡ st.RfcSent → l.b.conn.state ≡ st.Open → IsConn l.b.conn → SendsInTime l.b.conn → Goes (again_moment l.b.conn) l (repeating l) × ((after_all l (repeating l)).b.written ≡ l.b.written)
+repeats : (w : Machine) (l : LabView) → Ties w l → l.a.conn.state ≡ st.RfcSent → l.b.conn.state ≡ st.Open
+    → IsConn l.b.conn → SendsInTime l.b.conn
+    → Goes (again_moment l.b.conn) l (repeating l) × ((after_all l (repeating l)).b.written ≡ l.b.written)
 repeats w l t asks accepted conn time =
     let at : w.a.phase ≡ RfcSent = asked_at A w l t asks in
     let none = (fits_at A w.a RfcSent (end_holds w A (reached_holds w t.tied.reached)).ok at).1 in
     let a = repeat_event w l t accepted none conn time in
     let tick : Call = Tick (again_moment l.b.conn) in
     let l1 : LabView = after_call l B tick in
-    let g = meets a.machine l1 (length l.copies) (length l1.copies) a.ties asks (ap (λ d. d.view.state) a.acts ∙ accepted) a.opn refl in
-    let ticked : (act l.b.conn tick).view.last ≡ max l.b.conn.last (again_moment l.b.conn) = ap (λ d. d.view.last) a.acts in (
+    let g =
+    meets a.machine l1 (length l.copies) (length l1.copies) a.ties asks (ap (λ d. d.view.state) a.acts ∙ accepted)
+    a.opn refl in
+    let ticked : (act l.b.conn tick).view.last ≡ max l.b.conn.last (again_moment l.b.conn) =
+    ap (λ d. d.view.last) a.acts in (
       record {
         machine = g.0.machine;
         ties = g.0.ties;
@@ -206,31 +238,36 @@ repeats w l t asks accepted conn time =
         knows = g.0.knows;
         asker = g.0.asker;
         stays = λ t first most s. g.0.stays t first (omega arith)
-            (stays_on t first l B tick s (ap (λ d. d.view.config) a.acts) (let was = s.last B in omega (arith, ticked, was, most)) (omega (arith, s.clock, most)));
+            (stays_on t first l B tick s (ap (λ d. d.view.config) a.acts)
+            (let was = s.last B in omega (arith, ticked, was, most)) (omega (arith, s.clock, most)));
       },
       g.1,
     )
 
 -- ---- what comes of it
 
-kept_less : (l : LabView) (events : List Happening) (most : ℕ) → Goes most l events → (x : Side) → length (lab_end (after_all l events) x).conn.send.kept < length (lab_end (after_all l events) x).written
+kept_less : (l : LabView) (events : List Happening) (most : ℕ) → Goes most l events → (x : Side)
+    → length (lab_end (after_all l events) x).conn.send.kept < length (lab_end (after_all l events) x).written
 kept_less l events most g x =
     let m : LabView = after_all l events in
     let e : Plain = end_of g.machine x in
     let view = shows x g.machine m g.ties (g.opens x) in
     let d = (end_holds g.machine x (reached_holds g.machine g.ties.tied.reached)).writer in
-    let kept : length (conn_at m x).send.kept ≡ length (drop e.receipted e.written) = ap (λ (k : ConnView). length k.send.kept) view.is in
+    let kept : length (conn_at m x).send.kept ≡ length (drop e.receipted e.written) =
+    ap (λ (k : ConnView). length k.send.kept) view.is in
     let left = length-drop e.receipted e.written in
     let met = open_wrote x g.machine g.ties (g.opens x) in
     let same : length (lab_end m x).written ≡ length e.written = ap length (written_at x g.machine m g.ties) in
     let knows = g.knows x in
     omega (arith, kept, left, same, met, knows, d.in_order)
   where
-    open_wrote : (x : Side) (v : Machine) → Ties v (after_all l events) → (end_of v x).phase ≡ Open → 1 ≤ length (end_of v x).written
+    open_wrote : (x : Side) (v : Machine) → Ties v (after_all l events) → (end_of v x).phase ≡ Open
+        → 1 ≤ length (end_of v x).written
     open_wrote A v t at = (open_met v A t.tied.reached at).0
     open_wrote B v t at = (open_met v B t.tied.reached at).0
 
-opens_by : (l : LabView) (events : List Happening) (most : ℕ) → Goes most l events → length events ≤ 5 → AreOpeningHelp (length l.copies) events → WritesOpn l.b.written (after_all l events).b.written → Opens l events
+opens_by : (l : LabView) (events : List Happening) (most : ℕ) → Goes most l events → length events ≤ 5
+    → AreOpeningHelp (length l.copies) events → WritesOpn l.b.written (after_all l events).b.written → Opens l events
 opens_by l events most g few help accepter =
     record {
       few = few;
@@ -256,7 +293,8 @@ first_stays l = record { config = λ y. refl; last = lasts; clock = omega arith 
     lasts A = omega arith
     lasts B = omega arith
 
-opens_well : (l : LabView) (start : ℕ) → HasMachine l → ((x : Side) → IsConn (lab_end l x).conn) → CanOpen l → OpensWell l (opening start l)
+opens_well : (l : LabView) (start : ℕ) → HasMachine l → ((x : Side) → IsConn (lab_end l x).conn) → CanOpen l
+    → OpensWell l (opening start l)
 opens_well l start h conns can = ⊎_elim anew (λ r. ⊎_elim held stalled r) can.meets
   where
     in_state : (s : State) → l.b.conn.state ≡ s → OpensWell l (opening_in s start l) → OpensWell l (opening start l)
@@ -267,7 +305,9 @@ opens_well l start h conns can = ⊎_elim anew (λ r. ⊎_elim held stalled r) c
         let g = asks_anew h.plain l start h.ties can.asks c.0 (conns A) c.1 in
         in_state st.Inactive (inactive h.plain l h.ties (h.ties.asked.new c.0))
         (record {
-          opens = opens_by l (opening_in st.Inactive start l) (again_moment l.a.conn) g.0 (omega arith) (tt, (omega arith, (tt, (g.2, (omega (arith, g.2), tt))))) g.1;
+          opens =
+              opens_by l (opening_in st.Inactive start l) (again_moment l.a.conn) g.0 (omega arith)
+              (tt, (omega arith, (tt, (g.2, (omega (arith, g.2), tt))))) g.1;
           stays = g.0.stays (opening_moment l) l (omega arith) (first_stays l);
         })
 
@@ -286,15 +326,19 @@ opens_well l start h conns can = ⊎_elim anew (λ r. ⊎_elim held stalled r) c
         let more = more_copies B l (Tick (again_moment l.b.conn)) in
         in_state st.Open c.0
         (record {
-          opens = opens_by l (repeating l) (again_moment l.b.conn) g.0 (omega arith) (tt, (omega arith, (more, tt))) (inl g.1);
+          opens =
+              opens_by l (repeating l) (again_moment l.b.conn) g.0 (omega arith) (tt, (omega arith, (more, tt)))
+              (inl g.1);
           stays = g.0.stays (opening_moment l) l (omega arith) (first_stays l);
         })
 
-pub opens : (l : LabView) → HasMachine l → ((x : Side) → IsConn (lab_end l x).conn) → (start : ℕ) → CanOpen l → Opens l (opening start l)
+pub opens : (l : LabView) → HasMachine l → ((x : Side) → IsConn (lab_end l x).conn) → (start : ℕ) → CanOpen l
+    → Opens l (opening start l)
 opens l h conns start can = (opens_well l start h conns can).opens
 
 -- and then the ends can settle
-pub settles_then : (l : LabView) → HasMachine l → ((x : Side) → IsConn (lab_end l x).conn) → (start : ℕ) → CanOpen l → HasTimeToSettle l → CanSettle (after_all l (opening start l))
+pub settles_then : (l : LabView) → HasMachine l → ((x : Side) → IsConn (lab_end l x).conn) → (start : ℕ) → CanOpen l
+    → HasTimeToSettle l → CanSettle (after_all l (opening start l))
 settles_then l h conns start can more =
     let g = opens_well l start h conns can in
     let m : LabView = after_all l (opening start l) in

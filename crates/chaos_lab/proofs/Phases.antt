@@ -17,9 +17,11 @@ new_asked m r is =
     let new : IsNew B m.b.written m.b.read = (fits_at B m.b RfcReceived (reached_holds m r).b is).0 in
     (nil_from_length m.b.written new.1, nil_from_length m.b.read new.0)
 
-swapped : (m : Machine) (x : Side) → HasMet (writer m x).written (writer m x).read → (1 ≤ length (writer m x).written) × (1 ≤ length (writer m x).read)
+swapped : (m : Machine) (x : Side) → HasMet (writer m x).written (writer m x).read
+    → (1 ≤ length (writer m x).written) × (1 ≤ length (writer m x).read)
 swapped m x met = (met.1, met.0)
 
-pub open_met : (m : Machine) (x : Side) → Reached m → (writer m x).phase ≡ Open → (1 ≤ length (writer m x).written) × (1 ≤ length (writer m x).read)
+pub open_met : (m : Machine) (x : Side) → Reached m → (writer m x).phase ≡ Open
+    → (1 ≤ length (writer m x).written) × (1 ≤ length (writer m x).read)
 open_met m A r is = swapped m A (fits_at A m.a Open (reached_holds m r).a is)
 open_met m B r is = swapped m B (fits_at B m.b Open (reached_holds m r).b is)

@@ -22,17 +22,20 @@ help_both : (n : ℕ) (es fs : List Happening) → AreHelp n es → AreHelp n fs
 help_both n [] fs h k = k
 help_both n (event ∷ es) fs h k = (h.0, help_both n es fs h.1 k)
 
-taken_both : (l : LabView) (es fs : List Happening) → AreTaken l es → AreTaken (after_all l es) fs → AreTaken l (es ++ fs)
+taken_both : (l : LabView) (es fs : List Happening) → AreTaken l es → AreTaken (after_all l es) fs
+    → AreTaken l (es ++ fs)
 taken_both l [] fs h k = k
 taken_both l (event ∷ es) fs h k = (h.0, taken_both (happen l event).lab es fs h.1 k)
 
 pub plays_none : (n : ℕ) (w : Machine) (l : LabView) → Ties w l → Plays n w l [] w
 plays_none n w l t = record { ties = t; keeps = keeps_same w; help = tt; taken = tt }
 
-pub plays_one : (n : ℕ) (w v : Machine) (l : LabView) (event : Happening) → IsHelp n event → IsTaken l event → Ties v (happen l event).lab → Keeps w v → Plays n w l (event ∷ []) v
+pub plays_one : (n : ℕ) (w v : Machine) (l : LabView) (event : Happening) → IsHelp n event → IsTaken l event
+    → Ties v (happen l event).lab → Keeps w v → Plays n w l (event ∷ []) v
 plays_one n w v l event help taken t k = record { ties = t; keeps = k; help = (help, tt); taken = (taken, tt) }
 
-pub plays_both : (n : ℕ) (u w v : Machine) (l : LabView) (es fs : List Happening) → Plays n u l es w → Plays n w (after_all l es) fs v → Plays n u l (es ++ fs) v
+pub plays_both : (n : ℕ) (u w v : Machine) (l : LabView) (es fs : List Happening) → Plays n u l es w
+    → Plays n w (after_all l es) fs v → Plays n u l (es ++ fs) v
 plays_both n u w v l es fs p q =
     record {
       ties = subst (Ties v) (sym (after_both l es fs)) q.ties;
@@ -41,5 +44,6 @@ plays_both n u w v l es fs p q =
       taken = taken_both l es fs p.taken q.taken;
     }
 
-pub plays_first : (n : ℕ) (u w v : Machine) (l : LabView) (event : Happening) (events : List Happening) → Plays n u l (event ∷ []) w → Plays n w (happen l event).lab events v → Plays n u l (event ∷ events) v
+pub plays_first : (n : ℕ) (u w v : Machine) (l : LabView) (event : Happening) (events : List Happening)
+    → Plays n u l (event ∷ []) w → Plays n w (happen l event).lab events v → Plays n u l (event ∷ events) v
 plays_first n u w v l event events p q = plays_both n u w v l (event ∷ []) events p q

@@ -39,7 +39,8 @@ write_stays item p e f r may = subst (λ (g : PlainEnd). CanRead g.phase) (sym r
 
 read_stays : (p e f : PlainEnd) → Read p e f → CanRead e.phase → CanRead f.phase
 read_stays p e f r may =
-    subst (λ (g : PlainEnd). CanRead g.phase) (sym r.2) (subst CanRead (sym (read_item_phase (slice_get p.written (length e.read)) e)) may)
+    subst (λ (g : PlainEnd). CanRead g.phase) (sym r.2)
+    (subst CanRead (sym (read_item_phase (slice_get p.written (length e.read)) e)) may)
 
 resize_stays : (window : ℕ) (p e f : PlainEnd) → Resize window p e f → CanRead f.phase
 resize_stays window p e f r = subst (λ (g : PlainEnd). CanRead g.phase) (sym r.2) (inl r.0)
@@ -51,7 +52,8 @@ end_stays : (p e f : PlainEnd) → End p e f → CanRead f.phase
 end_stays p e f r = subst (λ (g : PlainEnd). CanRead g.phase) (sym r.1) (inr refl)
 
 tick_stays : (p e f : PlainEnd) → Tick p e f → CanRead e.phase → CanRead f.phase
-tick_stays p e f r may = ⊎_elim (end_stays p e f) (λ (t : f ≡ e). subst (λ (g : PlainEnd). CanRead g.phase) (sym t) may) r
+tick_stays p e f r may =
+    ⊎_elim (end_stays p e f) (λ (t : f ≡ e). subst (λ (g : PlainEnd). CanRead g.phase) (sym t) may) r
 
 comes_stays : (c : Copy) (p e f : PlainEnd) → Comes c p e f → CanRead e.phase → CanRead f.phase
 comes_stays c p e f (inl r) may =
@@ -62,8 +64,10 @@ comes_stays c p e f (inr (inl r)) may =
     subst (λ (g : PlainEnd). CanRead g.phase) (sym r.2)
     (inl (hear_phase c.told (read_next p opened) ∙ read_item_phase (slice_get p.written (length e.read)) opened))
 comes_stays c p e f (inr (inr (inl r))) may =
-    subst (λ (g : PlainEnd). CanRead g.phase) (sym r.3) (inl (take_in_phase r.1 (hear c.told e) ∙ hear_phase c.told e ∙ r.0))
-comes_stays c p e f (inr (inr (inr (inl r)))) may = subst (λ (g : PlainEnd). CanRead g.phase) (sym r.2) (inl (hear_phase c.told e ∙ r.0))
+    subst (λ (g : PlainEnd). CanRead g.phase) (sym r.3)
+    (inl (take_in_phase r.1 (hear c.told e) ∙ hear_phase c.told e ∙ r.0))
+comes_stays c p e f (inr (inr (inr (inl r)))) may =
+    subst (λ (g : PlainEnd). CanRead g.phase) (sym r.2) (inl (hear_phase c.told e ∙ r.0))
 comes_stays c p e f (inr (inr (inr (inr r)))) may = end_stays p e f r.1
 
 -- a step at y changes the end at x only where they are the same
@@ -142,7 +146,8 @@ or_nothing_reads p e f d may (inr r) =
 
 -- the read of the end at y, with its peer p
 pub read_at_reads :
-    (m n : Machine) (y : Side) (p : PlainEnd) → end_of m (other y) ≡ p → Sound p (end_of m y) → CanRead (end_of m y).phase →
+    (m n : Machine) (y : Side) (p : PlainEnd) → end_of m (other y) ≡ p → Sound p (end_of m y)
+    → CanRead (end_of m y).phase →
     Step m (ReadAt y) n → ReadsNext p (end_of m y) (end_of n y)
 read_at_reads m n y p peer d may s =
     subst (ReadsNext p (end_of m y)) (sym (becomes_same m y s.0 n s.2))

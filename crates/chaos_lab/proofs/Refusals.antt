@@ -19,7 +19,8 @@ pub data Writes (v : ConnView) (item : ItemView) (acted : Acted (Result ℕ Conn
 
 write_item_cases : (v : ConnView) (item : ItemView) (t : ℕ) → Writes v item (write_item v item t)
 write_item_cases v item t =
-    cond_both (has_window v.send) (with_item (record v { last = t; untold = 0 }) item (Ok (next_of v.send))) (quietly v (Err fa.Full)) (Writes v item)
+    cond_both (has_window v.send) (with_item (record v { last = t; untold = 0 }) item (Ok (next_of v.send)))
+    (quietly v (Err fa.Full)) (Writes v item)
     (λ _. Sends (record v { last = t; untold = 0 }) refl)
     (λ _. Refuses fa.Full refl)
 
@@ -30,9 +31,12 @@ at_most_cases v (Some most) item t =
     (λ _. Refuses fa.TooLong refl)
     (λ _. write_item_cases v item t)
 
-pub write_cases : (v : ConnView) (op : ℕ) (bytes : List ℕ) (now : ℕ) → Writes v (record { op = op; body = bytes }) (act_write v op bytes now)
+pub write_cases : (v : ConnView) (op : ℕ) (bytes : List ℕ) (now : ℕ)
+    → Writes v (record { op = op; body = bytes }) (act_write v op bytes now)
 write_cases v op bytes now =
-    cond_both (is_open v.state) (write_at_most v (most_bytes (kind_of op)) (record { op = op; body = bytes }) (moment v now)) (quietly v (Err fa.NotOpen)) (Writes v (record { op = op; body = bytes }))
+    cond_both (is_open v.state)
+    (write_at_most v (most_bytes (kind_of op)) (record { op = op; body = bytes }) (moment v now))
+    (quietly v (Err fa.NotOpen)) (Writes v (record { op = op; body = bytes }))
     (λ _. at_most_cases v (most_bytes (kind_of op)) (record { op = op; body = bytes }) (moment v now))
     (λ _. Refuses fa.NotOpen refl)
 
@@ -41,9 +45,12 @@ pub record Same (v : ConnView) (acted : Acted (Result ℕ ConnFault)) : Type 0 w
   pub view : acted.view ≡ v
   pub packets : acted.packets ≡ []
 
-same_by : (v : ConnView) (item : ItemView) (acted : Acted (Result ℕ ConnFault)) (why : ConnFault) → Writes v item acted → acted.answer ≡ Err why → Same v acted
+same_by : (v : ConnView) (item : ItemView) (acted : Acted (Result ℕ ConnFault)) (why : ConnFault) → Writes v item acted
+    → acted.answer ≡ Err why → Same v acted
 same_by v item acted why (Refuses f is) h = record { view = λ i. (is i).view; packets = λ i. (is i).packets }
-same_by v item acted why (Sends u is) h = let no : Ok (next_of v.send) ≡ Err why = sym (ap (λ a. a.answer) is) ∙ h in absurd (cc)
+same_by v item acted why (Sends u is) h =
+    let no : Ok (next_of v.send) ≡ Err why = sym (ap (λ a. a.answer) is) ∙ h in absurd (cc)
 
-pub write_refused : (v : ConnView) (op : ℕ) (bytes : List ℕ) (now : ℕ) (why : ConnFault) → (act_write v op bytes now).answer ≡ Err why → Same v (act_write v op bytes now)
+pub write_refused : (v : ConnView) (op : ℕ) (bytes : List ℕ) (now : ℕ) (why : ConnFault)
+    → (act_write v op bytes now).answer ≡ Err why → Same v (act_write v op bytes now)
 write_refused v op bytes now why h = same_by v _ _ why (write_cases v op bytes now) h

@@ -20,7 +20,8 @@ pub or_nothing :
     (row : Row) (x : Side) (e p f : PlainEnd) → EndHolds x e p → (row p e f → EndStep x e p f) → OrNothing row p e f →
     EndStep x e p f
 or_nothing row x e p f h keeps r =
-    ⊎_elim keeps (λ (t : ((g : PlainEnd) → row p e g → ⊥) × (f ≡ e)). subst (EndStep x e p) (sym t.1) (step_same x e p h)) r
+    ⊎_elim keeps
+    (λ (t : ((g : PlainEnd) → row p e g → ⊥) × (f ≡ e)). subst (EndStep x e p) (sym t.1) (step_same x e p h)) r
 
 -- ---- the user's calls
 
@@ -48,8 +49,10 @@ fits_read x e item o may =
     let longer = length-one_more e.read item in
     let P : Phase → Type 0 = λ ph. Fits ph x e.written (e.read ++ item ∷ []) e.arrived in
     ⊎_elim
-    (λ (at : e.phase ≡ Open). let met : HasMet e.written e.read = fits_at x e Open o at in subst P (sym at) (omega arith, met.1))
-    (λ (at : e.phase ≡ Ended). subst P (sym at) (fits_ended_read x e.written e.read e.arrived item (fits_at x e Ended o at)))
+    (λ (at : e.phase ≡ Open). let met : HasMet e.written e.read = fits_at x e Open o at in subst P (sym at)
+    (omega arith, met.1))
+    (λ (at : e.phase ≡ Ended). subst P (sym at)
+    (fits_ended_read x e.written e.read e.arrived item (fits_at x e Ended o at)))
     may
 
 pub row_read : (x : Side) (e p f : PlainEnd) → EndHolds x e p → Read p e f → EndStep x e p f
@@ -82,7 +85,9 @@ row_accept opn B e p f h r =
           caps = h.ok.caps;
         };
       };
-      grows = let w = grows_written e opn in let s = grows_read e rfc.0 in grows_by e g w.written s.read (λ i t. t) refl refl;
+      grows =
+          let w = grows_written e opn in let s = grows_read e rfc.0 in grows_by e g w.written s.read (λ i t. t) refl
+          refl;
     }))
 
 pub row_resize : (window : ℕ) (x : Side) (e p f : PlainEnd) → EndHolds x e p → Resize window p e f → EndStep x e p f
@@ -103,12 +108,15 @@ fits_closed Closed x w r g asked h = h
 
 pub row_close : (x : Side) (e p f : PlainEnd) → EndHolds x e p → Close p e f → EndStep x e p f
 row_close x e p f h r =
-    subst (EndStep x e p) (sym r.1) (step_phase x e p Closed h (fits_closed e.phase x e.written e.read e.arrived r.0 h.ok.fits) (announced_fits x e h.ok))
+    subst (EndStep x e p) (sym r.1)
+    (step_phase x e p Closed h (fits_closed e.phase x e.written e.read e.arrived r.0 h.ok.fits)
+    (announced_fits x e h.ok))
 
 -- ---- time
 
 fits_ended :
-    (x : Side) (w r : List ItemView) (g : FinSet nat_cmp) → Fits RfcSent x w r g ⊎ Fits Open x w r g → Fits Ended x w r g
+    (x : Side) (w r : List ItemView) (g : FinSet nat_cmp) → Fits RfcSent x w r g ⊎ Fits Open x w r g
+    → Fits Ended x w r g
 fits_ended A w r g h = h
 fits_ended B w r g h = ⊎_elim (λ (t : ⊥). absurd t) (λ (t : HasMet w r). t) h
 
@@ -117,7 +125,8 @@ row_end x e p f h r =
     subst (EndStep x e p) (sym r.1)
     (step_phase x e p Ended h
     (fits_ended x e.written e.read e.arrived
-    (⊎_elim (λ (t : e.phase ≡ RfcSent). inl (fits_at x e RfcSent h.ok t)) (λ (t : e.phase ≡ Open). inr (fits_at x e Open h.ok t)) r.0))
+    (⊎_elim (λ (t : e.phase ≡ RfcSent). inl (fits_at x e RfcSent h.ok t))
+    (λ (t : e.phase ≡ Open). inr (fits_at x e Open h.ok t)) r.0))
     (announced_fits x e h.ok))
 
 pub row_tick : (x : Side) (e p f : PlainEnd) → EndHolds x e p → Tick p e f → EndStep x e p f
@@ -144,7 +153,9 @@ row_request c B e p f len h k r =
             contains-insert_same 0 e.arrived,
             λ j t. ⊎_elim (λ (u : j ≡ 0). u) (λ u. absurd (new.1 j u)) (contains-insert_cases 0 e.arrived j t),
           );
-          answered = λ j t. ⊎_elim (λ (u : suc j ≡ 0). absurd (omega arith)) (h.ok.answered j) (contains-insert_cases 0 e.arrived (suc j) t);
+          answered =
+              λ j t. ⊎_elim (λ (u : suc j ≡ 0). absurd (omega arith)) (h.ok.answered j)
+              (contains-insert_cases 0 e.arrived (suc j) t);
           calm = h.ok.calm;
           announces = announces_at B e Inactive h.ok r.1;
           caps = h.ok.caps;
@@ -170,17 +181,22 @@ step_opened e p len h at k =
         reader = sound_read p f opn.0 (sound_arrived p e 0 h.reader k.0 (omega (arith, h.ok.caps.2))) here opn.1;
         ok = record {
           fits = (omega arith, omega arith);
-          answered = λ j t. ⊎_elim (λ (u : suc j ≡ 0). absurd (omega arith)) (h.ok.answered j) (contains-insert_cases 0 e.arrived (suc j) t);
+          answered =
+              λ j t. ⊎_elim (λ (u : suc j ≡ 0). absurd (omega arith)) (h.ok.answered j)
+              (contains-insert_cases 0 e.arrived (suc j) t);
           calm = h.ok.calm;
           announces = announced_fits A e h.ok;
           caps = h.ok.caps;
         };
       };
-      grows = let s = grows_arrived e 0 in let t = grows_read e opn.0 in grows_by e (read_item (Some opn.0) f) s.written t.read s.arrived refl refl;
+      grows =
+          let s = grows_arrived e 0 in let t = grows_read e opn.0 in grows_by e (read_item (Some opn.0) f) s.written
+          t.read s.arrived refl refl;
     })
 
 row_opened :
-    (c : Copy) (x : Side) (e p f : PlainEnd) (len_p len_e : ℕ) → EndHolds x e p → CopyOk c p e len_p len_e → Opened c p e f →
+    (c : Copy) (x : Side) (e p f : PlainEnd) (len_p len_e : ℕ) → EndHolds x e p → CopyOk c p e len_p len_e
+    → Opened c p e f →
     EndStep x e p f
 row_opened c B e p f len_p len_e h k r = absurd (fits_at B e RfcSent h.ok r.1)
 row_opened c A e p f len_p len_e h k r =
@@ -200,7 +216,8 @@ hear_met (suc i) (Acknowledges a) e m l = omega arith
 hear_met (suc i) (Status a r w) e m l = absurd m
 
 row_arrive :
-    (c : Copy) (x : Side) (e p f : PlainEnd) (len_p len_e : ℕ) → EndHolds x e p → CopyOk c p e len_p len_e → Arrive c p e f →
+    (c : Copy) (x : Side) (e p f : PlainEnd) (len_p len_e : ℕ) → EndHolds x e p → CopyOk c p e len_p len_e
+    → Arrive c p e f →
     EndStep x e p f
 row_arrive c x e p f len_p len_e h k r =
     let met : HasMet e.written e.read = fits_at x e Open h.ok r.0 in
@@ -212,14 +229,16 @@ row_arrive c x e p f len_p len_e h k r =
     (step_took_in x (hear c.told e) p r.1 s.after (hear_phase c.told e ∙ r.0) item.0 (hear_met r.1 c.told e tells)))
 
 row_control :
-    (c : Copy) (x : Side) (e p f : PlainEnd) (len_p len_e : ℕ) → EndHolds x e p → CopyOk c p e len_p len_e → Control c p e f →
+    (c : Copy) (x : Side) (e p f : PlainEnd) (len_p len_e : ℕ) → EndHolds x e p → CopyOk c p e len_p len_e
+    → Control c p e f →
     EndStep x e p f
 row_control c x e p f len_p len_e h k r =
     let met : HasMet e.written e.read = fits_at x e Open h.ok r.0 in
     subst (EndStep x e p) (sym r.2) (step_heard c.told x e p len_e h k.told_ok met.1)
 
 pub row_comes :
-    (c : Copy) (x : Side) (e p f : PlainEnd) (len_p len_e : ℕ) → EndHolds x e p → CopyOk c p e len_p len_e → Comes c p e f →
+    (c : Copy) (x : Side) (e p f : PlainEnd) (len_p len_e : ℕ) → EndHolds x e p → CopyOk c p e len_p len_e
+    → Comes c p e f →
     EndStep x e p f
 row_comes c x e p f len_p len_e h k (inl r) = row_request c x e p f len_p h k.kind_ok r
 row_comes c x e p f len_p len_e h k (inr (inl r)) = row_opened c x e p f len_p len_e h k r

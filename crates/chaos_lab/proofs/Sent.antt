@@ -13,7 +13,8 @@ use Rattle.chaos_lab.proofs.Ends.{IsNew, Fits, EndOk, EndHolds}
 -- ---- it has met the peer, where it sends more than its first item
 
 -- B wrote something
-met_first : (phase : Phase) (e : PlainEnd) → Fits phase B e.written e.read e.arrived → 1 ≤ length e.written → 1 ≤ length e.read
+met_first : (phase : Phase) (e : PlainEnd) → Fits phase B e.written e.read e.arrived → 1 ≤ length e.written
+    → 1 ≤ length e.read
 met_first Inactive e h l = omega (arith, h.0)
 met_first RfcSent e h l = absurd h
 met_first RfcReceived e h l = omega (arith, h.0)
@@ -58,12 +59,15 @@ near_read e p d = omega (arith, d.room, d.acked_read)
 -- an OPN is sent only until an item with a later index arrived, so while B has read the RFC alone
 few_read : (x : Side) (e p : PlainEnd) → Sound p e → EndOk x e → e.receipted ≤ 0 → length e.read ≤ 1
 few_read x e p d o h =
-    ⊎_elim (λ (t : length e.read ≤ 1). t) (λ (t : 1 < length e.read). let r = o.answered 0 (d.front 1 t) in absurd (omega arith)) (grind arith)
+    ⊎_elim (λ (t : length e.read ≤ 1). t)
+    (λ (t : 1 < length e.read). let r = o.answered 0 (d.front 1 t) in absurd (omega arith)) (grind arith)
 
 told_sent :
-    (kind : Kind) (x : Side) (told : Told) (e p : PlainEnd) → Sound p e → EndOk x e → MaySend kind e → Tells kind x e told →
+    (kind : Kind) (x : Side) (told : Told) (e p : PlainEnd) → Sound p e → EndOk x e → MaySend kind e
+    → Tells kind x e told →
     ToldOk told e p (length p.written) × TellsMet kind told
-told_sent (Nth zero) A told e p d o m t = subst (λ u. ToldOk u e p (length p.written) × TellsMet (Nth zero) u) (sym t) (tt, tt)
+told_sent (Nth zero) A told e p d o m t =
+    subst (λ u. ToldOk u e p (length p.written) × TellsMet (Nth zero) u) (sym t) (tt, tt)
 told_sent (Nth zero) B told e p d o m t =
     let met = met_first e.phase e o.fits (omega arith) in
     let near = near_read e p d in
@@ -72,12 +76,15 @@ told_sent (Nth zero) B told e p d o m t =
     ((omega arith, near, (λ i h. d.front i (omega arith)), omega arith), tt)
 told_sent (Nth (suc i)) x told e p d o m t =
     let met = met_later e.phase x e o.fits (omega arith) in
-    subst (λ u. ToldOk u e p (length p.written) × TellsMet (Nth (suc i)) u) (sym t) ((omega arith, near_read e p d), met)
-told_sent Sns x told e p d o m t = subst (λ u. ToldOk u e p (length p.written) × TellsMet Sns u) (sym t) ((omega arith, near_read e p d), tt)
+    subst (λ u. ToldOk u e p (length p.written) × TellsMet (Nth (suc i)) u) (sym t)
+    ((omega arith, near_read e p d), met)
+told_sent Sns x told e p d o m t =
+    subst (λ u. ToldOk u e p (length p.written) × TellsMet Sns u) (sym t) ((omega arith, near_read e p d), tt)
 told_sent Sts x told e p d o m t =
     let near = near_read e p d in
     let upto = missing_unread e p t.0 d t.1 in
-    subst (λ u. ToldOk u e p (length p.written) × TellsMet Sts u) (sym t.2) ((omega arith, near, t.1.0, omega arith), tt)
+    subst (λ u. ToldOk u e p (length p.written) × TellsMet Sts u) (sym t.2)
+    ((omega arith, near, t.1.0, omega arith), tt)
 told_sent Cls x told e p d o m t = subst (λ u. ToldOk u e p (length p.written) × TellsMet Cls u) (sym t) (tt, tt)
 
 -- a copy of the end e at the side x, with its peer p

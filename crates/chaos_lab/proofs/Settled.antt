@@ -54,7 +54,9 @@ none_counted zero = refl
 none_counted (suc n) = none_counted n
 
 nothing_there : (p e : Plain) (i : ℕ) → length p.written ≤ i → there_at p e i ≡ None
-nothing_there p e i past = cond_both (contains e.arrived i) (slice_get p.written i) None (λ (o : Option ItemView). o ≡ None) (λ _. slice_get_past p.written i past) (λ _. refl)
+nothing_there p e i past =
+    cond_both (contains e.arrived i) (slice_get p.written i) None (λ (o : Option ItemView). o ≡ None)
+    (λ _. slice_get_past p.written i past) (λ _. refl)
 
 -- ---- a direction
 
@@ -73,20 +75,25 @@ done_ended e p d done =
     receipt_fits : e.receipted ≤ length e.written
     receipt_fits =
         ⊎_elim
-        (λ (u : length e.written < e.receipted). let no = d.within (length e.written) (d.receipted_arrived (length e.written) u) in absurd (omega (arith, no)))
+        (λ (u : length e.written < e.receipted). let no = d.within (length e.written)
+        (d.receipted_arrived (length e.written) u) in absurd (omega (arith, no)))
         (λ (u : e.receipted ≤ length e.written). u)
         (cases_lt (length e.written) e.receipted)
 
 -- nothing is stored at e, which has read all that p wrote, and is known by p to have
-none_stored : (x : Side) (rest : Rest) (b b' : ℕ) (p e : Plain) → Ended e p → Ended p e → stored_packets (met_view st.Open x rest b b' p e) ≡ 0
+none_stored : (x : Side) (rest : Rest) (b b' : ℕ) (p e : Plain) → Ended e p → Ended p e
+    → stored_packets (met_view st.Open x rest b b' p e) ≡ 0
 none_stored x rest b b' p e own back =
-    let kept : length (drop e.receipted e.written) ≡ 0 = let l = length-drop e.receipted e.written in omega (arith, l, own.receipted) in
+    let kept : length (drop e.receipted e.written) ≡ 0 =
+    let l = length-drop e.receipted e.written in omega (arith, l, own.receipted) in
     let slots : slots_from p e (length e.read) e.recv_cap ≡ replicate e.recv_cap None =
     no_slots p e (length e.read) e.recv_cap (λ i l. nothing_there p e (length e.read + i) (omega (arith, back.read))) in
-    let held : count_by is_some (slots_from p e (length e.read) e.recv_cap) ≡ 0 = ap (count_by is_some) slots ∙ none_counted e.recv_cap in
+    let held : count_by is_some (slots_from p e (length e.read) e.recv_cap) ≡ 0 =
+    ap (count_by is_some) slots ∙ none_counted e.recv_cap in
     omega (arith, kept, held)
 
-all_drained : (x : Side) (rest : Rest) (b b' : ℕ) (p e : Plain) → Ended e p → is_drained (met_view st.Open x rest b b' p e) ≡ true
+all_drained : (x : Side) (rest : Rest) (b b' : ℕ) (p e : Plain) → Ended e p
+    → is_drained (met_view st.Open x rest b b' p e) ≡ true
 all_drained x rest b b' p e own =
     let none : off (told_num b (length e.written)) (told_num b e.acknowledged) ≡ 0 = omega (arith, own.acknowledged) in
     eq-eqb _ 0 none
@@ -94,22 +101,32 @@ all_drained x rest b b' p e own =
 -- ---- the laboratory
 
 ended_at : (w : Machine) (l : LabView) (x : Side) → Ties w l → IsDone w x → Ended (end_of w x) (end_of w (other x))
-ended_at w l x t done = done_ended (end_of w x) (end_of w (other x)) (end_holds w x (reached_holds w t.tied.reached)).writer done
+ended_at w l x t done =
+    done_ended (end_of w x) (end_of w (other x)) (end_holds w x (reached_holds w t.tied.reached)).writer done
 
-pub settled : (w v : Machine) (l m : LabView) → Ties w l → Ties v m → Keeps w v → AreOpen v → ((x : Side) → IsDone v x) → IsSettled l m
+pub settled : (w v : Machine) (l m : LabView) → Ties w l → Ties v m → Keeps w v → AreOpen v → ((x : Side) → IsDone v x)
+    → IsSettled l m
 settled w v l m t tv k opens done =
-    let written : (x : Side) → (lab_end m x).written ≡ (lab_end l x).written = λ x. written_at x v m tv ∙ (k.ends x).written ∙ sym (written_at x w l t) in
-    let back : (x : Side) → Ended (end_of v (other x)) (end_of v x) = λ x. subst (λ (z : Side). Ended (end_of v (other x)) (end_of v z)) (other_other x) (ended_at v m (other x) tv (done (other x))) in
+    let written : (x : Side) → (lab_end m x).written ≡ (lab_end l x).written =
+    λ x. written_at x v m tv ∙ (k.ends x).written ∙ sym (written_at x w l t) in
+    let back : (x : Side) → Ended (end_of v (other x)) (end_of v x) =
+    λ x. subst (λ (z : Side). Ended (end_of v (other x)) (end_of v z)) (other_other x)
+    (ended_at v m (other x) tv (done (other x))) in
     record {
       written = written;
       read = λ x.
           read_at (other x) v m tv
-          ∙ begins_all (end_of v (other x)).read (end_of v x).written (beginning v x tv.tied.reached) (let e = ended_at v m x tv (done x) in omega (arith, e.read))
+          ∙ begins_all (end_of v (other x)).read (end_of v x).written (beginning v x tv.tied.reached)
+          (let e = ended_at v m x tv (done x) in omega (arith, e.read))
           ∙ sym (written_at x v m tv) ∙ written x;
       stored = λ x. let s = shows x v m tv (opens x) in
-          subst (λ (u : ConnView). stored_packets u ≡ 0) (sym s.is) (none_stored x s.rest (first_at m x) (first_at m (other x)) (end_of v (other x)) (end_of v x) (ended_at v m x tv (done x)) (back x));
+          subst (λ (u : ConnView). stored_packets u ≡ 0) (sym s.is)
+          (none_stored x s.rest (first_at m x) (first_at m (other x)) (end_of v (other x)) (end_of v x)
+          (ended_at v m x tv (done x)) (back x));
       drained = λ x. let s = shows x v m tv (opens x) in
-          subst (λ (u : ConnView). is_drained u ≡ true) (sym s.is) (all_drained x s.rest (first_at m x) (first_at m (other x)) (end_of v (other x)) (end_of v x) (ended_at v m x tv (done x)));
+          subst (λ (u : ConnView). is_drained u ≡ true) (sym s.is)
+          (all_drained x s.rest (first_at m x) (first_at m (other x)) (end_of v (other x)) (end_of v x)
+          (ended_at v m x tv (done x)));
       open_ends = λ x. let s = shows x v m tv (opens x) in ap (λ (u : ConnView). u.state) s.is;
     }
 
@@ -119,7 +136,9 @@ timely v c h = record { again = h.again; resent = c.resent }
 -- ---- how many events there are
 
 reading_few : (y : Side) (l : LabView) → length (reading y l) ≤ 1
-reading_few y l = cond_both (is_none (front_of (conn_at l y))) [] (ReadBy y ∷ []) (λ (es : List Happening). length es ≤ 1) (λ _. omega arith) (λ _. omega arith)
+reading_few y l =
+    cond_both (is_none (front_of (conn_at l y))) [] (ReadBy y ∷ []) (λ (es : List Happening). length es ≤ 1)
+    (λ _. omega arith) (λ _. omega arith)
 
 pub reading_on_few : (k : ℕ) (y : Side) (l : LabView) → length (reading_on y k l) ≤ k
 reading_on_few zero y l = omega arith
@@ -140,7 +159,8 @@ coming_few (suc k) y copy l =
     let all = length-append (reading y m) (coming y (copy + 1) k n) in
     omega (arith, one, rest, all)
 
-taking_few : (y : Side) (first last : ℕ) (l : LabView) → length (taking y first last l) ≤ (lab_end l y).conn.config.recv_cap + 2 * (last - first) + 2
+taking_few : (y : Side) (first last : ℕ) (l : LabView)
+    → length (taking y first last l) ≤ (lab_end l y).conn.config.recv_cap + 2 * (last - first) + 2
 taking_few y first last l =
     let times : ℕ = (lab_end l y).conn.config.recv_cap in
     let m : LabView = after_all l (reading_on y times l) in
@@ -152,15 +172,18 @@ taking_few y first last l =
     let end = length-append come (telling y n) in
     omega (arith, some, rest, all, end)
 
-taking_fits : (y : Side) (first last : ℕ) (w : Machine) (l : LabView) → Ties w l → (end_of w y).phase ≡ Open → last ≤ first + 64 → length (taking y first last l) ≤ 194
+taking_fits : (y : Side) (first last : ℕ) (w : Machine) (l : LabView) → Ties w l → (end_of w y).phase ≡ Open
+    → last ≤ first + 64 → length (taking y first last l) ≤ 194
 taking_fits y first last w l t at near =
-    let cap : (lab_end l y).conn.config.recv_cap ≡ (end_of w y).recv_cap = ap (λ (c : ConnView). c.config.recv_cap) (shows y w l t at).is in
+    let cap : (lab_end l y).conn.config.recv_cap ≡ (end_of w y).recv_cap =
+    ap (λ (c : ConnView). c.config.recv_cap) (shows y w l t at).is in
     let caps = (end_holds w y (reached_holds w t.tied.reached)).ok.caps in
     let few = taking_few y first last l in
     omega (arith, cap, caps.2, few, near)
 
 -- six events, and those by which both take
-few_of : (a b c d e f : Happening) (first second : List Happening) → length first ≤ 194 → length second ≤ 194 → length (a ∷ b ∷ c ∷ d ∷ e ∷ f ∷ (first ++ second)) ≤ most_events
+few_of : (a b c d e f : Happening) (first second : List Happening) → length first ≤ 194 → length second ≤ 194
+    → length (a ∷ b ∷ c ∷ d ∷ e ∷ f ∷ (first ++ second)) ≤ most_events
 few_of a b c d e f first second few more = let all = length-append first second in omega (arith, few, more, all)
 
 -- ---- both ways
@@ -176,7 +199,8 @@ record GoesBoth (l : LabView) (w : Machine) : Type 0 where
   done : (x : Side) → IsDone machine x
   few : length (settling l) ≤ most_events
 
-goes_both : (l : LabView) (w : Machine) → Ties w l → ((x : Side) → IsConn (lab_end l x).conn) → CanSettle l → GoesBoth l w
+goes_both : (l : LabView) (w : Machine) → Ties w l → ((x : Side) → IsConn (lab_end l x).conn) → CanSettle l
+    → GoesBoth l w
 goes_both l w t conns can =
     let n : ℕ = length l.copies in
     let opens : AreOpen w = λ x. open_at x w l t (in_time l can x).open_end in
@@ -189,16 +213,22 @@ goes_both l w t conns can =
     let to_a : ℕ = length m.copies in
     let open_u = stay_open w u a.plays.keeps opens in
     let speaks = a.speaks in
-    let retransmit : (conn_at m B).config.retransmit ≡ (conn_at l B).config.retransmit = ap (λ c. c.retransmit) speaks.config in
+    let retransmit : (conn_at m B).config.retransmit ≡ (conn_at l B).config.retransmit =
+    ap (λ c. c.retransmit) speaks.config in
     -- then B
-    let b = resends n B u m a.ties open_u (omega (arith, a.from, a.upto)) (same_timely (conn_at l B) (conn_at m B) speaks (time B)) (omega (arith, a.clock, speaks.last, retransmit, can.moments)) in
+    let b =
+    resends n B u m a.ties open_u (omega (arith, a.from, a.upto))
+    (same_timely (conn_at l B) (conn_at m B) speaks (time B))
+    (omega (arith, a.clock, speaks.last, retransmit, can.moments)) in
     let v : Machine = b.machine in
     let q : LabView = resent B m in
     let from_b : ℕ = length (told A m).copies in
     let to_b : ℕ = length q.copies in
     let open_v = stay_open u v b.plays.keeps open_u in
     -- A takes
-    let home = takes n B from_b to_b b.receipted v q b.ties open_v b.some b.burst b.all b.upto b.enough (omega (arith, a.from, a.upto, b.from)) (omega (arith, a.from, a.upto, b.from, b.upto)) in
+    let home =
+    takes n B from_b to_b b.receipted v q b.ties open_v b.some b.burst b.all b.upto b.enough
+    (omega (arith, a.from, a.upto, b.from)) (omega (arith, a.from, a.upto, b.from, b.upto)) in
     let y : Machine = home.machine in
     let kuy : Keeps u y = keeps_through u v y b.plays.keeps home.plays.keeps in
     let r : LabView = after_all q (taking A from_b to_b q) in
@@ -206,18 +236,26 @@ goes_both l w t conns can =
     let now : length r.copies ≡ length y.copies = same_count y r home.plays.ties in
     let wrote : length (end_of y A).written ≡ length (end_of u A).written = ap length (kuy.ends A).written in
     -- then B
-    let there = takes n A from_a to_a a.receipted y r home.plays.ties (stay_open u y kuy open_u) ((kuy.ends B).announces a.some)
-    (burst_keeps u y A from_a a.receipted kuy a.burst) (copies_keep u y A from_a to_a kuy a.all) a.upto (omega (arith, a.enough, wrote)) (omega (arith, a.from))
+    let there =
+    takes n A from_a to_a a.receipted y r home.plays.ties (stay_open u y kuy open_u) ((kuy.ends B).announces a.some)
+    (burst_keeps u y A from_a a.receipted kuy a.burst) (copies_keep u y A from_a to_a kuy a.all) a.upto
+    (omega (arith, a.enough, wrote)) (omega (arith, a.from))
     (omega (arith, a.from, a.upto, b.from, b.upto, before, now, home.plays.keeps.count)) in
     let z : Machine = there.machine in
     record {
       machine = z;
-      plays = plays_both n w u z l (telling B l ++ TickOf A (resend_moment A (told B l)) ∷ []) (b_hearing from_a to_a m) a.plays
-          (plays_both n u v z m (telling A m ++ TickOf B (resend_moment B (told A m)) ∷ []) (both_taking from_a to_a from_b to_b q) b.plays
+      plays =
+          plays_both n w u z l (telling B l ++ TickOf A (resend_moment A (told B l)) ∷ []) (b_hearing from_a to_a m)
+          a.plays
+          (plays_both n u v z m (telling A m ++ TickOf B (resend_moment B (told A m)) ∷ [])
+          (both_taking from_a to_a from_b to_b q) b.plays
           (plays_both n v y z q (taking A from_b to_b q) (taking B from_a to_a r) home.plays there.plays));
       done = both z (done_keeps y z B there.plays.keeps home.done) there.done;
-      few = few_of (AnnounceBy B (conn_at l B).config.recv_cap) (DeliverCopy (length l.copies)) (TickOf A (resend_moment A (told B l)))
-          (AnnounceBy A (conn_at m A).config.recv_cap) (DeliverCopy (length m.copies)) (TickOf B (resend_moment B (told A m))) (taking A from_b to_b q) (taking B from_a to_a r)
+      few =
+          few_of (AnnounceBy B (conn_at l B).config.recv_cap) (DeliverCopy (length l.copies))
+          (TickOf A (resend_moment A (told B l)))
+          (AnnounceBy A (conn_at m A).config.recv_cap) (DeliverCopy (length m.copies))
+          (TickOf B (resend_moment B (told A m))) (taking A from_b to_b q) (taking B from_a to_a r)
           (taking_fits A from_b to_b v q b.ties (open_v A) b.few)
           (taking_fits B from_a to_a y r home.plays.ties (stay_open u y kuy open_u B) a.few);
     }
@@ -226,7 +264,8 @@ goes_both l w t conns can =
     both g b a A = a
     both g b a B = b
 
-pub settles : (l : LabView) → HasMachine l → ((x : Side) → IsConn (lab_end l x).conn) → CanSettle l → Settles l (settling l)
+pub settles : (l : LabView) → HasMachine l → ((x : Side) → IsConn (lab_end l x).conn) → CanSettle l
+    → Settles l (settling l)
 settles l h conns can =
     let w : Machine = h.plain in
     let g = goes_both l w h.ties conns can in
@@ -235,11 +274,14 @@ settles l h conns can =
       few = g.few;
       help = g.plays.help;
       taken = g.plays.taken;
-      settled = settled w g.machine l (after_all l (settling l)) h.ties g.plays.ties g.plays.keeps (stay_open w g.machine g.plays.keeps opens) g.done;
+      settled =
+          settled w g.machine l (after_all l (settling l)) h.ties g.plays.ties g.plays.keeps
+          (stay_open w g.machine g.plays.keeps opens) g.done;
     }
 
 -- what was written is read in its turn
-pub reads_through : (l : LabView) → HasMachine l → ((x : Side) → IsConn (lab_end l x).conn) → CanSettle l → (x : Side) → ReadThrough x l (after_all l (settling l))
+pub reads_through : (l : LabView) → HasMachine l → ((x : Side) → IsConn (lab_end l x).conn) → CanSettle l → (x : Side)
+    → ReadThrough x l (after_all l (settling l))
 reads_through l h conns can x =
     let s = (settles l h conns can).settled in
     (λ i item at. ap (λ items. slice_get items i) (s.read x) ∙ at, s.drained x)

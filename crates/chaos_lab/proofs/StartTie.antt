@@ -23,7 +23,8 @@ use Rattle.chaos_lab.specs.Tied.{Agrees, MetBefore, Tied}
 use Rattle.chaos_lab.specs.Laboratory.{stamp}
 
 abbrev rest_of : ConfigView → Rest
-rest_of c = record { retransmit = c.retransmit; probe = c.probe; down = c.down; last = 0; heard = 0; resent = 0; probed = 0; untold = 0; ended = st.HostDown }
+rest_of c =
+    record { retransmit = c.retransmit; probe = c.probe; down = c.down; last = 0; heard = 0; resent = 0; probed = 0; untold = 0; ended = st.HostDown }
 
 abbrev caps_of : ConfigView → Caps
 caps_of c = record { send = c.send_cap; recv = c.recv_cap }
@@ -32,11 +33,15 @@ caps_of c = record { send = c.send_cap; recv = c.recv_cap }
 abbrev pub asked_for : List ℕ → ConfigView → ℕ → Acted Outcome
 asked_for contact c number = with_item (after_asking (new_conn c) (place_of A) 258 number 0) (rfc_item contact) (Ok tt)
 
-pub asks : (contact : List ℕ) (c : ConfigView) (number : ℕ) → length contact ≤ 488 → act_request (new_conn c) (place_of A) 258 contact number 0 ≡ asked_for contact c number
+pub asks : (contact : List ℕ) (c : ConfigView) (number : ℕ) → length contact ≤ 488
+    → act_request (new_conn c) (place_of A) 258 contact number 0 ≡ asked_for contact c number
 asks contact c number short = cond-false _ _ _ (le-ltb 488 (length contact) short)
 
 -- A has requested a contact of B at moment 0
-pub tied_start : (ba bb : ℕ) (contact : List ℕ) (ca cb : ConfigView) → ba < 65536 → AreCaps (caps_of ca) → AreCaps (caps_of cb) → let acted = asked_for contact ca ba in (pk : _) × (acted.packets ≡ pk ∷ []) × Tied ba bb (start (caps_of ca) (caps_of cb) (rfc_item contact)) acted.view (new_conn cb) (stamp A 1 0 pk ∷ [])
+pub tied_start : (ba bb : ℕ) (contact : List ℕ) (ca cb : ConfigView) → ba < 65536 → AreCaps (caps_of ca)
+    → AreCaps (caps_of cb) → let acted =
+    asked_for contact ca ba in (pk : _) × (acted.packets ≡ pk ∷ [])
+    × Tied ba bb (start (caps_of ca) (caps_of cb) (rfc_item contact)) acted.view (new_conn cb) (stamp A 1 0 pk ∷ [])
 tied_start ba bb contact ca cb fits right_a right_b =
     let lab_rfc : ItemView = rfc_item contact in
     let w : Machine = start (caps_of ca) (caps_of cb) lab_rfc in
@@ -45,17 +50,24 @@ tied_start ba bb contact ca cb fits right_a right_b =
     let sent : num (off ba 1) 1 ≡ told_num ba 1 = omega arith in
     let before : off ba 1 ≡ told_num ba 0 = omega arith in
     let first_number : num (off ba 1) 1 ≡ num ba 0 = omega arith in
-    let clear : started_receive ca.recv_cap 0 ≡ recv_shown bb w.b w.a = sym (cond-false (contains {R = nat_cmp} empty 0) (recv_view bb w.b w.a) (started_receive ca.recv_cap 0) (contains-empty nat_cmp 0)) in (
+    let clear : started_receive ca.recv_cap 0 ≡ recv_shown bb w.b w.a =
+    sym
+    (cond-false (contains {R = nat_cmp} empty 0) (recv_view bb w.b w.a) (started_receive ca.recv_cap 0)
+    (contains-empty nat_cmp 0)) in (
       _,
       refl,
       record {
-        reached = record { caps_a = caps_of ca; caps_b = caps_of cb; right_a = right_a; right_b = right_b; rfc = lab_rfc; events = []; run = refl };
-        a = (rest_of ca, refl, λ j. record (shown A (rest_of ca) ba bb w.b w.a) { request = number j; send = record (send_view ba w.a) { sent = sent j; receipted = before j; acknowledged = before j }; recv = clear j });
+        reached =
+            record { caps_a = caps_of ca; caps_b = caps_of cb; right_a = right_a; right_b = right_b; rfc = lab_rfc; events = []; run = refl };
+        a =
+            (rest_of ca, refl, λ j. record (shown A (rest_of ca) ba bb w.b w.a) { request = number j; send = record (send_view ba w.a) { sent = sent j; receipted = before j; acknowledged = before j }; recv = clear j });
         b = (rest_of cb, refl, refl);
-        copies = (record { side = refl; len_a = refl; len_b = refl; stands = record { header = record { dst = refl; dst_index = refl; src = refl; src_index = refl }; what = (refl, first_number); tells = refl } }, tt);
+        copies =
+            (record { side = refl; len_a = refl; len_b = refl; stands = record { header = record { dst = refl; dst_index = refl; src = refl; src_index = refl }; what = (refl, first_number); tells = refl } }, tt);
         kinds = All-push (λ c. Agrees c.sender c.kind c.told) [] first (All-nil _) tt;
         met = All-push (MetBefore w) [] first (All-nil _) (λ is. inl refl);
-        items_a = record { first = λ item h. let same : rfc_item contact ≡ item = some_is h in ap (λ i. i.op) (sym same); users = λ i item h. absurd (cc) };
+        items_a =
+            record { first = λ item h. let same : rfc_item contact ≡ item = some_is h in ap (λ i. i.op) (sym same); users = λ i item h. absurd (cc) };
         items_b = record { first = λ item h. absurd (cc); users = λ i item h. absurd (cc) };
       },
     )

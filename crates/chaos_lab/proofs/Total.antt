@@ -1,4 +1,5 @@
--- The table of steps as functions, so every event has a step, but for the delivery of a copy that isn't there or isn't fresh.
+-- The table of steps as functions, so every event has a step, but for the delivery of a copy that isn't there or isn't
+-- fresh.
 use Rattle.std.proofs.Common.{◌≡◌, ◌≢◌, zero, ℕ, ◌-◌, ◌<◌, ◌≤◌, [], ◌∷◌, ◌++◌, length, true, false, refl, sym, ◌∙◌, subst, inl, inr, ◌⊎◌, ⊎_elim, arith}
 use Rattle.std.specs.Prelude.{⊤}
 use Rattle.std.specs.FinSet.{contains, insert}
@@ -24,7 +25,8 @@ Allows phase kind = ⊥
 
 abbrev pub received : Phase → Kind → Told → PlainEnd → PlainEnd → PlainEnd
 received Inactive (Nth zero) told peer e = record e { phase = RfcReceived; arrived = insert e.arrived 0 }
-received RfcSent (Nth zero) told peer e = hear told (read_next peer (record e { phase = Open; arrived = insert e.arrived 0 }))
+received RfcSent (Nth zero) told peer e =
+    hear told (read_next peer (record e { phase = Open; arrived = insert e.arrived 0 }))
 received RfcSent Cls told peer e = record e { phase = Ended }
 received Open (Nth i) told peer e = take_in i (hear told e)
 received Open Sns told peer e = hear told e
@@ -43,10 +45,12 @@ comes_allows c p e f (inr (inl r)) = allows_at c e RfcSent (Nth 0) r.1 r.0 tt
 comes_allows c p e f (inr (inr (inl r))) = allows_at c e Open (Nth r.1) r.0 r.2 tt
 comes_allows c p e f (inr (inr (inr (inl r)))) = allows_at c e Open c.kind r.0 refl tt
 comes_allows c p e f (inr (inr (inr (inr r)))) =
-    ⊎_elim (λ (t : e.phase ≡ RfcSent). allows_at c e RfcSent Cls t r.0 tt) (λ (t : e.phase ≡ Open). allows_at c e Open Cls t r.0 tt) r.1.0
+    ⊎_elim (λ (t : e.phase ≡ RfcSent). allows_at c e RfcSent Cls t r.0 tt)
+    (λ (t : e.phase ≡ Open). allows_at c e Open Cls t r.0 tt) r.1.0
 
 comes_nothing :
-    (c : Copy) (p e : PlainEnd) (phase : Phase) (kind : Kind) → e.phase ≡ phase → c.kind ≡ kind → (Allows phase kind → ⊥) →
+    (c : Copy) (p e : PlainEnd) (phase : Phase) (kind : Kind) → e.phase ≡ phase → c.kind ≡ kind
+    → (Allows phase kind → ⊥) →
     OrNothing (Comes c) p e e
 comes_nothing c p e phase kind at is none =
     inr (λ f r. none (subst (λ ph. Allows ph kind) at (subst (Allows e.phase) is (comes_allows c p e f r))), refl)
@@ -72,7 +76,8 @@ comes_received c p e = comes_at e.phase c.kind c p e refl refl
 abbrev pub GoesOn : Row → PlainEnd → PlainEnd → Type 0
 GoesOn row p e = (f : PlainEnd) × OrNothing row p e f
 
-goes_on : (row : Row) (p e : PlainEnd) → ((f : PlainEnd) × row p e f) ⊎ ((f : PlainEnd) → row p e f → ⊥) → GoesOn row p e
+goes_on : (row : Row) (p e : PlainEnd) → ((f : PlainEnd) × row p e f) ⊎ ((f : PlainEnd) → row p e f → ⊥)
+    → GoesOn row p e
 goes_on row p e (inl r) = (r.0, inl r.1)
 goes_on row p e (inr none) = (e, inr (none, refl))
 
@@ -96,7 +101,8 @@ accept_goes_on : (opn : ItemView) (p e : PlainEnd) → GoesOn (Accept opn) p e
 accept_goes_on opn p e =
     goes_on (Accept opn) p e
     (⊎_elim
-    (λ (at : e.phase ≡ RfcReceived). inl (record (read_next p e) { phase = Open; written = e.written ++ opn ∷ [] }, (at, refl)))
+    (λ (at : e.phase ≡ RfcReceived). inl
+    (record (read_next p e) { phase = Open; written = e.written ++ opn ∷ [] }, (at, refl)))
     (λ (not : e.phase ≢ RfcReceived). inr (λ f r. not r.0))
     (is_received e.phase))
 
@@ -106,7 +112,8 @@ write_goes_on item p e =
     (⊎_elim
     (λ (at : e.phase ≡ Open).
     ⊎_elim
-    (λ (room : length e.written - e.acknowledged < e.window). inl (record e { written = e.written ++ item ∷ [] }, (at, room, refl)))
+    (λ (room : length e.written - e.acknowledged < e.window). inl
+    (record e { written = e.written ++ item ∷ [] }, (at, room, refl)))
     (λ (full : e.window ≤ length e.written - e.acknowledged). inr (λ f r. let room = r.1 in omega arith))
     (grind arith))
     (λ (not : e.phase ≢ Open). inr (λ f r. not r.0))
@@ -158,7 +165,8 @@ close_goes_on p e =
 -- ---- steps
 
 -- the end at x goes on by this row, and sends nothing
-moves : (row : Row) (m : Machine) (x : Side) → GoesOn row (end_of m (other x)) (end_of m x) → (n : Machine) × Moves row m x n
+moves : (row : Row) (m : Machine) (x : Side) → GoesOn row (end_of m (other x)) (end_of m x)
+    → (n : Machine) × Moves row m x n
 moves row m x g =
     let f = g.0 in
     (record (with_end m x f) { copies = m.copies ++ [] }, (f, g.1, ([], All-nil (IsSent (with_end m x f) x), refl)))
@@ -168,7 +176,8 @@ pub step_exists : (m : Machine) (event : Event) → CanHappen m event → (n : M
 step_exists m (AcceptAt x opn) h = moves (Accept opn) m x (accept_goes_on opn (end_of m (other x)) (end_of m x))
 step_exists m (WriteAt x item) h = moves (Write item) m x (write_goes_on item (end_of m (other x)) (end_of m x))
 step_exists m (ReadAt x) h = moves Read m x (read_goes_on (end_of m (other x)) (end_of m x))
-step_exists m (ResizeAt x window) h = moves (Resize window) m x (resize_goes_on window (end_of m (other x)) (end_of m x))
+step_exists m (ResizeAt x window) h =
+    moves (Resize window) m x (resize_goes_on window (end_of m (other x)) (end_of m x))
 step_exists m (TickAt x) h = moves Tick m x (end_of m x, inl (inr refl))
 step_exists m (CloseAt x) h = moves Close m x (close_goes_on (end_of m (other x)) (end_of m x))
 step_exists m (Deliver k) h =

@@ -33,12 +33,14 @@ use Rattle.chaos_lab.proofs.Refusals.{Writes, Refuses, Sends, write_cases}
 -- ---- the read
 
 -- a read at an open end gives the item in front
-gives_open : (v : ConnView) (item : ItemView) (front : Option ItemView) → front ≡ Some item → (read_at_open v front).answer ≡ gave.Item item
+gives_open : (v : ConnView) (item : ItemView) (front : Option ItemView) → front ≡ Some item
+    → (read_at_open v front).answer ≡ gave.Item item
 gives_open v item None h = absurd (cc)
 gives_open v item (Some other) h =
     let u : ConnView = record v { recv = after_advance v.recv; untold = v.untold + 1 } in
     let same : other ≡ item = cc in
-    cond_both (nat_le u.recv.window (3 * u.untold)) (with_sts u (gave.Item other)) (quietly u (gave.Item other)) (λ (a : Acted ReadEnd). a.answer ≡ gave.Item item)
+    cond_both (nat_le u.recv.window (3 * u.untold)) (with_sts u (gave.Item other)) (quietly u (gave.Item other))
+    (λ (a : Acted ReadEnd). a.answer ≡ gave.Item item)
     (λ _. ap gave.Item same)
     (λ _. ap gave.Item same)
 
@@ -53,7 +55,8 @@ few_open : (v : ConnView) (front : Option ItemView) → length (read_at_open v f
 few_open v None = omega arith
 few_open v (Some item) =
     let u : ConnView = record v { recv = after_advance v.recv; untold = v.untold + 1 } in
-    cond_both (nat_le u.recv.window (3 * u.untold)) (with_sts u (gave.Item item)) (quietly u (gave.Item item)) (λ (a : Acted ReadEnd). length a.packets ≤ 1)
+    cond_both (nat_le u.recv.window (3 * u.untold)) (with_sts u (gave.Item item)) (quietly u (gave.Item item))
+    (λ (a : Acted ReadEnd). length a.packets ≤ 1)
     (λ _. omega arith)
     (λ _. omega arith)
 
@@ -68,21 +71,27 @@ pub record PutsItem (op : ℕ) (bytes : List ℕ) (packets : List PacketView) : 
   pub one : packets ≡ packet ∷ []
   pub item : item_of packet ≡ record { op = op; body = bytes }
 
-puts_by : (v : ConnView) (op : ℕ) (bytes : List ℕ) (now n : ℕ) → Writes v (record { op = op; body = bytes }) (act_write v op bytes now) → Wrote (act_write v op bytes now).answer ≡ Wrote (Ok n) → PutsItem op bytes (act_write v op bytes now).packets
-puts_by v op bytes now n (Refuses why is) h = let no : Wrote (Err why) ≡ Wrote (Ok n) = sym (ap (λ a. Wrote a.answer) is) ∙ h in absurd (cc)
+puts_by : (v : ConnView) (op : ℕ) (bytes : List ℕ) (now n : ℕ)
+    → Writes v (record { op = op; body = bytes }) (act_write v op bytes now)
+    → Wrote (act_write v op bytes now).answer ≡ Wrote (Ok n) → PutsItem op bytes (act_write v op bytes now).packets
+puts_by v op bytes now n (Refuses why is) h =
+    let no : Wrote (Err why) ≡ Wrote (Ok n) = sym (ap (λ a. Wrote a.answer) is) ∙ h in absurd (cc)
 puts_by v op bytes now n (Sends u is) h = record { packet = _; one = ap (λ a. a.packets) is; item = refl }
 
-puts_item : (v : ConnView) (op : ℕ) (bytes : List ℕ) (now n : ℕ) → (act v (Write op bytes now)).answer ≡ Wrote (Ok n) → PutsItem op bytes (act v (Write op bytes now)).packets
+puts_item : (v : ConnView) (op : ℕ) (bytes : List ℕ) (now n : ℕ) → (act v (Write op bytes now)).answer ≡ Wrote (Ok n)
+    → PutsItem op bytes (act v (Write op bytes now)).packets
 puts_item v op bytes now n h = puts_by v op bytes now n (write_cases v op bytes now) h
 
 -- ---- the packets of a reply
 
-stamped_last : (a b : ℕ) (status : List PacketView) (reply : PacketView) → length status ≤ 1 → stamped_reply a b (status ++ reply ∷ []) ≡ map (stamp B a b) status ++ stamp B a (b + 1) reply ∷ []
+stamped_last : (a b : ℕ) (status : List PacketView) (reply : PacketView) → length status ≤ 1
+    → stamped_reply a b (status ++ reply ∷ []) ≡ map (stamp B a b) status ++ stamp B a (b + 1) reply ∷ []
 stamped_last a b [] reply h = refl
 stamped_last a b (x ∷ []) reply h = refl
 stamped_last a b (x ∷ y ∷ status) reply h = absurd (omega arith)
 
-items_last : (status : List PacketView) (reply : PacketView) → length status ≤ 1 → reply_items (status ++ reply ∷ []) ≡ item_of reply ∷ []
+items_last : (status : List PacketView) (reply : PacketView) → length status ≤ 1
+    → reply_items (status ++ reply ∷ []) ≡ item_of reply ∷ []
 items_last [] reply h = refl
 items_last (x ∷ []) reply h = refl
 items_last (x ∷ y ∷ status) reply h = absurd (omega arith)
@@ -98,7 +107,8 @@ few_in_turn Rests v now h = omega arith
 few_in_turn Reads v now h = omega (arith, few_read v h)
 few_in_turn (Replies op bytes) v now h =
     let put = puts_item (act v FinishRead).view op bytes now h.1.0 h.1.1 in
-    subst (λ ps. length ((act v FinishRead).packets ++ ps) ≤ 2) (sym put.one) (length_last (act v FinishRead).packets put.packet (few_read v h.0))
+    subst (λ ps. length ((act v FinishRead).packets ++ ps) ≤ 2) (sym put.one)
+    (length_last (act v FinishRead).packets put.packet (few_read v h.0))
 
 -- ---- the laboratory after it
 
@@ -117,17 +127,22 @@ abbrev pub turn_lab : LabView → ℕ → Turn → LabView
 turn_lab l now turn =
     let packets = turn_packets l.b.conn now turn in
     record l {
-      b = record { conn = turn_view l.b.conn now turn; first = l.b.first; written = l.b.written ++ written_in_turn (turn_done turn) packets; read = read_in_turn (turn_done turn) l.b.conn l.b.read };
+      b =
+          record { conn = turn_view l.b.conn now turn; first = l.b.first; written = l.b.written ++ written_in_turn (turn_done turn) packets; read = read_in_turn (turn_done turn) l.b.conn l.b.read };
       copies = l.copies ++ sent_in_turn (turn_done turn) (length l.a.written) (length l.b.written) packets;
     }
 
-given_is : (v : ConnView) (items : List ItemView) (h : HasFront v) → items ++ option_to_list (front_of v) ≡ with_given (act_read v).answer items
+given_is : (v : ConnView) (items : List ItemView) (h : HasFront v)
+    → items ++ option_to_list (front_of v) ≡ with_given (act_read v).answer items
 given_is v items h = ap (λ o. items ++ option_to_list o) h.front ∙ sym (ap (λ g. with_given g items) (read_gives v h))
 
-pub turn_is : (l : LabView) (turn : Turn) → IsTaken l.b.conn l.clock turn → turn_lab l l.clock turn ≡ after_all l (turn_events turn)
-turn_is l Rests h = λ j. record l { b = record l.b { written = append-nil l.b.written j }; copies = append-nil l.copies j }
+pub turn_is : (l : LabView) (turn : Turn) → IsTaken l.b.conn l.clock turn
+    → turn_lab l l.clock turn ≡ after_all l (turn_events turn)
+turn_is l Rests h =
+    λ j. record l { b = record l.b { written = append-nil l.b.written j }; copies = append-nil l.copies j }
 turn_is l Reads h = λ j. record (after_call l B Read) {
-  b = record { conn = (act l.b.conn Read).view; first = l.b.first; written = append-nil l.b.written j; read = given_is l.b.conn l.b.read h j };
+  b =
+      record { conn = (act l.b.conn Read).view; first = l.b.first; written = append-nil l.b.written j; read = given_is l.b.conn l.b.read h j };
 }
 turn_is l (Replies op bytes) h =
     let v : ConnView = (act l.b.conn Read).view in
@@ -142,7 +157,8 @@ turn_is l (Replies op bytes) h =
     let b = length l.b.written in
     let one = length-one_more l.b.written item in
     let longer : b + 1 ≡ length (l.b.written ++ item ∷ []) = omega (arith, one) in
-    let sent : l.copies ++ stamped_reply a b (status ++ (act v (Write op bytes l.clock)).packets) ≡ k.copies ++ map (stamp B a (length (l.b.written ++ item ∷ []))) (act v (Write op bytes l.clock)).packets =
+    let sent : l.copies ++ stamped_reply a b (status ++ (act v (Write op bytes l.clock)).packets)
+    ≡ k.copies ++ map (stamp B a (length (l.b.written ++ item ∷ []))) (act v (Write op bytes l.clock)).packets =
     ap (λ ps. l.copies ++ stamped_reply a b (status ++ ps)) put.one
     ∙ ap (λ ss. l.copies ++ ss) (stamped_last a b status put.packet few)
     ∙ sym (append_assoc l.copies (map (stamp B a b) status) (stamp B a (b + 1) put.packet ∷ []))
@@ -150,15 +166,22 @@ turn_is l (Replies op bytes) h =
     ∙ sym (ap (λ ps. k.copies ++ map (stamp B a (length (l.b.written ++ item ∷ []))) ps) put.one) in
     let none : refusal_of (act v (Write op bytes l.clock)).answer ≡ None = ap refusal_of h.1.1 in
     (λ j. record (after_call k B (Write op bytes l.clock)) {
-      b = record { conn = (act v (Write op bytes l.clock)).view; first = l.b.first; written = l.b.written ++ items j; read = given_is l.b.conn l.b.read h.0 j };
+      b =
+          record { conn = (act v (Write op bytes l.clock)).view; first = l.b.first; written = l.b.written ++ items j; read = given_is l.b.conn l.b.read h.0 j };
       copies = sent j;
     })
     ∙ sym (ap (λ o. (call_effect k B (Write op bytes l.clock) o).lab) none)
 
 -- the end's user took a turn, and what was put out has joined both lists
-pub turned_lab : (l m : LabView) (turn : Turn) (result : Turned) (e : EndView) (before after : OutboxView) → EndTurns l.b l.clock turn e before after result → before.packets ≡ [] → m ≡ record l { b = record e { written = e.written ++ written_in_turn result after.packets }; copies = l.copies ++ sent_in_turn result (length l.a.written) (length e.written) after.packets } → m ≡ after_all l (turn_events turn)
+pub turned_lab : (l m : LabView) (turn : Turn) (result : Turned) (e : EndView) (before after : OutboxView)
+    → EndTurns l.b l.clock turn e before after result → before.packets ≡ []
+    → m
+    ≡ record l
+    { b = record e { written = e.written ++ written_in_turn result after.packets }; copies = l.copies ++ sent_in_turn result (length l.a.written) (length e.written) after.packets }
+    → m ≡ after_all l (turn_events turn)
 turned_lab l m turn result e before after t empty is =
-    let packets : after.packets ≡ turn_packets l.b.conn l.clock turn = ap (λ o. o.packets) t.conn.packets ∙ ap (λ ps. ps ++ turn_packets l.b.conn l.clock turn) empty in
+    let packets : after.packets ≡ turn_packets l.b.conn l.clock turn =
+    ap (λ o. o.packets) t.conn.packets ∙ ap (λ ps. ps ++ turn_packets l.b.conn l.clock turn) empty in
     is
     ∙ (λ j. record l {
       b = record {
@@ -171,9 +194,11 @@ turned_lab l m turn result e before after t empty is =
     })
     ∙ turn_is l turn t.conn.taken
 
-pub few_put : (v w : ConnView) (now : ℕ) (turn : Turn) (before after : OutboxView) (result : Turned) → TakesTurn v now turn w before after result → before.packets ≡ [] → length after.packets ≤ 2
+pub few_put : (v w : ConnView) (now : ℕ) (turn : Turn) (before after : OutboxView) (result : Turned)
+    → TakesTurn v now turn w before after result → before.packets ≡ [] → length after.packets ≤ 2
 few_put v w now turn before after result t empty =
-    let packets : after.packets ≡ turn_packets v now turn = ap (λ o. o.packets) t.packets ∙ ap (λ ps. ps ++ turn_packets v now turn) empty in
+    let packets : after.packets ≡ turn_packets v now turn =
+    ap (λ o. o.packets) t.packets ∙ ap (λ ps. ps ++ turn_packets v now turn) empty in
     let few = few_in_turn turn v now t.taken in
     subst (λ ps. length ps ≤ 2) (sym packets) few
 
@@ -184,10 +209,12 @@ abbrev pub TakenBy : (Turn → Type 0) → LabView → LabView → Type 0
 TakenBy may l m = (turn : Turn) × may turn × IsTaken l.b.conn l.clock turn × (m ≡ after_all l (turn_events turn))
 
 module _ {R E : Type 0} where
-  pub turn_machine : (may : Turn → Type 0) (same : Type 0) (l m : LabView) (r : Result R E) → HasMachine l → OnOk r (TakenBy may l m) → OnErr r ((m ≡ l) × same) → HasMachine m
+  pub turn_machine : (may : Turn → Type 0) (same : Type 0) (l m : LabView) (r : Result R E) → HasMachine l
+      → OnOk r (TakenBy may l m) → OnErr r ((m ≡ l) × same) → HasMachine m
   turn_machine may same l m (Ok x) h t s = after_machine l m (turn_events t.0) h t.3
   turn_machine may same l m (Err x) h t s = subst HasMachine (sym s.0) h
 
-  pub turn_on : (may : Turn → Type 0) (l m : LabView) (r : Result R E) → OnOk r (TakenBy may l m) → OnOk r ((turn : Turn) × may turn × TurnHappens l turn m)
+  pub turn_on : (may : Turn → Type 0) (l m : LabView) (r : Result R E) → OnOk r (TakenBy may l m)
+      → OnOk r ((turn : Turn) × may turn × TurnHappens l turn m)
   turn_on may l m (Ok x) t = (t.0, t.1, record { taken = t.2; after = t.3; run = run_of l m (turn_events t.0) t.3 })
   turn_on may l m (Err x) t = tt

@@ -52,7 +52,8 @@ read_ties x w l t =
     let s = stands_at x w l t in
     let same = same_read (readable p e) e in
     let reads : ReadLeaves x (first_at l x) (first_at l (other x)) p e f (act_read (conn_at l x)) =
-    subst (λ v. ReadLeaves x (first_at l x) (first_at l (other x)) p e f (act_read v)) (sym s.2) (read_leaves x s.0 (first_at l x) (first_at l (other x)) e p s.1 h.reader h.ok) in
+    subst (λ v. ReadLeaves x (first_at l x) (first_at l (other x)) p e f (act_read v)) (sym s.2)
+    (read_leaves x s.0 (first_at l x) (first_at l (other x)) e p s.1 h.reader h.ok) in
     ties_on x w l Read (ReadAt x) f t
     (record {
       leaves = renamed Gave x _ _ p f (act_read (conn_at l x)) reads.0;
@@ -76,7 +77,8 @@ ended_new RfcReceived e at = same_phase e _ (sym at)
 ended_new Ended e at = same_phase e _ (sym at)
 ended_new Closed e at = same_phase e _ (sym at)
 
-pub tick_ties : (x : Side) (w : Machine) (l : LabView) (now : ℕ) → Ties w l → Stepped w (TickAt x) (after_call l x (Tick now))
+pub tick_ties : (x : Side) (w : Machine) (l : LabView) (now : ℕ) → Ties w l
+    → Stepped w (TickAt x) (after_call l x (Tick now))
 tick_ties x w l now t =
     let e : Plain = end_of w x in
     let p : Plain = end_of w (other x) in
@@ -84,7 +86,8 @@ tick_ties x w l now t =
     let s = stands_at x w l t in
     let f : Plain = record e { phase = ended_phase e.phase } in
     let ticks : TickLeaves x (first_at l x) (first_at l (other x)) p e (act_tick (conn_at l x) now) =
-    subst (λ v. TickLeaves x (first_at l x) (first_at l (other x)) p e (act_tick v now)) (sym s.2) (tick_leaves x s.0 (first_at l x) (first_at l (other x)) now e p s.1 h.reader h.ok (items_at x w l t)) in
+    subst (λ v. TickLeaves x (first_at l x) (first_at l (other x)) p e (act_tick v now)) (sym s.2)
+    (tick_leaves x s.0 (first_at l x) (first_at l (other x)) now e p s.1 h.reader h.ok (items_at x w l t)) in
     ⊎_elim
     (λ (k : Leaves x (first_at l x) (first_at l (other x)) p e (act_tick (conn_at l x) now)).
     ties_on x w l (Tick now) (TickAt x) e t
@@ -119,16 +122,19 @@ tick_ties x w l now t =
 closed_new : (phase : Phase) (e : Plain) → e.phase ≡ phase → SameNew e (record e { phase = closed_phase phase })
 closed_new Inactive e at = same_phase e _ (sym at)
 closed_new RfcSent e at = not_new e _ (λ t. let no : RfcSent ≡ Inactive = sym at ∙ t in absurd (cc)) (λ t. absurd (cc))
-closed_new RfcReceived e at = not_new e _ (λ t. let no : RfcReceived ≡ Inactive = sym at ∙ t in absurd (cc)) (λ t. absurd (cc))
+closed_new RfcReceived e at =
+    not_new e _ (λ t. let no : RfcReceived ≡ Inactive = sym at ∙ t in absurd (cc)) (λ t. absurd (cc))
 closed_new Open e at = not_new e _ (λ t. let no : Open ≡ Inactive = sym at ∙ t in absurd (cc)) (λ t. absurd (cc))
 closed_new Ended e at = not_new e _ (λ t. let no : Ended ≡ Inactive = sym at ∙ t in absurd (cc)) (λ t. absurd (cc))
 closed_new Closed e at = not_new e _ (λ t. let no : Closed ≡ Inactive = sym at ∙ t in absurd (cc)) (λ t. absurd (cc))
 
 -- a call was refused, or keeps the tie
 abbrev pub Refuses : Side → Machine → LabView → Call → Event → Type 0
-Refuses x w l call event = ((why : ConnFault) × (refusal_at l x call ≡ Some why)) ⊎ Stepped w event (after_call l x call)
+Refuses x w l call event =
+    ((why : ConnFault) × (refusal_at l x call ≡ Some why)) ⊎ Stepped w event (after_call l x call)
 
-pub close_ties : (x : Side) (w : Machine) (l : LabView) (text : List ℕ) → Ties w l → Refuses x w l (Close text) (CloseAt x)
+pub close_ties : (x : Side) (w : Machine) (l : LabView) (text : List ℕ) → Ties w l
+    → Refuses x w l (Close text) (CloseAt x)
 close_ties x w l text t =
     let e : Plain = end_of w x in
     let p : Plain = end_of w (other x) in
@@ -136,9 +142,11 @@ close_ties x w l text t =
     let s = stands_at x w l t in
     let f : Plain = record e { phase = closed_phase e.phase } in
     ⊎_elim
-    (λ r. inl (fa.TooLong, ap (λ a. refusal_of (Did a.answer)) (subst (λ v. act_close v text ≡ quietly v (Err fa.TooLong)) (sym s.2) r)))
+    (λ r. inl
+    (fa.TooLong, ap (λ a. refusal_of (Did a.answer)) (subst (λ v. act_close v text ≡ quietly v (Err fa.TooLong)) (sym s.2) r)))
     (λ d.
-    let k : Leaves x (first_at l x) (first_at l (other x)) p f (act_close (conn_at l x) text) = subst (λ v. Leaves x (first_at l x) (first_at l (other x)) p f (act_close v text)) (sym s.2) d in
+    let k : Leaves x (first_at l x) (first_at l (other x)) p f (act_close (conn_at l x) text) =
+    subst (λ v. Leaves x (first_at l x) (first_at l (other x)) p f (act_close v text)) (sym s.2) d in
     inr (ties_on x w l (Close text) (CloseAt x) f t
     (record {
       leaves = renamed Did x _ _ p f (act_close (conn_at l x) text) k;
@@ -155,7 +163,8 @@ close_ties x w l text t =
 
 -- ---- a write
 
-pub write_ties : (x : Side) (w : Machine) (l : LabView) (op : ℕ) (bytes : List ℕ) (now : ℕ) → Ties w l → Refuses x w l (Write op bytes now) (WriteAt x (record { op = op; body = bytes }))
+pub write_ties : (x : Side) (w : Machine) (l : LabView) (op : ℕ) (bytes : List ℕ) (now : ℕ) → Ties w l
+    → Refuses x w l (Write op bytes now) (WriteAt x (record { op = op; body = bytes }))
 write_ties x w l op bytes now t =
     let item : ItemView = record { op = op; body = bytes } in
     let e : Plain = end_of w x in
@@ -164,9 +173,11 @@ write_ties x w l op bytes now t =
     let s = stands_at x w l t in
     let f : Plain = record e { written = e.written ++ item ∷ [] } in
     ⊎_elim
-    (λ r. inl (r.0, ap (λ a. refusal_of (Wrote a.answer)) (subst (λ v. act_write v op bytes now ≡ quietly v (Err r.0)) (sym s.2) r.1)))
+    (λ r. inl
+    (r.0, ap (λ a. refusal_of (Wrote a.answer)) (subst (λ v. act_write v op bytes now ≡ quietly v (Err r.0)) (sym s.2) r.1)))
     (λ d.
-    let k : Leaves x (first_at l x) (first_at l (other x)) p f (act_write (conn_at l x) op bytes now) = subst (λ v. Leaves x (first_at l x) (first_at l (other x)) p f (act_write v op bytes now)) (sym s.2) d.3 in
+    let k : Leaves x (first_at l x) (first_at l (other x)) p f (act_write (conn_at l x) op bytes now) =
+    subst (λ v. Leaves x (first_at l x) (first_at l (other x)) p f (act_write v op bytes now)) (sym s.2) d.3 in
     inr (ties_on x w l (Write op bytes now) (WriteAt x item) f t
     (record {
       leaves = renamed Wrote x _ _ p f (act_write (conn_at l x) op bytes now) k;
@@ -183,7 +194,8 @@ write_ties x w l op bytes now t =
 
 -- ---- another window
 
-pub resize_ties : (x : Side) (w : Machine) (l : LabView) (window : ℕ) → Ties w l → Refuses x w l (Announce window) (ResizeAt x window)
+pub resize_ties : (x : Side) (w : Machine) (l : LabView) (window : ℕ) → Ties w l
+    → Refuses x w l (Announce window) (ResizeAt x window)
 resize_ties x w l window t =
     let e : Plain = end_of w x in
     let p : Plain = end_of w (other x) in
@@ -191,7 +203,8 @@ resize_ties x w l window t =
     let s = stands_at x w l t in
     let f : Plain = record e { announced = window } in
     let resizes : Resizes x (first_at l x) (first_at l (other x)) window p e (conn_at l x) =
-    subst (Resizes x (first_at l x) (first_at l (other x)) window p e) (sym s.2) (resize_leaves x s.0 (first_at l x) (first_at l (other x)) window e p s.1 h.reader h.ok) in
+    subst (Resizes x (first_at l x) (first_at l (other x)) window p e) (sym s.2)
+    (resize_leaves x s.0 (first_at l x) (first_at l (other x)) window e p s.1 h.reader h.ok) in
     ⊎_elim
     (λ r. inl (r.0, ap (λ a. refusal_of (Did a.answer)) r.1))
     (λ d.
@@ -212,7 +225,8 @@ resize_ties x w l window t =
 -- ---- an acceptance
 
 -- B's first number may be any until it accepts
-rebased : (start : ℕ) (w : Machine) (l : LabView) → length w.b.written ≡ 0 → Ties w l → Ties w (record l { b = record l.b { first = start } })
+rebased : (start : ℕ) (w : Machine) (l : LabView) → length w.b.written ≡ 0 → Ties w l
+    → Ties w (record l { b = record l.b { first = start } })
 rebased start w l none t = record {
   tied = rebase l.a.first l.b.first start w l.a.conn l.b.conn l.copies none t.tied;
   written_a = t.written_a;
@@ -222,11 +236,15 @@ rebased start w l none t = record {
   asked = t.asked;
 }
 
-first_items : (b' : ℕ) (p e : Plain) → p.written ≡ [] → e.written ≡ p.written ++ opn_of b' p.recv_cap ∷ [] → e.recv_cap ≡ p.recv_cap → HasItems B b' e
+first_items : (b' : ℕ) (p e : Plain) → p.written ≡ [] → e.written ≡ p.written ++ opn_of b' p.recv_cap ∷ []
+    → e.recv_cap ≡ p.recv_cap → HasItems B b' e
 first_items b' p e nil is cap =
     let one : e.written ≡ opn_of b' p.recv_cap ∷ [] = is ∙ ap (λ ws. ws ++ opn_of b' p.recv_cap ∷ []) nil in
     record {
-      first = λ i h. let same : opn_of b' p.recv_cap ≡ i = some_is (sym (ap (λ ws. slice_get ws 0) one) ∙ h) in subst (IsFirst B b' e.recv_cap) same (refl, ap (λ c. halves (told_num b' 1 ∷ c ∷ [])) (sym cap));
+      first =
+          λ i h. let same : opn_of b' p.recv_cap
+          ≡ i = some_is (sym (ap (λ ws. slice_get ws 0) one) ∙ h) in subst (IsFirst B b' e.recv_cap) same
+          (refl, ap (λ c. halves (told_num b' 1 ∷ c ∷ [])) (sym cap));
       users = λ n i h. let none : None ≡ Some i = sym (ap (λ ws. slice_get ws (suc n)) one) ∙ h in absurd (cc);
     }
   where
@@ -237,7 +255,8 @@ one_sent : (packets : List PacketView) (item : ItemView) → map item_of packets
 one_sent [] item h = absurd (cc)
 one_sent (packet ∷ packets) item h = cc
 
-pub accept_ties : (w : Machine) (l : LabView) (start now : ℕ) → Ties w l → Refuses B w l (Accept start now) (AcceptAt B (sent_item (act_accept l.b.conn start now).packets))
+pub accept_ties : (w : Machine) (l : LabView) (start now : ℕ) → Ties w l
+    → Refuses B w l (Accept start now) (AcceptAt B (sent_item (act_accept l.b.conn start now).packets))
 accept_ties w l start now t =
     let e : Plain = w.b in
     let p : Plain = w.a in
@@ -247,10 +266,14 @@ accept_ties w l start now t =
     let packets = (act_accept l.b.conn start now).packets in
     let f : Plain = record (read_item (next_item p e) e) { phase = Open; written = e.written ++ opn ∷ [] } in
     ⊎_elim
-    (λ r. inl (fa.WrongState, ap (λ a. refusal_of (Did a.answer)) (subst (λ v. act_accept v start now ≡ quietly v (Err fa.WrongState)) (sym s.2) r)))
+    (λ r. inl
+    (fa.WrongState, ap (λ a. refusal_of (Did a.answer)) (subst (λ v. act_accept v start now ≡ quietly v (Err fa.WrongState)) (sym s.2) r)))
     (λ d.
-    let was : IsNew B e.written e.read × (contains e.arrived 0 ≡ true) × ((i : ℕ) → contains e.arrived i ≡ true → i ≡ 0) = subst (λ (ph : Phase). Fits ph B e.written e.read e.arrived) d.0 h.ok.fits in
-    let all : Accepted s.0 l.b.first l.a.first start now p e l.b.conn = subst (Accepted s.0 l.b.first l.a.first start now p e) (sym s.2) d.1 in
+    let was : IsNew B e.written e.read × (contains e.arrived 0 ≡ true)
+    × ((i : ℕ) → contains e.arrived i ≡ true → i ≡ 0) =
+    subst (λ (ph : Phase). Fits ph B e.written e.read e.arrived) d.0 h.ok.fits in
+    let all : Accepted s.0 l.b.first l.a.first start now p e l.b.conn =
+    subst (Accepted s.0 l.b.first l.a.first start now p e) (sym s.2) d.1 in
     let sent : opn ≡ sent_item packets = one_sent packets opn all.accepts.1 in
     let m : LabView = record l { b = record l.b { first = start } } in
     let keeps : KeepsTie B w m (Accept start now) (AcceptAt B opn) f = record {
@@ -262,7 +285,9 @@ accept_ties w l start now t =
       wrote = (λ j. t.written_b j ++ all.accepts.1 j);
       got = (λ j. t.read_b j ++ option_to_list (all.front j)) ∙ sym (ap (λ o. (read_item o e).read) all.next);
       first = refl;
-      asked = asked_keeps B w m f (rebased start w l was.0.1 t) (not_new e f (λ i. let no : RfcReceived ≡ Inactive = sym d.0 ∙ i in absurd (cc)) (λ i. absurd (cc)));
+      asked =
+          asked_keeps B w m f (rebased start w l was.0.1 t)
+          (not_new e f (λ i. let no : RfcReceived ≡ Inactive = sym d.0 ∙ i in absurd (cc)) (λ i. absurd (cc)));
     } in
     inr (subst (λ o. Stepped w (AcceptAt B o) (after_call l B (Accept start now))) sent
     (ties_on B w m (Accept start now) (AcceptAt B opn) f (rebased start w l was.0.1 t) keeps)))

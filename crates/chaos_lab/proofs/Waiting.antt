@@ -27,10 +27,12 @@ not_there p e d none =
     (λ (u : contains e.arrived (length e.read) ≡ false). u)
     (cases_Bool (contains e.arrived (length e.read)))
 
-pub waiting : (y : Side) (w : Machine) (l : LabView) → Ties w l → (end_of w y).phase ≡ Open → Waits l y → contains (end_of w y).arrived (length (end_of w y).read) ≡ false
+pub waiting : (y : Side) (w : Machine) (l : LabView) → Ties w l → (end_of w y).phase ≡ Open → Waits l y
+    → contains (end_of w y).arrived (length (end_of w y).read) ≡ false
 waiting y w l t at waits =
     let e : Plain = end_of w y in
     let p : Plain = end_of w (other y) in
     let h = end_holds w y (reached_holds w t.tied.reached) in
-    let front : front_of (conn_at l y) ≡ there_at p e (length e.read) = ap front_of (shows y w l t at).is ∙ front_is (first_at l (other y)) p e h.ok.caps.2 in
+    let front : front_of (conn_at l y) ≡ there_at p e (length e.read) =
+    ap front_of (shows y w l t at).is ∙ front_is (first_at l (other y)) p e h.ok.caps.2 in
     not_there p e h.reader (sym front ∙ waits)

@@ -97,8 +97,8 @@ answer_of call _ = stepped.Closed
 
 -- ---- Both ends
 
--- Both ends, and every packet that was ever sent, the oldest first. Whether B took a request, and the greatest moment that was
--- ticked.
+-- Both ends, and every packet that was ever sent, the oldest first. Whether B took a request, and the greatest moment
+-- that was ticked.
 pub record LabView : Type 0 where
   pub a : EndView
   pub b : EndView
@@ -122,7 +122,8 @@ stamp x len_a len_b packet = record { side = x; packet = packet; len_a = len_a; 
 
 -- packets that the end at x put out join the copies, stamped with what both ends have written now
 abbrev pub with_sent : LabView → Side → List PacketView → LabView
-with_sent l x packets = record l { copies = l.copies ++ map (stamp x (length l.a.written) (length l.b.written)) packets }
+with_sent l x packets =
+    record l { copies = l.copies ++ map (stamp x (length l.a.written) (length l.b.written)) packets }
 
 -- B took a request
 abbrev pub asked_after : Bool → Call → Bool
@@ -137,7 +138,8 @@ clock_after clock _ = clock
 abbrev pub after_call : LabView → Side → Call → LabView
 after_call l x call =
     let m = with_lab_end l x (end_after (lab_end l x) call) in
-    record (with_sent m x (act (lab_end l x).conn call).packets) { asked = asked_after l.asked call; clock = clock_after l.clock call }
+    record (with_sent m x (act (lab_end l x).conn call).packets)
+    { asked = asked_after l.asked call; clock = clock_after l.clock call }
 
 -- the laboratory after an event, and the answer
 pub record Done : Type 0 where
@@ -150,7 +152,8 @@ refusal l why = record { lab = l; answer = Err why }
 
 abbrev pub call_effect : LabView → Side → Call → Option ConnFault → Done
 call_effect l x call (Some why) = refusal l (fault.Refused why)
-call_effect l x call None = record { lab = after_call l x call; answer = Ok (answer_of call (act (lab_end l x).conn call).answer) }
+call_effect l x call None =
+    record { lab = after_call l x call; answer = Ok (answer_of call (act (lab_end l x).conn call).answer) }
 
 -- a call at x, which is refused exactly where its connection refuses it
 abbrev pub call_at : LabView → Side → Call → Done
@@ -169,7 +172,8 @@ request_for contact config start = act_request (new_conn config) (place_of A) (a
 -- A has requested a contact, and its RFC is copy 0; B is new
 abbrev pub start_for : List ℕ → ConfigView → ConfigView → ℕ → LabView
 start_for contact config_a config_b start = record {
-  a = record { conn = (request_for contact config_a start).view; first = start; written = rfc_item contact ∷ []; read = [] };
+  a =
+      record { conn = (request_for contact config_a start).view; first = start; written = rfc_item contact ∷ []; read = [] };
   b = record { conn = new_conn config_b; first = 0; written = []; read = [] };
   copies = map (stamp A 1 0) (request_for contact config_a start).packets;
   asked = false;
@@ -206,7 +210,8 @@ delivery asked now s = if is_request asked s then TakeRequest s.packet (place_of
 
 abbrev pub delivery_effect : LabView → Option Stamped → Done
 delivery_effect l None = refusal l fault.NoSuchCopy
-delivery_effect l (Some s) = if is_fresh l.a l.b s then call_at l (other s.side) (delivery l.asked l.clock s) else refusal l fault.Stale
+delivery_effect l (Some s) =
+    if is_fresh l.a l.b s then call_at l (other s.side) (delivery l.asked l.clock s) else refusal l fault.Stale
 
 -- What an event does. A call without a moment of its own gets the greatest one ticked.
 abbrev pub happen : LabView → Happening → Done
@@ -231,7 +236,8 @@ check l _ = None
 -- The call did what it does. Or there was no memory, and nothing changed.
 abbrev pub Calls : LabView → Side → Call → LabView → Result Stepped LabFault → Type 0
 Calls old x call new answer =
-    ((new ≡ (call_at old x call).lab) × (answer ≡ (call_at old x call).answer)) ⊎ ((new ≡ old) × (answer ≡ Err fault.NoMemory))
+    ((new ≡ (call_at old x call).lab) × (answer ≡ (call_at old x call).answer))
+    ⊎ ((new ≡ old) × (answer ≡ Err fault.NoMemory))
 
 -- so with a copy that is there
 abbrev pub CallsWith : Option Stamped → (Stamped → Type 0) → Type 0
@@ -249,7 +255,8 @@ abbrev pub after_all : LabView → List Happening → LabView
 after_all l [] = l
 after_all l (event ∷ events) = after_all (happen l event).lab events
 
--- The laboratory after the first events of these, at whose next one there was no memory. That one had passed the checks.
+-- The laboratory after the first events of these, at whose next one there was no memory. That one had passed the
+-- checks.
 abbrev pub StopsWithin : LabView → List Happening → LabView → Type 0
 StopsWithin old events new =
     (done : ℕ) × (event : Happening) × (slice_get events done ≡ Some event) × (check new event ≡ None)

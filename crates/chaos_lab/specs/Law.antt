@@ -22,8 +22,8 @@ reader m x = end_of m (other x)
 abbrev pub IsThere : PlainEnd → ℕ → Type 0
 IsThere e i = (i < length e.read) ⊎ (contains e.arrived i ≡ true)
 
--- the step from m to n delivers a copy of item i of this direction to its open reader, inside the window that the reader
--- announces
+-- the step from m to n delivers a copy of item i of this direction to its open reader, inside the window that the
+-- reader announces
 pub record DeliversInside (m : Machine) (x : Side) (i : ℕ) (n : Machine) : Type 0 where
   pub number : ℕ
   pub copy : Copy

@@ -1,6 +1,7 @@
--- The plain machine: the two ends of one connection (AI Memo 628, on connections), over a network that keeps every packet that was
--- ever sent, and may deliver it late, twice, out of order or never. Its lists have no bound, its counts are true counts, and it
--- knows no packet numbers. Item 0 of A is its RFC, item 0 of B its OPN, and every later item is data or an EOF.
+-- The plain machine: the two ends of one connection (AI Memo 628, on connections), over a network that keeps every
+-- packet that was ever sent, and may deliver it late, twice, out of order or never. Its lists have no bound, its counts
+-- are true counts, and it knows no packet numbers. Item 0 of A is its RFC, item 0 of B its OPN, and every later item is
+-- data or an EOF.
 use Rattle.std.specs.Prelude.{◌≡◌, ◌≢◌, ℕ, zero, suc, ◌+◌, ◌-◌, ◌<◌, ◌≤◌, min, max, List, [], ◌∷◌, ◌++◌, length, true, false, ◌&&◌, if◌then◌else◌, nat_lt, nat_le, Option, Some, None, slice_get, ⊤, ◌⊎◌}
 use Rattle.std.specs.List.{All}
 use Rattle.std.specs.Ordering.{nat_cmp}
@@ -46,8 +47,8 @@ pub data Kind : Type 0 where
   Nth : (index : ℕ) → Kind
   Sns Sts Cls : Kind
 
--- what it tells of its sender as a reader: how many items its user read, and with a status how many arrived, and the window
--- that it announces
+-- what it tells of its sender as a reader: how many items its user read, and with a status how many arrived, and the
+-- window that it announces
 pub data Told : Type 0 where
   Nothing : Told
   Acknowledges : (acknowledgement : ℕ) → Told
@@ -98,8 +99,8 @@ abbrev pub MaySend : Kind → PlainEnd → Type 0
 MaySend (Nth i) e = (e.receipted ≤ i) × (i < length e.written)
 MaySend _ e = ⊤
 
--- an RFC and a CLS tell nothing; an OPN tells the status at its Accept, when the RFC alone had arrived and the window was the
--- greatest; and an STS tells the present status
+-- an RFC and a CLS tell nothing; an OPN tells the status at its Accept, when the RFC alone had arrived and the window
+-- was the greatest; and an STS tells the present status
 abbrev pub Tells : Kind → Side → PlainEnd → Told → Type 0
 Tells (Nth zero) A e told = told ≡ Nothing
 Tells (Nth zero) B e told = told ≡ Status (length e.read) 1 e.recv_cap
@@ -136,7 +137,8 @@ hear told e = announce told (tell told e)
 -- item i arrives, where it isn't read yet and lies inside the window that the end announces
 abbrev pub take_in : ℕ → PlainEnd → PlainEnd
 take_in i e =
-    if nat_le (length e.read) i && nat_lt i (length e.read + e.announced) then record e { arrived = insert e.arrived i } else e
+    if nat_le (length e.read) i
+    && nat_lt i (length e.read + e.announced) then record e { arrived = insert e.arrived i } else e
 
 -- its user reads this item, where there is one
 abbrev pub read_item : Option ItemView → PlainEnd → PlainEnd
@@ -155,21 +157,25 @@ Row = (peer e f : PlainEnd) → Type 0
 
 -- an RFC comes to an end that wasn't asked before
 abbrev pub Request : Copy → Row
-Request c peer e f = (c.kind ≡ Nth 0) × (e.phase ≡ Inactive) × (f ≡ record e { phase = RfcReceived; arrived = insert e.arrived 0 })
+Request c peer e f =
+    (c.kind ≡ Nth 0) × (e.phase ≡ Inactive) × (f ≡ record e { phase = RfcReceived; arrived = insert e.arrived 0 })
 
 -- an end that was asked reads the RFC, and writes its OPN
 abbrev pub Accept : ItemView → Row
-Accept opn peer e f = (e.phase ≡ RfcReceived) × (f ≡ record (read_next peer e) { phase = Open; written = e.written ++ opn ∷ [] })
+Accept opn peer e f =
+    (e.phase ≡ RfcReceived) × (f ≡ record (read_next peer e) { phase = Open; written = e.written ++ opn ∷ [] })
 
 -- an OPN comes to the end that asked, and is read
 abbrev pub Opened : Copy → Row
 Opened c peer e f =
-    (c.kind ≡ Nth 0) × (e.phase ≡ RfcSent) × (f ≡ hear c.told (read_next peer (record e { phase = Open; arrived = insert e.arrived 0 })))
+    (c.kind ≡ Nth 0) × (e.phase ≡ RfcSent)
+    × (f ≡ hear c.told (read_next peer (record e { phase = Open; arrived = insert e.arrived 0 })))
 
 -- an open end writes an item, while those that aren't acknowledged are fewer than its window
 abbrev pub Write : ItemView → Row
 Write item peer e f =
-    (e.phase ≡ Open) × (length e.written - e.acknowledged < e.window) × (f ≡ record e { written = e.written ++ item ∷ [] })
+    (e.phase ≡ Open) × (length e.written - e.acknowledged < e.window)
+    × (f ≡ record e { written = e.written ++ item ∷ [] })
 
 -- an item comes to an open end
 abbrev pub Arrive : Copy → Row
@@ -181,7 +187,8 @@ Control c peer e f = (e.phase ≡ Open) × ((c.kind ≡ Sns) ⊎ (c.kind ≡ Sts
 
 -- the user of an open or ended end reads the next item, once that has arrived
 abbrev pub Read : Row
-Read peer e f = ((e.phase ≡ Open) ⊎ (e.phase ≡ Ended)) × (contains e.arrived (length e.read) ≡ true) × (f ≡ read_next peer e)
+Read peer e f =
+    ((e.phase ≡ Open) ⊎ (e.phase ≡ Ended)) × (contains e.arrived (length e.read) ≡ true) × (f ≡ read_next peer e)
 
 -- an open end announces another window, which is at most the greatest
 abbrev pub Resize : ℕ → Row
@@ -197,7 +204,8 @@ Close peer e f = (e.phase ≢ Inactive) × (f ≡ record e { phase = Closed })
 
 -- the rows for a copy that comes
 abbrev pub Comes : Copy → Row
-Comes c peer e f = Request c peer e f ⊎ Opened c peer e f ⊎ Arrive c peer e f ⊎ Control c peer e f ⊎ ((c.kind ≡ Cls) × End peer e f)
+Comes c peer e f =
+    Request c peer e f ⊎ Opened c peer e f ⊎ Arrive c peer e f ⊎ Control c peer e f ⊎ ((c.kind ≡ Cls) × End peer e f)
 
 -- time may end an end, or not
 abbrev pub Tick : Row
@@ -212,7 +220,8 @@ OrNothing row peer e f = row peer e f ⊎ (((g : PlainEnd) → row peer e g → 
 -- the end at x becomes f, and then sends any copies that it may send, or none
 abbrev pub Becomes : Machine → Side → PlainEnd → Machine → Type 0
 Becomes m x f n =
-    (sent : List Copy) × All (IsSent (with_end m x f) x) sent × (n ≡ record (with_end m x f) { copies = m.copies ++ sent })
+    (sent : List Copy) × All (IsSent (with_end m x f) x) sent
+    × (n ≡ record (with_end m x f) { copies = m.copies ++ sent })
 
 -- a step of the end at x by this row, or by nothing where the row allows none
 abbrev pub Moves : Row → Machine → Side → Machine → Type 0

@@ -23,14 +23,16 @@ pub record EndDone : Type 0 where
 
 abbrev pub made_by : EndView → Call → Option ConnFault → EndDone
 made_by e call (Some why) = record { end = e; packets = []; answer = Err (fault.Refused why) }
-made_by e call None = record { end = end_after e call; packets = (act e.conn call).packets; answer = Ok (answer_of call (act e.conn call).answer) }
+made_by e call None =
+    record { end = end_after e call; packets = (act e.conn call).packets; answer = Ok (answer_of call (act e.conn call).answer) }
 
 -- a call that is refused changes nothing
 abbrev pub made : EndView → Call → EndDone
 made e call = made_by e call (refusal_of (act e.conn call).answer)
 
 -- the call did that, with an outbox that was empty
-pub record Makes (old : EndView) (call : Call) (new : EndView) (before after : OutboxView) (reply : Result Stepped LabFault) : Type 0 where
+pub record Makes (old : EndView) (call : Call) (new : EndView) (before after : OutboxView)
+    (reply : Result Stepped LabFault) : Type 0 where
   pub end : new ≡ (made old call).end
   pub packets : after ≡ record before { packets = (made old call).packets }
   pub answer : reply ≡ (made old call).answer
@@ -44,5 +46,7 @@ read_at B ends = ends.b.read.list.items
 
 -- the call did that at one of both ends, and the other stays as it is
 abbrev pub MakesAt : Side → Call → (old new : BothEnds) → (before after : OutboxView) → Result Stepped LabFault → Type 0
-MakesAt A call old new before after reply = Makes (end_view old.a) call (end_view new.a) before after reply × (new.b ≡ old.b)
-MakesAt B call old new before after reply = Makes (end_view old.b) call (end_view new.b) before after reply × (new.a ≡ old.a)
+MakesAt A call old new before after reply =
+    Makes (end_view old.a) call (end_view new.a) before after reply × (new.b ≡ old.b)
+MakesAt B call old new before after reply =
+    Makes (end_view old.b) call (end_view new.b) before after reply × (new.a ≡ old.a)

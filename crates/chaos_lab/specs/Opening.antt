@@ -26,7 +26,8 @@ asking l = TickOf A (again_moment l.a.conn) ∷ DeliverCopy (length l.copies) �
 abbrev pub accepting : ℕ → LabView → List Happening
 accepting start l = AcceptFrom start ∷ DeliverCopy (length l.copies) ∷ DeliverCopy (length l.copies + 1) ∷ []
 
--- B's clock goes on until B sends again what it keeps, of which its OPN is the first. The OPN comes to A, and A's STS to B.
+-- B's clock goes on until B sends again what it keeps, of which its OPN is the first. The OPN comes to A, and A's STS
+-- to B.
 abbrev pub repeating : LabView → List Happening
 repeating l =
     let again = TickOf B (again_moment l.b.conn) in
@@ -48,7 +49,8 @@ pub record SendsInTime (v : ConnView) : Type 0 where
   pub again : again_moment v < v.heard + v.config.down
   pub moments : again_moment v ≤ last_moment
 
--- B took no request yet, and A sends its own again in time; or B holds it; or B accepted it, and sends its OPN again in time.
+-- B took no request yet, and A sends its own again in time; or B holds it; or B accepted it, and sends its OPN again in
+-- time.
 abbrev pub CanMeet : LabView → Type 0
 CanMeet l =
     ((l.asked ≡ false) × SendsInTime l.a.conn)
@@ -62,7 +64,8 @@ pub record CanOpen (l : LabView) : Type 0 where
 
 -- ---- what comes of it
 
--- a user reads or announces a window, a clock goes on, B's user accepts, or a copy comes that was sent as the n-th or later
+-- a user reads or announces a window, a clock goes on, B's user accepts, or a copy comes that was sent as the n-th or
+-- later
 abbrev pub IsOpeningHelp : ℕ → Happening → Type 0
 IsOpeningHelp n (AcceptFrom start) = ⊤
 IsOpeningHelp n event = IsHelp n event
@@ -77,10 +80,12 @@ most_opening_events = 5
 
 -- what B wrote stays, or it had written nothing and has now written its OPN
 abbrev pub WritesOpn : List ItemView → List ItemView → Type 0
-WritesOpn before after = (after ≡ before) ⊎ ((before ≡ []) × ((opn : ItemView) × (after ≡ opn ∷ []) × (opn.op ≡ op_opn)))
+WritesOpn before after =
+    (after ≡ before) ⊎ ((before ≡ []) × ((opn : ItemView) × (after ≡ opn ∷ []) × (opn.op ≡ op_opn)))
 
--- These events are few, none is a write or a close and none is refused, and they deliver only what was sent since. After them both
--- ends are open, what A wrote stays, B has written its OPN at most, and neither keeps its first item any longer.
+-- These events are few, none is a write or a close and none is refused, and they deliver only what was sent since.
+-- After them both ends are open, what A wrote stays, B has written its OPN at most, and neither keeps its first item
+-- any longer.
 pub record Opens (l : LabView) (events : List Happening) : Type 0 where
   pub few : length events ≤ most_opening_events
   pub help : AreOpeningHelp (length l.copies) events
@@ -88,7 +93,8 @@ pub record Opens (l : LabView) (events : List Happening) : Type 0 where
   pub open_ends : (x : Side) → (lab_end (after_all l events) x).conn.state ≡ st.Open
   pub asker : (after_all l events).a.written ≡ l.a.written
   pub accepter : WritesOpn l.b.written (after_all l events).b.written
-  pub kept : (x : Side) → length (lab_end (after_all l events) x).conn.send.kept < length (lab_end (after_all l events) x).written
+  pub kept : (x : Side)
+      → length (lab_end (after_all l events) x).conn.send.kept < length (lab_end (after_all l events) x).written
 
 -- ---- and then they settle
 
@@ -96,7 +102,8 @@ pub record Opens (l : LabView) (events : List Happening) : Type 0 where
 abbrev pub opening_moment : LabView → ℕ
 opening_moment l = max (max (again_moment l.a.conn) (again_moment l.b.conn)) l.clock
 
--- Both ends send again what was lost before they would count the other as down, and moments are left for that once they have opened.
+-- Both ends send again what was lost before they would count the other as down, and moments are left for that once they
+-- have opened.
 pub record HasTimeToSettle (l : LabView) : Type 0 where
   pub in_time : (x : Side) → (lab_end l x).conn.config.retransmit < (lab_end l x).conn.config.down
   pub moments : opening_moment l + l.a.conn.config.retransmit + l.b.conn.config.retransmit ≤ last_moment

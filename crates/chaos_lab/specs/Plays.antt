@@ -1,5 +1,5 @@
--- What the laws of two hosts take from the laboratory: each call of a connection of a host is played by an end of a laboratory, whose
--- connection is the same but for its names.
+-- What the laws of two hosts take from the laboratory: each call of a connection of a host is played by an end of a
+-- laboratory, whose connection is the same but for its names.
 use Rattle.std.specs.Prelude.{◌≡◌, ℕ, ◌+◌, ◌<◌, ◌≤◌, true, false, List, [], ◌∷◌, length, Some, None, slice_get, ⊤}
 use Rattle.std.specs.List.{AllByRecursion}
 use Rattle.chaos_packet.specs.Begins.{Begins}
@@ -50,7 +50,8 @@ CanPlay l x (Announce window) = ⊤
 CanPlay l x (Tick now) = ⊤
 CanPlay l x (Accept start now) = x ≡ B
 CanPlay l x (Deliver p now) = (is_rfc (kind_of p.op) ≡ false) × IsCopyTo l x p
-CanPlay l x (TakeRequest p me now) = (x ≡ B) × (me ≡ place_of B) × (is_rfc (kind_of p.op) ≡ true) × (l.asked ≡ false) × IsCopyTo l x p
+CanPlay l x (TakeRequest p me now) =
+    (x ≡ B) × (me ≡ place_of B) × (is_rfc (kind_of p.op) ≡ true) × (l.asked ≡ false) × IsCopyTo l x p
 CanPlay l x _ = ⊥
 
 -- Such a call keeps the tie to the plain machine.
@@ -65,7 +66,9 @@ quiet_at l x kind now =
 
 -- So does a packet that makes little of a connection.
 abbrev pub KeepsQuiet : Type 0
-KeepsQuiet = (l : LabView) (x : Side) (kind : Quiet) (now : ℕ) → HasMachine l → MayBe kind (lab_end l x).conn → HasMachine (quiet_at l x kind now)
+KeepsQuiet =
+    (l : LabView) (x : Side) (kind : Quiet) (now : ℕ) → HasMachine l → MayBe kind (lab_end l x).conn
+    → HasMachine (quiet_at l x kind now)
 
 -- ---- the beginning
 
@@ -73,17 +76,22 @@ KeepsQuiet = (l : LabView) (x : Side) (kind : Quiet) (now : ℕ) → HasMachine 
 abbrev pub begun_lab : List ℕ → ConnView → ConfigView → ℕ → ℕ → LabView
 begun_lab contact conn config_b start now =
     record (start_for contact conn.config config_b start) {
-      a = record { conn = (act_request conn (place_of A) (address_of B) contact start now).view; first = start; written = rfc_item contact ∷ []; read = [] };
+      a =
+          record { conn = (act_request conn (place_of A) (address_of B) contact start now).view; first = start; written = rfc_item contact ∷ []; read = [] };
     }
 
 -- A new or closed connection may ask.
 abbrev pub MayBegin : Type 0
-MayBegin = (contact : List ℕ) (conn : ConnView) (config_b : ConfigView) (start now : ℕ) → conn ≡ closed_conn conn → length contact ≤ MAX_DATA → start < 65536
+MayBegin =
+    (contact : List ℕ) (conn : ConnView) (config_b : ConfigView) (start now : ℕ) → conn ≡ closed_conn conn
+    → length contact ≤ MAX_DATA → start < 65536
     → IsConfig conn.config → IsConfig config_b → HasMachine (begun_lab contact conn config_b start now)
 
 -- B's connection that took no request may be any new or closed one of its configuration.
 abbrev pub MayReplace : Type 0
-MayReplace = (l : LabView) (conn : ConnView) → HasMachine l → l.asked ≡ false → conn ≡ closed_conn conn → conn.config ≡ l.b.conn.config
+MayReplace =
+    (l : LabView) (conn : ConnView) → HasMachine l → l.asked ≡ false → conn ≡ closed_conn conn
+    → conn.config ≡ l.b.conn.config
     → HasMachine (record l { b = record l.b { conn = conn } })
 
 -- ---- what is true of every laboratory
@@ -101,9 +109,12 @@ pub record IsRequestOf (l : LabView) (s : Stamped) : Type 0 where
   pub src_index : s.packet.src_index ≡ 1
 
 abbrev pub RfcIsFirst : Type 0
-RfcIsFirst = (l : LabView) (number : ℕ) (s : Stamped) → HasMachine l → slice_get l.copies number ≡ Some s → is_rfc (kind_of s.packet.op) ≡ true → IsRequestOf l s
+RfcIsFirst =
+    (l : LabView) (number : ℕ) (s : Stamped) → HasMachine l → slice_get l.copies number ≡ Some s
+    → is_rfc (kind_of s.packet.op) ≡ true → IsRequestOf l s
 
--- while A waits, it has written its RFC alone, has read nothing, knows no index, and keeps nothing that carries an acknowledgement
+-- while A waits, it has written its RFC alone, has read nothing, knows no index, and keeps nothing that carries an
+-- acknowledgement
 pub record Waits (e : EndView) : Type 0 where
   pub written : length e.written ≡ 1
   pub read : e.read ≡ []
@@ -125,15 +136,19 @@ UnaskedIsNew = (l : LabView) → HasMachine l → l.asked ≡ false → IsUnaske
 -- A is never asked, and B never asks; and where A knows no index, it has read nothing
 abbrev pub KnowsSides : Type 0
 KnowsSides = (l : LabView) → HasMachine l →
-    (l.a.conn.state ≡ st.RfcReceived → ⊥) × (l.b.conn.state ≡ st.RfcSent → ⊥) × (is_inactive l.a.conn.state ≡ false → l.a.conn.peer_index ≡ None → l.a.read ≡ [])
+    (l.a.conn.state ≡ st.RfcReceived → ⊥) × (l.b.conn.state ≡ st.RfcSent → ⊥)
+    × (is_inactive l.a.conn.state ≡ false → l.a.conn.peer_index ≡ None → l.a.read ≡ [])
 
 -- each packet but an RFC names the index of the other place
 abbrev pub OthersNameIndex : Type 0
-OthersNameIndex = (l : LabView) (number : ℕ) (s : Stamped) → HasMachine l → slice_get l.copies number ≡ Some s → is_rfc (kind_of s.packet.op) ≡ false → s.packet.dst_index ≡ 1
+OthersNameIndex =
+    (l : LabView) (number : ℕ) (s : Stamped) → HasMachine l → slice_get l.copies number ≡ Some s
+    → is_rfc (kind_of s.packet.op) ≡ false → s.packet.dst_index ≡ 1
 
 -- an open end has read the other's item 0
 abbrev pub OpenHasRead : Type 0
-OpenHasRead = (l : LabView) (x : Side) → HasMachine l → (lab_end l x).conn.state ≡ st.Open → 1 ≤ length (lab_end l x).read
+OpenHasRead =
+    (l : LabView) (x : Side) → HasMachine l → (lab_end l x).conn.state ≡ st.Open → 1 ≤ length (lab_end l x).read
 
 -- an A that has read nothing has written its RFC alone
 abbrev pub UnreadIsAlone : Type 0
@@ -141,9 +156,12 @@ UnreadIsAlone = (l : LabView) → HasMachine l → l.a.read ≡ [] → length l.
 
 -- ---- an item that comes
 
--- A fresh copy of item i comes to an open end inside the window that it announces. Where so many items before it are still to be read,
--- the end holds it at that place then.
+-- A fresh copy of item i comes to an open end inside the window that it announces. Where so many items before it are
+-- still to be read, the end holds it at that place then.
 abbrev pub ComesHeld : Type 0
-ComesHeld = (l : LabView) (x : Side) (p : PacketView) (now i place : ℕ) → HasMachine l → is_rfc (kind_of p.op) ≡ false → (c : IsCopyTo l x p) → IsCopyOf l c.copy i
-    → (lab_end l x).conn.state ≡ st.Open → i < length (lab_end l x).read + (lab_end l x).conn.recv.window → length (lab_end l x).read + place ≡ i
+ComesHeld =
+    (l : LabView) (x : Side) (p : PacketView) (now i place : ℕ) → HasMachine l → is_rfc (kind_of p.op) ≡ false
+    → (c : IsCopyTo l x p) → IsCopyOf l c.copy i
+    → (lab_end l x).conn.state ≡ st.Open → i < length (lab_end l x).read + (lab_end l x).conn.recv.window
+    → length (lab_end l x).read + place ≡ i
     → held_at (act_deliver (lab_end l x).conn p now).view place ≡ Some (item_of p)

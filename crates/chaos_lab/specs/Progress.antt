@@ -24,7 +24,8 @@ pub record IsInTime (v : ConnView) : Type 0 where
   pub open_end : v.state ≡ Open
   pub again : v.config.retransmit < v.config.down
 
--- A user reads or announces a window, a clock goes on, or the network delivers a copy, one that was sent as the n-th or later.
+-- A user reads or announces a window, a clock goes on, or the network delivers a copy, one that was sent as the n-th or
+-- later.
 abbrev pub IsHelp : ℕ → Happening → Type 0
 IsHelp n (ReadBy x) = ⊤
 IsHelp n (AnnounceBy x window) = ⊤
@@ -41,7 +42,8 @@ AreHelp n (event ∷ events) = IsHelp n event × AreHelp n events
 -- none of these events is refused
 abbrev pub AreTaken : LabView → List Happening → Type 0
 AreTaken l [] = ⊤
-AreTaken l (event ∷ events) = ((stepped : Stepped) × ((happen l event).answer ≡ Ok stepped)) × AreTaken (happen l event).lab events
+AreTaken l (event ∷ events) =
+    ((stepped : Stepped) × ((happen l event).answer ≡ Ok stepped)) × AreTaken (happen l event).lab events
 
 -- In m all that was written in l was read, nothing is stored, each end knows it, and both are open.
 pub record IsSettled (l m : LabView) : Type 0 where
@@ -61,8 +63,8 @@ pub record CanSettle (l : LabView) : Type 0 where
 abbrev pub most_events : ℕ
 most_events = 394
 
--- These events are few, none is a write or a close and none is refused, and they deliver only what was sent since. After them it is
--- settled.
+-- These events are few, none is a write or a close and none is refused, and they deliver only what was sent since.
+-- After them it is settled.
 pub record Settles (l : LabView) (events : List Happening) : Type 0 where
   pub few : length events ≤ most_events
   pub help : AreHelp (length l.copies) events
@@ -72,7 +74,8 @@ pub record Settles (l : LabView) (events : List Happening) : Type 0 where
 -- Each item that x wrote in l, an EOF too, stands in m at its place in what the other user has read, and x is drained.
 abbrev pub ReadThrough : Side → LabView → LabView → Type 0
 ReadThrough x l m =
-    ((i : ℕ) (item : ItemView) → slice_get (lab_end l x).written i ≡ Some item → slice_get (lab_end m (other x)).read i ≡ Some item)
+    ((i : ℕ) (item : ItemView) → slice_get (lab_end l x).written i ≡ Some item
+    → slice_get (lab_end m (other x)).read i ≡ Some item)
     × (is_drained (lab_end m x).conn ≡ true)
 
 -- ---- Rounds: whatever happens
@@ -92,14 +95,15 @@ IsCalm y (DeliverCopy copy ∷ events) = IsCalm y events
 abbrev pub Brings : LabView → List Happening → ℕ → Type 0
 Brings l [] copy = ⊥
 Brings l (event ∷ events) copy =
-    ((event ≡ DeliverCopy copy) × ((stepped : Stepped) × ((happen l event).answer ≡ Ok stepped))) ⊎ Brings (happen l event).lab events copy
+    ((event ≡ DeliverCopy copy) × ((stepped : Stepped) × ((happen l event).answer ≡ Ok stepped)))
+    ⊎ Brings (happen l event).lab events copy
 
 -- its user has read all that can be read
 abbrev pub Waits : LabView → Side → Type 0
 Waits l y = front_of (lab_end l y).conn ≡ None
 
--- An end that awaits its peer keeps something, and at this moment it was last sent long ago enough, and the peer heard since not
--- too long.
+-- An end that awaits its peer keeps something, and at this moment it was last sent long ago enough, and the peer heard
+-- since not too long.
 pub record IsDue (v : ConnView) (now : ℕ) : Type 0 where
   pub awaits : awaits_peer v.state ≡ true
   pub some : 0 < length v.send.kept
@@ -107,8 +111,9 @@ pub record IsDue (v : ConnView) (now : ℕ) : Type 0 where
   pub again : v.resent + v.config.retransmit ≤ now
   pub heard : now < v.heard + v.config.down
 
--- A round of the direction of x, from l to m. Both ends are open; the other user waits, and announces a window. The end at x sends
--- again. Each copy that this puts out comes afterwards, in whatever order and with whatever between, and the other end stays open.
+-- A round of the direction of x, from l to m. Both ends are open; the other user waits, and announces a window. The end
+-- at x sends again. Each copy that this puts out comes afterwards, in whatever order and with whatever between, and the
+-- other end stays open.
 pub record Round (x : Side) (l m : LabView) : Type 0 where
   pub open_ends : (y : Side) → (lab_end l y).conn.state ≡ Open
   pub waits : Waits l (other x)
@@ -122,8 +127,8 @@ pub record Round (x : Side) (l m : LabView) : Type 0 where
   pub after : m ≡ after_all (happen l (TickOf x now)).lab events
   pub stays : (lab_end m (other x)).conn.state ≡ Open
 
--- The reader in l of the direction of x had read all that was written, or in m a read answers the item for which it waited, if it
--- wasn't read meanwhile.
+-- The reader in l of the direction of x had read all that was written, or in m a read answers the item for which it
+-- waited, if it wasn't read meanwhile.
 abbrev pub GoesOn : Side → LabView → LabView → Type 0
 GoesOn x l m =
     let next = length (lab_end l (other x)).read in
@@ -135,7 +140,8 @@ abbrev pub Rounds : ℕ → Side → LabView → LabView → Type 0
 Rounds zero x l m = m ≡ l
 Rounds (suc n) x l m = (k : LabView) × Round x l k × Rounds n x k m
 
--- A fresh copy comes to an open end once more than it needs: it is of an item that its user has read, or it asks for the status.
+-- A fresh copy comes to an open end once more than it needs: it is of an item that its user has read, or it asks for
+-- the status.
 pub record ComesAgain (l : LabView) (copy : ℕ) (s : Stamped) : Type 0 where
   pub sent : slice_get l.copies copy ≡ Some s
   pub fresh : is_fresh l.a l.b s ≡ true
@@ -145,10 +151,11 @@ pub record ComesAgain (l : LabView) (copy : ℕ) (s : Stamped) : Type 0 where
 -- the end that the copy comes to puts out an STS, and nothing else
 abbrev pub IsAnswered : LabView → ℕ → Stamped → Type 0
 IsAnswered l copy s =
-    (status : Stamped) × ((happen l (DeliverCopy copy)).lab.copies ≡ l.copies ++ status ∷ []) × (status.side ≡ other s.side) × (status.packet.op ≡ op_sts)
+    (status : Stamped) × ((happen l (DeliverCopy copy)).lab.copies ≡ l.copies ++ status ∷ [])
+    × (status.side ≡ other s.side) × (status.packet.op ≡ op_sts)
 
--- A report to x, from l to m. An event at l makes the other end put out an STS. This comes to x afterwards, with whatever between,
--- and x stays open.
+-- A report to x, from l to m. An event at l makes the other end put out an STS. This comes to x afterwards, with
+-- whatever between, and x stays open.
 pub record Report (x : Side) (l m : LabView) : Type 0 where
   pub open_end : (lab_end l x).conn.state ≡ Open
   pub event : Happening
@@ -164,7 +171,8 @@ pub record Report (x : Side) (l m : LabView) : Type 0 where
   pub after : m ≡ after_all (happen l event).lab events
   pub stays : (lab_end m x).conn.state ≡ Open
 
--- In m the end at x keeps no more items, and counts no more as outstanding, than it wrote beyond those that had been read in l.
+-- In m the end at x keeps no more items, and counts no more as outstanding, than it wrote beyond those that had been
+-- read in l.
 abbrev pub Knows : Side → LabView → LabView → Type 0
 Knows x l m =
     let beyond = length (lab_end m x).written - length (lab_end l (other x)).read in

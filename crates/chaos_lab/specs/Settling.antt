@@ -87,4 +87,5 @@ settling l = telling B l ++ a_sending (told B l)
 
 -- the greatest moment that is ticked then
 abbrev pub settling_moment : LabView → ℕ
-settling_moment l = max (max l.a.conn.last l.b.conn.last) l.clock + l.a.conn.config.retransmit + l.b.conn.config.retransmit
+settling_moment l =
+    max (max l.a.conn.last l.b.conn.last) l.clock + l.a.conn.config.retransmit + l.b.conn.config.retransmit

@@ -26,7 +26,8 @@ use Rattle.chaos_conn.specs.View.{ConnView, no_end}
 use Rattle.chaos_conn.specs.Config.{ConfigView}
 use Rattle.chaos_conn.specs.State.{is_ended}
 
--- what the plain machine doesn't know of an end: its times, its moments, how many reads it hasn't told, and how it ended
+-- what the plain machine doesn't know of an end: its times, its moments, how many reads it hasn't told, and how it
+-- ended
 pub record Rest : Type 0 where
   pub retransmit : ℕ
   pub probe : ℕ
@@ -77,7 +78,8 @@ slots_from peer e i zero = []
 slots_from peer e i (suc count) = there_at peer e i ∷ slots_from peer e (suc i) count
 
 abbrev pub recv_view : ℕ → Plain → Plain → ReceiveView
-recv_view b' peer e = record { cap = e.recv_cap; window = e.announced; read = told_num b' (length e.read); held = slots_from peer e (length e.read) e.recv_cap }
+recv_view b' peer e =
+    record { cap = e.recv_cap; window = e.announced; read = told_num b' (length e.read); held = slots_from peer e (length e.read) e.recv_cap }
 
 -- a window that hasn't started is clear
 abbrev pub send_shown : ℕ → Plain → SendView
@@ -89,7 +91,8 @@ recv_shown b' peer e = if contains e.arrived 0 then recv_view b' peer e else sta
 -- ---- the connection. b is its own first number, and b' the peer's
 
 abbrev pub config_of : Rest → Plain → ConfigView
-config_of rest e = record { send_cap = e.send_cap; recv_cap = e.recv_cap; retransmit = rest.retransmit; probe = rest.probe; down = rest.down }
+config_of rest e =
+    record { send_cap = e.send_cap; recv_cap = e.recv_cap; retransmit = rest.retransmit; probe = rest.probe; down = rest.down }
 
 -- A learns the peer's index when it reads item 0
 abbrev pub index_of : Side → ℕ → Option ℕ
@@ -195,7 +198,8 @@ IsWhat b e pk Cls = (pk.op ≡ 3) × (pk.num ≡ 0)
 abbrev pub CarriesTold : ℕ → PacketView → Told → Type 0
 CarriesTold b' pk Nothing = pk.ack ≡ 0
 CarriesTold b' pk (Acknowledges read) = pk.ack ≡ told_num b' read
-CarriesTold b' pk (Status read arrived window) = (pk.ack ≡ told_num b' read) × (status_of pk ≡ Some (told_num b' arrived, window))
+CarriesTold b' pk (Status read arrived window) =
+    (pk.ack ≡ told_num b' read) × (status_of pk ≡ Some (told_num b' arrived, window))
 
 pub record StandsFor (x : Side) (b b' : ℕ) (e : Plain) (pk : PacketView) (kind : Kind) (told : Told) : Type 0 where
   pub header : HasHeader x pk kind

@@ -7,7 +7,8 @@ use Rattle.chaos_lab.specs.Inside.{end_view}
 
 -- the fields as what contracts see
 abbrev pub lab_view : Inside → LabView
-lab_view s = record { a = end_view s.ends.a; b = end_view s.ends.b; copies = s.copies.list.items; asked = s.asked; clock = s.clock }
+lab_view s =
+    record { a = end_view s.ends.a; b = end_view s.ends.b; copies = s.copies.list.items; asked = s.asked; clock = s.clock }
 
 pub record IsSound (s : Inside) : Type 0 where
   pub empty : s.out.packets ≡ []

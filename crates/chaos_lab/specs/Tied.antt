@@ -30,7 +30,8 @@ pub record StandsCopy (ba bb : ℕ) (w : Machine) (s : Stamped) (c : Copy) : Typ
   pub side : s.side ≡ c.sender
   pub len_a : s.len_a ≡ c.len_a
   pub len_b : s.len_b ≡ c.len_b
-  pub stands : StandsFor c.sender (base_of ba bb c.sender) (base_of ba bb (other c.sender)) (end_of w c.sender) s.packet c.kind c.told
+  pub stands : StandsFor c.sender (base_of ba bb c.sender) (base_of ba bb (other c.sender)) (end_of w c.sender) s.packet
+      c.kind c.told
 
 -- what each kind of packet tells
 abbrev pub Agrees : Side → Kind → Told → Type 0
@@ -61,7 +62,8 @@ pub record AskedFits (asked : Bool) (phase : Phase) : Type 0 where
   pub new : asked ≡ false → phase ≡ Inactive
   pub old : asked ≡ true → phase ≡ Inactive → ⊥
 
--- A laboratory is tied to a plain machine: both connections and all copies stand for it, and both lists of each end are its lists.
+-- A laboratory is tied to a plain machine: both connections and all copies stand for it, and both lists of each end are
+-- its lists.
 pub record Ties (w : Machine) (l : LabView) : Type 0 where
   pub tied : Tied l.a.first l.b.first w l.a.conn l.b.conn l.copies
   pub written_a : l.a.written ≡ w.a.written
@@ -91,12 +93,14 @@ plain_next (Err why) event events = events
 
 abbrev pub plain_run : LabView → List Happening → Schedule
 plain_run l [] = []
-plain_run l (event ∷ events) = plain_next (happen l event).answer (plain_event l event) (plain_run (happen l event).lab events)
+plain_run l (event ∷ events) =
+    plain_next (happen l event).answer (plain_event l event) (plain_run (happen l event).lab events)
 
 -- the plain machine of a new laboratory, whose A asks for a contact
 abbrev pub machine_for : List ℕ → ConfigView → ConfigView → Machine
 machine_for contact a b =
-    start (record { send = a.send_cap; recv = a.recv_cap }) (record { send = b.send_cap; recv = b.recv_cap }) (rfc_item contact)
+    start (record { send = a.send_cap; recv = a.recv_cap }) (record { send = b.send_cap; recv = b.recv_cap })
+    (rfc_item contact)
 
 abbrev pub lab_machine : ConfigView → ConfigView → Machine
 lab_machine a b = machine_for lab_contact a b
@@ -106,8 +110,8 @@ pub record HasMachine (l : LabView) : Type 0 where
   pub plain : Machine
   pub ties : Ties plain l
 
--- Events stopped for want of memory: so many of them happened, and those that were taken are a run of the plain machine. The
--- next one had passed the checks.
+-- Events stopped for want of memory: so many of them happened, and those that were taken are a run of the plain
+-- machine. The next one had passed the checks.
 pub record Stops (old : LabView) (events : List Happening) (new : LabView) : Type 0 where
   pub done : ℕ
   pub event : Happening

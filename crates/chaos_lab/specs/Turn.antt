@@ -42,7 +42,8 @@ turn_view v now (Replies op bytes) = (act (act v FinishRead).view (Write op byte
 abbrev pub turn_packets : ConnView → ℕ → Turn → List PacketView
 turn_packets v now Rests = []
 turn_packets v now Reads = (act v FinishRead).packets
-turn_packets v now (Replies op bytes) = (act v FinishRead).packets ++ (act (act v FinishRead).view (Write op bytes now)).packets
+turn_packets v now (Replies op bytes) =
+    (act v FinishRead).packets ++ (act (act v FinishRead).view (Write op bytes now)).packets
 
 -- an item is in front of an open end
 pub record HasFront (v : ConnView) : Type 0 where
@@ -54,10 +55,12 @@ pub record HasFront (v : ConnView) : Type 0 where
 abbrev pub IsTaken : ConnView → ℕ → Turn → Type 0
 IsTaken v now Rests = ⊤
 IsTaken v now Reads = HasFront v
-IsTaken v now (Replies op bytes) = HasFront v × ((n : ℕ) × ((act (act v FinishRead).view (Write op bytes now)).answer ≡ Wrote (Ok n)))
+IsTaken v now (Replies op bytes) =
+    HasFront v × ((n : ℕ) × ((act (act v FinishRead).view (Write op bytes now)).answer ≡ Wrote (Ok n)))
 
 -- A user took this turn at a connection.
-pub record TakesTurn (v : ConnView) (now : ℕ) (turn : Turn) (w : ConnView) (before after : OutboxView) (result : Turned) : Type 0 where
+pub record TakesTurn (v : ConnView) (now : ℕ) (turn : Turn) (w : ConnView) (before after : OutboxView)
+    (result : Turned) : Type 0 where
   pub taken : IsTaken v now turn
   pub view : w ≡ turn_view v now turn
   pub packets : after ≡ with_put before (turn_packets v now turn)

@@ -20,14 +20,15 @@ read_in_turn turned.Read v items = items ++ option_to_list (front_of v)
 read_in_turn turned.Replied v items = items ++ option_to_list (front_of v)
 
 -- an end whose user took this turn; what was written in it isn't in its list yet
-pub record EndTurns (old : EndView) (now : ℕ) (turn : Turn) (new : EndView) (before after : OutboxView) (result : Turned) : Type 0 where
+pub record EndTurns (old : EndView) (now : ℕ) (turn : Turn) (new : EndView) (before after : OutboxView)
+    (result : Turned) : Type 0 where
   pub conn : TakesTurn old.conn now turn new.conn before after result
   pub first : new.first ≡ old.first
   pub written : new.written ≡ old.written
   pub read : new.read ≡ read_in_turn result old.conn old.read
 
--- The packets of a turn that ended with a reply, which is the last of one or two. What went out before it is stamped before the
--- reply is counted.
+-- The packets of a turn that ended with a reply, which is the last of one or two. What went out before it is stamped
+-- before the reply is counted.
 abbrev pub stamped_reply : ℕ → ℕ → List PacketView → List Stamped
 stamped_reply a b [] = []
 stamped_reply a b (reply ∷ []) = stamp B a (b + 1) reply ∷ []

@@ -15,23 +15,31 @@ use Rattle.chaos_link.proofs.Several.{all_read}
 use Rattle.chaos_link.proofs.Words.{words_of-wire}
 
 -- byte 3 counts the packets
-pub number_is : (load : List PacketView) (to end : ℕ) (bytes : List ℕ) → IsBuilt load to end bytes → get_or bytes 3 0 ≡ length load
+pub number_is : (load : List PacketView) (to end : ℕ) (bytes : List ℕ) → IsBuilt load to end bytes
+    → get_or bytes 3 0 ≡ length load
 number_is load to end bytes built =
     let inside : 3 < end = omega (arith, built.size) in
     sym (get_or-take end bytes 3 0 inside) ∙ ap (λ l. get_or l 3 0) built.front
 
 -- and what is read of the bytes is the load
-pub view_of : (load : List PacketView) (to end : ℕ) (bytes : List ℕ) → IsBuilt load to end bytes → load_in end bytes ≡ load
+pub view_of : (load : List PacketView) (to end : ℕ) (bytes : List ℕ) → IsBuilt load to end bytes
+    → load_in end bytes ≡ load
 view_of load to end bytes built =
-    let words : words_of (drop 4 (take end bytes)) ≡ spelling_of_all load = ap (λ l. words_of (drop 4 l)) built.front ∙ words_of-wire (spelling_of_all load) in
-    ap (λ n. packets_at n (words_of (drop 4 (take end bytes)))) (number_is load to end bytes built) ∙ ap (packets_at (length load)) words
+    let words : words_of (drop 4 (take end bytes)) ≡ spelling_of_all load =
+    ap (λ l. words_of (drop 4 l)) built.front ∙ words_of-wire (spelling_of_all load) in
+    ap (λ n. packets_at n (words_of (drop 4 (take end bytes)))) (number_is load to end bytes built)
+    ∙ ap (packets_at (length load)) words
     ∙ (all_read load 1 (spelling_of_all load) (spelled_in_turn load built.spelled)).packets
 
-pub built_in : (load : List PacketView) (to end : ℕ) (bytes : List ℕ) → IsBuilt load to end bytes → IsBuilt (load_in end bytes) to end bytes
-built_in load to end bytes built = subst (λ (ps : List PacketView). IsBuilt ps to end bytes) (sym (view_of load to end bytes built)) built
+pub built_in : (load : List PacketView) (to end : ℕ) (bytes : List ℕ) → IsBuilt load to end bytes
+    → IsBuilt (load_in end bytes) to end bytes
+built_in load to end bytes built =
+    subst (λ (ps : List PacketView). IsBuilt ps to end bytes) (sym (view_of load to end bytes built)) built
 
-pub built_carries : (load : List PacketView) (to end : ℕ) (bytes : List ℕ) → IsBuilt load to end bytes → Carries2 load (take end bytes)
-built_carries load to end bytes built = rw built.front (carried_together load built.fit (spelled_in_turn load built.spelled))
+pub built_carries : (load : List PacketView) (to end : ℕ) (bytes : List ℕ) → IsBuilt load to end bytes
+    → Carries2 load (take end bytes)
+built_carries load to end bytes built =
+    rw built.front (carried_together load built.fit (spelled_in_turn load built.spelled))
 
 -- ---- the first packet
 
@@ -40,7 +48,8 @@ one_fits p small =
     let bytes : 4 + bytes_for (p ∷ []) ≤ 2020 = omega arith in
     grind (arith, nat_tests)
 
-pub first_built : (p : PacketView) (end : ℕ) (bytes : List ℕ) → length p.body ≤ 488 → Spells p (spelling_of p) → end ≡ 4 + 2 * (8 + words_for (length p.body))
+pub first_built : (p : PacketView) (end : ℕ) (bytes : List ℕ) → length p.body ≤ 488 → Spells p (spelling_of p)
+    → end ≡ 4 + 2 * (8 + words_for (length p.body))
     → take end bytes ≡ mark_of 1 ++ wire (spelling_of p) → IsBuilt (p ∷ []) p.dst end bytes
 first_built p end bytes small spelled size front = record {
   fit = one_fits p small;
@@ -53,22 +62,26 @@ first_built p end bytes small spelled size front = record {
 -- ---- one more
 
 -- whether a packet joins shows in where the load goes, in byte 3, and in the bytes
-pub joins_is : (load : List PacketView) (p : PacketView) (to end n : ℕ) (bytes : List ℕ) → IsBuilt load to end bytes → n ≡ 2 * (8 + words_for (length p.body))
+pub joins_is : (load : List PacketView) (p : PacketView) (to end n : ℕ) (bytes : List ℕ) → IsBuilt load to end bytes
+    → n ≡ 2 * (8 + words_for (length p.body))
     → joins load p ≡ (eqb p.dst to && (nat_lt (get_or bytes 3 0) 8 && not (nat_lt 2020 (end + n))))
 joins_is [] p to end n bytes built size = absurd (omega (arith, (fit [] built.fit).some))
 joins_is (first ∷ others) p to end n bytes built size =
     let number = number_is (first ∷ others) to end bytes built in
     let more = bytes_behind (first ∷ others) p in
     let one : first.dst ≡ to = All-head (λ q. q.dst ≡ to) first others built.one in
-    let count : length (first ∷ others ++ p ∷ []) ≡ length (first ∷ others) + 1 = length-append (first ∷ others) (p ∷ []) in
+    let count : length (first ∷ others ++ p ∷ []) ≡ length (first ∷ others) + 1 =
+    length-append (first ∷ others) (p ∷ []) in
     let few : nat_lt (length (first ∷ others ++ p ∷ [])) 9 ≡ nat_lt (get_or bytes 3 0) 8 = grind (arith, nat_tests) in
     let some : nat_lt 0 (length (first ∷ others ++ p ∷ [])) ≡ true = grind (arith, nat_tests) in
     let all : 4 + bytes_for (first ∷ others ++ p ∷ []) ≡ end + n = omega (arith, more, built.size, size) in
     rw (one, some, few, all) refl
 
-pub joined_built : (load : List PacketView) (p : PacketView) (to end new_end : ℕ) (bytes new : List ℕ) → IsBuilt load to end bytes → joins load p ≡ true
+pub joined_built : (load : List PacketView) (p : PacketView) (to end new_end : ℕ) (bytes new : List ℕ)
+    → IsBuilt load to end bytes → joins load p ≡ true
     → Spells p (spelling_of p) → new_end ≡ end + 2 * (8 + words_for (length p.body))
-    → take new_end new ≡ take end (set bytes 3 (get_or bytes 3 0 + 1)) ++ wire (spelling_of p) → IsBuilt (load ++ p ∷ []) to new_end new
+    → take new_end new ≡ take end (set bytes 3 (get_or bytes 3 0 + 1)) ++ wire (spelling_of p)
+    → IsBuilt (load ++ p ∷ []) to new_end new
 joined_built [] p to end new_end bytes new built h spelled size front = absurd (omega (arith, (fit [] built.fit).some))
 joined_built (first ∷ others) p to end new_end bytes new built h spelled size front =
     let load = first ∷ others in
@@ -77,31 +90,39 @@ joined_built (first ∷ others) p to end new_end bytes new built h spelled size 
     let number = number_is load to end bytes built in
     let count : get_or bytes 3 0 + 1 ≡ length (load ++ p ∷ []) = omega (arith, number, length-append load (p ∷ [])) in
     let inside : 3 < end = omega (arith, built.size) in
-    let counted : take end (set bytes 3 (get_or bytes 3 0 + 1)) ≡ mark_of (length (load ++ p ∷ [])) ++ wire (spelling_of_all load) =
-    take-set-lt end bytes 3 (get_or bytes 3 0 + 1) inside ∙ ap (λ l. set l 3 (get_or bytes 3 0 + 1)) built.front ∙ ap (λ n. mark_of n ++ wire (spelling_of_all load)) count in
+    let counted : take end (set bytes 3 (get_or bytes 3 0 + 1))
+    ≡ mark_of (length (load ++ p ∷ [])) ++ wire (spelling_of_all load) =
+    take-set-lt end bytes 3 (get_or bytes 3 0 + 1) inside ∙ ap (λ l. set l 3 (get_or bytes 3 0 + 1)) built.front
+    ∙ ap (λ n. mark_of n ++ wire (spelling_of_all load)) count in
     record {
       fit = grind arith;
-      one = All-append (λ q. q.dst ≡ to) load (p ∷ []) built.one (All-cons (λ q. q.dst ≡ to) p [] (same ∙ one) (All-nil (λ q. q.dst ≡ to)));
+      one =
+          All-append (λ q. q.dst ≡ to) load (p ∷ []) built.one
+          (All-cons (λ q. q.dst ≡ to) p [] (same ∙ one) (All-nil (λ q. q.dst ≡ to)));
       spelled = each_behind load p built.spelled spelled;
       size = omega (arith, size, built.size, bytes_behind load p);
       front = front ∙ ap (λ l. l ++ wire (spelling_of p)) counted
-          ∙ ap (λ l. mark_of (length (load ++ p ∷ [])) ++ l) (sym (wire-append (spelling_of_all load) (spelling_of p)) ∙ ap wire (sym (spelling_behind load p)));
+          ∙ ap (λ l. mark_of (length (load ++ p ∷ [])) ++ l)
+          (sym (wire-append (spelling_of_all load) (spelling_of p)) ∙ ap wire (sym (spelling_behind load p)));
     }
 
 -- so it doesn't join where it goes elsewhere, or the load is full
-pub elsewhere : (load : List PacketView) (p : PacketView) (to end : ℕ) (bytes : List ℕ) → IsBuilt load to end bytes → (p.dst ≡ to → ⊥) → joins load p ≡ false
+pub elsewhere : (load : List PacketView) (p : PacketView) (to end : ℕ) (bytes : List ℕ) → IsBuilt load to end bytes
+    → (p.dst ≡ to → ⊥) → joins load p ≡ false
 elsewhere load p to end bytes built other =
     let no : eqb p.dst to ≡ false = grind (arith, nat_tests) in
     joins_is load p to end _ bytes built refl ∙ rw no refl
 
-pub full : (load : List PacketView) (p : PacketView) (to end : ℕ) (bytes : List ℕ) → IsBuilt load to end bytes → p.dst ≡ to → get_or bytes 3 0 ≡ 8 → joins load p ≡ false
+pub full : (load : List PacketView) (p : PacketView) (to end : ℕ) (bytes : List ℕ) → IsBuilt load to end bytes
+    → p.dst ≡ to → get_or bytes 3 0 ≡ 8 → joins load p ≡ false
 full load p to end bytes built same eight =
     let yes : eqb p.dst to ≡ true = grind (arith, nat_tests) in
     let no : nat_lt (get_or bytes 3 0) 8 ≡ false = grind (arith, nat_tests) in
     joins_is load p to end _ bytes built refl ∙ rw (yes, no) refl
 
 -- else the bytes tell
-pub in_bytes : (load : List PacketView) (p : PacketView) (to end n : ℕ) (bytes : List ℕ) → IsBuilt load to end bytes → n ≡ 2 * (8 + words_for (length p.body))
+pub in_bytes : (load : List PacketView) (p : PacketView) (to end n : ℕ) (bytes : List ℕ) → IsBuilt load to end bytes
+    → n ≡ 2 * (8 + words_for (length p.body))
     → p.dst ≡ to → (get_or bytes 3 0 ≡ 8 → ⊥) → leb (end + n) 2020 ≡ joins load p
 in_bytes load p to end n bytes built size same other =
     let count = number_is load to end bytes built in
@@ -116,6 +137,8 @@ pub together : (load : List PacketView) (p : PacketView) → joins load p ≡ tr
 together [] p h = cc
 together (first ∷ others) p h = grind arith
 
-pub room_for : (load : List PacketView) (p : PacketView) (to end : ℕ) (bytes : List ℕ) → IsBuilt load to end bytes → joins load p ≡ true
+pub room_for : (load : List PacketView) (p : PacketView) (to end : ℕ) (bytes : List ℕ) → IsBuilt load to end bytes
+    → joins load p ≡ true
     → end + 2 * (8 + words_for (length p.body)) ≤ 2020
-room_for load p to end bytes built h = omega (arith, built.size, bytes_behind load p, (fit (load ++ p ∷ []) (together load p h)).bytes)
+room_for load p to end bytes built h =
+    omega (arith, built.size, bytes_behind load p, (fit (load ++ p ∷ []) (together load p h)).bytes)

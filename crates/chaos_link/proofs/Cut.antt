@@ -24,11 +24,13 @@ whole (p ∷ ps) = whole_from (p ∷ []) ps
 
 -- ---- each fits
 
-fit_from : (load ps : List PacketView) → fit_together load ≡ true → All IsSmall ps → All (λ l. fit_together l ≡ true) (loads_from load ps)
+fit_from : (load ps : List PacketView) → fit_together load ≡ true → All IsSmall ps
+    → All (λ l. fit_together l ≡ true) (loads_from load ps)
 fit_from load [] fits small = All-cons (λ l. fit_together l ≡ true) load [] fits (All-nil (λ l. fit_together l ≡ true))
 fit_from load (p ∷ ps) fits small = cond_both (joins load p) _ _ (λ loads. All (λ l. fit_together l ≡ true) loads)
     (λ with_it. fit_from (load ++ p ∷ []) ps (together load p with_it) (All-tail IsSmall p ps small))
-    (λ apart. All-cons (λ l. fit_together l ≡ true) load _ fits (fit_from (p ∷ []) ps (one_fits p (All-head IsSmall p ps small)) (All-tail IsSmall p ps small)))
+    (λ apart. All-cons (λ l. fit_together l ≡ true) load _ fits
+    (fit_from (p ∷ []) ps (one_fits p (All-head IsSmall p ps small)) (All-tail IsSmall p ps small)))
 
 pub each_fits : (ps : List PacketView) → All IsSmall ps → All (λ l. fit_together l ≡ true) (loads_of ps)
 each_fits [] small = All-nil (λ l. fit_together l ≡ true)
@@ -39,10 +41,12 @@ each_fits (p ∷ ps) small = fit_from (p ∷ []) ps (one_fits p (All-head IsSmal
 alone : (p : PacketView) → HasOneDestination (p ∷ [])
 alone p = (p.dst, All-cons (λ q. q.dst ≡ p.dst) p [] refl (All-nil (λ q. q.dst ≡ p.dst)))
 
-same_destination : (first : PacketView) (others : List PacketView) (p : PacketView) → joins (first ∷ others) p ≡ true → p.dst ≡ first.dst
+same_destination : (first : PacketView) (others : List PacketView) (p : PacketView) → joins (first ∷ others) p ≡ true
+    → p.dst ≡ first.dst
 same_destination first others p h = grind (arith, nat_tests)
 
-goes_too : (load : List PacketView) (p : PacketView) → HasOneDestination load → joins load p ≡ true → HasOneDestination (load ++ p ∷ [])
+goes_too : (load : List PacketView) (p : PacketView) → HasOneDestination load → joins load p ≡ true
+    → HasOneDestination (load ++ p ∷ [])
 goes_too [] p one h = alone p
 goes_too (first ∷ others) p one h =
     let to : p.dst ≡ one.0 = same_destination first others p h ∙ All-head (λ q. q.dst ≡ one.0) first others one.1 in
@@ -61,7 +65,8 @@ each_one (p ∷ ps) = one_from (p ∷ []) ps (alone p)
 -- ---- each is the longest front
 
 -- a load that begins with a packet still does with more of them
-begins : (load : List PacketView) (q : PacketView) (qs ps : List PacketView) → joins load q ≡ false → EndsBefore load (loads_from (q ∷ qs) ps)
+begins : (load : List PacketView) (q : PacketView) (qs ps : List PacketView) → joins load q ≡ false
+    → EndsBefore load (loads_from (q ∷ qs) ps)
 begins load q qs [] apart = apart
 begins load q qs (p ∷ ps) apart = cond_both (joins (q ∷ qs) p) _ _ (λ loads. EndsBefore load loads)
     (λ with_it. begins load q (qs ++ p ∷ []) ps apart)
@@ -84,12 +89,15 @@ bytes_of_both [] ys = omega arith
 bytes_of_both (x ∷ xs) ys = omega (arith, bytes_of_both xs ys)
 
 -- a front of packets that fit fits, too
-front_fits : (load : List PacketView) (p : PacketView) (more : List PacketView) → fit_together (load ++ p ∷ more) ≡ true → fit_together (load ++ p ∷ []) ≡ true
+front_fits : (load : List PacketView) (p : PacketView) (more : List PacketView) → fit_together (load ++ p ∷ more) ≡ true
+    → fit_together (load ++ p ∷ []) ≡ true
 front_fits load p more h =
     let parts = fit (load ++ p ∷ more) h in
     let some : length (load ++ p ∷ []) ≡ length load + 1 = length-append load (p ∷ []) in
-    let all : length (load ++ p ∷ more) ≡ length load + (length more + 1) = length-append load (p ∷ more) ∙ omega arith in
-    let bytes : 4 + bytes_for (load ++ p ∷ []) ≤ 2020 = omega (arith, parts.bytes, bytes_of_both load (p ∷ more), bytes_of_both load (p ∷ [])) in
+    let all : length (load ++ p ∷ more) ≡ length load + (length more + 1) =
+    length-append load (p ∷ more) ∙ omega arith in
+    let bytes : 4 + bytes_for (load ++ p ∷ []) ≤ 2020 =
+    omega (arith, parts.bytes, bytes_of_both load (p ∷ more), bytes_of_both load (p ∷ [])) in
     let few : length (load ++ p ∷ []) ≤ 8 = omega (arith, parts.few, some, all) in
     grind (arith, nat_tests)
 
@@ -97,10 +105,13 @@ in_front : (m : PacketView) (more : List PacketView) → Contains (m ∷ more) m
 in_front m more = (0, omega arith, refl)
 
 front_joins : (first : PacketView) (others : List PacketView) (m : PacketView) (more : List PacketView) (to : ℕ)
-    → fit_together (first ∷ others ++ m ∷ more) ≡ true → All (λ p. p.dst ≡ to) (first ∷ others ++ m ∷ more) → joins (first ∷ others) m ≡ true
+    → fit_together (first ∷ others ++ m ∷ more) ≡ true → All (λ p. p.dst ≡ to) (first ∷ others ++ m ∷ more)
+    → joins (first ∷ others) m ≡ true
 front_joins first others m more to h one =
     let there : first.dst ≡ to = All-head (λ p. p.dst ≡ to) first _ one in
-    let here : m.dst ≡ to = All-contains (λ p. p.dst ≡ to) (first ∷ others ++ m ∷ more) m one (Contains-append_right (first ∷ others) (m ∷ more) m (in_front m more)) in
+    let here : m.dst ≡ to =
+    All-contains (λ p. p.dst ≡ to) (first ∷ others ++ m ∷ more) m one
+    (Contains-append_right (first ∷ others) (m ∷ more) m (in_front m more)) in
     let same : eqb m.dst first.dst ≡ true = grind (arith, nat_tests) in
     rw (same, front_fits (first ∷ others) m more h) refl
 
@@ -109,14 +120,18 @@ abbrev NextIsApart : List PacketView → List PacketView → Type 0
 NextIsApart load [] = Unit {0}
 NextIsApart load (q ∷ qs) = joins load q ≡ false
 
-next_is_apart : (load : List PacketView) (loads : List (List PacketView)) → All (λ l. fit_together l ≡ true) loads → EndsBefore load loads → NextIsApart load (packets_of loads)
+next_is_apart : (load : List PacketView) (loads : List (List PacketView)) → All (λ l. fit_together l ≡ true) loads
+    → EndsBefore load loads → NextIsApart load (packets_of loads)
 next_is_apart load [] fits ends = tt
-next_is_apart load ([] ∷ loads) fits ends = absurd (omega (arith, (fit [] (All-head (λ l. fit_together l ≡ true) [] loads fits)).some))
+next_is_apart load ([] ∷ loads) fits ends =
+    absurd (omega (arith, (fit [] (All-head (λ l. fit_together l ≡ true) [] loads fits)).some))
 next_is_apart load ((p ∷ ps) ∷ loads) fits ends = ends
 
 -- so a load that is begun takes in all that is left of it
-taken_in : (first : PacketView) (others more rest : List PacketView) (to : ℕ) → fit_together (first ∷ others ++ more) ≡ true → All (λ p. p.dst ≡ to) (first ∷ others ++ more)
-    → NextIsApart (first ∷ others ++ more) rest → loads_from (first ∷ others) (more ++ rest) ≡ (first ∷ others ++ more) ∷ loads_of rest
+taken_in : (first : PacketView) (others more rest : List PacketView) (to : ℕ)
+    → fit_together (first ∷ others ++ more) ≡ true → All (λ p. p.dst ≡ to) (first ∷ others ++ more)
+    → NextIsApart (first ∷ others ++ more) rest
+    → loads_from (first ∷ others) (more ++ rest) ≡ (first ∷ others ++ more) ∷ loads_of rest
 taken_in first others [] [] to fits one apart = ap (λ l. (first ∷ l) ∷ []) (sym (append-nil others))
 taken_in first others [] (q ∷ qs) to fits one apart =
     let same : joins (first ∷ others) q ≡ false = ap (λ l. joins (first ∷ l) q) (sym (append-nil others)) ∙ apart in
@@ -129,14 +144,18 @@ taken_in first others (m ∷ more) rest to fits one apart =
     (subst (λ (l : List PacketView). NextIsApart (first ∷ l) rest) (sym whole_is) apart)
     ∙ ap (λ l. (first ∷ l) ∷ loads_of rest) whole_is
 
-only_from : (loads : List (List PacketView)) → All (λ l. fit_together l ≡ true) loads → All HasOneDestination loads → AreLongest loads → loads ≡ loads_of (packets_of loads)
+only_from : (loads : List (List PacketView)) → All (λ l. fit_together l ≡ true) loads → All HasOneDestination loads
+    → AreLongest loads → loads ≡ loads_of (packets_of loads)
 only_from [] fits one longest = refl
-only_from ([] ∷ loads) fits one longest = absurd (omega (arith, (fit [] (All-head (λ l. fit_together l ≡ true) [] loads fits)).some))
+only_from ([] ∷ loads) fits one longest =
+    absurd (omega (arith, (fit [] (All-head (λ l. fit_together l ≡ true) [] loads fits)).some))
 only_from ((p ∷ ps) ∷ loads) fits one longest =
     let others = All-tail (λ l. fit_together l ≡ true) (p ∷ ps) loads fits in
     let to = All-head HasOneDestination (p ∷ ps) loads one in
     ap (λ ls. (p ∷ ps) ∷ ls) (only_from loads others (All-tail HasOneDestination (p ∷ ps) loads one) longest.1)
-    ∙ sym (taken_in p [] ps (packets_of loads) to.0 (All-head (λ l. fit_together l ≡ true) (p ∷ ps) loads fits) to.1 (next_is_apart (p ∷ ps) loads others longest.0))
+    ∙ sym
+    (taken_in p [] ps (packets_of loads) to.0 (All-head (λ l. fit_together l ≡ true) (p ∷ ps) loads fits) to.1
+    (next_is_apart (p ∷ ps) loads others longest.0))
 
 pub only : (ps : List PacketView) (loads : List (List PacketView)) → AreLoadsOf ps loads → loads ≡ loads_of ps
 only ps loads are = only_from loads are.fit are.one are.longest ∙ ap loads_of are.whole

@@ -18,7 +18,8 @@ ok ps = Ok ps
 
 -- ---- what the checks tell of the whole
 
-fault_by_version : (bs : List ℕ) (two : Bool) → is_two bs ≡ two → fault_of_all bs ≡ cond two (fault_of_two bs) (fault_of bs)
+fault_by_version : (bs : List ℕ) (two : Bool) → is_two bs ≡ two
+    → fault_of_all bs ≡ cond two (fault_of_two bs) (fault_of bs)
 fault_by_version bs two h = ap (λ b. cond b (fault_of_two bs) (fault_of bs)) h
 
 number_by_version : (bs : List ℕ) (two : Bool) → is_two bs ≡ two → number_of bs ≡ cond two (get_or bs 3 0) 1
@@ -30,17 +31,22 @@ one_at_fault bs f one e = ap (read_all_by bs) (fault_by_version bs false one ∙
 pub two_at_fault : (bs : List ℕ) (f : LinkFault) → is_two bs ≡ true → fault_of_two bs ≡ Some f → packets_read bs ≡ Err f
 two_at_fault bs f two e = ap (read_all_by bs) (fault_by_version bs true two ∙ e)
 
-pub one_without_fault : (bs : List ℕ) → is_two bs ≡ false → fault_of bs ≡ None → packets_read bs ≡ Ok (packet_at (words_of (drop 4 bs)) ∷ [])
+pub one_without_fault : (bs : List ℕ) → is_two bs ≡ false → fault_of bs ≡ None
+    → packets_read bs ≡ Ok (packet_at (words_of (drop 4 bs)) ∷ [])
 one_without_fault bs one none =
-    ap (read_all_by bs) (fault_by_version bs false one ∙ none) ∙ ap (λ n. ok (packets_at n (words_of (drop 4 bs)))) (number_by_version bs false one)
+    ap (read_all_by bs) (fault_by_version bs false one ∙ none)
+    ∙ ap (λ n. ok (packets_at n (words_of (drop 4 bs)))) (number_by_version bs false one)
 
-pub two_without_fault : (bs : List ℕ) → is_two bs ≡ true → fault_of_two bs ≡ None → packets_read bs ≡ Ok (packets_at (get_or bs 3 0) (words_of (drop 4 bs)))
+pub two_without_fault : (bs : List ℕ) → is_two bs ≡ true → fault_of_two bs ≡ None
+    → packets_read bs ≡ Ok (packets_at (get_or bs 3 0) (words_of (drop 4 bs)))
 two_without_fault bs two none =
-    ap (read_all_by bs) (fault_by_version bs true two ∙ none) ∙ ap (λ n. ok (packets_at n (words_of (drop 4 bs)))) (number_by_version bs true two)
+    ap (read_all_by bs) (fault_by_version bs true two ∙ none)
+    ∙ ap (λ n. ok (packets_at n (words_of (drop 4 bs)))) (number_by_version bs true two)
 
 -- ---- version 1
 
-without_fault : (bs : List ℕ) (p : PacketView) (o : Option LinkFault) → read_by bs o ≡ Ok p → (o ≡ None) × (packet_at (words_of (drop 4 bs)) ≡ p)
+without_fault : (bs : List ℕ) (p : PacketView) (o : Option LinkFault) → read_by bs o ≡ Ok p
+    → (o ≡ None) × (packet_at (words_of (drop 4 bs)) ≡ p)
 without_fault bs p (Some f) h = cc
 without_fault bs p None h = (refl, cc)
 
@@ -51,10 +57,12 @@ read_one p bs carried =
 
 -- ---- version 2
 
-marked_two : (a b c : ℕ) (short : Bool) → a ≡ 0x43 → b ≡ 0x48 → c ≡ 2 → short ≡ false → (c == 2 && (a == 0x43 && b == 0x48)) && not short ≡ true
+marked_two : (a b c : ℕ) (short : Bool) → a ≡ 0x43 → b ≡ 0x48 → c ≡ 2 → short ≡ false
+    → (c == 2 && (a == 0x43 && b == 0x48)) && not short ≡ true
 marked_two a b c short ea eb ec long = rw (ea, eb, ec, long) refl
 
-no_fault_two : (bs : List ℕ) → 1 ≤ get_or bs 3 0 → get_or bs 3 0 ≤ 8 → length bs ≤ 2020 → packets_fault (get_or bs 3 0) 1 (words_of (drop 4 bs)) ≡ None
+no_fault_two : (bs : List ℕ) → 1 ≤ get_or bs 3 0 → get_or bs 3 0 ≤ 8 → length bs ≤ 2020
+    → packets_fault (get_or bs 3 0) 1 (words_of (drop 4 bs)) ≡ None
     → length bs ≤ 4 + 2 * packets_len (get_or bs 3 0) (words_of (drop 4 bs)) → fault_of_two bs ≡ None
 no_fault_two bs some few fits none end =
     let n = get_or bs 3 0 in
@@ -62,7 +70,8 @@ no_fault_two bs some few fits none end =
     let short : nat_lt 2020 (length bs) ≡ false = grind (arith, nat_tests) in
     let last : nat_lt (4 + 2 * packets_len n (words_of (drop 4 bs))) (length bs) ≡ false = grind (arith, nat_tests) in
     let behind = fault_behind bs n (packets_fault n 1 (words_of (drop 4 bs))) in
-    ap (λ b. cond b (Some BadNumber) (cond (nat_lt 2020 (length bs)) (Some TooLong) behind)) number ∙ ap (λ b. cond b (Some TooLong) behind) short
+    ap (λ b. cond b (Some BadNumber) (cond (nat_lt 2020 (length bs)) (Some TooLong) behind)) number
+    ∙ ap (λ b. cond b (Some TooLong) behind) short
     ∙ ap (fault_behind bs n) none ∙ ap (λ b. cond b (Some Trailing) None) last
 
 pub read_two : (ps : List PacketView) (bs : List ℕ) → Carries2 ps bs → packets_read bs ≡ Ok ps
@@ -74,11 +83,17 @@ read_two ps bs carried =
     let after : words_of (drop 4 bs) ≡ ws = ap (λ l. words_of (drop 4 l)) carried.bytes ∙ words_of-wire ws in
     let whole : nat_lt (length bs) 4 ≡ false = grind (arith, nat_tests) in
     let two : is_two bs ≡ true = marked_two (get_or bs 0 0) (get_or bs 1 0) (get_or bs 2 0) (nat_lt (length bs) 4)
-    (ap (λ l. get_or l 0 0) carried.bytes) (ap (λ l. get_or l 1 0) carried.bytes) (ap (λ l. get_or l 2 0) carried.bytes) whole in
-    let none : packets_fault (get_or bs 3 0) 1 (words_of (drop 4 bs)) ≡ None = ap₂ (λ n l. packets_fault n 1 l) number after ∙ read.none in
-    let size : packets_len (get_or bs 3 0) (words_of (drop 4 bs)) ≡ length ws = ap₂ packets_len number after ∙ read.whole in
-    let end : length bs ≤ 4 + 2 * packets_len (get_or bs 3 0) (words_of (drop 4 bs)) = omega (arith, long, size, length-wire ws) in
-    let faultless = no_fault_two bs (omega (arith, number, carried.some)) (omega (arith, number, carried.few)) carried.fits none end in
+    (ap (λ l. get_or l 0 0) carried.bytes) (ap (λ l. get_or l 1 0) carried.bytes) (ap (λ l. get_or l 2 0) carried.bytes)
+    whole in
+    let none : packets_fault (get_or bs 3 0) 1 (words_of (drop 4 bs)) ≡ None =
+    ap₂ (λ n l. packets_fault n 1 l) number after ∙ read.none in
+    let size : packets_len (get_or bs 3 0) (words_of (drop 4 bs)) ≡ length ws =
+    ap₂ packets_len number after ∙ read.whole in
+    let end : length bs ≤ 4 + 2 * packets_len (get_or bs 3 0) (words_of (drop 4 bs)) =
+    omega (arith, long, size, length-wire ws) in
+    let faultless =
+    no_fault_two bs (omega (arith, number, carried.some)) (omega (arith, number, carried.few)) carried.fits none
+    end in
     two_without_fault bs two faultless ∙ ap ok (ap₂ packets_at number after ∙ read.packets)
 
 pub read_carried_all : (ps : List PacketView) (bs : List ℕ) → CarriesAll ps bs → packets_read bs ≡ Ok ps
@@ -92,7 +107,8 @@ not_taken : {X : Type 0} (b : Bool) (x : X) (o : Option X) → cond b (Some x) o
 not_taken true x o h = cc
 not_taken false x o h = (refl, h)
 
-none_behind : (bs : List ℕ) (n : ℕ) (o : Option LinkFault) → fault_behind bs n o ≡ None → (o ≡ None) × (length bs ≤ 4 + 2 * packets_len n (words_of (drop 4 bs)))
+none_behind : (bs : List ℕ) (n : ℕ) (o : Option LinkFault) → fault_behind bs n o ≡ None
+    → (o ≡ None) × (length bs ≤ 4 + 2 * packets_len n (words_of (drop 4 bs)))
 none_behind bs n (Some f) h = cc
 none_behind bs n None h = (refl, at_least _ _ (not_taken _ _ _ h).0)
 
@@ -103,18 +119,23 @@ pub record IsTwo (bs : List ℕ) : Type 0 where
   pub long : 4 ≤ length bs
 
 two_is : (bs : List ℕ) → is_two bs ≡ true → IsTwo bs
-two_is bs h = record { b0 = grind (arith, nat_tests); b1 = grind (arith, nat_tests); b2 = grind (arith, nat_tests); long = grind (arith, nat_tests) }
+two_is bs h =
+    record { b0 = grind (arith, nat_tests); b1 = grind (arith, nat_tests); b2 = grind (arith, nat_tests); long = grind (arith, nat_tests) }
 
 between : (n : ℕ) → not (nat_lt 0 n && nat_lt n 9) ≡ false → (1 ≤ n) × (n ≤ 8)
 between n h = (grind (arith, nat_tests), grind (arith, nat_tests))
 
-carried_two : (bs : List ℕ) → ((i : ℕ) → get_or bs i 0 < 256) → is_two bs ≡ true → fault_of_two bs ≡ None → Carries2 (packets_at (get_or bs 3 0) (words_of (drop 4 bs))) bs
+carried_two : (bs : List ℕ) → ((i : ℕ) → get_or bs i 0 < 256) → is_two bs ≡ true → fault_of_two bs ≡ None
+    → Carries2 (packets_at (get_or bs 3 0) (words_of (drop 4 bs))) bs
 carried_two bs small two none =
     let n = get_or bs 3 0 in
     let ws = words_of (drop 4 bs) in
     let mark = two_is bs two in
-    let past_number = not_taken (not (nat_lt 0 n && nat_lt n 9)) (BadNumber) (cond (nat_lt 2020 (length bs)) (Some TooLong) (fault_behind bs n (packets_fault n 1 ws))) none in
-    let past_length = not_taken (nat_lt 2020 (length bs)) TooLong (fault_behind bs n (packets_fault n 1 ws)) past_number.1 in
+    let past_number =
+    not_taken (not (nat_lt 0 n && nat_lt n 9)) (BadNumber)
+    (cond (nat_lt 2020 (length bs)) (Some TooLong) (fault_behind bs n (packets_fault n 1 ws))) none in
+    let past_length =
+    not_taken (nat_lt 2020 (length bs)) TooLong (fault_behind bs n (packets_fault n 1 ws)) past_number.1 in
     let behind = none_behind bs n (packets_fault n 1 ws) past_length.1 in
     let faultless = behind.0 in
     let end = behind.1 in
@@ -135,17 +156,21 @@ carried_two bs small two none =
       fits = at_least 2020 (length bs) past_length.0;
     }
 
-carried_by_version : (bs : List ℕ) → ((i : ℕ) → get_or bs i 0 < 256) → (two : Bool) → is_two bs ≡ two → (o : Option LinkFault) → fault_of_all bs ≡ o → IfOk (read_all_by bs o) (λ ps. CarriesAll ps bs)
+carried_by_version : (bs : List ℕ) → ((i : ℕ) → get_or bs i 0 < 256) → (two : Bool) → is_two bs ≡ two
+    → (o : Option LinkFault) → fault_of_all bs ≡ o → IfOk (read_all_by bs o) (λ ps. CarriesAll ps bs)
 carried_by_version bs small two e (Some f) h = tt
 carried_by_version bs small true e None h =
     let none : fault_of_two bs ≡ None = sym (fault_by_version bs true e) ∙ h in
-    subst (λ n. CarriesAll (packets_at n (words_of (drop 4 bs))) bs) (sym (number_by_version bs true e)) (inr (carried_two bs small e none))
+    subst (λ n. CarriesAll (packets_at n (words_of (drop 4 bs))) bs) (sym (number_by_version bs true e))
+    (inr (carried_two bs small e none))
 carried_by_version bs small false e None h =
     let none : fault_of bs ≡ None = sym (fault_by_version bs false e) ∙ h in
     let one = carried_read (Ok (packet_at (words_of (drop 4 bs)))) bs small (sym (ap (read_by bs) none)) in
-    subst (λ n. CarriesAll (packets_at n (words_of (drop 4 bs))) bs) (sym (number_by_version bs false e)) (inl (packet_at (words_of (drop 4 bs)), refl, one))
+    subst (λ n. CarriesAll (packets_at n (words_of (drop 4 bs))) bs) (sym (number_by_version bs false e))
+    (inl (packet_at (words_of (drop 4 bs)), refl, one))
 
-pub carried_read_all : (r : Result (List PacketView) LinkFault) (bs : List ℕ) → ((i : ℕ) → get_or bs i 0 < 256) → r ≡ packets_read bs → IfOk r (λ ps. CarriesAll ps bs)
+pub carried_read_all : (r : Result (List PacketView) LinkFault) (bs : List ℕ) → ((i : ℕ) → get_or bs i 0 < 256)
+    → r ≡ packets_read bs → IfOk r (λ ps. CarriesAll ps bs)
 carried_read_all r bs small e = rw e (carried_by_version bs small (is_two bs) refl (fault_of_all bs) refl)
 
 pub same_lists : (ps qs : List PacketView) → ◌≡◌ {A = Result (List PacketView) LinkFault} (Ok ps) (Ok qs) → ps ≡ qs
@@ -156,10 +181,12 @@ one_list ps qs bs c d = same_lists ps qs (sym (read_carried_all ps bs c) ∙ rea
 
 -- ---- a refusal
 
-apart : (r : Result (List PacketView) LinkFault) (ps : List PacketView) (f : LinkFault) → ◌≡◌ {A = Result (List PacketView) LinkFault} (Err f) (Ok ps) → r ≡ Ok ps
+apart : (r : Result (List PacketView) LinkFault) (ps : List PacketView) (f : LinkFault)
+    → ◌≡◌ {A = Result (List PacketView) LinkFault} (Err f) (Ok ps) → r ≡ Ok ps
 apart r ps f h = cc
 
-pub none_carried_all : (r : Result (List PacketView) LinkFault) (ps : List PacketView) (bs : List ℕ) (f : LinkFault) → packets_read bs ≡ Err f → CarriesAll ps bs → r ≡ Ok ps
+pub none_carried_all : (r : Result (List PacketView) LinkFault) (ps : List PacketView) (bs : List ℕ) (f : LinkFault)
+    → packets_read bs ≡ Err f → CarriesAll ps bs → r ≡ Ok ps
 none_carried_all r ps bs f e carried = apart r ps f (sym e ∙ read_carried_all ps bs carried)
 
 -- either version carries 8 packets at most
@@ -169,22 +196,29 @@ few_carried ps bs (inr two) = two.few
 
 -- ---- the packets that lie behind the mark
 
-pub opened_one : (bs words : List ℕ) → is_two bs ≡ false → fault_of bs ≡ None → words ≡ drop 4 bs → Ok (packets_at 1 (words_of words)) ≡ packets_read bs
-opened_one bs words one none behind = ap (λ l. ok (packets_at 1 (words_of l))) behind ∙ sym (one_without_fault bs one none)
+pub opened_one : (bs words : List ℕ) → is_two bs ≡ false → fault_of bs ≡ None → words ≡ drop 4 bs
+    → Ok (packets_at 1 (words_of words)) ≡ packets_read bs
+opened_one bs words one none behind =
+    ap (λ l. ok (packets_at 1 (words_of l))) behind ∙ sym (one_without_fault bs one none)
 
-pub opened_two : (bs words : List ℕ) (n : ℕ) → is_two bs ≡ true → fault_of_two bs ≡ None → n ≡ get_or bs 3 0 → words ≡ drop 4 bs
+pub opened_two : (bs words : List ℕ) (n : ℕ) → is_two bs ≡ true → fault_of_two bs ≡ None → n ≡ get_or bs 3 0
+    → words ≡ drop 4 bs
     → Ok (packets_at n (words_of words)) ≡ packets_read bs
-opened_two bs words n two none number behind = ap₂ (λ n l. ok (packets_at n (words_of l))) number behind ∙ sym (two_without_fault bs two none)
+opened_two bs words n two none number behind =
+    ap₂ (λ n l. ok (packets_at n (words_of l))) number behind ∙ sym (two_without_fault bs two none)
 
 -- ---- taken one after the other
 
-apart_as : {X : Type 0} (r : Result X LinkFault) (x : X) (ps : List PacketView) (f : LinkFault) → ◌≡◌ {A = Result (List PacketView) LinkFault} (Err f) (Ok ps) → r ≡ Ok x
+apart_as : {X : Type 0} (r : Result X LinkFault) (x : X) (ps : List PacketView) (f : LinkFault)
+    → ◌≡◌ {A = Result (List PacketView) LinkFault} (Err f) (Ok ps) → r ≡ Ok x
 apart_as r x ps f h = cc
 
-pub none_carried_as : {X : Type 0} (r : Result X LinkFault) (x : X) (ps : List PacketView) (bs : List ℕ) (f : LinkFault) → packets_read bs ≡ Err f → CarriesAll ps bs → r ≡ Ok x
+pub none_carried_as : {X : Type 0} (r : Result X LinkFault) (x : X) (ps : List PacketView) (bs : List ℕ) (f : LinkFault)
+    → packets_read bs ≡ Err f → CarriesAll ps bs → r ≡ Ok x
 none_carried_as r x ps bs f e carried = apart_as r x ps f (sym e ∙ read_carried_all ps bs carried)
 
-pub one_taken : (items left : List PacketView) (p : PacketView) → Some p ≡ slice_get left 0 → items ++ left ≡ (items ++ p ∷ []) ++ drop 1 left
+pub one_taken : (items left : List PacketView) (p : PacketView) → Some p ≡ slice_get left 0
+    → items ++ left ≡ (items ++ p ∷ []) ++ drop 1 left
 one_taken items [] p h = cc
 one_taken items (q ∷ left) p h =
     let same : q ≡ p = cc in
@@ -194,6 +228,7 @@ pub none_taken : (left : List PacketView) → None ≡ slice_get left 0 → left
 none_taken [] h = refl
 none_taken (q ∷ left) h = cc
 
-pub all_taken : (bs : List ℕ) (items left : List PacketView) → packets_read bs ≡ Ok (items ++ left) → length left ≤ 0 → packets_read bs ≡ Ok items
+pub all_taken : (bs : List ℕ) (items left : List PacketView) → packets_read bs ≡ Ok (items ++ left) → length left ≤ 0
+    → packets_read bs ≡ Ok items
 all_taken bs items [] h end = h ∙ ap ok (append-nil items)
 all_taken bs items (q ∷ left) h end = absurd (omega arith)

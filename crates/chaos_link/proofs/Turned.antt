@@ -9,7 +9,8 @@ use Rattle.chaos_link.specs.Datagram.{wire, words_of}
 use Rattle.chaos_link.proofs.Words.{length-words_of, take-words_of, drop-words_of}
 
 -- what stands behind a front that was put before
-pub put_behind : (bs to post front rest : List ℕ) (m n : ℕ) → m ≤ length bs → n ≤ length to → take m bs ≡ front → take n to ≡ rest → take (m + n) (take m bs ++ (to ++ post)) ≡ front ++ rest
+pub put_behind : (bs to post front rest : List ℕ) (m n : ℕ) → m ≤ length bs → n ≤ length to → take m bs ≡ front
+    → take n to ≡ rest → take (m + n) (take m bs ++ (to ++ post)) ≡ front ++ rest
 put_behind bs to post front rest m n fits room first second =
     let whole = take m bs ++ (to ++ post) in
     let before : take m whole ≡ take m bs = take_at (take m bs) (to ++ post) m (length-take-le m bs fits) in
@@ -22,7 +23,9 @@ put_behind bs to post front rest m n fits room first second =
 take-halves : (n : ℕ) (ws : List ℕ) → take (2 * n) (halves ws) ≡ halves (take n ws)
 take-halves zero ws = refl
 take-halves (suc n) [] = let even : 2 * suc n ≡ suc (suc (2 * n)) = omega arith in rw even refl
-take-halves (suc n) (w ∷ ws) = let even : 2 * suc n ≡ suc (suc (2 * n)) = omega arith in rw even (ap (λ bs. w % 256 ∷ w / 256 ∷ bs) (take-halves n ws))
+take-halves (suc n) (w ∷ ws) =
+    let even : 2 * suc n
+    ≡ suc (suc (2 * n)) = omega arith in rw even (ap (λ bs. w % 256 ∷ w / 256 ∷ bs) (take-halves n ws))
 
 drop-halves : (n : ℕ) (ws : List ℕ) → drop (2 * n) (halves ws) ≡ halves (drop n ws)
 drop-halves zero ws = refl
@@ -30,7 +33,8 @@ drop-halves (suc n) [] = let even : 2 * suc n ≡ suc (suc (2 * n)) = omega arit
 drop-halves (suc n) (w ∷ ws) = let even : 2 * suc n ≡ suc (suc (2 * n)) = omega arith in rw even (drop-halves n ws)
 
 -- words that were read of bytes, and stored as their halves
-pub halves_stored : (ws bs to : List ℕ) (n : ℕ) → n ≡ length bs / 2 → take n ws ≡ take n (words_of bs) → take (2 * n) to ≡ take (2 * n) (pairs (λ w. w % 256) (λ w. w / 256) ws)
+pub halves_stored : (ws bs to : List ℕ) (n : ℕ) → n ≡ length bs / 2 → take n ws ≡ take n (words_of bs)
+    → take (2 * n) to ≡ take (2 * n) (pairs (λ w. w % 256) (λ w. w / 256) ws)
     → take (2 * n) to ≡ halves (words_of bs)
 halves_stored ws bs to n e read stored =
     let all : take n (words_of bs) ≡ words_of bs = take_all n (words_of bs) (omega (arith, length-words_of bs)) in
@@ -41,26 +45,37 @@ turned_behind : (bs : List ℕ) (m k : ℕ) → m ≡ 2 * k → drop m (halves (
 turned_behind bs m k e = rw e (drop-halves k (words_of bs) ∙ ap halves (drop-words_of k bs))
 
 -- one block more
-pub block_turned : (from to part ys : List ℕ) (i k m n : ℕ) → m ≡ 16 * i → n ≡ 16 * (i + 1) → n ≤ length from → m ≤ length to → part ≡ take 16 (drop m from) → length ys ≡ 16
-    → take 16 ys ≡ halves (words_of part) → take m to ≡ take m (halves (words_of from)) → take n (put_mid m k to ys) ≡ take n (halves (words_of from))
+pub block_turned : (from to part ys : List ℕ) (i k m n : ℕ) → m ≡ 16 * i → n ≡ 16 * (i + 1) → n ≤ length from
+    → m ≤ length to → part ≡ take 16 (drop m from) → length ys ≡ 16
+    → take 16 ys ≡ halves (words_of part) → take m to ≡ take m (halves (words_of from))
+    → take n (put_mid m k to ys) ≡ take n (halves (words_of from))
 block_turned from to part ys i k m n em en inside fits read full turned so_far =
     let whole = halves (words_of from) in
     let behind : take 16 (drop m whole) ≡ halves (words_of part) =
-    ap (take 16) (turned_behind from m (8 * i) (omega arith)) ∙ take-halves 8 (words_of (drop m from)) ∙ ap halves (take-words_of 8 (drop m from)) ∙ ap (λ l. halves (words_of l)) (sym read) in
+    ap (take 16) (turned_behind from m (8 * i) (omega arith)) ∙ take-halves 8 (words_of (drop m from))
+    ∙ ap halves (take-words_of 8 (drop m from)) ∙ ap (λ l. halves (words_of l)) (sym read) in
     let end : n ≡ m + 16 = omega arith in
-    take-put_mid m k to ys n (omega arith) fits ∙ ap₂ (λ a b. a ++ b) so_far (sym (take_all 16 ys (omega arith)) ∙ turned ∙ sym behind) ∙ sym (take-add m 16 whole) ∙ ap (λ n. take n whole) (sym end)
+    take-put_mid m k to ys n (omega arith) fits
+    ∙ ap₂ (λ a b. a ++ b) so_far (sym (take_all 16 ys (omega arith)) ∙ turned ∙ sym behind)
+    ∙ sym (take-add m 16 whole) ∙ ap (λ n. take n whole) (sym end)
 
 -- and what is left
-pub rest_turned : (from to part ys : List ℕ) (i k m n end : ℕ) → m ≡ 16 * i → end ≡ m + n → m ≤ length to → n ≤ length ys → part ≡ drop m from
-    → take n ys ≡ halves (words_of part) → take m to ≡ take m (halves (words_of from)) → take end (put_mid m k to ys) ≡ halves (words_of from)
+pub rest_turned : (from to part ys : List ℕ) (i k m n end : ℕ) → m ≡ 16 * i → end ≡ m + n → m ≤ length to
+    → n ≤ length ys → part ≡ drop m from
+    → take n ys ≡ halves (words_of part) → take m to ≡ take m (halves (words_of from))
+    → take end (put_mid m k to ys) ≡ halves (words_of from)
 rest_turned from to part ys i k m n end em e fits room read turned so_far =
     let whole = halves (words_of from) in
-    ap (λ l. take l (put_mid m k to ys)) e ∙ put_behind to ys _ _ _ m n fits room so_far (turned ∙ ap (λ l. halves (words_of l)) read ∙ sym (turned_behind from m (8 * i) (omega arith))) ∙ take-append-drop m whole
+    ap (λ l. take l (put_mid m k to ys)) e
+    ∙ put_behind to ys _ _ _ m n fits room so_far
+    (turned ∙ ap (λ l. halves (words_of l)) read ∙ sym (turned_behind from m (8 * i) (omega arith)))
+    ∙ take-append-drop m whole
 
 -- ---- the words of packed data, as bytes
 
 -- with an even count each pair is turned round
-pub wire-packed : (bs : List ℕ) → ((i : ℕ) → get_or bs i 0 < 256) → length bs % 2 ≡ 0 → wire (packed bs) ≡ halves (words_of bs)
+pub wire-packed : (bs : List ℕ) → ((i : ℕ) → get_or bs i 0 < 256) → length bs % 2 ≡ 0
+    → wire (packed bs) ≡ halves (words_of bs)
 wire-packed [] small even = refl
 wire-packed (a ∷ []) small even = absurd (omega arith)
 wire-packed (a ∷ b ∷ bs) small even =
@@ -85,8 +100,10 @@ wire-packed_odd (a ∷ b ∷ bs) (suc k) small odd =
     rw (place, high, low, wire-packed_odd bs k (λ i. small (suc (suc i))) (omega arith)) refl
 
 -- so it is put behind the pairs
-pub odd_put : (bs to : List ℕ) (k n w : ℕ) → ((i : ℕ) → get_or bs i 0 < 256) → length bs ≡ 2 * k + 1 → n ≡ 2 * k + 2 → 2 * k + 1 < length to → w ≡ get_or bs (2 * k) 0
+pub odd_put : (bs to : List ℕ) (k n w : ℕ) → ((i : ℕ) → get_or bs i 0 < 256) → length bs ≡ 2 * k + 1 → n ≡ 2 * k + 2
+    → 2 * k + 1 < length to → w ≡ get_or bs (2 * k) 0
     → take (2 * k) to ≡ halves (words_of bs) → take n (set (set to (2 * k) 0) (2 * k + 1) w) ≡ wire (packed bs)
 odd_put bs to k n w small odd end room last turned =
-    take_stored to (2 * k) n 0 w end room ∙ ap (λ l. (l ++ 0 ∷ []) ++ w ∷ []) turned ∙ append_assoc (halves (words_of bs)) (0 ∷ []) (w ∷ [])
+    take_stored to (2 * k) n 0 w end room ∙ ap (λ l. (l ++ 0 ∷ []) ++ w ∷ []) turned
+    ∙ append_assoc (halves (words_of bs)) (0 ∷ []) (w ∷ [])
     ∙ ap (λ v. halves (words_of bs) ++ 0 ∷ v ∷ []) last ∙ sym (wire-packed_odd bs k small odd)

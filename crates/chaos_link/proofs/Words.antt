@@ -10,7 +10,8 @@ length-words_of (a ∷ []) = refl
 length-words_of (a ∷ b ∷ bs) = omega (arith, length-words_of bs)
 
 -- word i has byte 2i for its high half, and byte 2i + 1 for its low half
-pub word_at : (bs : List ℕ) (i : ℕ) → 2 * i + 1 < length bs → get_or (words_of bs) i 0 ≡ 256 * get_or bs (2 * i) 0 + get_or bs (2 * i + 1) 0
+pub word_at : (bs : List ℕ) (i : ℕ) → 2 * i + 1 < length bs
+    → get_or (words_of bs) i 0 ≡ 256 * get_or bs (2 * i) 0 + get_or bs (2 * i + 1) 0
 word_at [] i h = absurd (omega arith)
 word_at (a ∷ []) i h = absurd (omega arith)
 word_at (a ∷ b ∷ bs) zero h = refl
@@ -20,29 +21,35 @@ word_at (a ∷ b ∷ bs) (suc i) h =
     rw (odd, even) (word_at bs i (omega arith))
 
 -- one word more
-take_word : (bs : List ℕ) (i : ℕ) → 2 * i + 1 < length bs → take (i + 1) (words_of bs) ≡ take i (words_of bs) ++ (256 * get_or bs (2 * i) 0 + get_or bs (2 * i + 1) 0) ∷ []
+take_word : (bs : List ℕ) (i : ℕ) → 2 * i + 1 < length bs
+    → take (i + 1) (words_of bs) ≡ take i (words_of bs) ++ (256 * get_or bs (2 * i) 0 + get_or bs (2 * i + 1) 0) ∷ []
 take_word bs i h =
     let fits : i < length (words_of bs) = omega (arith, length-words_of bs) in
     take_more (words_of bs) i 0 fits ∙ ap (λ w. take i (words_of bs) ++ w ∷ []) (word_at bs i h)
 
 -- the store of one word more
-pub word_stored : (ws bs : List ℕ) (i w : ℕ) → i < length ws → 2 * i + 1 < length bs → w ≡ 256 * get_or bs (2 * i) 0 + get_or bs (2 * i + 1) 0
+pub word_stored : (ws bs : List ℕ) (i w : ℕ) → i < length ws → 2 * i + 1 < length bs
+    → w ≡ 256 * get_or bs (2 * i) 0 + get_or bs (2 * i + 1) 0
     → take i ws ≡ take i (words_of bs) → take (i + 1) (set ws i w) ≡ take (i + 1) (words_of bs)
 word_stored ws bs i w room there word so_far =
-    take_more_set ws i w room ∙ ap (λ front. front ++ w ∷ []) so_far ∙ ap (λ w. take i (words_of bs) ++ w ∷ []) word ∙ sym (take_word bs i there)
+    take_more_set ws i w room ∙ ap (λ front. front ++ w ∷ []) so_far ∙ ap (λ w. take i (words_of bs) ++ w ∷ []) word
+    ∙ sym (take_word bs i there)
 
 -- the first words are those of the first bytes, and the words behind them are those of the bytes behind
 pub take-words_of : (n : ℕ) (bs : List ℕ) → take n (words_of bs) ≡ words_of (take (2 * n) bs)
 take-words_of zero bs = refl
 take-words_of (suc n) [] = let even : 2 * suc n ≡ suc (suc (2 * n)) = omega arith in rw even refl
 take-words_of (suc n) (a ∷ []) = let even : 2 * suc n ≡ suc (suc (2 * n)) = omega arith in rw even refl
-take-words_of (suc n) (a ∷ b ∷ bs) = let even : 2 * suc n ≡ suc (suc (2 * n)) = omega arith in rw even (ap (λ ws. (256 * a + b) ∷ ws) (take-words_of n bs))
+take-words_of (suc n) (a ∷ b ∷ bs) =
+    let even : 2 * suc n
+    ≡ suc (suc (2 * n)) = omega arith in rw even (ap (λ ws. (256 * a + b) ∷ ws) (take-words_of n bs))
 
 pub drop-words_of : (n : ℕ) (bs : List ℕ) → drop n (words_of bs) ≡ words_of (drop (2 * n) bs)
 drop-words_of zero bs = refl
 drop-words_of (suc n) [] = let even : 2 * suc n ≡ suc (suc (2 * n)) = omega arith in rw even refl
 drop-words_of (suc n) (a ∷ []) = let even : 2 * suc n ≡ suc (suc (2 * n)) = omega arith in rw even refl
-drop-words_of (suc n) (a ∷ b ∷ bs) = let even : 2 * suc n ≡ suc (suc (2 * n)) = omega arith in rw even (drop-words_of n bs)
+drop-words_of (suc n) (a ∷ b ∷ bs) =
+    let even : 2 * suc n ≡ suc (suc (2 * n)) = omega arith in rw even (drop-words_of n bs)
 
 -- words are what their bytes say
 pub words_of-wire : (ws : List ℕ) → words_of (wire ws) ≡ ws
@@ -54,7 +61,8 @@ length-wire [] = refl
 length-wire (w ∷ ws) = omega (arith, length-wire ws)
 
 -- and bytes are what their words say, where none is left over
-pub wire-words_of : (bs : List ℕ) → ((i : ℕ) → get_or bs i 0 < 256) → length bs ≡ 2 * length (words_of bs) → wire (words_of bs) ≡ bs
+pub wire-words_of : (bs : List ℕ) → ((i : ℕ) → get_or bs i 0 < 256) → length bs ≡ 2 * length (words_of bs)
+    → wire (words_of bs) ≡ bs
 wire-words_of [] small even = refl
 wire-words_of (a ∷ []) small even = absurd (omega arith)
 wire-words_of (a ∷ b ∷ bs) small even =

@@ -28,7 +28,8 @@ with_addressed datagram queue = record queue {
 
 -- A queue takes every datagram as sent, with the address that it was given.
 abbrev pub SendsTo : ℕ → List ℕ → Sent → Option AddressedQueue → AddressedQueue → Type 0
-SendsTo to bytes result after before = (result ≡ sending.Sent) × (after ≡ Some (with_addressed (record { to = to; bytes = bytes }) before))
+SendsTo to bytes result after before =
+    (result ≡ sending.Sent) × (after ≡ Some (with_addressed (record { to = to; bytes = bytes }) before))
 
 -- the queue without its oldest datagram
 abbrev pub without_oldest : AddressedQueue → AddressedQueue
@@ -42,4 +43,5 @@ HandsOut (oldest ∷ others) old new result =
 
 -- The oldest datagram is taken, whomever it was sent to.
 abbrev pub TakesAddressed : List ℕ → List ℕ → Received → Option AddressedQueue → AddressedQueue → Type 0
-TakesAddressed old new result after before = HandsOut before.datagrams old new result × (after ≡ Some (without_oldest before))
+TakesAddressed old new result after before =
+    HandsOut before.datagrams old new result × (after ≡ Some (without_oldest before))

@@ -14,7 +14,9 @@ bytes_for (p ∷ ps) = 2 * (HEADER_WORDS + words_for (length p.body)) + bytes_fo
 
 -- 1 to 8 packets that need 2,020 bytes at most
 abbrev pub fit_together : List PacketView → Bool
-fit_together ps = (nat_lt 0 (length ps) && nat_lt (length ps) (MAX_PACKETS + 1)) && not (nat_lt MAX_BUNDLE (MARK_BYTES + bytes_for ps))
+fit_together ps =
+    (nat_lt 0 (length ps) && nat_lt (length ps) (MAX_PACKETS + 1))
+    && not (nat_lt MAX_BUNDLE (MARK_BYTES + bytes_for ps))
 
 -- the words that spell the packets in turn, with zero free halves
 abbrev pub spelling_of_all : List PacketView → List ℕ

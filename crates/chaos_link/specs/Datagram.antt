@@ -44,7 +44,8 @@ datagram_len count = MARK_BYTES + 2 * (HEADER_WORDS + words_for count)
 -- the fault of the words after the mark, else of what stands after the packet
 abbrev pub fault_after : List ℕ → Option PacketFault → Option LinkFault
 fault_after bs (Some f) = Some (Packet f)
-fault_after bs None = if nat_lt (datagram_len (count_of (words_of (drop MARK_BYTES bs)))) (length bs) then Some Trailing else None
+fault_after bs None =
+    if nat_lt (datagram_len (count_of (words_of (drop MARK_BYTES bs)))) (length bs) then Some Trailing else None
 
 -- the first fault of these bytes
 abbrev pub fault_of : List ℕ → Option LinkFault

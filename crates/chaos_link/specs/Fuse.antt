@@ -2,8 +2,8 @@
 use Rattle.std.specs.Prelude.{ℕ, ◌+◌, ◌-◌, ◌==◌, min, if◌then◌else◌, Option, None}
 use Rattle.chaos_packet.specs.Count.{max_count, with_failure}
 
--- the link behind the fuse, how many calls are left up to and with the one that fails (0 where none fails any more), and how
--- many failed by the fuse
+-- the link behind the fuse, how many calls are left up to and with the one that fails (0 where none fails any more),
+-- and how many failed by the fuse
 pub record FuseView (L : Type 0) : Type 0 where
   pub inner : L
   pub calls_left : ℕ

@@ -8,8 +8,8 @@ use Rattle.chaos_link.specs.Datagram.{words_of}
 use Rattle.chaos_link.specs.Packets.{packets_at}
 use Rattle.chaos_link.specs.declared.limits.TheConstants.{MARK_BYTES}
 
--- A load is the packets of one datagram, all to one destination. A packet joins one that is begun, where it goes to the same
--- destination and one datagram can carry them together.
+-- A load is the packets of one datagram, all to one destination. A packet joins one that is begun, where it goes to the
+-- same destination and one datagram can carry them together.
 abbrev pub joins : List PacketView → PacketView → Bool
 joins [] p = false
 joins (first ∷ others) p = (p.dst == first.dst) && fit_together (first ∷ others ++ p ∷ [])
@@ -58,7 +58,8 @@ abbrev pub AreLongest : List (List PacketView) → Type 0
 AreLongest [] = Unit {0}
 AreLongest (load ∷ loads) = EndsBefore load loads × AreLongest loads
 
--- The loads are the packets in order, each fits a datagram, has one destination and is the longest front of what is left.
+-- The loads are the packets in order, each fits a datagram, has one destination and is the longest front of what is
+-- left.
 pub record AreLoadsOf (ps : List PacketView) (loads : List (List PacketView)) : Type 0 where
   pub whole : packets_of loads ≡ ps
   pub fit : All (λ load. fit_together load ≡ true) loads

@@ -18,8 +18,8 @@ abbrev pub SpellsAll : List PacketView → List ℕ → Type 0
 SpellsAll [] ws = ws ≡ []
 SpellsAll (p ∷ ps) ws = (n : ℕ) × (n ≤ length ws) × Spells p (take n ws) × SpellsAll ps (drop n ws)
 
--- The bytes carry these packets, 1 to 8 of them: the mark with their number, words that spell them in turn, and nothing more,
--- 2,020 bytes at most.
+-- The bytes carry these packets, 1 to 8 of them: the mark with their number, words that spell them in turn, and nothing
+-- more, 2,020 bytes at most.
 pub record Carries2 (ps : List PacketView) (bs : List ℕ) : Type 0 where
   pub words : List ℕ
   pub spelled : SpellsAll ps words
@@ -61,17 +61,22 @@ packets_fault (suc n) k ws = first_fault k (words_fault ws) (packets_fault n (k 
 -- the first fault of the packets, else of what stands behind them
 abbrev pub fault_behind : List ℕ → ℕ → Option LinkFault → Option LinkFault
 fault_behind bs number (Some f) = Some f
-fault_behind bs number None = if nat_lt (MARK_BYTES + 2 * packets_len number (words_of (drop MARK_BYTES bs))) (length bs) then Some Trailing else None
+fault_behind bs number None =
+    if nat_lt (MARK_BYTES + 2 * packets_len number (words_of (drop MARK_BYTES bs))) (length bs) then Some Trailing
+    else None
 
 -- the first fault of a datagram of version 2
 abbrev pub fault_of_two : List ℕ → Option LinkFault
-fault_of_two bs = if not (nat_lt 0 (slice_index bs 3) && nat_lt (slice_index bs 3) (MAX_PACKETS + 1)) then Some BadNumber
+fault_of_two bs =
+    if not (nat_lt 0 (slice_index bs 3) && nat_lt (slice_index bs 3) (MAX_PACKETS + 1)) then Some BadNumber
     else (if nat_lt MAX_BUNDLE (length bs) then Some TooLong
     else fault_behind bs (slice_index bs 3) (packets_fault (slice_index bs 3) 1 (words_of (drop MARK_BYTES bs))))
 
 -- it is one of version 2: the mark is there, and the third byte is 2
 abbrev pub is_two : List ℕ → Bool
-is_two bs = (slice_index bs 2 == 0x02 && (slice_index bs 0 == 0x43 && slice_index bs 1 == 0x48)) && not (nat_lt (length bs) MARK_BYTES)
+is_two bs =
+    (slice_index bs 2 == 0x02 && (slice_index bs 0 == 0x43 && slice_index bs 1 == 0x48))
+    && not (nat_lt (length bs) MARK_BYTES)
 
 -- the first fault of a datagram of either version, and how many packets it has
 abbrev pub fault_of_all : List ℕ → Option LinkFault
@@ -90,7 +95,8 @@ packets_read bs = read_all_by bs (fault_of_all bs)
 
 -- Packets are read of bytes exactly where they carry them.
 abbrev pub IsDecidedByCarriesAll : Type 0
-IsDecidedByCarriesAll = (ps : List PacketView) (bs : List ℕ) → All (λ b. b < 256) bs → (packets_read bs ≡ Ok ps) ↔ CarriesAll ps bs
+IsDecidedByCarriesAll =
+    (ps : List PacketView) (bs : List ℕ) → All (λ b. b < 256) bs → (packets_read bs ≡ Ok ps) ↔ CarriesAll ps bs
 
 -- at most one list of packets is carried by any bytes
 abbrev pub AtMostOneList : Type 0

@@ -20,7 +20,8 @@ abbrev pub other : Side → Side
 other Near = Far
 other Far = Near
 
--- This end sent: the datagram waits for the other end with the address that it was given, and what waits for this end is as it was.
+-- This end sent: the datagram waits for the other end with the address that it was given, and what waits for this end
+-- is as it was.
 pub record SendsAcross (side : Side) (to : ℕ) (bytes : List ℕ) (result : Sent) (before after : PairView) : Type 0 where
   pub across : SendsTo to bytes result (Some (waits_for (other side) after)) (waits_for (other side) before)
   pub own : waits_for side after ≡ waits_for side before

@@ -18,10 +18,13 @@ use Rattle.chaos_net.proofs.Network.{reached_is_played}
 
 -- ---- what is kept stands for what was sent
 
-pub kept_there : (n : Net) (y : Side) (events : ℕ) (ks : List KeptSent) (qs : List Sent) (k : ℕ) (kept : KeptSent) → AreKept n y events ks qs → slice_get ks k ≡ Some kept → (q : Sent) × (slice_get qs k ≡ Some q) × IsKept n y events kept q
+pub kept_there : (n : Net) (y : Side) (events : ℕ) (ks : List KeptSent) (qs : List Sent) (k : ℕ) (kept : KeptSent)
+    → AreKept n y events ks qs → slice_get ks k ≡ Some kept
+    → (q : Sent) × (slice_get qs k ≡ Some q) × IsKept n y events kept q
 kept_there n y events [] qs k kept h is = absurd (cc)
 kept_there n y events (one ∷ ks) [] k kept h is = absurd h
-kept_there n y events (one ∷ ks) (q ∷ qs) zero kept h is = (q, refl, subst (λ z. IsKept n y events z q) (some_eq is) h.0)
+kept_there n y events (one ∷ ks) (q ∷ qs) zero kept h is =
+    (q, refl, subst (λ z. IsKept n y events z q) (some_eq is) h.0)
 kept_there n y events (one ∷ ks) (q ∷ qs) (suc k) kept h is = kept_there n y events ks qs k kept h.1 is
 
 -- ---- tests
@@ -47,23 +50,29 @@ place_is d few = by d.place d.turn few
 
 -- ---- a packet that may come
 
-pub may_come_fresh : (v : NetView) (n : Net) (x : Side) (kept : KeptSent) (q : Sent) → Stands v n → IsKept n (other x) v.events kept q → may_come v.events (at v x).seats kept ≡ true → IsFresh n x q
+pub may_come_fresh : (v : NetView) (n : Net) (x : Side) (kept : KeptSent) (q : Sent) → Stands v n
+    → IsKept n (other x) v.events kept q → may_come v.events (at v x).seats kept ≡ true → IsFresh n x q
 may_come_fresh v n x kept q h k may ack c d s t by from now there index =
     let side = (reached_is_played n h.reached x).station.stories d t there in
     let here = h.stations x in
     let op : carries_ack (kind_of kept.packet.op) ≡ true = ap (λ p. carries_ack (kind_of p.op)) k.packet ∙ ack in
-    let place : place_of kept.packet.dst_index ≡ d.place = ap (λ p. place_of p.dst_index) k.packet ∙ ap place_of index ∙ place_is d side.place in
+    let place : place_of kept.packet.dst_index ≡ d.place =
+    ap (λ p. place_of p.dst_index) k.packet ∙ ap place_of index ∙ place_is d side.place in
     let fresh : is_fresh_at v.events (slice_get (at v x).seats d.place) kept ≡ true =
     ap (λ i. is_fresh_at v.events (slice_get (at v x).seats i) kept) (sym place) ∙ sym (cond-true _ _ _ op) ∙ may in
     of_seat (slice_get (at v x).seats d.place) refl fresh
   where
-    of_seat : (o : Option Seat) → slice_get (at v x).seats d.place ≡ o → is_fresh_at v.events o kept ≡ true → IsFreshFor x q c d s t
+    of_seat : (o : Option Seat) → slice_get (at v x).seats d.place ≡ o → is_fresh_at v.events o kept ≡ true
+        → IsFreshFor x q c d s t
     of_seat None is fresh = absurd (false≢true fresh)
     of_seat (Some seat) is fresh =
-        let tests = both (nat_lt (v.events - kept.at) fresh_span) (are_near (Some seat.turn) kept.meant && are_near kept.by seat.peer) fresh in
+        let tests =
+        both (nat_lt (v.events - kept.at) fresh_span)
+        (are_near (Some seat.turn) kept.meant && are_near kept.by seat.peer) fresh in
         let nears = both (are_near (Some seat.turn) kept.meant) (are_near kept.by seat.peer) tests.1 in
         let same : present (n x) d.place ≡ d = λ j. record { place = d.place; turn = now j } in
-        let told : IsSeatOf (n x) d seat = subst (λ name. IsSeatOf (n x) name seat) same ((h.stations x).seats d.place seat is) in
+        let told : IsSeatOf (n x) d seat =
+        subst (λ name. IsSeatOf (n x) name seat) same ((h.stations x).seats d.place seat is) in
         let few = below (v.events - kept.at) fresh_span tests.0 in
         let length_c = k.lengths (other x) c in
         let length_d = k.lengths x d in
@@ -73,7 +82,8 @@ may_come_fresh v n x kept q h k may ack c d s t by from now there index =
         record {
           meant = λ m is_m.
               let meant : kept.meant ≡ Some m.turn = k.meant ack c s by from ∙ ap turn_of is_m in
-              near d m (ap (λ (z : ℕ × Option ℕ). are_near (Some z.0) z.1) (λ j. (sym told.turn j, sym meant j)) ∙ nears.0);
+              near d m
+              (ap (λ (z : ℕ × Option ℕ). are_near (Some z.0) z.1) (λ j. (sym told.turn j, sym meant j)) ∙ nears.0);
           peer = λ e is_e.
               let by_c : kept.by ≡ Some c.turn = k.by ∙ ap turn_of by in
               let peer : seat.peer ≡ Some e.turn = told.peer t there ∙ ap turn_of is_e in

@@ -34,12 +34,14 @@ nat_eq : (a b : ℕ) → (a ≡ b) ⊎ (a ≡ b → ⊥)
 nat_eq zero zero = inl refl
 nat_eq zero (suc b) = inr (λ h. absurd (omega arith))
 nat_eq (suc a) zero = inr (λ h. absurd (omega arith))
-nat_eq (suc a) (suc b) = ⊎_elim (λ (h : a ≡ b). inl (ap suc h)) (λ (h : a ≡ b → ⊥). inr (λ same. h (omega arith))) (nat_eq a b)
+nat_eq (suc a) (suc b) =
+    ⊎_elim (λ (h : a ≡ b). inl (ap suc h)) (λ (h : a ≡ b → ⊥). inr (λ same. h (omega arith))) (nat_eq a b)
 
 pub name_eq : (a b : Name) → (a ≡ b) ⊎ (a ≡ b → ⊥)
 name_eq a b =
     ⊎_elim
-    (λ (p : a.place ≡ b.place). ⊎_elim (λ (t : a.turn ≡ b.turn). inl (λ j. record { place = p j; turn = t j })) (λ (t : a.turn ≡ b.turn → ⊥). inr (λ h. t (ap (λ n. n.turn) h))) (nat_eq a.turn b.turn))
+    (λ (p : a.place ≡ b.place). ⊎_elim (λ (t : a.turn ≡ b.turn). inl (λ j. record { place = p j; turn = t j }))
+    (λ (t : a.turn ≡ b.turn → ⊥). inr (λ h. t (ap (λ n. n.turn) h))) (nat_eq a.turn b.turn))
     (λ (p : a.place ≡ b.place → ⊥). inr (λ h. p (ap (λ n. n.place) h)))
     (nat_eq a.place b.place)
 
@@ -56,8 +58,10 @@ pub record PairHolds (r t : Story) (asker taker : Name) : Type 0 where
   pub linked : IsLinked r.peer taker → Begins r.end.read t.end.written
   pub apart : (r.peer ≡ Some taker → ⊥) → length t.end.read ≤ 1
 
-pair_holds : (x : Side) (n : Net) (asker taker : Name) (r t : Story) (l : LabView) → IsPlayed x asker taker r ((n (other x)).story taker) (n x).sent (n (other x)).sent (n (other x)).host.config l
-    → (n (other x)).story taker ≡ Some t → t.asked ≡ false → t.peer ≡ Some asker → (r.peer ≡ None → r.end.read ≡ []) → PairHolds r t asker taker
+pair_holds : (x : Side) (n : Net) (asker taker : Name) (r t : Story) (l : LabView)
+    → IsPlayed x asker taker r ((n (other x)).story taker) (n x).sent (n (other x)).sent (n (other x)).host.config l
+    → (n (other x)).story taker ≡ Some t → t.asked ≡ false → t.peer ≡ Some asker → (r.peer ≡ None → r.end.read ≡ [])
+    → PairHolds r t asker taker
 pair_holds x n asker taker r t l p there asked peer unread =
     let b = p.taken t there (asked, peer) in
     let read : Begins l.b.read l.a.written = reads_begin l A p.machine in
@@ -68,8 +72,11 @@ pair_holds x n asker taker r t l p there asked peer unread =
           (λ (k : IsLinked r.peer taker). subst (Begins t.end.read) (end_written A r.end l.a (p.linked k)) from)
           (λ (k : IsParted r.peer taker). begins_through t.end.read l.a.written r.end.written from (p.parted k).1)
           (linked_or_parted r.peer taker);
-      linked = λ k. subst (λ (z : List ItemView × List ItemView). Begins z.0 z.1) (λ j. (end_read A r.end l.a (p.linked k) j, end_written B t.end l.b b j)) back;
-      apart = λ k. let most = alone r.peer refl k in let fits = begins_shorter t.end.read l.a.written from in omega arith;
+      linked =
+          λ k. subst (λ (z : List ItemView × List ItemView). Begins z.0 z.1)
+          (λ j. (end_read A r.end l.a (p.linked k) j, end_written B t.end l.b b j)) back;
+      apart =
+          λ k. let most = alone r.peer refl k in let fits = begins_shorter t.end.read l.a.written from in omega arith;
     }
   where
     alone : (o : Option Name) → r.peer ≡ o → (r.peer ≡ Some taker → ⊥) → length l.a.written ≤ 1
@@ -80,19 +87,28 @@ pair_holds x n asker taker r t l p there asked peer unread =
     alone (Some peer) is k = (p.parted (subst (λ o. IsParted o taker) (sym is) (λ same. k (is ∙ ap Some same)))).0
 
 -- one that asked and wasn't opened has read nothing
-unread : (n : Net) (x : Side) (name : Name) (s : Story) → (n x).story name ≡ Some s → ArePlayed n → s.peer ≡ None → s.end.read ≡ []
-unread n x name s there h none = let p : HasPeer (n (other x)) name s None s.asked = subst (λ o. HasPeer (n (other x)) name s o s.asked) none ((h x).station.stories name s there).peer in p.1
+unread : (n : Net) (x : Side) (name : Name) (s : Story) → (n x).story name ≡ Some s → ArePlayed n → s.peer ≡ None
+    → s.end.read ≡ []
+unread n x name s there h none =
+    let p : HasPeer (n (other x)) name s None s.asked = subst (λ o. HasPeer (n (other x)) name s o s.asked) none
+    ((h x).station.stories name s there).peer in p.1
 
 peer_eq : (o : Option Name) (name : Name) → (o ≡ Some name) ⊎ (o ≡ Some name → ⊥)
 peer_eq None name = inr (λ h. absurd (cc))
-peer_eq (Some peer) name = ⊎_elim (λ (h : peer ≡ name). inl (ap Some h)) (λ (h : peer ≡ name → ⊥). inr (λ q. h (let same : peer ≡ name = cc in same))) (name_eq peer name)
+peer_eq (Some peer) name =
+    ⊎_elim (λ (h : peer ≡ name). inl (ap Some h))
+    (λ (h : peer ≡ name → ⊥). inr (λ q. h (let same : peer ≡ name = cc in same))) (name_eq peer name)
 
-holds_by : (n : Net) (x : Side) (name : Name) (s : Story) (peer : Option Name) (asked : Bool) → ArePlayed n → (n x).story name ≡ Some s → s.peer ≡ peer → s.asked ≡ asked → HasPeer (n (other x)) name s peer asked → HoldsBy n x name s peer
+holds_by : (n : Net) (x : Side) (name : Name) (s : Story) (peer : Option Name) (asked : Bool) → ArePlayed n
+    → (n x).story name ≡ Some s → s.peer ≡ peer → s.asked ≡ asked → HasPeer (n (other x)) name s peer asked
+    → HoldsBy n x name s peer
 holds_by n x name s None asked h there peer is known = (is ∙ known.0, known.1)
 -- one that asked
 holds_by n x name s (Some taker) true h there peer is known =
     let pair = (h x).pairs name taker s there is in
-    let p = pair_holds x n name taker s known.0 pair.0 pair.1 known.1 known.2 known.3 (λ none. let no : None ≡ Some taker = sym none ∙ peer in absurd (cc)) in
+    let p =
+    pair_holds x n name taker s known.0 pair.0 pair.1 known.1 known.2 known.3
+    (λ none. let no : None ≡ Some taker = sym none ∙ peer in absurd (cc)) in
     record {
       story = known.0;
       there = known.1;
@@ -116,4 +132,5 @@ holds_by n x name s (Some asker) false h there peer is known =
     }
 
 pub net_holds : (n : Net) (x : Side) (name : Name) → ArePlayed n → Holds n x name
-net_holds n x name h s there = holds_by n x name s s.peer s.asked h there refl refl ((h x).station.stories name s there).peer
+net_holds n x name h s there =
+    holds_by n x name s s.peer s.asked h there refl refl ((h x).station.stories name s there).peer

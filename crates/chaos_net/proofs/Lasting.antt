@@ -40,7 +40,8 @@ either : (b : Bool) (xs ys zs : List ItemView) → Begins xs ys → Begins xs zs
 either true xs ys zs p q = p
 either false xs ys zs p q = q
 
-wrote : (call : Call) (packets : List PacketView) (items : List ItemView) → Begins items (with_written call packets items)
+wrote : (call : Call) (packets : List PacketView) (items : List ItemView)
+    → Begins items (with_written call packets items)
 wrote (Write op bytes now) packets items = longer items _
 wrote (Accept start now) packets items = longer items _
 wrote (Request me peer contact start now) packets items = begins_itself items
@@ -60,11 +61,13 @@ gave_more (gave.Item item) items = longer items _
 gave_more gave.Nothing items = begins_itself items
 gave_more (gave.Ended state) items = begins_itself items
 
-opened_more : (delivered : Delivered) (p : PacketView) (items : List ItemView) → Begins items (with_opened delivered p items)
+opened_more : (delivered : Delivered) (p : PacketView) (items : List ItemView)
+    → Begins items (with_opened delivered p items)
 opened_more came.Opened p items = longer items _
 opened_more delivered p items = begins_itself items
 
-has_read : (v : ConnView) (call : Call) (items : List ItemView) → Begins items (with_read v call (act v call).answer items)
+has_read : (v : ConnView) (call : Call) (items : List ItemView)
+    → Begins items (with_read v call (act v call).answer items)
 has_read v Read items = gave_more (act_read v).answer items
 has_read v (Deliver p now) items = opened_more (act_deliver v p now).answer p items
 has_read v (Accept start now) items = longer items (option_to_list (front_of v))
@@ -81,14 +84,19 @@ has_read v (Tick now) items = begins_itself items
 
 goes_lasts : (s : Story) (call : Call) (from : Option Name) → LastsAs s (goes_on s call from)
 goes_lasts s call from = record {
-  written = either (is_refused (act s.end.conn (as_read call)).answer) _ _ _ (begins_itself s.end.written) (wrote (as_read call) (act s.end.conn (as_read call)).packets s.end.written);
-  read = either (is_refused (act s.end.conn (as_read call)).answer) _ _ _ (begins_itself s.end.read) (has_read s.end.conn (as_read call) s.end.read);
+  written =
+      either (is_refused (act s.end.conn (as_read call)).answer) _ _ _ (begins_itself s.end.written)
+      (wrote (as_read call) (act s.end.conn (as_read call)).packets s.end.written);
+  read =
+      either (is_refused (act s.end.conn (as_read call)).answer) _ _ _ (begins_itself s.end.read)
+      (has_read s.end.conn (as_read call) s.end.read);
   asked = refl;
   peer = λ peer is. kept_peer s call from peer is ∙ is;
 }
 
 same_lasts : (s : Story) → LastsAs s s
-same_lasts s = record { written = begins_itself s.end.written; read = begins_itself s.end.read; asked = refl; peer = λ peer is. is }
+same_lasts s =
+    record { written = begins_itself s.end.written; read = begins_itself s.end.read; asked = refl; peer = λ peer is. is }
 
 lasts_through : (s t u : Story) → LastsAs s t → LastsAs t u → LastsAs s u
 lasts_through s t u h k = record {
@@ -104,7 +112,8 @@ lasts_through s t u h k = record {
 abbrev Lasts : (Name → Option Story) → Name → Story → Type 0
 Lasts stories name s = (t : Story) × (stories name ≡ Some t) × LastsAs s t
 
-slot_lasts : (st : Station) (place : ℕ) (call : Call) (from : Option Name) (o : Option Slot) (name : Name) (s : Story) → st.story name ≡ Some s → Lasts (after_slot st place call from o).story name s
+slot_lasts : (st : Station) (place : ℕ) (call : Call) (from : Option Name) (o : Option Slot) (name : Name) (s : Story)
+    → st.story name ≡ Some s → Lasts (after_slot st place call from o).story name s
 slot_lasts st place call from None name s there = (s, there, same_lasts s)
 slot_lasts st place call from (Some slot) name s there =
     let c : Name = present st place in
@@ -116,25 +125,31 @@ slot_lasts st place call from (Some slot) name s there =
     (λ (apart : name ≡ c → ⊥). (s, look_other st.story c o name apart ∙ there, same_lasts s))
     (name_eq name c)
 
-deed_lasts : (st : Station) (d : Deed) (from : Option Name) (name : Name) (s : Story) → st.story name ≡ Some s → Lasts (after_deed st d from).story name s
+deed_lasts : (st : Station) (d : Deed) (from : Option Name) (name : Name) (s : Story) → st.story name ≡ Some s
+    → Lasts (after_deed st d from).story name s
 deed_lasts st Nothing from name s there = (s, there, same_lasts s)
-deed_lasts st (Does place call) from name s there = slot_lasts st place call from (slice_get st.host.slots place) name s there
+deed_lasts st (Does place call) from name s there =
+    slot_lasts st place call from (slice_get st.host.slots place) name s there
 
 -- ---- a net
 
-pub event_lasts : (n : Net) (x : Side) (event : HostEvent) (from : Option Name) (y : Side) (name : Name) (s : Story) → (n y).story name ≡ Some s → Lasts (after_event n x event from y).story name s
+pub event_lasts : (n : Net) (x : Side) (event : HostEvent) (from : Option Name) (y : Side) (name : Name) (s : Story)
+    → (n y).story name ≡ Some s → Lasts (after_event n x event from y).story name s
 event_lasts n A event from A name s there = deed_lasts (n A) (deed_of (n A).host event) from name s there
 event_lasts n A event from B name s there = (s, there, same_lasts s)
 event_lasts n B event from A name s there = (s, there, same_lasts s)
 event_lasts n B event from B name s there = deed_lasts (n B) (deed_of (n B).host event) from name s there
 
-arrives_lasts : (n : Net) (x : Side) (now : ℕ) (o : Option Sent) (y : Side) (name : Name) (s : Story) → (n y).story name ≡ Some s → Lasts (arrives n x now o y).story name s
+arrives_lasts : (n : Net) (x : Side) (now : ℕ) (o : Option Sent) (y : Side) (name : Name) (s : Story)
+    → (n y).story name ≡ Some s → Lasts (arrives n x now o y).story name s
 arrives_lasts n x now None y name s there = (s, there, same_lasts s)
 arrives_lasts n x now (Some q) y name s there = event_lasts n x (Comes q.packet now) q.by y name s there
 
-step_lasts : (n : Net) (event : NetEvent) (y : Side) (name : Name) (s : Story) → (n y).story name ≡ Some s → Lasts (happens n event y).story name s
+step_lasts : (n : Net) (event : NetEvent) (y : Side) (name : Name) (s : Story) → (n y).story name ≡ Some s
+    → Lasts (happens n event y).story name s
 step_lasts n (At x event) y name s there = event_lasts n x event None y name s there
-step_lasts n (Arrives x number now) y name s there = arrives_lasts n x now (slice_get (n (other x)).sent number) y name s there
+step_lasts n (Arrives x number now) y name s there =
+    arrives_lasts n x now (slice_get (n (other x)).sent number) y name s there
 
 pub stories_last : StoriesLast
 stories_last n [] y name s there = (s, there, same_lasts s)

@@ -12,11 +12,13 @@ module _ {X : Type 0} where
   get_front (z ∷ xs) ys zero x h = h
   get_front (z ∷ xs) ys (suc k) x h = get_front xs ys k x h
 
-  pub get_back : (xs ys : List X) (j : ℕ) (x : X) → slice_get ys j ≡ Some x → (k : ℕ) × (slice_get (xs ++ ys) k ≡ Some x)
+  pub get_back : (xs ys : List X) (j : ℕ) (x : X) → slice_get ys j ≡ Some x
+      → (k : ℕ) × (slice_get (xs ++ ys) k ≡ Some x)
   get_back [] ys j x h = (j, h)
   get_back (z ∷ xs) ys j x h = let r = get_back xs ys j x h in (suc r.0, r.1)
 
-  pub get_split : (xs ys : List X) (k : ℕ) (x : X) → slice_get (xs ++ ys) k ≡ Some x → (slice_get xs k ≡ Some x) ⊎ ((j : ℕ) × (slice_get ys j ≡ Some x))
+  pub get_split : (xs ys : List X) (k : ℕ) (x : X) → slice_get (xs ++ ys) k ≡ Some x
+      → (slice_get xs k ≡ Some x) ⊎ ((j : ℕ) × (slice_get ys j ≡ Some x))
   get_split [] ys k x h = inr (k, h)
   get_split (z ∷ xs) ys zero x h = inl h
   get_split (z ∷ xs) ys (suc k) x h = get_split xs ys k x h
@@ -37,14 +39,16 @@ module _ {X Y : Type 0} (f : X → Y) where
   get_map (z ∷ xs) zero x h = ap (λ y. Some (f y)) (some_eq h)
   get_map (z ∷ xs) (suc j) x h = get_map xs j x h
 
-  pub get_unmap : (xs : List X) (j : ℕ) (y : Y) → slice_get (map f xs) j ≡ Some y → (x : X) × (slice_get xs j ≡ Some x) × (f x ≡ y)
+  pub get_unmap : (xs : List X) (j : ℕ) (y : Y) → slice_get (map f xs) j ≡ Some y
+      → (x : X) × (slice_get xs j ≡ Some x) × (f x ≡ y)
   get_unmap [] j y h = absurd (cc)
   get_unmap (z ∷ xs) zero y h = (z, refl, some_eq h)
   get_unmap (z ∷ xs) (suc j) y h = get_unmap xs j y h
 
 module _ {X Y Z : Type 0} where
   -- a map that another doesn't notice
-  pub map_map : (g : Y → Z) (f : X → Y) (h : X → Z) → ((x : X) → g (f x) ≡ h x) → (xs : List X) → map g (map f xs) ≡ map h xs
+  pub map_map : (g : Y → Z) (f : X → Y) (h : X → Z) → ((x : X) → g (f x) ≡ h x) → (xs : List X)
+      → map g (map f xs) ≡ map h xs
   map_map g f h e [] = refl
   map_map g f h e (x ∷ xs) = λ j. e x j ∷ map_map g f h e xs j
 

@@ -40,7 +40,8 @@ other_name a b apart = by (a.place == b.place) (a.turn == b.turn) refl refl
 pub look_own : (stories : Name → Option Story) (c : Name) (o : Option Story) → with_story stories c o c ≡ o
 look_own stories c o = cond-true (is_name c c) o (stories c) (same_name c)
 
-pub look_other : (stories : Name → Option Story) (c : Name) (o : Option Story) (d : Name) → (d ≡ c → ⊥) → with_story stories c o d ≡ stories d
+pub look_other : (stories : Name → Option Story) (c : Name) (o : Option Story) (d : Name) → (d ≡ c → ⊥)
+    → with_story stories c o d ≡ stories d
 look_other stories c o d apart = cond-false (is_name d c) o (stories d) (other_name d c apart)
 
 -- ---- what stays true of a story
@@ -64,21 +65,28 @@ pub record Next (own next : Station) (c : Name) (f : Story) (new : List Sent) : 
   pub lasts : (s : Story) → own.story c ≡ Some s → Lasts s f
 
 -- a story of own is one of next, which lasts
-pub lasting : (own next : Station) (c : Name) (f : Story) (new : List Sent) → Next own next c f new → (d : Name) (s : Story) → own.story d ≡ Some s → (g : Story) × (next.story d ≡ Some g) × Lasts s g
+pub lasting : (own next : Station) (c : Name) (f : Story) (new : List Sent) → Next own next c f new
+    → (d : Name) (s : Story) → own.story d ≡ Some s → (g : Story) × (next.story d ≡ Some g) × Lasts s g
 lasting own next c f new n d s there =
     ⊎_elim
     (λ (same : d ≡ c). (f, ap next.story same ∙ n.story_own, n.lasts s (ap own.story (sym same) ∙ there)))
-    (λ (apart : d ≡ c → ⊥). (s, n.story_other d apart ∙ there, record { asked = refl; peer = λ p is. is; first = λ _. refl; item = λ i is. is }))
+    (λ (apart : d ≡ c → ⊥).
+    (s, n.story_other d apart ∙ there, record { asked = refl; peer = λ p is. is; first = λ _. refl; item = λ i is. is }))
     (name_eq d c)
 
 -- the other host's peers last
-pub peer_lasts : (own next : Station) (c : Name) (f : Story) (new : List Sent) → Next own next c f new → (name : Name) (s : Story) (peer : Option Name) (asked : Bool) → HasPeer own name s peer asked → HasPeer next name s peer asked
+pub peer_lasts : (own next : Station) (c : Name) (f : Story) (new : List Sent) → Next own next c f new
+    → (name : Name) (s : Story) (peer : Option Name) (asked : Bool) → HasPeer own name s peer asked
+    → HasPeer next name s peer asked
 peer_lasts own next c f new n name s None asked h = h
-peer_lasts own next c f new n name s (Some peer) false h = let g = lasting own next c f new n peer h.0 h.1 in (g.0, g.1, g.2.asked ∙ h.2)
-peer_lasts own next c f new n name s (Some peer) true h = let g = lasting own next c f new n peer h.0 h.1 in (g.0, g.1, g.2.asked ∙ h.2, g.2.peer name h.3)
+peer_lasts own next c f new n name s (Some peer) false h =
+    let g = lasting own next c f new n peer h.0 h.1 in (g.0, g.1, g.2.asked ∙ h.2)
+peer_lasts own next c f new n name s (Some peer) true h =
+    let g = lasting own next c f new n peer h.0 h.1 in (g.0, g.1, g.2.asked ∙ h.2, g.2.peer name h.3)
 
 -- what was sent stays true
-sent_lasts : (own next : Station) (c : Name) (f : Story) (new : List Sent) → Next own next c f new → (p : PacketView) (by : Option Name) → IsSentOf own p by → IsSentOf next p by
+sent_lasts : (own next : Station) (c : Name) (f : Story) (new : List Sent) → Next own next c f new
+    → (p : PacketView) (by : Option Name) → IsSentOf own p by → IsSentOf next p by
 sent_lasts own next c f new n p None h = h
 sent_lasts own next c f new n p (Some d) h =
     let g = lasting own next c f new n d h.story h.there in
@@ -88,12 +96,15 @@ sent_lasts own next c f new n p (Some d) h =
       src_index = h.src_index;
       src = h.src ∙ sym n.address;
       ack = λ ack. let a = h.ack ack in (a.0, g.2.peer a.0 a.1, a.2);
-      rfc = λ rfc. let r = h.rfc rfc in (g.2.asked ∙ r.0, r.1 ∙ ap (λ b. num b 0) (sym (g.2.first r.0)), g.2.item (item_of p) r.2);
+      rfc =
+          λ rfc. let r = h.rfc
+          rfc in (g.2.asked ∙ r.0, r.1 ∙ ap (λ b. num b 0) (sym (g.2.first r.0)), g.2.item (item_of p) r.2);
     }
 
 -- ---- both stations
 
-pub station_next : (own far next : Station) (c : Name) (f : Story) (new : List Sent) → IsStation own far → Next own next c f new → IsStory next far c f
+pub station_next : (own far next : Station) (c : Name) (f : Story) (new : List Sent) → IsStation own far
+    → Next own next c f new → IsStory next far c f
     → ((j : ℕ) (q : Sent) → slice_get new j ≡ Some q → IsSentOf next q.packet q.by) → IsStation next far
 station_next own far next c f new h n story fresh = record {
   host = n.host;
@@ -101,13 +112,17 @@ station_next own far next c f new h n story fresh = record {
   slots = n.slots;
   stories = λ name s there.
       ⊎_elim
-      (λ (same : name ≡ c). let is : f ≡ s = some_eq (sym n.story_own ∙ ap next.story (sym same) ∙ there) in subst (λ (z : Name × Story). IsStory next far z.0 z.1) (λ j. (sym same j, is j)) story)
+      (λ (same : name ≡ c). let is : f
+      ≡ s = some_eq (sym n.story_own ∙ ap next.story (sym same) ∙ there) in subst
+      (λ (z : Name × Story). IsStory next far z.0 z.1) (λ j. (sym same j, is j)) story)
       (λ (apart : name ≡ c → ⊥).
       let o = h.stories name s (sym (n.story_other name apart) ∙ there) in
       let later = n.turns name.place in
       let before = o.turn in
       record {
-        named = λ used. let k = o.named used in record { me = k.me ∙ (λ j. record { address = sym n.address j; index = index_of name }); peer_index = k.peer_index };
+        named =
+            λ used. let k = o.named
+            used in record { me = k.me ∙ (λ j. record { address = sym n.address j; index = index_of name }); peer_index = k.peer_index };
         peer = o.peer;
         place = o.place;
         turn = omega (arith, later, before);
@@ -120,7 +135,8 @@ station_next own far next c f new h n story fresh = record {
       (get_split own.sent new k q (ap (λ qs. slice_get qs k) (sym n.sent) ∙ at));
 }
 
-pub station_back : (own far next : Station) (c : Name) (f : Story) (new : List Sent) → IsStation far own → Next own next c f new → IsStation far next
+pub station_back : (own far next : Station) (c : Name) (f : Story) (new : List Sent) → IsStation far own
+    → Next own next c f new → IsStation far next
 station_back own far next c f new h n = record {
   host = h.host;
   config = h.config;
@@ -146,13 +162,16 @@ none_new : (name : Name) → OfOther [] name
 none_new name j q at by = absurd (cc)
 
 -- what c sends is of another than d
-pub of_other : (c d : Name) (lengths : Side → Name → ℕ) (ps : List PacketView) → (d ≡ c → ⊥) → OfOther (map (sent_by (Some c) lengths) ps) d
+pub of_other : (c d : Name) (lengths : Side → Name → ℕ) (ps : List PacketView) → (d ≡ c → ⊥)
+    → OfOther (map (sent_by (Some c) lengths) ps) d
 of_other c d lengths ps apart j q at by =
     let u = get_unmap (sent_by (Some c) lengths) ps j q at in
     apart (some_eq (sym by ∙ sym (ap (λ (z : Sent). z.by) u.2)))
 
-pub pairs_next : (x : Side) (own far next : Station) (c : Name) (f : Story) (new : List Sent) → ArePairs x own far → Next own next c f new → ((d : Name) → (d ≡ c → ⊥) → OfOther new d)
-    → (f.asked ≡ true → (taker : Name) → (l : LabView) × IsPlayed x c taker f (far.story taker) (own.sent ++ new) far.sent far.host.config l)
+pub pairs_next : (x : Side) (own far next : Station) (c : Name) (f : Story) (new : List Sent) → ArePairs x own far
+    → Next own next c f new → ((d : Name) → (d ≡ c → ⊥) → OfOther new d)
+    → (f.asked ≡ true → (taker : Name)
+    → (l : LabView) × IsPlayed x c taker f (far.story taker) (own.sent ++ new) far.sent far.host.config l)
     → ArePairs x next far
 pairs_next x own far next c f new h n others mine asker taker r there asked =
     ⊎_elim
@@ -162,12 +181,16 @@ pairs_next x own far next c f new h n others mine asker taker r there asked =
     (p.0, subst (λ (z : Name × Story × List Sent). IsPlayed x z.0 taker z.1 (far.story taker) z.2 far.sent far.host.config p.0) (λ j. (sym same j, is j, sym n.sent j)) p.1))
     (λ (apart : asker ≡ c → ⊥).
     let p = h asker taker r (sym (n.story_other asker apart) ∙ there) asked in
-    let q = pair_waits x asker taker r (far.story taker) own.sent far.sent new [] far.host.config p.0 p.1 (others asker apart) (none_new taker) in
+    let q =
+    pair_waits x asker taker r (far.story taker) own.sent far.sent new [] far.host.config p.0 p.1
+    (others asker apart) (none_new taker) in
     (p.0, subst (λ (z : List Sent × List Sent). IsPlayed x asker taker r (far.story taker) z.0 z.1 far.host.config p.0) (λ j. (sym n.sent j, append-nil far.sent j)) q))
     (name_eq asker c)
 
-pub pairs_back : (y : Side) (own far next : Station) (c : Name) (f : Story) (new : List Sent) → ArePairs y far own → Next own next c f new → ((d : Name) → (d ≡ c → ⊥) → OfOther new d)
-    → ((asker : Name) (r : Story) → far.story asker ≡ Some r → r.asked ≡ true → (l : LabView) × IsPlayed y asker c r (Some f) far.sent (own.sent ++ new) own.host.config l)
+pub pairs_back : (y : Side) (own far next : Station) (c : Name) (f : Story) (new : List Sent) → ArePairs y far own
+    → Next own next c f new → ((d : Name) → (d ≡ c → ⊥) → OfOther new d)
+    → ((asker : Name) (r : Story) → far.story asker ≡ Some r → r.asked ≡ true
+    → (l : LabView) × IsPlayed y asker c r (Some f) far.sent (own.sent ++ new) own.host.config l)
     → ArePairs y far next
 pairs_back y own far next c f new h n others mine asker taker r there asked =
     ⊎_elim
@@ -177,18 +200,22 @@ pairs_back y own far next c f new h n others mine asker taker r there asked =
     (p.0, subst (λ (z : Name × Option Story × List Sent × ConfigView). IsPlayed y asker z.0 r z.1 far.sent z.2 z.3 p.0) (λ j. (sym same j, is j, sym n.sent j, sym n.config j)) p.1))
     (λ (apart : taker ≡ c → ⊥).
     let p = h asker taker r there asked in
-    let q = pair_waits y asker taker r (own.story taker) far.sent own.sent [] new own.host.config p.0 p.1 (none_new asker) (others taker apart) in
+    let q =
+    pair_waits y asker taker r (own.story taker) far.sent own.sent [] new own.host.config p.0 p.1 (none_new asker)
+    (others taker apart) in
     (p.0, subst (λ (z : List Sent × Option Story × List Sent × ConfigView). IsPlayed y asker taker r z.1 z.0 z.2 z.3 p.0) (λ j. (append-nil far.sent j, sym (n.story_other taker apart) j, sym n.sent j, sym n.config j)) q))
     (name_eq taker c)
 
 -- ---- slots
 
-pub set_same : {X : Type 0} (xs : List X) (i : ℕ) (x y : X) → slice_get xs i ≡ Some y → slice_get (slice_set xs i x) i ≡ Some x
+pub set_same : {X : Type 0} (xs : List X) (i : ℕ) (x y : X) → slice_get xs i ≡ Some y
+    → slice_get (slice_set xs i x) i ≡ Some x
 set_same [] i x y h = absurd (cc)
 set_same (z ∷ xs) zero x y h = refl
 set_same (z ∷ xs) (suc i) x y h = set_same xs i x y h
 
-pub set_other : {X : Type 0} (xs : List X) (i j : ℕ) (x : X) → (j ≡ i → ⊥) → slice_get (slice_set xs i x) j ≡ slice_get xs j
+pub set_other : {X : Type 0} (xs : List X) (i j : ℕ) (x : X) → (j ≡ i → ⊥)
+    → slice_get (slice_set xs i x) j ≡ slice_get xs j
 set_other [] i j x apart = refl
 set_other (z ∷ xs) zero zero x apart = absurd (apart refl)
 set_other (z ∷ xs) zero (suc j) x apart = refl

@@ -50,11 +50,13 @@ named_is_present n x id slot r names =
 
 -- ---- the story after a user's call
 
-stories_after : (n : Net) (x : Side) (event : HostEvent) (name : Name) → (after_event n x event None x).story name ≡ (after_deed (n x) (deed_of (n x).host event) None).story name
+stories_after : (n : Net) (x : Side) (event : HostEvent) (name : Name)
+    → (after_event n x event None x).story name ≡ (after_deed (n x) (deed_of (n x).host event) None).story name
 stories_after n A event name = refl
 stories_after n B event name = refl
 
-called : (n : Net) (x : Side) (id : ℕ) (call : Call) (slot : Slot) → named_slot (n x).host.slots id ≡ Some slot → (p : IsPresent (n x) id slot)
+called : (n : Net) (x : Side) (id : ℕ) (call : Call) (slot : Slot) → named_slot (n x).host.slots id ≡ Some slot
+    → (p : IsPresent (n x) id slot)
     → (after_event n x (Calls id call) None x).story (named (n x) id) ≡ Some (goes_on p.story call None)
 called n x id call slot names p =
     let st : Station = n x in
@@ -68,12 +70,20 @@ called n x id call slot names p =
     ∙ ap (λ o. story_after o slot.conn call None) p.there
 
 -- a call that answers is made on a slot
-answering : (n : Net) (x : Side) (id : ℕ) (call : Call) (reply : Reply) → (host_call (n x).host id call).answer ≡ Ok reply → (slot : Slot) × (named_slot (n x).host.slots id ≡ Some slot) × ((act slot.conn call).answer ≡ reply)
+answering : (n : Net) (x : Side) (id : ℕ) (call : Call) (reply : Reply)
+    → (host_call (n x).host id call).answer ≡ Ok reply
+    → (slot : Slot) × (named_slot (n x).host.slots id ≡ Some slot) × ((act slot.conn call).answer ≡ reply)
 answering n x id call reply h = by (named_slot (n x).host.slots id) refl
   where
-    by : (o : Option Slot) → named_slot (n x).host.slots id ≡ o → (slot : Slot) × (named_slot (n x).host.slots id ≡ Some slot) × ((act slot.conn call).answer ≡ reply)
-    by None is = let no : Err NoSuchConnection ≡ Ok reply = sym (ap (λ o. (call_slot (n x).host id call o).answer) is) ∙ h in absurd (cc)
-    by (Some slot) is = let same : Ok (act slot.conn call).answer ≡ Ok reply = sym (ap (λ o. (call_slot (n x).host id call o).answer) is) ∙ h in (slot, is, cc)
+    by : (o : Option Slot) → named_slot (n x).host.slots id ≡ o
+        → (slot : Slot) × (named_slot (n x).host.slots id ≡ Some slot) × ((act slot.conn call).answer ≡ reply)
+    by None is =
+        let no : Err NoSuchConnection ≡ Ok reply = sym (ap (λ o. (call_slot (n x).host id call o).answer) is)
+        ∙ h in absurd (cc)
+    by (Some slot) is =
+        let same : Ok (act slot.conn call).answer
+        ≡ Ok reply = sym (ap (λ o. (call_slot (n x).host id call o).answer) is)
+        ∙ h in (slot, is, cc)
 
 -- ---- reads
 
@@ -84,7 +94,8 @@ pub reads_are_told : ReadsAreTold
 reads_are_told n x id item r h =
     let a = answering n x id Read (Gave (gave.Item item)) h in
     let p = named_is_present n x id a.0 r a.1 in
-    let given : (act_read p.story.end.conn).answer ≡ gave.Item item = ap (λ v. (act_read v).answer) p.conn ∙ gave_eq a.2 in
+    let given : (act_read p.story.end.conn).answer ≡ gave.Item item =
+    ap (λ v. (act_read v).answer) p.conn ∙ gave_eq a.2 in
     ap read_of (called n x id Read a.0 a.1 p)
     ∙ ap (λ g. with_given g p.story.end.read) given
     ∙ ap (λ o. read_of o ++ item ∷ []) (sym p.there)
@@ -93,29 +104,37 @@ finished_eq : {a b : ReadDone} → Finished a ≡ Finished b → a ≡ b
 finished_eq h = cc
 
 -- a read that is done gives the item in front
-front_is_read : (v : ConnView) (item : ItemView) → front_of v ≡ Some item → done_of (act_read v).answer ≡ done.Done → (act_read v).answer ≡ gave.Item item
+front_is_read : (v : ConnView) (item : ItemView) → front_of v ≡ Some item → done_of (act_read v).answer ≡ done.Done
+    → (act_read v).answer ≡ gave.Item item
 front_is_read v item front h = by (is_opening v.state) (is_open v.state) (front_of v) front h
   where
-    told : (b : Bool) (w : ConnView) (one : ItemView) → (if b then with_sts w (gave.Item one) else quietly w (gave.Item one)).answer ≡ gave.Item one
+    told : (b : Bool) (w : ConnView) (one : ItemView)
+        → (if b then with_sts w (gave.Item one) else quietly w (gave.Item one)).answer ≡ gave.Item one
     told true w one = refl
     told false w one = refl
 
-    by : (a b : Bool) (o : Option ItemView) → o ≡ Some item → done_of (if a then quietly v gave.Nothing else (if b then read_at_open v o else read_at_end v o)).answer ≡ done.Done
-        → (if a then quietly v gave.Nothing else (if b then read_at_open v o else read_at_end v o)).answer ≡ gave.Item item
+    by : (a b : Bool) (o : Option ItemView) → o ≡ Some item
+        → done_of (if a then quietly v gave.Nothing else (if b then read_at_open v o else read_at_end v o)).answer
+        ≡ done.Done
+        → (if a then quietly v gave.Nothing else (if b then read_at_open v o else read_at_end v o)).answer
+        ≡ gave.Item item
     by true b o e h = let no : done.Nothing ≡ done.Done = h in absurd (cc)
     by false b None e h = absurd (cc)
     by false true (Some one) e h = told _ _ one ∙ ap gave.Item (some_eq e)
     by false false (Some one) e h = ap gave.Item (some_eq e)
 
-looks : (o : Option Slot) (slot : Slot) (item : ItemView) → look_slot front_of o ≡ Ok (Some item) → o ≡ Some slot → front_of slot.conn ≡ Some item
-looks o slot item h is = let same : Ok (front_of slot.conn) ≡ Ok (Some item) = sym (ap (look_slot front_of) is) ∙ h in cc
+looks : (o : Option Slot) (slot : Slot) (item : ItemView) → look_slot front_of o ≡ Ok (Some item) → o ≡ Some slot
+    → front_of slot.conn ≡ Some item
+looks o slot item h is =
+    let same : Ok (front_of slot.conn) ≡ Ok (Some item) = sym (ap (look_slot front_of) is) ∙ h in cc
 
 pub front_is_told : FrontIsTold
 front_is_told n x id item r look h =
     let a = answering n x id FinishRead (Finished done.Done) h in
     let p = named_is_present n x id a.0 r a.1 in
     let front : front_of a.0.conn ≡ Some item = looks (named_slot (n x).host.slots id) a.0 item look a.1 in
-    let given : (act_read p.story.end.conn).answer ≡ gave.Item item = ap (λ v. (act_read v).answer) p.conn ∙ front_is_read a.0.conn item front (finished_eq a.2) in
+    let given : (act_read p.story.end.conn).answer ≡ gave.Item item =
+    ap (λ v. (act_read v).answer) p.conn ∙ front_is_read a.0.conn item front (finished_eq a.2) in
     ap read_of (called n x id FinishRead a.0 a.1 p)
     ∙ ap (λ g. with_given g p.story.end.read) given
     ∙ ap (λ o. read_of o ++ item ∷ []) (sym p.there)
@@ -126,7 +145,8 @@ pub writes_are_told : WritesAreTold
 writes_are_told n x id op bytes now number r h =
     let a = answering n x id (Write op bytes now) (Wrote (Ok number)) h in
     let p = named_is_present n x id a.0 r a.1 in
-    let taken : is_refused (act p.story.end.conn (Write op bytes now)).answer ≡ false = ap (λ v. is_refused (act v (Write op bytes now)).answer) p.conn ∙ ap is_refused a.2 in
+    let taken : is_refused (act p.story.end.conn (Write op bytes now)).answer ≡ false =
+    ap (λ v. is_refused (act v (Write op bytes now)).answer) p.conn ∙ ap is_refused a.2 in
     let s : Story = p.story in
     ap written_of (called n x id (Write op bytes now) a.0 a.1 p)
     ∙ ap (λ (b : Bool). if b then s.end.written else (s.end.written ++ record { op = op; body = bytes } ∷ [])) taken

@@ -1,4 +1,5 @@
--- Short runs: before event k no slot had more than k connections, and no story has more than k items; so up to 256 all is fresh.
+-- Short runs: before event k no slot had more than k connections, and no story has more than k items; so up to 256 all
+-- is fresh.
 use Rattle.std.proofs.Common.{◌≡◌, ℕ, suc, ◌+◌, ◌<◌, ◌≤◌, ◌==◌, List, [], ◌∷◌, ◌++◌, length, map, Bool, true, false, if◌then◌else◌, Option, Some, None, refl, sym, ap, subst, arith}
 use Rattle.std.specs.Prelude.{slice_get}
 use Rattle.std.specs.List.{AllByRecursion}
@@ -40,11 +41,14 @@ both_below : (b : Bool) (m n k : ℕ) → m ≤ k → n ≤ k → (if b then m e
 both_below true m n k p q = p
 both_below false m n k p q = q
 
-length_below : (b : Bool) (xs ys : List ItemView) (k : ℕ) → length xs ≤ k → length ys ≤ k → length (if b then xs else ys) ≤ k
+length_below : (b : Bool) (xs ys : List ItemView) (k : ℕ) → length xs ≤ k → length ys ≤ k
+    → length (if b then xs else ys) ≤ k
 length_below true xs ys k p q = p
 length_below false xs ys k p q = q
 
-accepted : (items : List ItemView) (b : Bool) (x y : Acted Outcome) (k : ℕ) → length (items ++ map item_of x.packets) ≤ k → length (items ++ map item_of y.packets) ≤ k → length (items ++ map item_of (if b then x else y).packets) ≤ k
+accepted : (items : List ItemView) (b : Bool) (x y : Acted Outcome) (k : ℕ)
+    → length (items ++ map item_of x.packets) ≤ k → length (items ++ map item_of y.packets) ≤ k
+    → length (items ++ map item_of (if b then x else y).packets) ≤ k
 accepted items true x y k p q = p
 accepted items false x y k p q = q
 
@@ -52,13 +56,16 @@ append-nil : (xs : List ItemView) → length (xs ++ []) ≡ length xs
 append-nil [] = refl
 append-nil (x ∷ xs) = ap suc (append-nil xs)
 
-wrote : (conn : ConnView) (call : Call) (items : List ItemView) (k : ℕ) → length items ≤ k → length (with_written call (act conn call).packets items) ≤ k + 1
-wrote conn (Write op bytes now) items k h = let one = length-one_more items (record { op = op; body = bytes }) in omega (arith, one, h)
+wrote : (conn : ConnView) (call : Call) (items : List ItemView) (k : ℕ) → length items ≤ k
+    → length (with_written call (act conn call).packets items) ≤ k + 1
+wrote conn (Write op bytes now) items k h =
+    let one = length-one_more items (record { op = op; body = bytes }) in omega (arith, one, h)
 wrote conn (Accept start now) items k h =
     let opened : ConnView = after_accepting conn start (moment conn now) in
     let one = length-one_more items (opn_item opened) in
     let same = append-nil items in
-    accepted items (is_requested conn.state) (with_opn opened) (refusal conn WrongState) (k + 1) (omega (arith, one, h)) (omega (arith, same, h))
+    accepted items (is_requested conn.state) (with_opn opened) (refusal conn WrongState) (k + 1) (omega (arith, one, h))
+    (omega (arith, same, h))
 wrote conn (Request me peer contact start now) items k h = omega (arith, h)
 wrote conn (TakeRequest rfc me now) items k h = omega (arith, h)
 wrote conn (Answer bytes) items k h = omega (arith, h)
@@ -86,10 +93,12 @@ begun conn (Announce window) from k = omega arith
 begun conn (Close text) from k = omega arith
 begun conn (Tick now) from k = omega arith
 
-pub grown : (o : Option Story) (conn : ConnView) (call : Call) (from : Option Name) (k : ℕ) → length_of o ≤ k → length_of (story_after o conn call from) ≤ k + 1
+pub grown : (o : Option Story) (conn : ConnView) (call : Call) (from : Option Name) (k : ℕ) → length_of o ≤ k
+    → length_of (story_after o conn call from) ≤ k + 1
 grown None conn call from k h = begun conn call from k
 grown (Some s) conn call from k h =
-    length_below (is_refused (act s.end.conn (as_read call)).answer) s.end.written _ (k + 1) (omega (arith, h)) (wrote s.end.conn (as_read call) s.end.written k h)
+    length_below (is_refused (act s.end.conn (as_read call)).answer) s.end.written _ (k + 1) (omega (arith, h))
+    (wrote s.end.conn (as_read call) s.end.written k h)
 
 -- ---- an event
 
@@ -99,7 +108,8 @@ more_within k st h = record {
   lengths = λ name. let l = h.lengths name in omega (arith, l);
 }
 
-slot_within : (k : ℕ) (st : Station) (place : ℕ) (call : Call) (from : Option Name) (o : Option Slot) → IsWithin k st → IsWithin (k + 1) (after_slot st place call from o)
+slot_within : (k : ℕ) (st : Station) (place : ℕ) (call : Call) (from : Option Name) (o : Option Slot) → IsWithin k st
+    → IsWithin (k + 1) (after_slot st place call from o)
 slot_within k st place call from None h = more_within k st h
 slot_within k st place call from (Some slot) h = record {
   turns = λ one.
@@ -111,30 +121,38 @@ slot_within k st place call from (Some slot) h = record {
   lengths = λ name. by name (is_name name (present st place));
 }
   where
-    by : (name : Name) (b : Bool) → length_of (if b then story_after (st.story (present st place)) slot.conn call from else st.story name) ≤ k + 1
+    by : (name : Name) (b : Bool)
+        → length_of (if b then story_after (st.story (present st place)) slot.conn call from else st.story name) ≤ k + 1
     by name true = grown (st.story (present st place)) slot.conn call from k (h.lengths (present st place))
     by name false = let l = h.lengths name in omega (arith, l)
 
-deed_within : (k : ℕ) (st : Station) (d : Deed) (from : Option Name) → IsWithin k st → IsWithin (k + 1) (after_deed st d from)
+deed_within : (k : ℕ) (st : Station) (d : Deed) (from : Option Name) → IsWithin k st
+    → IsWithin (k + 1) (after_deed st d from)
 deed_within k st Nothing from h = more_within k st h
 deed_within k st (Does place call) from h = slot_within k st place call from (slice_get st.host.slots place) h
 
 abbrev AreWithin : ℕ → Net → Type 0
 AreWithin k n = (x : Side) → IsWithin k (n x)
 
-event_within : (k : ℕ) (n : Net) (x : Side) (event : HostEvent) (from : Option Name) → AreWithin k n → AreWithin (k + 1) (after_event n x event from)
+event_within : (k : ℕ) (n : Net) (x : Side) (event : HostEvent) (from : Option Name) → AreWithin k n
+    → AreWithin (k + 1) (after_event n x event from)
 event_within k n A event from h = both
   where
     both : AreWithin (k + 1) (after_event n A event from)
-    both A = let d = deed_within k (n A) (deed_of (n A).host event) from (h A) in record { turns = d.turns; lengths = d.lengths }
+    both A =
+        let d = deed_within k (n A) (deed_of (n A).host event) from
+        (h A) in record { turns = d.turns; lengths = d.lengths }
     both B = more_within k (n B) (h B)
 event_within k n B event from h = both
   where
     both : AreWithin (k + 1) (after_event n B event from)
     both A = more_within k (n A) (h A)
-    both B = let d = deed_within k (n B) (deed_of (n B).host event) from (h B) in record { turns = d.turns; lengths = d.lengths }
+    both B =
+        let d = deed_within k (n B) (deed_of (n B).host event) from
+        (h B) in record { turns = d.turns; lengths = d.lengths }
 
-arrives_within : (k : ℕ) (n : Net) (x : Side) (now : ℕ) (o : Option Sent) → AreWithin k n → AreWithin (k + 1) (arrives n x now o)
+arrives_within : (k : ℕ) (n : Net) (x : Side) (now : ℕ) (o : Option Sent) → AreWithin k n
+    → AreWithin (k + 1) (arrives n x now o)
 arrives_within k n x now None h = λ y. more_within k (n y) (h y)
 arrives_within k n x now (Some q) h = event_within k n x (Comes q.packet now) q.by h
 
@@ -145,7 +163,8 @@ step_within k n (Arrives x number now) h = arrives_within k n x now (slice_get (
 -- ---- what comes is fresh
 
 -- a peer is a connection of the other host
-peer_turn : (n : Net) (x : Side) (k : ℕ) (name : Name) (s : Story) (peer : Name) → ArePlayed n → AreWithin k n → (n x).story name ≡ Some s → s.peer ≡ Some peer → peer.turn ≤ k
+peer_turn : (n : Net) (x : Side) (k : ℕ) (name : Name) (s : Story) (peer : Name) → ArePlayed n → AreWithin k n
+    → (n x).story name ≡ Some s → s.peer ≡ Some peer → peer.turn ≤ k
 peer_turn n x k name s peer h w there is = by s.peer s.asked is ((h x).station.stories name s there).peer
   where
     of : (t : Story) → (n (other x)).story peer ≡ Some t → peer.turn ≤ k
@@ -162,7 +181,8 @@ peer_turn n x k name s peer h w there is = by s.peer s.asked is ((h x).station.s
         at true p = of p.0 p.1
         at false p = of p.0 p.1
 
-own_turn : (n : Net) (x : Side) (k : ℕ) (name : Name) (s : Story) → ArePlayed n → AreWithin k n → (n x).story name ≡ Some s → name.turn ≤ k
+own_turn : (n : Net) (x : Side) (k : ℕ) (name : Name) (s : Story) → ArePlayed n → AreWithin k n
+    → (n x).story name ≡ Some s → name.turn ≤ k
 own_turn n x k name s h w there =
     let last = ((h x).station.stories name s there).turn in
     let most = (w x).turns name.place in
@@ -175,7 +195,8 @@ all_fresh : (n : Net) (x : Side) (k : ℕ) (q : Sent) → ArePlayed n → AreWit
 all_fresh n x k q h w few ack c d s t by from now at index =
     let of_c = own_turn n (other x) k c s h w from in
     let of_d = own_turn n x k d t h w at in
-    let wrote_c : length s.end.written ≤ k = subst (λ (o : Option Story). length_of o ≤ k) from ((w (other x)).lengths c) in
+    let wrote_c : length s.end.written ≤ k =
+    subst (λ (o : Option Story). length_of o ≤ k) from ((w (other x)).lengths c) in
     let wrote_d : length t.end.written ≤ k = subst (λ (o : Option Story). length_of o ≤ k) at ((w x).lengths d) in
     record {
       meant = λ m is. near k d m few of_d (peer_turn n (other x) k c s m h w from is);
@@ -184,20 +205,23 @@ all_fresh n x k q h w few ack c d s t by from now at index =
       receiver = omega (arith, wrote_d, few);
     }
 
-can_happen : (n : Net) (k : ℕ) (event : NetEvent) → ArePlayed n → AreWithin k n → k < 256 → IsAnyAge event → CanHappen n event
+can_happen : (n : Net) (k : ℕ) (event : NetEvent) → ArePlayed n → AreWithin k n → k < 256 → IsAnyAge event
+    → CanHappen n event
 can_happen n k (At x event) h w few own = own
 can_happen n k (Arrives x number now) h w few own = λ q there. all_fresh n x k q h w few
 
 -- ---- runs
 
-runs_short : (events : List NetEvent) (k : ℕ) (n : Net) → ArePlayed n → AreWithin k n → k + length events ≤ 256 → AllByRecursion IsAnyAge events → Run n events (after_events n events)
+runs_short : (events : List NetEvent) (k : ℕ) (n : Net) → ArePlayed n → AreWithin k n → k + length events ≤ 256
+    → AllByRecursion IsAnyAge events → Run n events (after_events n events)
 runs_short [] k n h w few all = refl
 runs_short (event ∷ events) k n h w few all =
     let can = can_happen n k event h w (omega (arith, few)) all.0 in
     (can, runs_short events (k + 1) (happens n event) (steps_are_played n event h can) (step_within k n event w) (omega (arith, few)) all.1)
 
 new_within : (st : Station) → IsNew st → IsWithin 0 st
-new_within st new = subst (IsWithin 0) (sym new.is) (record { turns = λ place. omega arith; lengths = λ name. omega arith })
+new_within st new =
+    subst (IsWithin 0) (sym new.is) (record { turns = λ place. omega arith; lengths = λ name. omega arith })
 
 pub short_runs : ShortLaw
 short_runs start events a b few all = record {

@@ -59,15 +59,18 @@ nat_cases a b = by (a == b) refl
     by false h = inr (λ same. false≢true (sym h ∙ eq-eqb a b same))
 
 -- a story that isn't there yet
-not_yet : (own far : Station) (place turn : ℕ) → IsStation own far → own.turn place < turn → own.story (record { place = place; turn = turn }) ≡ None
+not_yet : (own far : Station) (place turn : ℕ) → IsStation own far → own.turn place < turn
+    → own.story (record { place = place; turn = turn }) ≡ None
 not_yet own far place turn h later = by (own.story (record { place = place; turn = turn })) refl
   where
     by : (o : Option Story) → own.story (record { place = place; turn = turn }) ≡ o → o ≡ None
     by None is = refl
-    by (Some s) is = let t = (h.stories (record { place = place; turn = turn }) s is).turn in absurd (omega (arith, t, later))
+    by (Some s) is =
+        let t = (h.stories (record { place = place; turn = turn }) s is).turn in absurd (omega (arith, t, later))
 
 -- the slot that did the call
-slot_then : (own far : Station) (host : HostView) (place : ℕ) (slot : Slot) (call : Call) (f : Story) (new : List Sent) → IsStation own far → slice_get own.host.slots place ≡ Some slot → f.end.conn ≡ (act slot.conn call).view
+slot_then : (own far : Station) (host : HostView) (place : ℕ) (slot : Slot) (call : Call) (f : Story) (new : List Sent)
+    → IsStation own far → slice_get own.host.slots place ≡ Some slot → f.end.conn ≡ (act slot.conn call).view
     → IsSlot (after_call own host place slot call f new) place (after_ending (slot_after_call slot call))
 slot_then own far host place slot call f new h there conn = by (is_free (slot_after_call slot call)) refl
   where
@@ -107,46 +110,78 @@ slot_then own far host place slot call f new h there conn = by (is_free (slot_af
         })
 
 -- each other slot
-slot_kept : (own : Station) (host : HostView) (place one : ℕ) (slot other_slot : Slot) (call : Call) (f : Story) (new : List Sent) → (one ≡ place → ⊥) → IsSlot own one other_slot → IsSlot (after_call own host place slot call f new) one other_slot
+slot_kept : (own : Station) (host : HostView) (place one : ℕ) (slot other_slot : Slot) (call : Call) (f : Story)
+    (new : List Sent)
+    → (one ≡ place → ⊥) → IsSlot own one other_slot → IsSlot (after_call own host place slot call f new) one other_slot
 slot_kept own host place one slot other_slot call f new apart h =
-    let turn : (after_call own host place slot call f new).turn one ≡ own.turn one = turn_other own.turn place _ one apart in
-    let name : present (after_call own host place slot call f new) one ≡ present own one = λ j. record { place = one; turn = turn j } in
-    let story : (after_call own host place slot call f new).story (present (after_call own host place slot call f new) one) ≡ own.story (present own one) =
-    ap (after_call own host place slot call f new).story name ∙ look_other own.story (present own place) (Some f) (present own one) (λ same. apart (ap (λ (n : Name). n.place) same)) in
+    let turn : (after_call own host place slot call f new).turn one ≡ own.turn one =
+    turn_other own.turn place _ one apart in
+    let name : present (after_call own host place slot call f new) one ≡ present own one =
+    λ j. record { place = one; turn = turn j } in
+    let story : (after_call own host place slot call f new).story
+    (present (after_call own host place slot call f new) one)
+    ≡ own.story (present own one) =
+    ap (after_call own host place slot call f new).story name
+    ∙ look_other own.story (present own place) (Some f) (present own one)
+    (λ same. apart (ap (λ (n : Name). n.place) same)) in
     record {
       generation = h.generation ∙ ap (λ t. t % 256) (sym turn);
       used = λ used. let u = h.used used in (u.0, story ∙ u.1, u.2);
       free = λ free. story ∙ h.free free;
     }
 
-pub next_is : (own far : Station) (host : HostView) (place : ℕ) (slot : Slot) (call : Call) (f : Story) (new : List Sent) → IsStation own far → slice_get own.host.slots place ≡ Some slot → host ≡ with_slot own.host place (after_ending (slot_after_call slot call)) → IsHost host
-    → f.end.conn ≡ (act slot.conn call).view → ((s : Story) → own.story (present own place) ≡ Some s → Lasts s f) → Next own (after_call own host place slot call f new) (present own place) f new
+pub next_is : (own far : Station) (host : HostView) (place : ℕ) (slot : Slot) (call : Call) (f : Story)
+    (new : List Sent)
+    → IsStation own far → slice_get own.host.slots place ≡ Some slot
+    → host ≡ with_slot own.host place (after_ending (slot_after_call slot call)) → IsHost host
+    → f.end.conn ≡ (act slot.conn call).view → ((s : Story) → own.story (present own place) ≡ Some s → Lasts s f)
+    → Next own (after_call own host place slot call f new) (present own place) f new
 next_is own far host place slot call f new h there is sound conn lasts = record {
   story_own = look_own own.story (present own place) (Some f);
   story_other = look_other own.story (present own place) (Some f);
   turns = λ one. ⊎_elim
-      (λ (same : one ≡ place). subst (λ z. own.turn z ≤ (after_call own host place slot call f new).turn z) (sym same) (grows (is_free (slot_after_call slot call)) refl))
-      (λ (apart : one ≡ place → ⊥). let t = turn_other own.turn place (if is_free (slot_after_call slot call) then own.turn place + 1 else own.turn place) one apart in omega (arith, t))
+      (λ (same : one ≡ place). subst (λ z. own.turn z ≤ (after_call own host place slot call f new).turn z) (sym same)
+      (grows (is_free (slot_after_call slot call)) refl))
+      (λ (apart : one ≡ place → ⊥). let t = turn_other own.turn place
+      (if is_free (slot_after_call slot call) then own.turn place + 1 else own.turn place) one apart in omega
+      (arith, t))
       (nat_cases one place);
   sent = refl;
   address = ap (λ v. v.address) is;
   config = ap (λ v. v.config) is;
   host = sound;
   slots = λ one one_slot at.
-      let now : slice_get (slice_set own.host.slots place (after_ending (slot_after_call slot call))) one ≡ Some one_slot = ap (λ (v : HostView). slice_get v.slots one) (sym is) ∙ at in
+      let now : slice_get (slice_set own.host.slots place (after_ending (slot_after_call slot call))) one
+      ≡ Some one_slot =
+      ap (λ (v : HostView). slice_get v.slots one) (sym is) ∙ at in
       ⊎_elim
       (λ (same : one ≡ place).
-      let what : after_ending (slot_after_call slot call) ≡ one_slot = some_eq (sym (set_same own.host.slots place (after_ending (slot_after_call slot call)) slot there) ∙ ap (slice_get (slice_set own.host.slots place (after_ending (slot_after_call slot call)))) (sym same) ∙ now) in
-      subst (λ (z : ℕ × Slot). IsSlot (after_call own host place slot call f new) z.0 z.1) (λ j. (sym same j, what j)) (slot_then own far host place slot call f new h there conn))
+      let what : after_ending (slot_after_call slot call) ≡ one_slot =
+      some_eq
+      (sym (set_same own.host.slots place (after_ending (slot_after_call slot call)) slot there)
+      ∙ ap (slice_get (slice_set own.host.slots place (after_ending (slot_after_call slot call))))
+      (sym same)
+      ∙ now) in
+      subst (λ (z : ℕ × Slot). IsSlot (after_call own host place slot call f new) z.0 z.1) (λ j. (sym same j, what j))
+      (slot_then own far host place slot call f new h there conn))
       (λ (apart : one ≡ place → ⊥).
-      slot_kept own host place one slot one_slot call f new apart (h.slots one one_slot (sym (set_other own.host.slots place one (after_ending (slot_after_call slot call)) apart) ∙ now)))
+      slot_kept own host place one slot one_slot call f new apart
+      (h.slots one one_slot
+      (sym (set_other own.host.slots place one (after_ending (slot_after_call slot call)) apart) ∙ now)))
       (nat_cases one place);
   lasts = lasts;
 }
   where
-    grows : (b : Bool) → is_free (slot_after_call slot call) ≡ b → own.turn place ≤ (after_call own host place slot call f new).turn place
-    grows true free = let t = turn_own own.turn place (if is_free (slot_after_call slot call) then own.turn place + 1 else own.turn place) ∙ cond-true _ _ _ free in omega (arith, t)
-    grows false used = let t = turn_own own.turn place (if is_free (slot_after_call slot call) then own.turn place + 1 else own.turn place) ∙ cond-false _ _ _ used in omega (arith, t)
+    grows : (b : Bool) → is_free (slot_after_call slot call) ≡ b
+        → own.turn place ≤ (after_call own host place slot call f new).turn place
+    grows true free =
+        let t = turn_own own.turn place
+        (if is_free (slot_after_call slot call) then own.turn place + 1 else own.turn place)
+        ∙ cond-true _ _ _ free in omega (arith, t)
+    grows false used =
+        let t = turn_own own.turn place
+        (if is_free (slot_after_call slot call) then own.turn place + 1 else own.turn place)
+        ∙ cond-false _ _ _ used in omega (arith, t)
 
 -- ---- both sides of a step
 
@@ -155,20 +190,32 @@ pub record AreSides (x : Side) (own far : Station) : Type 0 where
   pub back : IsSide (other x) far own
 
 -- one connection's step
-sides_by : (x : Side) (own far next : Station) (c : Name) (f : Story) (lengths : Side → Name → ℕ) (ps : List PacketView) → AreSides x own far → Next own next c f (map (sent_by (Some c) lengths) ps) → IsStory next far c f
+sides_by : (x : Side) (own far next : Station) (c : Name) (f : Story) (lengths : Side → Name → ℕ) (ps : List PacketView)
+    → AreSides x own far → Next own next c f (map (sent_by (Some c) lengths) ps) → IsStory next far c f
     → ((j : ℕ) (p : PacketView) → slice_get ps j ≡ Some p → IsSentBy next p c)
-    → (f.asked ≡ true → (taker : Name) → (l : LabView) × IsPlayed x c taker f (far.story taker) (own.sent ++ map (sent_by (Some c) lengths) ps) far.sent far.host.config l)
-    → ((asker : Name) (r : Story) → far.story asker ≡ Some r → r.asked ≡ true → (l : LabView) × IsPlayed (other x) asker c r (Some f) far.sent (own.sent ++ map (sent_by (Some c) lengths) ps) own.host.config l)
+    → (f.asked ≡ true → (taker : Name)
+    → (l : LabView)
+    × IsPlayed x c taker f (far.story taker) (own.sent ++ map (sent_by (Some c) lengths) ps) far.sent
+    far.host.config l)
+    → ((asker : Name) (r : Story) → far.story asker ≡ Some r → r.asked ≡ true
+    → (l : LabView)
+    × IsPlayed (other x) asker c r (Some f) far.sent (own.sent ++ map (sent_by (Some c) lengths) ps)
+    own.host.config l)
     → AreSides x next far
 sides_by x own far next c f lengths ps h n story sent pairs back = record {
   side = record {
     station = station_next own far next c f (map (sent_by (Some c) lengths) ps) h.side.station n story
-        (λ j q at. let u = get_unmap (sent_by (Some c) lengths) ps j q at in subst (λ (z : Sent). IsSentOf next z.packet z.by) u.2 (sent j u.0 u.1));
-    pairs = pairs_next x own far next c f (map (sent_by (Some c) lengths) ps) h.side.pairs n (λ d apart. of_other c d lengths ps apart) pairs;
+        (λ j q at. let u = get_unmap (sent_by (Some c) lengths) ps j q at in subst
+        (λ (z : Sent). IsSentOf next z.packet z.by) u.2 (sent j u.0 u.1));
+    pairs =
+        pairs_next x own far next c f (map (sent_by (Some c) lengths) ps) h.side.pairs n
+        (λ d apart. of_other c d lengths ps apart) pairs;
   };
   back = record {
     station = station_back own far next c f (map (sent_by (Some c) lengths) ps) h.back.station n;
-    pairs = pairs_back (other x) own far next c f (map (sent_by (Some c) lengths) ps) h.back.pairs n (λ d apart. of_other c d lengths ps apart) back;
+    pairs =
+        pairs_back (other x) own far next c f (map (sent_by (Some c) lengths) ps) h.back.pairs n
+        (λ d apart. of_other c d lengths ps apart) back;
   };
 }
 
@@ -185,19 +232,26 @@ DeedFrom x own far from (Does place call) = CallFrom x own far from call
 
 -- what a deed makes of a station
 abbrev pub station_by : Station → Deed → HostMade → Option Name → (Side → Name → ℕ) → Station
-station_by own d made from lengths = record (after_deed own d from) { host = made.view; sent = own.sent ++ map (sent_by (sender own d) lengths) made.packets }
+station_by own d made from lengths =
+    record (after_deed own d from)
+    { host = made.view; sent = own.sent ++ map (sent_by (sender own d) lengths) made.packets }
 
 -- how many items each has written then
-pub record AreLengths (x : Side) (own far : Station) (d : Deed) (from : Option Name) (lengths : Side → Name → ℕ) : Type 0 where
+pub record AreLengths (x : Side) (own far : Station) (d : Deed) (from : Option Name) (lengths : Side → Name → ℕ) : Type
+    0 where
   pub own_is : (name : Name) → lengths x name ≡ length_of ((after_deed own d from).story name)
   pub far_is : (name : Name) → lengths (other x) name ≡ length_of (far.story name)
 
 -- ---- a connection in use
 
-arrival_by : (x : Side) (own far : Station) (from : Option Name) (call : Call) → CallFrom x own far from call → (p : PacketView) (now : ℕ) → call ≡ Deliver p now → IsArrival x own far p from
+arrival_by : (x : Side) (own far : Station) (from : Option Name) (call : Call) → CallFrom x own far from call
+    → (p : PacketView) (now : ℕ) → call ≡ Deliver p now → IsArrival x own far p from
 arrival_by x own far from call h p now is = subst (CallFrom x own far from) is h
 
-goes_by : (x : Side) (own far : Station) (place : ℕ) (call : Call) (made : HostMade) (from : Option Name) (lengths : Side → Name → ℕ) → AreSides x own far → (d : IsDone own.host place call made) → IsHost made.view → CallFrom x own far from call → AreLengths x own far (Does place call) from lengths
+goes_by : (x : Side) (own far : Station) (place : ℕ) (call : Call) (made : HostMade) (from : Option Name)
+    (lengths : Side → Name → ℕ)
+    → AreSides x own far → (d : IsDone own.host place call made) → IsHost made.view → CallFrom x own far from call
+    → AreLengths x own far (Does place call) from lengths
     → begins call ≡ false → is_free d.slot ≡ false → AreSides x (station_by own (Does place call) made from lengths) far
 goes_by x own far place call made from lengths h d sound comes len b used =
     let c : Name = present own place in
@@ -217,43 +271,75 @@ goes_by x own far place call made from lengths h d sound comes len b used =
       arrival = arrival_by x own far from call comes;
     } in
     let conn : f.end.conn ≡ (act d.slot.conn call).view = view_of s call from ∙ ap (λ v. (act v call).view) u.2 in
-    let n : Next own next c f new = next_is own far made.view place d.slot call f new h.side.station d.there d.view sound conn
+    let n : Next own next c f new =
+    next_is own far made.view place d.slot call f new h.side.station d.there d.view sound conn
     (λ t there. subst (λ z. Lasts z f) (some_eq (sym u.1 ∙ there)) (lasts_on x own far c s call from g)) in
     let story : (after_deed own (Does place call) from).story ≡ with_story own.story c (Some f) =
-    ap (λ o. (after_slot own place call from o).story) d.there ∙ ap (λ o. with_story own.story c (story_after o d.slot.conn call from)) u.1 in
-    let turn : (after_deed own (Does place call) from).turn ≡ next.turn = ap (λ o. (after_slot own place call from o).turn) d.there in
+    ap (λ o. (after_slot own place call from o).story) d.there
+    ∙ ap (λ o. with_story own.story c (story_after o d.slot.conn call from)) u.1 in
+    let turn : (after_deed own (Does place call) from).turn ≡ next.turn =
+    ap (λ o. (after_slot own place call from o).turn) d.there in
     let packets : made.packets ≡ ps = d.packets ∙ ap (λ v. (act v call).packets) (sym u.2) in
-    let len_c : lengths x c ≡ length f.end.written = len.own_is c ∙ ap (λ stories. length_of (stories c)) story ∙ ap length_of (look_own own.story c (Some f)) in
+    let len_c : lengths x c ≡ length f.end.written =
+    len.own_is c ∙ ap (λ stories. length_of (stories c)) story ∙ ap length_of (look_own own.story c (Some f)) in
     let sides : AreSides x next far = sides_by x own far next c f lengths ps h n
     (story_then x own far next c s call from g n.address (n.turns place))
     (sent_then x own far next c s call from g n.address n.story_own)
     (λ asked. pair_then x own far c s call from lengths g asked len_c len.far_is)
     (back_then x own far c s call from lengths g len_c len.far_is) in
-    subst (λ z. AreSides x z far) (λ j. record { host = made.view; turn = sym turn j; story = sym story j; sent = own.sent ++ map (sent_by (Some c) lengths) (sym packets j) }) sides
+    subst (λ z. AreSides x z far)
+    (λ j.
+    record { host = made.view; turn = sym turn j; story = sym story j; sent = own.sent ++ map (sent_by (Some c) lengths) (sym packets j) })
+    sides
 
 -- ---- a connection that begins
 
-begun_sides : (x : Side) (own far : Station) (place : ℕ) (call : Call) (made : HostMade) (from : Option Name) (lengths : Side → Name → ℕ) (f : Story) → AreSides x own far → (d : IsDone own.host place call made) → IsHost made.view
-    → own.story (present own place) ≡ None → story_of d.slot.conn call from ≡ Some f → f.end.conn ≡ (act d.slot.conn call).view
-    → ((next : Station) → next.host.address ≡ own.host.address → own.turn place ≤ next.turn place → IsStory next far (present own place) f)
-    → ((next : Station) → next.host.address ≡ own.host.address → next.story (present own place) ≡ Some f → (j : ℕ) (p : PacketView) → slice_get (act d.slot.conn call).packets j ≡ Some p → IsSentBy next p (present own place))
-    → (f.asked ≡ true → (taker : Name) → (l : LabView) × IsPlayed x (present own place) taker f (far.story taker) (own.sent ++ map (sent_by (Some (present own place)) lengths) (act d.slot.conn call).packets) far.sent far.host.config l)
-    → ((asker : Name) (r : Story) → far.story asker ≡ Some r → r.asked ≡ true → (l : LabView) × IsPlayed (other x) asker (present own place) r (Some f) far.sent (own.sent ++ map (sent_by (Some (present own place)) lengths) (act d.slot.conn call).packets) own.host.config l)
+begun_sides : (x : Side) (own far : Station) (place : ℕ) (call : Call) (made : HostMade) (from : Option Name)
+    (lengths : Side → Name → ℕ) (f : Story)
+    → AreSides x own far → (d : IsDone own.host place call made) → IsHost made.view
+    → own.story (present own place) ≡ None → story_of d.slot.conn call from ≡ Some f
+    → f.end.conn ≡ (act d.slot.conn call).view
+    → ((next : Station) → next.host.address ≡ own.host.address → own.turn place ≤ next.turn place
+    → IsStory next far (present own place) f)
+    → ((next : Station) → next.host.address ≡ own.host.address → next.story (present own place) ≡ Some f
+    → (j : ℕ) (p : PacketView) → slice_get (act d.slot.conn call).packets j ≡ Some p
+    → IsSentBy next p (present own place))
+    → (f.asked ≡ true → (taker : Name)
+    → (l : LabView)
+    × IsPlayed x (present own place) taker f (far.story taker)
+    (own.sent ++ map (sent_by (Some (present own place)) lengths) (act d.slot.conn call).packets) far.sent
+    far.host.config l)
+    → ((asker : Name) (r : Story) → far.story asker ≡ Some r → r.asked ≡ true
+    → (l : LabView)
+    × IsPlayed (other x) asker (present own place) r (Some f) far.sent
+    (own.sent ++ map (sent_by (Some (present own place)) lengths) (act d.slot.conn call).packets)
+    own.host.config l)
     → AreSides x (station_by own (Does place call) made from lengths) far
 begun_sides x own far place call made from lengths f h d sound none begins_as conn story_f sent pairs back =
     let c : Name = present own place in
     let ps = (act d.slot.conn call).packets in
     let new = map (sent_by (Some c) lengths) ps in
     let next : Station = after_call own made.view place d.slot call f new in
-    let n : Next own next c f new = next_is own far made.view place d.slot call f new h.side.station d.there d.view sound conn
+    let n : Next own next c f new =
+    next_is own far made.view place d.slot call f new h.side.station d.there d.view sound conn
     (λ t there. let no : None ≡ Some t = sym none ∙ there in absurd (cc)) in
     let story : (after_deed own (Does place call) from).story ≡ with_story own.story c (Some f) =
-    ap (λ o. (after_slot own place call from o).story) d.there ∙ ap (λ o. with_story own.story c (story_after o d.slot.conn call from)) none ∙ ap (with_story own.story c) begins_as in
-    let turn : (after_deed own (Does place call) from).turn ≡ next.turn = ap (λ o. (after_slot own place call from o).turn) d.there in
-    let sides : AreSides x next far = sides_by x own far next c f lengths ps h n (story_f next n.address (n.turns place)) (sent next n.address n.story_own) pairs back in
-    subst (λ z. AreSides x z far) (λ j. record { host = made.view; turn = sym turn j; story = sym story j; sent = own.sent ++ map (sent_by (Some c) lengths) (sym d.packets j) }) sides
+    ap (λ o. (after_slot own place call from o).story) d.there
+    ∙ ap (λ o. with_story own.story c (story_after o d.slot.conn call from)) none
+    ∙ ap (with_story own.story c) begins_as in
+    let turn : (after_deed own (Does place call) from).turn ≡ next.turn =
+    ap (λ o. (after_slot own place call from o).turn) d.there in
+    let sides : AreSides x next far =
+    sides_by x own far next c f lengths ps h n (story_f next n.address (n.turns place))
+    (sent next n.address n.story_own) pairs back in
+    subst (λ z. AreSides x z far)
+    (λ j.
+    record { host = made.view; turn = sym turn j; story = sym story j; sent = own.sent ++ map (sent_by (Some c) lengths) (sym d.packets j) })
+    sides
 
-begins_by : (x : Side) (own far : Station) (place : ℕ) (call : Call) (made : HostMade) (from : Option Name) (lengths : Side → Name → ℕ) → AreSides x own far → (d : IsDone own.host place call made) → IsHost made.view → CallFrom x own far from call
+begins_by : (x : Side) (own far : Station) (place : ℕ) (call : Call) (made : HostMade) (from : Option Name)
+    (lengths : Side → Name → ℕ)
+    → AreSides x own far → (d : IsDone own.host place call made) → IsHost made.view → CallFrom x own far from call
     → begins call ≡ true → AreSides x (station_by own (Does place call) made from lengths) far
 begins_by x own far place (Request me peer contact start now) made from lengths h d sound comes b =
     let c : Name = present own place in
@@ -266,16 +352,20 @@ begins_by x own far place (Request me peer contact start now) made from lengths 
       fits = comes;
     } in
     let call : Call = Request (own_end own.host place d.slot) peer contact start now in
-    let e : IsDone own.host place call made = subst (λ m. IsDone own.host place (Request m peer contact start now) made) fits.1 d in
+    let e : IsDone own.host place call made =
+    subst (λ m. IsDone own.host place (Request m peer contact start now) made) fits.1 d in
     let q : AreSides x (station_by own (Does place call) made from lengths) far =
-    begun_sides x own far place call made from lengths (asked_story d.slot.conn (own_end own.host place d.slot) peer contact start now) h
-    (record { slot = d.slot; there = d.there; fits = (fits.0, refl, fits.2, fits.3); view = d.view ∙ ap (λ m. with_slot own.host place (after_ending (slot_after_call d.slot (Request m peer contact start now)))) fits.1; packets = d.packets ∙ ap (λ m. (act d.slot.conn (Request m peer contact start now)).packets) fits.1 })
+    begun_sides x own far place call made from lengths
+    (asked_story d.slot.conn (own_end own.host place d.slot) peer contact start now) h
+    (record
+    { slot = d.slot; there = d.there; fits = (fits.0, refl, fits.2, fits.3); view = d.view ∙ ap (λ m. with_slot own.host place (after_ending (slot_after_call d.slot (Request m peer contact start now)))) fits.1; packets = d.packets ∙ ap (λ m. (act d.slot.conn (Request m peer contact start now)).packets) fits.1 })
     sound none refl refl
     (λ next address later. asked_then x own far next c d.slot peer contact start now a address later)
     (λ next address there. asked_sent x own far next c d.slot peer contact start now a address there)
     (λ _ taker. asked_pairs x own far c d.slot peer contact start now _ a taker)
     (asked_back x own far c d.slot peer contact start now _ a) in
-    subst (λ m. AreSides x (station_by own (Does place (Request m peer contact start now)) made from lengths) far) (sym fits.1) q
+    subst (λ m. AreSides x (station_by own (Does place (Request m peer contact start now)) made from lengths) far)
+    (sym fits.1) q
 begins_by x own far place (TakeRequest p me now) made from lengths h d sound comes b =
     let c : Name = present own place in
     let fits = d.fits in
@@ -290,8 +380,10 @@ begins_by x own far place (TakeRequest p me now) made from lengths h d sound com
     let call : Call = TakeRequest p (own_end own.host place d.slot) now in
     let empty = taken_sent x own far c d.slot p now from t in
     let q : AreSides x (station_by own (Does place call) made from lengths) far =
-    begun_sides x own far place call made from lengths (taken_story d.slot.conn p (own_end own.host place d.slot) now a.name) h
-    (record { slot = d.slot; there = d.there; fits = (fits.0, refl, fits.2, fits.3); view = d.view ∙ ap (λ m. with_slot own.host place (after_ending (slot_after_call d.slot (TakeRequest p m now)))) fits.1; packets = d.packets ∙ ap (λ m. (act d.slot.conn (TakeRequest p m now)).packets) fits.1 })
+    begun_sides x own far place call made from lengths
+    (taken_story d.slot.conn p (own_end own.host place d.slot) now a.name) h
+    (record
+    { slot = d.slot; there = d.there; fits = (fits.0, refl, fits.2, fits.3); view = d.view ∙ ap (λ m. with_slot own.host place (after_ending (slot_after_call d.slot (TakeRequest p m now)))) fits.1; packets = d.packets ∙ ap (λ m. (act d.slot.conn (TakeRequest p m now)).packets) fits.1 })
     sound none (ap (λ o. story_of d.slot.conn call o) a.from_is) refl
     (λ next address later. taken_then x own far next c d.slot p now from t a address later)
     (λ next address there j pk at. none_at (act d.slot.conn call).packets j pk empty at)
@@ -319,7 +411,9 @@ none_of lengths ps d j q at by =
     let u = get_unmap (sent_by None lengths) ps j q at in
     let no : None ≡ Some d = ap (λ (z : Sent). z.by) u.2 ∙ by in absurd (cc)
 
-quiet_by : (x : Side) (own far : Station) (made : HostMade) (from : Option Name) (lengths : Side → Name → ℕ) → AreSides x own far → IsNothing own.host made → IsHost made.view → AreSides x (station_by own Nothing made from lengths) far
+quiet_by : (x : Side) (own far : Station) (made : HostMade) (from : Option Name) (lengths : Side → Name → ℕ)
+    → AreSides x own far → IsNothing own.host made → IsHost made.view
+    → AreSides x (station_by own Nothing made from lengths) far
 quiet_by x own far made from lengths h d sound =
     let next : Station = station_by own Nothing made from lengths in
     let new = map (sent_by None lengths) made.packets in
@@ -328,11 +422,16 @@ quiet_by x own far made from lengths h d sound =
         station = record {
           host = sound;
           config = subst IsConfig (sym d.config) h.side.station.config;
-          slots = λ place slot at. let o = h.side.station.slots place slot (ap (λ ss. slice_get ss place) (sym d.slots) ∙ at) in record { generation = o.generation; used = o.used; free = o.free };
+          slots =
+              λ place slot at. let o = h.side.station.slots place slot
+              (ap (λ ss. slice_get ss place) (sym d.slots)
+              ∙ at) in record { generation = o.generation; used = o.used; free = o.free };
           stories = λ name s there.
               let o = h.side.station.stories name s there in
               record {
-                named = λ used. let k = o.named used in record { me = k.me ∙ (λ j. record { address = sym d.address j; index = index_of name }); peer_index = k.peer_index };
+                named =
+                    λ used. let k = o.named
+                    used in record { me = k.me ∙ (λ j. record { address = sym d.address j; index = index_of name }); peer_index = k.peer_index };
                 peer = o.peer;
                 place = o.place;
                 turn = o.turn;
@@ -342,12 +441,15 @@ quiet_by x own far made from lengths h d sound =
               (λ (old : slice_get own.sent k ≡ Some q). sent_same q.packet q.by (h.side.station.sent k q old))
               (λ (now : (j : ℕ) × (slice_get new j ≡ Some q)).
               let u = get_unmap (sent_by None lengths) made.packets now.0 q now.1 in
-              subst (λ (z : Sent). IsSentOf (station_by own Nothing made from lengths) z.packet z.by) u.2 (all_at IsBare made.packets now.0 u.0 d.packets u.1))
+              subst (λ (z : Sent). IsSentOf (station_by own Nothing made from lengths) z.packet z.by) u.2
+              (all_at IsBare made.packets now.0 u.0 d.packets u.1))
               (get_split own.sent new k q at);
         };
         pairs = λ asker taker r there asked.
             let p = h.side.pairs asker taker r there asked in
-            let q = pair_waits x asker taker r (far.story taker) own.sent far.sent new [] far.host.config p.0 p.1 (none_of lengths made.packets asker) (none_new taker) in
+            let q =
+            pair_waits x asker taker r (far.story taker) own.sent far.sent new [] far.host.config p.0 p.1
+            (none_of lengths made.packets asker) (none_new taker) in
             (p.0, subst (λ z. IsPlayed x asker taker r (far.story taker) (own.sent ++ new) z far.host.config p.0) (append-nil far.sent) q);
       };
       back = record {
@@ -367,7 +469,9 @@ quiet_by x own far made from lengths h d sound =
         };
         pairs = λ asker taker r there asked.
             let p = h.back.pairs asker taker r there asked in
-            let q = pair_waits (other x) asker taker r (own.story taker) far.sent own.sent [] new own.host.config p.0 p.1 (none_new asker) (none_of lengths made.packets taker) in
+            let q =
+            pair_waits (other x) asker taker r (own.story taker) far.sent own.sent [] new own.host.config p.0 p.1
+            (none_new asker) (none_of lengths made.packets taker) in
             (p.0, subst (λ (z : List Sent × ConfigView). IsPlayed (other x) asker taker r (own.story taker) z.0 (own.sent ++ new) z.1 p.0) (λ j. (append-nil far.sent j, sym d.config j)) q);
       };
     }
@@ -379,18 +483,22 @@ quiet_by x own far made from lengths h d sound =
     none_new : (name : Name) → OfOther [] name
     none_new name j q at by = none_at [] j q refl at
 
-    sent_same : (p : PacketView) (by : Option Name) → IsSentOf own p by → IsSentOf (station_by own Nothing made from lengths) p by
+    sent_same : (p : PacketView) (by : Option Name) → IsSentOf own p by
+        → IsSentOf (station_by own Nothing made from lengths) p by
     sent_same p None h = h
-    sent_same p (Some name) h = record { story = h.story; there = h.there; src_index = h.src_index; src = h.src ∙ sym d.address; ack = h.ack; rfc = h.rfc }
+    sent_same p (Some name) h =
+        record { story = h.story; there = h.there; src_index = h.src_index; src = h.src ∙ sym d.address; ack = h.ack; rfc = h.rfc }
 
-    peer_same : (name : Name) (s : Story) (peer : Option Name) (asked : Bool) → HasPeer own name s peer asked → HasPeer (station_by own Nothing made from lengths) name s peer asked
+    peer_same : (name : Name) (s : Story) (peer : Option Name) (asked : Bool) → HasPeer own name s peer asked
+        → HasPeer (station_by own Nothing made from lengths) name s peer asked
     peer_same name s None asked h = h
     peer_same name s (Some peer) true h = h
     peer_same name s (Some peer) false h = h
 
 -- ---- a step
 
-pub not_begins : (v : HostView) (place : ℕ) (slot : Slot) (call : Call) → begins call ≡ false → FitsSlot v place slot call → is_free slot ≡ false
+pub not_begins : (v : HostView) (place : ℕ) (slot : Slot) (call : Call) → begins call ≡ false
+    → FitsSlot v place slot call → is_free slot ≡ false
 not_begins v place slot (Request me peer contact start now) b h = absurd (false≢true (sym b))
 not_begins v place slot (TakeRequest rfc me now) b h = absurd (false≢true (sym b))
 not_begins v place slot (Accept start now) b h = h
@@ -405,11 +513,15 @@ not_begins v place slot (Announce window) b h = h
 not_begins v place slot (Close text) b h = h
 not_begins v place slot (Tick now) b h = h
 
-pub by_deed : (x : Side) (own far : Station) (d : Deed) (made : HostMade) (from : Option Name) (lengths : Side → Name → ℕ) → AreSides x own far → IsDeed own.host d made → IsHost made.view → DeedFrom x own far from d → AreLengths x own far d from lengths
+pub by_deed : (x : Side) (own far : Station) (d : Deed) (made : HostMade) (from : Option Name)
+    (lengths : Side → Name → ℕ)
+    → AreSides x own far → IsDeed own.host d made → IsHost made.view → DeedFrom x own far from d
+    → AreLengths x own far d from lengths
     → AreSides x (station_by own d made from lengths) far
 by_deed x own far Nothing made from lengths h d sound comes len = quiet_by x own far made from lengths h d sound
 by_deed x own far (Does place call) made from lengths h d sound comes len =
     ⊎_elim
     (λ (b : begins call ≡ true). begins_by x own far place call made from lengths h d sound comes b)
-    (λ (b : begins call ≡ false). goes_by x own far place call made from lengths h d sound comes len b (not_begins own.host place d.slot call b d.fits))
+    (λ (b : begins call ≡ false). goes_by x own far place call made from lengths h d sound comes len b
+    (not_begins own.host place d.slot call b d.fits))
     (cases_Bool (begins call))

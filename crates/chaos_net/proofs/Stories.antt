@@ -39,14 +39,17 @@ pub record Opening (s : Story) (call : Call) (from : Option Name) : Type 0 where
   pub opens : Opens s.end.conn packet (act_deliver s.end.conn packet now)
   pub peer : (goes_on s call from).peer ≡ from
 
-pub kept_peer : (s : Story) (call : Call) (from : Option Name) (peer : Name) → s.peer ≡ Some peer → (goes_on s call from).peer ≡ s.peer
+pub kept_peer : (s : Story) (call : Call) (from : Option Name) (peer : Name) → s.peer ≡ Some peer
+    → (goes_on s call from).peer ≡ s.peer
 kept_peer s call from peer is = ap (λ o. peer_after o (act s.end.conn call).answer from) is ∙ sym is
 
-no_peer : (s : Story) (call : Call) (from : Option Name) → s.peer ≡ None → peer_by (act s.end.conn call).answer from ≡ None → (goes_on s call from).peer ≡ s.peer
+no_peer : (s : Story) (call : Call) (from : Option Name) → s.peer ≡ None
+    → peer_by (act s.end.conn call).answer from ≡ None → (goes_on s call from).peer ≡ s.peer
 no_peer s call from is none = ap (λ o. peer_after o (act s.end.conn call).answer from) is ∙ none ∙ sym is
 
 -- it stays, or the connection was opened
-pub peer_cases : (s : Story) (call : Call) (from : Option Name) → ((goes_on s call from).peer ≡ s.peer) ⊎ Opening s call from
+pub peer_cases : (s : Story) (call : Call) (from : Option Name)
+    → ((goes_on s call from).peer ≡ s.peer) ⊎ Opening s call from
 peer_cases s call from = by s.peer refl
   where
     without : (call : Call) → s.peer ≡ None → ((goes_on s call from).peer ≡ s.peer) ⊎ Opening s call from
@@ -58,9 +61,12 @@ peer_cases s call from = by s.peer refl
           is = refl;
           before = is;
           opens = o;
-          peer = ap (λ z. peer_after z (Came (act_deliver s.end.conn p now).answer) from) is ∙ ap (λ (b : Bool). if b then from else None) o.opened;
+          peer =
+              ap (λ z. peer_after z (Came (act_deliver s.end.conn p now).answer) from) is
+              ∙ ap (λ (b : Bool). if b then from else None) o.opened;
         }))
-        (λ (k : Stays s.end.conn p (act_deliver s.end.conn p now)). inl (no_peer s (Deliver p now) from is (ap (λ (b : Bool). if b then from else None) k.opened)))
+        (λ (k : Stays s.end.conn p (act_deliver s.end.conn p now)). inl
+        (no_peer s (Deliver p now) from is (ap (λ (b : Bool). if b then from else None) k.opened)))
         (opens_or_stays s.end.conn p now)
     without (Request me peer contact start now) is = inl (no_peer s (Request me peer contact start now) from is refl)
     without (TakeRequest rfc me now) is = inl (no_peer s (TakeRequest rfc me now) from is refl)
@@ -90,9 +96,11 @@ either v true x y p q = p
 either v false x y p q = q
 
 away_closed : (v : ConnView) (op : ℕ) (bytes : List ℕ) → IsClosed v (turn_away v op bytes)
-away_closed v op bytes = either v (nat_lt MAX_DATA (length bytes)) _ _ (inr refl) (either v (is_requested v.state) _ _ (inl refl) (inr refl))
+away_closed v op bytes =
+    either v (nat_lt MAX_DATA (length bytes)) _ _ (inr refl) (either v (is_requested v.state) _ _ (inl refl) (inr refl))
 
-pub ends_closed : (v : ConnView) (call : Call) → ends call ≡ true → (is_inactive (act v call).view.state ≡ true) ⊎ ((act v call).view ≡ v)
+pub ends_closed : (v : ConnView) (call : Call) → ends call ≡ true
+    → (is_inactive (act v call).view.state ≡ true) ⊎ ((act v call).view ≡ v)
 ends_closed v (Answer bytes) e = away_closed v op_ans bytes
 ends_closed v (Reject text) e = away_closed v op_cls text
 ends_closed v (Close text) e = either v (nat_lt MAX_DATA (length text)) _ _ (inr refl) (inl refl)
@@ -108,7 +116,8 @@ ends_closed v (Announce window) e = absurd (false≢true e)
 ends_closed v (Tick now) e = absurd (false≢true e)
 
 -- the view of a story after a call
-pub view_of : (s : Story) (call : Call) (from : Option Name) → (goes_on s call from).end.conn ≡ (act s.end.conn call).view
+pub view_of : (s : Story) (call : Call) (from : Option Name)
+    → (goes_on s call from).end.conn ≡ (act s.end.conn call).view
 view_of s (Request me peer contact start now) from = refl
 view_of s (TakeRequest rfc me now) from = refl
 view_of s (Accept start now) from = refl
@@ -124,25 +133,31 @@ view_of s (Close text) from = refl
 view_of s (Tick now) from = refl
 
 -- names that were kept are the story's
-with_names : (own : ℕ) (name : Name) (s f : Story) → KeepsNames s.end.conn f.end.conn → f.peer ≡ s.peer → IsNamed own name s → IsNamed own name f
+with_names : (own : ℕ) (name : Name) (s f : Story) → KeepsNames s.end.conn f.end.conn → f.peer ≡ s.peer
+    → IsNamed own name s → IsNamed own name f
 with_names own name s f k peer n = record {
   me = k.0 ∙ n.me;
   peer_index = k.2 ∙ n.peer_index ∙ ap (option_map index_of) (sym peer);
 }
 
 -- a connection that stays in use keeps its names, and learns its peer's index by the OPN that opens it
-pub named_on : (own : ℕ) (name : Name) (s : Story) (call : Call) (from : Option Name) → IsNamed own name s → begins call ≡ false
+pub named_on : (own : ℕ) (name : Name) (s : Story) (call : Call) (from : Option Name) → IsNamed own name s
+    → begins call ≡ false
     → ((o : Opening s call from) → (c : Name) × (from ≡ Some c) × (o.packet.src_index ≡ index_of c))
-    → ((p : PacketView) (now : ℕ) → call ≡ Deliver p now → Opens s.end.conn p (act_deliver s.end.conn p now) → s.peer ≡ None)
+    → ((p : PacketView) (now : ℕ) → call ≡ Deliver p now → Opens s.end.conn p (act_deliver s.end.conn p now)
+    → s.peer ≡ None)
     → is_inactive (goes_on s call from).end.conn.state ≡ false → IsNamed own name (goes_on s call from)
 named_on own name s call from n b sender unopened used =
     ⊎_elim
     (λ (o : Opening s call from).
     let c = sender o in
-    let view : (goes_on s call from).end.conn ≡ (act_deliver s.end.conn o.packet o.now).view = view_of s call from ∙ ap (λ k. (act s.end.conn k).view) o.is in
+    let view : (goes_on s call from).end.conn ≡ (act_deliver s.end.conn o.packet o.now).view =
+    view_of s call from ∙ ap (λ k. (act s.end.conn k).view) o.is in
     record {
       me = ap (λ v. v.me) view ∙ o.opens.me ∙ n.me;
-      peer_index = ap (λ v. v.peer_index) view ∙ o.opens.peer_index ∙ ap Some c.2 ∙ ap (option_map index_of) (sym (o.peer ∙ c.1));
+      peer_index =
+          ap (λ v. v.peer_index) view ∙ o.opens.peer_index ∙ ap Some c.2
+          ∙ ap (option_map index_of) (sym (o.peer ∙ c.1));
     })
     (λ (same : (goes_on s call from).peer ≡ s.peer). kept same)
     (swap (peer_cases s call from))
@@ -151,8 +166,12 @@ named_on own name s call from n b sender unopened used =
     swap (inl x) = inr x
     swap (inr y) = inl y
 
-    names : (call : Call) → begins call ≡ false → ends call ≡ false → ((p : PacketView) (now : ℕ) → call ≡ Deliver p now → Opens s.end.conn p (act_deliver s.end.conn p now) → ⊥) → KeepsNames s.end.conn (act s.end.conn call).view
-    names (Deliver p now) b e shut = ⊎_elim (λ (o : Opens s.end.conn p (act_deliver s.end.conn p now)). absurd (shut p now refl o)) (λ (k : Stays s.end.conn p (act_deliver s.end.conn p now)). k.names) (opens_or_stays s.end.conn p now)
+    names : (call : Call) → begins call ≡ false → ends call ≡ false
+        → ((p : PacketView) (now : ℕ) → call ≡ Deliver p now → Opens s.end.conn p (act_deliver s.end.conn p now) → ⊥)
+        → KeepsNames s.end.conn (act s.end.conn call).view
+    names (Deliver p now) b e shut =
+        ⊎_elim (λ (o : Opens s.end.conn p (act_deliver s.end.conn p now)). absurd (shut p now refl o))
+        (λ (k : Stays s.end.conn p (act_deliver s.end.conn p now)). k.names) (opens_or_stays s.end.conn p now)
     names (Request me peer contact start now) b e shut = absurd (false≢true (sym b))
     names (TakeRequest rfc me now) b e shut = absurd (false≢true (sym b))
     names (Accept start now) b e shut = names_stay s.end.conn (Accept start now) refl refl refl
@@ -172,22 +191,29 @@ named_on own name s call from n b sender unopened used =
         ⊎_elim
         (λ (ending : ends call ≡ true).
         ⊎_elim
-        (λ (closed : is_inactive (act s.end.conn call).view.state ≡ true). absurd (false≢true (sym used ∙ ap (λ v. is_inactive v.state) (view_of s call from) ∙ closed)))
+        (λ (closed : is_inactive (act s.end.conn call).view.state ≡ true). absurd
+        (false≢true (sym used ∙ ap (λ v. is_inactive v.state) (view_of s call from) ∙ closed)))
         (λ (still : (act s.end.conn call).view ≡ s.end.conn).
         with_names own name s (goes_on s call from) (keeps (view_of s call from ∙ still)) same n)
         (ends_closed s.end.conn call ending))
         (λ (goes : ends call ≡ false).
-        with_names own name s (goes_on s call from) (subst (KeepsNames s.end.conn) (sym (view_of s call from)) (names call b goes (λ p now is o. opened p now is o same))) same n)
+        with_names own name s (goes_on s call from)
+        (subst (KeepsNames s.end.conn) (sym (view_of s call from))
+        (names call b goes (λ p now is o. opened p now is o same)))
+        same n)
         (cases_Bool (ends call))
       where
         keeps : {w : ConnView} → w ≡ s.end.conn → KeepsNames s.end.conn w
         keeps h = (ap (λ v. v.me) h, ap (λ v. v.peer) h, ap (λ v. v.peer_index) h)
 
-        opened : (p : PacketView) (now : ℕ) → call ≡ Deliver p now → Opens s.end.conn p (act_deliver s.end.conn p now) → (goes_on s call from).peer ≡ s.peer → ⊥
+        opened : (p : PacketView) (now : ℕ) → call ≡ Deliver p now → Opens s.end.conn p (act_deliver s.end.conn p now)
+            → (goes_on s call from).peer ≡ s.peer → ⊥
         opened p now is o same =
             let none = unopened p now is o in
             let peer : (goes_on s call from).peer ≡ from =
-            ap (λ k. (goes_on s k from).peer) is ∙ ap (λ z. peer_after z (Came (act_deliver s.end.conn p now).answer) from) none ∙ ap (λ (b : Bool). if b then from else None) o.opened in
+            ap (λ k. (goes_on s k from).peer) is
+            ∙ ap (λ z. peer_after z (Came (act_deliver s.end.conn p now).answer) from) none
+            ∙ ap (λ (b : Bool). if b then from else None) o.opened in
             let c = sender (record { packet = p; now = now; is = is; before = none; opens = o; peer = peer }) in
             let no : Some c.0 ≡ None = sym c.1 ∙ sym peer ∙ same ∙ none in
             absurd (cc)
@@ -208,8 +234,10 @@ may_end_is (Announce window) = refl
 may_end_is (Close text) = refl
 may_end_is (Tick now) = refl
 
-pub still_used : (s : Story) (call : Call) (from : Option Name) → ends call ≡ false → is_inactive s.end.conn.state ≡ false → is_inactive (goes_on s call from).end.conn.state ≡ false
-still_used s call from goes used = ap (λ v. is_inactive v.state) (view_of s call from) ∙ stays_in_use s.end.conn call (may_end_is call ∙ goes) used
+pub still_used : (s : Story) (call : Call) (from : Option Name) → ends call ≡ false
+    → is_inactive s.end.conn.state ≡ false → is_inactive (goes_on s call from).end.conn.state ≡ false
+still_used s call from goes used =
+    ap (λ v. is_inactive v.state) (view_of s call from) ∙ stays_in_use s.end.conn call (may_end_is call ∙ goes) used
 
 -- ---- what the names on a packet say
 
@@ -218,15 +246,20 @@ both true b h = (refl, h)
 both false b h = absurd (false≢true h)
 
 -- a packet under a connection's names is for its index
-pub named_for : (own : ℕ) (name : Name) (s : Story) (p : PacketView) → IsNamed own name s → is_named s.end.conn p ≡ true → p.dst_index ≡ index_of name
+pub named_for : (own : ℕ) (name : Name) (s : Story) (p : PacketView) → IsNamed own name s → is_named s.end.conn p ≡ true
+    → p.dst_index ≡ index_of name
 named_for own name s p n h =
     let indices = (both (is_between_hosts s.end.conn p) (is_between_indices s.end.conn p) h).1 in
-    eqb-true p.dst_index s.end.conn.me.index (both (p.dst_index == s.end.conn.me.index) (may_be_index s.end.conn.peer_index p.src_index) indices).0 ∙ ap (λ e. e.index) n.me
+    eqb-true p.dst_index s.end.conn.me.index
+    (both (p.dst_index == s.end.conn.me.index) (may_be_index s.end.conn.peer_index p.src_index) indices).0
+    ∙ ap (λ e. e.index) n.me
 
 -- and from its peer's, where that is known
-pub named_from : (own : ℕ) (name peer : Name) (s : Story) (p : PacketView) → IsNamed own name s → s.peer ≡ Some peer → is_named s.end.conn p ≡ true → p.src_index ≡ index_of peer
+pub named_from : (own : ℕ) (name peer : Name) (s : Story) (p : PacketView) → IsNamed own name s → s.peer ≡ Some peer
+    → is_named s.end.conn p ≡ true → p.src_index ≡ index_of peer
 named_from own name peer s p n is h =
     let indices = (both (is_between_hosts s.end.conn p) (is_between_indices s.end.conn p) h).1 in
-    let may : may_be_index s.end.conn.peer_index p.src_index ≡ true = (both (p.dst_index == s.end.conn.me.index) (may_be_index s.end.conn.peer_index p.src_index) indices).1 in
+    let may : may_be_index s.end.conn.peer_index p.src_index ≡ true =
+    (both (p.dst_index == s.end.conn.me.index) (may_be_index s.end.conn.peer_index p.src_index) indices).1 in
     let known : s.end.conn.peer_index ≡ Some (index_of peer) = n.peer_index ∙ ap (option_map index_of) is in
     sym (eqb-true (index_of peer) p.src_index (sym (ap (λ o. may_be_index o p.src_index) known) ∙ may))

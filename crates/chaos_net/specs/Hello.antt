@@ -23,8 +23,8 @@ abbrev pub two_hosts : Net
 two_hosts A = new_station 257 1 usual_config
 two_hosts B = new_station 258 1 usual_config
 
--- The index of each host's first connection is 1. A sends its RFC, an STS as it opens, and the data: packets 0, 1 and 2. B sends its
--- OPN, packet 0.
+-- The index of each host's first connection is 1. A sends its RFC, an STS as it opens, and the data: packets 0, 1 and
+-- 2. B sends its OPN, packet 0.
 abbrev pub hello : List NetEvent
 hello =
     At B (Listens (codes "HELLO"))
@@ -44,4 +44,5 @@ first_name = record { place = 0; turn = 0 }
 -- The net after it is reached, and there B's connection has read the request and the data.
 pub record SomethingIsRead : Type 0 where
   pub reached : Reached (after_events two_hosts hello)
-  pub read : read_of (((after_events two_hosts hello) B).story first_name) ≡ rfc_item (codes "HELLO") ∷ record { op = op_data; body = codes "Hello" } ∷ []
+  pub read : read_of (((after_events two_hosts hello) B).story first_name)
+      ≡ rfc_item (codes "HELLO") ∷ record { op = op_data; body = codes "Hello" } ∷ []

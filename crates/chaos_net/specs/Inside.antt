@@ -31,7 +31,8 @@ pub record MayDo (st : KeptStation) (at : Desk) : Type 0 where
   pub window : st.host.config.send_cap ≤ MAX_WINDOW
 
 -- An event of a station, at a desk: it did that, and left the desk as it was, with one event more.
-pub record IsDone (old new : KeptStation) (desk done : Desk) (event : HostEvent) (place : Option ℕ) (mark : Mark) : Type 0 where
+pub record IsDone (old new : KeptStation) (desk done : Desk) (event : HostEvent) (place : Option ℕ) (mark : Mark) : Type
+    0 where
   pub station : station_view new ≡ station_after (station_view old) event place mark (desk.events + 1)
   pub config : new.host.config ≡ old.host.config
   pub size : length new.host.slots ≡ length old.host.slots

@@ -90,8 +90,8 @@ kept_by seat count packet = record { packet = packet; by = by_of seat; meant = m
 
 -- ---- events
 
--- A station after an event of its host, which was so many events: the host does what it does, the seat at a place gets a mark, and
--- what goes out is sent by the connection of that seat.
+-- A station after an event of its host, which was so many events: the host does what it does, the seat at a place gets
+-- a mark, and what goes out is sent by the connection of that seat.
 abbrev pub station_after : StationView → HostEvent → Option ℕ → Mark → ℕ → StationView
 station_after st event place mark count =
     let seats = alter (before mark) st.seats place in
@@ -139,12 +139,15 @@ are_near (Some a) (Some b) = is_near a b
 -- so few events happened since that no end wrote 32,640 items, and neither index was used again
 abbrev pub is_fresh_at : ℕ → Option Seat → KeptSent → Bool
 is_fresh_at events None kept = false
-is_fresh_at events (Some seat) kept = nat_lt (events - kept.at) fresh_span && (are_near (Some seat.turn) kept.meant && are_near kept.by seat.peer)
+is_fresh_at events (Some seat) kept =
+    nat_lt (events - kept.at) fresh_span && (are_near (Some seat.turn) kept.meant && are_near kept.by seat.peer)
 
--- The test of a running net, after so many events, at the host with these seats: a packet that carries an acknowledgement is fresh
--- for the slot that it names.
+-- The test of a running net, after so many events, at the host with these seats: a packet that carries an
+-- acknowledgement is fresh for the slot that it names.
 abbrev pub may_come : ℕ → List Seat → KeptSent → Bool
-may_come events seats kept = if carries_ack (kind_of kept.packet.op) then is_fresh_at events (slice_get seats (place_of kept.packet.dst_index)) kept else true
+may_come events seats kept =
+    if carries_ack (kind_of kept.packet.op) then is_fresh_at events (slice_get seats (place_of kept.packet.dst_index))
+    kept else true
 
 -- Why a packet isn't delivered: there is none of this number, or it isn't fresh.
 abbrev pub arrival_fault : ℕ → List Seat → Option KeptSent → Option NetFault

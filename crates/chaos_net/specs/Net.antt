@@ -39,33 +39,35 @@ use Rattle.chaos_lab.specs.Laboratory.{EndView, with_written, with_read, first_a
 
 -- ---- connections, past and present
 
--- The name of a connection of a host, by which it is known for good: the place of its slot, and how many connections had that slot
--- before it.
+-- The name of a connection of a host, by which it is known for good: the place of its slot, and how many connections
+-- had that slot before it.
 pub record Name : Type 0 where
   pub place : ℕ
   pub turn : ℕ
 
--- Its index on the wire, which is used again: the place plus 1 in the low 8 bits, the slot's generation in the high 8 bits.
+-- Its index on the wire, which is used again: the place plus 1 in the low 8 bits, the slot's generation in the high 8
+-- bits.
 abbrev pub index_of : Name → ℕ
 index_of name = 256 * (name.turn % 256) + (name.place + 1)
 
--- What became of a connection: its end, which is what its host shows of it, the number of its item 0, and all that its user wrote and
--- read, the request and the OPN too; whether it asked or was asked; and its peer, where that is known: of one that was asked the
--- connection that asked, and of one that asked the connection whose OPN opened it. Uncontrolled data and answers aren't items.
+-- What became of a connection: its end, which is what its host shows of it, the number of its item 0, and all that its
+-- user wrote and read, the request and the OPN too; whether it asked or was asked; and its peer, where that is known:
+-- of one that was asked the connection that asked, and of one that asked the connection whose OPN opened it.
+-- Uncontrolled data and answers aren't items.
 pub record Story : Type 0 where
   pub end : EndView
   pub asked : Bool
   pub peer : Option Name
 
--- A packet that was sent; by which connection, or, where there is none, by the host itself; and how many items each connection of
--- either host had written by then, its own item counted.
+-- A packet that was sent; by which connection, or, where there is none, by the host itself; and how many items each
+-- connection of either host had written by then, its own item counted.
 pub record Sent : Type 0 where
   pub packet : PacketView
   pub by : Option Name
   pub lengths : Side → Name → ℕ
 
--- A host; how many connections each slot had before the present one, or the next where it is free; the story of each connection that
--- there ever was; and each packet that was ever sent, the oldest first.
+-- A host; how many connections each slot had before the present one, or the next where it is free; the story of each
+-- connection that there ever was; and each packet that was ever sent, the oldest first.
 pub record Station : Type 0 where
   pub host : HostView
   pub turn : ℕ → ℕ
@@ -114,14 +116,20 @@ peer_after None reply from = peer_by reply from
 
 -- a story after a call; from: which connection sent the packet that came
 abbrev pub goes_on : Story → Call → Option Name → Story
-goes_on s call from = record { end = end_of_call s.end call; asked = s.asked; peer = peer_after s.peer (act s.end.conn call).answer from }
+goes_on s call from =
+    record { end = end_of_call s.end call; asked = s.asked; peer = peer_after s.peer (act s.end.conn call).answer from }
 
--- a story begins by a request that is made, and is then item 0 of what was written, or by one that is taken, from its sender
+-- a story begins by a request that is made, and is then item 0 of what was written, or by one that is taken, from its
+-- sender
 abbrev pub story_of : ConnView → Call → Option Name → Option Story
 story_of conn (Request me peer contact start now) from =
-    Some (record { end = record { conn = (act conn (Request me peer contact start now)).view; first = start; written = rfc_item contact ∷ []; read = [] }; asked = true; peer = None })
+    Some
+    (record
+    { end = record { conn = (act conn (Request me peer contact start now)).view; first = start; written = rfc_item contact ∷ []; read = [] }; asked = true; peer = None })
 story_of conn (TakeRequest rfc me now) from =
-    Some (record { end = record { conn = (act conn (TakeRequest rfc me now)).view; first = 0; written = []; read = [] }; asked = false; peer = from })
+    Some
+    (record
+    { end = record { conn = (act conn (TakeRequest rfc me now)).view; first = 0; written = []; read = [] }; asked = false; peer = from })
 story_of conn call from = None
 
 abbrev pub story_after : Option Story → ConnView → Call → Option Name → Option Story
@@ -143,7 +151,8 @@ with_story stories name story one = if is_name one name then story else stories 
 abbrev pub with_turn : (ℕ → ℕ) → ℕ → ℕ → ℕ → ℕ
 with_turn turns place turn one = if one == place then turn else turns one
 
--- the connection in a slot does a call: its story goes on or begins, and where the slot is free then, the next turn comes
+-- the connection in a slot does a call: its story goes on or begins, and where the slot is free then, the next turn
+-- comes
 abbrev pub after_slot : Station → ℕ → Call → Option Name → Option Slot → Station
 after_slot st place call from None = st
 after_slot st place call from (Some slot) = record st {
@@ -180,13 +189,17 @@ abbrev pub after_event : Net → Side → HostEvent → Option Name → Net
 after_event n x event from =
     let st = moved (n x) event from in
     with_station n x (record st {
-      sent = (n x).sent ++ map (sent_by (sender (n x) (deed_of (n x).host event)) (lengths_of (with_station n x st))) (host_made (n x).host event).packets;
+      sent =
+          (n x).sent
+          ++ map (sent_by (sender (n x) (deed_of (n x).host event)) (lengths_of (with_station n x st)))
+          (host_made (n x).host event).packets;
     })
 
 -- ---- events
 
--- A user of one host makes a call, or a slot is ticked. Or a packet that the other host sent comes: that with this number, the oldest
--- being number 0. One that never comes is lost, and one may come as often as it likes, before or after any other.
+-- A user of one host makes a call, or a slot is ticked. Or a packet that the other host sent comes: that with this
+-- number, the oldest being number 0. One that never comes is lost, and one may come as often as it likes, before or
+-- after any other.
 pub data NetEvent : Type 0 where
   At : (side : Side) → (event : HostEvent) → NetEvent
   Arrives : (side : Side) → (number now : ℕ) → NetEvent
@@ -205,24 +218,28 @@ happens n (Arrives x number now) = arrives n x now (slice_get (n (other x)).sent
 abbrev pub Near : Name → Name → Type 0
 Near a b = (a.turn < b.turn + 256) × (b.turn < a.turn + 256)
 
--- A packet that c sent comes to d, the present connection that its destination index names, and s and t are their stories. It is
--- fresh: d is near the connection that was meant, which is c's peer, and c is near d's peer, so that neither index was used again;
--- and neither c nor d has written 32,640 items since it was sent, so that no 16-bit number was.
+-- A packet that c sent comes to d, the present connection that its destination index names, and s and t are their
+-- stories. It is fresh: d is near the connection that was meant, which is c's peer, and c is near d's peer, so that
+-- neither index was used again; and neither c nor d has written 32,640 items since it was sent, so that no 16-bit
+-- number was.
 pub record IsFreshFor (x : Side) (q : Sent) (c d : Name) (s t : Story) : Type 0 where
   pub meant : (m : Name) → s.peer ≡ Some m → Near d m
   pub peer : (e : Name) → t.peer ≡ Some e → Near c e
   pub sender : length s.end.written < q.lengths (other x) c + fresh_span
   pub receiver : length t.end.written < q.lengths x d + fresh_span
 
--- So it is with each packet that carries an acknowledgement: an OPN, data, an EOF, an SNS or an STS. All others may be of any age.
+-- So it is with each packet that carries an acknowledgement: an OPN, data, an EOF, an SNS or an STS. All others may be
+-- of any age.
 abbrev pub IsFresh : Net → Side → Sent → Type 0
 IsFresh n x q =
     carries_ack (kind_of q.packet.op) ≡ true →
-    (c d : Name) (s t : Story) → q.by ≡ Some c → (n (other x)).story c ≡ Some s → (n x).turn d.place ≡ d.turn → (n x).story d ≡ Some t → q.packet.dst_index ≡ index_of d → IsFreshFor x q c d s t
+    (c d : Name) (s t : Story) → q.by ≡ Some c → (n (other x)).story c ≡ Some s → (n x).turn d.place ≡ d.turn
+    → (n x).story d ≡ Some t → q.packet.dst_index ≡ index_of d → IsFreshFor x q c d s t
 
 -- ---- runs
 
--- What users and clocks make: any event of a host but that a packet comes. A connect numbers its items from a 16-bit number on.
+-- What users and clocks make: any event of a host but that a packet comes. A connect numbers its items from a 16-bit
+-- number on.
 abbrev pub IsOwn : HostEvent → Type 0
 IsOwn (Comes packet now) = ⊥
 IsOwn (Connects peer contact start now) = start < 65536
@@ -245,7 +262,8 @@ Run n (event ∷ events) m = CanHappen n event × Run (happens n event) events m
 
 -- a new host, which has had no connection and sent nothing
 abbrev pub new_station : ℕ → ℕ → ConfigView → Station
-new_station address conns config = record { host = new_host address conns config; turn = λ _. 0; story = λ _. None; sent = [] }
+new_station address conns config =
+    record { host = new_host address conns config; turn = λ _. 0; story = λ _. None; sent = [] }
 
 pub record IsNew (st : Station) : Type 0 where
   pub address : ℕ
@@ -265,8 +283,9 @@ pub record Reached (n : Net) : Type 0 where
 
 -- ---- the law
 
--- What a connection has read begins what its peer has written, which is a connection of the other host. Both name each other. Or
--- this one was asked, its peer was opened by another or by none yet, and it has read no more than the request.
+-- What a connection has read begins what its peer has written, which is a connection of the other host. Both name each
+-- other. Or this one was asked, its peer was opened by another or by none yet, and it has read no more than the
+-- request.
 pub record HoldsWith (n : Net) (x : Side) (name : Name) (s : Story) (peer : Name) : Type 0 where
   pub story : Story
   pub there : (n (other x)).story peer ≡ Some story

@@ -11,7 +11,8 @@ new_seat = record { turn = 0; peer = None }
 
 -- a new host, which has sent nothing
 abbrev pub station_of : HostKind → StationView
-station_of kind = record { host = new_host kind.address kind.conns kind.config; seats = replicate kind.conns new_seat; sent = [] }
+station_of kind =
+    record { host = new_host kind.address kind.conns kind.config; seats = replicate kind.conns new_seat; sent = [] }
 
 abbrev pub new_view : HostKind → HostKind → NetView
 new_view a b = record { a = station_of a; b = station_of b; events = 0 }

@@ -1,4 +1,5 @@
--- What holds of every net of two hosts: each pair of a connection that asked and one of the other host is played by a laboratory.
+-- What holds of every net of two hosts: each pair of a connection that asked and one of the other host is played by a
+-- laboratory.
 use Rattle.std.specs.Prelude.{◌≡◌, ℕ, ◌%◌, ◌<◌, ◌≤◌, Bool, true, false, List, [], length, Option, Some, None, option_map, slice_get, ⊤, ◌⊎◌}
 use Rattle.chaos_packet.specs.Begins.{Begins}
 use Rattle.chaos_packet.specs.Number.{num}
@@ -72,9 +73,10 @@ pub record HasRequest (l : LabView) : Type 0 where
   pub len_a : copy.len_a ≡ 1
   pub len_b : copy.len_b ≡ 0
 
--- A laboratory whose A is the connection asker of side x, and whose B is the connection taker of the other side where that took its
--- request, and else new. r and t are their stories, and from_r and from_t what both sides sent.
-pub record IsPlayed (x : Side) (asker taker : Name) (r : Story) (t : Option Story) (from_r from_t : List Sent) (config : ConfigView) (l : LabView) : Type 0 where
+-- A laboratory whose A is the connection asker of side x, and whose B is the connection taker of the other side where
+-- that took its request, and else new. r and t are their stories, and from_r and from_t what both sides sent.
+pub record IsPlayed (x : Side) (asker taker : Name) (r : Story) (t : Option Story) (from_r from_t : List Sent)
+    (config : ConfigView) (l : LabView) : Type 0 where
   pub machine : HasMachine l
   pub first : l.a.first ≡ r.end.first
   pub linked : IsLinked r.peer taker → IsEnd A r.end l.a
@@ -83,8 +85,12 @@ pub record IsPlayed (x : Side) (asker taker : Name) (r : Story) (t : Option Stor
   pub new : (Takes t asker → ⊥) → (l.asked ≡ false) × (l.b.conn.config ≡ config) × (l.b.first ≡ 0)
   pub request : HasRequest l
   -- what the asker sent to the taker, and the taker to the asker
-  pub sent_a : (k : ℕ) (q : Sent) → slice_get from_r k ≡ Some q → q.by ≡ Some asker → carries_ack (kind_of q.packet.op) ≡ true → r.peer ≡ Some taker → InLab l A q.packet (q.lengths x asker) (q.lengths (other x) taker)
-  pub sent_b : (k : ℕ) (q : Sent) → slice_get from_t k ≡ Some q → q.by ≡ Some taker → carries_ack (kind_of q.packet.op) ≡ true → Takes t asker → IsLinked r.peer taker → InLab l B q.packet (q.lengths x asker) (q.lengths (other x) taker)
+  pub sent_a : (k : ℕ) (q : Sent) → slice_get from_r k ≡ Some q → q.by ≡ Some asker
+      → carries_ack (kind_of q.packet.op) ≡ true → r.peer ≡ Some taker
+      → InLab l A q.packet (q.lengths x asker) (q.lengths (other x) taker)
+  pub sent_b : (k : ℕ) (q : Sent) → slice_get from_t k ≡ Some q → q.by ≡ Some taker
+      → carries_ack (kind_of q.packet.op) ≡ true → Takes t asker → IsLinked r.peer taker
+      → InLab l B q.packet (q.lengths x asker) (q.lengths (other x) taker)
 
 -- ---- stations
 
@@ -99,8 +105,8 @@ pub record IsNamed (own : ℕ) (name : Name) (s : Story) : Type 0 where
   pub me : s.end.conn.me ≡ record { address = own; index = index_of name }
   pub peer_index : s.end.conn.peer_index ≡ option_map index_of s.peer
 
--- One that was asked has a peer, which asked. One that asked has none, and has read nothing; or it has one, which took its request.
--- far: the other host's station
+-- One that was asked has a peer, which asked. One that asked has none, and has read nothing; or it has one, which took
+-- its request. far: the other host's station
 abbrev pub HasPeer : Station → Name → Story → Option Name → Bool → Type 0
 HasPeer far name s None asked = (asked ≡ true) × (s.end.read ≡ [])
 HasPeer far name s (Some peer) false = (t : Story) × (far.story peer ≡ Some t) × (t.asked ≡ true)
@@ -113,14 +119,16 @@ pub record IsStory (own far : Station) (name : Name) (s : Story) : Type 0 where
   pub place : name.place < 255
   pub turn : name.turn ≤ own.turn name.place
 
--- What a connection sent has its names; what carries an acknowledgement is for its peer, which it has; an RFC is its item 0.
+-- What a connection sent has its names; what carries an acknowledgement is for its peer, which it has; an RFC is its
+-- item 0.
 pub record IsSentBy (own : Station) (p : PacketView) (name : Name) : Type 0 where
   pub story : Story
   pub there : own.story name ≡ Some story
   pub src_index : p.src_index ≡ index_of name
   pub src : p.src ≡ own.host.address
   pub ack : carries_ack (kind_of p.op) ≡ true → (peer : Name) × (story.peer ≡ Some peer) × (p.dst_index ≡ index_of peer)
-  pub rfc : is_rfc (kind_of p.op) ≡ true → (story.asked ≡ true) × (p.num ≡ num story.end.first 0) × (slice_get story.end.written 0 ≡ Some (item_of p))
+  pub rfc : is_rfc (kind_of p.op) ≡ true
+      → (story.asked ≡ true) × (p.num ≡ num story.end.first 0) × (slice_get story.end.written 0 ≡ Some (item_of p))
 
 -- and what a host itself sent tells nothing
 abbrev pub IsSentOf : Station → PacketView → Option Name → Type 0
@@ -138,7 +146,9 @@ pub record IsStation (own far : Station) : Type 0 where
 
 -- each connection of this side that asked, and each name of the other
 abbrev pub ArePairs : Side → Station → Station → Type 0
-ArePairs x own far = (asker taker : Name) (r : Story) → own.story asker ≡ Some r → r.asked ≡ true → (l : LabView) × IsPlayed x asker taker r (far.story taker) own.sent far.sent far.host.config l
+ArePairs x own far =
+    (asker taker : Name) (r : Story) → own.story asker ≡ Some r → r.asked ≡ true
+    → (l : LabView) × IsPlayed x asker taker r (far.story taker) own.sent far.sent far.host.config l
 
 pub record IsSide (x : Side) (own far : Station) : Type 0 where
   pub station : IsStation own far

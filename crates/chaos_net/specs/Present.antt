@@ -36,19 +36,30 @@ pub record IsPresent (st : Station) (id : ℕ) (slot : Slot) : Type 0 where
 
 -- So it is in every net that is reached.
 abbrev pub NamedIsPresent : Type 0
-NamedIsPresent = (n : Net) (x : Side) (id : ℕ) (slot : Slot) → Reached n → named_slot (n x).host.slots id ≡ Some slot → IsPresent (n x) id slot
+NamedIsPresent =
+    (n : Net) (x : Side) (id : ℕ) (slot : Slot) → Reached n → named_slot (n x).host.slots id ≡ Some slot
+    → IsPresent (n x) id slot
 
 -- What a read of a host hands out is what its connection has read then.
 abbrev pub ReadsAreTold : Type 0
-ReadsAreTold = (n : Net) (x : Side) (id : ℕ) (item : ItemView) → Reached n → (host_call (n x).host id Read).answer ≡ Ok (Gave (Item item))
-    → read_of ((after_event n x (Calls id Read) None x).story (named (n x) id)) ≡ read_of ((n x).story (named (n x) id)) ++ item ∷ []
+ReadsAreTold =
+    (n : Net) (x : Side) (id : ℕ) (item : ItemView) → Reached n
+    → (host_call (n x).host id Read).answer ≡ Ok (Gave (Item item))
+    → read_of ((after_event n x (Calls id Read) None x).story (named (n x) id))
+    ≡ read_of ((n x).story (named (n x) id)) ++ item ∷ []
 
 -- So is what it showed in front, where a read hands nothing out.
 abbrev pub FrontIsTold : Type 0
-FrontIsTold = (n : Net) (x : Side) (id : ℕ) (item : ItemView) → Reached n → host_look (n x).host id front_of ≡ Ok (Some item) → (host_call (n x).host id FinishRead).answer ≡ Ok (Finished Done)
-    → read_of ((after_event n x (Calls id FinishRead) None x).story (named (n x) id)) ≡ read_of ((n x).story (named (n x) id)) ++ item ∷ []
+FrontIsTold =
+    (n : Net) (x : Side) (id : ℕ) (item : ItemView) → Reached n → host_look (n x).host id front_of ≡ Ok (Some item)
+    → (host_call (n x).host id FinishRead).answer ≡ Ok (Finished Done)
+    → read_of ((after_event n x (Calls id FinishRead) None x).story (named (n x) id))
+    ≡ read_of ((n x).story (named (n x) id)) ++ item ∷ []
 
 -- What a write of a host takes is what its connection has written then.
 abbrev pub WritesAreTold : Type 0
-WritesAreTold = (n : Net) (x : Side) (id op : ℕ) (bytes : List ℕ) (now number : ℕ) → Reached n → (host_call (n x).host id (Write op bytes now)).answer ≡ Ok (Wrote (Ok number))
-    → written_of ((after_event n x (Calls id (Write op bytes now)) None x).story (named (n x) id)) ≡ written_of ((n x).story (named (n x) id)) ++ record { op = op; body = bytes } ∷ []
+WritesAreTold =
+    (n : Net) (x : Side) (id op : ℕ) (bytes : List ℕ) (now number : ℕ) → Reached n
+    → (host_call (n x).host id (Write op bytes now)).answer ≡ Ok (Wrote (Ok number))
+    → written_of ((after_event n x (Calls id (Write op bytes now)) None x).story (named (n x) id))
+    ≡ written_of ((n x).story (named (n x) id)) ++ record { op = op; body = bytes } ∷ []

@@ -10,7 +10,9 @@ abbrev pub IsAnyAge : NetEvent → Type 0
 IsAnyAge (At x event) = IsOwn event
 IsAnyAge (Arrives x number now) = ⊤
 
--- Whatever at most 256 events make of two new hosts is reached: each packet that comes is fresh. So the law holds of such a run with
--- no premise on the age of packets.
+-- Whatever at most 256 events make of two new hosts is reached: each packet that comes is fresh. So the law holds of
+-- such a run with no premise on the age of packets.
 abbrev pub ShortLaw : Type 0
-ShortLaw = (start : Net) (events : List NetEvent) → IsNew (start A) → IsNew (start B) → length events ≤ 256 → AllByRecursion IsAnyAge events → Reached (after_events start events)
+ShortLaw =
+    (start : Net) (events : List NetEvent) → IsNew (start A) → IsNew (start B) → length events ≤ 256
+    → AllByRecursion IsAnyAge events → Reached (after_events start events)

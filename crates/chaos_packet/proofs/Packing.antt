@@ -14,20 +14,27 @@ length-packed (a ∷ b ∷ bs) = omega (arith, length-packed bs)
 packed_at : (bs : List ℕ) (i : ℕ) → get_or (packed bs) i 0 ≡ get_or bs (2 * i) 0 + 256 * get_or bs (2 * i + 1) 0
 packed_at [] i = refl
 packed_at (a ∷ []) zero = omega arith
-packed_at (a ∷ []) (suc i) = let even : 2 * suc i ≡ suc (suc (2 * i)) = omega arith in let odd : 2 * suc i + 1 ≡ suc (suc (2 * i + 1)) = omega arith in rw (odd, even) refl
+packed_at (a ∷ []) (suc i) =
+    let even : 2 * suc i ≡ suc (suc (2 * i)) = omega arith in let odd : 2 * suc i + 1
+    ≡ suc (suc (2 * i + 1)) = omega arith in rw (odd, even) refl
 packed_at (a ∷ b ∷ bs) zero = refl
-packed_at (a ∷ b ∷ bs) (suc i) = let even : 2 * suc i ≡ suc (suc (2 * i)) = omega arith in let odd : 2 * suc i + 1 ≡ suc (suc (2 * i + 1)) = omega arith in rw (odd, even) (packed_at bs i)
+packed_at (a ∷ b ∷ bs) (suc i) =
+    let even : 2 * suc i ≡ suc (suc (2 * i)) = omega arith in let odd : 2 * suc i + 1
+    ≡ suc (suc (2 * i + 1)) = omega arith in rw (odd, even) (packed_at bs i)
 
 -- the store of one word more, behind what stands in front
-pub packed_stored : (front ws bs : List ℕ) (m n i w : ℕ) → n ≡ m + 1 → m < length ws → i < words_for (length bs) → w ≡ get_or bs (2 * i) 0 + 256 * get_or bs (2 * i + 1) 0
+pub packed_stored : (front ws bs : List ℕ) (m n i w : ℕ) → n ≡ m + 1 → m < length ws → i < words_for (length bs)
+    → w ≡ get_or bs (2 * i) 0 + 256 * get_or bs (2 * i + 1) 0
     → take m ws ≡ front ++ take i (packed bs) → take n (set ws m w) ≡ front ++ take (i + 1) (packed bs)
 packed_stored front ws bs m n i w e room there word so_far =
     let fits : i < length (packed bs) = omega (arith, length-packed bs) in
     take-set_at ws m n w e room ∙ ap (λ l. l ++ w ∷ []) so_far ∙ append_assoc front (take i (packed bs)) (w ∷ [])
-    ∙ ap (λ v. front ++ (take i (packed bs) ++ v ∷ [])) (word ∙ sym (packed_at bs i)) ∙ ap (λ l. front ++ l) (sym (take_more (packed bs) i 0 fits))
+    ∙ ap (λ v. front ++ (take i (packed bs) ++ v ∷ [])) (word ∙ sym (packed_at bs i))
+    ∙ ap (λ l. front ++ l) (sym (take_more (packed bs) i 0 fits))
 
 -- and with an odd count, of the last
-pub packed_last_stored : (front ws bs : List ℕ) (m n i w : ℕ) → n ≡ m + 1 → m < length ws → length bs ≡ 2 * i + 1 → w ≡ get_or bs (2 * i) 0
+pub packed_last_stored : (front ws bs : List ℕ) (m n i w : ℕ) → n ≡ m + 1 → m < length ws → length bs ≡ 2 * i + 1
+    → w ≡ get_or bs (2 * i) 0
     → take m ws ≡ front ++ take i (packed bs) → take n (set ws m w) ≡ front ++ packed bs
 packed_last_stored front ws bs m n i w e room odd word so_far =
     let past : get_or bs (2 * i + 1) 0 ≡ 0 = get_or_past bs (2 * i + 1) 0 (omega arith) in
@@ -47,14 +54,17 @@ pub packed_holds : (bs : List ℕ) → ((i : ℕ) → get_or bs i 0 < 256) → H
 packed_holds bs small = record { size = length-packed bs; bytes = sym (halves-packed bs small) }
 
 -- with an odd count the last word is the last byte
-packed_last : (bs : List ℕ) → ((i : ℕ) → get_or bs i 0 < 256) → length bs % 2 ≡ 1 → get_or (packed bs) (length (packed bs) - 1) 0 / 256 ≡ 0
+packed_last : (bs : List ℕ) → ((i : ℕ) → get_or bs i 0 < 256) → length bs % 2 ≡ 1
+    → get_or (packed bs) (length (packed bs) - 1) 0 / 256 ≡ 0
 packed_last bs small odd =
-    let past : get_or bs (2 * (length (packed bs) - 1) + 1) 0 ≡ 0 = get_or_past bs (2 * (length (packed bs) - 1) + 1) 0 (omega (arith, length-packed bs)) in
+    let past : get_or bs (2 * (length (packed bs) - 1) + 1) 0 ≡ 0 =
+    get_or_past bs (2 * (length (packed bs) - 1) + 1) 0 (omega (arith, length-packed bs)) in
     omega (arith, packed_at bs (length (packed bs) - 1), small (2 * (length (packed bs) - 1)))
 
 -- ---- the words that spell a packet
 
-pub spelling_spells : (p : PacketView) → ((i : ℕ) → get_or p.body i 0 < 256) → length p.body ≤ 488 → Spells p (spelling_of p)
+pub spelling_spells : (p : PacketView) → ((i : ℕ) → get_or p.body i 0 < 256) → length p.body ≤ 488
+    → Spells p (spelling_of p)
 spelling_spells p bytes small =
     record {
       header = omega arith;
@@ -70,18 +80,22 @@ spelling_spells p bytes small =
       body = packed_holds p.body bytes;
     }
 
-pub spelling_zero : (p : PacketView) → ((i : ℕ) → get_or p.body i 0 < 256) → length p.body ≤ 488 → HasZeroHalves (spelling_of p)
+pub spelling_zero : (p : PacketView) → ((i : ℕ) → get_or p.body i 0 < 256) → length p.body ≤ 488
+    → HasZeroHalves (spelling_of p)
 spelling_zero p bytes small =
     record {
       first = omega arith;
       last = λ odd.
           let count : length p.body % 2 ≡ 1 = omega arith in
-          let place : length (spelling_of p) - 1 ≡ suc (suc (suc (suc (suc (suc (suc (suc (length (packed p.body) - 1)))))))) = omega (arith, length-packed p.body) in
+          let place : length (spelling_of p) - 1
+          ≡ suc (suc (suc (suc (suc (suc (suc (suc (length (packed p.body) - 1)))))))) =
+          omega (arith, length-packed p.body) in
           rw place (packed_last p.body bytes count);
     }
 
 -- what holds bytes with a zero free half is packed of them
-packed_only : (ws bs : List ℕ) → Holds ws bs → (length bs % 2 ≡ 1 → get_or ws (length ws - 1) 0 / 256 ≡ 0) → ws ≡ packed bs
+packed_only : (ws bs : List ℕ) → Holds ws bs → (length bs % 2 ≡ 1 → get_or ws (length ws - 1) 0 / 256 ≡ 0)
+    → ws ≡ packed bs
 packed_only [] [] h zero_last = refl
 packed_only [] (a ∷ bs) h zero_last = let size = h.size in absurd (omega arith)
 packed_only (w ∷ ws) [] h zero_last = let size = h.size in absurd (omega arith)
@@ -96,15 +110,20 @@ packed_only (w ∷ ws) (a ∷ b ∷ bs) h zero_last =
     let high : b ≡ w / 256 = ap (λ l. get_or l 1 0) h.bytes in
     let word : w ≡ a + 256 * b = omega arith in
     let size : length ws ≡ words_for (length bs) = omega (arith, h.size) in
-    let rest : ws ≡ packed bs = packed_only ws bs (record { size = size; bytes = ap (drop 2) h.bytes }) (λ odd. last_of w ws (omega arith) (zero_last (omega arith))) in
+    let rest : ws ≡ packed bs =
+    packed_only ws bs (record { size = size; bytes = ap (drop 2) h.bytes })
+    (λ odd. last_of w ws (omega arith) (zero_last (omega arith))) in
     cc
   where
-    last_of : (w : ℕ) (ws : List ℕ) → 0 < length ws → get_or (w ∷ ws) (length (w ∷ ws) - 1) 0 / 256 ≡ 0 → get_or ws (length ws - 1) 0 / 256 ≡ 0
+    last_of : (w : ℕ) (ws : List ℕ) → 0 < length ws → get_or (w ∷ ws) (length (w ∷ ws) - 1) 0 / 256 ≡ 0
+        → get_or ws (length ws - 1) 0 / 256 ≡ 0
     last_of w ws some h = let place : length (w ∷ ws) - 1 ≡ suc (length ws - 1) = omega arith in rw place at h
 
 -- eight words and what follows them
 eight_words : (ws : List ℕ) → 8 ≤ length ws
-    → ws ≡ get_or ws 0 0 ∷ get_or ws 1 0 ∷ get_or ws 2 0 ∷ get_or ws 3 0 ∷ get_or ws 4 0 ∷ get_or ws 5 0 ∷ get_or ws 6 0 ∷ get_or ws 7 0 ∷ drop 8 ws
+    → ws
+    ≡ get_or ws 0 0 ∷ get_or ws 1 0 ∷ get_or ws 2 0 ∷ get_or ws 3 0 ∷ get_or ws 4 0 ∷ get_or ws 5 0 ∷ get_or ws 6 0
+    ∷ get_or ws 7 0 ∷ drop 8 ws
 eight_words [] h = absurd (omega arith)
 eight_words (a ∷ []) h = absurd (omega arith)
 eight_words (a ∷ b ∷ []) h = absurd (omega arith)

@@ -15,25 +15,32 @@ length-pairs f g (w ∷ ws) = omega (arith, length-pairs f g ws)
 first_at : (f g : ℕ → ℕ) (ws : List ℕ) (i : ℕ) → i < length ws → get_or (pairs f g ws) (2 * i) 0 ≡ f (get_or ws i 0)
 first_at f g [] i there = absurd (omega arith)
 first_at f g (w ∷ ws) zero there = refl
-first_at f g (w ∷ ws) (suc i) there = let place : 2 * suc i ≡ suc (suc (2 * i)) = omega arith in rw place (first_at f g ws i (omega arith))
+first_at f g (w ∷ ws) (suc i) there =
+    let place : 2 * suc i ≡ suc (suc (2 * i)) = omega arith in rw place (first_at f g ws i (omega arith))
 
-second_at : (f g : ℕ → ℕ) (ws : List ℕ) (i : ℕ) → i < length ws → get_or (pairs f g ws) (2 * i + 1) 0 ≡ g (get_or ws i 0)
+second_at : (f g : ℕ → ℕ) (ws : List ℕ) (i : ℕ) → i < length ws
+    → get_or (pairs f g ws) (2 * i + 1) 0 ≡ g (get_or ws i 0)
 second_at f g [] i there = absurd (omega arith)
 second_at f g (w ∷ ws) zero there = refl
-second_at f g (w ∷ ws) (suc i) there = let place : 2 * suc i + 1 ≡ suc (suc (2 * i + 1)) = omega arith in rw place (second_at f g ws i (omega arith))
+second_at f g (w ∷ ws) (suc i) there =
+    let place : 2 * suc i + 1 ≡ suc (suc (2 * i + 1)) = omega arith in rw place (second_at f g ws i (omega arith))
 
 -- the numbers of one more word
 pub take_pair : (f g : ℕ → ℕ) (ws : List ℕ) (i : ℕ) → i < length ws
-    → take (2 * (i + 1)) (pairs f g ws) ≡ (take (2 * i) (pairs f g ws) ++ f (get_or ws i 0) ∷ []) ++ g (get_or ws i 0) ∷ []
+    → take (2 * (i + 1)) (pairs f g ws)
+    ≡ (take (2 * i) (pairs f g ws) ++ f (get_or ws i 0) ∷ []) ++ g (get_or ws i 0) ∷ []
 take_pair f g ws i there =
     let both : 2 * (i + 1) ≡ 2 * i + 1 + 1 = omega arith in
     let first : take (2 * i + 1) (pairs f g ws) ≡ take (2 * i) (pairs f g ws) ++ f (get_or ws i 0) ∷ [] =
-    take_more (pairs f g ws) (2 * i) 0 (omega (arith, length-pairs f g ws)) ∙ ap (λ b. take (2 * i) (pairs f g ws) ++ b ∷ []) (first_at f g ws i there) in
+    take_more (pairs f g ws) (2 * i) 0 (omega (arith, length-pairs f g ws))
+    ∙ ap (λ b. take (2 * i) (pairs f g ws) ++ b ∷ []) (first_at f g ws i there) in
     ap (λ n. take n (pairs f g ws)) both ∙ take_more (pairs f g ws) (2 * i + 1) 0 (omega (arith, length-pairs f g ws))
-    ∙ ap (λ b. take (2 * i + 1) (pairs f g ws) ++ b ∷ []) (second_at f g ws i there) ∙ ap (λ front. front ++ g (get_or ws i 0) ∷ []) first
+    ∙ ap (λ b. take (2 * i + 1) (pairs f g ws) ++ b ∷ []) (second_at f g ws i there)
+    ∙ ap (λ front. front ++ g (get_or ws i 0) ∷ []) first
 
 -- two stores at the end of what was written
-pub take_stored : (bs : List ℕ) (m n a b : ℕ) → n ≡ m + 2 → m + 1 < length bs → take n (set (set bs m a) (m + 1) b) ≡ (take m bs ++ a ∷ []) ++ b ∷ []
+pub take_stored : (bs : List ℕ) (m n a b : ℕ) → n ≡ m + 2 → m + 1 < length bs
+    → take n (set (set bs m a) (m + 1) b) ≡ (take m bs ++ a ∷ []) ++ b ∷ []
 take_stored bs m n a b e fits =
     let inner : take (m + 1) (set bs m a) ≡ take m bs ++ a ∷ [] = take-set_at bs m (m + 1) a refl (omega arith) in
     let room : m + 1 < length (set bs m a) = simp length-set fits in
@@ -43,14 +50,17 @@ pub length-stored : (bs : List ℕ) (i j a b : ℕ) → length (set (set bs i a)
 length-stored bs i j a b = simp length-set
 
 -- so the stores of one more word go on with the numbers, behind what stands in front
-pub pair_stored : (f g : ℕ → ℕ) (front bs ws : List ℕ) (m n i : ℕ) → n ≡ m + 2 → i < length ws → m + 1 < length bs → take m bs ≡ front ++ take (2 * i) (pairs f g ws)
-    → take n (set (set bs m (f (get_or ws i 0))) (m + 1) (g (get_or ws i 0))) ≡ front ++ take (2 * (i + 1)) (pairs f g ws)
+pub pair_stored : (f g : ℕ → ℕ) (front bs ws : List ℕ) (m n i : ℕ) → n ≡ m + 2 → i < length ws → m + 1 < length bs
+    → take m bs ≡ front ++ take (2 * i) (pairs f g ws)
+    → take n (set (set bs m (f (get_or ws i 0))) (m + 1) (g (get_or ws i 0)))
+    ≡ front ++ take (2 * (i + 1)) (pairs f g ws)
 pair_stored f g front bs ws m n i e there fits so_far =
     let first = f (get_or ws i 0) in
     let second = g (get_or ws i 0) in
     let before = take (2 * i) (pairs f g ws) in
     take_stored bs m n first second e fits ∙ ap (λ l. (l ++ first ∷ []) ++ second ∷ []) so_far
-    ∙ ap (λ l. l ++ second ∷ []) (append_assoc front before (first ∷ [])) ∙ append_assoc front (before ++ first ∷ []) (second ∷ [])
+    ∙ ap (λ l. l ++ second ∷ []) (append_assoc front before (first ∷ []))
+    ∙ append_assoc front (before ++ first ∷ []) (second ∷ [])
     ∙ ap (λ l. front ++ l) (sym (take_pair f g ws i there))
 
 -- lists that begin alike begin alike up to any place before

@@ -80,8 +80,11 @@ packed (a ∷ b ∷ bs) = (a + 256 * b) ∷ packed bs
 
 -- the header of a packet, with a zero free half
 abbrev pub header_of : PacketView → List ℕ
-header_of p = 256 * p.op ∷ (4096 * p.fwd + length p.body) ∷ p.dst ∷ p.dst_index ∷ p.src ∷ p.src_index ∷ p.num ∷ p.ack ∷ []
+header_of p =
+    256 * p.op ∷ (4096 * p.fwd + length p.body) ∷ p.dst ∷ p.dst_index ∷ p.src ∷ p.src_index ∷ p.num ∷ p.ack ∷ []
 
 -- the words that spell a packet, with zero free halves
 abbrev pub spelling_of : PacketView → List ℕ
-spelling_of p = 256 * p.op ∷ (4096 * p.fwd + length p.body) ∷ p.dst ∷ p.dst_index ∷ p.src ∷ p.src_index ∷ p.num ∷ p.ack ∷ packed p.body
+spelling_of p =
+    256 * p.op ∷ (4096 * p.fwd + length p.body) ∷ p.dst ∷ p.dst_index ∷ p.src ∷ p.src_index ∷ p.num ∷ p.ack
+    ∷ packed p.body

@@ -38,20 +38,26 @@ both true false e = absurd (cc)
 both false b e = absurd (cc)
 
 can_both : (v : ConnView) → can_write v ≡ true → CanWrite v
-can_both v e = let parts = both (has_window v.send) (is_open v.state) e in record { is_in = only_open v.state parts.1; window = parts.0 }
+can_both v e =
+    let parts = both (has_window v.send) (is_open v.state)
+    e in record { is_in = only_open v.state parts.1; window = parts.0 }
 
 -- what a read leaves: the state and the send window
 pub record Leaves (v w : ConnView) : Type 0 where
   pub state : w.state ≡ v.state
   pub send : w.send ≡ v.send
 
-told_or_not : (b : Bool) (v : ConnView) (item : ItemView) → Leaves v (if b then with_sts v (end.Item item) else quietly v (end.Item item)).view
+told_or_not : (b : Bool) (v : ConnView) (item : ItemView)
+    → Leaves v (if b then with_sts v (end.Item item) else quietly v (end.Item item)).view
 told_or_not true v item = record { state = refl; send = refl }
 told_or_not false v item = record { state = refl; send = refl }
 
 leaves_at : (v : ConnView) (front : Option ItemView) → Leaves v (read_at_open v front).view
 leaves_at v None = record { state = refl; send = refl }
-leaves_at v (Some item) = let l = told_or_not _ (record v { recv = Rattle.chaos_window.specs.Receive.after_advance v.recv; untold = v.untold + 1 }) item in record { state = l.state; send = l.send }
+leaves_at v (Some item) =
+    let l = told_or_not _
+    (record v { recv = Rattle.chaos_window.specs.Receive.after_advance v.recv; untold = v.untold + 1 })
+    item in record { state = l.state; send = l.send }
 
 pub read_leaves : (v : ConnView) → v.state ≡ st.Open → Leaves v (act_read v).view
 read_leaves v e =
@@ -61,12 +67,14 @@ read_leaves v e =
     rw (opening, opened) l
 
 -- an end that can write takes at most MAX_DATA bytes
-write_taken : (v : ConnView) (bytes : List ℕ) (now : ℕ) → v.state ≡ st.Open → has_window v.send ≡ true → length bytes ≤ MAX_DATA → (act_write v op_data bytes now).answer ≡ Ok (next_of v.send)
+write_taken : (v : ConnView) (bytes : List ℕ) (now : ℕ) → v.state ≡ st.Open → has_window v.send ≡ true
+    → length bytes ≤ MAX_DATA → (act_write v op_data bytes now).answer ≡ Ok (next_of v.send)
 write_taken v bytes now state window short =
     let fits : nat_lt MAX_DATA (length bytes) ≡ false = grind (arith, nat_tests) in
     rw state (rw fits (rw window refl))
 
-pub reply_taken : (v : ConnView) (reply : List ℕ) (now : ℕ) → can_write v ≡ true → length reply ≤ MAX_DATA → (reply_write v reply now).answer ≡ Wrote (Ok (next_of v.send))
+pub reply_taken : (v : ConnView) (reply : List ℕ) (now : ℕ) → can_write v ≡ true → length reply ≤ MAX_DATA
+    → (reply_write v reply now).answer ≡ Wrote (Ok (next_of v.send))
 reply_taken v reply now can short =
     let w = can_both v can in
     let l = read_leaves v w.is_in in

@@ -25,7 +25,8 @@ after_reply_at h id reply now = record {
 }
 
 abbrev pub after_eof_at : HostView → ℕ → HostActed Served
-after_eof_at h id = record { view = (host_call h id FinishRead).view; packets = (host_call h id FinishRead).packets; answer = told.Eof }
+after_eof_at h id =
+    record { view = (host_call h id FinishRead).view; packets = (host_call h id FinishRead).packets; answer = told.Eof }
 
 -- what is to be done at the connection with an own index, where there is one
 abbrev pub work_at : HostView → ℕ → Option Work
@@ -41,10 +42,13 @@ abbrev pub can_serve : HostView → ℕ → Bool
 can_serve h id = is_served (work_at h id)
 
 -- what serving does, told by those calls
-abbrev pub DoesWorkByCalls : StoreChange → SessionView → SessionView → (HostActed Served → Type 0) → HostView → ℕ → ℕ → Option Work → Type 0
+abbrev pub DoesWorkByCalls : StoreChange → SessionView → SessionView → (HostActed Served → Type 0) → HostView → ℕ → ℕ
+    → Option Work → Type 0
 DoesWorkByCalls store s t does h id now None = IsUnused store s t × does (no_effect h told.NoSuchConnection)
-DoesWorkByCalls store s t does h id now (Some (NotOpen state)) = IsUnused store s t × does (no_effect h (told.Ended state))
+DoesWorkByCalls store s t does h id now (Some (NotOpen state)) =
+    IsUnused store s t × does (no_effect h (told.Ended state))
 DoesWorkByCalls store s t does h id now (Some Nothing) = IsUnused store s t × does (no_effect h told.Idle)
 DoesWorkByCalls store s t does h id now (Some Full) = IsUnused store s t × does (no_effect h told.NoRoom)
 DoesWorkByCalls store s t does h id now (Some LastItem) = IsUnused store s t × does (after_eof_at h id)
-DoesWorkByCalls store s t does h id now (Some (Command body)) = (reply : List ℕ) × IsAnswered store s t body reply × does (after_reply_at h id reply now)
+DoesWorkByCalls store s t does h id now (Some (Command body)) =
+    (reply : List ℕ) × IsAnswered store s t body reply × does (after_reply_at h id reply now)

@@ -23,12 +23,15 @@ in_slot h place slot acted = record {
 }
 
 -- the connection in a slot is served, where there is one
-abbrev pub DoesWorkInSlot : StoreChange → SessionView → SessionView → (HostActed Served → Type 0) → HostView → ℕ → ℕ → Option Slot → Type 0
+abbrev pub DoesWorkInSlot : StoreChange → SessionView → SessionView → (HostActed Served → Type 0) → HostView → ℕ → ℕ
+    → Option Slot → Type 0
 DoesWorkInSlot store s t does h place now None = IsUnused store s t × does (no_effect h told.NoSuchConnection)
 DoesWorkInSlot store s t does h place now (Some slot) =
     DoesWork store s t (λ acted. does (in_slot h place slot acted)) slot.conn now (work_of slot.conn)
 
 -- the connection with an own index is served
-abbrev pub ServesOne : StoreChange → SessionView → SessionView → HostView → ℕ → ℕ → HostView → OutboxView → OutboxView → Served → Type 0
+abbrev pub ServesOne : StoreChange → SessionView → SessionView → HostView → ℕ → ℕ → HostView → OutboxView → OutboxView
+    → Served → Type 0
 ServesOne store s t old id now new before after answer =
-    DoesWorkInSlot store s t (λ acted. HostDoes old 2 acted new before after answer) old (place_of id) now (named_slot old.slots id)
+    DoesWorkInSlot store s t (λ acted. HostDoes old 2 acted new before after answer) old (place_of id) now
+    (named_slot old.slots id)

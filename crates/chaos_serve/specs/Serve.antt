@@ -37,10 +37,12 @@ DoesWork store s t does v now (NotOpen state) = IsUnused store s t × does (quie
 DoesWork store s t does v now Nothing = IsUnused store s t × does (quietly v told.Idle)
 DoesWork store s t does v now Full = IsUnused store s t × does (quietly v told.NoRoom)
 DoesWork store s t does v now LastItem = IsUnused store s t × does (after_eof v)
-DoesWork store s t does v now (Command body) = (reply : List ℕ) × IsAnswered store s t body reply × does (after_reply v reply now)
+DoesWork store s t does v now (Command body) =
+    (reply : List ℕ) × IsAnswered store s t body reply × does (after_reply v reply now)
 
 -- An end did this: at most two packets went out, and the configuration stayed.
-pub record ActsTwice (old : ConnView) (acted : Acted Served) (new : ConnView) (before after : OutboxView) (answer : Served) : Type 0 where
+pub record ActsTwice (old : ConnView) (acted : Acted Served) (new : ConnView) (before after : OutboxView)
+    (answer : Served) : Type 0 where
   pub view : new ≡ acted.view
   pub packets : after ≡ with_put before acted.packets
   pub answers : answer ≡ acted.answer
@@ -48,7 +50,8 @@ pub record ActsTwice (old : ConnView) (acted : Acted Served) (new : ConnView) (b
   pub config : new.config ≡ old.config
 
 -- the end of a connection is served
-abbrev pub ServesConn : StoreChange → SessionView → SessionView → ConnView → ℕ → ConnView → OutboxView → OutboxView → Served → Type 0
+abbrev pub ServesConn : StoreChange → SessionView → SessionView → ConnView → ℕ → ConnView → OutboxView → OutboxView
+    → Served → Type 0
 ServesConn store s t old now new before after answer =
     DoesWork store s t (λ acted. ActsTwice old acted new before after answer) old now (work_of old)
 

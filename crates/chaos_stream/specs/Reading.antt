@@ -18,8 +18,8 @@ pub data Sight : Type 0 where
   Bytes : (bytes : List ℕ) → Sight
   Eof Nothing Ended : Sight
 
--- what an item of a kind shows, with the bytes that are left of it. One that is neither data nor an EOF says nothing to a
--- stream's user, so it shows no bytes; no such item is ever there to be read.
+-- what an item of a kind shows, with the bytes that are left of it. One that is neither data nor an EOF says nothing to
+-- a stream's user, so it shows no bytes; no such item is ever there to be read.
 abbrev pub item_sight : Kind → List ℕ → Sight
 item_sight kind.Data rest = Bytes rest
 item_sight kind.Eof rest = Eof
@@ -65,7 +65,8 @@ abbrev pub consume_of : ConnView → ℕ → ℕ → Consumed
 consume_of v place count = if uses_up (peek_of v place) count then after_item v else at_place v (place + count)
 
 -- A call consumed this many bytes: the place after it, the end, and the outbox.
-pub record Consumes (old : ConnView) (old_place count : ℕ) (new_place : ℕ) (new : ConnView) (before after : OutboxView) : Type 0 where
+pub record Consumes (old : ConnView) (old_place count : ℕ) (new_place : ℕ) (new : ConnView)
+    (before after : OutboxView) : Type 0 where
   pub place : new_place ≡ (consume_of old old_place count).place
   pub view : new ≡ (consume_of old old_place count).view
   pub packets : after ≡ with_put before (consume_of old old_place count).packets
@@ -85,9 +86,11 @@ abbrev pub passed_text : Kind → List ℕ → List Symbol
 passed_text kind.Data bytes = bytes_text bytes
 passed_text _ bytes = []
 
--- The text of some items that were read, at least one, and then of the bytes that were passed over in the item in front, and then
--- what a look shows from there on, are the text of those items and the one in front.
+-- The text of some items that were read, at least one, and then of the bytes that were passed over in the item in
+-- front, and then what a look shows from there on, are the text of those items and the one in front.
 abbrev pub LooksFollowText : Type 0
 LooksFollowText =
     (read : List ItemView) (front : ItemView) (place : ℕ) → 0 < length read
-    → text_of (read ++ front ∷ []) ≡ text_of read ++ passed_text (kind_of front.op) (take place front.body) ++ sight_text (item_sight (kind_of front.op) (drop place front.body))
+    → text_of (read ++ front ∷ [])
+    ≡ text_of read ++ passed_text (kind_of front.op) (take place front.body)
+    ++ sight_text (item_sight (kind_of front.op) (drop place front.body))

@@ -51,7 +51,8 @@ abbrev pub put_cuts : ConnView → OutboxView → ℕ → List (List ℕ) → Pu
 put_cuts v out now [] = record { view = v; out = out; taken = 0 }
 put_cuts v out now (cut ∷ cuts) =
     if can_put v out then
-    after_taking (length cut) (put_cuts (act v (Write op_data cut now)).view (with_put out (act v (Write op_data cut now)).packets) now cuts)
+    after_taking (length cut)
+    (put_cuts (act v (Write op_data cut now)).view (with_put out (act v (Write op_data cut now)).packets) now cuts)
     else record { view = v; out = out; taken = 0 }
 
 -- bytes written as data, a cut a packet
@@ -59,7 +60,8 @@ abbrev pub put_of : ConnView → OutboxView → List ℕ → ℕ → Put
 put_of v out bytes now = put_cuts v out now (cuts_of bytes)
 
 -- A call put these bytes: the end after it, the outbox, and its answer.
-pub record Puts (old : ConnView) (before : OutboxView) (bytes : List ℕ) (now : ℕ) (new : ConnView) (after : OutboxView) (taken : ℕ) : Type 0 where
+pub record Puts (old : ConnView) (before : OutboxView) (bytes : List ℕ) (now : ℕ) (new : ConnView) (after : OutboxView)
+    (taken : ℕ) : Type 0 where
   pub view : new ≡ (put_of old before bytes now).view
   pub out : after ≡ (put_of old before bytes now).out
   pub taken_is : taken ≡ (put_of old before bytes now).taken

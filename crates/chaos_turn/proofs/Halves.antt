@@ -31,50 +31,75 @@ work_in_both waiting xs ys None = sym (has_before (waiting ∷ xs) ys)
 work_in_both waiting xs ys (Some read) = refl
 
 -- the lots of both halves went out after what came
-queue_of_both : (carriage : Carriage) (q0 q1 q2 : Option QueueView) (waiting : List PacketView) (xs ys : List (List PacketView)) (came : Arrival)
-    → IfSome q0 (λ queue. (came ≡ arrival_from (sent_into queue (datagrams_of carriage waiting))) × (q1 ≡ Some (queue_after carriage queue waiting xs)))
+queue_of_both : (carriage : Carriage) (q0 q1 q2 : Option QueueView) (waiting : List PacketView)
+    (xs ys : List (List PacketView)) (came : Arrival)
+    → IfSome q0
+    (λ queue. (came ≡ arrival_from (sent_into queue (datagrams_of carriage waiting)))
+    × (q1 ≡ Some (queue_after carriage queue waiting xs)))
     → Sends q1 (sent_by carriage ([] ∷ ys)) q2
-    → IfSome q0 (λ queue. (came ≡ arrival_from (sent_into queue (datagrams_of carriage waiting))) × (q2 ≡ Some (queue_after carriage queue waiting (xs ++ ys))))
+    → IfSome q0
+    (λ queue. (came ≡ arrival_from (sent_into queue (datagrams_of carriage waiting)))
+    × (q2 ≡ Some (queue_after carriage queue waiting (xs ++ ys))))
 queue_of_both carriage None q1 q2 waiting xs ys came first last = tt
 queue_of_both carriage (Some queue) q1 q2 waiting xs ys came first last =
-    let late : Sends q1 (sent_by carriage ys) q2 = subst (λ (ds : List (List ℕ)). Sends q1 ds q2) (empty_lot carriage ys) last in
+    let late : Sends q1 (sent_by carriage ys) q2 =
+    subst (λ (ds : List (List ℕ)). Sends q1 ds q2) (empty_lot carriage ys) last in
     (first.0, sends_both carriage (Some (without_first (sent_into queue (datagrams_of carriage waiting)))) q1 q2 xs ys first.1 late)
 
 -- a client's turn is its two halves, with nothing between them
-pub both_halves : (carriage kept : Carriage) (now : ℕ) (a b c : Station HostView) (worked : Bool) (answer : Option HostDelivered) (result : TurnEnd)
-    → kept ≡ carriage → RunsArrival carriage now a b worked answer → b.outbox.packets ≡ [] → RunsTicks kept now b c worked result → RunsClientTurn carriage now a c result answer
+pub both_halves : (carriage kept : Carriage) (now : ℕ) (a b c : Station HostView) (worked : Bool)
+    (answer : Option HostDelivered) (result : TurnEnd)
+    → kept ≡ carriage → RunsArrival carriage now a b worked answer → b.outbox.packets ≡ []
+    → RunsTicks kept now b c worked result → RunsClientTurn carriage now a c result answer
 both_halves carriage kept now a b c worked answer result still one nothing ticks =
-    let two : RunsTicks carriage now b c worked result = subst (λ (k : Carriage). RunsTicks k now b c worked result) still ticks in
+    let two : RunsTicks carriage now b c worked result =
+    subst (λ (k : Carriage). RunsTicks k now b c worked result) still ticks in
     let h = (arrive_at_client one.came now a.node).host in
     let first = (arrive_at_client one.came now a.node).lots in
     let last = (over_slots (tick_at now) (length a.node.slots) h).lots in
     let same : tick_all now b.node ≡ over_slots (tick_at now) (length a.node.slots) h
-    = ap (λ n. over_slots (tick_at now) n b.node) one.size ∙ ap (over_slots (tick_at now) (length a.node.slots)) one.host in
+    =
+    ap (λ n. over_slots (tick_at now) n b.node) one.size
+    ∙ ap (over_slots (tick_at now) (length a.node.slots)) one.host in
     let sends : Sends b.queue (sent_by carriage ([] ∷ last)) c.queue
-    = subst (λ e. Sends b.queue (sent_by carriage ([] ∷ e.lots)) c.queue) same (subst (λ ps. Sends b.queue (sent_by carriage (ps ∷ (tick_all now b.node).lots)) c.queue) nothing two.sends) in
+    =
+    subst (λ e. Sends b.queue (sent_by carriage ([] ∷ e.lots)) c.queue) same
+    (subst (λ ps. Sends b.queue (sent_by carriage (ps ∷ (tick_all now b.node).lots)) c.queue) nothing
+    two.sends) in
     let work : TellsWork (if worked then true else has_packets last) result
     = subst (λ e. TellsWork (if worked then true else has_packets ([] ∷ e.lots)) result) same
-    (subst (λ ps. TellsWork (if worked then true else has_packets (ps ∷ (tick_all now b.node).lots)) result) nothing two.work) in
+    (subst (λ ps. TellsWork (if worked then true else has_packets (ps ∷ (tick_all now b.node).lots)) result) nothing
+    two.work) in
     record {
       came = one.came;
       host = two.host ∙ ap (λ e. e.host) same;
       told = one.told;
       link = record {
         queue = queue_of_both carriage a.queue b.queue c.queue a.outbox.packets first last one.came one.queue sends;
-        work = subst (λ t. TellsWork t result) (ap (λ t. if t then true else has_packets last) one.work ∙ work_in_both a.outbox.packets first last one.came) work;
+        work =
+            subst (λ t. TellsWork t result)
+            (ap (λ t. if t then true else has_packets last) one.work
+            ∙ work_in_both a.outbox.packets first last one.came)
+            work;
       };
     }
 
 -- what waited was sent, and then each slot was ticked
-pub ticks_so : (carriage : Carriage) (now : ℕ) (a b : Station HostView) (q1 : Option QueueView) (empty : OutboxView) (worked waited ticked all : Bool) (result : TurnEnd)
+pub ticks_so : (carriage : Carriage) (now : ℕ) (a b : Station HostView) (q1 : Option QueueView) (empty : OutboxView)
+    (worked waited ticked all : Bool) (result : TurnEnd)
     → Sends a.queue (sent_by carriage (a.outbox.packets ∷ [])) q1 → waited ≡ has_packets (a.outbox.packets ∷ [])
-    → DoesPhase carriage (tick_all now a.node) (station a.node q1 empty) b ticked → all ≡ (if waited then true else (if ticked then true else false))
+    → DoesPhase carriage (tick_all now a.node) (station a.node q1 empty) b ticked
+    → all ≡ (if waited then true else (if ticked then true else false))
     → TellsWork (if worked then true else all) result → RunsTicks carriage now a b worked result
 ticks_so carriage now a b q1 empty worked waited ticked all result first told phase e work =
     let lots = (tick_all now a.node).lots in
     let same : all ≡ has_packets (a.outbox.packets ∷ lots)
-    = e ∙ (ap (λ (t : Bool). if waited then true else t) (or_false ticked) ∙ (ap (λ (t : Bool). if t then true else ticked) told
-    ∙ (ap (λ (t : Bool). if has_packets (a.outbox.packets ∷ []) then true else t) phase.told ∙ sym (has_before (a.outbox.packets ∷ []) lots)))) in
+    =
+    e
+    ∙ (ap (λ (t : Bool). if waited then true else t) (or_false ticked)
+    ∙ (ap (λ (t : Bool). if t then true else ticked) told
+    ∙ (ap (λ (t : Bool). if has_packets (a.outbox.packets ∷ []) then true else t) phase.told
+    ∙ sym (has_before (a.outbox.packets ∷ []) lots)))) in
     record {
       host = phase.host;
       size = phase.size;

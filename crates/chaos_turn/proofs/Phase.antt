@@ -14,12 +14,15 @@ pub put_into_empty : (out : OutboxView) (xs : List PacketView) → out.packets �
 put_into_empty out xs e = ap (λ (ps : List PacketView). ps ++ xs) e
 
 -- a phase, and another after it
-pub one_after : (carriage : Carriage) (a b c : Station HostView) (first : Effect) (next : HostView → Effect) (sent more all : Bool)
-    → DoesPhase carriage first a b sent → DoesPhase carriage (next b.node) b c more → all ≡ (if more then true else sent) → DoesPhase carriage (and_then first next) a c all
+pub one_after : (carriage : Carriage) (a b c : Station HostView) (first : Effect) (next : HostView → Effect)
+    (sent more all : Bool)
+    → DoesPhase carriage first a b sent → DoesPhase carriage (next b.node) b c more
+    → all ≡ (if more then true else sent) → DoesPhase carriage (and_then first next) a c all
 one_after carriage a b c first next sent more all one two e =
     let here : next b.node ≡ next first.host = ap next one.host in
     let out = (next first.host).lots in
-    let late : Sends b.queue (sent_by carriage out) c.queue = subst (λ (x : Effect). Sends b.queue (sent_by carriage x.lots) c.queue) here two.sends in
+    let late : Sends b.queue (sent_by carriage out) c.queue =
+    subst (λ (x : Effect). Sends b.queue (sent_by carriage x.lots) c.queue) here two.sends in
     record {
       host = two.host ∙ ap (λ (x : Effect). x.host) here;
       sends = sends_both carriage a.queue b.queue c.queue first.lots out one.sends late;
@@ -31,24 +34,40 @@ one_after carriage a b c first next sent more all one two e =
     }
 
 -- a phase, and then one over all slots, whose number stayed
-pub then_slots : (carriage : Carriage) (a b c : Station HostView) (first : Effect) (next : ℕ → HostView → Effect) (sent more all : Bool)
-    → DoesPhase carriage first a b sent → DoesPhase carriage (over_slots next (length b.node.slots) b.node) b c more → all ≡ (if more then true else sent)
+pub then_slots : (carriage : Carriage) (a b c : Station HostView) (first : Effect) (next : ℕ → HostView → Effect)
+    (sent more all : Bool)
+    → DoesPhase carriage first a b sent → DoesPhase carriage (over_slots next (length b.node.slots) b.node) b c more
+    → all ≡ (if more then true else sent)
     → DoesPhase carriage (and_then first (over_slots next (length a.node.slots))) a c all
 then_slots carriage a b c first next sent more all one two e =
-    one_after carriage a b c first (over_slots next (length a.node.slots)) sent more all one (subst (λ (n : ℕ). DoesPhase carriage (over_slots next n b.node) b c more) one.size two) e
+    one_after carriage a b c first (over_slots next (length a.node.slots)) sent more all one
+    (subst (λ (n : ℕ). DoesPhase carriage (over_slots next n b.node) b c more) one.size two) e
 
 -- a phase, and then one over all slots, and nothing more
-pub then_slots_alone : (carriage : Carriage) (a b c : Station HostView) (first : Effect) (next : ℕ → HostView → Effect) (sent more all : Bool)
-    → DoesPhase carriage first a b sent → DoesPhase carriage (over_slots next (length b.node.slots) b.node) b c more → all ≡ (if more then true else (if sent then true else false))
+pub then_slots_alone : (carriage : Carriage) (a b c : Station HostView) (first : Effect) (next : ℕ → HostView → Effect)
+    (sent more all : Bool)
+    → DoesPhase carriage first a b sent → DoesPhase carriage (over_slots next (length b.node.slots) b.node) b c more
+    → all ≡ (if more then true else (if sent then true else false))
     → DoesPhase carriage (and_then first (over_slots next (length a.node.slots))) a c all
 then_slots_alone carriage a b c first next sent more all one two e =
-    then_slots carriage a b c first next sent more all one two (e ∙ ap (λ (t : Bool). if more then true else t) (or_false sent))
+    then_slots carriage a b c first next sent more all one two
+    (e ∙ ap (λ (t : Bool). if more then true else t) (or_false sent))
 
 -- three phases in turn, each over all slots
-pub three_in_turn : (carriage : Carriage) (a b c d : Station HostView) (one two three : ℕ → HostView → Effect) (x y z all : Bool)
-    → DoesPhase carriage (over_slots one (length a.node.slots) a.node) a b x → DoesPhase carriage (over_slots two (length b.node.slots) b.node) b c y
-    → DoesPhase carriage (over_slots three (length c.node.slots) c.node) c d z → all ≡ (if z then true else (if y then true else x))
-    → DoesPhase carriage (and_then (and_then (over_slots one (length a.node.slots) a.node) (over_slots two (length a.node.slots))) (over_slots three (length a.node.slots))) a d all
+pub three_in_turn : (carriage : Carriage) (a b c d : Station HostView) (one two three : ℕ → HostView → Effect)
+    (x y z all : Bool)
+    → DoesPhase carriage (over_slots one (length a.node.slots) a.node) a b x
+    → DoesPhase carriage (over_slots two (length b.node.slots) b.node) b c y
+    → DoesPhase carriage (over_slots three (length c.node.slots) c.node) c d z
+    → all ≡ (if z then true else (if y then true else x))
+    → DoesPhase carriage
+    (and_then (and_then (over_slots one (length a.node.slots) a.node) (over_slots two (length a.node.slots)))
+    (over_slots three (length a.node.slots)))
+    a d all
 three_in_turn carriage a b c d one two three x y z all first second third e =
-    then_slots carriage a c d (and_then (over_slots one (length a.node.slots) a.node) (over_slots two (length a.node.slots))) three (if y then true else x) z all
-    (then_slots carriage a b c (over_slots one (length a.node.slots) a.node) two x y (if y then true else x) first second refl) third e
+    then_slots carriage a c d
+    (and_then (over_slots one (length a.node.slots) a.node) (over_slots two (length a.node.slots))) three
+    (if y then true else x) z all
+    (then_slots carriage a b c (over_slots one (length a.node.slots) a.node) two x y (if y then true else x) first
+    second refl)
+    third e

@@ -19,21 +19,28 @@ use Rattle.chaos_turn.specs.Link.{datagrams_of, packets_in, read_all, sent_by}
 singly : (ps : List PacketView) → EachSpelled ps → read_all (map datagram_of ps) ≡ ps
 singly [] each = refl
 singly (p ∷ ps) each =
-    ap (λ (r : Result (List PacketView) LinkFault). packets_in r ++ read_all (map datagram_of ps)) (read_one p (datagram_of p) (carried_spelling p each.0))
+    ap (λ (r : Result (List PacketView) LinkFault). packets_in r ++ read_all (map datagram_of ps))
+    (read_one p (datagram_of p) (carried_spelling p each.0))
     ∙ ap (λ (qs : List PacketView). p ∷ qs) (singly ps each.1)
 
 -- of the datagram of a load its packets are read
-module _ (load : List PacketView) (fits : fit_together load ≡ true) (each : EachSpelled load) (others : List (List ℕ)) where
-  load_read : read_all (datagram_of_all load ∷ others) ≡ load ++ read_all others
-  load_read =
-      ap (λ (r : Result (List PacketView) LinkFault). packets_in r ++ read_all others) (read_two load (datagram_of_all load) (carried_together load fits (spelled_in_turn load each)))
+module _ (load : List PacketView) (fits : fit_together load ≡ true) (each : EachSpelled load) (others : List (List ℕ))
+  where
+    load_read : read_all (datagram_of_all load ∷ others) ≡ load ++ read_all others
+    load_read =
+        ap (λ (r : Result (List PacketView) LinkFault). packets_in r ++ read_all others)
+        (read_two load (datagram_of_all load) (carried_together load fits (spelled_in_turn load each)))
 
-loads_read : (load ps : List PacketView) → fit_together load ≡ true → EachSpelled load → EachSpelled ps → read_all (map datagram_of_all (loads_from load ps)) ≡ load ++ ps
+loads_read : (load ps : List PacketView) → fit_together load ≡ true → EachSpelled load → EachSpelled ps
+    → read_all (map datagram_of_all (loads_from load ps)) ≡ load ++ ps
 loads_read load [] fits each others = load_read load fits each []
-loads_read load (p ∷ ps) fits each others = cond_both (joins load p) _ _ (λ loads. read_all (map datagram_of_all loads) ≡ load ++ p ∷ ps)
-    (λ with_it. loads_read (load ++ p ∷ []) ps (together load p with_it) (each_behind load p each others.0) others.1 ∙ append_assoc load (p ∷ []) ps)
+loads_read load (p ∷ ps) fits each others =
+    cond_both (joins load p) _ _ (λ loads. read_all (map datagram_of_all loads) ≡ load ++ p ∷ ps)
+    (λ with_it. loads_read (load ++ p ∷ []) ps (together load p with_it) (each_behind load p each others.0) others.1
+    ∙ append_assoc load (p ∷ []) ps)
     (λ apart. load_read load fits each (map datagram_of_all (loads_from (p ∷ []) ps))
-    ∙ ap (λ (qs : List PacketView). load ++ qs) (loads_read (p ∷ []) ps (one_fits p others.0.small) (others.0, tt) others.1))
+    ∙ ap (λ (qs : List PacketView). load ++ qs)
+    (loads_read (p ∷ []) ps (one_fits p others.0.small) (others.0, tt) others.1))
 
 lot_read : (carriage : Carriage) (lot : List PacketView) → EachSpelled lot → read_all (datagrams_of carriage lot) ≡ lot
 lot_read One lot each = singly lot each
@@ -43,11 +50,14 @@ lot_read Two (p ∷ ps) each = loads_read (p ∷ []) ps (one_fits p each.0.small
 both_read : (ds es : List (List ℕ)) → read_all (ds ++ es) ≡ read_all ds ++ read_all es
 both_read [] es = refl
 both_read (d ∷ ds) es =
-    ap (λ (ps : List PacketView). packets_in (packets_read d) ++ ps) (both_read ds es) ∙ sym (append_assoc (packets_in (packets_read d)) (read_all ds) (read_all es))
+    ap (λ (ps : List PacketView). packets_in (packets_read d) ++ ps) (both_read ds es)
+    ∙ sym (append_assoc (packets_in (packets_read d)) (read_all ds) (read_all es))
 
-pub read_back : (carriage : Carriage) (lots : List (List PacketView)) → All EachSpelled lots → read_all (sent_by carriage lots) ≡ packets_of lots
+pub read_back : (carriage : Carriage) (lots : List (List PacketView)) → All EachSpelled lots
+    → read_all (sent_by carriage lots) ≡ packets_of lots
 read_back carriage [] each = refl
 read_back carriage (lot ∷ lots) each =
     both_read (datagrams_of carriage lot) (sent_by carriage lots)
-    ∙ (ap (λ (ps : List PacketView). ps ++ read_all (sent_by carriage lots)) (lot_read carriage lot (All-head EachSpelled lot lots each))
+    ∙ (ap (λ (ps : List PacketView). ps ++ read_all (sent_by carriage lots))
+    (lot_read carriage lot (All-head EachSpelled lot lots each))
     ∙ ap (λ (ps : List PacketView). lot ++ ps) (read_back carriage lots (All-tail EachSpelled lot lots each)))

@@ -8,17 +8,22 @@ use Rattle.chaos_link.specs.Link.{QueueView, TakesOldest, ReceivesFrom}
 use Rattle.chaos_turn.specs.Arrive.{Receives}
 use Rattle.std.proofs.Math.Seq.{take-append_seam}
 
-in_front : (ds : List (List ℕ)) (cap : ℕ) (after : Option QueueView) (old new : List ℕ) (count : ℕ) (result : Result (List PacketView) LinkFault)
+in_front : (ds : List (List ℕ)) (cap : ℕ) (after : Option QueueView) (old new : List ℕ) (count : ℕ)
+    (result : Result (List PacketView) LinkFault)
     → result ≡ packets_read (take count new) → TakesOldest ds cap old new (receiving.Got count) after
     → Receives (Some result) after (record { datagrams = ds; cap = cap })
 in_front [] cap after old new count result e from = absurd (cc)
 in_front (oldest ∷ others) cap after old new count result e from =
     let many : count ≡ length oldest = cc in
-    let bytes : take count new ≡ oldest = ap (λ n. take n new) many ∙ ap (take (length oldest)) from.1 ∙ take-append_seam oldest (drop (length oldest) old) in
+    let bytes : take count new ≡ oldest =
+    ap (λ n. take n new) many ∙ ap (take (length oldest)) from.1
+    ∙ take-append_seam oldest (drop (length oldest) old) in
     (ap (λ (r : Result (List PacketView) LinkFault). Some r) (e ∙ ap packets_read bytes), from.2)
 
-pub receives : (before after : Option QueueView) (old new : List ℕ) (count : ℕ) (result : Result (List PacketView) LinkFault)
+pub receives : (before after : Option QueueView) (old new : List ℕ) (count : ℕ)
+    (result : Result (List PacketView) LinkFault)
     → result ≡ packets_read (take count new) → IfSome before (ReceivesFrom old new (receiving.Got count) after)
     → IfSome before (Receives (Some result) after)
 receives None after old new count result e from = tt
-receives (Some queue) after old new count result e from = in_front queue.datagrams queue.cap after old new count result e from
+receives (Some queue) after old new count result e from =
+    in_front queue.datagrams queue.cap after old new count result e from

@@ -13,41 +13,51 @@ use Rattle.chaos_turn.proofs.Phase.{one_after}
 use Rattle.chaos_turn.proofs.Queue.{sends_nothing, first_and_rest, none_left}
 
 -- Of these packets some were taken, and the others are left: what was done and what is left make the whole.
-pub record TakenSoFar (carriage : Carriage) (phase : PacketView → HostView → Effect) (all rest : List PacketView) (a b : Station HostView) (sent : Bool) : Type 0 where
+pub record TakenSoFar (carriage : Carriage) (phase : PacketView → HostView → Effect) (all rest : List PacketView)
+    (a b : Station HostView) (sent : Bool) : Type 0 where
   pub done : Effect
   pub does : DoesPhase carriage done a b sent
   pub whole : and_then done (over_packets phase rest) ≡ over_packets phase all a.node
 
 module _ (carriage : Carriage) (phase : PacketView → HostView → Effect) where
-  none_before : (ps : List PacketView) (h : HostView) → and_then (no_effect_on h) (over_packets phase ps) ≡ over_packets phase ps h
+  none_before : (ps : List PacketView) (h : HostView)
+      → and_then (no_effect_on h) (over_packets phase ps) ≡ over_packets phase ps h
   none_before [] h = refl
   none_before (p ∷ ps) h = refl
 
   pub none_taken : (ps : List PacketView) (a : Station HostView) → TakenSoFar carriage phase ps ps a a false
   none_taken ps a = record {
     done = no_effect_on a.node;
-    does = record { host = refl; sends = sends_nothing a.queue; outbox = refl; told = refl; config = refl; size = refl };
+    does =
+        record { host = refl; sends = sends_nothing a.queue; outbox = refl; told = refl; config = refl; size = refl };
     whole = none_before ps a.node;
   }
 
   -- the next packet is taken
   pub one_more_taken : (all rest : List PacketView) (p : PacketView) (a b c : Station HostView) (sent more now : Bool)
-      → TakenSoFar carriage phase all rest a b sent → slice_get rest 0 ≡ Some p → DoesPhase carriage (phase p b.node) b c more → now ≡ (if more then true else sent)
+      → TakenSoFar carriage phase all rest a b sent → slice_get rest 0 ≡ Some p
+      → DoesPhase carriage (phase p b.node) b c more → now ≡ (if more then true else sent)
       → TakenSoFar carriage phase all (drop 1 rest) a c now
   one_more_taken all rest p a b c sent more now so first one e =
       let left = over_packets phase (drop 1 rest) in
       let after = phase p so.done.host in
       let last = left after.host in
       let joined : and_then (and_then so.done (phase p)) left ≡ and_then so.done (over_packets phase (p ∷ drop 1 rest))
-      = ap (λ (lots : List (List PacketView)). record { host = last.host; lots = lots }) (append_assoc so.done.lots after.lots last.lots) in
+      =
+      ap (λ (lots : List (List PacketView)). record { host = last.host; lots = lots })
+      (append_assoc so.done.lots after.lots last.lots) in
       record {
         done = and_then so.done (phase p);
         does = one_after carriage a b c so.done (phase p) sent more now so.does one e;
-        whole = joined ∙ (ap (λ (ps : List PacketView). and_then so.done (over_packets phase ps)) (first_and_rest rest p first) ∙ so.whole);
+        whole =
+            joined
+            ∙ (ap (λ (ps : List PacketView). and_then so.done (over_packets phase ps)) (first_and_rest rest p first)
+            ∙ so.whole);
       }
 
   -- where none is left, the phase is done over all
-  pub all_taken : (all rest : List PacketView) (a b : Station HostView) (sent : Bool) → TakenSoFar carriage phase all rest a b sent → slice_get rest 0 ≡ None
+  pub all_taken : (all rest : List PacketView) (a b : Station HostView) (sent : Bool)
+      → TakenSoFar carriage phase all rest a b sent → slice_get rest 0 ≡ None
       → DoesPhase carriage (over_packets phase all a.node) a b sent
   all_taken all rest a b sent so none =
       let over : and_then so.done (over_packets phase rest) ≡ so.done
@@ -68,8 +78,10 @@ either_false false sent e = refl
 -- ---- what is told of the last packet
 
 -- the next packet was delivered, and what became of it was told
-pub told_more : (told told' : Option HostDelivered) (rest rest' : List PacketView) (p : PacketView) (now : ℕ) (h h' : HostView)
-    → slice_get rest 0 ≡ Some p → rest' ≡ drop 1 rest → told' ≡ Some (host_deliver h p now).answer → h' ≡ (host_deliver h p now).view
+pub told_more : (told told' : Option HostDelivered) (rest rest' : List PacketView) (p : PacketView) (now : ℕ)
+    (h h' : HostView)
+    → slice_get rest 0 ≡ Some p → rest' ≡ drop 1 rest → told' ≡ Some (host_deliver h p now).answer
+    → h' ≡ (host_deliver h p now).view
     → told_after told' rest' now h' ≡ told_after told rest now h
 told_more told told' rest rest' p now h h' first left one two =
     let acted = host_deliver h p now in

@@ -11,36 +11,49 @@ use Rattle.chaos_turn.specs.Turn.{GoesOver, has_work, queue_after}
 use Rattle.chaos_turn.specs.End.{TellsWork}
 use Rattle.chaos_turn.specs.declared.end.TurnEnd.{TurnEnd}
 
-pub has_before : (xs ys : List (List PacketView)) → has_packets (xs ++ ys) ≡ (if has_packets xs then true else has_packets ys)
+pub has_before : (xs ys : List (List PacketView))
+    → has_packets (xs ++ ys) ≡ (if has_packets xs then true else has_packets ys)
 has_before [] ys = refl
 has_before ([] ∷ xs) ys = has_before xs ys
 has_before ((p ∷ ps) ∷ xs) ys = refl
 
-pub has_all : (xs ys zs : List (List PacketView)) → has_packets (xs ++ (ys ++ zs)) ≡ (if has_packets xs then true else (if has_packets ys then true else has_packets zs))
+pub has_all : (xs ys zs : List (List PacketView))
+    → has_packets (xs ++ (ys ++ zs))
+    ≡ (if has_packets xs then true else (if has_packets ys then true else has_packets zs))
 has_all xs ys zs = has_before xs (ys ++ zs) ∙ ap (λ (t : Bool). if has_packets xs then true else t) (has_before ys zs)
 
 -- ---- over a link
 
 -- after a begin the lots of the turn were sent
-pub queue_so : (carriage : Carriage) (q0 q1 q2 : Option QueueView) (waiting : List PacketView) (lots : List (List PacketView)) (came : Arrival)
-    → IfSome q0 (λ queue. Receives came q1 (sent_into queue (datagrams_of carriage waiting))) → Sends q1 (sent_by carriage lots) q2
-    → IfSome q0 (λ queue. (came ≡ arrival_from (sent_into queue (datagrams_of carriage waiting))) × (q2 ≡ Some (queue_after carriage queue waiting lots)))
+pub queue_so : (carriage : Carriage) (q0 q1 q2 : Option QueueView) (waiting : List PacketView)
+    (lots : List (List PacketView)) (came : Arrival)
+    → IfSome q0 (λ queue. Receives came q1 (sent_into queue (datagrams_of carriage waiting)))
+    → Sends q1 (sent_by carriage lots) q2
+    → IfSome q0
+    (λ queue. (came ≡ arrival_from (sent_into queue (datagrams_of carriage waiting)))
+    × (q2 ≡ Some (queue_after carriage queue waiting lots)))
 queue_so carriage None q1 q2 waiting lots came receives last = tt
 queue_so carriage (Some queue) q1 q2 waiting lots came receives last =
     (receives.0, subst (λ (q : Option QueueView). Sends q (sent_by carriage lots) q2) receives.1 last)
 
 -- whether there was work is told of the begin and of what was sent then
 pub work_so : (worked sent : Bool) (waiting : List PacketView) (lots : List (List PacketView)) (came : Arrival)
-    → worked ≡ (if is_some came then true else has_packets (waiting ∷ [])) → sent ≡ has_packets lots → (if worked then true else sent) ≡ has_work waiting came lots
+    → worked ≡ (if is_some came then true else has_packets (waiting ∷ [])) → sent ≡ has_packets lots
+    → (if worked then true else sent) ≡ has_work waiting came lots
 work_so worked sent waiting lots None one two =
-    ap (λ (t : Bool). if t then true else sent) one ∙ (ap (λ (t : Bool). if has_packets (waiting ∷ []) then true else t) two ∙ sym (has_before (waiting ∷ []) lots))
+    ap (λ (t : Bool). if t then true else sent) one
+    ∙ (ap (λ (t : Bool). if has_packets (waiting ∷ []) then true else t) two ∙ sym (has_before (waiting ∷ []) lots))
 work_so worked sent waiting lots (Some read) one two = ap (λ (t : Bool). if t then true else sent) one
 
 -- a turn that began so, and in which these lots were sent
-pub goes_over : {N : Type 0} → (carriage : Carriage) (before after : Station N) (q1 : Option QueueView) (lots : List (List PacketView)) (came : Arrival) (worked sent : Bool) (result : TurnEnd)
-    → Begins carriage before.outbox.packets before.queue q1 came worked → Sends q1 (sent_by carriage lots) after.queue → sent ≡ has_packets lots
+pub goes_over : {N : Type 0}
+    → (carriage : Carriage) (before after : Station N) (q1 : Option QueueView) (lots : List (List PacketView))
+    (came : Arrival) (worked sent : Bool) (result : TurnEnd)
+    → Begins carriage before.outbox.packets before.queue q1 came worked → Sends q1 (sent_by carriage lots) after.queue
+    → sent ≡ has_packets lots
     → TellsWork (if worked then true else sent) result → GoesOver carriage came lots before after result
 goes_over carriage before after q1 lots came worked sent result first last e told = record {
   queue = queue_so carriage before.queue q1 after.queue before.outbox.packets lots came first.queue last;
-  work = subst (λ (t : Bool). TellsWork t result) (work_so worked sent before.outbox.packets lots came first.work e) told;
+  work =
+      subst (λ (t : Bool). TellsWork t result) (work_so worked sent before.outbox.packets lots came first.work e) told;
 }

@@ -12,15 +12,18 @@ use Rattle.chaos_turn.specs.Station.{Station}
 use Rattle.chaos_turn.specs.Turn.{has_work, queue_after}
 use Rattle.chaos_turn.specs.declared.end.TurnEnd.{TurnEnd}
 
--- What waited was sent, then this came, and its packets were delivered. Whether there was work was told, and what became of the
--- last packet.
-pub record RunsArrival (carriage : Carriage) (now : ℕ) (before after : Station HostView) (worked : Bool) (answer : Option HostDelivered) : Type 0 where
+-- What waited was sent, then this came, and its packets were delivered. Whether there was work was told, and what
+-- became of the last packet.
+pub record RunsArrival (carriage : Carriage) (now : ℕ) (before after : Station HostView) (worked : Bool)
+    (answer : Option HostDelivered) : Type 0 where
   pub came : Arrival
   pub host : after.node ≡ (arrive_at_client came now before.node).host
   pub size : length after.node.slots ≡ length before.node.slots
   pub told : answer ≡ told_at_client came now before.node
-  pub queue : IfSome before.queue (λ queue. (came ≡ arrival_from (sent_into queue (datagrams_of carriage before.outbox.packets)))
-      × (after.queue ≡ Some (queue_after carriage queue before.outbox.packets (arrive_at_client came now before.node).lots)))
+  pub queue : IfSome before.queue
+      (λ queue. (came ≡ arrival_from (sent_into queue (datagrams_of carriage before.outbox.packets)))
+      × (after.queue
+      ≡ Some (queue_after carriage queue before.outbox.packets (arrive_at_client came now before.node).lots)))
   pub work : worked ≡ has_work before.outbox.packets came (arrive_at_client came now before.node).lots
 
 -- each slot is ticked
@@ -28,8 +31,11 @@ abbrev pub tick_all : ℕ → HostView → Effect
 tick_all now h = over_slots (tick_at now) (length h.slots) h
 
 -- What waited was sent, then each slot was ticked. Whether there was work, also before, was told.
-pub record RunsTicks (carriage : Carriage) (now : ℕ) (before after : Station HostView) (worked : Bool) (result : TurnEnd) : Type 0 where
+pub record RunsTicks (carriage : Carriage) (now : ℕ) (before after : Station HostView) (worked : Bool)
+    (result : TurnEnd) : Type 0 where
   pub host : after.node ≡ (tick_all now before.node).host
   pub size : length after.node.slots ≡ length before.node.slots
-  pub sends : Sends before.queue (sent_by carriage (before.outbox.packets ∷ (tick_all now before.node).lots)) after.queue
-  pub work : TellsWork (if worked then true else has_packets (before.outbox.packets ∷ (tick_all now before.node).lots)) result
+  pub sends : Sends before.queue (sent_by carriage (before.outbox.packets ∷ (tick_all now before.node).lots))
+      after.queue
+  pub work : TellsWork (if worked then true else has_packets (before.outbox.packets ∷ (tick_all now before.node).lots))
+      result

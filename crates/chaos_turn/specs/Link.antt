@@ -42,7 +42,8 @@ without_first queue = record queue { datagrams = drop 1 queue.datagrams }
 -- The law that packets sent singly in two lots are sent as one.
 abbrev pub SendsOneByOne : Type 0
 SendsOneByOne = (queue : QueueView) (xs ys : List PacketView)
-    → sent_into (sent_into queue (datagrams_of One xs)) (datagrams_of One ys) ≡ sent_into queue (datagrams_of One (xs ++ ys))
+    → sent_into (sent_into queue (datagrams_of One xs)) (datagrams_of One ys)
+    ≡ sent_into queue (datagrams_of One (xs ++ ys))
 
 -- what is read of datagrams, in order: the packets of each, and none of one that carries none
 abbrev pub packets_in : Result (List PacketView) LinkFault → List PacketView
@@ -53,6 +54,9 @@ abbrev pub read_all : List (List ℕ) → List PacketView
 read_all [] = []
 read_all (d ∷ ds) = packets_in (packets_read d) ++ read_all ds
 
--- The law that of the datagrams of either carriage the packets are read that went out, in their order, where words spell each.
+-- The law that of the datagrams of either carriage the packets are read that went out, in their order, where words
+-- spell each.
 abbrev pub IsReadBack : Type 0
-IsReadBack = (carriage : Carriage) (lots : List (List PacketView)) → All EachSpelled lots → read_all (sent_by carriage lots) ≡ packets_of lots
+IsReadBack =
+    (carriage : Carriage) (lots : List (List PacketView)) → All EachSpelled lots
+    → read_all (sent_by carriage lots) ≡ packets_of lots

@@ -34,12 +34,13 @@ abbrev pub over_packets : (PacketView → HostView → Effect) → List PacketVi
 over_packets phase [] h = no_effect_on h
 over_packets phase (p ∷ ps) h = and_then (phase p h) (over_packets phase ps)
 
--- A phase had this effect on a host at its link: its packets went into the link by this carriage, and it told whether there were
--- any. The outbox is as it was; so are the configuration and the number of slots.
-pub record DoesPhase (carriage : Carriage) (effect : Effect) (before after : Station HostView) (sent : Bool) : Type 0 where
-  pub host : after.node ≡ effect.host
-  pub sends : Sends before.queue (sent_by carriage effect.lots) after.queue
-  pub outbox : after.outbox ≡ before.outbox
-  pub told : sent ≡ has_packets effect.lots
-  pub config : after.node.config ≡ before.node.config
-  pub size : length after.node.slots ≡ length before.node.slots
+-- A phase had this effect on a host at its link: its packets went into the link by this carriage, and it told whether
+-- there were any. The outbox is as it was; so are the configuration and the number of slots.
+pub record DoesPhase (carriage : Carriage) (effect : Effect) (before after : Station HostView) (sent : Bool) : Type 0
+  where
+    pub host : after.node ≡ effect.host
+    pub sends : Sends before.queue (sent_by carriage effect.lots) after.queue
+    pub outbox : after.outbox ≡ before.outbox
+    pub told : sent ≡ has_packets effect.lots
+    pub config : after.node.config ≡ before.node.config
+    pub size : length after.node.slots ≡ length before.node.slots

@@ -3,7 +3,8 @@ use Rattle.std.specs.Prelude.{Option}
 use Rattle.chaos_packet.specs.Outbox.{OutboxView}
 use Rattle.chaos_link.specs.Link.{QueueView}
 
--- a node at its link: a host, or a host with its service; the queue that the link is, where it is one; the packets that wait to be sent
+-- a node at its link: a host, or a host with its service; the queue that the link is, where it is one; the packets that
+-- wait to be sent
 pub record Station (N : Type 0) : Type 0 where
   pub node : N
   pub queue : Option QueueView

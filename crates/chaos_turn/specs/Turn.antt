@@ -19,10 +19,11 @@ client_phases came now h = and_then (arrive_at_client came now h) (over_slots (t
 
 -- ---- the link and the outbox in a turn
 
--- What stands in a queue after a turn: what waited in the outbox was sent first, then a datagram was received, and then the lots of
--- the turn were sent.
+-- What stands in a queue after a turn: what waited in the outbox was sent first, then a datagram was received, and then
+-- the lots of the turn were sent.
 abbrev pub queue_after : Carriage → QueueView → List PacketView → List (List PacketView) → QueueView
-queue_after carriage queue waiting lots = sent_into (without_first (sent_into queue (datagrams_of carriage waiting))) (sent_by carriage lots)
+queue_after carriage queue waiting lots =
+    sent_into (without_first (sent_into queue (datagrams_of carriage waiting))) (sent_by carriage lots)
 
 -- There is work where a datagram came, or a packet went out: one that waited, or one of the turn.
 abbrev pub has_work : List PacketView → Arrival → List (List PacketView) → Bool
@@ -30,13 +31,16 @@ has_work waiting came lots = if is_some came then true else has_packets (waiting
 
 module _ {N : Type 0} where
   -- A turn over a link by this carriage, in which this came and these lots went out.
-  pub record GoesOver (carriage : Carriage) (came : Arrival) (lots : List (List PacketView)) (before after : Station N) (result : TurnEnd) : Type 0 where
-    pub queue : IfSome before.queue (λ queue. (came ≡ arrival_from (sent_into queue (datagrams_of carriage before.outbox.packets)))
+  pub record GoesOver (carriage : Carriage) (came : Arrival) (lots : List (List PacketView)) (before after : Station N)
+      (result : TurnEnd) : Type 0 where
+    pub queue : IfSome before.queue
+        (λ queue. (came ≡ arrival_from (sent_into queue (datagrams_of carriage before.outbox.packets)))
         × (after.queue ≡ Some (queue_after carriage queue before.outbox.packets lots)))
     pub work : TellsWork (has_work before.outbox.packets came lots) result
 
 -- A whole turn of a client at its link, by this carriage; what became of the last packet that came was told.
-pub record RunsClientTurn (carriage : Carriage) (now : ℕ) (before after : Station HostView) (result : TurnEnd) (answer : Option HostDelivered) : Type 0 where
+pub record RunsClientTurn (carriage : Carriage) (now : ℕ) (before after : Station HostView) (result : TurnEnd)
+    (answer : Option HostDelivered) : Type 0 where
   pub came : Arrival
   pub host : after.node ≡ (client_phases came now before.node).host
   pub told : answer ≡ told_at_client came now before.node

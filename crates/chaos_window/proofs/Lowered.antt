@@ -12,7 +12,8 @@ front_gone [] zs some = absurd (omega arith)
 front_gone (y ∷ ys) zs some = refl
 
 -- one more
-pub lowered_again : (slots : Slots) (n : ℕ) → n < length slots → lowered_slots (lowered_times n slots) ≡ lowered_times (n + 1) slots
+pub lowered_again : (slots : Slots) (n : ℕ) → n < length slots
+    → lowered_slots (lowered_times n slots) ≡ lowered_times (n + 1) slots
 lowered_again slots n more =
     ap (λ xs. xs ++ None ∷ []) (front_gone (drop n slots) (replicate n None) (omega (arith, length-drop n slots)))
     ∙ append_assoc (drop 1 (drop n slots)) (replicate n None) (None ∷ [])

@@ -8,8 +8,8 @@ use Rattle.chaos_window.specs.declared.arrival.Arrived.{Arrived}
 use Rattle.chaos_window.specs.declared.arrival.Arrived.TheVariants.{Took, Duplicate, Outside}
 use Rattle.chaos_window.specs.Slots.{Slots, slot_at, with_item_at, lowered_slots}
 
--- The most numbers that it takes; the window that its end announces, which is that or less; the number last read; and a slot
--- for each of the next cap numbers.
+-- The most numbers that it takes; the window that its end announces, which is that or less; the number last read; and a
+-- slot for each of the next cap numbers.
 pub record ReceiveView : Type 0 where
   pub cap : ℕ
   pub window : ℕ

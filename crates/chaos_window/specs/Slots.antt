@@ -1,5 +1,5 @@
--- The slots of a receive window: one for each number from the next one on, with its item where that arrived. The slot at
--- offset 1 is that of the next number.
+-- The slots of a receive window: one for each number from the next one on, with its item where that arrived. The slot
+-- at offset 1 is that of the next number.
 use Rattle.std.specs.Prelude.{ℕ, ◌-◌, ◌==◌, if◌then◌else◌, List, [], ◌∷◌, ◌++◌, drop, slice_get, slice_set, Option, Some, None, unwrap_or}
 use Rattle.chaos_packet.specs.Item.{ItemView}
 

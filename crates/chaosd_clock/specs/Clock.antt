@@ -9,7 +9,8 @@ millis_of nanos = min (nanos / 1000000) (2 ^ 64 - 1)
 
 -- The run began when the clock showed that, and its date was this.
 abbrev pub BeginsBy : (ℕ → Type 0) → (ℕ → Type 0) → Beginning → Type 0
-BeginsBy Shows Dates beginning = Shows (as_nanos beginning.start) × ((date : ℕ) × Dates date × (beginning.millis ≡ millis_of date))
+BeginsBy Shows Dates beginning =
+    Shows (as_nanos beginning.start) × ((date : ℕ) × Dates date × (beginning.millis ≡ millis_of date))
 
 -- The moment at which the clock shows that: the milliseconds since the run began, and 0 where it went back.
 abbrev pub IsMoment : (ℕ → Type 0) → Beginning → ℕ → Type 0

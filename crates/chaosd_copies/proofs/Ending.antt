@@ -37,7 +37,8 @@ not_changed (o.Unknown why) P h = tt
 not_changed o.NotTried P h = tt
 
 -- what wasn't done was no copy
-not_copied : {W : Type 0} (outcome : Outcome W) (P : Contents → Type 0) (Q : Type 0) → is_well outcome ≡ false → Q → MatchCopied outcome P Q
+not_copied : {W : Type 0} (outcome : Outcome W) (P : Contents → Type 0) (Q : Type 0) → is_well outcome ≡ false → Q
+    → MatchCopied outcome P Q
 not_copied (o.Copied contents) P Q h q = absurd (cc)
 not_copied o.Changed P Q h q = q
 not_copied (o.Garbled lost) P Q h q = q
@@ -54,9 +55,11 @@ not_copied (o.Unknown why) P Q h q = q
 not_copied o.NotTried P Q h q = q
 
 -- what came of a try that copied the file, or else missed it
-pub of_tried : {W : Type 0} (tried : Result Contents (Outcome W)) (outcome : Outcome W) (P R : Contents → Type 0) (Q : Type 0)
+pub of_tried : {W : Type 0} (tried : Result Contents (Outcome W)) (outcome : Outcome W) (P R : Contents → Type 0)
+    (Q : Type 0)
     → MatchResult tried (λ contents. outcome ≡ o.Copied contents) (λ missed. outcome ≡ missed)
-    → ((contents : Contents) → R contents → P contents) → IfOk tried R → IfErr tried (λ missed. is_well missed ≡ false) → Q
+    → ((contents : Contents) → R contents → P contents) → IfOk tried R → IfErr tried (λ missed. is_well missed ≡ false)
+    → Q
     → MatchCopied outcome P Q
 of_tried (Ok contents) outcome P R Q is f r missed q = subst (λ w. MatchCopied w P Q) (sym is) (f contents r)
 of_tried (Err m) outcome P R Q is f r missed q = subst (λ w. MatchCopied w P Q) (sym is) (not_copied m P Q missed q)

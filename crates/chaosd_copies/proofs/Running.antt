@@ -84,11 +84,15 @@ and_assoc : (a b c : Bool) → (a && (b && c)) ≡ ((a && b) && c)
 and_assoc true b c = refl
 and_assoc false b c = refl
 
-all_more : {W : Type 0} (files : List (Told W)) (file : Told W) → all_well (files ++ file ∷ []) ≡ (all_well files && is_well file.outcome)
+all_more : {W : Type 0} (files : List (Told W)) (file : Told W)
+    → all_well (files ++ file ∷ []) ≡ (all_well files && is_well file.outcome)
 all_more [] file = and_true (is_well file.outcome)
-all_more (first ∷ files) file = ap (λ b. is_well first.outcome && b) (all_more files file) ∙ and_assoc (is_well first.outcome) (all_well files) (is_well file.outcome)
+all_more (first ∷ files) file =
+    ap (λ b. is_well first.outcome && b) (all_more files file)
+    ∙ and_assoc (is_well first.outcome) (all_well files) (is_well file.outcome)
 
-names_more : {W : Type 0} (files : List (Told W)) (file : Told W) → map (λ f. f.name) (files ++ file ∷ []) ≡ map (λ f. f.name) files ++ file.name ∷ []
+names_more : {W : Type 0} (files : List (Told W)) (file : Told W)
+    → map (λ f. f.name) (files ++ file ∷ []) ≡ map (λ f. f.name) files ++ file.name ∷ []
 names_more [] file = refl
 names_more (first ∷ files) file = ap (λ names. first.name ∷ names) (names_more files file)
 
@@ -112,9 +116,12 @@ module _ {C W : Type 0} (one : C → List ℕ → Outcome W → C → Type 0) (s
     all = refl;
   }
 
-  more : (names : List (List ℕ)) (status : ExitStatus) (goes goes_then : Bool) (c d : C) (told_now : Option (List (Told W))) (name : List ℕ) (outcome : Outcome W)
-      → (run : Runs one start told names status goes c told_now) → Tries one start (run.files ++ record { name = name; outcome = outcome } ∷ []) goes_then d
-      → Runs one start told (names ++ name ∷ []) (worse status (status_of outcome)) goes_then d (told_after (record { name = name; outcome = outcome } ∷ []) told_now)
+  more : (names : List (List ℕ)) (status : ExitStatus) (goes goes_then : Bool) (c d : C)
+      (told_now : Option (List (Told W))) (name : List ℕ) (outcome : Outcome W)
+      → (run : Runs one start told names status goes c told_now)
+      → Tries one start (run.files ++ record { name = name; outcome = outcome } ∷ []) goes_then d
+      → Runs one start told (names ++ name ∷ []) (worse status (status_of outcome)) goes_then d
+      (told_after (record { name = name; outcome = outcome } ∷ []) told_now)
   more names status goes goes_then c d told_now name outcome run then =
       let file : Told W = record { name = name; outcome = outcome } in
       record {
@@ -123,16 +130,27 @@ module _ {C W : Type 0} (one : C → List ℕ → Outcome W → C → Type 0) (s
         tried = then;
         telling = ap (λ t. told_after (file ∷ []) t) run.telling ∙ told_more run.files file told;
         worst = ap (λ st. worse st (status_of outcome)) run.worst ∙ sym (worst_more s.Done run.files file);
-        all = done_worse status (status_of outcome) ∙ ap (λ b. is_done status && b) (done_well outcome) ∙ ap (λ b. b && is_well outcome) run.all ∙ sym (all_more run.files file);
+        all =
+            done_worse status (status_of outcome) ∙ ap (λ b. is_done status && b) (done_well outcome)
+            ∙ ap (λ b. b && is_well outcome) run.all ∙ sym (all_more run.files file);
       }
 
-  pub grown : (names : List (List ℕ)) (status : ExitStatus) (goes : Bool) (c d : C) (told_now : Option (List (Told W))) (name : List ℕ) (outcome : Outcome W)
+  pub grown : (names : List (List ℕ)) (status : ExitStatus) (goes : Bool) (c d : C) (told_now : Option (List (Told W)))
+      (name : List ℕ) (outcome : Outcome W)
       → MatchBool goes (one c name outcome d) ((outcome ≡ o.NotTried) × (d ≡ c))
       → Runs one start told names status goes c told_now
-      → Runs one start told (names ++ name ∷ []) (worse status (status_of outcome)) (goes_on outcome) d (told_after (record { name = name; outcome = outcome } ∷ []) told_now)
+      → Runs one start told (names ++ name ∷ []) (worse status (status_of outcome)) (goes_on outcome) d
+      (told_after (record { name = name; outcome = outcome } ∷ []) told_now)
   grown names status true c d told_now name outcome fact run =
-      more names status true (goes_on outcome) c d told_now name outcome run (tried run.files c d name outcome run.tried fact)
+      more names status true (goes_on outcome) c d told_now name outcome run
+      (tried run.files c d name outcome run.tried fact)
   grown names status false c d told_now name outcome fact run =
-      subst (λ w. Runs one start told (names ++ name ∷ []) (worse status (status_of w)) (goes_on w) d (told_after (record { name = name; outcome = w } ∷ []) told_now)) (sym fact.0)
-      (subst (λ e. Runs one start told (names ++ name ∷ []) (worse status (status_of {W = W} o.NotTried)) false e (told_after (record { name = name; outcome = o.NotTried } ∷ []) told_now)) (sym fact.1)
+      subst
+      (λ w. Runs one start told (names ++ name ∷ []) (worse status (status_of w)) (goes_on w) d
+      (told_after (record { name = name; outcome = w } ∷ []) told_now))
+      (sym fact.0)
+      (subst
+      (λ e. Runs one start told (names ++ name ∷ []) (worse status (status_of {W = W} o.NotTried)) false e
+      (told_after (record { name = name; outcome = o.NotTried } ∷ []) told_now))
+      (sym fact.1)
       (more names status false false c c told_now name o.NotTried run (left run.files c name run.tried)))

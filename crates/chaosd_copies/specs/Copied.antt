@@ -33,7 +33,8 @@ bytes_in set false bytes = bytes
 -- The last that was said and heard is all that gets this file, with the replies of a server that has these bytes.
 abbrev pub HasGot : List ℕ → List ℕ → Option Talked → Type 0
 HasGot path bytes now = (start : Option Talked)
-    × Since start now (get_commands (tids_from 1) file_handle path (length bytes)) (get_replies (tids_from 1) file_handle bytes)
+    × Since start now (get_commands (tids_from 1) file_handle path (length bytes))
+    (get_replies (tids_from 1) file_handle bytes)
 
 -- The last that was said and heard is all that puts this file, with the replies of a server that took it.
 abbrev pub HasPut : List ℕ → List ℕ → Option Talked → Type 0
@@ -56,9 +57,11 @@ contents_of true bytes = record { size = length bytes; digest = Some (sha256 byt
 contents_of false bytes = record { size = length bytes; digest = None }
 
 -- These bytes were got, and then written whole here, as a text where that is asked for.
-abbrev pub GetsWhole : List ℕ → List ℕ → Bool → Bool → Contents → Option Talked → Option (List Kept) → Option (List Kept) → Type 0
+abbrev pub GetsWhole : List ℕ → List ℕ → Bool → Bool → Contents → Option Talked → Option (List Kept)
+    → Option (List Kept) → Type 0
 GetsWhole path local is_text is_digested contents talked before after = (bytes : List ℕ) × HasGot path bytes talked
-    × (after ≡ kept_after local (bytes_in Ascii is_text bytes) before) × (contents ≡ contents_of is_digested (bytes_in Ascii is_text bytes))
+    × (after ≡ kept_after local (bytes_in Ascii is_text bytes) before)
+    × (contents ≡ contents_of is_digested (bytes_in Ascii is_text bytes))
 
 -- All that this file has here was put, as a text where that is asked for.
 abbrev pub PutsWhole : List ℕ → Option (List ℕ) → Bool → Bool → Contents → Option Talked → Type 0

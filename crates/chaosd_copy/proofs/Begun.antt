@@ -14,14 +14,17 @@ use Rattle.chaosd_copy.specs.Ends.{PutBegun, GetBegun, tids_from, write_said, wr
 use Rattle.chaosd_copy.proofs.Joined.{upto_same, since_same, next_tid}
 use Rattle.chaosd_copy.proofs.Talks.{since_then}
 
-few_upto : (a b : Option Talked) (f : ℕ → List ℕ) (k : ℕ) (rs : List (List ℕ)) (command : List ℕ) → f 0 ≡ command → k ≤ 1 → Since a b (upto f k) rs → SaidOrNot a b command
+few_upto : (a b : Option Talked) (f : ℕ → List ℕ) (k : ℕ) (rs : List (List ℕ)) (command : List ℕ) → f 0 ≡ command
+    → k ≤ 1 → Since a b (upto f k) rs → SaidOrNot a b command
 few_upto a b f zero rs command e l h = (rs, inl h)
 few_upto a b f (suc k) rs command e l h =
     let one : suc k ≡ 1 = omega arith in
     (rs, inr (subst (λ cs. Since a b cs rs) (ap (upto f) one ∙ ap (λ c. c ∷ []) e) h))
 
 -- one command, whatever came of it
-pub asked_or_not : {R F : Type 0} (items : R → List ℕ) (a b : Option Talked) (f : ℕ → List ℕ) (k : ℕ) (command : List ℕ) (result : Result (Option R) F) → f 0 ≡ command → k ≤ 1
+pub asked_or_not : {R F : Type 0} (items : R → List ℕ) (a b : Option Talked) (f : ℕ → List ℕ) (k : ℕ) (command : List ℕ)
+    (result : Result (Option R) F)
+    → f 0 ≡ command → k ≤ 1
     → IfOk result (λ r. Since a b (upto f k) ([] ++ heard_in (option_map items r)))
     → OnErr result (Since a b (upto f k) [])
     → SaidOrNot a b command
@@ -29,7 +32,8 @@ asked_or_not items a b f k command (Ok r) e l h g = few_upto a b f k _ command e
 asked_or_not items a b f k command (Err x) e l h g = few_upto a b f k _ command e l g
 
 -- some of the commands of a row
-pub said_up_to : (a b : Option Talked) (f : ℕ → List ℕ) (k m n : ℕ) (rs : List (List ℕ)) → k ≤ m → m ≡ n → Since a b (upto f k) rs → SaidUpTo a b f n
+pub said_up_to : (a b : Option Talked) (f : ℕ → List ℕ) (k m n : ℕ) (rs : List (List ℕ)) → k ≤ m → m ≡ n
+    → Since a b (upto f k) rs → SaidUpTo a b f n
 said_up_to a b f k m n rs l e h = (k, omega arith, rs, h)
 
 -- ---- a put
@@ -37,17 +41,29 @@ said_up_to a b f k m n rs l e h = (k, omega arith, rs, h)
 pub open_named : (first : ℕ) → first ≡ first + 0
 open_named first = omega arith
 
-writes_named : (first : ℕ) (bytes : List ℕ) (k : ℕ) → upto (write_said (first + 1) bytes) k ≡ upto (λ i. spelling_of (tids_from first (1 + i)) file_handle (Write (chunk bytes i))) k
-writes_named first bytes k = upto_same _ _ k (λ i m. ap (λ t. spelling_of (decimal t) file_handle (Write (chunk bytes i))) (next_tid first i))
+writes_named : (first : ℕ) (bytes : List ℕ) (k : ℕ)
+    → upto (write_said (first + 1) bytes) k
+    ≡ upto (λ i. spelling_of (tids_from first (1 + i)) file_handle (Write (chunk bytes i))) k
+writes_named first bytes k =
+    upto_same _ _ k (λ i m. ap (λ t. spelling_of (decimal t) file_handle (Write (chunk bytes i))) (next_tid first i))
 
-replies_named : (first : ℕ) (bytes : List ℕ) (k : ℕ) → upto (write_heard (first + 1) bytes) k ≡ upto (λ i. reply_of (tids_from first (1 + i)) file_handle (Wrote (min (MAX_CHUNK * (1 + i)) (length bytes)))) k
-replies_named first bytes k = upto_same _ _ k (λ i m. ap (λ t. reply_of (decimal t) file_handle (Wrote (min (MAX_CHUNK * (1 + i)) (length bytes)))) (next_tid first i))
+replies_named : (first : ℕ) (bytes : List ℕ) (k : ℕ)
+    → upto (write_heard (first + 1) bytes) k
+    ≡ upto (λ i. reply_of (tids_from first (1 + i)) file_handle (Wrote (min (MAX_CHUNK * (1 + i)) (length bytes))))
+    k
+replies_named first bytes k =
+    upto_same _ _ k
+    (λ i m. ap (λ t. reply_of (decimal t) file_handle (Wrote (min (MAX_CHUNK * (1 + i)) (length bytes))))
+    (next_tid first i))
 
-pub put_opening : (a b : Option Talked) (first : ℕ) (path bytes : List ℕ) → SaidOrNot a b (spelling_of (decimal first) file_handle (OpenWrite path))
+pub put_opening : (a b : Option Talked) (first : ℕ) (path bytes : List ℕ)
+    → SaidOrNot a b (spelling_of (decimal first) file_handle (OpenWrite path))
     → PutBegun a b (tids_from first) file_handle path bytes
 put_opening a b first path bytes (rs, inl h) = inl (rs, h)
 put_opening a b first path bytes (rs, inr h) =
-    inr (inl (0, omega arith, rs, subst (λ n. Since a b (spelling_of (decimal n) file_handle (OpenWrite path) ∷ []) rs) (open_named first) h))
+    inr
+    (inl
+    (0, omega arith, rs, subst (λ n. Since a b (spelling_of (decimal n) file_handle (OpenWrite path) ∷ []) rs) (open_named first) h))
 
 pub put_writing : (a b c : Option Talked) (first : ℕ) (path bytes reply : List ℕ)
     → Since a b (spelling_of (decimal first) file_handle (OpenWrite path) ∷ []) (reply ∷ [])
@@ -58,21 +74,31 @@ put_writing a b c first path bytes reply h (k, l, rs, g) =
       k,
       l,
       reply ∷ rs,
-      since_then a b c _ _ _ _ (subst (λ n. Since a b (spelling_of (decimal n) file_handle (OpenWrite path) ∷ []) (reply ∷ [])) (open_named first) h)
+      since_then a b c _ _ _ _
+          (subst (λ n. Since a b (spelling_of (decimal n) file_handle (OpenWrite path) ∷ []) (reply ∷ []))
+          (open_named first) h)
           (since_same b c _ _ rs rs (writes_named first bytes k) refl g),
     ))
 
 pub put_written : (a b c : Option Talked) (first : ℕ) (path bytes : List ℕ)
-    → Since a b (spelling_of (decimal first) file_handle (OpenWrite path) ∷ []) (reply_of (decimal first) file_handle (Opened 0) ∷ [])
-    → Since b c (upto (write_said (first + 1) bytes) (chunk_count (length bytes))) (upto (write_heard (first + 1) bytes) (chunk_count (length bytes)))
-    → Since a c (put_front (tids_from first) file_handle path bytes (chunk_count (length bytes))) (put_front_replies (tids_from first) file_handle bytes (chunk_count (length bytes)))
+    → Since a b (spelling_of (decimal first) file_handle (OpenWrite path) ∷ [])
+    (reply_of (decimal first) file_handle (Opened 0) ∷ [])
+    → Since b c (upto (write_said (first + 1) bytes) (chunk_count (length bytes)))
+    (upto (write_heard (first + 1) bytes) (chunk_count (length bytes)))
+    → Since a c (put_front (tids_from first) file_handle path bytes (chunk_count (length bytes)))
+    (put_front_replies (tids_from first) file_handle bytes (chunk_count (length bytes)))
 put_written a b c first path bytes h g =
     let n = chunk_count (length bytes) in
-    since_then a b c _ _ _ _ (subst (λ t. Since a b (spelling_of (decimal t) file_handle (OpenWrite path) ∷ []) (reply_of (decimal t) file_handle (Opened 0) ∷ [])) (open_named first) h)
+    since_then a b c _ _ _ _
+    (subst
+    (λ t. Since a b (spelling_of (decimal t) file_handle (OpenWrite path) ∷ [])
+    (reply_of (decimal t) file_handle (Opened 0) ∷ []))
+    (open_named first) h)
     (since_same b c _ _ _ _ (writes_named first bytes n) (replies_named first bytes n) g)
 
 put_end : (a c d : Option Talked) (first : ℕ) (path bytes : List ℕ)
-    → Since a c (put_front (tids_from first) file_handle path bytes (chunk_count (length bytes))) (put_front_replies (tids_from first) file_handle bytes (chunk_count (length bytes)))
+    → Since a c (put_front (tids_from first) file_handle path bytes (chunk_count (length bytes)))
+    (put_front_replies (tids_from first) file_handle bytes (chunk_count (length bytes)))
     → SaidOrNot c d (spelling_of (decimal (first + 1 + chunk_count (length bytes))) file_handle Close)
     → PutBegun a d (tids_from first) file_handle path bytes
 put_end a c d first path bytes h (rs, inl g) =
@@ -81,7 +107,8 @@ put_end a c d first path bytes h (rs, inl g) =
       n,
       omega arith,
       put_front_replies (tids_from first) file_handle bytes n ++ rs,
-      subst (λ cs. Since a d cs (put_front_replies (tids_from first) file_handle bytes n ++ rs)) (append-nil (put_front (tids_from first) file_handle path bytes n))
+      subst (λ cs. Since a d cs (put_front_replies (tids_from first) file_handle bytes n ++ rs))
+          (append-nil (put_front (tids_from first) file_handle path bytes n))
           (since_then a c d _ _ [] rs h g),
     ))
 put_end a c d first path bytes h (rs, inr g) =
@@ -93,22 +120,28 @@ put_end a c d first path bytes h (rs, inr g) =
     ))
 
 pub put_closing : (a b c d : Option Talked) (first : ℕ) (path bytes : List ℕ)
-    → Since a b (spelling_of (decimal first) file_handle (OpenWrite path) ∷ []) (reply_of (decimal first) file_handle (Opened 0) ∷ [])
-    → Since b c (upto (write_said (first + 1) bytes) (chunk_count (length bytes))) (upto (write_heard (first + 1) bytes) (chunk_count (length bytes)))
+    → Since a b (spelling_of (decimal first) file_handle (OpenWrite path) ∷ [])
+    (reply_of (decimal first) file_handle (Opened 0) ∷ [])
+    → Since b c (upto (write_said (first + 1) bytes) (chunk_count (length bytes)))
+    (upto (write_heard (first + 1) bytes) (chunk_count (length bytes)))
     → SaidOrNot c d (spelling_of (decimal (first + 1 + chunk_count (length bytes))) file_handle Close)
     → PutBegun a d (tids_from first) file_handle path bytes
 put_closing a b c d first path bytes h g k = put_end a c d first path bytes (put_written a b c first path bytes h g) k
 
 -- ---- a get
 
-reads_named : (first k : ℕ) → upto (read_said (first + 1)) k ≡ upto (λ i. spelling_of (tids_from first (1 + i)) file_handle Read) k
+reads_named : (first k : ℕ)
+    → upto (read_said (first + 1)) k ≡ upto (λ i. spelling_of (tids_from first (1 + i)) file_handle Read) k
 reads_named first k = upto_same _ _ k (λ i m. ap (λ t. spelling_of (decimal t) file_handle Read) (next_tid first i))
 
-pub get_opening : (a b : Option Talked) (first : ℕ) (path : List ℕ) → SaidOrNot a b (spelling_of (decimal first) file_handle (OpenRead path))
+pub get_opening : (a b : Option Talked) (first : ℕ) (path : List ℕ)
+    → SaidOrNot a b (spelling_of (decimal first) file_handle (OpenRead path))
     → GetBegun a b (tids_from first) file_handle path
 get_opening a b first path (rs, inl h) = inl (rs, h)
 get_opening a b first path (rs, inr h) =
-    inr (inl (0, omega arith, 0, omega arith, rs, subst (λ n. Since a b (spelling_of (decimal n) file_handle (OpenRead path) ∷ []) rs) (open_named first) h))
+    inr
+    (inl
+    (0, omega arith, 0, omega arith, rs, subst (λ n. Since a b (spelling_of (decimal n) file_handle (OpenRead path) ∷ []) rs) (open_named first) h))
 
 pub get_reading : (a b c : Option Talked) (first len : ℕ) (path reply : List ℕ) → len ≤ MAX_FILE
     → Since a b (spelling_of (decimal first) file_handle (OpenRead path) ∷ []) (reply ∷ [])
@@ -121,7 +154,9 @@ get_reading a b c first len path reply fits h (k, l, rs, g) =
       k,
       l,
       reply ∷ rs,
-      since_then a b c _ _ _ _ (subst (λ n. Since a b (spelling_of (decimal n) file_handle (OpenRead path) ∷ []) (reply ∷ [])) (open_named first) h)
+      since_then a b c _ _ _ _
+          (subst (λ n. Since a b (spelling_of (decimal n) file_handle (OpenRead path) ∷ []) (reply ∷ []))
+          (open_named first) h)
           (since_same b c _ _ rs rs (reads_named first k) refl g),
     ))
 
@@ -136,7 +171,8 @@ get_end a c d first len path rs fits h (qs, inl g) =
       1 + chunk_count len,
       omega arith,
       rs ++ qs,
-      subst (λ cs. Since a d cs (rs ++ qs)) (append-nil (get_front (tids_from first) file_handle path (1 + chunk_count len)))
+      subst (λ cs. Since a d cs (rs ++ qs))
+          (append-nil (get_front (tids_from first) file_handle path (1 + chunk_count len)))
           (since_then a c d _ _ [] qs h g),
     ))
 get_end a c d first len path rs fits h (qs, inr g) =
@@ -157,5 +193,7 @@ pub get_closing : (a b c d : Option Talked) (first len : ℕ) (path reply : List
     → GetBegun a d (tids_from first) file_handle path
 get_closing a b c d first len path reply rs fits h g k =
     get_end a c d first len path (reply ∷ rs) fits
-    (since_then a b c _ _ _ _ (subst (λ n. Since a b (spelling_of (decimal n) file_handle (OpenRead path) ∷ []) (reply ∷ [])) (open_named first) h)
+    (since_then a b c _ _ _ _
+    (subst (λ n. Since a b (spelling_of (decimal n) file_handle (OpenRead path) ∷ []) (reply ∷ []))
+    (open_named first) h)
     (since_same b c _ _ rs rs (reads_named first (1 + chunk_count len)) refl g)) k

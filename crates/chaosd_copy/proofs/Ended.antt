@@ -22,16 +22,23 @@ use Rattle.chaosd_copy.proofs.Joined.{upto_same, next_tid}
 use Rattle.chaosd_copy.proofs.Growing.{given}
 
 -- whether a reply begins so
-pub error_decides : (tid handle reply s p : List ℕ) (r : Bool) → s ≡ reply → p ≡ reply_front tid handle ++ (codes "ERROR " ++ []) → r ≡ bytes_eq p (take (length p) s)
+pub error_decides : (tid handle reply s p : List ℕ) (r : Bool) → s ≡ reply
+    → p ≡ reply_front tid handle ++ (codes "ERROR " ++ []) → r ≡ bytes_eq p (take (length p) s)
     → Decides r (IsErrorTo tid handle reply)
 error_decides tid handle reply s p r whole front told =
     let d = bytes_eq-Decides p (take (length p) s) in (
       λ t. (
         drop (length p) s,
         sym whole ∙ sym (take-append-drop (length p) s) ∙ ap (λ l. l ++ drop (length p) s) (sym (d.0 (sym told ∙ t)))
-            ∙ ap (λ l. l ++ drop (length p) s) front ∙ append_assoc (reply_front tid handle) (codes "ERROR " ++ []) (drop (length p) s),
+            ∙ ap (λ l. l ++ drop (length p) s) front
+            ∙ append_assoc (reply_front tid handle) (codes "ERROR " ++ []) (drop (length p) s),
       ),
-      λ h. told ∙ d.1 (sym (ap (take (length p)) (whole ∙ h.1 ∙ sym (append_assoc (reply_front tid handle) (codes "ERROR " ++ []) h.0) ∙ ap (λ l. l ++ h.0) (sym front))
+      λ h. told
+          ∙ d.1
+          (sym
+          (ap (take (length p))
+          (whole ∙ h.1 ∙ sym (append_assoc (reply_front tid handle) (codes "ERROR " ++ []) h.0)
+          ∙ ap (λ l. l ++ h.0) (sym front))
           ∙ take-append_seam p h.0)),
     )
 
@@ -50,7 +57,8 @@ unless_then e.NoReply P Q f h = f h
 unless_then e.Unknown P Q f h = f h
 
 -- whoever got no reply of one kind got none of a narrower one
-pub unwanted : (tid handle : List ℕ) (V W : List ℕ → Type 0) (last : Option (List ℕ)) (end : CopyEnd) → ((x : List ℕ) → last ≡ Some x → W x → V x) → EndedBy tid handle V last end
+pub unwanted : (tid handle : List ℕ) (V W : List ℕ → Type 0) (last : Option (List ℕ)) (end : CopyEnd)
+    → ((x : List ℕ) → last ≡ Some x → W x → V x) → EndedBy tid handle V last end
     → EndedBy tid handle W last end
 unwanted tid handle V W last e.Done f h = h
 unwanted tid handle V W last (e.Refused reply) f h = h
@@ -60,38 +68,54 @@ unwanted tid handle V W last e.Unknown f h = h
 
 -- ---- what was heard
 
-pub heard_ok : {R F : Type 0} (items : R → List ℕ) (a b : Option Talked) (cs : List (List ℕ)) (result : Result (Option R) F)
-    → IfOk result (λ r. Since a b cs ([] ++ heard_in (option_map items r))) → IfOk result (λ r. Heard a b (heard_in (option_map items r)))
+pub heard_ok : {R F : Type 0} (items : R → List ℕ) (a b : Option Talked) (cs : List (List ℕ))
+    (result : Result (Option R) F)
+    → IfOk result (λ r. Since a b cs ([] ++ heard_in (option_map items r)))
+    → IfOk result (λ r. Heard a b (heard_in (option_map items r)))
 heard_ok items a b cs (Ok r) h = (cs, h)
 heard_ok items a b cs (Err x) h = tt
 
-pub heard_then : (a b c : Option Talked) (cs rs qs : List (List ℕ)) → Since a b cs rs → Heard b c qs → Heard a c (rs ++ qs)
+pub heard_then : (a b c : Option Talked) (cs rs qs : List (List ℕ)) → Since a b cs rs → Heard b c qs
+    → Heard a c (rs ++ qs)
 heard_then a b c cs rs qs h (ds, k) = (cs ++ ds, since_then a b c cs rs ds qs h k)
 
 -- ---- a put
 
-writes_ended_named : (first i : ℕ) (bytes : List ℕ) → write_heard (first + 1) bytes i ≡ put_reply (tids_from first) file_handle bytes i
-writes_ended_named first i bytes = ap (λ t. reply_of (decimal t) file_handle (Wrote (min (MAX_CHUNK * (1 + i)) (length bytes)))) (next_tid first i)
+writes_ended_named : (first i : ℕ) (bytes : List ℕ)
+    → write_heard (first + 1) bytes i ≡ put_reply (tids_from first) file_handle bytes i
+writes_ended_named first i bytes =
+    ap (λ t. reply_of (decimal t) file_handle (Wrote (min (MAX_CHUNK * (1 + i)) (length bytes)))) (next_tid first i)
 
-pub put_ended_opening : (a b : Option Talked) (first : ℕ) (path bytes : List ℕ) (last : Option (List ℕ)) (end : CopyEnd) → Heard a b (heard_in last)
+pub put_ended_opening : (a b : Option Talked) (first : ℕ) (path bytes : List ℕ) (last : Option (List ℕ)) (end : CopyEnd)
+    → Heard a b (heard_in last)
     → EndedBy (decimal first) file_handle (λ r. r ≡ reply_of (decimal first) file_handle (Opened 0)) last end
     → PutEnded a b (tids_from first) file_handle path bytes end
 put_ended_opening a b first path bytes last end h k =
-    inl (subst (λ n. EndedAt a b [] (decimal n) file_handle (λ r. r ≡ reply_of (decimal n) file_handle (Opened 0)) end) (open_named first) (last, h, k))
+    inl
+    (subst (λ n. EndedAt a b [] (decimal n) file_handle (λ r. r ≡ reply_of (decimal n) file_handle (Opened 0)) end)
+    (open_named first) (last, h, k))
 
 -- OPEN was answered well
-pub opened_put : (a b : Option Talked) (first : ℕ) (cs : List (List ℕ)) → Since a b cs (reply_of (decimal first) file_handle (Opened 0) ∷ [])
+pub opened_put : (a b : Option Talked) (first : ℕ) (cs : List (List ℕ))
+    → Since a b cs (reply_of (decimal first) file_handle (Opened 0) ∷ [])
     → Since a b cs (reply_of (tids_from first 0) file_handle (Opened 0) ∷ [])
-opened_put a b first cs h = subst (λ n. Since a b cs (reply_of (decimal n) file_handle (Opened 0) ∷ [])) (open_named first) h
+opened_put a b first cs h =
+    subst (λ n. Since a b cs (reply_of (decimal n) file_handle (Opened 0) ∷ [])) (open_named first) h
 
 -- the replies to OPEN and some WRITEs
-front_heard : (a b c : Option Talked) (first : ℕ) (bytes : List ℕ) (cs qs : List (List ℕ)) (i : ℕ) → Since a b cs (reply_of (decimal first) file_handle (Opened 0) ∷ [])
-    → Heard b c (upto (write_heard (first + 1) bytes) i ++ qs) → Heard a c (put_front_replies (tids_from first) file_handle bytes i ++ qs)
+front_heard : (a b c : Option Talked) (first : ℕ) (bytes : List ℕ) (cs qs : List (List ℕ)) (i : ℕ)
+    → Since a b cs (reply_of (decimal first) file_handle (Opened 0) ∷ [])
+    → Heard b c (upto (write_heard (first + 1) bytes) i ++ qs)
+    → Heard a c (put_front_replies (tids_from first) file_handle bytes i ++ qs)
 front_heard a b c first bytes cs qs i h k =
     heard_then a b c cs (reply_of (tids_from first 0) file_handle (Opened 0) ∷ []) _ (opened_put a b first cs h)
-    (subst (λ rs. Heard b c (rs ++ qs)) (upto_same (write_heard (first + 1) bytes) (put_reply (tids_from first) file_handle bytes) i (λ j m. writes_ended_named first j bytes)) k)
+    (subst (λ rs. Heard b c (rs ++ qs))
+    (upto_same (write_heard (first + 1) bytes) (put_reply (tids_from first) file_handle bytes) i
+    (λ j m. writes_ended_named first j bytes))
+    k)
 
-pub put_ended_writing : (a b c : Option Talked) (first : ℕ) (path bytes : List ℕ) (cs : List (List ℕ)) (end : CopyEnd) → Since a b cs (reply_of (decimal first) file_handle (Opened 0) ∷ [])
+pub put_ended_writing : (a b c : Option Talked) (first : ℕ) (path bytes : List ℕ) (cs : List (List ℕ)) (end : CopyEnd)
+    → Since a b cs (reply_of (decimal first) file_handle (Opened 0) ∷ [])
     → WritesEnded b c (first + 1) bytes end
     → PutEnded a c (tids_from first) file_handle path bytes end
 put_ended_writing a b c first path bytes cs end h (i, below, (last, heard, ended)) =
@@ -101,75 +125,112 @@ put_ended_writing a b c first path bytes cs end h (i, below, (last, heard, ended
       (
         last,
         front_heard a b c first bytes cs (heard_in last) i h heard,
-        subst (λ t. EndedBy (decimal t) file_handle (λ r. r ≡ reply_of (decimal t) file_handle (Wrote (min (MAX_CHUNK * (1 + i)) (length bytes)))) last end) (next_tid first i) ended,
+        subst
+            (λ t. EndedBy (decimal t) file_handle
+            (λ r. r ≡ reply_of (decimal t) file_handle (Wrote (min (MAX_CHUNK * (1 + i)) (length bytes)))) last end)
+            (next_tid first i) ended,
       ),
     ))
 
 -- all WRITEs were answered well
-pub front_closing : (a b c d : Option Talked) (first : ℕ) (bytes : List ℕ) (cs ds qs : List (List ℕ)) → Since a b cs (reply_of (decimal first) file_handle (Opened 0) ∷ [])
+pub front_closing : (a b c d : Option Talked) (first : ℕ) (bytes : List ℕ) (cs ds qs : List (List ℕ))
+    → Since a b cs (reply_of (decimal first) file_handle (Opened 0) ∷ [])
     → Since b c ds (upto (write_heard (first + 1) bytes) (chunk_count (length bytes))) → Heard c d qs
     → Heard a d (put_front_replies (tids_from first) file_handle bytes (chunk_count (length bytes)) ++ qs)
-front_closing a b c d first bytes cs ds qs h k l = front_heard a b d first bytes cs qs (chunk_count (length bytes)) h (heard_then b c d ds _ qs k l)
+front_closing a b c d first bytes cs ds qs h k l =
+    front_heard a b d first bytes cs qs (chunk_count (length bytes)) h (heard_then b c d ds _ qs k l)
 
-pub put_ended_closing : (a b c d : Option Talked) (first tid : ℕ) (path bytes : List ℕ) (cs ds : List (List ℕ)) (last : Option (List ℕ)) (end : CopyEnd) → (last ≡ None → ⊥)
+pub put_ended_closing : (a b c d : Option Talked) (first tid : ℕ) (path bytes : List ℕ) (cs ds : List (List ℕ))
+    (last : Option (List ℕ)) (end : CopyEnd)
+    → (last ≡ None → ⊥)
     → tid ≡ chunk_count (length bytes)
     → Since a b cs (reply_of (decimal first) file_handle (Opened 0) ∷ [])
     → Since b c ds (upto (write_heard (first + 1) bytes) (chunk_count (length bytes))) → Heard c d (heard_in last)
-    → EndedBy (decimal (first + 1 + tid)) file_handle (λ r. r ≡ reply_of (decimal (first + 1 + tid)) file_handle (Closed (length bytes))) last end
+    → EndedBy (decimal (first + 1 + tid)) file_handle
+    (λ r. r ≡ reply_of (decimal (first + 1 + tid)) file_handle (Closed (length bytes))) last end
     → PutEnded a d (tids_from first) file_handle path bytes end
 put_ended_closing a b c d first tid path bytes cs ds None end some same h k l ended = absurd (some refl)
 put_ended_closing a b c d first tid path bytes cs ds (Some reply) end some same h k l ended =
     inr (inr (inl (
       reply,
       front_closing a b c d first bytes cs ds (reply ∷ []) h k l,
-      subst (λ t. EndedBy (decimal t) file_handle (λ r. r ≡ reply_of (decimal t) file_handle (Closed (length bytes))) (Some reply) end)
+      subst
+          (λ t. EndedBy (decimal t) file_handle (λ r. r ≡ reply_of (decimal t) file_handle (Closed (length bytes)))
+          (Some reply) end)
           (ap (λ n. first + 1 + n) same ∙ next_tid first (chunk_count (length bytes))) ended,
     )))
 
 -- CLOSE got no reply
-pub put_ended_unanswered : (a b c d : Option Talked) (first tid : ℕ) (path bytes : List ℕ) (is_said : Bool) → tid ≡ chunk_count (length bytes)
-    → Since a b (spelling_of (decimal first) file_handle (OpenWrite path) ∷ []) (reply_of (decimal first) file_handle (Opened 0) ∷ [])
-    → Since b c (upto (write_said (first + 1) bytes) (chunk_count (length bytes))) (upto (write_heard (first + 1) bytes) (chunk_count (length bytes)))
+pub put_ended_unanswered : (a b c d : Option Talked) (first tid : ℕ) (path bytes : List ℕ) (is_said : Bool)
+    → tid ≡ chunk_count (length bytes)
+    → Since a b (spelling_of (decimal first) file_handle (OpenWrite path) ∷ [])
+    (reply_of (decimal first) file_handle (Opened 0) ∷ [])
+    → Since b c (upto (write_said (first + 1) bytes) (chunk_count (length bytes)))
+    (upto (write_heard (first + 1) bytes) (chunk_count (length bytes)))
     → Since c d (said_if is_said (spelling_of (decimal (first + 1 + tid)) file_handle Close)) []
     → PutEnded a d (tids_from first) file_handle path bytes (unanswered is_said)
 put_ended_unanswered a b c d first tid path bytes true same h g k =
     let n = chunk_count (length bytes) in
     inr (inr (inr (inl (
       refl,
-      subst (λ rs. Since a d (put_front (tids_from first) file_handle path bytes n ++ spelling_of (tids_from first (1 + n)) file_handle Close ∷ []) rs)
+      subst
+          (λ rs. Since a d
+          (put_front (tids_from first) file_handle path bytes n
+          ++ spelling_of (tids_from first (1 + n)) file_handle Close ∷ [])
+          rs)
           (append-nil (put_front_replies (tids_from first) file_handle bytes n))
           (since_then a c d _ _ _ [] (put_written a b c first path bytes h g)
-          (subst (λ t. Since c d (spelling_of (decimal t) file_handle Close ∷ []) []) (ap (λ m. first + 1 + m) same ∙ next_tid first n) k)),
+          (subst (λ t. Since c d (spelling_of (decimal t) file_handle Close ∷ []) [])
+          (ap (λ m. first + 1 + m) same ∙ next_tid first n) k)),
     ))))
 put_ended_unanswered a b c d first tid path bytes false same h g k =
     let n = chunk_count (length bytes) in
     inr (inr (inr (inr (
       refl,
-      subst (λ rs. Since a d (put_front (tids_from first) file_handle path bytes n) rs) (append-nil (put_front_replies (tids_from first) file_handle bytes n))
-          (subst (λ cs. Since a d cs (put_front_replies (tids_from first) file_handle bytes n ++ [])) (append-nil (put_front (tids_from first) file_handle path bytes n))
+      subst (λ rs. Since a d (put_front (tids_from first) file_handle path bytes n) rs)
+          (append-nil (put_front_replies (tids_from first) file_handle bytes n))
+          (subst (λ cs. Since a d cs (put_front_replies (tids_from first) file_handle bytes n ++ []))
+          (append-nil (put_front (tids_from first) file_handle path bytes n))
           (since_then a c d _ _ [] [] (put_written a b c first path bytes h g) k)),
     ))))
 
-pub writes_not_done : (a b : Option Talked) (cs : List (List ℕ)) (first i : ℕ) (bytes wanted : List ℕ) (last : Option (List ℕ)) (end : CopyEnd) → i < chunk_count (length bytes)
+pub writes_not_done : (a b : Option Talked) (cs : List (List ℕ)) (first i : ℕ) (bytes wanted : List ℕ)
+    (last : Option (List ℕ)) (end : CopyEnd)
+    → i < chunk_count (length bytes)
     → wanted ≡ write_heard first bytes i → Since a b cs (upto (write_heard first bytes) i ++ heard_in last)
-    → UnlessCopied end (EndedBy (decimal (first + i)) file_handle (λ r. r ≡ wanted) last) → UnlessCopied end (WritesEnded a b first bytes)
+    → UnlessCopied end (EndedBy (decimal (first + i)) file_handle (λ r. r ≡ wanted) last)
+    → UnlessCopied end (WritesEnded a b first bytes)
 writes_not_done a b cs first i bytes wanted last end below same h =
-    unless_then end _ _ (λ k. (i, below, (last, (cs, h), subst (λ w. EndedBy (decimal (first + i)) file_handle (λ r. r ≡ w) last end) same k)))
+    unless_then end _ _
+    (λ k.
+    (i, below, (last, (cs, h), subst (λ w. EndedBy (decimal (first + i)) file_handle (λ r. r ≡ w) last end) same k)))
 
-pub put_not_opened : (a b : Option Talked) (first : ℕ) (path bytes wanted : List ℕ) (last : Option (List ℕ)) (end : CopyEnd) → wanted ≡ reply_of (decimal first) file_handle (Opened 0)
-    → Heard a b (heard_in last) → UnlessCopied end (EndedBy (decimal first) file_handle (λ r. r ≡ wanted) last) → UnlessCopied end (PutEnded a b (tids_from first) file_handle path bytes)
+pub put_not_opened : (a b : Option Talked) (first : ℕ) (path bytes wanted : List ℕ) (last : Option (List ℕ))
+    (end : CopyEnd)
+    → wanted ≡ reply_of (decimal first) file_handle (Opened 0)
+    → Heard a b (heard_in last) → UnlessCopied end (EndedBy (decimal first) file_handle (λ r. r ≡ wanted) last)
+    → UnlessCopied end (PutEnded a b (tids_from first) file_handle path bytes)
 put_not_opened a b first path bytes wanted last end same h =
-    unless_then end _ _ (λ k. put_ended_opening a b first path bytes last end h (subst (λ w. EndedBy (decimal first) file_handle (λ r. r ≡ w) last end) same k))
+    unless_then end _ _
+    (λ k. put_ended_opening a b first path bytes last end h
+    (subst (λ w. EndedBy (decimal first) file_handle (λ r. r ≡ w) last end) same k))
 
-pub put_not_written : (a b c : Option Talked) (first : ℕ) (path bytes : List ℕ) (cs : List (List ℕ)) (end : CopyEnd) → Since a b cs (reply_of (decimal first) file_handle (Opened 0) ∷ [])
-    → UnlessCopied end (WritesEnded b c (first + 1) bytes) → UnlessCopied end (PutEnded a c (tids_from first) file_handle path bytes)
-put_not_written a b c first path bytes cs end h = unless_then end _ _ (put_ended_writing a b c first path bytes cs end h)
+pub put_not_written : (a b c : Option Talked) (first : ℕ) (path bytes : List ℕ) (cs : List (List ℕ)) (end : CopyEnd)
+    → Since a b cs (reply_of (decimal first) file_handle (Opened 0) ∷ [])
+    → UnlessCopied end (WritesEnded b c (first + 1) bytes)
+    → UnlessCopied end (PutEnded a c (tids_from first) file_handle path bytes)
+put_not_written a b c first path bytes cs end h =
+    unless_then end _ _ (put_ended_writing a b c first path bytes cs end h)
 
-pub put_not_closed : (a b c d : Option Talked) (first tid : ℕ) (path bytes wanted : List ℕ) (cs ds : List (List ℕ)) (last : Option (List ℕ)) (end : CopyEnd) → (last ≡ None → ⊥)
-    → tid ≡ chunk_count (length bytes) → wanted ≡ reply_of (decimal (first + 1 + tid)) file_handle (Closed (length bytes))
+pub put_not_closed : (a b c d : Option Talked) (first tid : ℕ) (path bytes wanted : List ℕ) (cs ds : List (List ℕ))
+    (last : Option (List ℕ)) (end : CopyEnd)
+    → (last ≡ None → ⊥)
+    → tid ≡ chunk_count (length bytes)
+    → wanted ≡ reply_of (decimal (first + 1 + tid)) file_handle (Closed (length bytes))
     → Since a b cs (reply_of (decimal first) file_handle (Opened 0) ∷ [])
     → Since b c ds (upto (write_heard (first + 1) bytes) (chunk_count (length bytes))) → Heard c d (heard_in last)
-    → UnlessCopied end (EndedBy (decimal (first + 1 + tid)) file_handle (λ r. r ≡ wanted) last) → UnlessCopied end (PutEnded a d (tids_from first) file_handle path bytes)
+    → UnlessCopied end (EndedBy (decimal (first + 1 + tid)) file_handle (λ r. r ≡ wanted) last)
+    → UnlessCopied end (PutEnded a d (tids_from first) file_handle path bytes)
 put_not_closed a b c d first tid path bytes wanted cs ds last end some count same h k l =
     unless_then end _ _ (λ m. put_ended_closing a b c d first tid path bytes cs ds last end some count h k l
     (subst (λ w. EndedBy (decimal (first + 1 + tid)) file_handle (λ r. r ≡ w) last end) same m))
@@ -178,20 +239,26 @@ pub unheard : {R : Type 0} (items : R → List ℕ) (r : Option R) → r ≡ Non
 unheard items None e = refl
 unheard items (Some x) e = cc
 
-pub is_heard : {R : Type 0} (items : R → List ℕ) (r : Option R) (b : Bool) → is_some r ≡ not b → b ≡ false → option_map items r ≡ None → ⊥
+pub is_heard : {R : Type 0} (items : R → List ℕ) (r : Option R) (b : Bool) → is_some r ≡ not b → b ≡ false
+    → option_map items r ≡ None → ⊥
 is_heard items None b told f e = let h : false ≡ not false = told ∙ ap not f in cc
 is_heard items (Some x) b told f e = none_some (items x) (sym e)
 
 -- ---- a get
 
 -- behind the last piece
-past_end : (tid handle : List ℕ) (len i : ℕ) (x : List ℕ) → len ≤ MAX_CHUNK * i → IsPiece tid handle len i x → x ≡ reply_of tid handle AtEnd
+past_end : (tid handle : List ℕ) (len i : ℕ) (x : List ℕ) → len ≤ MAX_CHUNK * i → IsPiece tid handle len i x
+    → x ≡ reply_of tid handle AtEnd
 past_end tid handle len i x past ([], size, is) = is
 past_end tid handle len i x past (b ∷ bs, size, is) = absurd (omega (arith, past, size))
 
-pub reads_not_done : (a b : Option Talked) (cs : List (List ℕ)) (first len i : ℕ) (bytes wanted : List ℕ) (last : Option (List ℕ)) (end : CopyEnd) → i ≡ chunk_count len
-    → wanted ≡ reply_of (decimal (first + i)) file_handle AtEnd → Since a b cs (upto (read_heard first bytes) i ++ heard_in last)
-    → UnlessCopied end (EndedBy (decimal (first + i)) file_handle (λ r. r ≡ wanted) last) → UnlessCopied end (ReadsEnded a b first len bytes)
+pub reads_not_done : (a b : Option Talked) (cs : List (List ℕ)) (first len i : ℕ) (bytes wanted : List ℕ)
+    (last : Option (List ℕ)) (end : CopyEnd)
+    → i ≡ chunk_count len
+    → wanted ≡ reply_of (decimal (first + i)) file_handle AtEnd
+    → Since a b cs (upto (read_heard first bytes) i ++ heard_in last)
+    → UnlessCopied end (EndedBy (decimal (first + i)) file_handle (λ r. r ≡ wanted) last)
+    → UnlessCopied end (ReadsEnded a b first len bytes)
 reads_not_done a b cs first len i bytes wanted last end all same h =
     let past : len ≤ MAX_CHUNK * i = omega (arith, all) in
     unless_then end _ _ (λ k. (
@@ -200,20 +267,27 @@ reads_not_done a b cs first len i bytes wanted last end all same h =
       (
         last,
         (cs, h),
-        unwanted (decimal (first + i)) file_handle (λ r. r ≡ wanted) (IsPiece (decimal (first + i)) file_handle len i) last end
+        unwanted (decimal (first + i)) file_handle (λ r. r ≡ wanted) (IsPiece (decimal (first + i)) file_handle len i)
+            last end
             (λ x e w. past_end (decimal (first + i)) file_handle len i x past w ∙ sym same) k,
       ),
     ))
 
 -- before the end
-a_piece : (tid handle : List ℕ) (len i size : ℕ) (x : List ℕ) → MAX_CHUNK * i < len → size ≡ min (len - MAX_CHUNK * i) MAX_CHUNK → IsPiece tid handle len i x → IsGiven tid handle size x
+a_piece : (tid handle : List ℕ) (len i size : ℕ) (x : List ℕ) → MAX_CHUNK * i < len
+    → size ≡ min (len - MAX_CHUNK * i) MAX_CHUNK → IsPiece tid handle len i x → IsGiven tid handle size x
 a_piece tid handle len i size x below same (piece, long, is) =
-    let some : 0 < length piece = omega (arith, below, long) in (piece, long ∙ sym same, is ∙ ap (reply_of tid handle) (given piece some))
+    let some : 0 < length piece =
+    omega (arith, below, long) in (piece, long ∙ sym same, is ∙ ap (reply_of tid handle) (given piece some))
 
 -- a READ's reply, by which no more bytes came
-pub piece_not_done : (a b : Option Talked) (cs : List (List ℕ)) (first len i size : ℕ) (xs ys : List ℕ) (last : Option (List ℕ)) (end : CopyEnd) → i < chunk_count len
+pub piece_not_done : (a b : Option Talked) (cs : List (List ℕ)) (first len i size : ℕ) (xs ys : List ℕ)
+    (last : Option (List ℕ)) (end : CopyEnd)
+    → i < chunk_count len
     → size ≡ min (len - MAX_CHUNK * i) MAX_CHUNK → Since a b cs (upto (read_heard first xs) i ++ heard_in last)
-    → UnlessCopied end (λ e. (ys ≡ xs) × EndedBy (decimal (first + i)) file_handle (IsGiven (decimal (first + i)) file_handle size) last e)
+    → UnlessCopied end
+    (λ e. (ys ≡ xs)
+    × EndedBy (decimal (first + i)) file_handle (IsGiven (decimal (first + i)) file_handle size) last e)
     → UnlessCopied end (ReadsEnded a b first len ys)
 piece_not_done a b cs first len i size xs ys last end inside same h =
     let below : MAX_CHUNK * i < len = omega (arith, inside) in
@@ -223,7 +297,8 @@ piece_not_done a b cs first len i size xs ys last end inside same h =
       (
         last,
         (cs, subst (λ zs. Since a b cs (upto (read_heard first zs) i ++ heard_in last)) (sym k.0) h),
-        unwanted (decimal (first + i)) file_handle (IsGiven (decimal (first + i)) file_handle size) (IsPiece (decimal (first + i)) file_handle len i) last end
+        unwanted (decimal (first + i)) file_handle (IsGiven (decimal (first + i)) file_handle size)
+            (IsPiece (decimal (first + i)) file_handle len i) last end
             (λ x e w. a_piece (decimal (first + i)) file_handle len i size x below same w) k.1,
       ),
     ))
@@ -234,32 +309,49 @@ pub no_length : (found : Option ℕ) (reply : Option (List ℕ)) (tid : List ℕ
 no_length found reply tid all none x e (n, fits, is) = let both : None ≡ Some n = sym none ∙ all n fits (e ∙ ap Some is) in cc
 
 -- nor another than the one that was found
-pub one_length : (found : Option ℕ) (reply : Option (List ℕ)) (tid : List ℕ) (len : ℕ) (wanted : List ℕ) → ((n : ℕ) → n ≤ MAX_FILE → reply ≡ Some (reply_of tid file_handle (Opened n)) → found ≡ Some n)
-    → found ≡ Some len → wanted ≡ reply_of tid file_handle (Opened len) → (x : List ℕ) → reply ≡ Some x → IsOpened tid file_handle x → x ≡ wanted
+pub one_length : (found : Option ℕ) (reply : Option (List ℕ)) (tid : List ℕ) (len : ℕ) (wanted : List ℕ)
+    → ((n : ℕ) → n ≤ MAX_FILE → reply ≡ Some (reply_of tid file_handle (Opened n)) → found ≡ Some n)
+    → found ≡ Some len → wanted ≡ reply_of tid file_handle (Opened len) → (x : List ℕ) → reply ≡ Some x
+    → IsOpened tid file_handle x → x ≡ wanted
 one_length found reply tid len wanted all some same x e (n, fits, is) =
     let both : Some n ≡ Some len = sym (all n fits (e ∙ ap Some is)) ∙ some in
     let one : n ≡ len = cc in
     is ∙ ap (λ m. reply_of tid file_handle (Opened m)) one ∙ sym same
 
-pub get_not_opened : (a b : Option Talked) (first : ℕ) (bytes : List ℕ) (V : List ℕ → Type 0) (last : Option (List ℕ)) (end : CopyEnd)
+pub get_not_opened : (a b : Option Talked) (first : ℕ) (bytes : List ℕ) (V : List ℕ → Type 0) (last : Option (List ℕ))
+    (end : CopyEnd)
     → ((x : List ℕ) → last ≡ Some x → IsOpened (decimal first) file_handle x → V x) → Heard a b (heard_in last)
-    → UnlessCopied end (EndedBy (decimal first) file_handle V last) → UnlessCopied end (GetEnded a b (tids_from first) file_handle bytes)
+    → UnlessCopied end (EndedBy (decimal first) file_handle V last)
+    → UnlessCopied end (GetEnded a b (tids_from first) file_handle bytes)
 get_not_opened a b first bytes V last end f h =
-    unless_then end _ _ (λ k. inl (subst (λ n. EndedAt a b [] (decimal n) file_handle (IsOpened (decimal n) file_handle) end) (open_named first)
+    unless_then end _ _
+    (λ k. inl
+    (subst (λ n. EndedAt a b [] (decimal n) file_handle (IsOpened (decimal n) file_handle) end)
+    (open_named first)
     (last, h, unwanted (decimal first) file_handle V (IsOpened (decimal first) file_handle) last end f k)))
 
-reads_named : (first i : ℕ) (bytes : List ℕ) → read_heard (first + 1) bytes i ≡ reply_of (tids_from first (1 + i)) file_handle (read_answer (chunk bytes i))
+reads_named : (first i : ℕ) (bytes : List ℕ)
+    → read_heard (first + 1) bytes i ≡ reply_of (tids_from first (1 + i)) file_handle (read_answer (chunk bytes i))
 reads_named first i bytes = ap (λ t. reply_of (decimal t) file_handle (read_answer (chunk bytes i))) (next_tid first i)
 
 -- the replies to OPEN and some READs
-got_front : (a b c : Option Talked) (first len : ℕ) (bytes : List ℕ) (cs qs : List (List ℕ)) (i : ℕ) → Since a b cs (reply_of (decimal first) file_handle (Opened len) ∷ [])
-    → Heard b c (upto (read_heard (first + 1) bytes) i ++ qs) → Heard a c (get_front_replies (tids_from first) file_handle len bytes i ++ qs)
+got_front : (a b c : Option Talked) (first len : ℕ) (bytes : List ℕ) (cs qs : List (List ℕ)) (i : ℕ)
+    → Since a b cs (reply_of (decimal first) file_handle (Opened len) ∷ [])
+    → Heard b c (upto (read_heard (first + 1) bytes) i ++ qs)
+    → Heard a c (get_front_replies (tids_from first) file_handle len bytes i ++ qs)
 got_front a b c first len bytes cs qs i h k =
-    heard_then a b c cs (reply_of (tids_from first 0) file_handle (Opened len) ∷ []) _ (subst (λ n. Since a b cs (reply_of (decimal n) file_handle (Opened len) ∷ [])) (open_named first) h)
-    (subst (λ rs. Heard b c (rs ++ qs)) (upto_same (read_heard (first + 1) bytes) (λ j. reply_of (tids_from first (1 + j)) file_handle (read_answer (chunk bytes j))) i (λ j m. reads_named first j bytes)) k)
+    heard_then a b c cs (reply_of (tids_from first 0) file_handle (Opened len) ∷ []) _
+    (subst (λ n. Since a b cs (reply_of (decimal n) file_handle (Opened len) ∷ [])) (open_named first) h)
+    (subst (λ rs. Heard b c (rs ++ qs))
+    (upto_same (read_heard (first + 1) bytes)
+    (λ j. reply_of (tids_from first (1 + j)) file_handle (read_answer (chunk bytes j))) i
+    (λ j m. reads_named first j bytes))
+    k)
 
-get_ended_reading : (a b c : Option Talked) (first len : ℕ) (bytes : List ℕ) (cs : List (List ℕ)) (end : CopyEnd) → len ≤ MAX_FILE
-    → Since a b cs (reply_of (decimal first) file_handle (Opened len) ∷ []) → ReadsEnded b c (first + 1) len bytes end → GetEnded a c (tids_from first) file_handle bytes end
+get_ended_reading : (a b c : Option Talked) (first len : ℕ) (bytes : List ℕ) (cs : List (List ℕ)) (end : CopyEnd)
+    → len ≤ MAX_FILE
+    → Since a b cs (reply_of (decimal first) file_handle (Opened len) ∷ []) → ReadsEnded b c (first + 1) len bytes end
+    → GetEnded a c (tids_from first) file_handle bytes end
 get_ended_reading a b c first len bytes cs end fits h (i, below, (last, heard, ended)) =
     inr (
       len,
@@ -270,21 +362,28 @@ get_ended_reading a b c first len bytes cs end fits h (i, below, (last, heard, e
         (
           last,
           got_front a b c first len bytes cs (heard_in last) i h heard,
-          subst (λ t. EndedBy (decimal t) file_handle (IsPiece (decimal t) file_handle len i) last end) (next_tid first i) ended,
+          subst (λ t. EndedBy (decimal t) file_handle (IsPiece (decimal t) file_handle len i) last end)
+              (next_tid first i) ended,
         ),
       ),
     )
 
-pub get_not_read : (a b c : Option Talked) (first len : ℕ) (bytes : List ℕ) (cs : List (List ℕ)) (end : CopyEnd) → len ≤ MAX_FILE
+pub get_not_read : (a b c : Option Talked) (first len : ℕ) (bytes : List ℕ) (cs : List (List ℕ)) (end : CopyEnd)
+    → len ≤ MAX_FILE
     → Since a b cs (reply_of (decimal first) file_handle (Opened len) ∷ [])
-    → UnlessCopied end (ReadsEnded b c (first + 1) len bytes) → UnlessCopied end (GetEnded a c (tids_from first) file_handle bytes)
-get_not_read a b c first len bytes cs end fits h = unless_then end _ _ (get_ended_reading a b c first len bytes cs end fits h)
+    → UnlessCopied end (ReadsEnded b c (first + 1) len bytes)
+    → UnlessCopied end (GetEnded a c (tids_from first) file_handle bytes)
+get_not_read a b c first len bytes cs end fits h =
+    unless_then end _ _ (get_ended_reading a b c first len bytes cs end fits h)
 
-pub get_not_closed : (a b c d : Option Talked) (first len tid : ℕ) (bytes wanted : List ℕ) (cs ds : List (List ℕ)) (last : Option (List ℕ)) (end : CopyEnd) → len ≤ MAX_FILE
+pub get_not_closed : (a b c d : Option Talked) (first len tid : ℕ) (bytes wanted : List ℕ) (cs ds : List (List ℕ))
+    (last : Option (List ℕ)) (end : CopyEnd)
+    → len ≤ MAX_FILE
     → tid ≡ chunk_count len → wanted ≡ reply_of (decimal (first + 2 + tid)) file_handle (Closed len)
     → Since a b cs (reply_of (decimal first) file_handle (Opened len) ∷ [])
     → Since b c ds (upto (read_heard (first + 1) bytes) (1 + chunk_count len)) → Heard c d (heard_in last)
-    → UnlessCopied end (EndedBy (decimal (first + 2 + tid)) file_handle (λ r. r ≡ wanted) last) → UnlessCopied end (GetEnded a d (tids_from first) file_handle bytes)
+    → UnlessCopied end (EndedBy (decimal (first + 2 + tid)) file_handle (λ r. r ≡ wanted) last)
+    → UnlessCopied end (GetEnded a d (tids_from first) file_handle bytes)
 get_not_closed a b c d first len tid bytes wanted cs ds last end fits count is h k l =
     let n = chunk_count len in
     let same : first + 2 + tid ≡ first + (2 + n) = ap (λ m. first + 2 + m) count ∙ omega arith in
@@ -294,7 +393,8 @@ get_not_closed a b c d first len tid bytes wanted cs ds last end fits count is h
       inr (
         last,
         got_front a b d first len bytes cs (heard_in last) (1 + n) h (heard_then b c d ds _ (heard_in last) k l),
-        subst (λ t. EndedBy (decimal t) file_handle (λ r. r ≡ reply_of (decimal t) file_handle (Closed len)) last end) same
+        subst (λ t. EndedBy (decimal t) file_handle (λ r. r ≡ reply_of (decimal t) file_handle (Closed len)) last end)
+            same
             (subst (λ w. EndedBy (decimal (first + 2 + tid)) file_handle (λ r. r ≡ w) last end) is m),
       ),
     ))

@@ -19,7 +19,8 @@ chunk_front xs ys i j l e =
 
 chunk_last : (xs ys : List ℕ) (i : ℕ) → length xs ≡ MAX_CHUNK * i → length ys ≤ MAX_CHUNK → chunk (xs ++ ys) i ≡ ys
 chunk_last xs ys i e l =
-    ap (λ n. take MAX_CHUNK (drop n (xs ++ ys))) (sym e) ∙ ap (take MAX_CHUNK) (drop-append_seam xs ys) ∙ take_all MAX_CHUNK ys l
+    ap (λ n. take MAX_CHUNK (drop n (xs ++ ys))) (sym e) ∙ ap (take MAX_CHUNK) (drop-append_seam xs ys)
+    ∙ take_all MAX_CHUNK ys l
 
 chunk_none : (xs : List ℕ) (i : ℕ) → length xs ≤ MAX_CHUNK * i → chunk xs i ≡ []
 chunk_none xs i l = ap (take MAX_CHUNK) (drop_all (MAX_CHUNK * i) xs l)
@@ -29,18 +30,28 @@ given [] l = absurd (omega arith)
 given (y ∷ ys) l = search rules
 
 -- one more piece came
-pub grows : (a b : Option Talked) (cs : List (List ℕ)) (first i : ℕ) (xs ys : List ℕ) (o : Option (List ℕ)) → length xs ≡ MAX_CHUNK * i → 0 < length ys → length ys ≤ MAX_CHUNK
-    → o ≡ Some (reply_of (decimal (first + i)) file_handle (Given ys)) → Since a b cs (upto (read_heard first xs) i ++ heard_in o)
+pub grows : (a b : Option Talked) (cs : List (List ℕ)) (first i : ℕ) (xs ys : List ℕ) (o : Option (List ℕ))
+    → length xs ≡ MAX_CHUNK * i → 0 < length ys → length ys ≤ MAX_CHUNK
+    → o ≡ Some (reply_of (decimal (first + i)) file_handle (Given ys))
+    → Since a b cs (upto (read_heard first xs) i ++ heard_in o)
     → Since a b cs (upto (read_heard first (xs ++ ys)) (i + 1))
 grows a b cs first i xs ys o e p l f h =
     heard_at a b cs (read_heard first (xs ++ ys)) i o _ f
-    (sym (ap (λ z. reply_of (decimal (first + i)) file_handle (read_answer z)) (chunk_last xs ys i e l) ∙ ap (reply_of (decimal (first + i)) file_handle) (given ys p)))
+    (sym
+    (ap (λ z. reply_of (decimal (first + i)) file_handle (read_answer z)) (chunk_last xs ys i e l)
+    ∙ ap (reply_of (decimal (first + i)) file_handle) (given ys p)))
     (subst (λ rs. Since a b cs (rs ++ heard_in o))
-    (upto_same (read_heard first xs) (read_heard first (xs ++ ys)) i (λ j m. ap (λ z. reply_of (decimal (first + j)) file_handle (read_answer z)) (sym (chunk_front xs ys i j m e)))) h)
+    (upto_same (read_heard first xs) (read_heard first (xs ++ ys)) i
+    (λ j m. ap (λ z. reply_of (decimal (first + j)) file_handle (read_answer z))
+    (sym (chunk_front xs ys i j m e))))
+    h)
 
 -- the end was told
-pub ends : (a b : Option Talked) (cs : List (List ℕ)) (first : ℕ) (xs : List ℕ) (n : ℕ) (o : Option (List ℕ)) → length xs ≤ MAX_CHUNK * n
-    → o ≡ Some (reply_of (decimal (first + n)) file_handle AtEnd) → Since a b cs (upto (read_heard first xs) n ++ heard_in o)
+pub ends : (a b : Option Talked) (cs : List (List ℕ)) (first : ℕ) (xs : List ℕ) (n : ℕ) (o : Option (List ℕ))
+    → length xs ≤ MAX_CHUNK * n
+    → o ≡ Some (reply_of (decimal (first + n)) file_handle AtEnd)
+    → Since a b cs (upto (read_heard first xs) n ++ heard_in o)
     → Since a b cs (upto (read_heard first xs) (n + 1))
 ends a b cs first xs n o l f h =
-    heard_at a b cs (read_heard first xs) n o _ f (sym (ap (λ z. reply_of (decimal (first + n)) file_handle (read_answer z)) (chunk_none xs n l))) h
+    heard_at a b cs (read_heard first xs) n o _ f
+    (sym (ap (λ z. reply_of (decimal (first + n)) file_handle (read_answer z)) (chunk_none xs n l))) h

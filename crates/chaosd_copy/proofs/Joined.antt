@@ -14,7 +14,8 @@ use Rattle.chaosd_copy.specs.Row.{file_handle}
 use Rattle.chaosd_copy.specs.Ends.{IfCopied, EndedBy, tids_from, write_said, write_heard, read_said, read_heard}
 use Rattle.chaosd_copy.proofs.Talks.{since_then}
 
-pub not_copied : (tid handle : List ℕ) (Wanted : List ℕ → Type 0) (last : Option (List ℕ)) (end : CopyEnd) (P : Type 0) → EndedBy tid handle Wanted last end → IfCopied end P
+pub not_copied : (tid handle : List ℕ) (Wanted : List ℕ → Type 0) (last : Option (List ℕ)) (end : CopyEnd) (P : Type 0)
+    → EndedBy tid handle Wanted last end → IfCopied end P
 not_copied tid handle Wanted last e.Done P h = absurd h
 not_copied tid handle Wanted last (e.Refused reply) P h = tt
 not_copied tid handle Wanted last (e.Strange reply) P h = tt
@@ -40,27 +41,37 @@ when_copied e.Unknown P s h = cc
 
 pub upto_same : {A : Type 0} (f g : ℕ → A) (k : ℕ) → ((i : ℕ) → i < k → f i ≡ g i) → upto f k ≡ upto g k
 upto_same f g zero h = refl
-upto_same f g (suc k) h = ap (λ l. l ++ f k ∷ []) (upto_same f g k (λ i l. h i (omega arith))) ∙ ap (λ x. upto g k ++ x ∷ []) (h k (omega arith))
+upto_same f g (suc k) h =
+    ap (λ l. l ++ f k ∷ []) (upto_same f g k (λ i l. h i (omega arith)))
+    ∙ ap (λ x. upto g k ++ x ∷ []) (h k (omega arith))
 
 pub next_tid : (first i : ℕ) → first + 1 + i ≡ first + (1 + i)
 next_tid first i = omega arith
 
 -- a talk by other words for the same commands and replies
-pub since_same : (a b : Option Talked) (xs ys rs qs : List (List ℕ)) → xs ≡ ys → rs ≡ qs → Since a b xs rs → Since a b ys qs
+pub since_same : (a b : Option Talked) (xs ys rs qs : List (List ℕ)) → xs ≡ ys → rs ≡ qs → Since a b xs rs
+    → Since a b ys qs
 since_same a b xs ys rs qs e f h = subst (λ l. Since a b ys l) f (subst (λ l. Since a b l rs) e h)
 
 -- one command and its reply, by another number that is the same
 single : (a b : Option Talked) (s t : ℕ) (command : CommandView) (answer : Answer) → s ≡ t
     → Since a b (spelling_of (decimal s) file_handle command ∷ []) (reply_of (decimal s) file_handle answer ∷ [])
     → Since a b (spelling_of (decimal t) file_handle command ∷ []) (reply_of (decimal t) file_handle answer ∷ [])
-single a b s t command answer e h = subst (λ n. Since a b (spelling_of (decimal n) file_handle command ∷ []) (reply_of (decimal n) file_handle answer ∷ [])) e h
+single a b s t command answer e h =
+    subst
+    (λ n. Since a b (spelling_of (decimal n) file_handle command ∷ [])
+    (reply_of (decimal n) file_handle answer ∷ []))
+    e h
 
 pub put_joined : (a b c d : Option Talked) (first : ℕ) (path bytes : List ℕ)
-    → Since a b (spelling_of (decimal first) file_handle (OpenWrite path) ∷ []) (reply_of (decimal first) file_handle (Opened 0) ∷ [])
-    → Since b c (upto (write_said (first + 1) bytes) (chunk_count (length bytes))) (upto (write_heard (first + 1) bytes) (chunk_count (length bytes)))
+    → Since a b (spelling_of (decimal first) file_handle (OpenWrite path) ∷ [])
+    (reply_of (decimal first) file_handle (Opened 0) ∷ [])
+    → Since b c (upto (write_said (first + 1) bytes) (chunk_count (length bytes)))
+    (upto (write_heard (first + 1) bytes) (chunk_count (length bytes)))
     → Since c d (spelling_of (decimal (first + 1 + chunk_count (length bytes))) file_handle Close ∷ [])
     (reply_of (decimal (first + 1 + chunk_count (length bytes))) file_handle (Closed (length bytes)) ∷ [])
-    → Since a d (put_commands (tids_from first) file_handle path bytes) (put_replies (tids_from first) file_handle bytes)
+    → Since a d (put_commands (tids_from first) file_handle path bytes)
+    (put_replies (tids_from first) file_handle bytes)
 put_joined a b c d first path bytes h k l =
     let n = chunk_count (length bytes) in
     since_then a b d _ _ _ _ (single a b first (first + 0) (OpenWrite path) (Opened 0) (omega arith) h)
@@ -68,15 +79,21 @@ put_joined a b c d first path bytes h k l =
     (since_same b c _ (upto (λ i. spelling_of (tids_from first (1 + i)) file_handle (Write (chunk bytes i))) n)
     _ (upto (λ i. reply_of (tids_from first (1 + i)) file_handle (Wrote (min (MAX_CHUNK * (1 + i)) (length bytes)))) n)
     (upto_same _ _ n (λ i m. ap (λ t. spelling_of (decimal t) file_handle (Write (chunk bytes i))) (next_tid first i)))
-    (upto_same _ _ n (λ i m. ap (λ t. reply_of (decimal t) file_handle (Wrote (min (MAX_CHUNK * (1 + i)) (length bytes)))) (next_tid first i))) k)
+    (upto_same _ _ n
+    (λ i m. ap (λ t. reply_of (decimal t) file_handle (Wrote (min (MAX_CHUNK * (1 + i)) (length bytes))))
+    (next_tid first i)))
+    k)
     (single c d (first + 1 + n) (first + (1 + n)) Close (Closed (length bytes)) (next_tid first n) l))
 
 pub get_joined : (a b c d : Option Talked) (first : ℕ) (path bytes : List ℕ)
-    → Since a b (spelling_of (decimal first) file_handle (OpenRead path) ∷ []) (reply_of (decimal first) file_handle (Opened (length bytes)) ∷ [])
-    → Since b c (upto (read_said (first + 1)) (1 + chunk_count (length bytes))) (upto (read_heard (first + 1) bytes) (1 + chunk_count (length bytes)))
+    → Since a b (spelling_of (decimal first) file_handle (OpenRead path) ∷ [])
+    (reply_of (decimal first) file_handle (Opened (length bytes)) ∷ [])
+    → Since b c (upto (read_said (first + 1)) (1 + chunk_count (length bytes)))
+    (upto (read_heard (first + 1) bytes) (1 + chunk_count (length bytes)))
     → Since c d (spelling_of (decimal (first + 2 + chunk_count (length bytes))) file_handle Close ∷ [])
     (reply_of (decimal (first + 2 + chunk_count (length bytes))) file_handle (Closed (length bytes)) ∷ [])
-    → Since a d (get_commands (tids_from first) file_handle path (length bytes)) (get_replies (tids_from first) file_handle bytes)
+    → Since a d (get_commands (tids_from first) file_handle path (length bytes))
+    (get_replies (tids_from first) file_handle bytes)
 get_joined a b c d first path bytes h k l =
     let n = chunk_count (length bytes) in
     since_then a b d _ _ _ _ (single a b first (first + 0) (OpenRead path) (Opened (length bytes)) (omega arith) h)
@@ -84,5 +101,7 @@ get_joined a b c d first path bytes h k l =
     (since_same b c _ (upto (λ i. spelling_of (tids_from first (1 + i)) file_handle Read) (1 + n))
     _ (upto (λ i. reply_of (tids_from first (1 + i)) file_handle (read_answer (chunk bytes i))) (1 + n))
     (upto_same _ _ (1 + n) (λ i m. ap (λ t. spelling_of (decimal t) file_handle Read) (next_tid first i)))
-    (upto_same _ _ (1 + n) (λ i m. ap (λ t. reply_of (decimal t) file_handle (read_answer (chunk bytes i))) (next_tid first i))) k)
+    (upto_same _ _ (1 + n)
+    (λ i m. ap (λ t. reply_of (decimal t) file_handle (read_answer (chunk bytes i))) (next_tid first i)))
+    k)
     (single c d (first + 2 + n) (first + (2 + n)) Close (Closed (length bytes)) (omega arith) l))

@@ -17,24 +17,32 @@ pub behind_nothing : (path : List ℕ) → IsBehindSlash path path
 behind_nothing path = record { front = []; whole = refl; behind = inl refl }
 
 -- what stands behind the first slash of such a name is such a name
-pub behind_more : (path name : List ℕ) → IsBehindSlash path name → position_or_len is_slash name < length name → IsBehindSlash path (after_first is_slash name)
+pub behind_more : (path name : List ℕ) → IsBehindSlash path name → position_or_len is_slash name < length name
+    → IsBehindSlash path (after_first is_slash name)
 behind_more path name h l =
     let t : eqb (get_or name (position_or_len is_slash name) 0) 47 ≡ true = passes_at_first is_slash name 0 l in
     let e : get_or name (position_or_len is_slash name) 0 ≡ 47 = grind (arith, nat_tests) in
     record {
       front = (h.front ++ before_first is_slash name) ++ 47 ∷ [];
-      whole = h.whole ∙ ap (λ n. h.front ++ n) (split_at_first is_slash name 0 l ∙ ap (λ y. before_first is_slash name ++ (y ∷ after_first is_slash name)) e)
+      whole =
+          h.whole
+          ∙ ap (λ n. h.front ++ n)
+          (split_at_first is_slash name 0 l
+          ∙ ap (λ y. before_first is_slash name ++ (y ∷ after_first is_slash name)) e)
           ∙ sym (append_assoc h.front (before_first is_slash name) (47 ∷ after_first is_slash name))
           ∙ sym (append_assoc (h.front ++ before_first is_slash name) (47 ∷ []) (after_first is_slash name));
       behind = inr (h.front ++ before_first is_slash name, refl);
     }
 
 -- a reader that gave less than the limit gave all
-pub all_read : {R : Type 0} (remaining : R → Option (List ℕ)) (t : Take R) (from : R) (old items : List ℕ) → IfSome (take_remaining remaining t) (λ xs. items ≡ old ++ xs)
+pub all_read : {R : Type 0} (remaining : R → Option (List ℕ)) (t : Take R) (from : R) (old items : List ℕ)
+    → IfSome (take_remaining remaining t) (λ xs. items ≡ old ++ xs)
     → old ≡ [] → t.inner ≡ from → length items < t.limit → IfSome (remaining from) (λ input. items ≡ input)
-all_read remaining t from old items h e f l = subst (λ r. IfSome (remaining r) (λ input. items ≡ input)) f (by (remaining t.inner) h)
+all_read remaining t from old items h e f l =
+    subst (λ r. IfSome (remaining r) (λ input. items ≡ input)) f (by (remaining t.inner) h)
   where
-    by : (known : Option (List ℕ)) → IfSome (option_map (take t.limit) known) (λ xs. items ≡ old ++ xs) → IfSome known (λ input. items ≡ input)
+    by : (known : Option (List ℕ)) → IfSome (option_map (take t.limit) known) (λ xs. items ≡ old ++ xs)
+        → IfSome known (λ input. items ≡ input)
     by None g = tt
     by (Some input) g =
         let is : items ≡ take t.limit input = g ∙ ap (λ o. o ++ take t.limit input) e in

@@ -43,7 +43,9 @@ number_named : (n : ℕ) → n < 100000000 → is_name 1 MAX_TID (decimal n) ≡
 number_named n l =
     let few : length (decimal n) ≤ 8 = search (rules, length-decimal-le 8) in
     let some : 0 < length (decimal n) = decimal_nonempty n (omega arith) in
-    named_by (nat_le 1 (length (decimal n))) (nat_le (length (decimal n)) MAX_TID) (list_all is_ascii_alphanumeric (decimal n)) (search (rules, nat_tests)) (search (rules, nat_tests)) (letters (decimal n) (decimal_is_IsNumeral n (omega arith)).0.1)
+    named_by (nat_le 1 (length (decimal n))) (nat_le (length (decimal n)) MAX_TID)
+    (list_all is_ascii_alphanumeric (decimal n)) (search (rules, nat_tests)) (search (rules, nat_tests))
+    (letters (decimal n) (decimal_is_IsNumeral n (omega arith)).0.1)
 
 pub can_copy : (first : ℕ) (path bytes : List ℕ) → first ≤ MAX_FIRST → is_path path ≡ true → length bytes ≤ MAX_FILE
     → CanCopy (tids_from first) (3 + chunk_count (length bytes)) file_handle path bytes
@@ -58,4 +60,5 @@ pub logs_in_named : (m : Files) (name : List ℕ) → is_name 1 MAX_NAME name �
     → Does m new_session (login_command name ∷ []) m (logged_in name) (login_reply name ∷ [])
 logs_in_named m name h =
     runs_one m new_session (login_command name) m (logged_in name) (login_reply name)
-    (logs_in m new_session (decimal 0) name (ap (λ v. v && (is_name 0 MAX_HANDLE [] && is_legal true (Login name))) (number_named 0 (omega arith)) ∙ h))
+    (logs_in m new_session (decimal 0) name
+    (ap (λ v. v && (is_name 0 MAX_HANDLE [] && is_legal true (Login name))) (number_named 0 (omega arith)) ∙ h))

@@ -13,7 +13,8 @@ full_count n = omega arith
 pub within_count : (n i : ℕ) → i < chunk_count n → MAX_CHUNK * i < n
 within_count n i l = omega arith
 
-pub front_more : (bytes : List ℕ) (i : ℕ) → take (MAX_CHUNK * i) bytes ++ chunk bytes i ≡ take (MAX_CHUNK * (1 + i)) bytes
+pub front_more : (bytes : List ℕ) (i : ℕ)
+    → take (MAX_CHUNK * i) bytes ++ chunk bytes i ≡ take (MAX_CHUNK * (1 + i)) bytes
 front_more bytes i = sym (take-add (MAX_CHUNK * i) MAX_CHUNK bytes) ∙ ap (λ k. take k bytes) (omega arith)
 
 pub front_all : (bytes : List ℕ) → take (MAX_CHUNK * chunk_count (length bytes)) bytes ≡ bytes
@@ -23,12 +24,16 @@ pub front_length : (bytes : List ℕ) (i : ℕ) → length (take (MAX_CHUNK * i)
 front_length bytes i = length-take (MAX_CHUNK * i) bytes
 
 -- a front and the next piece, counted
-pub piece_more : (bytes : List ℕ) (i : ℕ) → length (take (MAX_CHUNK * i) bytes) + length (chunk bytes i) ≡ min (MAX_CHUNK * (1 + i)) (length bytes)
+pub piece_more : (bytes : List ℕ) (i : ℕ)
+    → length (take (MAX_CHUNK * i) bytes) + length (chunk bytes i) ≡ min (MAX_CHUNK * (1 + i)) (length bytes)
 piece_more bytes i =
-    sym (length-append (take (MAX_CHUNK * i) bytes) (chunk bytes i)) ∙ ap length (front_more bytes i) ∙ front_length bytes (1 + i)
+    sym (length-append (take (MAX_CHUNK * i) bytes) (chunk bytes i)) ∙ ap length (front_more bytes i)
+    ∙ front_length bytes (1 + i)
 
 pub piece_length : (bytes : List ℕ) (i : ℕ) → length (chunk bytes i) ≤ MAX_CHUNK
-piece_length bytes i = subst (λ n. n ≤ MAX_CHUNK) (sym (length-take MAX_CHUNK (drop (MAX_CHUNK * i) bytes))) (min-le_left MAX_CHUNK (length (drop (MAX_CHUNK * i) bytes)))
+piece_length bytes i =
+    subst (λ n. n ≤ MAX_CHUNK) (sym (length-take MAX_CHUNK (drop (MAX_CHUNK * i) bytes)))
+    (min-le_left MAX_CHUNK (length (drop (MAX_CHUNK * i) bytes)))
 
 -- what is left behind a front that may go past the end
 pub drop_within : (a : ℕ) (xs : List ℕ) → drop (min a (length xs)) xs ≡ drop a xs

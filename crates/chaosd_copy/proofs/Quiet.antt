@@ -16,10 +16,12 @@ said_is_quiet true command None = refl
 said_is_quiet true command (Some a) = refl
 said_is_quiet false command a = refl
 
-pub quiet_say : (r : Bool) (command : List ℕ) (a b c : Option Talked) → heard_of b ≡ heard_of a → c ≡ after_say r command b → heard_of c ≡ heard_of a
+pub quiet_say : (r : Bool) (command : List ℕ) (a b c : Option Talked) → heard_of b ≡ heard_of a
+    → c ≡ after_say r command b → heard_of c ≡ heard_of a
 quiet_say r command a b c h e = ap heard_of e ∙ said_is_quiet r command b ∙ h
 
-pub unheard_is_quiet : {R : Type 0} (items : R → List ℕ) (r : Option R) (a b : Option Talked) → r ≡ None → b ≡ after_hear (option_map items r) a → heard_of b ≡ heard_of a
+pub unheard_is_quiet : {R : Type 0} (items : R → List ℕ) (r : Option R) (a b : Option Talked) → r ≡ None
+    → b ≡ after_hear (option_map items r) a → heard_of b ≡ heard_of a
 unheard_is_quiet items None a b none e = ap heard_of e
 unheard_is_quiet items (Some x) a b none e = cc
 
@@ -35,7 +37,9 @@ turned_more n a b (Some k) h (one, same) =
     (omega (arith, t.0, one), t.1 ∙ ap Some less)
 
 -- one command, of which it is known whether it was said
-pub known : {R F : Type 0} (items : R → List ℕ) (a b : Option Talked) (f : ℕ → List ℕ) (k : ℕ) (is_said : Bool) (command : List ℕ) (result : Result (Option R) F) → f 0 ≡ command → k ≤ 1
+pub known : {R F : Type 0} (items : R → List ℕ) (a b : Option Talked) (f : ℕ → List ℕ) (k : ℕ) (is_said : Bool)
+    (command : List ℕ) (result : Result (Option R) F)
+    → f 0 ≡ command → k ≤ 1
     → (is_said ≡ true → 0 < k) → (is_said ≡ false → k ≤ 0)
     → IfOk result (λ r. Since a b (upto f k) ([] ++ heard_in (option_map items r)))
     → IfOk result (λ r. MatchOption r (Since a b (said_if is_said command) []) (λ _. Unit {0}))
@@ -51,8 +55,10 @@ known items a b f k false command (Ok None) e l m n h =
     subst (λ cs. Since a b cs []) (ap (upto f) none) h
 
 -- who got no reply waited for one
-pub unanswered_by : {R : Type 0} (items : R → List ℕ) (r : Option R) (tid handle : List ℕ) (W : List ℕ → Type 0) (end : CopyEnd) (P Q : Type 0)
-    → UnlessCopied end (EndedBy tid handle W (option_map items r)) → MatchOption r P (λ _. Unit {0}) → (P → Q) → UnlessAnswered end Q
+pub unanswered_by : {R : Type 0} (items : R → List ℕ) (r : Option R) (tid handle : List ℕ) (W : List ℕ → Type 0)
+    (end : CopyEnd) (P Q : Type 0)
+    → UnlessCopied end (EndedBy tid handle W (option_map items r)) → MatchOption r P (λ _. Unit {0}) → (P → Q)
+    → UnlessAnswered end Q
 unanswered_by items r tid handle W e.Done P Q h w f = tt
 unanswered_by items r tid handle W (e.Refused reply) P Q h w f = tt
 unanswered_by items r tid handle W (e.Strange reply) P Q h w f = tt
@@ -60,7 +66,8 @@ unanswered_by items None tid handle W e.NoReply P Q h w f = f w
 unanswered_by items (Some x) tid handle W e.NoReply P Q h w f = absurd (none_some (items x) (sym h))
 unanswered_by items r tid handle W e.Unknown P Q h w f = absurd h
 
-pub unanswered_waited : {R : Type 0} (r : Option R) (end : CopyEnd) (is_said : Bool) (P Q : Type 0) → end ≡ unanswered is_said → r ≡ None → MatchOption r P (λ _. Unit {0}) → (P → Q) → UnlessAnswered end Q
+pub unanswered_waited : {R : Type 0} (r : Option R) (end : CopyEnd) (is_said : Bool) (P Q : Type 0)
+    → end ≡ unanswered is_said → r ≡ None → MatchOption r P (λ _. Unit {0}) → (P → Q) → UnlessAnswered end Q
 unanswered_waited None end true P Q same e w f = subst (λ x. UnlessAnswered x Q) (sym same) (f w)
 unanswered_waited None end false P Q same e w f = subst (λ x. UnlessAnswered x Q) (sym same) (f w)
 unanswered_waited (Some x) end s P Q same e w f = cc
@@ -70,9 +77,12 @@ where_none None P e h = h
 where_none (Some x) P e h = cc
 
 -- it was waited for long enough
-pub late : (a b c : Option ℕ) (n since s m : ℕ) → Turned n a b → c ≡ b → since ≡ s → (REPLY_TURNS ≤ n) × (since + REPLY_MILLIS ≤ m)
+pub late : (a b c : Option ℕ) (n since s m : ℕ) → Turned n a b → c ≡ b → since ≡ s
+    → (REPLY_TURNS ≤ n) × (since + REPLY_MILLIS ≤ m)
     → (turns : ℕ) × Turned turns a c × IsLong turns s m
-late a b c n since s m t e f long = (n, subst (Turned n a) (sym e) t, (long.0, inl (subst (λ x. x + REPLY_MILLIS ≤ m) f long.1)))
+late a b c n since s m t e f long =
+    (n, subst (Turned n a) (sym e) t, (long.0, inl (subst (λ x. x + REPLY_MILLIS ≤ m) f long.1)))
 
-pub latest : (a b : Option ℕ) (n s m : ℕ) → Turned n a b → n ≡ MOST_TURNS → (turns : ℕ) × Turned turns a b × IsLong turns s m
+pub latest : (a b : Option ℕ) (n s m : ℕ) → Turned n a b → n ≡ MOST_TURNS
+    → (turns : ℕ) × Turned turns a b × IsLong turns s m
 latest a b n s m t e = (n, t, (omega (arith, e), inr e))

@@ -17,15 +17,19 @@ pub length_is_text : (bs : List ℕ) (n : ℕ) → n ≤ MAX_FILE → bs ≡ dec
 length_is_text bs n fits is = IsUtf8-from_ascii bs (subst IsAscii (sym is) (IsAscii-decimal n (omega (arith, fits))))
 
 -- and is read as the number that it writes
-pub length_read : {E : Type 0} (bs : List ℕ) (n : ℕ) (r : Result ℕ E) → n ≤ MAX_FILE → bs ≡ decimal n → ParsesUnsigned 64 10 bs r → r ≡ Ok n
+pub length_read : {E : Type 0} (bs : List ℕ) (n : ℕ) (r : Result ℕ E) → n ≤ MAX_FILE → bs ≡ decimal n
+    → ParsesUnsigned 64 10 bs r → r ≡ Ok n
 length_read bs n r fits is h = parse-decimal 64 n bs r (omega (arith, fits)) (omega (arith, fits)) is h
 
 -- the front of a reply to OPEN, and a length behind it
-pub opened_joined : (tid front : List ℕ) (n : ℕ) → front ≡ reply_front tid file_handle ++ (codes "OPEN " ++ []) → front ++ decimal n ≡ reply_of tid file_handle (Opened n)
-opened_joined tid front n is = ap (λ l. l ++ decimal n) is ∙ append_assoc (reply_front tid file_handle) (codes "OPEN " ++ []) (decimal n)
+pub opened_joined : (tid front : List ℕ) (n : ℕ) → front ≡ reply_front tid file_handle ++ (codes "OPEN " ++ [])
+    → front ++ decimal n ≡ reply_of tid file_handle (Opened n)
+opened_joined tid front n is =
+    ap (λ l. l ++ decimal n) is ∙ append_assoc (reply_front tid file_handle) (codes "OPEN " ++ []) (decimal n)
 
 -- what stands behind the front is the length
-pub opened_digits : (tid front digits reply : List ℕ) (n : ℕ) → front ≡ reply_front tid file_handle ++ (codes "OPEN " ++ []) → reply ≡ front ++ digits
+pub opened_digits : (tid front digits reply : List ℕ) (n : ℕ)
+    → front ≡ reply_front tid file_handle ++ (codes "OPEN " ++ []) → reply ≡ front ++ digits
     → Some reply ≡ Some (reply_of tid file_handle (Opened n)) → digits ≡ decimal n
 opened_digits tid front digits reply n is begins e =
     let same : reply ≡ reply_of tid file_handle (Opened n) = cc in

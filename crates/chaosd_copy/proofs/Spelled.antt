@@ -6,7 +6,8 @@ use Rattle.chaos_file.specs.Answer.{reply_front}
 use Rattle.chaos_file.specs.Command.{CommandView}
 use Rattle.chaos_file.specs.Spelling.{spelling_of, spelling_of_command}
 
-pub front_spelled : (tid handle : List ℕ) (command : CommandView) → reply_front tid handle ++ spelling_of_command command ≡ spelling_of tid handle command
+pub front_spelled : (tid handle : List ℕ) (command : CommandView)
+    → reply_front tid handle ++ spelling_of_command command ≡ spelling_of tid handle command
 front_spelled tid handle command =
     append_assoc (tid ++ (space ∷ []) ++ handle) (space ∷ []) (spelling_of_command command)
     ∙ append_assoc (tid ++ (space ∷ [])) handle (space ∷ spelling_of_command command)

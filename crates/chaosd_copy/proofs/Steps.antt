@@ -42,7 +42,9 @@ same_bytes xs = search (rules, bytes_eq-Decides)
 
 -- the one file that is open
 pub named_one : (h : HandleView) → handle_named h.name (h ∷ []) ≡ Some (0, h)
-named_one h = ap (λ v. handle_with_place (h ∷ []) (cond (ltb (cond (not v) (1 + 0) 0) 1) (Some (cond (not v) (1 + 0) 0)) None)) (same_bytes h.name)
+named_one h =
+    ap (λ v. handle_with_place (h ∷ []) (cond (ltb (cond (not v) (1 + 0) 0) 1) (Some (cond (not v) (1 + 0) 0)) None))
+    (same_bytes h.name)
 
 not_over : (a b : ℕ) → a ≤ b → nat_lt b a ≡ false
 not_over a b h = le-ltb b a h
@@ -52,22 +54,28 @@ abbrev pub writing : List ℕ → List ℕ → List ℕ → HandleView
 writing handle path bytes = record { name = handle; path = path; writes = true; bytes = bytes; position = 0 }
 
 abbrev pub reading : List ℕ → List ℕ → List ℕ → ℕ → HandleView
-reading handle path bytes position = record { name = handle; path = path; writes = false; bytes = bytes; position = position }
+reading handle path bytes position =
+    record { name = handle; path = path; writes = false; bytes = bytes; position = position }
 
 -- ---- the names
 
 both_true : (a b : Bool) → a ≡ true → b ≡ true → (a && b) ≡ true
 both_true a b h k = ap (λ v. v && b) h ∙ k
 
-pub good_name : (handle : List ℕ) → is_name 1 MAX_HANDLE handle ≡ true → (is_name 0 MAX_HANDLE handle ≡ true) × (is_nil handle ≡ false)
+pub good_name : (handle : List ℕ) → is_name 1 MAX_HANDLE handle ≡ true
+    → (is_name 0 MAX_HANDLE handle ≡ true) × (is_nil handle ≡ false)
 good_name [] h = cc
 good_name (b ∷ bytes) h =
-    let first : (nat_le 1 (length (b ∷ bytes)) && nat_le (length (b ∷ bytes)) MAX_HANDLE) ≡ true = both_left _ (list_all is_ascii_alphanumeric (b ∷ bytes)) h in
-    let letters : list_all is_ascii_alphanumeric (b ∷ bytes) ≡ true = both_right _ (list_all is_ascii_alphanumeric (b ∷ bytes)) h in
-    let short : nat_le (length (b ∷ bytes)) MAX_HANDLE ≡ true = both_right (nat_le 1 (length (b ∷ bytes))) (nat_le (length (b ∷ bytes)) MAX_HANDLE) first in
+    let first : (nat_le 1 (length (b ∷ bytes)) && nat_le (length (b ∷ bytes)) MAX_HANDLE) ≡ true =
+    both_left _ (list_all is_ascii_alphanumeric (b ∷ bytes)) h in
+    let letters : list_all is_ascii_alphanumeric (b ∷ bytes) ≡ true =
+    both_right _ (list_all is_ascii_alphanumeric (b ∷ bytes)) h in
+    let short : nat_le (length (b ∷ bytes)) MAX_HANDLE ≡ true =
+    both_right (nat_le 1 (length (b ∷ bytes))) (nat_le (length (b ∷ bytes)) MAX_HANDLE) first in
     (both_true (nat_le 0 (length (b ∷ bytes)) && nat_le (length (b ∷ bytes)) MAX_HANDLE) _ (both_true (nat_le 0 (length (b ∷ bytes))) _ (search rules) short) letters, search rules)
 
-pub good_of : (tid handle : List ℕ) (command : CommandView) → is_name 1 MAX_TID tid ≡ true → is_name 1 MAX_HANDLE handle ≡ true → is_legal false command ≡ true
+pub good_of : (tid handle : List ℕ) (command : CommandView) → is_name 1 MAX_TID tid ≡ true
+    → is_name 1 MAX_HANDLE handle ≡ true → is_legal false command ≡ true
     → is_good tid handle command ≡ true
 good_of tid handle command t h l =
     let both = good_name handle h in
@@ -80,41 +88,53 @@ good_of tid handle command t h l =
 pub logs_in : (m : Files) (s : SessionView) (tid name : List ℕ) → is_good tid [] (Login name) ≡ true
     → StepIs m s (spelling_of tid [] (Login name)) m (record s { name = Some name }) (reply_of tid [] (LoggedIn name))
 logs_in m s tid name good =
-    step_good m s tid [] (Login name) (record { files = m; session = record s { name = Some name }; answer = LoggedIn name }) good refl
+    step_good m s tid [] (Login name)
+    (record { files = m; session = record s { name = Some name }; answer = LoggedIn name }) good refl
 
 pub opens_to_write : (m : Files) (name tid handle path : List ℕ) → is_good tid handle (OpenWrite path) ≡ true
-    → StepIs m (logged_in name) (spelling_of tid handle (OpenWrite path)) m (with_open name (writing handle path [] ∷ [])) (reply_of tid handle (Opened 0))
+    → StepIs m (logged_in name) (spelling_of tid handle (OpenWrite path)) m
+    (with_open name (writing handle path [] ∷ [])) (reply_of tid handle (Opened 0))
 opens_to_write m name tid handle path good =
-    step_good m (logged_in name) tid handle (OpenWrite path) (record { files = m; session = with_open name (writing handle path [] ∷ []); answer = Opened 0 }) good refl
+    step_good m (logged_in name) tid handle (OpenWrite path)
+    (record { files = m; session = with_open name (writing handle path [] ∷ []); answer = Opened 0 }) good refl
 
 abbrev one_open : List ℕ → HandleView → SessionView
 one_open name h = with_open name (h ∷ [])
 
-pub writes_more : (m : Files) (name tid handle path bytes more : List ℕ) → is_good tid handle (Write more) ≡ true → length bytes + length more ≤ MAX_FILE
+pub writes_more : (m : Files) (name tid handle path bytes more : List ℕ) → is_good tid handle (Write more) ≡ true
+    → length bytes + length more ≤ MAX_FILE
     → StepIs m (one_open name (writing handle path bytes)) (spelling_of tid handle (Write more))
     m (one_open name (writing handle path (bytes ++ more))) (reply_of tid handle (Wrote (length bytes + length more)))
 writes_more m name tid handle path bytes more good fits =
     let s = one_open name (writing handle path bytes) in
     let t = one_open name (writing handle path (bytes ++ more)) in
-    step_good m s tid handle (Write more) (record { files = m; session = t; answer = Wrote (length bytes + length more) }) good
+    step_good m s tid handle (Write more)
+    (record { files = m; session = t; answer = Wrote (length bytes + length more) }) good
     (ap (λ f. outcome_of m s (plan_write more s f)) (named_one (writing handle path bytes))
-    ∙ ap (λ v. outcome_of m s (if v then Refuse e.FileTooBig else Grow t (Wrote (length bytes + length more)))) (not_over (length bytes + length more) MAX_FILE fits))
+    ∙ ap (λ v. outcome_of m s (if v then Refuse e.FileTooBig else Grow t (Wrote (length bytes + length more))))
+    (not_over (length bytes + length more) MAX_FILE fits))
 
 pub closes_written : (m : Files) (name tid handle path bytes : List ℕ) → is_good tid handle Close ≡ true
     → StepIs m (one_open name (writing handle path bytes)) (spelling_of tid handle Close)
     (map.insert m path bytes) (logged_in name) (reply_of tid handle (Closed (length bytes)))
 closes_written m name tid handle path bytes good =
     let s = one_open name (writing handle path bytes) in
-    step_good m s tid handle Close (record { files = map.insert m path bytes; session = logged_in name; answer = Closed (length bytes) }) good
+    step_good m s tid handle Close
+    (record { files = map.insert m path bytes; session = logged_in name; answer = Closed (length bytes) }) good
     (ap (λ f. outcome_of m s (plan_close s f)) (named_one (writing handle path bytes)))
 
-pub opens_to_read : (m : Files) (name tid handle path bytes : List ℕ) → is_good tid handle (OpenRead path) ≡ true → map.get m path ≡ Some bytes → length bytes ≤ MAX_FILE
-    → StepIs m (logged_in name) (spelling_of tid handle (OpenRead path)) m (one_open name (reading handle path bytes 0)) (reply_of tid handle (Opened (length bytes)))
+pub opens_to_read : (m : Files) (name tid handle path bytes : List ℕ) → is_good tid handle (OpenRead path) ≡ true
+    → map.get m path ≡ Some bytes → length bytes ≤ MAX_FILE
+    → StepIs m (logged_in name) (spelling_of tid handle (OpenRead path)) m (one_open name (reading handle path bytes 0))
+    (reply_of tid handle (Opened (length bytes)))
 opens_to_read m name tid handle path bytes good there fits =
     let s = logged_in name in
-    step_good m s tid handle (OpenRead path) (record { files = m; session = one_open name (reading handle path bytes 0); answer = Opened (length bytes) }) good
+    step_good m s tid handle (OpenRead path)
+    (record { files = m; session = one_open name (reading handle path bytes 0); answer = Opened (length bytes) })
+    good
     (ap (λ o. outcome_of_look m s handle path (look_within MAX_FILE o)) there
-    ∙ ap (λ v. outcome_of_look m s handle path (if v then Over else Found bytes)) (not_over (length bytes) MAX_FILE fits))
+    ∙ ap (λ v. outcome_of_look m s handle path (if v then Over else Found bytes))
+    (not_over (length bytes) MAX_FILE fits))
 
 pub reads_on : (m : Files) (name tid handle path bytes : List ℕ) (position : ℕ) → is_good tid handle Read ≡ true
     → StepIs m (one_open name (reading handle path bytes position)) (spelling_of tid handle Read)

@@ -65,7 +65,8 @@ put_front_replies tid handle bytes k = reply_of (tid 0) handle (Opened 0) ∷ up
 abbrev pub put_replies : Tids → List ℕ → List ℕ → List (List ℕ)
 put_replies tid handle bytes =
     reply_of (tid 0) handle (Opened 0)
-    ∷ (upto (λ i. reply_of (tid (1 + i)) handle (Wrote (min (MAX_CHUNK * (1 + i)) (length bytes)))) (chunk_count (length bytes))
+    ∷ (upto (λ i. reply_of (tid (1 + i)) handle (Wrote (min (MAX_CHUNK * (1 + i)) (length bytes))))
+    (chunk_count (length bytes))
     ++ reply_of (tid (1 + chunk_count (length bytes))) handle (Closed (length bytes)) ∷ [])
 
 -- OPEN READ, a READ for each piece of a file of so many bytes and one more, CLOSE
@@ -77,7 +78,8 @@ get_commands tid handle path n =
 
 -- OPEN READ and so many READs
 abbrev pub get_front : Tids → List ℕ → List ℕ → ℕ → List (List ℕ)
-get_front tid handle path k = spelling_of (tid 0) handle (OpenRead path) ∷ upto (λ i. spelling_of (tid (1 + i)) handle Read) k
+get_front tid handle path k =
+    spelling_of (tid 0) handle (OpenRead path) ∷ upto (λ i. spelling_of (tid (1 + i)) handle Read) k
 
 -- the replies to OPEN, which told this length, and to so many of the READs, which gave these bytes
 abbrev pub get_front_replies : Tids → List ℕ → ℕ → List ℕ → ℕ → List (List ℕ)
@@ -94,7 +96,8 @@ get_replies tid handle bytes =
 -- ---- what commands do
 
 -- The commands, one after another over these files and from this session on, leave those and have these replies.
-pub record Does (m : Files) (s : SessionView) (commands : List (List ℕ)) (n : Files) (t : SessionView) (replies : List (List ℕ)) : Type 0 where
+pub record Does (m : Files) (s : SessionView) (commands : List (List ℕ)) (n : Files) (t : SessionView)
+    (replies : List (List ℕ)) : Type 0 where
   pub files : files_after m s commands ≡ n
   pub session : session_after m s commands ≡ t
   pub replies_are : replies_from m s commands ≡ replies

@@ -53,7 +53,8 @@ abbrev pub write_said : ℕ → List ℕ → ℕ → List ℕ
 write_said first bytes i = spelling_of (decimal (first + i)) file_handle (Write (chunk bytes i))
 
 abbrev pub write_heard : ℕ → List ℕ → ℕ → List ℕ
-write_heard first bytes i = reply_of (decimal (first + i)) file_handle (Wrote (min (MAX_CHUNK * (1 + i)) (length bytes)))
+write_heard first bytes i =
+    reply_of (decimal (first + i)) file_handle (Wrote (min (MAX_CHUNK * (1 + i)) (length bytes)))
 
 -- the READs of a file, and their replies
 abbrev pub read_said : ℕ → ℕ → List ℕ
@@ -64,21 +65,26 @@ read_heard first bytes i = reply_of (decimal (first + i)) file_handle (read_answ
 
 -- ---- what was said, however a copy ended
 
--- Of a put nothing was said since then; or OPEN and some of the WRITEs, which change no file; or all of it, CLOSE too, and then OPEN and
--- each WRITE were answered as they should be.
+-- Of a put nothing was said since then; or OPEN and some of the WRITEs, which change no file; or all of it, CLOSE too,
+-- and then OPEN and each WRITE were answered as they should be.
 abbrev pub PutBegun : Option Talked → Option Talked → Tids → List ℕ → List ℕ → List ℕ → Type 0
 PutBegun start now tid handle path bytes =
     ((replies : List (List ℕ)) × Since start now [] replies)
-    ⊎ (((writes : ℕ) × (writes ≤ chunk_count (length bytes)) × (replies : List (List ℕ)) × Since start now (put_front tid handle path bytes writes) replies)
-    ⊎ ((last : List (List ℕ)) × Since start now (put_commands tid handle path bytes) (put_front_replies tid handle bytes (chunk_count (length bytes)) ++ last)))
+    ⊎ (((writes : ℕ) × (writes ≤ chunk_count (length bytes)) × (replies : List (List ℕ))
+    × Since start now (put_front tid handle path bytes writes) replies)
+    ⊎ ((last : List (List ℕ))
+    × Since start now (put_commands tid handle path bytes)
+    (put_front_replies tid handle bytes (chunk_count (length bytes)) ++ last)))
 
--- Of a get nothing was said since then; or OPEN and some READs, no more than a file of FILE needs; or all that gets a file of some such
--- length.
+-- Of a get nothing was said since then; or OPEN and some READs, no more than a file of FILE needs; or all that gets a
+-- file of some such length.
 abbrev pub GetBegun : Option Talked → Option Talked → Tids → List ℕ → List ℕ → Type 0
 GetBegun start now tid handle path =
     ((replies : List (List ℕ)) × Since start now [] replies)
-    ⊎ (((len : ℕ) × (len ≤ MAX_FILE) × (reads : ℕ) × (reads ≤ 1 + chunk_count len) × (replies : List (List ℕ)) × Since start now (get_front tid handle path reads) replies)
-    ⊎ ((len : ℕ) × (len ≤ MAX_FILE) × (replies : List (List ℕ)) × Since start now (get_commands tid handle path len) replies))
+    ⊎ (((len : ℕ) × (len ≤ MAX_FILE) × (reads : ℕ) × (reads ≤ 1 + chunk_count len) × (replies : List (List ℕ))
+    × Since start now (get_front tid handle path reads) replies)
+    ⊎ ((len : ℕ) × (len ≤ MAX_FILE) × (replies : List (List ℕ))
+    × Since start now (get_commands tid handle path len) replies))
 
 -- ---- how a copy ended that wasn't done
 
@@ -120,30 +126,42 @@ IsErrorTo tid handle reply = (text : List ℕ) × (reply ≡ reply_front tid han
 abbrev pub EndedBy : List ℕ → List ℕ → (List ℕ → Type 0) → Option (List ℕ) → CopyEnd → Type 0
 EndedBy tid handle Wanted last e.Done = ⊥
 EndedBy tid handle Wanted last (e.Refused reply) = (last ≡ Some reply.items) × IsErrorTo tid handle reply.items
-EndedBy tid handle Wanted last (e.Strange reply) = (last ≡ Some reply.items) × (IsErrorTo tid handle reply.items → ⊥) × (Wanted reply.items → ⊥)
+EndedBy tid handle Wanted last (e.Strange reply) =
+    (last ≡ Some reply.items) × (IsErrorTo tid handle reply.items → ⊥) × (Wanted reply.items → ⊥)
 EndedBy tid handle Wanted last e.NoReply = last ≡ None
 EndedBy tid handle Wanted last e.Unknown = ⊥
 
 -- Since then these replies were heard, and then the last, or none, by which the copy ended.
-abbrev pub EndedAt : Option Talked → Option Talked → List (List ℕ) → List ℕ → List ℕ → (List ℕ → Type 0) → CopyEnd → Type 0
-EndedAt start now before tid handle Wanted end = (last : Option (List ℕ)) × Heard start now (before ++ heard_in last) × EndedBy tid handle Wanted last end
+abbrev pub EndedAt : Option Talked → Option Talked → List (List ℕ) → List ℕ → List ℕ → (List ℕ → Type 0) → CopyEnd
+    → Type 0
+EndedAt start now before tid handle Wanted end =
+    (last : Option (List ℕ)) × Heard start now (before ++ heard_in last) × EndedBy tid handle Wanted last end
 
 -- Some WRITEs were answered well, and the put ended by the reply to the next.
 abbrev pub WritesEnded : Option Talked → Option Talked → ℕ → List ℕ → CopyEnd → Type 0
 WritesEnded start now first bytes end = (i : ℕ) × (i < chunk_count (length bytes))
-    × EndedAt start now (upto (write_heard first bytes) i) (decimal (first + i)) file_handle (λ r. r ≡ write_heard first bytes i) end
+    × EndedAt start now (upto (write_heard first bytes) i) (decimal (first + i)) file_handle
+    (λ r. r ≡ write_heard first bytes i) end
 
--- A put ended by the reply to OPEN; or OPEN was answered well, and it ended by the reply to a WRITE, and those before it were answered
--- well; or so were all, and it ended by the reply to CLOSE; or CLOSE was said, got none, and whether the file was put isn't known; or it
--- could not be said.
+-- A put ended by the reply to OPEN; or OPEN was answered well, and it ended by the reply to a WRITE, and those before
+-- it were answered well; or so were all, and it ended by the reply to CLOSE; or CLOSE was said, got none, and whether
+-- the file was put isn't known; or it could not be said.
 abbrev pub PutEnded : Option Talked → Option Talked → Tids → List ℕ → List ℕ → List ℕ → CopyEnd → Type 0
 PutEnded start now tid handle path bytes end =
     EndedAt start now [] (tid 0) handle (λ r. r ≡ reply_of (tid 0) handle (Opened 0)) end
-    ⊎ (((i : ℕ) × (i < chunk_count (length bytes)) × EndedAt start now (put_front_replies tid handle bytes i) (tid (1 + i)) handle (λ r. r ≡ put_reply tid handle bytes i) end)
-    ⊎ (((reply : List ℕ) × Heard start now (put_front_replies tid handle bytes (chunk_count (length bytes)) ++ reply ∷ [])
-    × EndedBy (tid (1 + chunk_count (length bytes))) handle (λ r. r ≡ reply_of (tid (1 + chunk_count (length bytes))) handle (Closed (length bytes))) (Some reply) end)
-    ⊎ (((end ≡ e.Unknown) × Since start now (put_commands tid handle path bytes) (put_front_replies tid handle bytes (chunk_count (length bytes))))
-    ⊎ ((end ≡ e.NoReply) × Since start now (put_front tid handle path bytes (chunk_count (length bytes))) (put_front_replies tid handle bytes (chunk_count (length bytes)))))))
+    ⊎ (((i : ℕ) × (i < chunk_count (length bytes))
+    × EndedAt start now (put_front_replies tid handle bytes i) (tid (1 + i)) handle
+    (λ r. r ≡ put_reply tid handle bytes i) end)
+    ⊎ (((reply : List ℕ)
+    × Heard start now (put_front_replies tid handle bytes (chunk_count (length bytes)) ++ reply ∷ [])
+    × EndedBy (tid (1 + chunk_count (length bytes))) handle
+    (λ r. r ≡ reply_of (tid (1 + chunk_count (length bytes))) handle (Closed (length bytes))) (Some reply) end)
+    ⊎ (((end ≡ e.Unknown)
+    × Since start now (put_commands tid handle path bytes)
+    (put_front_replies tid handle bytes (chunk_count (length bytes))))
+    ⊎ ((end ≡ e.NoReply)
+    × Since start now (put_front tid handle path bytes (chunk_count (length bytes)))
+    (put_front_replies tid handle bytes (chunk_count (length bytes)))))))
 
 -- the reply to the OPEN of a file of some length that FILE allows
 abbrev pub IsOpened : List ℕ → List ℕ → List ℕ → Type 0
@@ -155,19 +173,25 @@ IsGiven tid handle size reply = (piece : List ℕ) × (length piece ≡ size) ×
 
 -- the reply to a READ of a file of this length: as many bytes as its piece at this place has, and EOF behind the last
 abbrev pub IsPiece : List ℕ → List ℕ → ℕ → ℕ → List ℕ → Type 0
-IsPiece tid handle len i reply = (piece : List ℕ) × (length piece ≡ min (len - MAX_CHUNK * i) MAX_CHUNK) × (reply ≡ reply_of tid handle (read_answer piece))
+IsPiece tid handle len i reply =
+    (piece : List ℕ) × (length piece ≡ min (len - MAX_CHUNK * i) MAX_CHUNK)
+    × (reply ≡ reply_of tid handle (read_answer piece))
 
 -- Some READs gave these bytes, and the get ended by the reply to the next.
 abbrev pub ReadsEnded : Option Talked → Option Talked → ℕ → ℕ → List ℕ → CopyEnd → Type 0
 ReadsEnded start now first len bytes end = (i : ℕ) × (i ≤ chunk_count len)
-    × EndedAt start now (upto (read_heard first bytes) i) (decimal (first + i)) file_handle (IsPiece (decimal (first + i)) file_handle len i) end
+    × EndedAt start now (upto (read_heard first bytes) i) (decimal (first + i)) file_handle
+    (IsPiece (decimal (first + i)) file_handle len i) end
 
--- A get ended by the reply to OPEN; or that told a length, and some READs gave these bytes, and it ended by the reply to the next; or so
--- did all, and it ended by the reply to CLOSE.
+-- A get ended by the reply to OPEN; or that told a length, and some READs gave these bytes, and it ended by the reply
+-- to the next; or so did all, and it ended by the reply to CLOSE.
 abbrev pub GetEnded : Option Talked → Option Talked → Tids → List ℕ → List ℕ → CopyEnd → Type 0
 GetEnded start now tid handle bytes end =
     EndedAt start now [] (tid 0) handle (IsOpened (tid 0) handle) end
     ⊎ ((len : ℕ) × (len ≤ MAX_FILE)
-    × (((i : ℕ) × (i ≤ chunk_count len) × EndedAt start now (get_front_replies tid handle len bytes i) (tid (1 + i)) handle (IsPiece (tid (1 + i)) handle len i) end)
-    ⊎ EndedAt start now (get_front_replies tid handle len bytes (1 + chunk_count len)) (tid (2 + chunk_count len)) handle
+    × (((i : ℕ) × (i ≤ chunk_count len)
+    × EndedAt start now (get_front_replies tid handle len bytes i) (tid (1 + i)) handle
+    (IsPiece (tid (1 + i)) handle len i) end)
+    ⊎ EndedAt start now (get_front_replies tid handle len bytes (1 + chunk_count len)) (tid (2 + chunk_count len))
+    handle
     (λ r. r ≡ reply_of (tid (2 + chunk_count len)) handle (Closed len)) end))

@@ -32,11 +32,13 @@ Heard start now replies = (commands : List (List ℕ)) × Since start now comman
 
 -- Since then this command was said or not, and no other.
 abbrev pub SaidOrNot : Option Talked → Option Talked → List ℕ → Type 0
-SaidOrNot start now command = (replies : List (List ℕ)) × (Since start now [] replies ⊎ Since start now (command ∷ []) replies)
+SaidOrNot start now command =
+    (replies : List (List ℕ)) × (Since start now [] replies ⊎ Since start now (command ∷ []) replies)
 
 -- Since then some of the commands f 0, f 1, .. were said, from the first on and at most so many, and no others.
 abbrev pub SaidUpTo : Option Talked → Option Talked → (ℕ → List ℕ) → ℕ → Type 0
-SaidUpTo start now f most = (said : ℕ) × (said ≤ most) × (replies : List (List ℕ)) × Since start now (upto f said) replies
+SaidUpTo start now f most =
+    (said : ℕ) × (said ≤ most) × (replies : List (List ℕ)) × Since start now (upto f said) replies
 
 -- a command, where it was said
 abbrev pub said_if : Bool → List ℕ → List (List ℕ)
@@ -67,12 +69,13 @@ Turned n before (Some k) = (n ≤ k) × (before ≡ Some (k - n))
 abbrev pub heard_of : Option Talked → Option (List (List ℕ))
 heard_of talk = option_map (λ t. t.heard) talk
 
--- That many turns, from the one moment to the other, are long enough to wait for a reply: 1,000, and 10 seconds; where the clock stands
--- still, 4,294,967,295.
+-- That many turns, from the one moment to the other, are long enough to wait for a reply: 1,000, and 10 seconds; where
+-- the clock stands still, 4,294,967,295.
 abbrev pub IsLong : ℕ → ℕ → ℕ → Type 0
 IsLong turns since moment = (REPLY_TURNS ≤ turns) × ((since + REPLY_MILLIS ≤ moment) ⊎ (turns ≡ MOST_TURNS))
 
 -- Since then nothing was heard, and the talk is over or has gone on for long enough.
 abbrev pub InVain : Option Talked → Course → Option Talked → Course → Type 0
 InVain start since now course = (heard_of now ≡ heard_of start)
-    × ((course.is_over ≡ true) ⊎ ((turns : ℕ) × Turned turns since.turns course.turns × IsLong turns since.moment course.moment))
+    × ((course.is_over ≡ true)
+    ⊎ ((turns : ℕ) × Turned turns since.turns course.turns × IsLong turns since.moment course.moment))

@@ -28,7 +28,8 @@ abbrev pub other_set : Charset → Charset
 other_set c.LispMachine = c.Ascii
 other_set c.Ascii = c.LispMachine
 
--- the bytes that this set has for the other's four: one that is there before the others are put in this set would come back as another
+-- the bytes that this set has for the other's four: one that is there before the others are put in this set would come
+-- back as another
 abbrev pub is_lost : Charset → ℕ → Bool
 is_lost c.LispMachine b = b == 136 || b == 137 || b == 140 || b == 141
 is_lost c.Ascii b = b == 8 || b == 9 || b == 10 || b == 12

@@ -35,14 +35,18 @@ use Rattle.file_client.proofs.Talking.{talks_none, talks_on}
 long_command : (raw : List ℕ) → KEPT_LEN ≤ length raw → command_of raw ≡ None
 unfolding command_of
 long_command raw long =
-    let test : ltb LINE_LIMIT (length (strip_last 13 raw)) ≡ true = lt-ltb LINE_LIMIT _ (omega (arith, length-strip_last 13 raw)) in
+    let test : ltb LINE_LIMIT (length (strip_last 13 raw)) ≡ true =
+    lt-ltb LINE_LIMIT _ (omega (arith, length-strip_last 13 raw)) in
     ap (λ b. cond b None (data_of (strip_last 13 raw))) test
 
-front_decides : (f g : List ℕ) (is_short : Bool) → ltb (length f) KEPT_LEN ≡ is_short → take KEPT_LEN f ≡ take KEPT_LEN g → command_of f ≡ command_of g
+front_decides : (f g : List ℕ) (is_short : Bool) → ltb (length f) KEPT_LEN ≡ is_short
+    → take KEPT_LEN f ≡ take KEPT_LEN g → command_of f ≡ command_of g
 front_decides f g true short e =
     let len : length (take KEPT_LEN f) ≡ length (take KEPT_LEN g) = ap length e in
     let few : length f < KEPT_LEN = grind (arith, nat_tests) in
-    ap command_of (sym (take_all KEPT_LEN f (omega arith)) ∙ e ∙ take_all KEPT_LEN g (omega (arith, length-take KEPT_LEN f, length-take KEPT_LEN g)))
+    ap command_of
+    (sym (take_all KEPT_LEN f (omega arith)) ∙ e
+    ∙ take_all KEPT_LEN g (omega (arith, length-take KEPT_LEN f, length-take KEPT_LEN g)))
 front_decides f g false long e =
     let len : length (take KEPT_LEN f) ≡ length (take KEPT_LEN g) = ap length e in
     let many : KEPT_LEN ≤ length f = grind (arith, nat_tests) in
@@ -53,35 +57,47 @@ kept_decides line raw e = sym (front_decides line raw (ltb (length line) KEPT_LE
 
 -- ---- the lines that were given are the first
 
-without_empty_last-append : (lines pieces : List (List ℕ)) → 0 < length pieces → without_empty_last (lines ++ pieces) ≡ lines ++ without_empty_last pieces
+without_empty_last-append : (lines pieces : List (List ℕ)) → 0 < length pieces
+    → without_empty_last (lines ++ pieces) ≡ lines ++ without_empty_last pieces
 without_empty_last-append [] pieces some = refl
 without_empty_last-append (first ∷ []) [] some = absurd (omega (arith, some))
 without_empty_last-append (first ∷ []) (piece ∷ pieces) some = refl
-without_empty_last-append (first ∷ next ∷ others) pieces some = ap (λ l. first ∷ l) (without_empty_last-append (next ∷ others) pieces some)
+without_empty_last-append (first ∷ next ∷ others) pieces some =
+    ap (λ l. first ∷ l) (without_empty_last-append (next ∷ others) pieces some)
 
-all_but_last-append : (lines pieces : List (List ℕ)) → 0 < length pieces → all_but_last (lines ++ pieces) ≡ lines ++ all_but_last pieces
+all_but_last-append : (lines pieces : List (List ℕ)) → 0 < length pieces
+    → all_but_last (lines ++ pieces) ≡ lines ++ all_but_last pieces
 all_but_last-append [] pieces some = refl
 all_but_last-append (first ∷ []) [] some = absurd (omega (arith, some))
 all_but_last-append (first ∷ []) (piece ∷ pieces) some = refl
-all_but_last-append (first ∷ next ∷ others) pieces some = ap (λ l. first ∷ l) (all_but_last-append (next ∷ others) pieces some)
+all_but_last-append (first ∷ next ∷ others) pieces some =
+    ap (λ l. first ∷ l) (all_but_last-append (next ∷ others) pieces some)
 
-begins_short : (all rest : List ℕ) (given : List (List ℕ)) (v : LinesView) → Gives KEPT_LEN INPUT_LIMIT (Some all) (Some rest) given v → (others : List (List ℕ)) × (lines_of all ≡ given ++ others)
+begins_short : (all rest : List ℕ) (given : List (List ℕ)) (v : LinesView)
+    → Gives KEPT_LEN INPUT_LIMIT (Some all) (Some rest) given v
+    → (others : List (List ℕ)) × (lines_of all ≡ given ++ others)
 begins_short all rest given v s =
     let after : List ℕ = s.begun ++ (v.waiting ++ rest) in (
       without_empty_last (pieces_of after),
-      ap lines_of s.came ∙ ap without_empty_last (s.goes_on rest) ∙ without_empty_last-append given (pieces_of after) (omega (arith, length-slice_split is_newline after)),
+      ap lines_of s.came ∙ ap without_empty_last (s.goes_on rest)
+          ∙ without_empty_last-append given (pieces_of after) (omega (arith, length-slice_split is_newline after)),
     )
 
-begins_long : (all rest : List ℕ) (given : List (List ℕ)) (v : LinesView) → Gives KEPT_LEN INPUT_LIMIT (Some all) (Some rest) given v → (others : List (List ℕ)) × (ended_lines (take INPUT_LIMIT all) ≡ given ++ others)
+begins_long : (all rest : List ℕ) (given : List (List ℕ)) (v : LinesView)
+    → Gives KEPT_LEN INPUT_LIMIT (Some all) (Some rest) given v
+    → (others : List (List ℕ)) × (ended_lines (take INPUT_LIMIT all) ≡ given ++ others)
 begins_long all rest given v s =
     let near : List ℕ = s.begun ++ (v.waiting ++ take v.room rest) in
     let limited : take INPUT_LIMIT all ≡ s.read ++ take v.room rest =
-    ap (take INPUT_LIMIT) s.came ∙ ap (λ n. take n (s.read ++ rest)) (sym s.room ∙ omega arith) ∙ take-append-add s.read rest v.room in (
+    ap (take INPUT_LIMIT) s.came ∙ ap (λ n. take n (s.read ++ rest)) (sym s.room ∙ omega arith)
+    ∙ take-append-add s.read rest v.room in (
       all_but_last (pieces_of near),
-      ap ended_lines limited ∙ ap all_but_last (s.goes_on (take v.room rest)) ∙ all_but_last-append given (pieces_of near) (omega (arith, length-slice_split is_newline near)),
+      ap ended_lines limited ∙ ap all_but_last (s.goes_on (take v.room rest))
+          ∙ all_but_last-append given (pieces_of near) (omega (arith, length-slice_split is_newline near)),
     )
 
-begin_by : (is_long : Bool) (all rest : List ℕ) (given : List (List ℕ)) (v : LinesView) → Gives KEPT_LEN INPUT_LIMIT (Some all) (Some rest) given v
+begin_by : (is_long : Bool) (all rest : List ℕ) (given : List (List ℕ)) (v : LinesView)
+    → Gives KEPT_LEN INPUT_LIMIT (Some all) (Some rest) given v
     → (others : List (List ℕ)) × (cond is_long (ended_lines (take INPUT_LIMIT all)) (lines_of all) ≡ given ++ others)
 begin_by true all rest given v s = begins_long all rest given v s
 begin_by false all rest given v s = begins_short all rest given v s
@@ -90,16 +106,19 @@ begin_by false all rest given v s = begins_short all rest given v s
 abbrev pub Begins : Option (List ℕ) → List (List ℕ) → Type 0
 Begins input given = IfSome input (λ all. (others : List (List ℕ)) × (lines_within all ≡ given ++ others))
 
-gives_begins : (input rest : Option (List ℕ)) (given : List (List ℕ)) (v : LinesView) → Gives KEPT_LEN INPUT_LIMIT input rest given v → Begins input given
+gives_begins : (input rest : Option (List ℕ)) (given : List (List ℕ)) (v : LinesView)
+    → Gives KEPT_LEN INPUT_LIMIT input rest given v → Begins input given
 gives_begins None rest given v s = tt
 gives_begins (Some all) None given v s = absurd s.came
 gives_begins (Some all) (Some rest) given v s = begin_by (ltb INPUT_LIMIT (length all)) all rest given v s
 
 -- of an input within the limit all lines can be had
 within_all : (all : List ℕ) → length all ≤ INPUT_LIMIT → lines_within all ≡ lines_of all
-within_all all few = ap (λ b. cond b (ended_lines (take INPUT_LIMIT all)) (lines_of all)) (le-ltb INPUT_LIMIT (length all) few)
+within_all all few =
+    ap (λ b. cond b (ended_lines (take INPUT_LIMIT all)) (lines_of all)) (le-ltb INPUT_LIMIT (length all) few)
 
-done_begins : (input rest : Option (List ℕ)) (given : List (List ℕ)) → Done INPUT_LIMIT input rest given → Begins input given
+done_begins : (input rest : Option (List ℕ)) (given : List (List ℕ)) → Done INPUT_LIMIT input rest given
+    → Begins input given
 done_begins None rest given s = tt
 done_begins (Some all) rest given s = ([], within_all all s.lines.0 ∙ s.lines.1 ∙ sym (append-nil given))
 
@@ -110,29 +129,37 @@ IsNext input given line = (raw : List ℕ) × (take KEPT_LEN line ≡ take KEPT_
 pub next_is : (input rest : Option (List ℕ)) (given : List (List ℕ)) (v : LinesView) (line : List ℕ) → line ≡ v.line → GivesNext KEPT_LEN INPUT_LIMIT input rest given v true → IsNext input given line
 next_is input rest given v line e (raw, front, gives) = (raw, ap (take KEPT_LEN) e ∙ front, gives_begins input rest (given ++ raw ∷ []) v gives)
 
-pub last_is : (input rest : Option (List ℕ)) (given : List (List ℕ)) (line : List ℕ) → GivesLast KEPT_LEN INPUT_LIMIT input rest given (Some line) → IsNext input given line
+pub last_is : (input rest : Option (List ℕ)) (given : List (List ℕ)) (line : List ℕ)
+    → GivesLast KEPT_LEN INPUT_LIMIT input rest given (Some line) → IsNext input given line
 last_is input rest given line (raw, front, done) = (raw, front, done_begins input rest (given ++ raw ∷ []) done)
 
 -- ---- a command
 
-some_command : (line raw : List ℕ) (command : List ℕ) → take KEPT_LEN line ≡ take KEPT_LEN raw → command_of line ≡ Some command → IsCommand raw
+some_command : (line raw : List ℕ) (command : List ℕ) → take KEPT_LEN line ≡ take KEPT_LEN raw
+    → command_of line ≡ Some command → IsCommand raw
 some_command line raw command e h = ap is_some (kept_decides line raw e ∙ h)
 
 -- one reply more
-text_more : (before between after : Option (List ℕ)) (replies : List (List ℕ)) (reply : List ℕ) → Appends before between (replies_text replies) → Appends between after (reply_line reply) → Appends before after (replies_text (replies ++ reply ∷ []))
+text_more : (before between after : Option (List ℕ)) (replies : List (List ℕ)) (reply : List ℕ)
+    → Appends before between (replies_text replies) → Appends between after (reply_line reply)
+    → Appends before after (replies_text (replies ++ reply ∷ []))
 text_more before between after replies reply printed more =
     subst (Appends before after)
-    (sym (flat_map-append reply_line replies (reply ∷ []) ∙ ap (λ l. replies_text replies ++ l) (append-nil (reply_line reply))))
+    (sym
+    (flat_map-append reply_line replies (reply ∷ [])
+    ∙ ap (λ l. replies_text replies ++ l) (append-nil (reply_line reply))))
     (Appends-trans before between after (replies_text replies) (reply_line reply) printed more)
 
 one_said : (raw command : List ℕ) → command_of raw ≡ Some command → commands_said (raw ∷ []) ≡ command_item command ∷ []
 one_said raw command is = ap (λ o. item_for o ++ []) is
 
 -- one command more
-said_more : (given : List (List ℕ)) (before said : List ItemView) (raw command : List ℕ) → before ≡ commands_said given → said ≡ command_item command ∷ [] → command_of raw ≡ Some command
+said_more : (given : List (List ℕ)) (before said : List ItemView) (raw command : List ℕ) → before ≡ commands_said given
+    → said ≡ command_item command ∷ [] → command_of raw ≡ Some command
     → before ++ said ≡ commands_said (given ++ raw ∷ [])
 said_more given before said raw command so_far now is =
-    ap (λ l. l ++ said) so_far ∙ ap (λ l. commands_said given ++ l) (now ∙ sym (one_said raw command is)) ∙ sym (flat_map-append (λ line. item_for (command_of line)) given (raw ∷ []))
+    ap (λ l. l ++ said) so_far ∙ ap (λ l. commands_said given ++ l) (now ∙ sym (one_said raw command is))
+    ∙ sym (flat_map-append (λ line. item_for (command_of line)) given (raw ∷ []))
 
 -- a command got its reply
 pub asked_more : (p : Pace) (first mid last : Talker) (before between after : Option (List ℕ)) (replied : ℕ) (given : List (List ℕ)) (line raw : List ℕ) → take KEPT_LEN line ≡ take KEPT_LEN raw → Asked p first mid before between replied given
@@ -151,16 +178,22 @@ asked_more p first mid last before between after replied given line raw front s 
   heard = ap (λ l. s.talk.heard ++ l) heard ∙ ap (λ l. l ++ reply ∷ []) s.heard;
 }
 
-pub last_asked : (p : Pace) (first mid last : Talker) (input rest before between after : Option (List ℕ)) (replied : ℕ) (given : List (List ℕ)) (line : List ℕ) → Asked p first mid before between replied given
-    → GivesLast KEPT_LEN INPUT_LIMIT input rest given (Some line) → AsksLine p mid last replied line between after (Ok true) → AskedAll p first last input rest before after (replied + 1)
+pub last_asked : (p : Pace) (first mid last : Talker) (input rest before between after : Option (List ℕ)) (replied : ℕ)
+    (given : List (List ℕ)) (line : List ℕ)
+    → Asked p first mid before between replied given
+    → GivesLast KEPT_LEN INPUT_LIMIT input rest given (Some line)
+    → AsksLine p mid last replied line between after (Ok true)
+    → AskedAll p first last input rest before after (replied + 1)
 last_asked p first mid last input rest before between after replied given line s (raw, front, done) asks =
     (given ++ raw ∷ [], asked_more p first mid last before between after replied given line raw front s asks, done)
 
 -- ---- how a run ends
 
-tried_first : (input : Option (List ℕ)) (tried : List (List ℕ)) (count : ℕ) → All IsCommand tried → length tried ≡ count → Begins input tried → IfSome input (λ all. BeginWithCommands count (lines_within all))
+tried_first : (input : Option (List ℕ)) (tried : List (List ℕ)) (count : ℕ) → All IsCommand tried → length tried ≡ count
+    → Begins input tried → IfSome input (λ all. BeginWithCommands count (lines_within all))
 tried_first None tried count commands number h = tt
-tried_first (Some all) tried count commands number h = record { tried = tried; others = h.0; whole = h.1; commands = commands; number = number }
+tried_first (Some all) tried count commands number h =
+    record { tried = tried; others = h.0; whole = h.1; commands = commands; number = number }
 
 same_count : (n : ℕ) → eqb n n ≡ true
 same_count n = grind (arith, nat_tests)
@@ -169,23 +202,31 @@ less_count : (n : ℕ) → eqb n (n + 1) ≡ false
 less_count n = grind (arith, nat_tests)
 
 -- where each command got a reply, nothing stands behind the replies; else it is said that one got none
-whole_text : (before after : Option (List ℕ)) (replied : ℕ) (replies : List (List ℕ)) → Appends before after (replies_text replies)
+whole_text : (before after : Option (List ℕ)) (replied : ℕ) (replies : List (List ℕ))
+    → Appends before after (replies_text replies)
     → Appends before after (replies_text replies ++ ending_of (record { commands = replied; replied = replied }))
 whole_text before after replied replies printed =
-    subst (Appends before after) (sym (ap (λ b. replies_text replies ++ cond b [] no_reply_line) (same_count replied) ∙ append-nil _)) printed
+    subst (Appends before after)
+    (sym (ap (λ b. replies_text replies ++ cond b [] no_reply_line) (same_count replied) ∙ append-nil _)) printed
 
-part_text : (before between after : Option (List ℕ)) (replied : ℕ) (replies : List (List ℕ)) → Appends before between (replies_text replies) → Appends between after no_reply_line
+part_text : (before between after : Option (List ℕ)) (replied : ℕ) (replies : List (List ℕ))
+    → Appends before between (replies_text replies) → Appends between after no_reply_line
     → Appends before after (replies_text replies ++ ending_of (record { commands = replied + 1; replied = replied }))
 part_text before between after replied replies printed none =
     subst (Appends before after) (sym (ap (λ b. replies_text replies ++ cond b [] no_reply_line) (less_count replied)))
     (Appends-trans before between after (replies_text replies) no_reply_line printed none)
 
-all_given : (input rest : Option (List ℕ)) (given : List (List ℕ)) (replied : ℕ) → length given ≡ replied → All IsCommand given → Done INPUT_LIMIT input rest given → IfSome input (λ all. (length all ≤ INPUT_LIMIT) × AreCommands replied (lines_of all))
+all_given : (input rest : Option (List ℕ)) (given : List (List ℕ)) (replied : ℕ) → length given ≡ replied
+    → All IsCommand given → Done INPUT_LIMIT input rest given
+    → IfSome input (λ all. (length all ≤ INPUT_LIMIT) × AreCommands replied (lines_of all))
 all_given None rest given replied count commands s = tt
-all_given (Some all) rest given replied count commands s = (s.lines.0, (subst (All IsCommand) (sym s.lines.1) commands, ap length s.lines.1 ∙ count))
+all_given (Some all) rest given replied count commands s =
+    (s.lines.0, (subst (All IsCommand) (sym s.lines.1) commands, ap length s.lines.1 ∙ count))
 
 -- each command got a reply
-pub ran_to_end : (p : Pace) (first last : Talker) (input rest before after : Option (List ℕ)) (replied : ℕ) → AskedAll p first last input rest before after replied → Ran input rest before after (record { commands = replied; replied = replied })
+pub ran_to_end : (p : Pace) (first last : Talker) (input rest before after : Option (List ℕ)) (replied : ℕ)
+    → AskedAll p first last input rest before after replied
+    → Ran input rest before after (record { commands = replied; replied = replied })
 ran_to_end p first last input rest before after replied (given, s, done) = record {
   counts = (omega arith, omega arith);
   text = record {
@@ -199,9 +240,13 @@ ran_to_end p first last input rest before after replied (given, s, done) = recor
 }
 
 -- a command got no reply
-pub ran_in_part : (p : Pace) (first mid last : Talker) (input rest before between after : Option (List ℕ)) (replied : ℕ) (given : List (List ℕ)) (line : List ℕ) → Asked p first mid before between replied given
-    → IsNext input given line → AsksLine p mid last replied line between after (Ok false) → Ran input rest before after (record { commands = replied + 1; replied = replied })
-ran_in_part p first mid last input rest before between after replied given line s (raw, front, begun) (command, is, exchange, printed) =
+pub ran_in_part : (p : Pace) (first mid last : Talker) (input rest before between after : Option (List ℕ)) (replied : ℕ)
+    (given : List (List ℕ)) (line : List ℕ)
+    → Asked p first mid before between replied given
+    → IsNext input given line → AsksLine p mid last replied line between after (Ok false)
+    → Ran input rest before after (record { commands = replied + 1; replied = replied })
+ran_in_part p first mid last input rest before between after replied given line s (raw, front, begun)
+    (command, is, exchange, printed) =
     let differ : replied ≡ replied + 1 → ⊥ = λ same. omega (arith, same) in
     record {
       counts = (omega arith, omega arith);
@@ -210,12 +255,16 @@ ran_in_part p first mid last input rest before between after replied given line 
         number = s.printed.number;
         text = part_text before between after replied s.printed.replies s.printed.text printed;
       };
-      tried = tried_first input (given ++ raw ∷ []) (replied + 1) (All-push IsCommand given raw s.commands (some_command line raw command front is)) (length-append given (raw ∷ []) ∙ ap (λ n. n + 1) s.count) begun;
+      tried =
+          tried_first input (given ++ raw ∷ []) (replied + 1)
+          (All-push IsCommand given raw s.commands (some_command line raw command front is))
+          (length-append given (raw ∷ []) ∙ ap (λ n. n + 1) s.count) begun;
       whole = λ same. absurd (differ same);
       ended = λ same. absurd (differ same);
     }
 
-first_bad : (input : Option (List ℕ)) (given : List (List ℕ)) (raw : List ℕ) (replied : ℕ) → length given ≡ replied → All IsCommand given → command_of raw ≡ None → Begins input (given ++ raw ∷ [])
+first_bad : (input : Option (List ℕ)) (given : List (List ℕ)) (raw : List ℕ) (replied : ℕ) → length given ≡ replied
+    → All IsCommand given → command_of raw ≡ None → Begins input (given ++ raw ∷ [])
     → IfSome input (λ all. IsFirstBad (replied + 1) (lines_within all))
 first_bad None given raw replied count commands none h = tt
 first_bad (Some all) given raw replied count commands none h = record {
@@ -228,8 +277,11 @@ first_bad (Some all) given raw replied count commands none h = record {
   count = ap (λ n. n + 1) (sym count);
 }
 
-met_bad : (p : Pace) (first last : Talker) (input rest before between after : Option (List ℕ)) (replied : ℕ) (given : List (List ℕ)) (line : List ℕ) → Asked p first last before between replied given
-    → IsNext input given line → command_of line ≡ None → after ≡ between → Runs input rest before after (Err (BadScript (replied + 1)))
+met_bad : (p : Pace) (first last : Talker) (input rest before between after : Option (List ℕ)) (replied : ℕ)
+    (given : List (List ℕ)) (line : List ℕ)
+    → Asked p first last before between replied given
+    → IsNext input given line → command_of line ≡ None → after ≡ between
+    → Runs input rest before after (Err (BadScript (replied + 1)))
 met_bad p first last input rest before between after replied given line s (raw, front, begun) is same =
     let number : replied ≡ replied + 1 - 1 = omega arith in (
       first_bad input given raw replied s.count s.commands (kept_decides line raw front ∙ is) begun,
@@ -248,15 +300,22 @@ line_runs p q first mid last input rest before between after replied given line 
 line_runs p q first mid last input rest before between after replied given line ReadFault s next h = absurd h
 line_runs p q first mid last input rest before between after replied given line InputTooLong s next h = absurd h
 
-replies_to : (given lines : List (List ℕ)) (before after : Option (List ℕ)) (replied : ℕ) → given ≡ lines → length given ≡ replied → All IsCommand given → PrintsReplies replied before after
+replies_to : (given lines : List (List ℕ)) (before after : Option (List ℕ)) (replied : ℕ) → given ≡ lines
+    → length given ≡ replied → All IsCommand given → PrintsReplies replied before after
     → All IsCommand lines × PrintsReplies (length lines) before after
-replies_to given lines before after replied e count commands printed = (subst (All IsCommand) e commands, subst (λ n. PrintsReplies n before after) (sym count ∙ ap length e) printed)
+replies_to given lines before after replied e count commands printed =
+    (subst (All IsCommand) e commands, subst (λ n. PrintsReplies n before after) (sym count ∙ ap length e) printed)
 
-past_runs : (input before after : Option (List ℕ)) (given : List (List ℕ)) (replied : ℕ) → length given ≡ replied → All IsCommand given → PrintsReplies replied before after
+past_runs : (input before after : Option (List ℕ)) (given : List (List ℕ)) (replied : ℕ) → length given ≡ replied
+    → All IsCommand given → PrintsReplies replied before after
     → IfSome input (λ all. (INPUT_LIMIT < length all) × (given ≡ ended_lines (take INPUT_LIMIT all)))
-    → IfSome input (λ all. (INPUT_LIMIT < length all) × (All IsCommand (ended_lines (take INPUT_LIMIT all)) × PrintsReplies (length (ended_lines (take INPUT_LIMIT all))) before after))
+    → IfSome input
+    (λ all. (INPUT_LIMIT < length all)
+    × (All IsCommand (ended_lines (take INPUT_LIMIT all))
+    × PrintsReplies (length (ended_lines (take INPUT_LIMIT all))) before after))
 past_runs None before after given replied count commands printed h = tt
-past_runs (Some all) before after given replied count commands printed h = (h.0, replies_to given _ before after replied h.1 count commands printed)
+past_runs (Some all) before after given replied count commands printed h =
+    (h.0, replies_to given _ before after replied h.1 count commands printed)
 
 -- no more could be had
 pub unread_runs : (p : Pace) (first last : Talker) (input rest before after : Option (List ℕ)) (replied : ℕ) (given : List (List ℕ)) (v : LinesView) (fault : RunFault) → Asked p first last before after replied given
@@ -270,7 +329,8 @@ unread_runs p first last input rest before after replied given v LinkFault s h =
 unread_runs p first last input rest before after replied given v ClockFault s h = absurd h
 
 -- a fault of a turn says nothing
-pub turn_runs : (input rest before after : Option (List ℕ)) (count : ℕ) (fault : RunFault) → IsTurnFault count fault → Runs input rest before after (Err fault)
+pub turn_runs : (input rest before after : Option (List ℕ)) (count : ℕ) (fault : RunFault) → IsTurnFault count fault
+    → Runs input rest before after (Err fault)
 turn_runs input rest before after count LinkFault h = tt
 turn_runs input rest before after count ClockFault h = tt
 turn_runs input rest before after count ReadFault h = absurd h
@@ -279,7 +339,8 @@ turn_runs input rest before after count InputTooLong h = absurd h
 turn_runs input rest before after count NoMemory h = absurd h
 turn_runs input rest before after count (BadScript number) h = absurd h
 
-pub write_runs : (input rest before after : Option (List ℕ)) (fault : RunFault) → fault ≡ WriteFault → Runs input rest before after (Err fault)
+pub write_runs : (input rest before after : Option (List ℕ)) (fault : RunFault) → fault ≡ WriteFault
+    → Runs input rest before after (Err fault)
 write_runs input rest before after fault same = subst (λ f. Runs input rest before after (Err f)) (sym same) tt
 
 -- nothing was asked yet
@@ -296,27 +357,35 @@ nothing_asked p first before = record {
 
 -- ---- what was said and heard
 
-first_said : (input : Option (List ℕ)) (given : List (List ℕ)) (count : ℕ) (said : List ItemView) → said ≡ commands_said given → length given ≡ count → Begins input given
+first_said : (input : Option (List ℕ)) (given : List (List ℕ)) (count : ℕ) (said : List ItemView)
+    → said ≡ commands_said given → length given ≡ count → Begins input given
     → IfSome input (λ all. said ≡ commands_said (take count (lines_within all)))
 first_said None given count said e number h = tt
 first_said (Some all) given count said e number (others, whole) =
-    let front : take count (lines_within all) ≡ given = ap (λ n. take n (lines_within all)) (sym number) ∙ ap (take (length given)) whole ∙ take-append_seam given others in
+    let front : take count (lines_within all) ≡ given =
+    ap (λ n. take n (lines_within all)) (sym number) ∙ ap (take (length given)) whole
+    ∙ take-append_seam given others in
     e ∙ ap commands_said (sym front)
 
-tried_said : (input : Option (List ℕ)) (given : List (List ℕ)) (count : ℕ) (said last : List ItemView) → said ++ last ≡ commands_said given → length given ≡ count → Begins input given
+tried_said : (input : Option (List ℕ)) (given : List (List ℕ)) (count : ℕ) (said last : List ItemView)
+    → said ++ last ≡ commands_said given → length given ≡ count → Begins input given
     → IfSome input (λ all. commands_said (take count (lines_within all)) ≡ said ++ last)
 tried_said None given count said last e number h = tt
-tried_said (Some all) given count said last e number h = sym (first_said (Some all) given count (said ++ last) e number h)
+tried_said (Some all) given count said last e number h =
+    sym (first_said (Some all) given count (said ++ last) e number h)
 
-fewer_begin : (input : Option (List ℕ)) (given : List (List ℕ)) (raw : List ℕ) → Begins input (given ++ raw ∷ []) → Begins input given
+fewer_begin : (input : Option (List ℕ)) (given : List (List ℕ)) (raw : List ℕ) → Begins input (given ++ raw ∷ [])
+    → Begins input given
 fewer_begin None given raw h = tt
 fewer_begin (Some all) given raw (others, whole) = (raw ∷ others, whole ∙ append_assoc given (raw ∷ []) others)
 
-heard_text : (before after : Option (List ℕ)) (printed heard : List (List ℕ)) (more : List ℕ) → heard ≡ printed → Appends before after (replies_text printed ++ more) → Appends before after (replies_text heard ++ more)
+heard_text : (before after : Option (List ℕ)) (printed heard : List (List ℕ)) (more : List ℕ) → heard ≡ printed
+    → Appends before after (replies_text printed ++ more) → Appends before after (replies_text heard ++ more)
 heard_text before after printed heard more e h = subst (λ l. Appends before after (replies_text l ++ more)) (sym e) h
 
 -- each command got a reply
-pub asks_to_end : (p : Pace) (first last parted : Talker) (input rest before after : Option (List ℕ)) (replied : ℕ) → AskedAll p first last input rest before after replied → SaysFarewell p last parted
+pub asks_to_end : (p : Pace) (first last parted : Talker) (input rest before after : Option (List ℕ)) (replied : ℕ)
+    → AskedAll p first last input rest before after replied → SaysFarewell p last parted
     → AsksAll p first parted input before after (record { commands = replied; replied = replied })
 asks_to_end p first last parted input rest before after replied (given, s, done) farewell = record {
   talk = s.talk;
@@ -324,26 +393,36 @@ asks_to_end p first last parted input rest before after replied (given, s, done)
   asks = s.talks;
   said = first_said input given replied s.talk.said s.said s.count (done_begins input rest given done);
   heard = ap length s.heard ∙ s.printed.number;
-  text = heard_text before after s.printed.replies s.talk.heard _ s.heard (whole_text before after replied s.printed.replies s.printed.text);
+  text =
+      heard_text before after s.printed.replies s.talk.heard _ s.heard
+      (whole_text before after replied s.printed.replies s.printed.text);
   to_end = λ _. farewell;
   in_part = λ differ. absurd (omega (arith, differ));
 }
 
 -- a command got no reply
-pub asks_in_part : (p : Pace) (first last parted : Talker) (input before between after : Option (List ℕ)) (replied : ℕ) (given : List (List ℕ)) (line : List ℕ) → Asked p first last before between replied given
-    → IsNext input given line → AsksLine p last parted replied line between after (Ok false) → AsksAll p first parted input before after (record { commands = replied + 1; replied = replied })
-asks_in_part p first last parted input before between after replied given line s (raw, front, begun) (command, is, exchange, printed) = record {
-  talk = s.talk;
-  replied = last;
-  asks = s.talks;
-  said = first_said input given replied s.talk.said s.said s.count (fewer_begin input given raw begun);
-  heard = ap length s.heard ∙ s.printed.number;
-  text = heard_text before after s.printed.replies s.talk.heard _ s.heard (part_text before between after replied s.printed.replies s.printed.text printed);
-  to_end = λ same. absurd (omega (arith, same));
-  in_part = λ _. (
-    command,
-    exchange,
-    tried_said input (given ++ raw ∷ []) (replied + 1) s.talk.said (command_item command ∷ []) (said_more given s.talk.said (command_item command ∷ []) raw command s.said refl (kept_decides line raw front ∙ is))
-        (length-append given (raw ∷ []) ∙ ap (λ n. n + 1) s.count) begun,
-  );
-}
+pub asks_in_part : (p : Pace) (first last parted : Talker) (input before between after : Option (List ℕ)) (replied : ℕ)
+    (given : List (List ℕ)) (line : List ℕ)
+    → Asked p first last before between replied given
+    → IsNext input given line → AsksLine p last parted replied line between after (Ok false)
+    → AsksAll p first parted input before after (record { commands = replied + 1; replied = replied })
+asks_in_part p first last parted input before between after replied given line s (raw, front, begun)
+    (command, is, exchange, printed) = record {
+      talk = s.talk;
+      replied = last;
+      asks = s.talks;
+      said = first_said input given replied s.talk.said s.said s.count (fewer_begin input given raw begun);
+      heard = ap length s.heard ∙ s.printed.number;
+      text =
+          heard_text before after s.printed.replies s.talk.heard _ s.heard
+          (part_text before between after replied s.printed.replies s.printed.text printed);
+      to_end = λ same. absurd (omega (arith, same));
+      in_part = λ _. (
+        command,
+        exchange,
+        tried_said input (given ++ raw ∷ []) (replied + 1) s.talk.said (command_item command ∷ [])
+            (said_more given s.talk.said (command_item command ∷ []) raw command s.said refl
+            (kept_decides line raw front ∙ is))
+            (length-append given (raw ∷ []) ∙ ap (λ n. n + 1) s.count) begun,
+      );
+    }

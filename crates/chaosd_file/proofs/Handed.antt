@@ -15,13 +15,19 @@ use Rattle.file_client.specs.Talk.{Talker}
 use Rattle.chaosd_file.specs.declared.end.ScriptEnd.{ScriptEnd}
 use Rattle.chaosd_io.specs.Reader.{LinesView, Gives, GivesMore}
 
-prints_kept : (count : ℕ) (before between after : Option (List ℕ)) → PrintsReplies count before between → Keeps between after → PrintsReplies count before after
-prints_kept count before between after s kept = record { replies = s.replies; number = s.number; text = Appends-kept before between after _ s.text kept }
+prints_kept : (count : ℕ) (before between after : Option (List ℕ)) → PrintsReplies count before between
+    → Keeps between after → PrintsReplies count before after
+prints_kept count before between after s kept =
+    record { replies = s.replies; number = s.number; text = Appends-kept before between after _ s.text kept }
 
-prints_to_kept : (lines : List (List ℕ)) (before between after : Option (List ℕ)) → PrintsRepliesTo lines before between → Keeps between after → PrintsRepliesTo lines before after
-prints_to_kept lines before between after (commands, printed) kept = (commands, prints_kept _ before between after printed kept)
+prints_to_kept : (lines : List (List ℕ)) (before between after : Option (List ℕ)) → PrintsRepliesTo lines before between
+    → Keeps between after → PrintsRepliesTo lines before after
+prints_to_kept lines before between after (commands, printed) kept
+    = (commands, prints_kept _ before between after printed kept)
 
-asked_kept : (p : Pace) (first last : Talker) (before between after : Option (List ℕ)) (replied : ℕ) (given : List (List ℕ)) → Asked p first last before between replied given → Keeps between after
+asked_kept : (p : Pace) (first last : Talker) (before between after : Option (List ℕ)) (replied : ℕ)
+    (given : List (List ℕ))
+    → Asked p first last before between replied given → Keeps between after
     → Asked p first last before after replied given
 unfolding prints_kept
 asked_kept p first last before between after replied given s kept = record {
@@ -35,40 +41,52 @@ asked_kept p first last before between after replied given s kept = record {
 }
 
 -- what was asked stays asked where the replies are handed on
-pub given_kept : (p : Pace) (first last : Talker) (input rest before between after : Option (List ℕ)) (replied : ℕ) (v : LinesView) → AskedGiven p first last input rest before between replied v → Keeps between after
+pub given_kept : (p : Pace) (first last : Talker) (input rest before between after : Option (List ℕ)) (replied : ℕ)
+    (v : LinesView)
+    → AskedGiven p first last input rest before between replied v → Keeps between after
     → AskedGiven p first last input rest before after replied v
-given_kept p first last input rest before between after replied v (given, asked, gives) kept = (given, asked_kept p first last before between after replied given asked kept, gives)
+given_kept p first last input rest before between after replied v (given, asked, gives)
+    kept = (given, asked_kept p first last before between after replied given asked kept, gives)
 
 -- more lines came
-pub some_came : (kept limit : ℕ) (input rest : Option (List ℕ)) (given : List (List ℕ)) (v : LinesView) (more : Bool) → more ≡ true → GivesMore kept limit input rest given v (Ok more)
+pub some_came : (kept limit : ℕ) (input rest : Option (List ℕ)) (given : List (List ℕ)) (v : LinesView) (more : Bool)
+    → more ≡ true → GivesMore kept limit input rest given v (Ok more)
     → Gives kept limit input rest given v
 some_came kept limit input rest given v true e gives = gives
 some_came kept limit input rest given v false e gives = absurd (cc)
 
 -- what a writer holds, where nothing waits behind it
-nothing_waits : (between held : Option (List ℕ)) (waiting : List ℕ) → waiting ≡ [] → Keeps between (written_of held waiting) → Keeps between held
+nothing_waits : (between held : Option (List ℕ)) (waiting : List ℕ) → waiting ≡ []
+    → Keeps between (written_of held waiting) → Keeps between held
 nothing_waits None held waiting none kept = tt
 nothing_waits (Some xs) None waiting none kept = absurd kept
 nothing_waits (Some xs) (Some ys) waiting none kept = sym (append-nil ys) ∙ (ap (λ l. ys ++ l) (sym none) ∙ kept)
 
-too_long_kept : (input before between after : Option (List ℕ)) → Runs input input before between (Err InputTooLong) → Keeps between after → Runs input input before after (Err InputTooLong)
+too_long_kept : (input before between after : Option (List ℕ)) → Runs input input before between (Err InputTooLong)
+    → Keeps between after → Runs input input before after (Err InputTooLong)
 too_long_kept None before between after h kept = tt
-too_long_kept (Some all) before between after (long, printed) kept = (long, prints_to_kept _ before between after printed kept)
+too_long_kept (Some all) before between after (long, printed) kept
+    = (long, prints_to_kept _ before between after printed kept)
 
-ran_kept : (input rest before between after : Option (List ℕ)) (end : ScriptEnd) → Ran input rest before between end → Keeps between after → Ran input rest before after end
+ran_kept : (input rest before between after : Option (List ℕ)) (end : ScriptEnd) → Ran input rest before between end
+    → Keeps between after → Ran input rest before after end
 ran_kept input rest before between after end s kept = record {
   counts = s.counts;
-  text = record { replies = s.text.replies; number = s.text.number; text = Appends-kept before between after _ s.text.text kept };
+  text =
+      record { replies = s.text.replies; number = s.text.number; text = Appends-kept before between after _ s.text.text kept };
   tried = s.tried;
   whole = s.whole;
   ended = s.ended;
 }
 
-runs_kept : (input rest before between after : Option (List ℕ)) (result : Result ScriptEnd RunFault) → Runs input rest before between result → Keeps between after → Runs input rest before after result
+runs_kept : (input rest before between after : Option (List ℕ)) (result : Result ScriptEnd RunFault)
+    → Runs input rest before between result → Keeps between after → Runs input rest before after result
 runs_kept input rest before between after (Ok end) s kept = ran_kept input rest before between after end s kept
-runs_kept input rest before between after (Err ReadFault) (read, consumed, printed) kept = (read, consumed, prints_to_kept _ before between after printed kept)
+runs_kept input rest before between after (Err ReadFault) (read, consumed, printed)
+    kept = (read, consumed, prints_to_kept _ before between after printed kept)
 runs_kept input rest before between after (Err InputTooLong) s kept = too_long_kept input before between after s kept
-runs_kept input rest before between after (Err (BadScript number)) (first, printed) kept = (first, prints_kept _ before between after printed kept)
+runs_kept input rest before between after (Err (BadScript number)) (first, printed) kept
+    = (first, prints_kept _ before between after printed kept)
 runs_kept input rest before between after (Err WriteFault) s kept = tt
 runs_kept input rest before between after (Err NoMemory) s kept = tt
 runs_kept input rest before between after (Err LinkFault) s kept = tt
@@ -79,13 +97,18 @@ begun_with : (before : Option (List ℕ)) → written_of before [] ≡ before
 begun_with None = refl
 begun_with (Some xs) = ap Some (append-nil xs)
 
-pub runs_handed : (input rest before between held : Option (List ℕ)) (begun waiting : List ℕ) (result : Result ScriptEnd RunFault) → begun ≡ [] → Runs input rest (written_of before begun) between result
+pub runs_handed : (input rest before between held : Option (List ℕ)) (begun waiting : List ℕ)
+    (result : Result ScriptEnd RunFault)
+    → begun ≡ [] → Runs input rest (written_of before begun) between result
     → Keeps between (written_of held waiting) → waiting ≡ [] → Runs input rest before held result
 runs_handed input rest before between held begun waiting result none runs kept empty =
     let from : written_of before begun ≡ before = ap (written_of before) none ∙ begun_with before in
-    runs_kept input rest before between held result (subst (λ o. Runs input rest o between result) from runs) (nothing_waits between held waiting empty kept)
+    runs_kept input rest before between held result (subst (λ o. Runs input rest o between result) from runs)
+    (nothing_waits between held waiting empty kept)
 
-asks_kept : (p : Pace) (first parted : Talker) (input before between after : Option (List ℕ)) (end : ScriptEnd) → AsksAll p first parted input before between end → Keeps between after → AsksAll p first parted input before after end
+asks_kept : (p : Pace) (first parted : Talker) (input before between after : Option (List ℕ)) (end : ScriptEnd)
+    → AsksAll p first parted input before between end → Keeps between after
+    → AsksAll p first parted input before after end
 asks_kept p first parted input before between after end s kept = record {
   talk = s.talk;
   replied = s.replied;
@@ -97,10 +120,15 @@ asks_kept p first parted input before between after end s kept = record {
   in_part = s.in_part;
 }
 
-pub asks_handed : (p : Pace) (first parted : Talker) (input before between held : Option (List ℕ)) (begun waiting : List ℕ) (result : Result ScriptEnd RunFault) → begun ≡ []
-    → IfOk result (λ end. AsksAll p first parted input (written_of before begun) between end) → Keeps between (written_of held waiting) → waiting ≡ []
+pub asks_handed : (p : Pace) (first parted : Talker) (input before between held : Option (List ℕ))
+    (begun waiting : List ℕ) (result : Result ScriptEnd RunFault)
+    → begun ≡ []
+    → IfOk result (λ end. AsksAll p first parted input (written_of before begun) between end)
+    → Keeps between (written_of held waiting) → waiting ≡ []
     → IfOk result (λ end. AsksAll p first parted input before held end)
 asks_handed p first parted input before between held begun waiting (Err fault) none asks kept empty = tt
 asks_handed p first parted input before between held begun waiting (Ok end) none asks kept empty =
     let from : written_of before begun ≡ before = ap (written_of before) none ∙ begun_with before in
-    asks_kept p first parted input before between held end (subst (λ o. AsksAll p first parted input o between end) from asks) (nothing_waits between held waiting empty kept)
+    asks_kept p first parted input before between held end
+    (subst (λ o. AsksAll p first parted input o between end) from asks)
+    (nothing_waits between held waiting empty kept)

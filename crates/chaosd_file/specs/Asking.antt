@@ -12,9 +12,10 @@ use Rattle.chaosd_file.specs.Script.{IsCommand}
 use Rattle.file_client.specs.Pace.{Pace}
 use Rattle.file_client.specs.Talk.{Talker, Talk, Talks, Exchanges}
 
--- Each line that was given stands for a command that got a reply, and the replies were printed. `last`: the client after `first`,
--- whose connection wrote these commands and read these replies.
-pub record Asked (p : Pace) (first last : Talker) (before after : Option (List ℕ)) (replied : ℕ) (given : List (List ℕ)) : Type 0 where
+-- Each line that was given stands for a command that got a reply, and the replies were printed. `last`: the client
+-- after `first`, whose connection wrote these commands and read these replies.
+pub record Asked (p : Pace) (first last : Talker) (before after : Option (List ℕ)) (replied : ℕ)
+    (given : List (List ℕ)) : Type 0 where
   pub count : length given ≡ replied
   pub commands : All IsCommand given
   pub printed : PrintsReplies replied before after
@@ -24,21 +25,30 @@ pub record Asked (p : Pace) (first last : Talker) (before after : Option (List �
   pub heard : talk.heard ≡ printed.replies
 
 -- So it is with the lines that the reader gave of an input.
-abbrev pub AskedGiven : Pace → Talker → Talker → Option (List ℕ) → Option (List ℕ) → Option (List ℕ) → Option (List ℕ) → ℕ → LinesView → Type 0
-AskedGiven p first last input rest before after replied lines = (given : List (List ℕ)) × Asked p first last before after replied given × Gives KEPT_LEN INPUT_LIMIT input rest given lines
+abbrev pub AskedGiven : Pace → Talker → Talker → Option (List ℕ) → Option (List ℕ) → Option (List ℕ) → Option (List ℕ)
+    → ℕ → LinesView → Type 0
+AskedGiven p first last input rest before after replied lines =
+    (given : List (List ℕ)) × Asked p first last before after replied given
+    × Gives KEPT_LEN INPUT_LIMIT input rest given lines
 
 -- So it is with all lines of an input.
-abbrev pub AskedAll : Pace → Talker → Talker → Option (List ℕ) → Option (List ℕ) → Option (List ℕ) → Option (List ℕ) → ℕ → Type 0
-AskedAll p first last input rest before after replied = (given : List (List ℕ)) × Asked p first last before after replied given × Done INPUT_LIMIT input rest given
+abbrev pub AskedAll : Pace → Talker → Talker → Option (List ℕ) → Option (List ℕ) → Option (List ℕ) → Option (List ℕ) → ℕ
+    → Type 0
+AskedAll p first last input rest before after replied =
+    (given : List (List ℕ)) × Asked p first last before after replied given × Done INPUT_LIMIT input rest given
 
--- The line stands for a command, and its reply was printed; or that it got none was. Or it stands for none, and nothing was printed;
--- or there was a fault of a turn or of the writer.
-abbrev pub AsksLine : Pace → Talker → Talker → ℕ → List ℕ → Option (List ℕ) → Option (List ℕ) → Result Bool RunFault → Type 0
+-- The line stands for a command, and its reply was printed; or that it got none was. Or it stands for none, and nothing
+-- was printed; or there was a fault of a turn or of the writer.
+abbrev pub AsksLine : Pace → Talker → Talker → ℕ → List ℕ → Option (List ℕ) → Option (List ℕ) → Result Bool RunFault
+    → Type 0
 AsksLine p first last replied line before after (Ok true) =
-    (command : List ℕ) × (reply : List ℕ) × (command_of line ≡ Some command) × Exchanges p first command (Some reply) last × Appends before after (reply_line reply)
+    (command : List ℕ) × (reply : List ℕ) × (command_of line ≡ Some command)
+    × Exchanges p first command (Some reply) last × Appends before after (reply_line reply)
 AsksLine p first last replied line before after (Ok false) =
-    (command : List ℕ) × (command_of line ≡ Some command) × Exchanges p first command None last × Appends before after no_reply_line
-AsksLine p first last replied line before after (Err (BadScript number)) = (command_of line ≡ None) × (number ≡ replied + 1) × (after ≡ before)
+    (command : List ℕ) × (command_of line ≡ Some command) × Exchanges p first command None last
+    × Appends before after no_reply_line
+AsksLine p first last replied line before after (Err (BadScript number)) =
+    (command_of line ≡ None) × (number ≡ replied + 1) × (after ≡ before)
 AsksLine p first last replied line before after (Err WriteFault) = Unit {0}
 AsksLine p first last replied line before after (Err LinkFault) = Unit {0}
 AsksLine p first last replied line before after (Err ClockFault) = Unit {0}

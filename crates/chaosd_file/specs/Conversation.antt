@@ -30,20 +30,24 @@ item_for (Some command) = command_item command ∷ []
 abbrev pub commands_said : List (List ℕ) → List ItemView
 commands_said lines = flat_map (λ raw. item_for (command_of raw)) lines
 
--- A client wrote the commands of an input's first lines, one after another, each where the one before it had got its reply, and
--- what was printed are the data that it read. Behind the last command the EOF was tried; or one command more was, and got no reply.
-pub record AsksAll (p : Pace) (first parted : Talker) (input before after : Option (List ℕ)) (end : ScriptEnd) : Type 0 where
-  pub talk : Talk
-  pub replied : Talker
-  pub asks : Talks p first talk replied
-  pub said : IfSome input (λ all. talk.said ≡ commands_said (take end.replied (lines_within all)))
-  pub heard : length talk.heard ≡ end.replied
-  pub text : Appends before after (replies_text talk.heard ++ ending_of end)
-  pub to_end : end.replied ≡ end.commands → SaysFarewell p replied parted
-  pub in_part : end.commands ≡ end.replied + 1 → (command : List ℕ) × Exchanges p replied command None parted
-      × IfSome input (λ all. commands_said (take end.commands (lines_within all)) ≡ talk.said ++ command_item command ∷ [])
+-- A client wrote the commands of an input's first lines, one after another, each where the one before it had got its
+-- reply, and what was printed are the data that it read. Behind the last command the EOF was tried; or one command more
+-- was, and got no reply.
+pub record AsksAll (p : Pace) (first parted : Talker) (input before after : Option (List ℕ)) (end : ScriptEnd) : Type 0
+  where
+    pub talk : Talk
+    pub replied : Talker
+    pub asks : Talks p first talk replied
+    pub said : IfSome input (λ all. talk.said ≡ commands_said (take end.replied (lines_within all)))
+    pub heard : length talk.heard ≡ end.replied
+    pub text : Appends before after (replies_text talk.heard ++ ending_of end)
+    pub to_end : end.replied ≡ end.commands → SaysFarewell p replied parted
+    pub in_part : end.commands ≡ end.replied + 1 → (command : List ℕ) × Exchanges p replied command None parted
+        × IfSome input
+        (λ all. commands_said (take end.commands (lines_within all)) ≡ talk.said ++ command_item command ∷ [])
 
 -- And then it hung up. `queue`: what its link is then.
-abbrev pub Converses : Pace → Talker → Option QueueView → Option (List ℕ) → Option (List ℕ) → Option (List ℕ) → ScriptEnd → Type 0
+abbrev pub Converses : Pace → Talker → Option QueueView → Option (List ℕ) → Option (List ℕ) → Option (List ℕ)
+    → ScriptEnd → Type 0
 Converses p first queue input before after end = (parted : Talker) × (left : CallerView)
     × AsksAll p first parted input before after end × HangsUp p parted.queue queue parted.caller left

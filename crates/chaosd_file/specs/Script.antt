@@ -45,7 +45,8 @@ PrintsRepliesTo lines before after = All IsCommand lines × PrintsReplies (lengt
 
 -- What was printed are replies to the lines that ended in what was read of an input.
 abbrev pub RepliesRead : Option (List ℕ) → Option (List ℕ) → Option (List ℕ) → Option (List ℕ) → Type 0
-RepliesRead input rest before after = (read : List ℕ) × Consumes input rest read × PrintsRepliesTo (ended_lines read) before after
+RepliesRead input rest before after =
+    (read : List ℕ) × Consumes input rest read × PrintsRepliesTo (ended_lines read) before after
 
 -- ---- the parts in one
 
@@ -54,15 +55,19 @@ pub record Ran (input rest before after : Option (List ℕ)) (end : ScriptEnd) :
   pub counts : (end.replied ≤ end.commands) × (end.commands ≤ end.replied + 1)
   pub text : PrintsScript end before after
   pub tried : IfSome input (λ all. BeginWithCommands end.commands (lines_within all))
-  pub whole : end.replied ≡ end.commands → IfSome input (λ all. (length all ≤ INPUT_LIMIT) × AreCommands end.commands (lines_of all))
+  pub whole : end.replied ≡ end.commands
+      → IfSome input (λ all. (length all ≤ INPUT_LIMIT) × AreCommands end.commands (lines_of all))
   pub ended : end.replied ≡ end.commands → IsAtEnd rest
 
 -- How a run over a script ended: what was read of the input, and what was printed.
-abbrev pub Runs : Option (List ℕ) → Option (List ℕ) → Option (List ℕ) → Option (List ℕ) → Result ScriptEnd RunFault → Type 0
+abbrev pub Runs : Option (List ℕ) → Option (List ℕ) → Option (List ℕ) → Option (List ℕ) → Result ScriptEnd RunFault
+    → Type 0
 Runs input rest before after (Ok end) = Ran input rest before after end
 Runs input rest before after (Err ReadFault) = RepliesRead input rest before after
-Runs input rest before after (Err InputTooLong) = IfSome input (λ all. (INPUT_LIMIT < length all) × PrintsRepliesTo (ended_lines (take INPUT_LIMIT all)) before after)
-Runs input rest before after (Err (BadScript number)) = IfSome input (λ all. IsFirstBad number (lines_within all)) × PrintsReplies (number - 1) before after
+Runs input rest before after (Err InputTooLong) =
+    IfSome input (λ all. (INPUT_LIMIT < length all) × PrintsRepliesTo (ended_lines (take INPUT_LIMIT all)) before after)
+Runs input rest before after (Err (BadScript number)) =
+    IfSome input (λ all. IsFirstBad number (lines_within all)) × PrintsReplies (number - 1) before after
 Runs input rest before after (Err WriteFault) = Unit {0}
 Runs input rest before after (Err NoMemory) = Unit {0}
 Runs input rest before after (Err LinkFault) = Unit {0}

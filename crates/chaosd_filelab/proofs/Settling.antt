@@ -27,16 +27,20 @@ says_can_serve l said is =
     let ends = can_settle l.lab in
     let memory = not (wrote_mem l) in
     alike said (can_serve l)
-    (λ told. let can : CanServe l = is.0 told in and_true ends memory (said_can_settle l.lab can.lab) (said_not (wrote_mem l) can.memory))
-    (λ told. let (open_ends, none) = both_true ends memory told in is.1 (record { lab = can_settle_said l.lab open_ends; memory = not_false (wrote_mem l) none }))
+    (λ told. let can : CanServe l = is.0 told in and_true ends memory (said_can_settle l.lab can.lab)
+    (said_not (wrote_mem l) can.memory))
+    (λ told. let (open_ends, none) = both_true ends memory told in is.1
+    (record { lab = can_settle_said l.lab open_ends; memory = not_false (wrote_mem l) none }))
 
 -- ---- events as if they were typed
 
-after_events_both : (l : FileLabView) (events others : List FileHappening) → after_events l (events ++ others) ≡ after_events (after_events l events) others
+after_events_both : (l : FileLabView) (events others : List FileHappening)
+    → after_events l (events ++ others) ≡ after_events (after_events l events) others
 after_events_both l [] others = refl
 after_events_both l (event ∷ events) others = after_events_both (file_happen l event).view events others
 
-typed_both : (l : FileLabView) (events others : List FileHappening) → typed_text l (events ++ others) ≡ typed_text l events ++ typed_text (after_events l events) others
+typed_both : (l : FileLabView) (events others : List FileHappening)
+    → typed_text l (events ++ others) ≡ typed_text l events ++ typed_text (after_events l events) others
 unfolding typed_text
 typed_both l [] others = refl
 typed_both l (event ∷ events) others =
@@ -44,11 +48,14 @@ typed_both l (event ∷ events) others =
     ∙ sym (append_assoc (file_line event ++ event_text l event) (typed_text (file_happen l event).view events) _)
 
 -- one more
-typed_more : (l now : FileLabView) (events : List FileHappening) (event : FileHappening) → now ≡ after_events l events → typed_text l (events ++ event ∷ []) ≡ typed_text l events ++ (file_line event ++ event_text now event)
+typed_more : (l now : FileLabView) (events : List FileHappening) (event : FileHappening) → now ≡ after_events l events
+    → typed_text l (events ++ event ∷ []) ≡ typed_text l events ++ (file_line event ++ event_text now event)
 unfolding typed_text
 typed_more l now events event at =
     typed_both l events (event ∷ [])
-    ∙ ap (λ t. typed_text l events ++ t) (append-nil (file_line event ++ event_text (after_events l events) event) ∙ ap (λ (m : FileLabView). file_line event ++ event_text m event) (sym at))
+    ∙ ap (λ t. typed_text l events ++ t)
+    (append-nil (file_line event ++ event_text (after_events l events) event)
+    ∙ ap (λ (m : FileLabView). file_line event ++ event_text m event) (sym at))
 
 -- so many of the events of settling happened, and their text was written
 pub record Typed (start now : FileLabView) (rest : List FileHappening) (old new : Option (List ℕ)) : Type 0 where
@@ -61,25 +68,36 @@ nothing : (old : Option (List ℕ)) → Appends old old []
 nothing None = tt
 nothing (Some xs) = sym (append-nil xs)
 
-pub typed_none : (l : FileLabView) (rest : List FileHappening) (old : Option (List ℕ)) → rest ≡ file_settling l → Typed l l rest old old
+pub typed_none : (l : FileLabView) (rest : List FileHappening) (old : Option (List ℕ)) → rest ≡ file_settling l
+    → Typed l l rest old old
 unfolding typed_text
 typed_none l rest old same = record { done = []; at = refl; all = sym same; text = nothing old }
 
-pub typed_one : (start now next : FileLabView) (event : FileHappening) (rest others : List FileHappening) (old mid ready new : Option (List ℕ)) → Typed start now rest old mid → rest ≡ event ∷ others
-    → Keeps mid ready → next ≡ (file_happen now event).view → Appends ready new (file_line event ++ event_text now event) → Typed start next others old new
+pub typed_one : (start now next : FileLabView) (event : FileHappening) (rest others : List FileHappening)
+    (old mid ready new : Option (List ℕ))
+    → Typed start now rest old mid → rest ≡ event ∷ others
+    → Keeps mid ready → next ≡ (file_happen now event).view
+    → Appends ready new (file_line event ++ event_text now event) → Typed start next others old new
 typed_one start now next event rest others old mid ready new t is keeps goes text = record {
   done = t.done ++ event ∷ [];
-  at = goes ∙ ap (λ (m : FileLabView). (file_happen m event).view) t.at ∙ sym (after_events_both start t.done (event ∷ []));
+  at =
+      goes ∙ ap (λ (m : FileLabView). (file_happen m event).view) t.at
+      ∙ sym (after_events_both start t.done (event ∷ []));
   all = t.all ∙ ap (λ es. t.done ++ es) is ∙ sym (append_assoc t.done (event ∷ []) others);
-  text = subst (Appends old new) (sym (typed_more start now t.done event t.at)) (Appends-trans old ready new _ _ (Appends-kept old mid ready _ t.text keeps) text);
+  text =
+      subst (Appends old new) (sym (typed_more start now t.done event t.at))
+      (Appends-trans old ready new _ _ (Appends-kept old mid ready _ t.text keeps) text);
 }
 
-pub typed_all : (start now : FileLabView) (rest : List FileHappening) (old new : Option (List ℕ)) → Typed start now rest old new → rest ≡ [] → (now ≡ after_events start (file_settling start)) × Appends old new (typed_text start (file_settling start))
+pub typed_all : (start now : FileLabView) (rest : List FileHappening) (old new : Option (List ℕ))
+    → Typed start now rest old new → rest ≡ []
+    → (now ≡ after_events start (file_settling start)) × Appends old new (typed_text start (file_settling start))
 typed_all start now rest old new t none =
     let whole : file_settling start ≡ t.done = t.all ∙ ap (λ es. t.done ++ es) none ∙ append-nil t.done in
     (t.at ∙ ap (after_events start) (sym whole), subst (λ es. Appends old new (typed_text start es)) (sym whole) t.text)
 
-next_is : (done others : List FileHappening) (event : FileHappening) → slice_get (done ++ event ∷ others) (length done) ≡ Some event
+next_is : (done others : List FileHappening) (event : FileHappening)
+    → slice_get (done ++ event ∷ others) (length done) ≡ Some event
 next_is [] others event = refl
 next_is (e ∷ done) others event = next_is done others event
 
@@ -88,11 +106,15 @@ done_is [] rest = refl
 done_is (e ∷ done) rest = ap (λ es. e ∷ es) (done_is done rest)
 
 -- the next one met want of memory
-pub typed_wants : (start now after : FileLabView) (event : FileHappening) (rest others : List FileHappening) (old mid ready new : Option (List ℕ)) → Typed start now rest old mid → rest ≡ event ∷ others
-    → Keeps mid ready → (told : List ℕ) → WantsEvent now event after told → Appends ready new (file_line event ++ told) → (text : List ℕ) × WantsEvents start after text × Appends old new text
+pub typed_wants : (start now after : FileLabView) (event : FileHappening) (rest others : List FileHappening)
+    (old mid ready new : Option (List ℕ))
+    → Typed start now rest old mid → rest ≡ event ∷ others
+    → Keeps mid ready → (told : List ℕ) → WantsEvent now event after told → Appends ready new (file_line event ++ told)
+    → (text : List ℕ) × WantsEvents start after text × Appends old new text
 typed_wants start now after event rest others old mid ready new t is keeps told wants text =
     let all : file_settling start ≡ t.done ++ event ∷ others = t.all ∙ ap (λ es. t.done ++ es) is in
-    let before : take (length t.done) (file_settling start) ≡ t.done = ap (take (length t.done)) all ∙ done_is t.done (event ∷ others) in (
+    let before : take (length t.done) (file_settling start) ≡ t.done =
+    ap (take (length t.done)) all ∙ done_is t.done (event ∷ others) in (
       typed_text start t.done ++ (file_line event ++ told),
       (
         length t.done,
@@ -109,21 +131,31 @@ typed_wants start now after event rest others old mid ready new t is keeps told 
 -- ---- the line
 
 -- the ends can't settle, and the line is refused
-pub refused_line : (l : FileLabView) (said : Bool) (old new : Option (List ℕ)) → IsTrue said ↔ CanServe l → said ≡ false → Appends old new unsettled_text
-    → (l ≡ (settle_done l).lab) × (true ≡ (settle_done l).is_refused) × Appends old new (settle_done l).text × (wrote_mem l ≡ false → wrote_mem l ≡ false)
+pub refused_line : (l : FileLabView) (said : Bool) (old new : Option (List ℕ)) → IsTrue said ↔ CanServe l → said ≡ false
+    → Appends old new unsettled_text
+    → (l ≡ (settle_done l).lab) × (true ≡ (settle_done l).is_refused) × Appends old new (settle_done l).text
+    × (wrote_mem l ≡ false → wrote_mem l ≡ false)
 refused_line l said old new is cannot text =
     let test : can_serve l ≡ false = sym (says_can_serve l said is) ∙ cannot in
-    subst (λ b. (l ≡ (settle_by b l).lab) × (true ≡ (settle_by b l).is_refused) × Appends old new (settle_by b l).text × (wrote_mem l ≡ false → wrote_mem l ≡ false)) (sym test) (refl, refl, text, λ ready. ready)
+    subst
+    (λ b. (l ≡ (settle_by b l).lab) × (true ≡ (settle_by b l).is_refused) × Appends old new (settle_by b l).text
+    × (wrote_mem l ≡ false → wrote_mem l ≡ false))
+    (sym test) (refl, refl, text, λ ready. ready)
 
 -- they settled
-pub settled_line : (l m : FileLabView) (said : Bool) (old new : Option (List ℕ)) → IsTrue said ↔ CanServe l → said ≡ true
+pub settled_line : (l m : FileLabView) (said : Bool) (old new : Option (List ℕ)) → IsTrue said ↔ CanServe l
+    → said ≡ true
     → (m ≡ after_events l (file_settling l)) × (wrote_mem m ≡ false) × Appends old new (typed_text l (file_settling l))
-    → (m ≡ (settle_done l).lab) × (false ≡ (settle_done l).is_refused) × Appends old new (settle_done l).text × (wrote_mem l ≡ false → wrote_mem m ≡ false)
+    → (m ≡ (settle_done l).lab) × (false ≡ (settle_done l).is_refused) × Appends old new (settle_done l).text
+    × (wrote_mem l ≡ false → wrote_mem m ≡ false)
 settled_line l m said old new is so (after, none, text) =
     let can : can_serve l ≡ true = sym (says_can_serve l said is) ∙ so in
     let done : (m ≡ (settle_done l).lab) × (false ≡ (settle_done l).is_refused) × Appends old new (settle_done l).text =
-    subst (λ b. (m ≡ (settle_by b l).lab) × (false ≡ (settle_by b l).is_refused) × Appends old new (settle_by b l).text) (sym can) (after, refl, text) in
+    subst (λ b. (m ≡ (settle_by b l).lab) × (false ≡ (settle_by b l).is_refused) × Appends old new (settle_by b l).text)
+    (sym can) (after, refl, text) in
     (done.0, done.1, done.2, λ ready. none)
 
-pub wants_line : (l after : FileLabView) (said : Bool) (old new : Option (List ℕ)) → IsTrue said ↔ CanServe l → said ≡ true → (text : List ℕ) × WantsEvents l after text × Appends old new text → (text : List ℕ) × WantsSettling l after text × Appends old new text
+pub wants_line : (l after : FileLabView) (said : Bool) (old new : Option (List ℕ)) → IsTrue said ↔ CanServe l
+    → said ≡ true → (text : List ℕ) × WantsEvents l after text × Appends old new text
+    → (text : List ℕ) × WantsSettling l after text × Appends old new text
 wants_line l after said old new is so (text, wants, more) = (text, (sym (says_can_serve l said is) ∙ so, wants), more)

@@ -17,10 +17,12 @@ event_text l event =
 
 -- what an event does
 abbrev pub event_done : FileHappening → FileLabView → Done FileLabView
-event_done event l = record { lab = (file_happen l event).view; text = event_text l event; is_refused = is_err (file_happen l event).answer }
+event_done event l =
+    record { lab = (file_happen l event).view; text = event_text l event; is_refused = is_err (file_happen l event).answer }
 
 -- An event did what it does, and what it prints was written.
-pub record PlaysFileEvent (event : FileHappening) (before after : FileLabView) (old new : List ℕ) (refused : Bool) : Type 0 where
+pub record PlaysFileEvent (event : FileHappening) (before after : FileLabView) (old new : List ℕ)
+    (refused : Bool) : Type 0 where
   pub lab : after ≡ (file_happen before event).view
   pub text : new ≡ old ++ event_text before event
   pub count : refused ≡ is_err (file_happen before event).answer
@@ -29,7 +31,8 @@ pub record PlaysFileEvent (event : FileHappening) (before after : FileLabView) (
 abbrev pub ServesForWant : (before after : FileLabView) → Type 0
 ServesForWant before after = (served : Served) × Serving before after served × (wrote_mem after ≡ true)
 
--- What is printed of an event that meets want of memory: where the histories did, and nothing happened, the refusal; where a serve wrote a
--- reply for want of memory, nothing. It is never both, where B has written no such reply before.
+-- What is printed of an event that meets want of memory: where the histories did, and nothing happened, the refusal;
+-- where a serve wrote a reply for want of memory, nothing. It is never both, where B has written no such reply before.
 abbrev pub WantsEvent : (before : FileLabView) → FileHappening → (after : FileLabView) → List ℕ → Type 0
-WantsEvent before event after text = ((after ≡ before) × (text ≡ refusal_text NoMemory)) ⊎ ((event ≡ Serve) × ServesForWant before after × (text ≡ []))
+WantsEvent before event after text =
+    ((after ≡ before) × (text ≡ refusal_text NoMemory)) ⊎ ((event ≡ Serve) × ServesForWant before after × (text ≡ []))

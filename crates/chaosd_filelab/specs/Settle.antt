@@ -26,14 +26,15 @@ typed_text l (event ∷ events) = file_line event ++ event_text l event ++ typed
 
 -- what the line does, as the laboratory can settle or not: the events of settling happen, or it is refused
 abbrev pub settle_by : Bool → FileLabView → Done FileLabView
-settle_by true l = record { lab = after_events l (file_settling l); text = typed_text l (file_settling l); is_refused = false }
+settle_by true l =
+    record { lab = after_events l (file_settling l); text = typed_text l (file_settling l); is_refused = false }
 settle_by false l = record { lab = l; text = lab.unsettled_text; is_refused = true }
 
 abbrev pub settle_done : FileLabView → Done FileLabView
 settle_done l = settle_by (can_serve l) l
 
--- At want of memory in the midst of settling the events before the one that met it happened, and they are printed, that one's line, and
--- what is printed of that one.
+-- At want of memory in the midst of settling the events before the one that met it happened, and they are printed, that
+-- one's line, and what is printed of that one.
 abbrev pub WantsEvents : (before after : FileLabView) → List ℕ → Type 0
 WantsEvents l after text =
     (n : ℕ) × (event : FileHappening) × (slice_get (file_settling l) n ≡ Some event)

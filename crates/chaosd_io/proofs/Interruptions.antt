@@ -19,8 +19,10 @@ all_left None old = tt
 all_left (Some n) old = (n, refl, refl)
 
 -- what a read told, where it is known how often the reader is interrupted
-told_of : (now new : Option ℕ) (m : ℕ) (read read' : Result ℕ Error) → now ≡ Some m → read ≡ read' → Tells now new read → Tells (Some m) new read'
-told_of now new m read read' at is told = subst (λ r. Tells (Some m) new r) is (subst (λ known. Tells known new read) at told)
+told_of : (now new : Option ℕ) (m : ℕ) (read read' : Result ℕ Error) → now ≡ Some m → read ≡ read' → Tells now new read
+    → Tells (Some m) new read'
+told_of now new m read read' at is told =
+    subst (λ r. Tells (Some m) new r) is (subst (λ known. Tells known new read) at told)
 
 no_answer : false ≡ true → ⊥
 no_answer h = cc
@@ -38,16 +40,19 @@ no_fault : (x : ℕ) → ◌≡◌ {A = Result ℕ RunFault} (Ok x) (Err ReadFau
 no_fault x h = cc
 
 -- an answer came
-pub answered : (known now new : Option ℕ) (old count : ℕ) (read : Result ℕ Error) (x : ℕ) → read ≡ Ok x → Tells now new read → Left known now old count → count < INTERRUPTIONS → Counts {A = ℕ} known old count (Ok x)
+pub answered : (known now new : Option ℕ) (old count : ℕ) (read : Result ℕ Error) (x : ℕ) → read ≡ Ok x
+    → Tells now new read → Left known now old count → count < INTERRUPTIONS → Counts {A = ℕ} known old count (Ok x)
 answered None now new old count read x is told left few = tt
-answered (Some n) now new old count read x is told (m, at, sum) few = by m sum (told_of now new m read (Ok x) at is told)
+answered (Some n) now new old count read x is told (m, at, sum)
+    few = by m sum (told_of now new m read (Ok x) at is told)
   where
     by : (m : ℕ) → count + m ≡ old + n → Tells (Some m) new (Ok x) → Counts {A = ℕ} (Some n) old count (Ok x)
     by zero sum told = (λ less. (no_fault x, omega (arith, sum)), λ more. absurd (omega (arith, sum, few, more)))
     by (suc m) sum told = absurd told.0
 
 -- as many came as may
-pub too_many : (known now : Option ℕ) (old count : ℕ) → Left known now old count → INTERRUPTIONS ≤ count → Counts {A = ℕ} known old count (Err ReadFault)
+pub too_many : (known now : Option ℕ) (old count : ℕ) → Left known now old count → INTERRUPTIONS ≤ count
+    → Counts {A = ℕ} known old count (Err ReadFault)
 too_many None now old count left many = tt
 too_many (Some n) now old count (m, at, sum) many = (λ less. absurd (omega (arith, sum, many, less)), λ more. refl)
 

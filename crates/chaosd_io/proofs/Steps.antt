@@ -22,19 +22,22 @@ all_but_last-push [] piece = refl
 all_but_last-push (first ∷ []) piece = refl
 all_but_last-push (first ∷ next ∷ others) piece = ap (λ l. first ∷ l) (all_but_last-push (next ∷ others) piece)
 
-pub drops_empty_last : (lines : List (List ℕ)) (piece : List ℕ) → eqb (length piece) 0 ≡ true → without_empty_last (lines ++ piece ∷ []) ≡ lines
+pub drops_empty_last : (lines : List (List ℕ)) (piece : List ℕ) → eqb (length piece) 0 ≡ true
+    → without_empty_last (lines ++ piece ∷ []) ≡ lines
 drops_empty_last [] piece h = rw h refl
 drops_empty_last (first ∷ []) piece h = rw h refl
 drops_empty_last (first ∷ next ∷ others) piece h = ap (λ l. first ∷ l) (drops_empty_last (next ∷ others) piece h)
 
-pub keeps_last : (lines : List (List ℕ)) (piece : List ℕ) → eqb (length piece) 0 ≡ false → without_empty_last (lines ++ piece ∷ []) ≡ lines ++ piece ∷ []
+pub keeps_last : (lines : List (List ℕ)) (piece : List ℕ) → eqb (length piece) 0 ≡ false
+    → without_empty_last (lines ++ piece ∷ []) ≡ lines ++ piece ∷ []
 keeps_last [] piece h = rw h refl
 keeps_last (first ∷ []) piece h = rw h refl
 keeps_last (first ∷ next ∷ others) piece h = ap (λ l. first ∷ l) (keeps_last (next ∷ others) piece h)
 
 -- ---- what was written
 
-pub nothing_waits : (before : Option (List ℕ)) (waiting : List ℕ) → waiting ≡ [] → Appends before (written_of before waiting) []
+pub nothing_waits : (before : Option (List ℕ)) (waiting : List ℕ) → waiting ≡ []
+    → Appends before (written_of before waiting) []
 nothing_waits None waiting none = tt
 nothing_waits (Some x) waiting none = ap (λ l. x ++ l) none
 

@@ -59,8 +59,8 @@ first_byte (a ∷ []) = counted 1 (plain_byte a)
 first_byte (a ∷ b ∷ []) = counted 1 (plain_byte a)
 first_byte (a ∷ b ∷ c ∷ others) = if a == 92 then counted 3 (escaped_byte b c) else counted 1 (plain_byte a)
 
--- So many bytes at the front of a text were read: what was read then, in front of what the others stand for, is what was read before
--- in front of what all stand for.
+-- So many bytes at the front of a text were read: what was read then, in front of what the others stand for, is what
+-- was read before in front of what all stand for.
 pub record ReadsFront (before text after : List ℕ) (n : ℕ) : Type 0 where
   pub some : 0 < n
   pub within : n ≤ length text

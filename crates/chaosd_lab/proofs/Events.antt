@@ -19,7 +19,8 @@ use Rattle.chaosd_script.specs.Player.{IsLineFault}
 use Rattle.chaosd_lab.specs.Happen.{event_text, PlaysEvent}
 use Rattle.chaosd_lab.specs.Play.{refused_or_ended}
 
-by_answer : (answer : Result Stepped LabFault) (P : Bool → Type 0) → P (is_err answer) → IfOk (refused_or_ended answer) P
+by_answer : (answer : Result Stepped LabFault) (P : Bool → Type 0) → P (is_err answer)
+    → IfOk (refused_or_ended answer) P
 by_answer (Ok stepped) P p = p
 by_answer (Err NoSuchCopy) P p = p
 by_answer (Err Stale) P p = p
@@ -28,9 +29,11 @@ by_answer (Err NoMemory) P p = tt
 by_answer (Err ByServer) P p = p
 
 -- an event that was let happen
-pub event_plays : (before after : LabView) (old mid new : List ℕ) (event : Happening) (answer : Result Stepped LabFault) (result : Result Bool RunFault)
+pub event_plays : (before after : LabView) (old mid new : List ℕ) (event : Happening) (answer : Result Stepped LabFault)
+    (result : Result Bool RunFault)
     → Happens before event after answer → mid ≡ old ++ answer_text answer
-    → new ≡ mid ++ copies_text (length before.copies) (drop (length before.copies) after.copies) → result ≡ refused_or_ended answer
+    → new ≡ mid ++ copies_text (length before.copies) (drop (length before.copies) after.copies)
+    → result ≡ refused_or_ended answer
     → IfOk result (λ refused. PlaysEvent event before after old new refused)
 unfolding event_text
 event_plays before after old mid new event answer result happens first last same =
@@ -49,7 +52,8 @@ event_plays before after old mid new event answer result happens first last same
     ])
 
 -- whether an answer refuses is the same of the small one
-pub told_refused : (packet : PacketView) (items : List ItemView) (answer : Result StepDone LabFault) → refused_or_ended answer ≡ refused_or_ended (told packet items answer)
+pub told_refused : (packet : PacketView) (items : List ItemView) (answer : Result StepDone LabFault)
+    → refused_or_ended answer ≡ refused_or_ended (told packet items answer)
 told_refused packet items (Ok done) = refl
 told_refused packet items (Err why) = refl
 
@@ -67,9 +71,11 @@ no_copies : (copies : List Stamped) (n : ℕ) → length copies ≤ n → copies
 unfolding copies_text
 no_copies copies n le = ap (copies_text n) (drop_all n copies le)
 
-pub event_wants : (before after : LabView) (old mid new : List ℕ) (event : Happening) (answer : Result Stepped LabFault) (result : Result Bool RunFault)
+pub event_wants : (before after : LabView) (old mid new : List ℕ) (event : Happening) (answer : Result Stepped LabFault)
+    (result : Result Bool RunFault)
     → Happens before event after answer → mid ≡ old ++ answer_text answer
-    → new ≡ mid ++ copies_text (length before.copies) (drop (length before.copies) after.copies) → result ≡ refused_or_ended answer → result ≡ Err run.NoMemory
+    → new ≡ mid ++ copies_text (length before.copies) (drop (length before.copies) after.copies)
+    → result ≡ refused_or_ended answer → result ≡ Err run.NoMemory
     → (after ≡ before) × (new ≡ old ++ refusal_text NoMemory)
 event_wants before after old mid new event answer result happens first last same wants =
     let n = length before.copies in
@@ -78,7 +84,8 @@ event_wants before after old mid new event answer result happens first last same
       | inl h ↦ absurd (no_memory before event (sym h.1 ∙ none))
       | inr h ↦ let (checked, same_lab, ans) = h in (
         same_lab,
-        last ∙ ap (λ l. mid ++ copies_text n (drop n l.copies)) same_lab ∙ ap (λ l. mid ++ l) (no_copies before.copies n (omega arith)) ∙ append-nil mid
+        last ∙ ap (λ l. mid ++ copies_text n (drop n l.copies)) same_lab
+            ∙ ap (λ l. mid ++ l) (no_copies before.copies n (omega arith)) ∙ append-nil mid
             ∙ first ∙ ap (λ a. old ++ answer_text a) none,
       )
     ]
@@ -94,7 +101,8 @@ pub line_fault : (fault : RunFault) → (fault ≡ run.NoMemory) ⊎ (fault ≡ 
 line_fault fault (inl is) = subst IsLineFault (sym is) tt
 line_fault fault (inr is) = subst IsLineFault (sym is) tt
 
-by_fault : (answer : Result Stepped LabFault) → IfErr (refused_or_ended answer) (λ fault. (fault ≡ run.NoMemory) ⊎ (fault ≡ run.WriteFault))
+by_fault : (answer : Result Stepped LabFault)
+    → IfErr (refused_or_ended answer) (λ fault. (fault ≡ run.NoMemory) ⊎ (fault ≡ run.WriteFault))
 by_fault (Ok stepped) = tt
 by_fault (Err NoSuchCopy) = tt
 by_fault (Err Stale) = tt
@@ -102,5 +110,7 @@ by_fault (Err (Refused why)) = tt
 by_fault (Err NoMemory) = inl refl
 by_fault (Err ByServer) = tt
 
-pub event_faults : (answer : Result Stepped LabFault) (result : Result Bool RunFault) → result ≡ refused_or_ended answer → IfErr result (λ fault. (fault ≡ run.NoMemory) ⊎ (fault ≡ run.WriteFault))
-event_faults answer result same = subst (λ r. IfErr r (λ fault. (fault ≡ run.NoMemory) ⊎ (fault ≡ run.WriteFault))) (sym same) (by_fault answer)
+pub event_faults : (answer : Result Stepped LabFault) (result : Result Bool RunFault) → result ≡ refused_or_ended answer
+    → IfErr result (λ fault. (fault ≡ run.NoMemory) ⊎ (fault ≡ run.WriteFault))
+event_faults answer result same =
+    subst (λ r. IfErr r (λ fault. (fault ≡ run.NoMemory) ⊎ (fault ≡ run.WriteFault))) (sym same) (by_fault answer)

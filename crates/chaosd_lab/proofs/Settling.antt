@@ -57,7 +57,9 @@ in_time v h =
     record { open_end = open_said v.state opened; again = lt_said v.config.retransmit v.config.down again }
 
 said_in_time : (v : ConnView) → IsInTime v → is_in_time v ≡ true
-said_in_time v h = and_true (is_open v.state) (nat_lt v.config.retransmit v.config.down) (ap is_open h.open_end) (said_lt v.config.retransmit v.config.down h.again)
+said_in_time v h =
+    and_true (is_open v.state) (nat_lt v.config.retransmit v.config.down) (ap is_open h.open_end)
+    (said_lt v.config.retransmit v.config.down h.again)
 
 -- what two tests say is the same where each says the other
 pub alike : (b c : Bool) → (b ≡ true → c ≡ true) → (c ≡ true → b ≡ true) → b ≡ c
@@ -77,14 +79,18 @@ pub said_can_settle : (l : LabView) → CanSettle l → can_settle l ≡ true
 said_can_settle l can =
     let a = is_in_time l.a.conn in
     let b = is_in_time l.b.conn in
-    and_true (a && b) (nat_le (settling_moment l) last_moment) (and_true a b (said_in_time l.a.conn can.a) (said_in_time l.b.conn can.b)) (said_le (settling_moment l) last_moment can.moments)
+    and_true (a && b) (nat_le (settling_moment l) last_moment)
+    (and_true a b (said_in_time l.a.conn can.a) (said_in_time l.b.conn can.b))
+    (said_le (settling_moment l) last_moment can.moments)
 
 says_can_settle : (l : LabView) (said : Bool) → IsTrue said ↔ CanSettle l → said ≡ can_settle l
-says_can_settle l said is = alike said (can_settle l) (λ told. said_can_settle l (is.0 told)) (λ told. is.1 (can_settle_said l told))
+says_can_settle l said is =
+    alike said (can_settle l) (λ told. said_can_settle l (is.0 told)) (λ told. is.1 (can_settle_said l told))
 
 -- ---- events as if they were typed
 
-typed_both : (l : LabView) (events others : List Happening) → typed_text l (events ++ others) ≡ typed_text l events ++ typed_text (after_all l events) others
+typed_both : (l : LabView) (events others : List Happening)
+    → typed_text l (events ++ others) ≡ typed_text l events ++ typed_text (after_all l events) others
 unfolding typed_text
 typed_both l [] others = refl
 typed_both l (event ∷ events) others =
@@ -92,11 +98,14 @@ typed_both l (event ∷ events) others =
     ∙ sym (append_assoc (event_line event ++ event_text l event) (typed_text (happen l event).lab events) _)
 
 -- one more
-typed_more : (l now : LabView) (events : List Happening) (event : Happening) → now ≡ after_all l events → typed_text l (events ++ event ∷ []) ≡ typed_text l events ++ (event_line event ++ event_text now event)
+typed_more : (l now : LabView) (events : List Happening) (event : Happening) → now ≡ after_all l events
+    → typed_text l (events ++ event ∷ []) ≡ typed_text l events ++ (event_line event ++ event_text now event)
 unfolding typed_text
 typed_more l now events event at =
     typed_both l events (event ∷ [])
-    ∙ ap (λ t. typed_text l events ++ t) (append-nil (event_line event ++ event_text (after_all l events) event) ∙ ap (λ (m : LabView). event_line event ++ event_text m event) (sym at))
+    ∙ ap (λ t. typed_text l events ++ t)
+    (append-nil (event_line event ++ event_text (after_all l events) event)
+    ∙ ap (λ (m : LabView). event_line event ++ event_text m event) (sym at))
 
 -- so many of the events of settling happened, and their text was written
 pub record Typed (start now : LabView) (rest : List Happening) (old new : Option (List ℕ)) : Type 0 where
@@ -109,25 +118,33 @@ nothing : (old : Option (List ℕ)) → Appends old old []
 nothing None = tt
 nothing (Some xs) = sym (append-nil xs)
 
-pub typed_none : (l : LabView) (rest : List Happening) (old : Option (List ℕ)) → rest ≡ settling l → Typed l l rest old old
+pub typed_none : (l : LabView) (rest : List Happening) (old : Option (List ℕ)) → rest ≡ settling l
+    → Typed l l rest old old
 unfolding typed_text
 typed_none l rest old same = record { done = []; at = refl; all = sym same; text = nothing old }
 
-pub typed_one : (start now next : LabView) (event : Happening) (rest others : List Happening) (old mid ready new : Option (List ℕ)) → Typed start now rest old mid → rest ≡ event ∷ others
-    → Keeps mid ready → next ≡ (happen now event).lab → Appends ready new (event_line event ++ event_text now event) → Typed start next others old new
+pub typed_one : (start now next : LabView) (event : Happening) (rest others : List Happening)
+    (old mid ready new : Option (List ℕ))
+    → Typed start now rest old mid → rest ≡ event ∷ others
+    → Keeps mid ready → next ≡ (happen now event).lab → Appends ready new (event_line event ++ event_text now event)
+    → Typed start next others old new
 typed_one start now next event rest others old mid ready new t is keeps goes text = record {
   done = t.done ++ event ∷ [];
   at = goes ∙ ap (λ (m : LabView). (happen m event).lab) t.at ∙ sym (after_both start t.done (event ∷ []));
   all = t.all ∙ ap (λ es. t.done ++ es) is ∙ sym (append_assoc t.done (event ∷ []) others);
-  text = subst (Appends old new) (sym (typed_more start now t.done event t.at)) (Appends-trans old ready new _ _ (Appends-kept old mid ready _ t.text keeps) text);
+  text =
+      subst (Appends old new) (sym (typed_more start now t.done event t.at))
+      (Appends-trans old ready new _ _ (Appends-kept old mid ready _ t.text keeps) text);
 }
 
-pub typed_all : (start now : LabView) (rest : List Happening) (old new : Option (List ℕ)) → Typed start now rest old new → rest ≡ [] → (now ≡ after_all start (settling start)) × Appends old new (typed_text start (settling start))
+pub typed_all : (start now : LabView) (rest : List Happening) (old new : Option (List ℕ)) → Typed start now rest old new
+    → rest ≡ [] → (now ≡ after_all start (settling start)) × Appends old new (typed_text start (settling start))
 typed_all start now rest old new t none =
     let whole : settling start ≡ t.done = t.all ∙ ap (λ es. t.done ++ es) none ∙ append-nil t.done in
     (t.at ∙ ap (after_all start) (sym whole), subst (λ es. Appends old new (typed_text start es)) (sym whole) t.text)
 
-next_is : (done others : List Happening) (event : Happening) → slice_get (done ++ event ∷ others) (length done) ≡ Some event
+next_is : (done others : List Happening) (event : Happening)
+    → slice_get (done ++ event ∷ others) (length done) ≡ Some event
 next_is [] others event = refl
 next_is (e ∷ done) others event = next_is done others event
 
@@ -136,11 +153,15 @@ done_is [] rest = refl
 done_is (e ∷ done) rest = ap (λ es. e ∷ es) (done_is done rest)
 
 -- there was no memory for the next one
-pub typed_wants : (start now after : LabView) (event : Happening) (rest others : List Happening) (old mid ready new : Option (List ℕ)) → Typed start now rest old mid → rest ≡ event ∷ others
-    → Keeps mid ready → after ≡ now → Appends ready new (event_line event ++ refusal_text NoMemory) → (text : List ℕ) × WantsEvents start after text × Appends old new text
+pub typed_wants : (start now after : LabView) (event : Happening) (rest others : List Happening)
+    (old mid ready new : Option (List ℕ))
+    → Typed start now rest old mid → rest ≡ event ∷ others
+    → Keeps mid ready → after ≡ now → Appends ready new (event_line event ++ refusal_text NoMemory)
+    → (text : List ℕ) × WantsEvents start after text × Appends old new text
 typed_wants start now after event rest others old mid ready new t is keeps same text =
     let all : settling start ≡ t.done ++ event ∷ others = t.all ∙ ap (λ es. t.done ++ es) is in
-    let before : take (length t.done) (settling start) ≡ t.done = ap (take (length t.done)) all ∙ done_is t.done (event ∷ others) in (
+    let before : take (length t.done) (settling start) ≡ t.done =
+    ap (take (length t.done)) all ∙ done_is t.done (event ∷ others) in (
       typed_text start t.done ++ (event_line event ++ refusal_text NoMemory),
       (
         length t.done,
@@ -148,7 +169,9 @@ typed_wants start now after event rest others old mid ready new t is keeps same 
         ap (λ es. slice_get es (length t.done)) all ∙ next_is t.done others event,
         same ∙ t.at ∙ ap (after_all start) (sym before),
         ap (λ es. typed_text start es ++ (event_line event ++ refusal_text NoMemory)) (sym before)
-            ∙ sym (append_assoc (typed_text start (take (length t.done) (settling start))) (event_line event) (refusal_text NoMemory)),
+            ∙ sym
+            (append_assoc (typed_text start (take (length t.done) (settling start))) (event_line event)
+            (refusal_text NoMemory)),
       ),
       Appends-trans old ready new _ _ (Appends-kept old mid ready _ t.text keeps) text,
     )
@@ -156,23 +179,30 @@ typed_wants start now after event rest others old mid ready new t is keeps same 
 -- ---- the line
 
 -- the ends can't settle, and the line is refused
-pub refused_line : (l : LabView) (said : Bool) (old new : Option (List ℕ)) → IsTrue said ↔ CanSettle l → said ≡ false → Appends old new unsettled_text
+pub refused_line : (l : LabView) (said : Bool) (old new : Option (List ℕ)) → IsTrue said ↔ CanSettle l → said ≡ false
+    → Appends old new unsettled_text
     → (l ≡ (settle_done l).lab) × (true ≡ (settle_done l).is_refused) × Appends old new (settle_done l).text
 refused_line l said old new is cannot text =
     let test : can_settle l ≡ false = sym (says_can_settle l said is) ∙ cannot in
-    subst (λ b. (l ≡ (settle_by b l).lab) × (true ≡ (settle_by b l).is_refused) × Appends old new (settle_by b l).text) (sym test) (refl, refl, text)
+    subst (λ b. (l ≡ (settle_by b l).lab) × (true ≡ (settle_by b l).is_refused) × Appends old new (settle_by b l).text)
+    (sym test) (refl, refl, text)
 
 -- they settled
-pub settled_line : (l m : LabView) (said : Bool) (old new : Option (List ℕ)) → IsTrue said ↔ CanSettle l → said ≡ true → (m ≡ after_all l (settling l)) × Appends old new (typed_text l (settling l))
+pub settled_line : (l m : LabView) (said : Bool) (old new : Option (List ℕ)) → IsTrue said ↔ CanSettle l → said ≡ true
+    → (m ≡ after_all l (settling l)) × Appends old new (typed_text l (settling l))
     → (m ≡ (settle_done l).lab) × (false ≡ (settle_done l).is_refused) × Appends old new (settle_done l).text
 settled_line l m said old new is so (after, text) =
     let can : can_settle l ≡ true = sym (says_can_settle l said is) ∙ so in
-    subst (λ b. (m ≡ (settle_by b l).lab) × (false ≡ (settle_by b l).is_refused) × Appends old new (settle_by b l).text) (sym can) (after, refl, text)
+    subst (λ b. (m ≡ (settle_by b l).lab) × (false ≡ (settle_by b l).is_refused) × Appends old new (settle_by b l).text)
+    (sym can) (after, refl, text)
 
-pub wants_line : (l after : LabView) (said : Bool) (old new : Option (List ℕ)) → IsTrue said ↔ CanSettle l → said ≡ true → (text : List ℕ) × WantsEvents l after text × Appends old new text → (text : List ℕ) × WantsSettling l after text × Appends old new text
+pub wants_line : (l after : LabView) (said : Bool) (old new : Option (List ℕ)) → IsTrue said ↔ CanSettle l → said ≡ true
+    → (text : List ℕ) × WantsEvents l after text × Appends old new text
+    → (text : List ℕ) × WantsSettling l after text × Appends old new text
 wants_line l after said old new is so (text, wants, more) = (text, (sym (says_can_settle l said is) ∙ so, wants), more)
 
 -- what was told is the fault
-pub err_told : {X Y : Type 0} (r : Result X RunFault) (e f : RunFault) → IsErrAnd r (λ y. y ≡ e) → r ≡ Err f → ◌≡◌ {A = Result Y RunFault} (Err e) (Err f)
+pub err_told : {X Y : Type 0} (r : Result X RunFault) (e f : RunFault) → IsErrAnd r (λ y. y ≡ e) → r ≡ Err f
+    → ◌≡◌ {A = Result Y RunFault} (Err e) (Err f)
 err_told (Ok x) e f is same = absurd is
 err_told (Err y) e f is same = let this : e ≡ f = cc in ap Err this

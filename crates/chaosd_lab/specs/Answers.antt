@@ -77,7 +77,9 @@ numbers_text num ack = codes " num " ++ decimal num ++ codes " ack " ++ decimal 
 
 -- a copy, behind its number
 unfoldable pub copy_line : ℕ → Stamped → List ℕ
-copy_line place copy = codes "copy " ++ decimal place ++ 32 ∷ side_name copy.side ++ 32 ∷ op_name copy.packet.op ++ numbers_text copy.packet.num copy.packet.ack
+copy_line place copy =
+    codes "copy " ++ decimal place ++ 32 ∷ side_name copy.side ++ 32 ∷ op_name copy.packet.op
+    ++ numbers_text copy.packet.num copy.packet.ack
 
 -- copies, of which the first has this number
 unfoldable pub copies_text : ℕ → List Stamped → List ℕ

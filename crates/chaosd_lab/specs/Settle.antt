@@ -36,11 +36,12 @@ settle_by false l = record { lab = l; text = unsettled_text; is_refused = true }
 abbrev pub settle_done : LabView → Done LabView
 settle_done l = settle_by (can_settle l) l
 
--- At want of memory in the midst of settling the events before the one that met it happened, and they are printed, that one's line, and
--- the refusal.
+-- At want of memory in the midst of settling the events before the one that met it happened, and they are printed, that
+-- one's line, and the refusal.
 abbrev pub WantsEvents : (before after : LabView) → List ℕ → Type 0
 WantsEvents l after text =
-    (n : ℕ) × (event : Happening) × (slice_get (settling l) n ≡ Some event) × (after ≡ after_all l (take n (settling l)))
+    (n : ℕ) × (event : Happening) × (slice_get (settling l) n ≡ Some event)
+    × (after ≡ after_all l (take n (settling l)))
     × (text ≡ typed_text l (take n (settling l)) ++ event_line event ++ refusal_text NoMemory)
 
 -- what the line leaves then, and what is printed of it

@@ -7,28 +7,33 @@ use Rattle.std.specs.List.{list_any}
 use Rattle.clap.specs.Words.{Text}
 use Rattle.chaosd_line.specs.Files.{are_apart, last_from, last_of}
 
-last_behind : (name text : Text) (b : ℕ) → last_from name (text ++ b ∷ []) ≡ (if b == 47 then [] else last_from name text ++ b ∷ [])
+last_behind : (name text : Text) (b : ℕ)
+    → last_from name (text ++ b ∷ []) ≡ (if b == 47 then [] else last_from name text ++ b ∷ [])
 last_behind name [] b = refl
 last_behind name (x ∷ text) b = last_behind (if x == 47 then [] else name ++ x ∷ []) text b
 
 -- one byte more
 last_more : (text : Text) (i d : ℕ) → i < length text
-    → last_of (take (i + 1) text) ≡ (if get_or text i d == 47 then [] else last_of (take i text) ++ get_or text i d ∷ [])
+    → last_of (take (i + 1) text)
+    ≡ (if get_or text i d == 47 then [] else last_of (take i text) ++ get_or text i d ∷ [])
 last_more text i d lt =
     let more : take (i + 1) text ≡ take i text ++ get_or text i d ∷ [] = rw add-one (take-suc text i d lt) in
     ap last_of more ∙ last_behind [] (take i text) (get_or text i d)
 
 -- behind a slash nothing stands yet
-pub last_begun : (text : Text) (i d : ℕ) → i < length text → get_or text i d ≡ 47 → drop (i + 1) (take (i + 1) text) ≡ last_of (take (i + 1) text)
+pub last_begun : (text : Text) (i d : ℕ) → i < length text → get_or text i d ≡ 47
+    → drop (i + 1) (take (i + 1) text) ≡ last_of (take (i + 1) text)
 last_begun text i d lt e =
-    let none : drop (i + 1) (take (i + 1) text) ≡ [] = drop_all (i + 1) (take (i + 1) text) (grind (arith, common_steps)) in
+    let none : drop (i + 1) (take (i + 1) text) ≡ [] =
+    drop_all (i + 1) (take (i + 1) text) (grind (arith, common_steps)) in
     none ∙ sym (last_more text i d lt ∙ ap (λ b. if b == 47 then [] else last_of (take i text) ++ b ∷ []) e)
 
 apart : (b : ℕ) → b ≢ 47 → (b == 47) ≡ false
 apart b ne = grind arith
 
 -- another byte belongs to the name
-pub last_kept : (text : Text) (i start d : ℕ) → i < length text → start ≤ i → drop start (take i text) ≡ last_of (take i text)
+pub last_kept : (text : Text) (i start d : ℕ) → i < length text → start ≤ i
+    → drop start (take i text) ≡ last_of (take i text)
     → get_or text i d ≢ 47 → drop start (take (i + 1) text) ≡ last_of (take (i + 1) text)
 last_kept text i start d lt le e ne =
     let more : take (i + 1) text ≡ take i text ++ get_or text i d ∷ [] = rw add-one (take-suc text i d lt) in
@@ -36,27 +41,34 @@ last_kept text i start d lt le e ne =
     let kept : drop start (take i text ++ get_or text i d ∷ []) ≡ drop start (take i text) ++ get_or text i d ∷ [] =
     drop-append-le start (take i text) (get_or text i d ∷ []) within in
     ap (drop start) more ∙ kept ∙ ap (λ u. u ++ get_or text i d ∷ []) e
-    ∙ sym (last_more text i d lt ∙ ap (λ b. if b then [] else last_of (take i text) ++ get_or text i d ∷ []) (apart (get_or text i d) ne))
+    ∙ sym
+    (last_more text i d lt
+    ∙ ap (λ b. if b then [] else last_of (take i text) ++ get_or text i d ∷ []) (apart (get_or text i d) ne))
 
-any_of : {T : Type 0} (p : Text → Bool) (text : T → Text) (ts : List T) → list_any p (map text ts) ≡ list_any (λ t. p (text t)) ts
+any_of : {T : Type 0} (p : Text → Bool) (text : T → Text) (ts : List T)
+    → list_any p (map text ts) ≡ list_any (λ t. p (text t)) ts
 any_of p text [] = refl
 any_of p text (t ∷ ts) = ap (λ b. p (text t) || b) (any_of p text ts)
 
 apart_next : {T : Type 0} (same : Text → Text → Bool) (text : T → Text) (ts : List T) (i : ℕ) (d : T) → i < length ts
-    → are_apart same (map text (drop i ts)) ≡ (not (list_any (λ u. same (text u) (text (get_or ts i d))) (drop (suc i) ts))
+    → are_apart same (map text (drop i ts))
+    ≡ (not (list_any (λ u. same (text u) (text (get_or ts i d))) (drop (suc i) ts))
     && are_apart same (map text (drop (suc i) ts)))
 apart_next same text [] i d lt = absurd (omega arith)
-apart_next same text (t ∷ ts) zero d lt = ap (λ b. not b && are_apart same (map text ts)) (any_of (λ u. same u (text t)) text ts)
+apart_next same text (t ∷ ts) zero d lt =
+    ap (λ b. not b && are_apart same (map text ts)) (any_of (λ u. same u (text t)) text ts)
 apart_next same text (t ∷ ts) (suc i) d lt = apart_next same text ts i d (omega arith)
 
 -- one text more, which is the same as a later one or not
 apart_step : {T : Type 0} (same : Text → Text → Bool) (text : T → Text) (ts : List T) (i : ℕ) (d : T) → i < length ts
-    → are_apart same (map text (drop i ts)) ≡ (not (list_any (λ u. same (text u) (text (get_or ts i d))) (drop (i + 1) ts))
+    → are_apart same (map text (drop i ts))
+    ≡ (not (list_any (λ u. same (text u) (text (get_or ts i d))) (drop (i + 1) ts))
     && are_apart same (map text (drop (i + 1) ts)))
 apart_step same text ts i d lt = rw add-one (apart_next same text ts i d lt)
 
 -- the same of what was found of it among the rest
-pub apart_at : {T : Type 0} (same : Text → Text → Bool) (text : T → Text) (ts : List T) (i : ℕ) (d : T) (test : T → Bool) (found : Bool)
+pub apart_at : {T : Type 0} (same : Text → Text → Bool) (text : T → Text) (ts : List T) (i : ℕ) (d : T)
+    (test : T → Bool) (found : Bool)
     → i < length ts → test ≡ (λ u. same (text u) (text (get_or ts i d)))
     → found ≡ list_any test (take (length ts - (i + 1)) (drop (i + 1) ts))
     → are_apart same (map text (drop i ts)) ≡ (not found && are_apart same (map text (drop (i + 1) ts)))

@@ -35,8 +35,14 @@ one_list (t ∷ ts) (p ∷ ps) (q ∷ qs) h k = λ i. one_peer t p q h.0 k.0 i �
 one_carriage : (t : Text) (a b : Carriage) → IsCarriage t a → IsCarriage t b → a ≡ b
 one_carriage t One One h k = refl
 one_carriage t Two Two h k = refl
-one_carriage t One Two h k = absurd (let e : slice_index (codes "1") 0 ≡ slice_index (codes "2") 0 = ap (λ u. slice_index u 0) (sym h ∙ k) in omega (arith, e))
-one_carriage t Two One h k = absurd (let e : slice_index (codes "2") 0 ≡ slice_index (codes "1") 0 = ap (λ u. slice_index u 0) (sym h ∙ k) in omega (arith, e))
+one_carriage t One Two h k =
+    absurd
+    (let e : slice_index (codes "1") 0
+    ≡ slice_index (codes "2") 0 = ap (λ u. slice_index u 0) (sym h ∙ k) in omega (arith, e))
+one_carriage t Two One h k =
+    absurd
+    (let e : slice_index (codes "2") 0
+    ≡ slice_index (codes "1") 0 = ap (λ u. slice_index u 0) (sym h ∙ k) in omega (arith, e))
 
 same_some : (s t : Text) → Some s ≡ Some t → s ≡ t
 same_some s t e = cc
@@ -52,12 +58,30 @@ one_log : (t : Text) (a b : LogLevel) → IsLog t a → IsLog t b → a ≡ b
 one_log t log.Quiet log.Quiet h k = refl
 one_log t log.Normal log.Normal h k = refl
 one_log t log.All log.All h k = refl
-one_log t log.Quiet log.Normal h k = absurd (let e : slice_index (codes "quiet") 0 ≡ slice_index (codes "normal") 0 = other_first t _ _ h k in omega (arith, e))
-one_log t log.Quiet log.All h k = absurd (let e : slice_index (codes "quiet") 0 ≡ slice_index (codes "all") 0 = other_first t _ _ h k in omega (arith, e))
-one_log t log.Normal log.Quiet h k = absurd (let e : slice_index (codes "normal") 0 ≡ slice_index (codes "quiet") 0 = other_first t _ _ h k in omega (arith, e))
-one_log t log.Normal log.All h k = absurd (let e : slice_index (codes "normal") 0 ≡ slice_index (codes "all") 0 = other_first t _ _ h k in omega (arith, e))
-one_log t log.All log.Quiet h k = absurd (let e : slice_index (codes "all") 0 ≡ slice_index (codes "quiet") 0 = other_first t _ _ h k in omega (arith, e))
-one_log t log.All log.Normal h k = absurd (let e : slice_index (codes "all") 0 ≡ slice_index (codes "normal") 0 = other_first t _ _ h k in omega (arith, e))
+one_log t log.Quiet log.Normal h k =
+    absurd
+    (let e : slice_index (codes "quiet") 0
+    ≡ slice_index (codes "normal") 0 = other_first t _ _ h k in omega (arith, e))
+one_log t log.Quiet log.All h k =
+    absurd
+    (let e : slice_index (codes "quiet") 0
+    ≡ slice_index (codes "all") 0 = other_first t _ _ h k in omega (arith, e))
+one_log t log.Normal log.Quiet h k =
+    absurd
+    (let e : slice_index (codes "normal") 0
+    ≡ slice_index (codes "quiet") 0 = other_first t _ _ h k in omega (arith, e))
+one_log t log.Normal log.All h k =
+    absurd
+    (let e : slice_index (codes "normal") 0
+    ≡ slice_index (codes "all") 0 = other_first t _ _ h k in omega (arith, e))
+one_log t log.All log.Quiet h k =
+    absurd
+    (let e : slice_index (codes "all") 0
+    ≡ slice_index (codes "quiet") 0 = other_first t _ _ h k in omega (arith, e))
+one_log t log.All log.Normal h k =
+    absurd
+    (let e : slice_index (codes "all") 0
+    ≡ slice_index (codes "normal") 0 = other_first t _ _ h k in omega (arith, e))
 
 same_serve : (rows : List Row) (s t : Serve) → IsServe rows s → IsServe rows t → IsSameServe s t
 same_serve rows s t h k = record {
@@ -86,7 +110,8 @@ same_ask rows s t h k = record {
   peers = one_list _ _ _ h.peers.0 k.peers.0;
 }
 
-one_login : (o : Option Text) (a b : Bor Text) → IsSomeAnd o (λ t. IsLogin t a) → IsSomeAnd o (λ t. IsLogin t b) → a.now ≡ b.now
+one_login : (o : Option Text) (a b : Bor Text) → IsSomeAnd o (λ t. IsLogin t a) → IsSomeAnd o (λ t. IsLogin t b)
+    → a.now ≡ b.now
 one_login None a b h k = absurd h
 one_login (Some t) a b h k = h.0 ∙ sym k.0
 
@@ -154,7 +179,8 @@ letter (line.Put x) = 697
 letter (line.Delete x) = 605
 letter (line.Rename x) = 619
 
-letter_is : (name : Text) (rows : List Row) (x : Line) → IsLine name rows x → slice_index name 0 + 5 * slice_index name 1 ≡ letter x
+letter_is : (name : Text) (rows : List Row) (x : Line) → IsLine name rows x
+    → slice_index name 0 + 5 * slice_index name 1 ≡ letter x
 letter_is name rows (line.Show x) h = ap (λ t. slice_index t 0 + 5 * slice_index t 1) h.0
 letter_is name rows line.Lab h = ap (λ t. slice_index t 0 + 5 * slice_index t 1) h
 letter_is name rows line.FileLab h = ap (λ t. slice_index t 0 + 5 * slice_index t 1) h
@@ -166,14 +192,16 @@ letter_is name rows (line.Put x) h = ap (λ t. slice_index t 0 + 5 * slice_index
 letter_is name rows (line.Delete x) h = ap (λ t. slice_index t 0 + 5 * slice_index t 1) h.0
 letter_is name rows (line.Rename x) h = ap (λ t. slice_index t 0 + 5 * slice_index t 1) h.0
 
-same_letter : (name : Text) (rows : List Row) (x y : Line) → IsLine name rows x → IsLine name rows y → letter x ≡ letter y
+same_letter : (name : Text) (rows : List Row) (x y : Line) → IsLine name rows x → IsLine name rows y
+    → letter x ≡ letter y
 same_letter name rows x y h k = sym (letter_is name rows x h) ∙ letter_is name rows y k
 
 same_show : (rows : List Row) (a b : Bool) → IsSomeAnd (first_of (codes "file") rows) (λ text. IsFlag text a)
     → IsSomeAnd (first_of (codes "file") rows) (λ text. IsFlag text b) → a ≡ b
 same_show rows a b h k = one_value IsFlag one_flag _ a b h k
 
-same_loop : (rows : List Row) (a b : Carriage) → IsSomeAnd (first_of (codes "carriage") rows) (λ text. IsCarriage text a)
+same_loop : (rows : List Row) (a b : Carriage)
+    → IsSomeAnd (first_of (codes "carriage") rows) (λ text. IsCarriage text a)
     → IsSomeAnd (first_of (codes "carriage") rows) (λ text. IsCarriage text b) → a ≡ b
 same_loop rows a b h k = one_value IsCarriage one_carriage _ a b h k
 

@@ -17,7 +17,8 @@ zip_push R [] (z ∷ ys) x y h r = absurd h
 zip_push R (w ∷ xs) [] x y h r = absurd h
 zip_push R (w ∷ xs) (z ∷ ys) x y h r = (h.0, zip_push R xs ys x y h.1 r)
 
-zip_at : {A B : Type 0} (R : A → B → Type 0) (xs : List A) (ys : List B) (i : ℕ) (d : A) (e : B) → AllZip R xs ys → i < length xs
+zip_at : {A B : Type 0} (R : A → B → Type 0) (xs : List A) (ys : List B) (i : ℕ) (d : A) (e : B) → AllZip R xs ys
+    → i < length xs
     → R (get_or xs i d) (get_or ys i e)
 zip_at R [] ys i d e h lt = absurd (omega arith)
 zip_at R (x ∷ xs) [] i d e h lt = absurd h
@@ -86,5 +87,6 @@ pub peers_stuck : {X : Type 0} (f : X → Text) (xs : List X) (i : ℕ) (d : X) 
     → ArePeers (map f (take i xs)) old → CannotAdd (f (get_or xs i d)) old → ArePeers (map f xs) peers → ⊥
 peers_stuck f xs i d old peers lt before cannot h =
     let size : length (map f xs) ≡ length xs = length-map xs f in
-    stuck (map f xs) i (f d) old peers (omega arith) (subst (λ texts. ArePeers texts old) (sym (take-map f i xs)) before)
+    stuck (map f xs) i (f d) old peers (omega arith)
+    (subst (λ texts. ArePeers texts old) (sym (take-map f i xs)) before)
     (subst (λ text. CannotAdd text old) (sym (get_or-map f xs i d (f d) lt)) cannot) h

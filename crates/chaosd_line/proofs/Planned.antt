@@ -7,19 +7,23 @@ use Rattle.chaosd_line.specs.declared.sub.Sub.{Sub}
 
 -- one word more
 pub rules_step : {X : Type 0} (f : X → Rule) (xs : List X) (i : ℕ) (d : X) (start mid new : App) → i < length xs
-    → mid ≡ with_rules start (map f (take i xs)) → new ≡ with_rule mid (f (get_or xs i d)) → new ≡ with_rules start (map f (take (i + 1) xs))
+    → mid ≡ with_rules start (map f (take i xs)) → new ≡ with_rule mid (f (get_or xs i d))
+    → new ≡ with_rules start (map f (take (i + 1) xs))
 rules_step f xs i d start mid new lt before added =
     added ∙ ap (λ a. with_rule a (f (get_or xs i d))) before
-    ∙ ap (λ rules. record start { top = record start.top { rules = rules } }) (append_assoc start.top.rules (map f (take i xs)) (f (get_or xs i d) ∷ []))
+    ∙ ap (λ rules. record start { top = record start.top { rules = rules } })
+    (append_assoc start.top.rules (map f (take i xs)) (f (get_or xs i d) ∷ []))
     ∙ ap (with_rules start) (sym (map_more f xs i d lt))
 
-subs_more : (app : App) (subs : List Sub) (s : Sub) → with_subs app (subs ++ s ∷ []) ≡ with_subcommand (with_subs app subs) (app_of_sub s).top
+subs_more : (app : App) (subs : List Sub) (s : Sub)
+    → with_subs app (subs ++ s ∷ []) ≡ with_subcommand (with_subs app subs) (app_of_sub s).top
 subs_more app [] s = refl
 subs_more app (t ∷ subs) s = subs_more (with_subcommand app (app_of_sub t).top) subs s
 
 -- one subcommand more
 pub subs_step : (subs : List Sub) (i : ℕ) (d : Sub) (start mid new : App) → i < length subs
-    → mid ≡ with_subs start (take i subs) → new ≡ with_subcommand mid (app_of_sub (get_or subs i d)).top → new ≡ with_subs start (take (i + 1) subs)
+    → mid ≡ with_subs start (take i subs) → new ≡ with_subcommand mid (app_of_sub (get_or subs i d)).top
+    → new ≡ with_subs start (take (i + 1) subs)
 subs_step subs i d start mid new lt before added =
     added ∙ ap (λ a. with_subcommand a (app_of_sub (get_or subs i d)).top) before
     ∙ sym (subs_more start (take i subs) (get_or subs i d)) ∙ ap (with_subs start) (sym (take_more subs i d lt))

@@ -30,8 +30,14 @@ one_peer t p q h k =
 pub one_flag : (t : Text) (a b : Bool) → IsFlag t a → IsFlag t b → a ≡ b
 one_flag t true true h k = refl
 one_flag t false false h k = refl
-one_flag t true false h k = absurd (let e : slice_index (codes "true") 0 ≡ slice_index (codes "false") 0 = ap (λ u. slice_index u 0) (sym h ∙ k) in omega (arith, e))
-one_flag t false true h k = absurd (let e : slice_index (codes "false") 0 ≡ slice_index (codes "true") 0 = ap (λ u. slice_index u 0) (sym h ∙ k) in omega (arith, e))
+one_flag t true false h k =
+    absurd
+    (let e : slice_index (codes "true") 0
+    ≡ slice_index (codes "false") 0 = ap (λ u. slice_index u 0) (sym h ∙ k) in omega (arith, e))
+one_flag t false true h k =
+    absurd
+    (let e : slice_index (codes "false") 0
+    ≡ slice_index (codes "true") 0 = ap (λ u. slice_index u 0) (sym h ∙ k) in omega (arith, e))
 
 one_timeout_of : (o : Option Text) (m n : Option ℕ) → IsTimeout o m → IsTimeout o n → m ≡ n
 one_timeout_of None None None h k = λ i. None
@@ -45,7 +51,8 @@ pub one_timeout : (o : Option Text) (m n : Option ℕ) → IsTimeout o m → IsT
 one_timeout o m n h k = one_timeout_of o m n h k
 
 -- where both sides have one address, the values that are read are the same, and so no others differ
-pub same_host : (o s : Option Text) (m n : ℕ) (p q : Peer) → IsSomeAnd o (λ t. IsAddress t m) → IsSomeAnd o (λ t. IsAddress t n)
+pub same_host : (o s : Option Text) (m n : ℕ) (p q : Peer) → IsSomeAnd o (λ t. IsAddress t m)
+    → IsSomeAnd o (λ t. IsAddress t n)
     → IsSomeAnd s (λ t. IsPeer t p) → IsSomeAnd s (λ t. IsPeer t q) → p.address ≡ m → q.address ≡ n
 same_host o s m n p q h k u v e =
     ap (λ x. x.address) (one_value IsPeer one_peer s q p v u) ∙ e ∙ one_value IsAddress one_address o m n h k

@@ -58,7 +58,8 @@ show_command = with_rule (new_app (codes "show")) (flag (codes "file"))
 
 -- ask [--carriage N] [--timeout SECONDS] [--strict] ADDRESS UDP TO PEER...
 abbrev pub ask_options : App → App
-ask_options app = with_rule (with_rule (with_rule app carriage_option) (optional (codes "timeout"))) (flag (codes "strict"))
+ask_options app =
+    with_rule (with_rule (with_rule app carriage_option) (optional (codes "timeout"))) (flag (codes "strict"))
 
 abbrev pub ask_command : App
 ask_command = with_rule
@@ -73,10 +74,13 @@ abbrev pub turn_options : App → App
 turn_options app = with_rule (with_rule (with_rule app turns_option) carriage_option) window_option
 
 abbrev pub log_options : App → App
-log_options app = with_rule (with_rule (with_rule app (flag (codes "quiet"))) (with_default (codes "log") (codes "normal"))) (flag (codes "log-time"))
+log_options app =
+    with_rule (with_rule (with_rule app (flag (codes "quiet"))) (with_default (codes "log") (codes "normal")))
+    (flag (codes "log-time"))
 
 abbrev pub serve_options : App → App
-serve_options app = with_rule (with_rule (log_options (turn_options app)) (flag (codes "only-peers"))) (flag (codes "read-only"))
+serve_options app =
+    with_rule (with_rule (log_options (turn_options app)) (flag (codes "only-peers"))) (flag (codes "read-only"))
 
 -- serve with these, and ADDRESS UDP FOLDER PEER...
 abbrev pub serve_command : App
@@ -103,7 +107,9 @@ call_options app = with_rule
 
 -- with these [--text] [--quiet] [--verbose]
 abbrev pub copy_options : App → App
-copy_options app = with_rule (with_rule (with_rule (call_options app) (flag (codes "text"))) (flag (codes "quiet"))) (flag (codes "verbose"))
+copy_options app =
+    with_rule (with_rule (with_rule (call_options app) (flag (codes "text"))) (flag (codes "quiet")))
+    (flag (codes "verbose"))
 
 -- ADDRESS UDP SERVER
 abbrev pub with_addresses : App → App
@@ -119,7 +125,8 @@ get_command = with_rule
 -- put [--rename] [--as PATH] with these, and LOCAL...
 abbrev pub put_command : App
 put_command = with_rule
-    (with_addresses (with_rule (with_rule (copy_options (new_app (codes "put"))) (flag (codes "rename"))) (optional (codes "as"))))
+    (with_addresses
+    (with_rule (with_rule (copy_options (new_app (codes "put"))) (flag (codes "rename"))) (optional (codes "as"))))
     (file_words (codes "LOCAL"))
 
 -- delete PATH...

@@ -44,10 +44,12 @@ pub record IsAsk (rows : List Row) (ask : Ask) : Type 0 where
 
 -- the line that a subcommand and its values ask for
 abbrev pub IsLine : Text → List Row → Line → Type 0
-IsLine name rows (line.Show is_file) = (name ≡ codes "show") × IsSomeAnd (first_of (codes "file") rows) (λ text. IsFlag text is_file)
+IsLine name rows (line.Show is_file) =
+    (name ≡ codes "show") × IsSomeAnd (first_of (codes "file") rows) (λ text. IsFlag text is_file)
 IsLine name rows line.Lab = name ≡ codes "lab"
 IsLine name rows line.FileLab = name ≡ codes "filelab"
-IsLine name rows (line.Loop carriage) = (name ≡ codes "loop") × IsSomeAnd (first_of (codes "carriage") rows) (λ text. IsCarriage text carriage)
+IsLine name rows (line.Loop carriage) =
+    (name ≡ codes "loop") × IsSomeAnd (first_of (codes "carriage") rows) (λ text. IsCarriage text carriage)
 IsLine name rows (line.Serve serve) = (name ≡ codes "serve") × IsServe rows serve
 IsLine name rows (line.Ask ask) = (name ≡ codes "ask") × IsAsk rows ask
 IsLine name rows (line.Get get) = (name ≡ codes "get") × IsGet rows get

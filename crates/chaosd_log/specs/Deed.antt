@@ -35,7 +35,8 @@ NotesGet path (got.Bytes bytes) old new = new ≡ noted_with (Read (path_of path
 NotesGet path answer old new = new ≡ old
 
 abbrev pub NotesPut : List ℕ → ℕ → Stored → Option (List Deed) → Option (List Deed) → Type 0
-NotesPut path bytes stored.Done old new = (new ≡ noted_with (Wrote (path_of path) bytes) old) ⊎ (new ≡ noted_with (Replaced (path_of path) bytes) old)
+NotesPut path bytes stored.Done old new =
+    (new ≡ noted_with (Wrote (path_of path) bytes) old) ⊎ (new ≡ noted_with (Replaced (path_of path) bytes) old)
 NotesPut path bytes answer old new = new ≡ old
 
 abbrev pub NotesRemove : List ℕ → Removed → Option (List Deed) → Option (List Deed) → Type 0

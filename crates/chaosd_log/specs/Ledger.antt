@@ -6,8 +6,8 @@ use Rattle.chaos_link.specs.Peers.{socket_of}
 use Rattle.chaosd_log.specs.declared.ledger.Asking.{Asking}
 use Rattle.chaosd_log.specs.declared.ledger.Asking.TheVariants.{AsKnown, Stranger, Elsewhere}
 
--- the peers, the UDP address that each was heard from last, by its place; the host that was heard last of those that are none; and
--- whether something was told of where a Chaosnet address asks from
+-- the peers, the UDP address that each was heard from last, by its place; the host that was heard last of those that
+-- are none; and whether something was told of where a Chaosnet address asks from
 pub record LedgerView : Type 0 where
   pub peers : List Peer
   pub heard : List (Option SocketAddrV4)
@@ -35,7 +35,8 @@ IsAskingOf known from (Elsewhere other) = (known ≡ Some other) × (other ≢ f
 abbrev pub AsksAs : ℕ → SocketAddrV4 → LedgerView → Asking → Type 0
 AsksAs address from ledger AsKnown = (known_at address ledger ≡ Some from) ⊎ (was_told address ledger ≡ true)
 AsksAs address from ledger Stranger = (known_at address ledger ≡ None) × (was_told address ledger ≡ false)
-AsksAs address from ledger (Elsewhere known) = (known_at address ledger ≡ Some known) × (known ≢ from) × (was_told address ledger ≡ false)
+AsksAs address from ledger (Elsewhere known) =
+    (known_at address ledger ≡ Some known) × (known ≢ from) × (was_told address ledger ≡ false)
 
 -- it was heard from there
 abbrev pub heard_at : Option ℕ → Peer → LedgerView → LedgerView
@@ -47,7 +48,9 @@ told_of address AsKnown ledger = ledger
 told_of address asking ledger = record ledger { told = slice_set ledger.told address true }
 
 abbrev pub with_asked : ℕ → SocketAddrV4 → Asking → LedgerView → LedgerView
-with_asked address from asking ledger = told_of address asking (heard_at (place_of address ledger.peers) (record { address = address; socket = from }) ledger)
+with_asked address from asking ledger =
+    told_of address asking
+    (heard_at (place_of address ledger.peers) (record { address = address; socket = from }) ledger)
 
 -- the UDP address that a host was heard from last
 abbrev pub socket_at : ℕ → Option Peer → Option SocketAddrV4

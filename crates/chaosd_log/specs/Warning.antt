@@ -9,5 +9,6 @@ use Rattle.chaosd_log.specs.declared.warning.Warning.TheVariants.{NoPeers, OwnAd
 abbrev pub WarnsOf : Peer → ℕ → SocketAddrV4 → Option Warning → Type 0
 WarnsOf peer address socket (Some NoPeers) = ⊥
 WarnsOf peer address socket (Some (OwnAddress own)) = (peer.address ≡ address) × (own ≡ address)
-WarnsOf peer address socket (Some (OwnSocket other)) = (peer.address ≢ address) × (peer.socket ≡ socket) × (other ≡ peer.address)
+WarnsOf peer address socket (Some (OwnSocket other)) =
+    (peer.address ≢ address) × (peer.socket ≡ socket) × (other ≡ peer.address)
 WarnsOf peer address socket None = (peer.address ≢ address) × (peer.socket ≢ socket)

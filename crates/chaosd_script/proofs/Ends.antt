@@ -18,27 +18,39 @@ use Rattle.chaosd_script.specs.Player.{IsAt, PlaysGiven, PlaysAll, PlaysWithin, 
 -- ---- what was handed on
 
 -- what was written before all was handed on is what the writer holds
-held_now : (before written held : Option (List ℕ)) (waiting text : List ℕ) → Keeps written (written_of held waiting) → waiting ≡ [] → Appends before written text → Appends before held text
-held_now before written held waiting text keeps none p = handed before held waiting text none (Appends-kept before written (written_of held waiting) text p keeps)
+held_now : (before written held : Option (List ℕ)) (waiting text : List ℕ) → Keeps written (written_of held waiting)
+    → waiting ≡ [] → Appends before written text → Appends before held text
+held_now before written held waiting text keeps none p =
+    handed before held waiting text none (Appends-kept before written (written_of held waiting) text p keeps)
 
-pub all_handed : {X : Type 0} (script : Script X) (known before written held : Option (List ℕ)) (waiting : List ℕ) (refused refused' : ℕ) → Keeps written (written_of held waiting) → waiting ≡ [] → refused' ≡ refused
+pub all_handed : {X : Type 0} (script : Script X) (known before written held : Option (List ℕ)) (waiting : List ℕ)
+    (refused refused' : ℕ)
+    → Keeps written (written_of held waiting) → waiting ≡ [] → refused' ≡ refused
     → IfSome known (PlaysWithin script before written refused) → IfSome known (PlaysAll script before held refused')
 all_handed script known before written held waiting refused refused' keeps none same p =
     if_some known (PlaysWithin script before written refused) (PlaysAll script before held refused')
     (λ l q. (q.1.0, q.1.1, same ∙ q.1.2, held_now before written held waiting _ keeps none q.1.3)) p
 
-pub within : {X : Type 0} (script : Script X) (known before written : Option (List ℕ)) (refused : ℕ) → IfSome known (PlaysWithin script before written refused) → IfSome known (λ l. length l ≤ INPUT_LIMIT)
-within script known before written refused p = if_some known (PlaysWithin script before written refused) (λ l. length l ≤ INPUT_LIMIT) (λ l q. q.0) p
+pub within : {X : Type 0} (script : Script X) (known before written : Option (List ℕ)) (refused : ℕ)
+    → IfSome known (PlaysWithin script before written refused) → IfSome known (λ l. length l ≤ INPUT_LIMIT)
+within script known before written refused p =
+    if_some known (PlaysWithin script before written refused) (λ l. length l ≤ INPUT_LIMIT) (λ l q. q.0) p
 
-pub stops_handed : {X : Type 0} (script : Script X) (old new before written held : Option (List ℕ)) (waiting : List ℕ) (fault : RunFault) → Keeps written (written_of held waiting) → waiting ≡ []
+pub stops_handed : {X : Type 0} (script : Script X) (old new before written held : Option (List ℕ)) (waiting : List ℕ)
+    (fault : RunFault)
+    → Keeps written (written_of held waiting) → waiting ≡ []
     → StopsRun script old new before written fault → StopsRun script old new before held fault
 stops_handed script old new before written held waiting (run.BadScript number) keeps none s =
-    if_some old (StopsAt script before written number) (StopsAt script before held number) (λ l q. (q.0, q.1, held_now before written held waiting _ keeps none q.2)) s
+    if_some old (StopsAt script before written number) (StopsAt script before held number)
+    (λ l q. (q.0, q.1, held_now before written held waiting _ keeps none q.2)) s
 stops_handed script old new before written held waiting run.NoMemory keeps none s =
-    if_some old (Wants script before written) (Wants script before held) (λ l q. (q.0, q.1, q.2, q.3, q.4, q.5, q.6, held_now before written held waiting _ keeps none q.7)) s
+    if_some old (Wants script before written) (Wants script before held)
+    (λ l q. (q.0, q.1, q.2, q.3, q.4, q.5, q.6, held_now before written held waiting _ keeps none q.7)) s
 stops_handed script old new before written held waiting run.InputTooLong keeps none s =
-    if_some old (PlaysFront script before written) (PlaysFront script before held) (λ l q. (q.0, q.1, held_now before written held waiting _ keeps none q.2)) s
-stops_handed script old new before written held waiting run.ReadFault keeps none s = (s.0, s.1, s.2, held_now before written held waiting _ keeps none s.3)
+    if_some old (PlaysFront script before written) (PlaysFront script before held)
+    (λ l q. (q.0, q.1, held_now before written held waiting _ keeps none q.2)) s
+stops_handed script old new before written held waiting run.ReadFault keeps none s =
+    (s.0, s.1, s.2, held_now before written held waiting _ keeps none s.3)
 stops_handed script old new before written held waiting run.WriteFault keeps none s = tt
 stops_handed script old new before written held waiting run.LinkFault keeps none s = absurd s
 stops_handed script old new before written held waiting run.ClockFault keeps none s = absurd s
@@ -46,13 +58,17 @@ stops_handed script old new before written held waiting run.ClockFault keeps non
 -- ---- what was read
 
 -- the lines that were played are of good form
-none_bad : {X : Type 0} (script : Script X) (lab : Option X) (refused : ℕ) (ended : List (List ℕ)) → IsAt script lab refused ended → NoneBad script ended
+none_bad : {X : Type 0} (script : Script X) (lab : Option X) (refused : ℕ) (ended : List (List ℕ))
+    → IsAt script lab refused ended → NoneBad script ended
 none_bad script None refused ended at some = absurd (some at.0)
 none_bad script (Some lab) refused ended at some = λ none. let (p, is, same, count, ready) = at in absurd (cc)
 
 -- no more came of the input
-pub reading_stops : {X : Type 0} (script : Script X) (input mid rest before written : Option (List ℕ)) (at : Standing X) (lines lines' : LinesView) (fault : RunFault) → (s : PlaysGiven script input mid before written at lines)
-    → GivesMore KEPT_LEN INPUT_LIMIT input rest s.given lines' (Err fault) → StopsRun script input rest before written fault
+pub reading_stops : {X : Type 0} (script : Script X) (input mid rest before written : Option (List ℕ)) (at : Standing X)
+    (lines lines' : LinesView) (fault : RunFault)
+    → (s : PlaysGiven script input mid before written at lines)
+    → GivesMore KEPT_LEN INPUT_LIMIT input rest s.given lines' (Err fault)
+    → StopsRun script input rest before written fault
 reading_stops script input mid rest before written at lines lines' run.ReadFault s (read, came, same) = (
   read,
   came,
@@ -60,7 +76,8 @@ reading_stops script input mid rest before written at lines lines' run.ReadFault
   subst (λ l. Appends before written (text_of (play_of script l))) same s.plays.text,
 )
 reading_stops script input mid rest before written at lines lines' run.InputTooLong s past =
-    if_some input (λ all. (INPUT_LIMIT < length all) × (s.given ≡ ended_lines (take INPUT_LIMIT all))) (PlaysFront script before written)
+    if_some input (λ all. (INPUT_LIMIT < length all) × (s.given ≡ ended_lines (take INPUT_LIMIT all)))
+    (PlaysFront script before written)
     (λ all h. (
       h.0,
       subst (NoneBad script) h.1 (none_bad script at.lab at.refused s.given s.plays.state),
@@ -73,7 +90,10 @@ reading_stops script input mid rest before written at lines lines' run.LinkFault
 reading_stops script input mid rest before written at lines lines' run.ClockFault s h = absurd h
 
 -- what was told stops the run
-pub stops_told : {X Y : Type 0} (script : Script X) (r : Result Y RunFault) (old new before written : Option (List ℕ)) (e f : RunFault) → IsErrAnd r (λ y. y ≡ e) → r ≡ Err f → StopsRun script old new before written e → StopsRun script old new before written f
+pub stops_told : {X Y : Type 0} (script : Script X) (r : Result Y RunFault) (old new before written : Option (List ℕ))
+    (e f : RunFault)
+    → IsErrAnd r (λ y. y ≡ e) → r ≡ Err f → StopsRun script old new before written e
+    → StopsRun script old new before written f
 stops_told script (Ok x) old new before written e f is same s = absurd is
 stops_told script (Err y) old new before written e f is same s =
     let this : e ≡ f = cc in

@@ -19,15 +19,22 @@ use Rattle.chaosd_script.proofs.Plays.{play_of-alike, alike_same, first_bad, lin
 -- ---- lines that were played
 
 -- handing on changes nothing of what was played
-pub lines_kept : {X : Type 0} (script : Script X) (before written written' : Option (List ℕ)) (at at' : Standing X) (ended : List (List ℕ)) → Keeps written written' → at' ≡ at
+pub lines_kept : {X : Type 0} (script : Script X) (before written written' : Option (List ℕ)) (at at' : Standing X)
+    (ended : List (List ℕ))
+    → Keeps written written' → at' ≡ at
     → PlaysLines script before written at ended → PlaysLines script before written' at' ended
 lines_kept script before written written' at at' ended keeps same s =
-    subst (λ a. PlaysLines script before written' a ended) (sym same) (record { state = s.state; text = Appends-kept before written written' _ s.text keeps; count = s.count })
+    subst (λ a. PlaysLines script before written' a ended) (sym same)
+    (record { state = s.state; text = Appends-kept before written written' _ s.text keeps; count = s.count })
 
 -- a line plays what another one does that begins alike
-lines_alike : {X : Type 0} (script : Script X) (before written : Option (List ℕ)) (lab : Option X) (lines refused : ℕ) (ended : List (List ℕ)) (f g : List ℕ) → take KEPT_LEN f ≡ take KEPT_LEN g
-    → PlaysLines script before written (record { lab = lab; lines = lines; refused = refused }) (ended ++ f ∷ []) → PlaysLines script before written (record { lab = lab; lines = lines; refused = refused }) (ended ++ g ∷ [])
-lines_alike script before written None lines refused ended f g e s = absurd (omega (arith, ap length s.state.0, length-append ended (f ∷ [])))
+lines_alike : {X : Type 0} (script : Script X) (before written : Option (List ℕ)) (lab : Option X) (lines refused : ℕ)
+    (ended : List (List ℕ)) (f g : List ℕ)
+    → take KEPT_LEN f ≡ take KEPT_LEN g
+    → PlaysLines script before written (record { lab = lab; lines = lines; refused = refused }) (ended ++ f ∷ [])
+    → PlaysLines script before written (record { lab = lab; lines = lines; refused = refused }) (ended ++ g ∷ [])
+lines_alike script before written None lines refused ended f g e s =
+    absurd (omega (arith, ap length s.state.0, length-append ended (f ∷ [])))
 lines_alike script before written (Some lab) lines refused ended f g e s =
     let (p, is, same, count, ready) = s.state in
     record {
@@ -39,11 +46,16 @@ lines_alike script before written (Some lab) lines refused ended f g e s =
 -- ---- lines that were given
 
 -- more came, or the end did
-pub given_of : {X : Type 0} (script : Script X) (input rest rest' before written : Option (List ℕ)) (at : Standing X) (lines lines' : LinesView) → (s : PlaysGiven script input rest before written at lines)
+pub given_of : {X : Type 0} (script : Script X) (input rest rest' before written : Option (List ℕ)) (at : Standing X)
+    (lines lines' : LinesView)
+    → (s : PlaysGiven script input rest before written at lines)
     → Gives KEPT_LEN INPUT_LIMIT input rest' s.given lines' → PlaysGiven script input rest' before written at lines'
-given_of script input rest rest' before written at lines lines' s gives = record { given = s.given; gives = gives; plays = s.plays }
+given_of script input rest rest' before written at lines lines' s gives =
+    record { given = s.given; gives = gives; plays = s.plays }
 
-pub given_kept : {X : Type 0} (script : Script X) (input rest before written written' : Option (List ℕ)) (at at' : Standing X) (lines : LinesView) → Keeps written written' → at' ≡ at
+pub given_kept : {X : Type 0} (script : Script X) (input rest before written written' : Option (List ℕ))
+    (at at' : Standing X) (lines : LinesView)
+    → Keeps written written' → at' ≡ at
     → PlaysGiven script input rest before written at lines → PlaysGiven script input rest before written' at' lines
 given_kept script input rest before written written' at at' lines keeps same s = record {
   given = s.given;
@@ -51,7 +63,9 @@ given_kept script input rest before written written' at at' lines keeps same s =
   plays = lines_kept script before written written' at at' s.given keeps same s.plays;
 }
 
-pub done_kept : {X : Type 0} (script : Script X) (input rest before written written' : Option (List ℕ)) (at at' : Standing X) → Keeps written written' → at' ≡ at
+pub done_kept : {X : Type 0} (script : Script X) (input rest before written written' : Option (List ℕ))
+    (at at' : Standing X)
+    → Keeps written written' → at' ≡ at
     → PlaysDone script input rest before written at → PlaysDone script input rest before written' at'
 done_kept script input rest before written written' at at' keeps same s = record {
   given = s.given;
@@ -60,23 +74,33 @@ done_kept script input rest before written written' at at' keeps same s = record
 }
 
 -- the next line was played
-pub next_played : {X : Type 0} (script : Script X) (input rest before written written' : Option (List ℕ)) (at at' : Standing X) (lines lines' : LinesView) (line : List ℕ) → (s : PlaysGiven script input rest before written at lines)
+pub next_played : {X : Type 0} (script : Script X) (input rest before written written' : Option (List ℕ))
+    (at at' : Standing X) (lines lines' : LinesView) (line : List ℕ)
+    → (s : PlaysGiven script input rest before written at lines)
     → GivesNext KEPT_LEN INPUT_LIMIT input rest s.given lines' true → line ≡ lines'.line
-    → (PlaysLines script before written at s.given → PlaysLines script before written' at' (s.given ++ line ∷ [])) → PlaysGiven script input rest before written' at' lines'
+    → (PlaysLines script before written at s.given → PlaysLines script before written' at' (s.given ++ line ∷ []))
+    → PlaysGiven script input rest before written' at' lines'
 next_played script input rest before written written' at at' lines lines' line s (raw, front, gives) e plays = record {
   given = s.given ++ raw ∷ [];
   gives = gives;
-  plays = lines_alike script before written' at'.lab at'.lines at'.refused s.given line raw (ap (take KEPT_LEN) e ∙ front) (plays s.plays);
+  plays =
+      lines_alike script before written' at'.lab at'.lines at'.refused s.given line raw (ap (take KEPT_LEN) e ∙ front)
+      (plays s.plays);
 }
 
 -- there is no last line, or it was played
-pub none_played : {X : Type 0} (script : Script X) (input rest before written : Option (List ℕ)) (at : Standing X) (lines : LinesView) → (s : PlaysGiven script input rest before written at lines)
+pub none_played : {X : Type 0} (script : Script X) (input rest before written : Option (List ℕ)) (at : Standing X)
+    (lines : LinesView)
+    → (s : PlaysGiven script input rest before written at lines)
     → GivesLast KEPT_LEN INPUT_LIMIT input rest s.given None → PlaysDone script input rest before written at
 none_played script input rest before written at lines s done = record { given = s.given; done = done; plays = s.plays }
 
-pub last_played : {X : Type 0} (script : Script X) (input rest before written written' : Option (List ℕ)) (at at' : Standing X) (lines : LinesView) (line : List ℕ) → (s : PlaysGiven script input rest before written at lines)
+pub last_played : {X : Type 0} (script : Script X) (input rest before written written' : Option (List ℕ))
+    (at at' : Standing X) (lines : LinesView) (line : List ℕ)
+    → (s : PlaysGiven script input rest before written at lines)
     → GivesLast KEPT_LEN INPUT_LIMIT input rest s.given (Some line)
-    → (PlaysLines script before written at s.given → PlaysLines script before written' at' (s.given ++ line ∷ [])) → PlaysDone script input rest before written' at'
+    → (PlaysLines script before written at s.given → PlaysLines script before written' at' (s.given ++ line ∷ []))
+    → PlaysDone script input rest before written' at'
 last_played script input rest before written written' at at' lines line s (raw, front, done) plays = record {
   given = s.given ++ raw ∷ [];
   done = done;
@@ -85,12 +109,17 @@ last_played script input rest before written written' at at' lines line s (raw, 
 
 -- ---- a line that isn't played
 
-alike_wants : {X : Type 0} (script : Script X) (ended : List (List ℕ)) (f g text : List ℕ) → f ≡ g → IsWantText script (play_of script ended) f text → IsWantText script (play_of script ended) g text
+alike_wants : {X : Type 0} (script : Script X) (ended : List (List ℕ)) (f g text : List ℕ) → f ≡ g
+    → IsWantText script (play_of script ended) f text → IsWantText script (play_of script ended) g text
 alike_wants script ended f g text same is = subst (λ l. IsWantText script (play_of script ended) l text) same is
 
 -- of two lines that begin alike
-stops_alike : {X : Type 0} (script : Script X) (before written : Option (List ℕ)) (ended : List (List ℕ)) (f g : List ℕ) (fault : RunFault) → take KEPT_LEN f ≡ take KEPT_LEN g → StopsLine script before written ended f fault → StopsLine script before written ended g fault
-stops_alike script before written ended f g (run.BadScript number) e stops = (stops.0, sym (play_of-alike script ended f g e) ∙ stops.1, stops.2)
+stops_alike : {X : Type 0} (script : Script X) (before written : Option (List ℕ)) (ended : List (List ℕ)) (f g : List ℕ)
+    (fault : RunFault)
+    → take KEPT_LEN f ≡ take KEPT_LEN g → StopsLine script before written ended f fault
+    → StopsLine script before written ended g fault
+stops_alike script before written ended f g (run.BadScript number) e stops =
+    (stops.0, sym (play_of-alike script ended f g e) ∙ stops.1, stops.2)
 stops_alike script before written ended f g run.NoMemory e stops = (
   λ none. stops.0 (play_of-alike script ended f g e ∙ none),
   stops.1,
@@ -108,21 +137,31 @@ line_behind [] more line = refl
 line_behind (one ∷ others) more line = line_behind others more line
 
 -- a line of these, behind some that were played
-stops_at : {X : Type 0} (script : Script X) (before written : Option (List ℕ)) (lab : Option X) (refused number : ℕ) (ended : List (List ℕ)) (line input : List ℕ) → IsAt script lab refused ended
-    → StopsLine script before written ended line (run.BadScript number) → IsGiven INPUT_LIMIT ended line input → StopsAt script before written number input
+stops_at : {X : Type 0} (script : Script X) (before written : Option (List ℕ)) (lab : Option X) (refused number : ℕ)
+    (ended : List (List ℕ)) (line input : List ℕ)
+    → IsAt script lab refused ended
+    → StopsLine script before written ended line (run.BadScript number) → IsGiven INPUT_LIMIT ended line input
+    → StopsAt script before written number input
 stops_at script before written lab refused number ended line input at (is, bad, text) (more, all, met) =
     let less : number - 1 ≡ length ended = omega arith in
-    let front : take (number - 1) (lines_of input) ≡ ended = ap (λ n. take n (lines_of input)) less ∙ ap (take (length ended)) all ∙ lines_before ended (line ∷ more) in (
-      subst (λ n. IsFirstBad script n (lines_of input)) (sym is) (subst (IsFirstBad script (length ended + 1)) (sym all) (first_bad script lab refused ended more line at bad)),
+    let front : take (number - 1) (lines_of input) ≡ ended =
+    ap (λ n. take n (lines_of input)) less ∙ ap (take (length ended)) all ∙ lines_before ended (line ∷ more) in (
+      subst (λ n. IsFirstBad script n (lines_of input)) (sym is)
+          (subst (IsFirstBad script (length ended + 1)) (sym all)
+          (first_bad script lab refused ended more line at bad)),
       subst (λ n. IsMet INPUT_LIMIT n input) (sym is) met,
       subst (λ l. Appends before written (text_of (play_of script l))) (sym front) text,
     )
 
-wants_at : {X : Type 0} (script : Script X) (before written : Option (List ℕ)) (ended : List (List ℕ)) (line input : List ℕ) → StopsLine script before written ended line run.NoMemory → IsGiven INPUT_LIMIT ended line input
+wants_at : {X : Type 0} (script : Script X) (before written : Option (List ℕ)) (ended : List (List ℕ))
+    (line input : List ℕ)
+    → StopsLine script before written ended line run.NoMemory → IsGiven INPUT_LIMIT ended line input
     → Wants script before written input
 wants_at script before written ended line input (good, text, is, wrote) (more, all, met) =
-    let front : take (length ended) (lines_of input) ≡ ended = ap (take (length ended)) all ∙ lines_before ended (line ∷ more) in
-    let through : take (length ended + 1) (lines_of input) ≡ ended ++ line ∷ [] = ap (take (length ended + 1)) all ∙ take-append-add ended (line ∷ more) 1 in (
+    let front : take (length ended) (lines_of input) ≡ ended =
+    ap (take (length ended)) all ∙ lines_before ended (line ∷ more) in
+    let through : take (length ended + 1) (lines_of input) ≡ ended ++ line ∷ [] =
+    ap (take (length ended + 1)) all ∙ take-append-add ended (line ∷ more) 1 in (
       length ended,
       line,
       ap (λ l. slice_get l (length ended)) all ∙ line_behind ended more line,
@@ -133,12 +172,17 @@ wants_at script before written ended line input (good, text, is, wrote) (more, a
       subst (λ l. Appends before written (text_of (play_of script l) ++ text)) (sym front) wrote,
     )
 
-stops_within : {X : Type 0} (script : Script X) (input rest before written : Option (List ℕ)) (lab : Option X) (refused : ℕ) (ended : List (List ℕ)) (line : List ℕ) (fault : RunFault) → IsAt script lab refused ended
-    → IfSome input (IsGiven INPUT_LIMIT ended line) → StopsLine script before written ended line fault → StopsRun script input rest before written fault
+stops_within : {X : Type 0} (script : Script X) (input rest before written : Option (List ℕ)) (lab : Option X)
+    (refused : ℕ) (ended : List (List ℕ)) (line : List ℕ) (fault : RunFault)
+    → IsAt script lab refused ended
+    → IfSome input (IsGiven INPUT_LIMIT ended line) → StopsLine script before written ended line fault
+    → StopsRun script input rest before written fault
 stops_within script input rest before written lab refused ended line (run.BadScript number) at given stops =
-    if_some input (IsGiven INPUT_LIMIT ended line) (StopsAt script before written number) (λ all. stops_at script before written lab refused number ended line all at stops) given
+    if_some input (IsGiven INPUT_LIMIT ended line) (StopsAt script before written number)
+    (λ all. stops_at script before written lab refused number ended line all at stops) given
 stops_within script input rest before written lab refused ended line run.NoMemory at given stops =
-    if_some input (IsGiven INPUT_LIMIT ended line) (Wants script before written) (λ all. wants_at script before written ended line all stops) given
+    if_some input (IsGiven INPUT_LIMIT ended line) (Wants script before written)
+    (λ all. wants_at script before written ended line all stops) given
 stops_within script input rest before written lab refused ended line run.WriteFault at given stops = tt
 stops_within script input rest before written lab refused ended line run.ReadFault at given stops = absurd stops
 stops_within script input rest before written lab refused ended line run.InputTooLong at given stops = absurd stops
@@ -146,29 +190,39 @@ stops_within script input rest before written lab refused ended line run.LinkFau
 stops_within script input rest before written lab refused ended line run.ClockFault at given stops = absurd stops
 
 -- the next line wasn't played
-pub next_stops : {X : Type 0} (script : Script X) (input rest before written written' : Option (List ℕ)) (at : Standing X) (lines lines' : LinesView) (line : List ℕ) (fault : RunFault) → (s : PlaysGiven script input rest before written at lines)
+pub next_stops : {X : Type 0} (script : Script X) (input rest before written written' : Option (List ℕ))
+    (at : Standing X) (lines lines' : LinesView) (line : List ℕ) (fault : RunFault)
+    → (s : PlaysGiven script input rest before written at lines)
     → GivesNext KEPT_LEN INPUT_LIMIT input rest s.given lines' true → line ≡ lines'.line
-    → (PlaysLines script before written at s.given → StopsLine script before written' s.given line fault) → StopsRun script input rest before written' fault
+    → (PlaysLines script before written at s.given → StopsLine script before written' s.given line fault)
+    → StopsRun script input rest before written' fault
 next_stops script input rest before written written' at lines lines' line fault s (raw, front, gives) e stops =
-    stops_within script input rest before written' at.lab at.refused s.given raw fault s.plays.state (given_met KEPT_LEN INPUT_LIMIT input rest s.given raw lines' gives)
+    stops_within script input rest before written' at.lab at.refused s.given raw fault s.plays.state
+    (given_met KEPT_LEN INPUT_LIMIT input rest s.given raw lines' gives)
     (stops_alike script before written' s.given line raw fault (ap (take KEPT_LEN) e ∙ front) (stops s.plays))
 
 -- the last line wasn't played
-pub last_stops : {X : Type 0} (script : Script X) (input rest before written written' : Option (List ℕ)) (at : Standing X) (lines : LinesView) (line : List ℕ) (fault : RunFault) → (s : PlaysGiven script input rest before written at lines)
+pub last_stops : {X : Type 0} (script : Script X) (input rest before written written' : Option (List ℕ))
+    (at : Standing X) (lines : LinesView) (line : List ℕ) (fault : RunFault)
+    → (s : PlaysGiven script input rest before written at lines)
     → GivesLast KEPT_LEN INPUT_LIMIT input rest s.given (Some line)
-    → (PlaysLines script before written at s.given → StopsLine script before written' s.given line fault) → StopsRun script input rest before written' fault
+    → (PlaysLines script before written at s.given → StopsLine script before written' s.given line fault)
+    → StopsRun script input rest before written' fault
 last_stops script input rest before written written' at lines line fault s (raw, front, done) stops =
-    stops_within script input rest before written' at.lab at.refused s.given raw fault s.plays.state (last_met INPUT_LIMIT input rest s.given raw done)
+    stops_within script input rest before written' at.lab at.refused s.given raw fault s.plays.state
+    (last_met INPUT_LIMIT input rest s.given raw done)
     (stops_alike script before written' s.given line raw fault front (stops s.plays))
 
 -- ---- the end of the input
 
 -- there was no first line
-pub no_first_line : {X : Type 0} (script : Script X) (input rest before written : Option (List ℕ)) (at : Standing X) → at.lab ≡ None → PlaysDone script input rest before written at
+pub no_first_line : {X : Type 0} (script : Script X) (input rest before written : Option (List ℕ)) (at : Standing X)
+    → at.lab ≡ None → PlaysDone script input rest before written at
     → StopsRun script input rest before written (run.BadScript 1)
 no_first_line script input rest before written at none s =
     let (nil, none_refused) = subst (λ l. IsAt script l at.refused s.given) none s.plays.state in
-    let bad : IsFirstBad script 1 [] = record { counts = omega arith; bad = refl; good = λ n some few. absurd (omega arith) } in
+    let bad : IsFirstBad script 1 [] =
+    record { counts = omega arith; bad = refl; good = λ n some few. absurd (omega arith) } in
     if_some input (λ all. (length all ≤ INPUT_LIMIT) × (lines_of all ≡ s.given)) (StopsAt script before written 1)
     (λ all h. (
       subst (IsFirstBad script 1) (sym (h.1 ∙ nil)) bad,
@@ -177,17 +231,24 @@ no_first_line script input rest before written at none s =
     )) s.done.lines
 
 -- all lines were played, and what is said at the end was written
-pub end_said : {X : Type 0} (script : Script X) (input rest before held : Option (List ℕ)) (at : Standing X) (old new : List ℕ) (l : X) → at.lab ≡ Some l
-    → new ≡ old ++ script.ended l → PlaysDone script input rest before (written_of held old) at → IfSome input (PlaysWithin script before (written_of held new) at.refused)
+pub end_said : {X : Type 0} (script : Script X) (input rest before held : Option (List ℕ)) (at : Standing X)
+    (old new : List ℕ) (l : X)
+    → at.lab ≡ Some l
+    → new ≡ old ++ script.ended l → PlaysDone script input rest before (written_of held old) at
+    → IfSome input (PlaysWithin script before (written_of held new) at.refused)
 end_said script input rest before held at old new l some more s =
     let (p, is, same, count, ready) = subst (λ x. IsAt script x at.refused s.given) some s.plays.state in
     let said : new ≡ old ++ script.ended p.lab = more ∙ ap (λ x. old ++ script.ended x) (sym same) in
-    if_some input (λ all. (length all ≤ INPUT_LIMIT) × (lines_of all ≡ s.given)) (PlaysWithin script before (written_of held new) at.refused)
-    (λ all h. (h.0, (p, ap (play_of script) h.1 ∙ is, sym count, text_more before held old new p.text (script.ended p.lab) (subst (Appends before (written_of held old)) (ap text_of is) s.plays.text) said))) s.done.lines
+    if_some input (λ all. (length all ≤ INPUT_LIMIT) × (lines_of all ≡ s.given))
+    (PlaysWithin script before (written_of held new) at.refused)
+    (λ all h.
+    (h.0, (p, ap (play_of script) h.1 ∙ is, sym count, text_more before held old new p.text (script.ended p.lab) (subst (Appends before (written_of held old)) (ap text_of is) s.plays.text) said)))
+    s.done.lines
 
 -- ---- calls that may fail
 
-pub after_written : {X Y E P S : Type 0} (end : Result X E) (answer : Result Y RunFault) → MatchResult end (λ _. IsOk answer) (λ _. answer ≡ Err run.WriteFault) → OnOk end P → (P → S) → OnOk answer S
+pub after_written : {X Y E P S : Type 0} (end : Result X E) (answer : Result Y RunFault)
+    → MatchResult end (λ _. IsOk answer) (λ _. answer ≡ Err run.WriteFault) → OnOk end P → (P → S) → OnOk answer S
 after_written (Ok x) (Ok y) fault p f = f p
 after_written (Ok x) (Err e) fault p f = tt
 after_written {Y = Y} {S = S} (Err x) answer fault p f = subst (λ (r : Result Y RunFault). OnOk r S) (sym fault) tt
@@ -196,7 +257,8 @@ not_ok : (X E : Type 0) (e : E) → IsOk {T = X} {E = E} (Err e) → ⊥
 not_ok X E e h = cc
 
 -- of a writer that failed nothing is said
-pub written_stops : {X Y E : Type 0} (end : Result X E) (answer : Result Y RunFault) (P : RunFault → Type 0) → MatchResult end (λ _. IsOk answer) (λ _. answer ≡ Err run.WriteFault) → P run.WriteFault → IfErr answer P
+pub written_stops : {X Y E : Type 0} (end : Result X E) (answer : Result Y RunFault) (P : RunFault → Type 0)
+    → MatchResult end (λ _. IsOk answer) (λ _. answer ≡ Err run.WriteFault) → P run.WriteFault → IfErr answer P
 written_stops (Ok x) (Ok y) P fault p = tt
 written_stops {Y = Y} (Ok x) (Err e) P fault p = absurd (not_ok Y RunFault e fault)
 written_stops {Y = Y} (Err x) answer P fault p = subst (λ (r : Result Y RunFault). IfErr r P) (sym fault) p

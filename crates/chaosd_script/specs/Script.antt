@@ -81,7 +81,8 @@ abbrev pub NoneBad : {X : Type 0} → Script X → List (List ℕ) → Type 0
 NoneBad script lines = lines ≢ [] → play_of script lines ≢ None
 
 -- A line did what the language says, and what came of it was written.
-pub record PlaysLine {X : Type 0} (script : Script X) (line : List ℕ) (before after : X) (old new : Option (List ℕ)) (refused : Bool) : Type 0 where
+pub record PlaysLine {X : Type 0} (script : Script X) (line : List ℕ) (before after : X) (old new : Option (List ℕ))
+    (refused : Bool) : Type 0 where
   pub does : X → Done X
   pub said : script.event line ≡ Some does
   pub lab : after ≡ (does before).lab

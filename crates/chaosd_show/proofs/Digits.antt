@@ -40,7 +40,8 @@ pub digit_at : (d : ℕ) → d < 16 → get_or DIGITS d 0 ≡ hex_digit d
 unfolding agrees_below
 digit_at d lt = agrees_at (λ k. get_or DIGITS k 0) hex_digit 16 refl d lt
 
-none_of : (digit : Option ℕ) (v : ℕ) → ((d : ℕ) → digit ≡ Some d → d < 16) → v ≡ unwrap_or digit NO_DIGIT → v ≡ NO_DIGIT → None ≡ digit
+none_of : (digit : Option ℕ) (v : ℕ) → ((d : ℕ) → digit ≡ Some d → d < 16) → v ≡ unwrap_or digit NO_DIGIT → v ≡ NO_DIGIT
+    → None ≡ digit
 none_of None v small is none = refl
 none_of (Some d) v small is none = absurd (omega (arith, small d refl))
 

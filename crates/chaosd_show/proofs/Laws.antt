@@ -17,8 +17,10 @@ use Rattle.chaosd_show.specs.Entry.{Entry, entry_of, entry_of_bytes, entry_of_on
 
 -- ---- what is written in hexadecimal is bytes
 
-pair_within : (high low : Option ℕ) (rest : Option (List ℕ)) (bytes : List ℕ) → ((d : ℕ) → high ≡ Some d → d < 16) → ((d : ℕ) → low ≡ Some d → d < 16)
-    → ((l : List ℕ) → rest ≡ Some l → All (λ b. b < 256) l) → with_pair high low rest ≡ Some bytes → All (λ b. b < 256) bytes
+pair_within : (high low : Option ℕ) (rest : Option (List ℕ)) (bytes : List ℕ) → ((d : ℕ) → high ≡ Some d → d < 16)
+    → ((d : ℕ) → low ≡ Some d → d < 16)
+    → ((l : List ℕ) → rest ≡ Some l → All (λ b. b < 256) l) → with_pair high low rest ≡ Some bytes
+    → All (λ b. b < 256) bytes
 pair_within None low rest bytes p q r e = absurd (cc)
 pair_within (Some h) None rest bytes p q r e = absurd (cc)
 pair_within (Some h) (Some l) None bytes p q r e = absurd (cc)
@@ -32,10 +34,12 @@ lone_within : (blank : Bool) (bytes : List ℕ) → cond blank (Some []) None �
 lone_within true bytes e = let none : [] ≡ bytes = cc in subst (All (λ b. b < 256)) none (All-nil (λ b. b < 256))
 lone_within false bytes e = absurd (cc)
 
-next_within : (blank : Bool) (a b : ℕ) (skipped rest : Option (List ℕ)) (bytes : List ℕ) → ((l : List ℕ) → skipped ≡ Some l → All (λ b. b < 256) l) → ((l : List ℕ) → rest ≡ Some l → All (λ b. b < 256) l)
+next_within : (blank : Bool) (a b : ℕ) (skipped rest : Option (List ℕ)) (bytes : List ℕ)
+    → ((l : List ℕ) → skipped ≡ Some l → All (λ b. b < 256) l) → ((l : List ℕ) → rest ≡ Some l → All (λ b. b < 256) l)
     → cond blank skipped (with_pair (hex_value a) (hex_value b) rest) ≡ Some bytes → All (λ b. b < 256) bytes
 next_within true a b skipped rest bytes p q e = p bytes e
-next_within false a b skipped rest bytes p q e = pair_within (hex_value a) (hex_value b) rest bytes (digit_within a) (digit_within b) q e
+next_within false a b skipped rest bytes p q e =
+    pair_within (hex_value a) (hex_value b) rest bytes (digit_within a) (digit_within b) q e
 
 bytes_within : (line bytes : List ℕ) → hex_bytes line ≡ Some bytes → All (λ b. b < 256) bytes
 unfolding hex_bytes
@@ -46,22 +50,26 @@ bytes_within (a ∷ b ∷ bs) bytes e =
 
 -- ---- what a line writes
 
-bytes_from : (e : Entry) (P : List ℕ → Type 0) (text : List ℕ) → (Unreadable ≡ e → ⊥) → ((bytes : List ℕ) → All (λ b. b < 256) bytes → entry_of_datagram bytes ≡ e → P bytes)
+bytes_from : (e : Entry) (P : List ℕ → Type 0) (text : List ℕ) → (Unreadable ≡ e → ⊥)
+    → ((bytes : List ℕ) → All (λ b. b < 256) bytes → entry_of_datagram bytes ≡ e → P bytes)
     → length text ≤ SHOW_LINE_LIMIT → (found : Option (List ℕ)) → hex_bytes text ≡ found → entry_of_bytes found ≡ e
     → (bytes : List ℕ) × ((length text ≤ SHOW_LINE_LIMIT) × (hex_bytes text ≡ Some bytes)) × P bytes
 bytes_from e P text other p short None is h = absurd (other h)
 bytes_from e P text other p short (Some bytes) is h = (bytes, (short, is), p bytes (bytes_within text bytes is) h)
 
-text_from : (e : Entry) (P : List ℕ → Type 0) (text : List ℕ) (long : Bool) → (Unreadable ≡ e → ⊥) → ((bytes : List ℕ) → All (λ b. b < 256) bytes → entry_of_datagram bytes ≡ e → P bytes)
+text_from : (e : Entry) (P : List ℕ → Type 0) (text : List ℕ) (long : Bool) → (Unreadable ≡ e → ⊥)
+    → ((bytes : List ℕ) → All (λ b. b < 256) bytes → entry_of_datagram bytes ≡ e → P bytes)
     → ltb SHOW_LINE_LIMIT (length text) ≡ long → cond long Unreadable (entry_of_bytes (hex_bytes text)) ≡ e
     → (bytes : List ℕ) × ((length text ≤ SHOW_LINE_LIMIT) × (hex_bytes text ≡ Some bytes)) × P bytes
 text_from e P text true other p is h = absurd (other h)
 text_from e P text false other p is h = bytes_from e P text other p (grind (arith, nat_tests)) (hex_bytes text) refl h
 
-line_from : (e : Entry) (P : List ℕ → Type 0) (raw : List ℕ) → (Unreadable ≡ e → ⊥) → ((bytes : List ℕ) → All (λ b. b < 256) bytes → entry_of_datagram bytes ≡ e → P bytes)
+line_from : (e : Entry) (P : List ℕ → Type 0) (raw : List ℕ) → (Unreadable ≡ e → ⊥)
+    → ((bytes : List ℕ) → All (λ b. b < 256) bytes → entry_of_datagram bytes ≡ e → P bytes)
     → entry_of raw ≡ e → (bytes : List ℕ) × Writes raw bytes × P bytes
 unfolding entry_of
-line_from e P raw other p h = text_from e P (strip_last 13 raw) (ltb SHOW_LINE_LIMIT (length (strip_last 13 raw))) other p refl h
+line_from e P raw other p h =
+    text_from e P (strip_last 13 raw) (ltb SHOW_LINE_LIMIT (length (strip_last 13 raw))) other p refl h
 
 line_back : (raw bytes : List ℕ) → Writes raw bytes → entry_of raw ≡ entry_of_datagram bytes
 unfolding entry_of
@@ -79,7 +87,8 @@ one_read : (p : PacketView) (r : Result PacketView LinkFault) → entry_of_one r
 one_read p (Ok q) h = let same : q ≡ p = cc in ap Ok same
 one_read p (Err f) h = absurd (cc)
 
-several_read : (ps : List PacketView) (r : Result (List PacketView) LinkFault) → entry_of_several r ≡ ReadSeveral ps → r ≡ Ok ps
+several_read : (ps : List PacketView) (r : Result (List PacketView) LinkFault) → entry_of_several r ≡ ReadSeveral ps
+    → r ≡ Ok ps
 several_read ps (Ok qs) h = let same : qs ≡ ps = cc in ap Ok same
 several_read ps (Err f) h = absurd (cc)
 
@@ -91,26 +100,32 @@ several_of_one : (ps : List PacketView) (r : Result PacketView LinkFault) → en
 several_of_one ps (Ok q) h = cc
 several_of_one ps (Err f) h = cc
 
-one_refused : (bs : List ℕ) (f : LinkFault) (o : Option LinkFault) → entry_of_one (read_by bs o) ≡ Refused f → o ≡ Some f
+one_refused : (bs : List ℕ) (f : LinkFault) (o : Option LinkFault) → entry_of_one (read_by bs o) ≡ Refused f
+    → o ≡ Some f
 one_refused bs f (Some g) h = let same : g ≡ f = cc in ap Some same
 one_refused bs f None h = absurd (cc)
 
-several_refused : (bs : List ℕ) (f : LinkFault) (o : Option LinkFault) → entry_of_several (read_all_by bs o) ≡ Refused f → o ≡ Some f
+several_refused : (bs : List ℕ) (f : LinkFault) (o : Option LinkFault) → entry_of_several (read_all_by bs o) ≡ Refused f
+    → o ≡ Some f
 several_refused bs f (Some g) h = let same : g ≡ f = cc in ap Some same
 several_refused bs f None h = absurd (cc)
 
 -- ---- a packet
 
-carried_from : IsDecidedByCarries → (p : PacketView) (bs : List ℕ) → All (λ b. b < 256) bs → (two : Bool) → is_two bs ≡ two → entry_of_datagram bs ≡ Read p → Carries p bs
+carried_from : IsDecidedByCarries → (p : PacketView) (bs : List ℕ) → All (λ b. b < 256) bs → (two : Bool)
+    → is_two bs ≡ two → entry_of_datagram bs ≡ Read p → Carries p bs
 carried_from law p bs within true is e = absurd (none_of_several p (packets_read bs) (sym (entry_by bs true is) ∙ e))
-carried_from law p bs within false is e = (law p bs within).0 (one_read p (datagram_read bs) (sym (entry_by bs false is) ∙ e))
+carried_from law p bs within false is e =
+    (law p bs within).0 (one_read p (datagram_read bs) (sym (entry_by bs false is) ∙ e))
 
 -- a line is reported as a packet exactly where its bytes carry it
 pub reported_as_carried : IsDecidedByCarries → IsReportedAsCarried
 reported_as_carried law p raw = (
-  λ e. line_from (Read p) (Carries p) raw (λ h. cc) (λ bytes within h. carried_from law p bytes within (is_two bytes) refl h) e,
+  λ e. line_from (Read p) (Carries p) raw (λ h. cc)
+      (λ bytes within h. carried_from law p bytes within (is_two bytes) refl h) e,
   λ (bytes, writes, carried).
-      line_back raw bytes writes ∙ entry_by bytes false (carried_one p bytes carried) ∙ ap entry_of_one ((law p bytes (written_within raw bytes writes)).1 carried),
+      line_back raw bytes writes ∙ entry_by bytes false (carried_one p bytes carried)
+      ∙ ap entry_of_one ((law p bytes (written_within raw bytes writes)).1 carried),
 )
 
 -- ---- several
@@ -119,27 +134,34 @@ by_two : (ps : List PacketView) (bs : List ℕ) → is_two bs ≡ true → Carri
 by_two ps bs is (inl (p, same, carried)) = let one = carried_one p bs carried in absurd (let clash : true ≡ false = sym is ∙ one in cc)
 by_two ps bs is (inr carried) = carried
 
-carried_from2 : IsDecidedByCarriesAll → (ps : List PacketView) (bs : List ℕ) → All (λ b. b < 256) bs → (two : Bool) → is_two bs ≡ two → entry_of_datagram bs ≡ ReadSeveral ps → Carries2 ps bs
-carried_from2 law ps bs within true is e = by_two ps bs is ((law ps bs within).0 (several_read ps (packets_read bs) (sym (entry_by bs true is) ∙ e)))
-carried_from2 law ps bs within false is e = absurd (several_of_one ps (datagram_read bs) (sym (entry_by bs false is) ∙ e))
+carried_from2 : IsDecidedByCarriesAll → (ps : List PacketView) (bs : List ℕ) → All (λ b. b < 256) bs → (two : Bool)
+    → is_two bs ≡ two → entry_of_datagram bs ≡ ReadSeveral ps → Carries2 ps bs
+carried_from2 law ps bs within true is e =
+    by_two ps bs is ((law ps bs within).0 (several_read ps (packets_read bs) (sym (entry_by bs true is) ∙ e)))
+carried_from2 law ps bs within false is e =
+    absurd (several_of_one ps (datagram_read bs) (sym (entry_by bs false is) ∙ e))
 
 -- it is reported as several exactly where its bytes carry them by version 2
 pub reported_as_carried2 : IsDecidedByCarriesAll → IsReportedAsCarried2
 reported_as_carried2 law ps raw = (
-  λ e. line_from (ReadSeveral ps) (Carries2 ps) raw (λ h. cc) (λ bytes within h. carried_from2 law ps bytes within (is_two bytes) refl h) e,
+  λ e. line_from (ReadSeveral ps) (Carries2 ps) raw (λ h. cc)
+      (λ bytes within h. carried_from2 law ps bytes within (is_two bytes) refl h) e,
   λ (bytes, writes, carried).
-      line_back raw bytes writes ∙ entry_by bytes true (carried_two ps bytes carried) ∙ ap entry_of_several ((law ps bytes (written_within raw bytes writes)).1 (inr carried)),
+      line_back raw bytes writes ∙ entry_by bytes true (carried_two ps bytes carried)
+      ∙ ap entry_of_several ((law ps bytes (written_within raw bytes writes)).1 (inr carried)),
 )
 
 -- ---- a refusal
 
-fault_from : (f : LinkFault) (bs : List ℕ) (two : Bool) → is_two bs ≡ two → entry_of_datagram bs ≡ Refused f → fault_of_all bs ≡ Some f
+fault_from : (f : LinkFault) (bs : List ℕ) (two : Bool) → is_two bs ≡ two → entry_of_datagram bs ≡ Refused f
+    → fault_of_all bs ≡ Some f
 fault_from f bs true is e = several_refused bs f (fault_of_all bs) (sym (entry_by bs true is) ∙ e)
 fault_from f bs false is e = fault_by bs false is ∙ one_refused bs f (fault_of bs) (sym (entry_by bs false is) ∙ e)
 
 -- it is reported as refused exactly by the first fault of its bytes
 pub refused_by_fault : IsRefusedByFault
 refused_by_fault f raw = (
-  λ e. line_from (Refused f) (λ bytes. fault_of_all bytes ≡ Some f) raw (λ h. cc) (λ bytes within h. fault_from f bytes (is_two bytes) refl h) e,
+  λ e. line_from (Refused f) (λ bytes. fault_of_all bytes ≡ Some f) raw (λ h. cc)
+      (λ bytes within h. fault_from f bytes (is_two bytes) refl h) e,
   λ (bytes, writes, fault). line_back raw bytes writes ∙ refused_at bytes f fault,
 )

@@ -18,37 +18,52 @@ use Rattle.chaosd_io.proofs.Cutting.{if_some}
 
 -- ---- what was shown
 
-pub nothing_shown : (input before : Option (List ℕ)) (waiting : List ℕ) (tally : Tally) (lines : LinesView) → waiting ≡ [] → tally ≡ tally_of [] → Gives SHOW_KEPT_LEN INPUT_LIMIT input input [] lines
+pub nothing_shown : (input before : Option (List ℕ)) (waiting : List ℕ) (tally : Tally) (lines : LinesView)
+    → waiting ≡ [] → tally ≡ tally_of [] → Gives SHOW_KEPT_LEN INPUT_LIMIT input input [] lines
     → Shows input input before (written_of before waiting) tally lines
-nothing_shown input before waiting tally lines waits count gives = record { given = []; gives = gives; text = nothing_waits before waiting waits; count = count }
+nothing_shown input before waiting tally lines waits count gives =
+    record { given = []; gives = gives; text = nothing_waits before waiting waits; count = count }
 
 -- more came, or the end did
-pub shown_of : (input rest rest' before written : Option (List ℕ)) (tally : Tally) (lines lines' : LinesView) → (s : Shows input rest before written tally lines)
+pub shown_of : (input rest rest' before written : Option (List ℕ)) (tally : Tally) (lines lines' : LinesView)
+    → (s : Shows input rest before written tally lines)
     → Gives SHOW_KEPT_LEN INPUT_LIMIT input rest' s.given lines' → Shows input rest' before written tally lines'
-shown_of input rest rest' before written tally lines lines' s gives = record { given = s.given; gives = gives; text = s.text; count = s.count }
+shown_of input rest rest' before written tally lines lines' s gives =
+    record { given = s.given; gives = gives; text = s.text; count = s.count }
 
 -- one line more
-pub more_shown : (input rest before written written' : Option (List ℕ)) (tally tally' : Tally) (lines lines' : LinesView) (line : List ℕ) → (s : Shows input rest before written tally lines)
-    → GivesNext SHOW_KEPT_LEN INPUT_LIMIT input rest s.given lines' true → line ≡ lines'.line → Appends written written' (gap (eqb tally.reports 0) ++ line_report line) → tally' ≡ counted tally line
+pub more_shown : (input rest before written written' : Option (List ℕ)) (tally tally' : Tally)
+    (lines lines' : LinesView) (line : List ℕ)
+    → (s : Shows input rest before written tally lines)
+    → GivesNext SHOW_KEPT_LEN INPUT_LIMIT input rest s.given lines' true → line ≡ lines'.line
+    → Appends written written' (gap (eqb tally.reports 0) ++ line_report line) → tally' ≡ counted tally line
     → Shows input rest before written' tally' lines'
 more_shown input rest before written written' tally tally' lines lines' line s (raw, front, gives) e more next =
-    let reported = line_more before written written' tally tally' s.given raw line (ap (take SHOW_KEPT_LEN) e ∙ front) s.text s.count more next in
+    let reported =
+    line_more before written written' tally tally' s.given raw line (ap (take SHOW_KEPT_LEN) e ∙ front) s.text
+    s.count more next in
     record { given = s.given ++ raw ∷ []; gives = gives; text = reported.0; count = reported.1 }
 
 -- the end of the input
-pub all_shown : (input rest before written : Option (List ℕ)) (tally : Tally) (lines : LinesView) → (s : Shows input rest before written tally lines)
+pub all_shown : (input rest before written : Option (List ℕ)) (tally : Tally) (lines : LinesView)
+    → (s : Shows input rest before written tally lines)
     → GivesLast SHOW_KEPT_LEN INPUT_LIMIT input rest s.given None → ShowsAll input rest before written tally
-all_shown input rest before written tally lines s done = record { given = s.given; done = done; text = s.text; count = s.count }
+all_shown input rest before written tally lines s done =
+    record { given = s.given; done = done; text = s.text; count = s.count }
 
-pub last_shown : (input rest before written written' : Option (List ℕ)) (tally tally' : Tally) (lines : LinesView) (line : List ℕ) → (s : Shows input rest before written tally lines)
-    → GivesLast SHOW_KEPT_LEN INPUT_LIMIT input rest s.given (Some line) → Appends written written' (gap (eqb tally.reports 0) ++ line_report line) → tally' ≡ counted tally line
+pub last_shown : (input rest before written written' : Option (List ℕ)) (tally tally' : Tally) (lines : LinesView)
+    (line : List ℕ)
+    → (s : Shows input rest before written tally lines)
+    → GivesLast SHOW_KEPT_LEN INPUT_LIMIT input rest s.given (Some line)
+    → Appends written written' (gap (eqb tally.reports 0) ++ line_report line) → tally' ≡ counted tally line
     → ShowsAll input rest before written' tally'
 last_shown input rest before written written' tally tally' lines line s (raw, front, done) more next =
     let reported = line_more before written written' tally tally' s.given raw line front s.text s.count more next in
     record { given = s.given ++ raw ∷ []; done = done; text = reported.0; count = reported.1 }
 
 -- handing on changes nothing of what was shown
-pub shown_kept : (input rest before written written' : Option (List ℕ)) (tally tally' : Tally) (lines : LinesView) → Keeps written written' → tally' ≡ tally
+pub shown_kept : (input rest before written written' : Option (List ℕ)) (tally tally' : Tally) (lines : LinesView)
+    → Keeps written written' → tally' ≡ tally
     → Shows input rest before written tally lines → Shows input rest before written' tally' lines
 shown_kept input rest before written written' tally tally' lines keeps same s = record {
   given = s.given;
@@ -58,7 +73,8 @@ shown_kept input rest before written written' tally tally' lines keeps same s = 
 }
 
 -- the reports of all, which were handed on
-pub all_handed : (input rest before written held : Option (List ℕ)) (waiting : List ℕ) (tally tally' : Tally) → Keeps written (written_of held waiting) → waiting ≡ [] → tally' ≡ tally
+pub all_handed : (input rest before written held : Option (List ℕ)) (waiting : List ℕ) (tally tally' : Tally)
+    → Keeps written (written_of held waiting) → waiting ≡ [] → tally' ≡ tally
     → ShowsAll input rest before written tally → ShowsAll input rest before held tally'
 all_handed input rest before written held waiting tally tally' keeps none same s = record {
   given = s.given;
@@ -69,10 +85,13 @@ all_handed input rest before written held waiting tally tally' keeps none same s
 
 -- ---- what is told at the end
 
-pub past_shown : (input before held : Option (List ℕ)) (given : List (List ℕ)) → Appends before held (reports_of given) → IfSome input (λ all. (INPUT_LIMIT < length all) × (given ≡ ended_lines (take INPUT_LIMIT all)))
-    → IfSome input (λ all. (INPUT_LIMIT < length all) × Appends before held (reports_of (ended_lines (take INPUT_LIMIT all))))
+pub past_shown : (input before held : Option (List ℕ)) (given : List (List ℕ)) → Appends before held (reports_of given)
+    → IfSome input (λ all. (INPUT_LIMIT < length all) × (given ≡ ended_lines (take INPUT_LIMIT all)))
+    → IfSome input
+    (λ all. (INPUT_LIMIT < length all) × Appends before held (reports_of (ended_lines (take INPUT_LIMIT all))))
 past_shown input before held given text past =
-    if_some input (λ all. (INPUT_LIMIT < length all) × (given ≡ ended_lines (take INPUT_LIMIT all))) (λ all. (INPUT_LIMIT < length all) × Appends before held (reports_of (ended_lines (take INPUT_LIMIT all))))
+    if_some input (λ all. (INPUT_LIMIT < length all) × (given ≡ ended_lines (take INPUT_LIMIT all)))
+    (λ all. (INPUT_LIMIT < length all) × Appends before held (reports_of (ended_lines (take INPUT_LIMIT all))))
     (λ all p. (p.0, subst (λ l. Appends before held (reports_of l)) p.1 text)) past
 
 pub unread_shown : (input rest before held : Option (List ℕ)) (given : List (List ℕ)) → Appends before held (reports_of given) → (read : List ℕ) × Consumes input rest read × (given ≡ ended_lines read)
@@ -80,8 +99,14 @@ pub unread_shown : (input rest before held : Option (List ℕ)) (given : List (L
 unread_shown input rest before held given text (read, came, same) = (read, came, subst (λ l. Appends before held (reports_of l)) same text)
 
 -- what holds of all lines
-pub of_lines : (input rest : Option (List ℕ)) (given : List (List ℕ)) (P : List (List ℕ) → Type 0) → Done INPUT_LIMIT input rest given → P given → IfSome input (λ all. P (lines_of all))
-of_lines input rest given P done p = if_some input (λ all. (length all ≤ INPUT_LIMIT) × (lines_of all ≡ given)) (λ all. P (lines_of all)) (λ all h. subst P (sym h.1) p) done.lines
+pub of_lines : (input rest : Option (List ℕ)) (given : List (List ℕ)) (P : List (List ℕ) → Type 0)
+    → Done INPUT_LIMIT input rest given → P given → IfSome input (λ all. P (lines_of all))
+of_lines input rest given P done p =
+    if_some input (λ all. (length all ≤ INPUT_LIMIT) × (lines_of all ≡ given)) (λ all. P (lines_of all))
+    (λ all h. subst P (sym h.1) p) done.lines
 
-pub within : (input rest : Option (List ℕ)) (given : List (List ℕ)) → Done INPUT_LIMIT input rest given → IfSome input (λ all. length all ≤ INPUT_LIMIT)
-within input rest given done = if_some input (λ all. (length all ≤ INPUT_LIMIT) × (lines_of all ≡ given)) (λ all. length all ≤ INPUT_LIMIT) (λ all h. h.0) done.lines
+pub within : (input rest : Option (List ℕ)) (given : List (List ℕ)) → Done INPUT_LIMIT input rest given
+    → IfSome input (λ all. length all ≤ INPUT_LIMIT)
+within input rest given done =
+    if_some input (λ all. (length all ≤ INPUT_LIMIT) × (lines_of all ≡ given)) (λ all. length all ≤ INPUT_LIMIT)
+    (λ all h. h.0) done.lines

@@ -22,14 +22,18 @@ use Rattle.chaosd_show.specs.Show.{line_report, reports_of, tally_of, gap, count
 long_entry : (raw : List ℕ) → SHOW_KEPT_LEN ≤ length raw → entry_of raw ≡ Unreadable
 unfolding entry_of
 long_entry raw long =
-    let test : ltb SHOW_LINE_LIMIT (length (strip_last 13 raw)) ≡ true = lt-ltb SHOW_LINE_LIMIT _ (omega (arith, length-strip_last 13 raw)) in
+    let test : ltb SHOW_LINE_LIMIT (length (strip_last 13 raw)) ≡ true =
+    lt-ltb SHOW_LINE_LIMIT _ (omega (arith, length-strip_last 13 raw)) in
     ap (λ b. cond b Unreadable (entry_of_bytes (hex_bytes (strip_last 13 raw)))) test
 
-front_decides : (f g : List ℕ) (is_short : Bool) → ltb (length f) SHOW_KEPT_LEN ≡ is_short → take SHOW_KEPT_LEN f ≡ take SHOW_KEPT_LEN g → entry_of f ≡ entry_of g
+front_decides : (f g : List ℕ) (is_short : Bool) → ltb (length f) SHOW_KEPT_LEN ≡ is_short
+    → take SHOW_KEPT_LEN f ≡ take SHOW_KEPT_LEN g → entry_of f ≡ entry_of g
 front_decides f g true short e =
     let len : length (take SHOW_KEPT_LEN f) ≡ length (take SHOW_KEPT_LEN g) = ap length e in
     let few : length f < SHOW_KEPT_LEN = grind (arith, nat_tests) in
-    ap entry_of (sym (take_all SHOW_KEPT_LEN f (omega arith)) ∙ e ∙ take_all SHOW_KEPT_LEN g (omega (arith, length-take SHOW_KEPT_LEN f, length-take SHOW_KEPT_LEN g)))
+    ap entry_of
+    (sym (take_all SHOW_KEPT_LEN f (omega arith)) ∙ e
+    ∙ take_all SHOW_KEPT_LEN g (omega (arith, length-take SHOW_KEPT_LEN f, length-take SHOW_KEPT_LEN g)))
 front_decides f g false long e =
     let len : length (take SHOW_KEPT_LEN f) ≡ length (take SHOW_KEPT_LEN g) = ap length e in
     let many : SHOW_KEPT_LEN ≤ length f = grind (arith, nat_tests) in
@@ -50,27 +54,34 @@ empty_text (b ∷ bs) none = absurd (grind (arith, nat_tests, none))
 is_more : (n : ℕ) → eqb (suc n) 0 ≡ false
 is_more n = grind (arith, nat_tests)
 
-reports_of-push : (lines : List (List ℕ)) (raw : List ℕ) → reports_of (lines ++ raw ∷ []) ≡ reports_of lines ++ (gap (eqb (length lines) 0) ++ line_report raw)
+reports_of-push : (lines : List (List ℕ)) (raw : List ℕ)
+    → reports_of (lines ++ raw ∷ []) ≡ reports_of lines ++ (gap (eqb (length lines) 0) ++ line_report raw)
 reports_of-push [] raw = refl
 reports_of-push (first ∷ []) raw = refl
 reports_of-push (first ∷ next ∷ others) raw =
     ap (λ l. line_report first ++ 10 ∷ l) (reports_of-push (next ∷ others) raw)
-    ∙ ap (λ b. line_report first ++ 10 ∷ (reports_of (next ∷ others) ++ (gap b ++ line_report raw))) (is_more (length others) ∙ sym (is_more (length (next ∷ others))))
+    ∙ ap (λ b. line_report first ++ 10 ∷ (reports_of (next ∷ others) ++ (gap b ++ line_report raw)))
+    (is_more (length others) ∙ sym (is_more (length (next ∷ others))))
     ∙ sym (append_assoc (line_report first) (10 ∷ reports_of (next ∷ others)) _)
 
-same_tally : (m n a b : ℕ) → m ≡ n → a ≡ b → ◌≡◌ {A = Tally} (record { reports = m; refused = a }) (record { reports = n; refused = b })
+same_tally : (m n a b : ℕ) → m ≡ n → a ≡ b
+    → ◌≡◌ {A = Tally} (record { reports = m; refused = a }) (record { reports = n; refused = b })
 same_tally m n a b p q = cc
 
 tally_of-push : (lines : List (List ℕ)) (raw : List ℕ) → tally_of (lines ++ raw ∷ []) ≡ counted (tally_of lines) raw
 tally_of-push lines raw =
-    same_tally _ _ _ _ (omega (arith, length-append lines (raw ∷ []))) (sum_by-append (λ l. cond (is_refusal (entry_of l)) 1 0) lines (raw ∷ []) ∙ omega arith)
+    same_tally _ _ _ _ (omega (arith, length-append lines (raw ∷ [])))
+    (sum_by-append (λ l. cond (is_refusal (entry_of l)) 1 0) lines (raw ∷ []) ∙ omega arith)
 
 -- a tally counts what a line is
 abbrev counted_entry : Tally → Entry → Tally
-counted_entry tally entry = record { reports = tally.reports + 1; refused = tally.refused + cond (is_refusal entry) 1 0 }
+counted_entry tally entry =
+    record { reports = tally.reports + 1; refused = tally.refused + cond (is_refusal entry) 1 0 }
 
 -- the report of one line more, which is what another one is that begins alike
-pub line_more : (before written written' : Option (List ℕ)) (tally tally' : Tally) (lines : List (List ℕ)) (line raw : List ℕ) → take SHOW_KEPT_LEN raw ≡ take SHOW_KEPT_LEN line
+pub line_more : (before written written' : Option (List ℕ)) (tally tally' : Tally) (lines : List (List ℕ))
+    (line raw : List ℕ)
+    → take SHOW_KEPT_LEN raw ≡ take SHOW_KEPT_LEN line
     → Appends before written (reports_of lines) → tally ≡ tally_of lines
     → Appends written written' (gap (eqb tally.reports 0) ++ line_report raw) → tally' ≡ counted tally raw
     → Appends before written' (reports_of (lines ++ line ∷ [])) × (tally' ≡ tally_of (lines ++ line ∷ []))

@@ -14,8 +14,8 @@ use Rattle.chaosd_show.specs.Hex.{hex_bytes}
 use Rattle.chaosd_io.specs.Texts.{line}
 use Rattle.chaosd_show.specs.Report.{packet_text, several_text}
 
--- What a line is: none of the form that is asked, a datagram that is refused, one of version 1, which carries a packet, or one of
--- version 2, which carries several.
+-- What a line is: none of the form that is asked, a datagram that is refused, one of version 1, which carries a packet,
+-- or one of version 2, which carries several.
 pub data Entry : Type 0 where
   Unreadable : Entry
   Refused : LinkFault → Entry
@@ -34,7 +34,8 @@ entry_of_several (Err fault) = Refused fault
 
 -- what a datagram is: one that isn't of version 2 is read as one of version 1
 abbrev pub entry_of_datagram : List ℕ → Entry
-entry_of_datagram bytes = if is_two bytes then entry_of_several (packets_read bytes) else entry_of_one (datagram_read bytes)
+entry_of_datagram bytes =
+    if is_two bytes then entry_of_several (packets_read bytes) else entry_of_one (datagram_read bytes)
 
 -- what the bytes are that a line stands for, if it stands for some
 abbrev pub entry_of_bytes : Option (List ℕ) → Entry
@@ -87,12 +88,17 @@ Writes raw bytes = (length (strip_last 13 raw) ≤ SHOW_LINE_LIMIT) × (hex_byte
 
 -- A line is reported as a packet exactly where it writes bytes that carry that packet by version 1.
 abbrev pub IsReportedAsCarried : Type 0
-IsReportedAsCarried = (p : PacketView) (raw : List ℕ) → (entry_of raw ≡ Read p) ↔ ((bytes : List ℕ) × Writes raw bytes × Carries p bytes)
+IsReportedAsCarried =
+    (p : PacketView) (raw : List ℕ) → (entry_of raw ≡ Read p) ↔ ((bytes : List ℕ) × Writes raw bytes × Carries p bytes)
 
 -- It is reported as packets exactly where it writes bytes that carry these packets by version 2.
 abbrev pub IsReportedAsCarried2 : Type 0
-IsReportedAsCarried2 = (ps : List PacketView) (raw : List ℕ) → (entry_of raw ≡ ReadSeveral ps) ↔ ((bytes : List ℕ) × Writes raw bytes × Carries2 ps bytes)
+IsReportedAsCarried2 =
+    (ps : List PacketView) (raw : List ℕ)
+    → (entry_of raw ≡ ReadSeveral ps) ↔ ((bytes : List ℕ) × Writes raw bytes × Carries2 ps bytes)
 
 -- It is reported as refused exactly where it writes bytes whose first fault this is.
 abbrev pub IsRefusedByFault : Type 0
-IsRefusedByFault = (fault : LinkFault) (raw : List ℕ) → (entry_of raw ≡ Refused fault) ↔ ((bytes : List ℕ) × Writes raw bytes × (fault_of_all bytes ≡ Some fault))
+IsRefusedByFault =
+    (fault : LinkFault) (raw : List ℕ)
+    → (entry_of raw ≡ Refused fault) ↔ ((bytes : List ℕ) × Writes raw bytes × (fault_of_all bytes ≡ Some fault))

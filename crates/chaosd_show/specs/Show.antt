@@ -20,7 +20,8 @@ report_of input = reports_of (lines_of input)
 
 -- What was written to a writer is the reports of the lines that ended in what was read of an input.
 abbrev pub ReportsRead : Option (List ℕ) → Option (List ℕ) → Option (List ℕ) → Option (List ℕ) → Type 0
-ReportsRead input rest old new = (read : List ℕ) × Consumes input rest read × Appends old new (reports_of (ended_lines read))
+ReportsRead input rest old new =
+    (read : List ℕ) × Consumes input rest read × Appends old new (reports_of (ended_lines read))
 
 -- how many lines there are, and how many of them are reported as refusals
 abbrev pub tally_of : List (List ℕ) → Tally

@@ -15,8 +15,10 @@ pub talks_none : (p : Pace) (c : Talker) → Talks p c silence c
 talks_none p c = record { steps = []; goes = refl; same = refl }
 
 -- one step more
-pub talks_step : (p : Pace) (first between last : Talker) (talk : Talk) (step : Step) → Talks p first talk between → Does p between step last → Talks p first (and_then talk step) last
-talks_step p first between last talk step t does = record { steps = step ∷ t.steps; goes = (between, t.goes, does); same = ap (λ k. and_then k step) t.same }
+pub talks_step : (p : Pace) (first between last : Talker) (talk : Talk) (step : Step) → Talks p first talk between
+    → Does p between step last → Talks p first (and_then talk step) last
+talks_step p first between last talk step t does =
+    record { steps = step ∷ t.steps; goes = (between, t.goes, does); same = ap (λ k. and_then k step) t.same }
 
 -- ---- one talk after another
 
@@ -26,47 +28,62 @@ goes_on p first between last xs (step ∷ ys) g (mid, before, does) = (mid, goes
 
 then_later : (t u : Talk) (step : Step) → and_then (and_later t u) step ≡ and_later t (and_then u step)
 then_later t u (Calls now) = refl
-then_later t u (Writes item now true) = ap (λ (l : List ItemView). record { said = l; heard = t.heard ++ u.heard; turns = t.turns + u.turns }) (append_assoc t.said u.said (item ∷ []))
+then_later t u (Writes item now true) =
+    ap (λ (l : List ItemView). record { said = l; heard = t.heard ++ u.heard; turns = t.turns + u.turns })
+    (append_assoc t.said u.said (item ∷ []))
 then_later t u (Writes item now false) = refl
 then_later t u (Reads None) = refl
-then_later t u (Reads (Some bytes)) = ap (λ (l : List (List ℕ)). record { said = t.said ++ u.said; heard = l; turns = t.turns + u.turns }) (append_assoc t.heard u.heard (bytes ∷ []))
-then_later t u (Turns now) = ap (λ (n : ℕ). record { said = t.said ++ u.said; heard = t.heard ++ u.heard; turns = n }) (add_assoc t.turns u.turns 1)
+then_later t u (Reads (Some bytes)) =
+    ap (λ (l : List (List ℕ)). record { said = t.said ++ u.said; heard = l; turns = t.turns + u.turns })
+    (append_assoc t.heard u.heard (bytes ∷ []))
+then_later t u (Turns now) =
+    ap (λ (n : ℕ). record { said = t.said ++ u.said; heard = t.heard ++ u.heard; turns = n })
+    (add_assoc t.turns u.turns 1)
 
 abbrev talk_by : List ItemView → List (List ℕ) → ℕ → Talk
 talk_by said heard turns = record { said = said; heard = heard; turns = turns }
 
 later_none : (t : Talk) → and_later t silence ≡ t
 later_none t =
-    ap (λ (l : List ItemView). talk_by l (t.heard ++ []) (t.turns + 0)) (append-nil t.said) ∙ ap (λ (l : List (List ℕ)). talk_by t.said l (t.turns + 0)) (append-nil t.heard) ∙ ap (λ (n : ℕ). talk_by t.said t.heard n) (add-zero t.turns)
+    ap (λ (l : List ItemView). talk_by l (t.heard ++ []) (t.turns + 0)) (append-nil t.said)
+    ∙ ap (λ (l : List (List ℕ)). talk_by t.said l (t.turns + 0)) (append-nil t.heard)
+    ∙ ap (λ (n : ℕ). talk_by t.said t.heard n) (add-zero t.turns)
 
 talk_later : (xs ys : List Step) → talk_of (ys ++ xs) ≡ and_later (talk_of xs) (talk_of ys)
 talk_later xs [] = sym (later_none (talk_of xs))
 talk_later xs (step ∷ ys) = ap (λ t. and_then t step) (talk_later xs ys) ∙ then_later (talk_of xs) (talk_of ys) step
 
-pub talks_on : (p : Pace) (first between last : Talker) (talk later : Talk) → Talks p first talk between → Talks p between later last → Talks p first (and_later talk later) last
+pub talks_on : (p : Pace) (first between last : Talker) (talk later : Talk) → Talks p first talk between
+    → Talks p between later last → Talks p first (and_later talk later) last
 talks_on p first between last talk later t u = record {
   steps = u.steps ++ t.steps;
   goes = goes_on p first between last t.steps u.steps t.goes u.goes;
-  same = talk_later t.steps u.steps ∙ ap (λ k. and_later k (talk_of u.steps)) t.same ∙ ap (λ k. and_later talk k) u.same;
+  same =
+      talk_later t.steps u.steps ∙ ap (λ k. and_later k (talk_of u.steps)) t.same ∙ ap (λ k. and_later talk k) u.same;
 }
 
-talks_same : (p : Pace) (first last : Talker) (talk other : Talk) → talk ≡ other → Talks p first talk last → Talks p first other last
+talks_same : (p : Pace) (first last : Talker) (talk other : Talk) → talk ≡ other → Talks p first talk last
+    → Talks p first other last
 talks_same p first last talk other e t = subst (λ k. Talks p first k last) e t
 
 -- nothing was said or heard before
-pub talks_behind : (p : Pace) (first between last : Talker) (talk : Talk) → Talks p first silence between → Talks p between talk last → Talks p first talk last
+pub talks_behind : (p : Pace) (first between last : Talker) (talk : Talk) → Talks p first silence between
+    → Talks p between talk last → Talks p first talk last
 talks_behind p first between last talk t u =
     let none : 0 + talk.turns ≡ talk.turns = omega arith in
-    talks_same p first last (and_later silence talk) talk (ap (λ (n : ℕ). talk_by talk.said talk.heard n) none) (talks_on p first between last silence talk t u)
+    talks_same p first last (and_later silence talk) talk (ap (λ (n : ℕ). talk_by talk.said talk.heard n) none)
+    (talks_on p first between last silence talk t u)
 
 -- ---- the steps of a client
 
-calls_by : (p : Pace) (now : ℕ) (id : Option ℕ) (queue queue' : Option QueueView) (c b d : CallerView) → id ≡ None → c.id ≡ id → HangsUpBy id p queue queue' c b → p.Shows now → d ≡ asked (p.starts now) now b
+calls_by : (p : Pace) (now : ℕ) (id : Option ℕ) (queue queue' : Option QueueView) (c b d : CallerView) → id ≡ None
+    → c.id ≡ id → HangsUpBy id p queue queue' c b → p.Shows now → d ≡ asked (p.starts now) now b
     → Talks p (talker c queue) silence (talker d queue')
 calls_by p now (Some id) queue queue' c b d none same hung shows is = absurd (let no : ⊥ = cc in no)
 calls_by p now None queue queue' c b d none same (left, stays) shows is =
     let does : Does p (talker c queue) (Calls now) (talker d queue') = (shows, same, rw (is, left, stays) refl) in
-    talks_step p (talker c queue) (talker c queue) (talker d queue') silence (Calls now) (talks_none p (talker c queue)) does
+    talks_step p (talker c queue) (talker c queue) (talker d queue') silence (Calls now) (talks_none p (talker c queue))
+    does
 
 -- it had no connection, and asked for one
 talks_calling : (p : Pace) (now : ℕ) (queue queue' : Option QueueView) (c d : CallerView) → c.id ≡ None → Connects p now queue queue' c d → Talks p (talker c queue) silence (talker d queue')
@@ -76,58 +93,84 @@ no_id : (id : Option ℕ) → is_some id ≡ false → id ≡ None
 no_id None none = refl
 no_id (Some id) none = absurd (let no : ⊥ = cc in no)
 
-pub talks_called : (p : Pace) (now : ℕ) (queue queue' : Option QueueView) (c d : CallerView) (result : Result (Unit {0}) RunFault) → is_some c.id ≡ false → OnOk result (Connects p now queue queue' c d)
+pub talks_called : (p : Pace) (now : ℕ) (queue queue' : Option QueueView) (c d : CallerView)
+    (result : Result (Unit {0}) RunFault)
+    → is_some c.id ≡ false → OnOk result (Connects p now queue queue' c d)
     → OnOk result (Talks p (talker c queue) silence (talker d queue'))
-talks_called p now queue queue' c d (Ok done) none connects = talks_calling p now queue queue' c d (no_id c.id none) connects
+talks_called p now queue queue' c d (Ok done) none connects =
+    talks_calling p now queue queue' c d (no_id c.id none) connects
 talks_called p now queue queue' c d (Err fault) none connects = tt
 
 -- it read
-pub talks_reading : (p : Pace) (c d : Talker) (got : Option (List ℕ)) → Does p c (Reads got) d → Talks p c (hearing got) d
+pub talks_reading : (p : Pace) (c d : Talker) (got : Option (List ℕ)) → Does p c (Reads got) d
+    → Talks p c (hearing got) d
 talks_reading p c d None does = talks_step p c c d silence (Reads None) (talks_none p c) does
 talks_reading p c d (Some bytes) does = talks_step p c c d silence (Reads (Some bytes)) (talks_none p c) does
 
 -- it tried to write
-pub talks_writing : (p : Pace) (c d : Talker) (item : ItemView) (now : ℕ) (taken : Bool) → Does p c (Writes item now taken) d → WritesAndTurns p 0 c item false taken d
-talks_writing p c d item now true does = (λ e. refl, talks_step p c c d silence (Writes item now true) (talks_none p c) does)
-talks_writing p c d item now false does = (λ e. e, talks_step p c c d silence (Writes item now false) (talks_none p c) does)
+pub talks_writing : (p : Pace) (c d : Talker) (item : ItemView) (now : ℕ) (taken : Bool)
+    → Does p c (Writes item now taken) d → WritesAndTurns p 0 c item false taken d
+talks_writing p c d item now true does =
+    (λ e. refl, talks_step p c c d silence (Writes item now true) (talks_none p c) does)
+talks_writing p c d item now false does =
+    (λ e. e, talks_step p c c d silence (Writes item now false) (talks_none p c) does)
 
 -- it had written before
-pub talks_written : (p : Pace) (c : Talker) (item : ItemView) (was : Bool) → was ≡ true → WritesAndTurns p 0 c item was true c
+pub talks_written : (p : Pace) (c : Talker) (item : ItemView) (was : Bool) → was ≡ true
+    → WritesAndTurns p 0 c item was true c
 talks_written p c item true e = (λ e. e, talks_none p c)
 talks_written p c item false e = absurd (let no : ⊥ = cc in no)
 
 -- a turn behind a write
-pub talks_turning : (p : Pace) (c d e : Talker) (item : ItemView) (was is : Bool) (now : ℕ) → WritesAndTurns p 0 c item was is d → Does p d (Turns now) e → WritesAndTurns p 1 c item was is e
+pub talks_turning : (p : Pace) (c d e : Talker) (item : ItemView) (was is : Bool) (now : ℕ)
+    → WritesAndTurns p 0 c item was is d → Does p d (Turns now) e → WritesAndTurns p 1 c item was is e
 talks_turning p c d e item was is now (kept, talk) does = (kept, talks_step p c d e _ (Turns now) talk does)
 
 -- what was written at some time
-pub talks_again : (p : Pace) (c d e : Talker) (item : ItemView) (was is : Bool) (turns : ℕ) → WritesAndTurns p turns c item false was d → WritesAndTurns p 1 d item was is e → WritesAndTurns p (turns + 1) c item false is e
-talks_again p c d e item true true turns first later = (λ same. refl, talks_same p c e _ _ refl (talks_on p c d e _ _ first.1 later.1))
-talks_again p c d e item true false turns first later = absurd (let no : false ≡ true = later.0 refl in let none : ⊥ = cc in none)
-talks_again p c d e item false is turns first later = (λ same. absurd (let no : ⊥ = cc in no), talks_on p c d e _ _ first.1 later.1)
+pub talks_again : (p : Pace) (c d e : Talker) (item : ItemView) (was is : Bool) (turns : ℕ)
+    → WritesAndTurns p turns c item false was d → WritesAndTurns p 1 d item was is e
+    → WritesAndTurns p (turns + 1) c item false is e
+talks_again p c d e item true true turns first later =
+    (λ same. refl, talks_same p c e _ _ refl (talks_on p c d e _ _ first.1 later.1))
+talks_again p c d e item true false turns first later =
+    absurd (let no : false ≡ true = later.0 refl in let none : ⊥ = cc in none)
+talks_again p c d e item false is turns first later =
+    (λ same. absurd (let no : ⊥ = cc in no), talks_on p c d e _ _ first.1 later.1)
 
 -- nothing was heard behind it
-pub talks_unheard : (p : Pace) (c d e : Talker) (item : ItemView) (was is : Bool) (turns : ℕ) → WritesAndTurns p turns c item was is d → Talks p d silence e → WritesAndTurns p turns c item was is e
-talks_unheard p c d e item was is turns (kept, talk) later = (kept, talks_same p c e _ _ (later_none _) (talks_on p c d e _ silence talk later))
+pub talks_unheard : (p : Pace) (c d e : Talker) (item : ItemView) (was is : Bool) (turns : ℕ)
+    → WritesAndTurns p turns c item was is d → Talks p d silence e → WritesAndTurns p turns c item was is e
+talks_unheard p c d e item was is turns (kept, talk) later
+    = (kept, talks_same p c e _ _ (later_none _) (talks_on p c d e _ silence talk later))
 
 -- nothing was said before it
-pub talks_begun : (p : Pace) (b c d : Talker) (item : ItemView) (was is : Bool) (turns : ℕ) → Talks p b silence c → WritesAndTurns p turns c item was is d → WritesAndTurns p turns b item was is d
+pub talks_begun : (p : Pace) (b c d : Talker) (item : ItemView) (was is : Bool) (turns : ℕ) → Talks p b silence c
+    → WritesAndTurns p turns c item was is d → WritesAndTurns p turns b item was is d
 talks_begun p b c d item was is turns before (kept, talk) = (kept, talks_behind p b c d _ before talk)
 
 -- ---- one command, and the EOF
 
 -- a reply was heard behind the command
-pub exchange_done : (p : Pace) (c d e : Talker) (command reply : List ℕ) (is : Bool) (turns : ℕ) → is ≡ true → WritesAndTurns p turns c (command_item command) false is d → Talks p d (hearing (Some reply)) e → Exchanges p c command (Some reply) e
-exchange_done p c d e command reply true turns same (kept, talk) heard = (_, talks_on p c d e _ _ talk heard, (refl, refl))
+pub exchange_done : (p : Pace) (c d e : Talker) (command reply : List ℕ) (is : Bool) (turns : ℕ) → is ≡ true
+    → WritesAndTurns p turns c (command_item command) false is d → Talks p d (hearing (Some reply)) e
+    → Exchanges p c command (Some reply) e
+exchange_done p c d e command reply true turns same (kept, talk) heard
+    = (_, talks_on p c d e _ _ talk heard, (refl, refl))
 exchange_done p c d e command reply false turns same first heard = absurd (let no : ⊥ = cc in no)
 
 -- none was
-pub exchange_none : (p : Pace) (c d : Talker) (command : List ℕ) (is : Bool) (turns : ℕ) → WritesAndTurns p turns c (command_item command) false is d → (turns ≡ COMMAND_TURNS) ⊎ (is_over d.caller.host d.caller.id ≡ true) → Exchanges p c command None d
-exchange_none p c d command is turns (kept, talk) ends = (record { said = newly_said false is (command_item command); heard = []; turns = turns }, talk, (is, refl, refl, ends))
+pub exchange_none : (p : Pace) (c d : Talker) (command : List ℕ) (is : Bool) (turns : ℕ)
+    → WritesAndTurns p turns c (command_item command) false is d
+    → (turns ≡ COMMAND_TURNS) ⊎ (is_over d.caller.host d.caller.id ≡ true) → Exchanges p c command None d
+exchange_none p c d command is turns (kept, talk) ends
+    = (record { said = newly_said false is (command_item command); heard = []; turns = turns }, talk, (is, refl, refl, ends))
 
 -- the EOF's wait has ended
-pub farewell_by : (p : Pace) (c d : Talker) (is : Bool) (turns : ℕ) → WritesAndTurns p turns c eof_item false is d → turns ≤ END_TURNS
-    → ((turns ≡ END_TURNS) ⊎ (is_over d.caller.host d.caller.id ≡ true)) ⊎ ((is ≡ true) × (all_read d.caller.host d.caller.id ≡ true)) → SaysFarewell p c d
+pub farewell_by : (p : Pace) (c d : Talker) (is : Bool) (turns : ℕ) → WritesAndTurns p turns c eof_item false is d
+    → turns ≤ END_TURNS
+    → ((turns ≡ END_TURNS) ⊎ (is_over d.caller.host d.caller.id ≡ true))
+    ⊎ ((is ≡ true) × (all_read d.caller.host d.caller.id ≡ true))
+    → SaysFarewell p c d
 farewell_by p c d is turns (kept, talk) within ends =
     (record { said = newly_said false is eof_item; heard = []; turns = turns }, talk, record { is_written = is; said = refl; heard = refl; within = within; ends = ends })
 
@@ -136,6 +179,7 @@ over_none h None none = refl
 over_none h (Some id) none = absurd (let no : ⊥ = cc in no)
 
 -- there is no connection
-pub farewell_none : (p : Pace) (c : CallerView) (queue : Option QueueView) → is_some c.id ≡ false → SaysFarewell p (talker c queue) (talker c queue)
+pub farewell_none : (p : Pace) (c : CallerView) (queue : Option QueueView) → is_some c.id ≡ false
+    → SaysFarewell p (talker c queue) (talker c queue)
 farewell_none p c queue none =
     (silence, talks_none p (talker c queue), record { is_written = false; said = refl; heard = refl; within = omega arith; ends = inl (inr (over_none c.host c.id none)) })

@@ -20,8 +20,8 @@ use Rattle.file_client.specs.Calls.{after_passing, call_by, data_read, is_wrote}
 use Rattle.file_client.specs.Pace.{Pace}
 use Rattle.file_client.specs.Turn.{TakesTurn}
 
--- Its host, whom it calls, how its packets are carried, its connection, if any, the moment at which it asked last, and what waits to
--- be sent.
+-- Its host, whom it calls, how its packets are carried, its connection, if any, the moment at which it asked last, and
+-- what waits to be sent.
 pub record CallerView : Type 0 where
   pub host : HostView
   pub to : ℕ
@@ -55,7 +55,8 @@ read_of c = call_by c.host Read c.id
 
 -- The outbox has less room than this, and nothing was done; or the connection did it.
 abbrev pub Acts : ℕ → {A : Type 0} → A → A → A → HostActed HostReply → CallerView → CallerView → Type 0
-Acts room none done result acted c d = ((room_of c.out < room) × (result ≡ none) × (d ≡ c)) ⊎ ((result ≡ done) × (d ≡ after_call c acted))
+Acts room none done result acted c d =
+    ((room_of c.out < room) × (result ≡ none) × (d ≡ c)) ⊎ ((result ≡ done) × (d ≡ after_call c acted))
 
 -- The item was written to the connection at this moment, and it is told whether the connection took it.
 abbrev pub Says : ItemView → ℕ → Bool → CallerView → CallerView → Type 0
@@ -78,9 +79,12 @@ asked start now c = if nat_lt 0 (room_of c.out)
 
 abbrev pub closed_by : Option ℕ → CallerView → CallerView
 closed_by None c = c
-closed_by (Some id) c = if nat_lt 0 (room_of c.out) then record (after_call c (host_end c.host id (Close []))) { id = None } else record c { id = None }
+closed_by (Some id) c =
+    if nat_lt 0 (room_of c.out) then record (after_call c (host_end c.host id (Close []))) { id = None } else record c
+    { id = None }
 
--- the connection, where there is one, is closed with an empty text, where there is room for its CLS, and is the caller's no more
+-- the connection, where there is one, is closed with an empty text, where there is room for its CLS, and is the
+-- caller's no more
 abbrev pub closed : CallerView → CallerView
 closed c = closed_by c.id c
 
@@ -114,11 +118,14 @@ all_read h (Some id) = has_drained (host_look h id (λ conn. is_drained conn))
 
 -- A client's turn was taken at this moment, between these states of the queue that its link is.
 abbrev pub TurnsAt : ℕ → Option QueueView → Option QueueView → CallerView → CallerView → Type 0
-TurnsAt now before after c d = (d ≡ record c { host = d.host; out = record { packets = []; cap = c.out.cap } }) × TakesTurn c.carriage now c.host d.host before after c.out d.out
+TurnsAt now before after c d =
+    (d ≡ record c { host = d.host; out = record { packets = []; cap = c.out.cap } })
+    × TakesTurn c.carriage now c.host d.host before after c.out d.out
 
 -- Nothing waits, and nothing was done; or what waits was sent in a turn.
 abbrev pub SendsOn : Pace → Option QueueView → Option QueueView → CallerView → CallerView → Type 0
-SendsOn p before after c d = ((c.out.packets ≡ []) × (d ≡ c) × (after ≡ before)) ⊎ ((now : ℕ) × p.Shows now × TurnsAt now before after c d)
+SendsOn p before after c d =
+    ((c.out.packets ≡ []) × (d ≡ c) × (after ≡ before)) ⊎ ((now : ℕ) × p.Shows now × TurnsAt now before after c d)
 
 abbrev pub HangsUpBy : Option ℕ → Pace → Option QueueView → Option QueueView → CallerView → CallerView → Type 0
 HangsUpBy None p before after c d = (d ≡ c) × (after ≡ before)
@@ -130,4 +137,5 @@ HangsUp p before after c d = HangsUpBy c.id p before after c d
 
 -- The caller hung up, and then asked at this moment for a connection that begins with the number of this moment.
 abbrev pub Connects : Pace → ℕ → Option QueueView → Option QueueView → CallerView → CallerView → Type 0
-Connects p now before after c d = (b : CallerView) × HangsUp p before after c b × p.Shows now × (d ≡ asked (p.starts now) now b)
+Connects p now before after c d =
+    (b : CallerView) × HangsUp p before after c b × p.Shows now × (d ≡ asked (p.starts now) now b)

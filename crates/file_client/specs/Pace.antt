@@ -14,4 +14,5 @@ pub record Pace : Type 1 where
 
 -- what a client by this clock goes by
 abbrev pub clock_pace : (ℕ → Type 0) → Beginning → Pace
-clock_pace Shows beginning = record { Shows = IsMoment Shows beginning; starts = number_of beginning; wait = OPEN_MILLIS }
+clock_pace Shows beginning =
+    record { Shows = IsMoment Shows beginning; starts = number_of beginning; wait = OPEN_MILLIS }

@@ -27,7 +27,8 @@ silence = record { said = []; heard = []; turns = 0 }
 
 -- one after the other
 abbrev pub and_later : Talk → Talk → Talk
-and_later first later = record { said = first.said ++ later.said; heard = first.heard ++ later.heard; turns = first.turns + later.turns }
+and_later first later =
+    record { said = first.said ++ later.said; heard = first.heard ++ later.heard; turns = first.turns + later.turns }
 
 -- ---- what a client does
 
@@ -59,8 +60,8 @@ abbrev pub eof_item : ItemView
 eof_item = record { op = op_eof; body = [] }
 
 module _ (p : Pace) where
-  -- What a step makes of a client: it asks for a connection; it tries to write an item; it reads; it takes a turn, before which it asks
-  -- again where no OPN came for long.
+  -- What a step makes of a client: it asks for a connection; it tries to write an item; it reads; it takes a turn,
+  -- before which it asks again where no OPN came for long.
   abbrev pub Does : Talker → Step → Talker → Type 0
   Does c (Calls now) d = p.Shows now × (c.caller.id ≡ None) × (d ≡ talker (asked (p.starts now) now c.caller) c.queue)
   Does c (Writes item now taken) d = p.Shows now × Says item now taken c.caller d.caller × (d.queue ≡ c.queue)
@@ -80,7 +81,8 @@ module _ (p : Pace) where
 
   -- An item was written where it wasn't before and was taken, and so many turns were taken.
   abbrev pub WritesAndTurns : ℕ → Talker → ItemView → Bool → Bool → Talker → Type 0
-  WritesAndTurns turns first item was is last = (was ≡ true → is ≡ true) × Talks first (record { said = newly_said was is item; heard = []; turns = turns }) last
+  WritesAndTurns turns first item was is last =
+      (was ≡ true → is ≡ true) × Talks first (record { said = newly_said was is item; heard = []; turns = turns }) last
 
 -- So many turns were taken, or the connection has ended, or there is none.
 abbrev pub GivesUp : ℕ → Talk → Talker → Type 0
@@ -96,18 +98,21 @@ abbrev pub hearing : Option (List ℕ) → Talk
 hearing None = silence
 hearing (Some bytes) = record silence { heard = bytes ∷ [] }
 
--- The command was written, and this was read in answer; or nothing came within 1,000 turns, or the connection has ended.
+-- The command was written, and this was read in answer; or nothing came within 1,000 turns, or the connection has
+-- ended.
 abbrev pub IsExchange : List ℕ → Option (List ℕ) → Talk → Talker → Type 0
 IsExchange command (Some reply) talk last = (talk.said ≡ command_item command ∷ []) × (talk.heard ≡ reply ∷ [])
-IsExchange command None talk last = (is_written : Bool) × (talk.said ≡ newly_said false is_written (command_item command)) × (talk.heard ≡ []) × GivesUp COMMAND_TURNS talk last
+IsExchange command None talk last =
+    (is_written : Bool) × (talk.said ≡ newly_said false is_written (command_item command)) × (talk.heard ≡ [])
+    × GivesUp COMMAND_TURNS talk last
 
 abbrev pub Exchanges : Pace → Talker → List ℕ → Option (List ℕ) → Talker → Type 0
 Exchanges p first command reply last = (talk : Talk) × Talks p first talk last × IsExchange command reply talk last
 
 -- ---- a farewell
 
--- The EOF was written or wasn't taken, and nothing was heard. It ended where the server had read all, after 100 turns, or where the
--- connection had ended or there was none.
+-- The EOF was written or wasn't taken, and nothing was heard. It ended where the server had read all, after 100 turns,
+-- or where the connection had ended or there was none.
 pub record IsFarewell (talk : Talk) (last : Talker) : Type 0 where
   pub is_written : Bool
   pub said : talk.said ≡ newly_said false is_written eof_item

@@ -44,28 +44,35 @@ nothing_put : (out : OutboxView) → out ≡ record out { packets = out.packets 
 nothing_put out = ap (λ (ps : List PacketView). record out { packets = ps }) (sym (append-nil out.packets))
 
 nothing_done : (h : HostView) (out : OutboxView) (answer : Served) → HostDoes h 2 (no_effect h answer) h out out answer
-nothing_done h out answer = record { view = refl; packets = nothing_put out; answers = refl; few = omega arith; config = refl; size = refl }
+nothing_done h out answer =
+    record { view = refl; packets = nothing_put out; answers = refl; few = omega arith; config = refl; size = refl }
 
-module _ (store : StoreChange) (s : SessionView) (h : HostView) (id now : ℕ) (out : OutboxView) (same : store.same) where
-  by_calls : (work : Work) → is_served (Some work) ≡ false → DoesWorkByCalls store s s (λ acted. HostDoes h 2 acted h out out (told_without work)) h id now (Some work)
-  by_calls (NotOpen state) e = ((refl, same), nothing_done h out (told.Ended state))
-  by_calls Nothing e = ((refl, same), nothing_done h out told.Idle)
-  by_calls Full e = ((refl, same), nothing_done h out told.NoRoom)
-  by_calls LastItem e = absurd (cc)
-  by_calls (Command body) e = absurd (cc)
+module _ (store : StoreChange) (s : SessionView) (h : HostView) (id now : ℕ) (out : OutboxView) (same : store.same)
+  where
+    by_calls : (work : Work) → is_served (Some work) ≡ false
+        → DoesWorkByCalls store s s (λ acted. HostDoes h 2 acted h out out (told_without work)) h id now (Some work)
+    by_calls (NotOpen state) e = ((refl, same), nothing_done h out (told.Ended state))
+    by_calls Nothing e = ((refl, same), nothing_done h out told.Idle)
+    by_calls Full e = ((refl, same), nothing_done h out told.NoRoom)
+    by_calls LastItem e = absurd (cc)
+    by_calls (Command body) e = absurd (cc)
 
-  serves_none : (slot : Slot) → named_slot h.slots id ≡ Some slot → is_served (Some (work_of slot.conn)) ≡ false → ServesOne store s s h id now h out out (told_without (work_of slot.conn))
-  serves_none slot e none =
-      let does : HostActed Served → Type 0 = λ acted. HostDoes h 2 acted h out out (told_without (work_of slot.conn)) in
-      serves_one store s s h id now h out out (told_without (work_of slot.conn))
-      (subst (λ (o : Option Slot). DoesWorkByCalls store s s does h id now (option_map (λ slot. work_of slot.conn) o)) (sym e) (by_calls (work_of slot.conn) none))
+    serves_none : (slot : Slot) → named_slot h.slots id ≡ Some slot → is_served (Some (work_of slot.conn)) ≡ false
+        → ServesOne store s s h id now h out out (told_without (work_of slot.conn))
+    serves_none slot e none =
+        let does : HostActed Served → Type 0 = λ acted. HostDoes h 2 acted h out out (told_without (work_of slot.conn)) in
+        serves_one store s s h id now h out out (told_without (work_of slot.conn))
+        (subst (λ (o : Option Slot). DoesWorkByCalls store s s does h id now (option_map (λ slot. work_of slot.conn) o))
+        (sym e) (by_calls (work_of slot.conn) none))
 
 -- the slot whose connection an index shows
-looked_at : (found : Option Slot) (conn : ConnView) → look_slot (λ c. c) found ≡ Ok conn → (slot : Slot) × (found ≡ Some slot) × (slot.conn ≡ conn)
+looked_at : (found : Option Slot) (conn : ConnView) → look_slot (λ c. c) found ≡ Ok conn
+    → (slot : Slot) × (found ≡ Some slot) × (slot.conn ≡ conn)
 looked_at None conn e = absurd (cc)
 looked_at (Some slot) conn e = (slot, refl, cc)
 
-nothing_sent : (carriage : Carriage) (queue : Option QueueView) (packets : List PacketView) → packets ≡ [] → Sends queue (sent_by carriage (packets ∷ [])) queue
+nothing_sent : (carriage : Carriage) (queue : Option QueueView) (packets : List PacketView) → packets ≡ []
+    → Sends queue (sent_by carriage (packets ∷ [])) queue
 nothing_sent One queue packets e = rw e (sends_nothing queue)
 nothing_sent Two queue packets e = rw e (sends_nothing queue)
 

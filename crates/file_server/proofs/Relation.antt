@@ -26,7 +26,8 @@ use Rattle.chaos_turn.proofs.Phase.{put_into_empty}
 use Rattle.chaos_turn.proofs.Queue.{sends_both, sends_nothing, has_both}
 
 module _ (store : StoreChange) (s t : SessionView) where
-  by_work : (P Q : Acted Served → Type 0) (v : ConnView) (now : ℕ) (work : Work) → ((acted : Acted Served) → P acted → Q acted) → DoesWork store s t P v now work → DoesWork store s t Q v now work
+  by_work : (P Q : Acted Served → Type 0) (v : ConnView) (now : ℕ) (work : Work)
+      → ((acted : Acted Served) → P acted → Q acted) → DoesWork store s t P v now work → DoesWork store s t Q v now work
   by_work P Q v now (NotOpen state) f done = (done.0, f _ done.1)
   by_work P Q v now Nothing f done = (done.0, f _ done.1)
   by_work P Q v now Full f done = (done.0, f _ done.1)
@@ -34,21 +35,25 @@ module _ (store : StoreChange) (s t : SessionView) where
   by_work P Q v now (Command body) f done = (done.0, done.1, f _ done.2)
 
   -- what holds of what the host did holds still where something weaker is asked
-  pub serves_so : (P Q : HostActed Served → Type 0) (h : HostView) (place now : ℕ) (found : Option Slot) → ((acted : HostActed Served) → P acted → Q acted)
+  pub serves_so : (P Q : HostActed Served → Type 0) (h : HostView) (place now : ℕ) (found : Option Slot)
+      → ((acted : HostActed Served) → P acted → Q acted)
       → DoesWorkInSlot store s t P h place now found → DoesWorkInSlot store s t Q h place now found
   serves_so P Q h place now None f done = (done.0, f _ done.1)
   serves_so P Q h place now (Some slot) f done =
-      by_work (λ acted. P (in_slot h place slot acted)) (λ acted. Q (in_slot h place slot acted)) slot.conn now (work_of slot.conn) (λ acted p. f (in_slot h place slot acted) p) done
+      by_work (λ acted. P (in_slot h place slot acted)) (λ acted. Q (in_slot h place slot acted)) slot.conn now
+      (work_of slot.conn) (λ acted p. f (in_slot h place slot acted) p) done
 
   -- what the host did, where it was told of all that it may have done
-  work_found : (P : Acted Served → Type 0) (v : ConnView) (now : ℕ) (work : Work) → DoesWork store s t P v now work → (acted : Acted Served) × DoesWork store s t (λ a. acted ≡ a) v now work × P acted
+  work_found : (P : Acted Served → Type 0) (v : ConnView) (now : ℕ) (work : Work) → DoesWork store s t P v now work
+      → (acted : Acted Served) × DoesWork store s t (λ a. acted ≡ a) v now work × P acted
   work_found P v now (NotOpen state) done = (_, (done.0, refl), done.1)
   work_found P v now Nothing done = (_, (done.0, refl), done.1)
   work_found P v now Full done = (_, (done.0, refl), done.1)
   work_found P v now LastItem done = (_, (done.0, refl), done.1)
   work_found P v now (Command body) done = (_, (done.0, done.1, refl), done.2)
 
-  in_found : (P : HostActed Served → Type 0) (h : HostView) (place now : ℕ) (found : Option Slot) → DoesWorkInSlot store s t P h place now found
+  in_found : (P : HostActed Served → Type 0) (h : HostView) (place now : ℕ) (found : Option Slot)
+      → DoesWorkInSlot store s t P h place now found
       → (acted : HostActed Served) × DoesWorkInSlot store s t (λ a. acted ≡ a) h place now found × P acted
   in_found P h place now None done = (_, (done.0, refl), done.1)
   in_found P h place now (Some slot) done =
@@ -56,50 +61,72 @@ module _ (store : StoreChange) (s t : SessionView) where
       (in_slot h place slot found.0, by_work (λ a. found.0 ≡ a) (λ a. in_slot h place slot found.0 ≡ in_slot h place slot a) slot.conn now (work_of slot.conn) (λ a e. ap (in_slot h place slot) e) found.1, found.2)
 
 -- a connection was served by a slot's session
-pub kept_so : (store : StoreChange) (serving left : Serving) (t : SessionView) (old : HostView) (id now : ℕ) (new : HostView) (before after : OutboxView) (answer : Served)
+pub kept_so : (store : StoreChange) (serving left : Serving) (t : SessionView) (old : HostView) (id now : ℕ)
+    (new : HostView) (before after : OutboxView) (answer : Served)
     → left ≡ serving_after serving t answer → ServesOne store serving.session t old id now new before after answer
     → SessionServes store now id serving (λ s acted. DoesKept s left old acted new before after) old
 kept_so store serving left t old id now new before after answer e done = (
   t,
-  serves_so store serving.session t (λ acted. HostDoes old 2 acted new before after answer) (λ acted. DoesKept (serving_after serving t acted.answer) left old acted new before after)
+  serves_so store serving.session t (λ acted. HostDoes old 2 acted new before after answer)
+      (λ acted. DoesKept (serving_after serving t acted.answer) left old acted new before after)
       old (place_of id) now (named_slot old.slots id)
-      (λ acted d. record { kept = e ∙ ap (serving_after serving t) d.answers; does = record { view = d.view; packets = d.packets; answers = refl; few = d.few; config = d.config; size = d.size } }) done,
+      (λ acted d.
+      record { kept = e ∙ ap (serving_after serving t) d.answers; does = record { view = d.view; packets = d.packets; answers = refl; few = d.few; config = d.config; size = d.size } })
+      done,
 )
 
 -- what became of a slot that was served, and what its host did
-found_so : (store : StoreChange) (now id : ℕ) (serving : Serving) (P : Serving → HostActed Served → Type 0) (h : HostView) → SessionServes store now id serving P h
-    → (left : Serving) × (acted : HostActed Served) × SessionServes store now id serving (λ l a. (left ≡ l) × (acted ≡ a)) h × P left acted
+found_so : (store : StoreChange) (now id : ℕ) (serving : Serving) (P : Serving → HostActed Served → Type 0)
+    (h : HostView)
+    → SessionServes store now id serving P h
+    → (left : Serving) × (acted : HostActed Served)
+    × SessionServes store now id serving (λ l a. (left ≡ l) × (acted ≡ a)) h × P left acted
 found_so store now id serving P h done =
     let became = λ (acted : HostActed Served). serving_after serving done.0 acted.answer in
-    let one = in_found store serving.session done.0 (λ acted. P (became acted) acted) h (place_of id) now (named_slot h.slots id) done.1 in (
+    let one =
+    in_found store serving.session done.0 (λ acted. P (became acted) acted) h (place_of id) now
+    (named_slot h.slots id) done.1 in (
       became one.0,
       one.0,
       (done.0, serves_so store serving.session done.0 (λ a. one.0 ≡ a) (λ a. (became one.0 ≡ became a) × (one.0 ≡ a)) h (place_of id) now (named_slot h.slots id) (λ a e. (ap became e, e)) one.1),
       one.2,
     )
 
-become_so : (store : StoreChange) (now id : ℕ) (serving : Serving) (P Q : Serving → HostActed Served → Type 0) (h : HostView) → ((l : Serving) (a : HostActed Served) → P l a → Q l a)
+become_so : (store : StoreChange) (now id : ℕ) (serving : Serving) (P Q : Serving → HostActed Served → Type 0)
+    (h : HostView)
+    → ((l : Serving) (a : HostActed Served) → P l a → Q l a)
     → SessionServes store now id serving P h → SessionServes store now id serving Q h
 become_so store now id serving P Q h f done = (
   done.0,
-  serves_so store serving.session done.0 (λ a. P (serving_after serving done.0 a.answer) a) (λ a. Q (serving_after serving done.0 a.answer) a) h (place_of id) now (named_slot h.slots id)
+  serves_so store serving.session done.0 (λ a. P (serving_after serving done.0 a.answer) a)
+      (λ a. Q (serving_after serving done.0 a.answer) a) h (place_of id) now (named_slot h.slots id)
       (λ a p. f (serving_after serving done.0 a.answer) a p) done.1,
 )
 
 module _ {S : Type 0} (changes : S → S → StoreChange) where
   -- a slot was served by its session, and what was put out went into the link
-  pub slot_so : (carriage : Carriage) (here left : Serving) (sessions kept : List Serving) (store store' : S) (place id now : ℕ) (old new : HostView) (before mid rest : OutboxView) (queue after : Option QueueView) (sent : Bool)
-      → id_at old place ≡ Some id → here ≡ serving_at sessions place → kept ≡ slice_set sessions place left → before.packets ≡ []
-      → Sends queue (sent_by carriage (mid.packets ∷ [])) after → rest ≡ record { packets = []; cap = mid.cap } → sent ≡ has_packets (mid.packets ∷ [])
-      → SessionServes (changes store store') now id (serving_of id here) (λ s acted. DoesKept s left old acted new before mid) old
-      → ServerDoes carriage (ServesSlot changes now place) (station (server old sessions store) queue before) (station (server new kept store') after rest) sent
-  slot_so carriage here left sessions kept store store' place id now old new before mid rest queue after sent e e' set empty sends over told done =
+  pub slot_so : (carriage : Carriage) (here left : Serving) (sessions kept : List Serving) (store store' : S)
+      (place id now : ℕ) (old new : HostView) (before mid rest : OutboxView) (queue after : Option QueueView)
+      (sent : Bool)
+      → id_at old place ≡ Some id → here ≡ serving_at sessions place → kept ≡ slice_set sessions place left
+      → before.packets ≡ []
+      → Sends queue (sent_by carriage (mid.packets ∷ [])) after → rest ≡ record { packets = []; cap = mid.cap }
+      → sent ≡ has_packets (mid.packets ∷ [])
+      → SessionServes (changes store store') now id (serving_of id here)
+      (λ s acted. DoesKept s left old acted new before mid) old
+      → ServerDoes carriage (ServesSlot changes now place) (station (server old sessions store) queue before)
+      (station (server new kept store') after rest) sent
+  slot_so carriage here left sessions kept store store' place id now old new before mid rest queue after sent e e' set
+      empty sends over told done =
       let change = changes store store' in
-      let found = found_so change now id (serving_of id here) (λ s acted. DoesKept s left old acted new before mid) old done in
+      let found =
+      found_so change now id (serving_of id here) (λ s acted. DoesKept s left old acted new before mid) old done in
       let d = found.3 in
       let acted = found.1 in
-      let packets : mid.packets ≡ acted.packets = ap (λ (o : OutboxView). o.packets) d.does.packets ∙ put_into_empty before acted.packets empty in
-      let is : Serving → HostActed Served → Type 0 = IsServedAt place (server old sessions store) (server new kept store') (mid.packets ∷ []) in
+      let packets : mid.packets ≡ acted.packets =
+      ap (λ (o : OutboxView). o.packets) d.does.packets ∙ put_into_empty before acted.packets empty in
+      let is : Serving → HostActed Served → Type 0 =
+      IsServedAt place (server old sessions store) (server new kept store') (mid.packets ∷ []) in
       let one : SessionServes change now id (serving_of id here) is old
       = become_so change now id (serving_of id here) (λ l a. (found.0 ≡ l) × (acted ≡ a)) is old
       (λ l a same. record {
@@ -107,12 +134,20 @@ module _ {S : Type 0} (changes : S → S → StoreChange) where
         sessions = set ∙ ap (slice_set sessions place) (d.kept ∙ same.0);
         out = ap (λ (ps : List PacketView). ps ∷ []) (packets ∙ ap (λ (x : HostActed Served). x.packets) same.1);
       }) found.2 in
-      let there : SessionServes change now id (serving_of id (serving_at sessions place)) is old = subst (λ (x : Serving). SessionServes change now id (serving_of id x) is old) e' one in
+      let there : SessionServes change now id (serving_of id (serving_at sessions place)) is old =
+      subst (λ (x : Serving). SessionServes change now id (serving_of id x) is old) e' one in
       record {
         lots = mid.packets ∷ [];
-        done = subst (λ (o : Option ℕ). ServesPlace changes now place o (server old sessions store) (server new kept store') (mid.packets ∷ [])) (sym e) there;
+        done =
+            subst
+            (λ (o : Option ℕ). ServesPlace changes now place o (server old sessions store) (server new kept store')
+            (mid.packets ∷ []))
+            (sym e) there;
         sends = sends;
-        outbox = over ∙ (ap (λ (o : OutboxView). record { packets = []; cap = o.cap }) d.does.packets ∙ ap (λ (ps : List PacketView). record { packets = ps; cap = before.cap }) (sym empty));
+        outbox =
+            over
+            ∙ (ap (λ (o : OutboxView). record { packets = []; cap = o.cap }) d.does.packets
+            ∙ ap (λ (ps : List PacketView). record { packets = ps; cap = before.cap }) (sym empty));
         told = told;
         config = d.does.config;
         size = d.does.size;
@@ -121,7 +156,8 @@ module _ {S : Type 0} (changes : S → S → StoreChange) where
 
   -- the first slots were served, and then the next
   pub slots_so : (carriage : Carriage) (a b c : Station (Server S)) (place now : ℕ) (sent more all : Bool)
-      → ServerDoes carriage (ServesSlots changes now place) a b sent → ServerDoes carriage (ServesSlot changes now place) b c more
+      → ServerDoes carriage (ServesSlots changes now place) a b sent
+      → ServerDoes carriage (ServesSlot changes now place) b c more
       → all ≡ (if more then true else sent) → ServerDoes carriage (ServesSlots changes now (suc place)) a c all
   slots_so carriage a b c place now sent more all one two e =
       record {
@@ -129,12 +165,18 @@ module _ {S : Type 0} (changes : S → S → StoreChange) where
         done = (b.node, one.lots, two.lots, one.done, two.done, refl);
         sends = sends_both carriage a.queue b.queue c.queue one.lots two.lots one.sends two.sends;
         outbox = two.outbox ∙ one.outbox;
-        told = e ∙ (ap (λ (x : Bool). if x then true else sent) two.told ∙ (ap (λ (x : Bool). if has_packets two.lots then true else x) one.told ∙ sym (has_both one.lots two.lots)));
+        told =
+            e
+            ∙ (ap (λ (x : Bool). if x then true else sent) two.told
+            ∙ (ap (λ (x : Bool). if has_packets two.lots then true else x) one.told
+            ∙ sym (has_both one.lots two.lots)));
         config = two.config ∙ one.config;
         size = two.size ∙ one.size;
         count = two.count ∙ one.count;
       }
 
   -- no slot was served yet
-  pub slots_none : (carriage : Carriage) (a : Station (Server S)) (now : ℕ) → ServerDoes carriage (ServesSlots changes now 0) a a false
-  slots_none carriage a now = record { lots = []; done = (refl, refl); sends = sends_nothing a.queue; outbox = refl; told = refl; config = refl; size = refl; count = refl }
+  pub slots_none : (carriage : Carriage) (a : Station (Server S)) (now : ℕ)
+      → ServerDoes carriage (ServesSlots changes now 0) a a false
+  slots_none carriage a now =
+      record { lots = []; done = (refl, refl); sends = sends_nothing a.queue; outbox = refl; told = refl; config = refl; size = refl; count = refl }

@@ -22,7 +22,8 @@ abbrev pub host_at : {S : Type 0} → Station (Server S) → Station HostView
 host_at a = station a.node.host a.queue a.outbox
 
 -- as many sessions as before
-pub as_many_at : (found : Option ℕ) (place : ℕ) (sessions : List Serving) → length (given_back_at found place sessions) ≡ length sessions
+pub as_many_at : (found : Option ℕ) (place : ℕ) (sessions : List Serving)
+    → length (given_back_at found place sessions) ≡ length sessions
 as_many_at None place sessions = length-set sessions place (without_files (serving_at sessions place))
 as_many_at (Some id) place sessions = refl
 
@@ -45,17 +46,25 @@ module _ {S : Type 0} (changes : S → S → StoreChange) where
       let arrived : b.node ≡ with_host a.node first.host = same ∙ ap (with_host a.node) one.host in
       let each : ServesSlots changes now (length a.node.host.slots) (with_host a.node first.host) c.node two.lots
       = subst (λ (n : ℕ). ServesSlots changes now n (with_host a.node first.host) c.node two.lots) one.size
-      (subst (λ (s : Server S). ServesSlots changes now (length b.node.host.slots) s c.node two.lots) arrived two.done) in
+      (subst (λ (s : Server S). ServesSlots changes now (length b.node.host.slots) s c.node two.lots) arrived
+      two.done) in
       record {
         lots = first.lots ++ (two.lots ++ last.lots);
-        done = record { served = c.node; replies = two.lots; serves = each; ended = same' ∙ ap (λ (h : HostView). after_giving_back (with_host c.node h)) three.host; out = refl };
-        sends = sends_both carriage a.queue b.queue d.queue first.lots (two.lots ++ last.lots) one.sends (sends_both carriage b.queue c.queue d.queue two.lots last.lots two.sends three.sends);
+        done =
+            record { served = c.node; replies = two.lots; serves = each; ended = same' ∙ ap (λ (h : HostView). after_giving_back (with_host c.node h)) three.host; out = refl };
+        sends =
+            sends_both carriage a.queue b.queue d.queue first.lots (two.lots ++ last.lots) one.sends
+            (sends_both carriage b.queue c.queue d.queue two.lots last.lots two.sends three.sends);
         outbox = three.outbox ∙ (two.outbox ∙ one.outbox);
         told = e ∙ (ap (λ (t : Bool). if t then true else (if y then true else z)) one.told
             ∙ (ap (λ (t : Bool). if has_packets first.lots then true else (if t then true else z)) two.told
-            ∙ (ap (λ (t : Bool). if has_packets first.lots then true else (if has_packets two.lots then true else t)) three.told
+            ∙ (ap (λ (t : Bool). if has_packets first.lots then true else (if has_packets two.lots then true else t))
+            three.told
             ∙ sym (has_all first.lots two.lots last.lots))));
         config = three.config ∙ (two.config ∙ one.config);
         size = three.size ∙ (two.size ∙ one.size);
-        count = ap (λ (s : Server S). length s.sessions) same' ∙ (as_many d.node.host (length d.node.host.slots) c.node.sessions ∙ (two.count ∙ ap (λ (s : Server S). length s.sessions) same));
+        count =
+            ap (λ (s : Server S). length s.sessions) same'
+            ∙ (as_many d.node.host (length d.node.host.slots) c.node.sessions
+            ∙ (two.count ∙ ap (λ (s : Server S). length s.sessions) same));
       }

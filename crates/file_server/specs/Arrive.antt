@@ -23,7 +23,8 @@ accept_by h start now (Some id) = effect_of (host_call h id (Accept start now))
 
 -- a packet is delivered, and the request for FILE that it is, is accepted
 abbrev pub greet : ℕ → ℕ → PacketView → HostView → Effect
-greet start now p h = and_then (deliver_effect now p h) (λ after. accept_by after start now (request_in p (host_deliver h p now).answer))
+greet start now p h =
+    and_then (deliver_effect now p h) (λ after. accept_by after start now (request_in p (host_deliver h p now).answer))
 
 -- so is each packet in turn; a datagram that carries none is dropped
 abbrev pub arrive_at_server : Arrival → ℕ → ℕ → HostView → Effect

@@ -22,23 +22,28 @@ serving_after serving session answer = record serving { session = session; eof =
 -- A slot's session serves the connection with an own index. `does`: the session is left as this, and the host did that.
 abbrev pub SessionServes : StoreChange → ℕ → ℕ → Serving → (Serving → HostActed Served → Type 0) → HostView → Type 0
 SessionServes store now id serving does h = (session : SessionView)
-    × DoesWorkInSlot store serving.session session (λ acted. does (serving_after serving session acted.answer) acted) h (place_of id) now (named_slot h.slots id)
+    × DoesWorkInSlot store serving.session session (λ acted. does (serving_after serving session acted.answer) acted) h
+    (place_of id) now (named_slot h.slots id)
 
 -- A slot's session is this, and the host did that.
-pub record DoesKept (serving left : Serving) (old : HostView) (acted : HostActed Served) (new : HostView) (before after : OutboxView) : Type 0 where
+pub record DoesKept (serving left : Serving) (old : HostView) (acted : HostActed Served) (new : HostView)
+    (before after : OutboxView) : Type 0 where
   pub kept : left ≡ serving
   pub does : HostDoes old 2 acted new before after acted.answer
 
 module _ {S : Type 0} where
-  -- A server after the slot at a place was served: its session is this, the host did that, and what it put out is one lot.
-  pub record IsServedAt (place : ℕ) (s t : Server S) (lots : List (List PacketView)) (serving : Serving) (acted : HostActed Served) : Type 0 where
+  -- A server after the slot at a place was served: its session is this, the host did that, and what it put out is one
+  -- lot.
+  pub record IsServedAt (place : ℕ) (s t : Server S) (lots : List (List PacketView)) (serving : Serving)
+      (acted : HostActed Served) : Type 0 where
     pub host : t.host ≡ acted.view
     pub sessions : t.sessions ≡ slice_set s.sessions place serving
     pub out : lots ≡ acted.packets ∷ []
 
-  -- A server at its link did this, and the packets went into the link by this carriage, and whether there were any was told. The
-  -- outbox is as it was; so are the configuration and the numbers of slots and of sessions.
-  pub record ServerDoes (carriage : Carriage) (does : Server S → Server S → List (List PacketView) → Type 0) (before after : Station (Server S)) (sent : Bool) : Type 0 where
+  -- A server at its link did this, and the packets went into the link by this carriage, and whether there were any was
+  -- told. The outbox is as it was; so are the configuration and the numbers of slots and of sessions.
+  pub record ServerDoes (carriage : Carriage) (does : Server S → Server S → List (List PacketView) → Type 0)
+      (before after : Station (Server S)) (sent : Bool) : Type 0 where
     pub lots : List (List PacketView)
     pub done : does before.node after.node lots
     pub sends : Sends before.queue (sent_by carriage lots) after.queue
@@ -53,7 +58,8 @@ module _ {S : Type 0} (changes : S → S → StoreChange) where
   abbrev pub ServesPlace : ℕ → ℕ → Option ℕ → Server S → Server S → List (List PacketView) → Type 0
   ServesPlace now place None s t lots = (t ≡ s) × (lots ≡ [])
   ServesPlace now place (Some id) s t lots =
-      SessionServes (changes s.store t.store) now id (serving_of id (serving_at s.sessions place)) (IsServedAt place s t lots) s.host
+      SessionServes (changes s.store t.store) now id (serving_of id (serving_at s.sessions place))
+      (IsServedAt place s t lots) s.host
 
   -- The slot at a place is served once.
   abbrev pub ServesSlot : ℕ → ℕ → Server S → Server S → List (List PacketView) → Type 0

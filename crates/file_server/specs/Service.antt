@@ -17,7 +17,8 @@ use Rattle.file_server.specs.declared.server.Server.{Server as FileServer}
 
 -- a host that listens to FILE, whose connections have this configuration
 abbrev pub listening_host : ConfigView → ℕ → HostView
-listening_host config address = after_listen (listen_fault [] (codes "FILE")) (new_host address SERVER_CONNS config) (codes "FILE")
+listening_host config address =
+    after_listen (listen_fault [] (codes "FILE")) (new_host address SERVER_CONNS config) (codes "FILE")
 
 module _ {S : Type 0} where
   -- a server with its store, at its link
@@ -26,7 +27,9 @@ module _ {S : Type 0} where
 
   -- one that has made no turn yet
   abbrev pub new_service : ConfigView → ℕ → S → Option QueueView → Station (Server S)
-  new_service config address store queue = station (server (listening_host config address) (replicate SERVER_CONNS new_serving) store) queue (record { packets = []; cap = TURN_ROOM })
+  new_service config address store queue =
+      station (server (listening_host config address) (replicate SERVER_CONNS new_serving) store) queue
+      (record { packets = []; cap = TURN_ROOM })
 
 module _ {S : Type 0} (changes : S → S → StoreChange) (carriage : Carriage) where
   -- One turn, at some moment; a new connection numbers what it writes from some number on.
@@ -39,12 +42,14 @@ module _ {S : Type 0} (changes : S → S → StoreChange) (carriage : Carriage) 
   -- So many turns, one after another.
   abbrev pub ServesTurns : ℕ → Station (Server S) → Station (Server S) → Type 0
   ServesTurns zero first last = last ≡ first
-  ServesTurns (suc turns) first last = (between : Station (Server S)) × ServesTurns turns first between × ServesTurn between last
+  ServesTurns (suc turns) first last =
+      (between : Station (Server S)) × ServesTurns turns first between × ServesTurn between last
 
   -- A new service of this configuration and address made so many turns on a store and over a link.
   abbrev pub ServesBy : ConfigView → ℕ → ℕ → S → S → Option QueueView → Option QueueView → Type 0
   ServesBy config turns address store store' queue queue' = (last : Station (Server S))
-      × ServesTurns turns (new_service config address store queue) last × (last.node.store ≡ store') × (last.queue ≡ queue')
+      × ServesTurns turns (new_service config address store queue) last × (last.node.store ≡ store')
+      × (last.queue ≡ queue')
 
   -- one of the usual configuration
   abbrev pub Serves : ℕ → ℕ → S → S → Option QueueView → Option QueueView → Type 0

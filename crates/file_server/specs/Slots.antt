@@ -18,7 +18,8 @@ is_over eof (Some slot) = eof && is_drained slot.conn
 -- such a connection is closed with an empty text
 abbrev pub close_by : Bool → HostView → Option ℕ → Effect
 close_by eof h None = no_effect_on h
-close_by eof h (Some id) = if is_over eof (named_slot h.slots id) then effect_of (host_end h id (Close [])) else no_effect_on h
+close_by eof h (Some id) =
+    if is_over eof (named_slot h.slots id) then effect_of (host_end h id (Close [])) else no_effect_on h
 
 abbrev pub close_at : List Serving → ℕ → HostView → Effect
 close_at sessions place h = close_by (serving_at sessions place).eof h (id_at h place)
@@ -44,4 +45,6 @@ given_back h (suc n) sessions = given_back_at (id_at h n) n (given_back h n sess
 -- ---- the last phases of a turn, each over all slots
 
 abbrev pub end_phases : List Serving → ℕ → HostView → Effect
-end_phases sessions now h = and_then (and_then (over_slots (close_at sessions) (length h.slots) h) (over_slots release_at (length h.slots))) (over_slots (tick_at now) (length h.slots))
+end_phases sessions now h =
+    and_then (and_then (over_slots (close_at sessions) (length h.slots) h) (over_slots release_at (length h.slots)))
+    (over_slots (tick_at now) (length h.slots))

@@ -1,5 +1,5 @@
--- One turn of a server: what came is taken, then each slot is served, closed, released and ticked, and the files of sessions whose
--- connection has ended are given back.
+-- One turn of a server: what came is taken, then each slot is served, closed, released and ticked, and the files of
+-- sessions whose connection has ended are given back.
 use Rattle.std.specs.Prelude.{◌≡◌, ℕ, List, ◌++◌, length}
 use Rattle.chaos_packet.specs.Packet.{PacketView}
 use Rattle.chaos_file.specs.Store.{StoreChange}
@@ -19,12 +19,16 @@ module _ {S : Type 0} (changes : S → S → StoreChange) where
     -- the server after each slot was served, and the replies
     pub served : Server S
     pub replies : List (List PacketView)
-    pub serves : ServesSlots changes now (length s.host.slots) (with_host s (arrive_at_server came start now s.host).host) served replies
+    pub serves : ServesSlots changes now (length s.host.slots)
+        (with_host s (arrive_at_server came start now s.host).host) served replies
     pub ended : t ≡ after_giving_back (with_host served (end_phases served.sessions now served.host).host)
-    pub out : lots ≡ (arrive_at_server came start now s.host).lots ++ (replies ++ (end_phases served.sessions now served.host).lots)
+    pub out : lots
+        ≡ (arrive_at_server came start now s.host).lots
+        ++ (replies ++ (end_phases served.sessions now served.host).lots)
 
   -- A whole turn of a server at its link, by this carriage.
-  pub record RunsTurn (carriage : Carriage) (start now : ℕ) (before after : Station (Server S)) (result : TurnEnd) : Type 0 where
+  pub record RunsTurn (carriage : Carriage) (start now : ℕ) (before after : Station (Server S))
+      (result : TurnEnd) : Type 0 where
     pub came : Arrival
     pub lots : List (List PacketView)
     pub turn : IsTurn came start now before.node after.node lots

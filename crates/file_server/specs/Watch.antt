@@ -42,7 +42,8 @@ is_down _ = false
 
 -- the connection with an own index
 abbrev pub seen_of : HostView → ℕ → Seen
-seen_of h id = record { id = id; peer = end_told (host_look h id (λ conn. peer_of conn)); is_down = is_down (host_look h id (λ conn. conn.state)) }
+seen_of h id =
+    record { id = id; peer = end_told (host_look h id (λ conn. peer_of conn)); is_down = is_down (host_look h id (λ conn. conn.state)) }
 
 abbrev pub seen_at : HostView → ℕ → Option Seen
 seen_at h place = option_map (seen_of h) (id_at h place)
@@ -69,7 +70,8 @@ is_same (Some was) (Some there) = was.id == there.id
 is_same _ _ = false
 
 abbrev pub after_change : Option Seen → Option Seen → Serving → Option (List Event) → Option (List Event)
-after_change was there serving told = if is_same was there then told else after_opening there (after_end was serving told)
+after_change was there serving told =
+    if is_same was there then told else after_opening there (after_end was serving told)
 
 -- ---- a look at each slot
 

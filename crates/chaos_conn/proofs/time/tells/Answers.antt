@@ -8,4 +8,5 @@ use Rattle.chaos_conn.proofs.time.tells.Goals as goal
 pub loop-i-preserved : goal.loop-i-preserved
 loop-i-preserved c =
     let here = sym c.kept.ensures ∙ ap option_copied c.unwrap.ensures in
-    any_step (λ item. carries_ack (kind_of item.op)) c.args.send.now.kept c.loop-i.i c.unwrap.result.now _ here (sym c.if-item_tells.ensures) c.loop-i.invariant
+    any_step (λ item. carries_ack (kind_of item.op)) c.args.send.now.kept c.loop-i.i c.unwrap.result.now _ here
+    (sym c.if-item_tells.ensures) c.loop-i.invariant

@@ -7,7 +7,8 @@ use Rattle.chaos_host_stream.proofs.writing.put_named.Given as goal
 abbrev pub invariant-loop-taken : goal.invariant-loop-taken
 invariant-loop-taken l = record {
   within : l.taken ≤ length l.bytes;
-  midway : (slot : Slot) → (there : named_slot l.fn.host.slots l.id ≡ Some slot) → Midway l.fn.host l.fn.out l.bytes l.now l.id slot there l.host l.out l.taken;
+  midway : (slot : Slot) → (there : named_slot l.fn.host.slots l.id ≡ Some slot)
+      → Midway l.fn.host l.fn.out l.bytes l.now l.id slot there l.host l.out l.taken;
 }
 
 abbrev pub decreases-loop-taken : goal.decreases-loop-taken

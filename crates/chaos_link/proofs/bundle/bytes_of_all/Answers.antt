@@ -12,13 +12,19 @@ loop-packet-preserved c =
     let p = c.packet-item.result in
     let at : slice_get ps i ≡ Some p = search (rules, gets) in
     record {
-      bytes = ap₂ (λ m n. m + n) c.loop-packet.invariant.bytes c.bytes_of-bytes.ensures.bytes ∙ sym (bytes_more ps i p at);
+      bytes =
+          ap₂ (λ m n. m + n) c.loop-packet.invariant.bytes c.bytes_of-bytes.ensures.bytes ∙ sym (bytes_more ps i p at);
       few = omega (arith, c.loop-packet.invariant.few, c.bytes_of-bytes.ensures.few);
       each = each_more ps i p at c.loop-packet.invariant.each c.bytes_of-bytes.ensures.spelled;
     }
 
 pub returns-clause-bytes : goal.returns-clause-bytes
-returns-clause-bytes c = c.loop-packet.invariant.bytes ∙ ap bytes_for (take_all c.loop-packet.packet-index c.args.packets.now (omega (arith, c.loop-packet-test.false)))
+returns-clause-bytes c =
+    c.loop-packet.invariant.bytes
+    ∙ ap bytes_for
+    (take_all c.loop-packet.packet-index c.args.packets.now (omega (arith, c.loop-packet-test.false)))
 
 pub returns-clause-spelled : goal.returns-clause-spelled
-returns-clause-spelled c = all_spelled_in_turn c.args.packets.now c.loop-packet.packet-index (omega (arith, c.loop-packet-test.false)) c.loop-packet.invariant.each
+returns-clause-spelled c =
+    all_spelled_in_turn c.args.packets.now c.loop-packet.packet-index (omega (arith, c.loop-packet-test.false))
+    c.loop-packet.invariant.each

@@ -16,7 +16,8 @@ put_packet-end-requires c small =
     let p = c.packet-item.result in
     let here : slice_get ps i ≡ Some p = search (rules, gets) in
     let more = bytes_more ps i p here in
-    omega (arith, more, bytes_within (i + 1) ps, (fit ps c.requires.fit).bytes, c.loop-packet.invariant.end, c.loop-packet.invariant.size, c.requires.room)
+    omega
+    (arith, more, bytes_within (i + 1) ps, (fit ps c.requires.fit).bytes, c.loop-packet.invariant.end, c.loop-packet.invariant.size, c.requires.room)
 
 pub loop-packet-preserved : goal.loop-packet-preserved
 loop-packet-preserved c =
@@ -27,19 +28,25 @@ loop-packet-preserved c =
     record {
       size = omega (arith, c.put_packet-end.auto.buffer, c.loop-packet.invariant.size);
       end = omega (arith, c.put_packet-end.ensures.end, bytes_more ps i p here, c.loop-packet.invariant.end);
-      bytes = c.put_packet-end.ensures.bytes ∙ ap (λ front. front ++ wire (spelling_of p)) c.loop-packet.invariant.bytes ∙ wire_more (mark_of (length ps)) ps i p here;
+      bytes =
+          c.put_packet-end.ensures.bytes ∙ ap (λ front. front ++ wire (spelling_of p)) c.loop-packet.invariant.bytes
+          ∙ wire_more (mark_of (length ps)) ps i p here;
       each = each_more ps i p here c.loop-packet.invariant.each c.put_packet-end.ensures.spelled;
     }
 
 pub returns-clause-exact : goal.returns-clause-exact
 returns-clause-exact c =
     c.loop-packet.invariant.bytes
-    ∙ ap (λ ps. mark_of (length c.args.packets.now) ++ wire (spelling_of_all ps)) (take_all c.loop-packet.packet-index c.args.packets.now (omega (arith, c.loop-packet-test.false)))
+    ∙ ap (λ ps. mark_of (length c.args.packets.now) ++ wire (spelling_of_all ps))
+    (take_all c.loop-packet.packet-index c.args.packets.now (omega (arith, c.loop-packet-test.false)))
 
 pub returns-clause-carried : goal.returns-clause-carried
 returns-clause-carried c =
     let ps = c.args.packets.now in
-    rw (returns-clause-exact c) (carried_together ps c.requires.fit (all_spelled_in_turn ps c.loop-packet.packet-index (omega (arith, c.loop-packet-test.false)) c.loop-packet.invariant.each))
+    rw (returns-clause-exact c)
+    (carried_together ps c.requires.fit
+    (all_spelled_in_turn ps c.loop-packet.packet-index (omega (arith, c.loop-packet-test.false))
+    c.loop-packet.invariant.each))
 
 pub returns-clause-read : goal.returns-clause-read
 returns-clause-read c = read_two c.args.packets.now _ (returns-clause-carried c)

@@ -10,8 +10,14 @@ returns c =
     let n = c.args.count in
     let ws = c.args.words.now in
     let header = header_read (words_of ws) c.truncate.new.self.items _ _ _ _ _ _ _ _
-    c.word_at.ensures c.word_at-2.ensures c.word_at-3.ensures c.word_at-4.ensures c.word_at-5.ensures c.word_at-6.ensures c.word_at-7.ensures c.word_at-8.ensures in
+    c.word_at.ensures c.word_at-2.ensures c.word_at-3.ensures c.word_at-4.ensures c.word_at-5.ensures
+    c.word_at-6.ensures c.word_at-7.ensures c.word_at-8.ensures in
     let copied : c.truncate.new.self.items ≡ take n c.turn_pairs.new.to =
-    c.truncate.ensures.items ∙ ap (take n) (take_at c.turn_pairs.new.to (drop (length c.turn_pairs.new.to) c.from.result.items) (length c.from.result.items) (omega (arith, c.turn_pairs.auto.to, ap length c.as_mut_slice.ensures.value))) in
+    c.truncate.ensures.items
+    ∙ ap (take n)
+    (take_at c.turn_pairs.new.to (drop (length c.turn_pairs.new.to) c.from.result.items)
+    (length c.from.result.items)
+    (omega (arith, c.turn_pairs.auto.to, ap length c.as_mut_slice.ensures.value))) in
     let part = c.split_at-2.ensures.front ∙ ap (take _) c.split_at.ensures.back in
-    header ∙ ap (packet_with (words_of ws)) copied ∙ data_read ws _ _ n c.requires.count part (omega (arith, c.requires.long)) c.turn_pairs.ensures
+    header ∙ ap (packet_with (words_of ws)) copied
+    ∙ data_read ws _ _ n c.requires.count part (omega (arith, c.requires.long)) c.turn_pairs.ensures

@@ -8,17 +8,23 @@ returns-clause-exact c =
     let written = c.write_datagram-end.new.buffer in
     let room = c.from-datagram.result.items in
     let whole : refill (length room) room written ≡ written =
-    take_at written (drop (length written) room) (length room) (omega (arith, c.write_datagram-end.auto.buffer, ap length c.as_mut_slice.ensures.value)) in
+    take_at written (drop (length written) room) (length room)
+    (omega (arith, c.write_datagram-end.auto.buffer, ap length c.as_mut_slice.ensures.value)) in
     c.truncate.ensures.items ∙ ap (take c.write_datagram-end.result) whole ∙ c.write_datagram-end.ensures.exact
 
 pub returns-clause-carried : goal.returns-clause-carried
-returns-clause-carried c = rw (returns-clause-exact c ∙ sym c.write_datagram-end.ensures.exact) c.write_datagram-end.ensures.carried
+returns-clause-carried c =
+    rw (returns-clause-exact c ∙ sym c.write_datagram-end.ensures.exact) c.write_datagram-end.ensures.carried
 
 pub returns-clause-canonical : goal.returns-clause-canonical
-returns-clause-canonical c = rw (returns-clause-exact c ∙ sym c.write_datagram-end.ensures.exact) c.write_datagram-end.ensures.canonical
+returns-clause-canonical c =
+    rw (returns-clause-exact c ∙ sym c.write_datagram-end.ensures.exact) c.write_datagram-end.ensures.canonical
 
 pub returns-clause-only : goal.returns-clause-only
-returns-clause-only c bs carried canonical = c.write_datagram-end.ensures.only bs carried canonical ∙ c.write_datagram-end.ensures.exact ∙ sym (returns-clause-exact c)
+returns-clause-only c bs carried canonical =
+    c.write_datagram-end.ensures.only bs carried canonical ∙ c.write_datagram-end.ensures.exact
+    ∙ sym (returns-clause-exact c)
 
 pub returns-clause-read : goal.returns-clause-read
-returns-clause-read c = rw (returns-clause-exact c ∙ sym c.write_datagram-end.ensures.exact) c.write_datagram-end.ensures.read
+returns-clause-read c =
+    rw (returns-clause-exact c ∙ sym c.write_datagram-end.ensures.exact) c.write_datagram-end.ensures.read

@@ -10,10 +10,12 @@ pub returns-clause-carried : goal.returns-clause-carried
 returns-clause-carried c = rw (returns-clause-exact c) (carried_spelling c.args.packet.now c.put_packet.ensures.spelled)
 
 pub returns-clause-canonical : goal.returns-clause-canonical
-returns-clause-canonical c = rw (returns-clause-exact c) (canonical_spelling c.args.packet.now c.put_packet.ensures.zero)
+returns-clause-canonical c =
+    rw (returns-clause-exact c) (canonical_spelling c.args.packet.now c.put_packet.ensures.zero)
 
 pub returns-clause-only : goal.returns-clause-only
-returns-clause-only c bs carried canonical = canonical_only c.args.packet.now bs carried canonical ∙ sym (returns-clause-exact c)
+returns-clause-only c bs carried canonical =
+    canonical_only c.args.packet.now bs carried canonical ∙ sym (returns-clause-exact c)
 
 pub returns-clause-read : goal.returns-clause-read
 returns-clause-read c = read_carried c.args.packet.now _ (returns-clause-carried c)

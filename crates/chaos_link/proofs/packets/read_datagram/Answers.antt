@@ -9,15 +9,20 @@ returns-in_err-left-clause-only c packets carried =
     none_carried_as _ _ packets c.args.bytes.now _ (sym c.in_err-left.ensures.exact) carried
 
 pub returns-clause-exact : goal.returns-clause-exact
-returns-clause-exact c = all_taken c.args.bytes.now c.loop-turn.packets.items c.loop-turn.left c.loop-turn.invariant.read (omega (arith, c.loop-turn.invariant.few, c.loop-turn-test.false))
+returns-clause-exact c =
+    all_taken c.args.bytes.now c.loop-turn.packets.items c.loop-turn.left c.loop-turn.invariant.read
+    (omega (arith, c.loop-turn.invariant.few, c.loop-turn-test.false))
 
 pub returns-clause-carried : goal.returns-clause-carried
 returns-clause-carried c =
-    carried_read_all (Ok c.loop-turn.packets.items) c.args.bytes.now (λ i. omega (arith, c.type_inv.bytes i)) (sym (returns-clause-exact c))
+    carried_read_all (Ok c.loop-turn.packets.items) c.args.bytes.now (λ i. omega (arith, c.type_inv.bytes i))
+    (sym (returns-clause-exact c))
 
 pub returns-clause-only : goal.returns-clause-only
 returns-clause-only c packets carried =
-    let same = same_lists c.loop-turn.packets.items packets (sym (returns-clause-exact c) ∙ read_carried_all packets c.args.bytes.now carried) in
+    let same =
+    same_lists c.loop-turn.packets.items packets
+    (sym (returns-clause-exact c) ∙ read_carried_all packets c.args.bytes.now carried) in
     ap (λ (xs : List PacketView). Ok (record { items = xs })) same
 
 pub loop-turn-preserved : goal.loop-turn-preserved
@@ -29,17 +34,26 @@ loop-turn-preserved c =
     omega (arith, ap length rest, length-drop 1 left, c.loop-turn.invariant.few, c.loop-turn-test.true) in
     elim c.match-next.branch [
       | in-Some w ↦
-          let pushed : c.match-next.packets.items ≡ items ++ w.in-Some.packet ∷ [] = ap (λ v. v.items) w.packets-is ∙ w.push.ensures.items in
+          let pushed : c.match-next.packets.items ≡ items ++ w.in-Some.packet ∷ [] =
+          ap (λ v. v.items) w.packets-is ∙ w.push.ensures.items in
           record {
-            read = c.loop-turn.invariant.read ∙ ap ok (one_taken items left w.in-Some.packet w.in-Some.ensures.packet ∙ ap₂ (λ xs ys. xs ++ ys) (sym pushed) (sym rest));
-            taken = omega (arith, ap length pushed, length-append items (w.in-Some.packet ∷ []), c.loop-turn.invariant.taken);
+            read =
+                c.loop-turn.invariant.read
+                ∙ ap ok
+                (one_taken items left w.in-Some.packet w.in-Some.ensures.packet
+                ∙ ap₂ (λ xs ys. xs ++ ys) (sym pushed) (sym rest));
+            taken =
+                omega
+                (arith, ap length pushed, length-append items (w.in-Some.packet ∷ []), c.loop-turn.invariant.taken);
             few = fewer;
           }
       | in_default w ↦
           let none : None ≡ slice_get left 0 = w.in_default.ensures.packet in
           let same : c.match-next.packets.items ≡ items = ap (λ v. v.items) w.packets-is in
           record {
-            read = c.loop-turn.invariant.read ∙ ap ok (ap₂ (λ xs ys. xs ++ ys) (sym same) (none_taken left none ∙ sym rest));
+            read =
+                c.loop-turn.invariant.read
+                ∙ ap ok (ap₂ (λ xs ys. xs ++ ys) (sym same) (none_taken left none ∙ sym rest));
             taken = omega (arith, ap length same, c.loop-turn.invariant.taken);
             few = fewer;
           }

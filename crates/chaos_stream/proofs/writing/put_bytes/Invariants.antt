@@ -6,7 +6,8 @@ use Rattle.chaos_stream.proofs.writing.put_bytes.Given as goal
 abbrev pub invariant-loop-taken : goal.invariant-loop-taken
 invariant-loop-taken l = record {
   within : l.taken ≤ length l.bytes;
-  all : after_taking l.taken (put_of l.conn l.out (drop l.taken l.bytes) l.now) ≡ put_of l.fn.conn l.fn.out l.bytes l.now;
+  all : after_taking l.taken (put_of l.conn l.out (drop l.taken l.bytes) l.now)
+      ≡ put_of l.fn.conn l.fn.out l.bytes l.now;
 }
 
 abbrev pub decreases-loop-taken : goal.decreases-loop-taken

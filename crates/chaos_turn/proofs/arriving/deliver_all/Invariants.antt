@@ -6,7 +6,8 @@ use Rattle.chaos_turn.proofs.arriving.deliver_all.Given as goal
 
 abbrev pub invariant-packets : goal.invariant-packets
 invariant-packets g l =
-    TakenSoFar l.fn.carriage (deliver_effect l.fn.now) l.fn.packets l.packets (station l.fn.host (g.L.Link.queue l.fn.link) l.fn.out)
+    TakenSoFar l.fn.carriage (deliver_effect l.fn.now) l.fn.packets l.packets
+    (station l.fn.host (g.L.Link.queue l.fn.link) l.fn.out)
     (station l.host (g.L.Link.queue l.link) l.out) l.sent
     × (told_after l.told l.packets l.fn.now l.host ≡ told_after l.fn.told l.fn.packets l.fn.now l.fn.host)
 

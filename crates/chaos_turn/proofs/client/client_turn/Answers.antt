@@ -12,7 +12,10 @@ returns-clause-turn g c =
       came = begun.result.came;
       host = sent.ensures.phases.host;
       told = sent.ensures.told;
-      link = goes_over c.args.carriage (station c.args.host.now (queue c.args.link.now) c.args.out.now) (station sent.new.host (queue sent.new.link) sent.new.out)
-          (queue begun.new.link) (client_phases begun.result.came c.args.now c.args.host.now).lots begun.result.came begun.result.worked sent.result c.end_of.result
+      link =
+          goes_over c.args.carriage (station c.args.host.now (queue c.args.link.now) c.args.out.now)
+          (station sent.new.host (queue sent.new.link) sent.new.out)
+          (queue begun.new.link) (client_phases begun.result.came c.args.now c.args.host.now).lots begun.result.came
+          begun.result.worked sent.result c.end_of.result
           begun.ensures.begins sent.ensures.phases.sends sent.ensures.phases.told c.end_of.ensures.work;
     }

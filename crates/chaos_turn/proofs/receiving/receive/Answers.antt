@@ -2,4 +2,6 @@ use Rattle.chaos_turn.proofs.Receipt.{receives}
 use Rattle.chaos_turn.proofs.receiving.receive.Goals as goal
 
 pub returns-in-Got : goal.returns-in-Got
-returns-in-Got g c = receives (g.L.Link.queue c.args.link.now) (g.L.Link.queue c.receive.new.self) _ c.receive.new.buffer c.in-Got.count c.open_datagram.result c.open_datagram.ensures.exact c.in-Got.ensures.queued
+returns-in-Got g c =
+    receives (g.L.Link.queue c.args.link.now) (g.L.Link.queue c.receive.new.self) _ c.receive.new.buffer c.in-Got.count
+    c.open_datagram.result c.open_datagram.ensures.exact c.in-Got.ensures.queued

@@ -4,7 +4,11 @@ use Rattle.chaos_turn.proofs.sending.send_all.Goals as goal
 
 pub returns-then-is_none-clause-sends : goal.returns-then-is_none-clause-sends
 returns-then-is_none-clause-sends g c =
-    none_sends c.args.out.now (sym c.front.ensures ∙ none_lent c.front.result c.is_none.result c.is_none.ensures c.if-is_none.true) c.args.carriage (g.L.Link.queue c.args.link.now)
+    none_sends c.args.out.now
+    (sym c.front.ensures ∙ none_lent c.front.result c.is_none.result c.is_none.ensures c.if-is_none.true)
+    c.args.carriage (g.L.Link.queue c.args.link.now)
 
 pub returns-then-is_none-clause-empty : goal.returns-then-is_none-clause-empty
-returns-then-is_none-clause-empty g c = none_empty c.args.out.now (sym c.front.ensures ∙ none_lent c.front.result c.is_none.result c.is_none.ensures c.if-is_none.true)
+returns-then-is_none-clause-empty g c =
+    none_empty c.args.out.now
+    (sym c.front.ensures ∙ none_lent c.front.result c.is_none.result c.is_none.ensures c.if-is_none.true)

@@ -5,4 +5,5 @@ use Rattle.chaos_turn.proofs.ticking.tick_slots.Given as goal
 
 abbrev pub invariant-loop-place : goal.invariant-loop-place
 invariant-loop-place g l =
-    DoesPhase l.fn.carriage (over_slots (tick_at l.fn.now) l.place l.fn.host) (station l.fn.host (g.L.Link.queue l.fn.link) l.fn.out) (station l.host (g.L.Link.queue l.link) l.out) l.sent
+    DoesPhase l.fn.carriage (over_slots (tick_at l.fn.now) l.place l.fn.host)
+    (station l.fn.host (g.L.Link.queue l.fn.link) l.fn.out) (station l.host (g.L.Link.queue l.link) l.out) l.sent

@@ -18,7 +18,9 @@ loop-name-preserved g c =
 pub returns : goal.returns
 returns g c = (
   c.loop-name.run.goes_on,
-  subst (λ names. Runs g.C.Copier.tries c.args.copier.now (g.T.Teller.told c.args.teller.now) (map (λ name. name.now) names)
+  subst
+      (λ names. Runs g.C.Copier.tries c.args.copier.now (g.T.Teller.told c.args.teller.now)
+      (map (λ name. name.now) names)
       c.loop-name.run.status c.loop-name.run.goes_on c.loop-name.copier (g.T.Teller.told c.loop-name.teller))
       (take_all c.loop-name.name-index c.args.names.now c.loop-name-test.false) c.loop-name.invariant,
 )

@@ -11,17 +11,20 @@ use Rattle.chaosd_copy.proofs.change.delete_file.Goals as goal
 pub returns-clause-done : goal.returns-clause-done
 returns-clause-done g c =
     copied_then _ _ _ (λ e. wanted_heard (λ v. v.items)
-    (λ x. Since (g.T.Talk.talked c.args.talk.now) (g.T.Talk.talked c.ask_one.new.talk) (delete_command c.args.tid c.args.path.now ∷ []) (x ∷ []))
+    (λ x. Since (g.T.Talk.talked c.args.talk.now) (g.T.Talk.talked c.ask_one.new.talk)
+    (delete_command c.args.tid c.args.path.now ∷ []) (x ∷ []))
     c.in_ok-reply.reply _ _ e c.spelled-wanted.ensures c.in_ok-reply.ensures.heard) c.settled.ensures.done
 
 pub returns-clause-waited : goal.returns-clause-waited
 returns-clause-waited g c =
-    unanswered_by (λ v. v.items) c.in_ok-reply.reply _ _ _ c.settled.result _ _ c.settled.ensures.ended c.in_ok-reply.ensures.waited (λ w. (c.args.talk.now, w))
+    unanswered_by (λ v. v.items) c.in_ok-reply.reply _ _ _ c.settled.result _ _ c.settled.ensures.ended
+    c.in_ok-reply.ensures.waited (λ w. (c.args.talk.now, w))
 
 pub returns-clause-ended : goal.returns-clause-ended
 returns-clause-ended g c =
     let a = g.T.Talk.talked c.args.talk.now in
     let b = g.T.Talk.talked c.ask_one.new.talk in
     unless_then c.settled.result _ (EndedAt a b [] (decimal c.args.tid) [] (λ x. x ≡ delete_reply c.args.tid))
-    (λ e. (option_map (λ v. v.items) c.in_ok-reply.reply, c.in_ok-reply.ensures.all, unwanted _ _ _ _ _ _ (λ x _ w. w ∙ sym c.spelled-wanted.ensures) e))
+    (λ e.
+    (option_map (λ v. v.items) c.in_ok-reply.reply, c.in_ok-reply.ensures.all, unwanted _ _ _ _ _ _ (λ x _ w. w ∙ sym c.spelled-wanted.ensures) e))
     c.settled.ensures.ended

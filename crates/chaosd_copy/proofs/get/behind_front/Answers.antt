@@ -7,7 +7,8 @@ pub returns-in_default : goal.returns-in_default
 returns-in_default c = λ more size e.
     elim c.in_default.branch [
       | in_default-via-in-Some+else-more-len w ↦
-          let same : w.in-Some.more.now ≡ more = append_cancel_left c.args.front.now.items w.in-Some.more.now more (sym w.in-Some.ensures ∙ e) in
+          let same : w.in-Some.more.now ≡ more =
+          append_cancel_left c.args.front.now.items w.in-Some.more.now more (sym w.in-Some.ensures ∙ e) in
           let long : length w.in-Some.more.now ≡ c.args.len = ap length same ∙ size in
           w.if-more-len.false long
       | in_default-via-in_default w ↦ w.in_default.ensures more e

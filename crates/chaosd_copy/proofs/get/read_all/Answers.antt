@@ -18,19 +18,31 @@ use Rattle.chaosd_copy.proofs.get.read_all.Goals as goal
 pub loop-i-preserved : goal.loop-i-preserved
 loop-i-preserved g c =
     let p = when_copied _ _ c.in-Done.is c.in_ok-end.ensures.done in
-    let below : MAX_CHUNK * c.loop-i.i < c.args.len = omega (arith, c.chunk_count-count.ensures.value, c.loop-i-test.true) in
+    let below : MAX_CHUNK * c.loop-i.i < c.args.len =
+    omega (arith, c.chunk_count-count.ensures.value, c.loop-i-test.true) in
     let old : length c.loop-i.bytes.items ≡ MAX_CHUNK * c.loop-i.i = c.loop-i.invariant.size ∙ omega arith in
     let size : length p.0 ≡ min (c.args.len - MAX_CHUNK * c.loop-i.i) MAX_CHUNK = p.1 ∙ c.min.ensures in
-    let h : (c.loop-i.flight.heard < c.next_reply.new.flight.said) × (c.next_reply.new.flight.heard ≡ c.loop-i.flight.heard + 1) =
-    wanted_asked (λ v. v.items) ((c.loop-i.flight.heard < c.next_reply.new.flight.said) × (c.next_reply.new.flight.heard ≡ c.loop-i.flight.heard + 1)) c.in_ok-reply.reply _ p.3 c.in_ok-reply.ensures.asked in
+    let h : (c.loop-i.flight.heard < c.next_reply.new.flight.said)
+    × (c.next_reply.new.flight.heard ≡ c.loop-i.flight.heard + 1) =
+    wanted_asked (λ v. v.items)
+    ((c.loop-i.flight.heard < c.next_reply.new.flight.said)
+    × (c.next_reply.new.flight.heard ≡ c.loop-i.flight.heard + 1))
+    c.in_ok-reply.reply _ p.3 c.in_ok-reply.ensures.asked in
     record {
       said = c.in_ok-reply.ensures.within;
       asked = omega (arith, h.0, c.loop-i.invariant.place);
       unfailed = omega (arith, c.in_ok-reply.ensures.unfailed, c.loop-i.invariant.unfailed);
       place = h.1 ∙ ap (λ n. n + 1) c.loop-i.invariant.place;
       size = ap length p.2 ∙ length-append c.loop-i.bytes.items p.0 ∙ omega arith;
-      talk = subst (λ b. Since (g.T.Talk.talked c.args.talk.now) (g.T.Talk.talked c.next_reply.new.talk) (upto (read_said c.args.first) c.next_reply.new.flight.said) (upto (read_heard c.args.first b) (c.loop-i.i + 1))) (sym p.2)
-          (grows _ _ (upto (read_said c.args.first) c.next_reply.new.flight.said) c.args.first c.loop-i.i c.loop-i.bytes.items p.0 _ old (omega arith) (omega arith) p.3 (c.in_ok-reply.ensures.talk _ _ c.loop-i.invariant.talk));
+      talk =
+          subst
+          (λ b. Since (g.T.Talk.talked c.args.talk.now) (g.T.Talk.talked c.next_reply.new.talk)
+          (upto (read_said c.args.first) c.next_reply.new.flight.said)
+          (upto (read_heard c.args.first b) (c.loop-i.i + 1)))
+          (sym p.2)
+          (grows _ _ (upto (read_said c.args.first) c.next_reply.new.flight.said) c.args.first c.loop-i.i
+          c.loop-i.bytes.items p.0 _ old (omega arith) (omega arith) p.3
+          (c.in_ok-reply.ensures.talk _ _ c.loop-i.invariant.talk));
     }
 
 pub returns-clause-done : goal.returns-clause-done
@@ -39,41 +51,70 @@ returns-clause-done g c =
     let k : c.chunk_count-count.result ≡ chunk_count c.args.len = c.chunk_count-count.ensures.value in
     let all : min (MAX_CHUNK * c.loop-i.i) c.args.len ≡ c.args.len = omega arith in
     let size : length c.loop-i.bytes.items ≡ c.args.len = c.loop-i.invariant.size ∙ all in
-    from_copied c.settled.result _ ((length c.loop-i.bytes.items ≡ c.args.len) × Since (g.T.Talk.talked c.args.talk.now) (g.T.Talk.talked c.next_reply-2.new.talk)
-    (upto (read_said c.args.first) (1 + chunk_count c.args.len)) (upto (read_heard c.args.first c.loop-i.bytes.items) (1 + chunk_count c.args.len)))
+    from_copied c.settled.result _
+    ((length c.loop-i.bytes.items ≡ c.args.len)
+    × Since (g.T.Talk.talked c.args.talk.now) (g.T.Talk.talked c.next_reply-2.new.talk)
+    (upto (read_said c.args.first) (1 + chunk_count c.args.len))
+    (upto (read_heard c.args.first c.loop-i.bytes.items) (1 + chunk_count c.args.len)))
     c.settled.ensures.done (λ e.
-    let h : (c.loop-i.flight.heard < c.next_reply-2.new.flight.said) × (c.next_reply-2.new.flight.heard ≡ c.loop-i.flight.heard + 1) = wanted_asked (λ v. v.items) ((c.loop-i.flight.heard < c.next_reply-2.new.flight.said) × (c.next_reply-2.new.flight.heard ≡ c.loop-i.flight.heard + 1)) c.in_ok-last.last _ e c.in_ok-last.ensures.asked in
-    let asked : c.chunk_count-count.result < c.next_reply-2.new.flight.said = omega (arith, h.0, c.loop-i.invariant.place, n) in
+    let h : (c.loop-i.flight.heard < c.next_reply-2.new.flight.said)
+    × (c.next_reply-2.new.flight.heard ≡ c.loop-i.flight.heard + 1) =
+    wanted_asked (λ v. v.items)
+    ((c.loop-i.flight.heard < c.next_reply-2.new.flight.said)
+    × (c.next_reply-2.new.flight.heard ≡ c.loop-i.flight.heard + 1))
+    c.in_ok-last.last _ e c.in_ok-last.ensures.asked in
+    let asked : c.chunk_count-count.result < c.next_reply-2.new.flight.said =
+    omega (arith, h.0, c.loop-i.invariant.place, n) in
     let within : c.next_reply-2.new.flight.said ≤ 1 + c.chunk_count-count.result = c.in_ok-last.ensures.within in
     let said : c.next_reply-2.new.flight.said ≡ 1 + chunk_count c.args.len = omega arith in
     let heard : c.loop-i.i + 1 ≡ 1 + chunk_count c.args.len = omega arith in (
       size,
-      subst (λ m. Since (g.T.Talk.talked c.args.talk.now) (g.T.Talk.talked c.next_reply-2.new.talk) (upto (read_said c.args.first) m) (upto (read_heard c.args.first c.loop-i.bytes.items) (1 + chunk_count c.args.len))) said
-          (subst (λ m. Since (g.T.Talk.talked c.args.talk.now) (g.T.Talk.talked c.next_reply-2.new.talk) (upto (read_said c.args.first) c.next_reply-2.new.flight.said) (upto (read_heard c.args.first c.loop-i.bytes.items) m)) heard
-          (ends _ _ (upto (read_said c.args.first) c.next_reply-2.new.flight.said) c.args.first c.loop-i.bytes.items c.loop-i.i _ (omega arith)
-          (e ∙ ap Some (c.spelled-wanted.ensures ∙ ap (λ m. reply_of (decimal (c.args.first + m)) file_handle AtEnd) (sym n)))
+      subst
+          (λ m. Since (g.T.Talk.talked c.args.talk.now) (g.T.Talk.talked c.next_reply-2.new.talk)
+          (upto (read_said c.args.first) m)
+          (upto (read_heard c.args.first c.loop-i.bytes.items) (1 + chunk_count c.args.len)))
+          said
+          (subst
+          (λ m. Since (g.T.Talk.talked c.args.talk.now) (g.T.Talk.talked c.next_reply-2.new.talk)
+          (upto (read_said c.args.first) c.next_reply-2.new.flight.said)
+          (upto (read_heard c.args.first c.loop-i.bytes.items) m))
+          heard
+          (ends _ _ (upto (read_said c.args.first) c.next_reply-2.new.flight.said) c.args.first c.loop-i.bytes.items
+          c.loop-i.i _ (omega arith)
+          (e
+          ∙ ap Some
+          (c.spelled-wanted.ensures
+          ∙ ap (λ m. reply_of (decimal (c.args.first + m)) file_handle AtEnd) (sym n)))
           (c.in_ok-last.ensures.talk _ _ c.loop-i.invariant.talk))),
     ))
 
 pub returns-in_err-reply-clause-said : goal.returns-in_err-reply-clause-said
 returns-in_err-reply-clause-said g c =
-    said_up_to _ _ (read_said c.args.first) c.next_reply.new.flight.said (1 + c.chunk_count-count.result) _ _ c.next_reply.ensures.within (ap (λ n. 1 + n) c.chunk_count-count.ensures.value)
+    said_up_to _ _ (read_said c.args.first) c.next_reply.new.flight.said (1 + c.chunk_count-count.result) _ _
+    c.next_reply.ensures.within (ap (λ n. 1 + n) c.chunk_count-count.ensures.value)
     (c.in_err-reply.ensures.fault _ _ c.loop-i.invariant.talk)
 
 pub returns-in_err-end-clause-said : goal.returns-in_err-end-clause-said
 returns-in_err-end-clause-said g c =
-    said_up_to _ _ (read_said c.args.first) c.next_reply.new.flight.said (1 + c.chunk_count-count.result) _ _ c.next_reply.ensures.within (ap (λ n. 1 + n) c.chunk_count-count.ensures.value)
+    said_up_to _ _ (read_said c.args.first) c.next_reply.new.flight.said (1 + c.chunk_count-count.result) _ _
+    c.next_reply.ensures.within (ap (λ n. 1 + n) c.chunk_count-count.ensures.value)
     (c.in_ok-reply.ensures.talk _ _ c.loop-i.invariant.talk)
 
 pub returns-in_default : goal.returns-in_default
 returns-in_default g c = record {
-  said = said_up_to _ _ (read_said c.args.first) c.next_reply.new.flight.said (1 + c.chunk_count-count.result) _ _ c.next_reply.ensures.within (ap (λ n. 1 + n) c.chunk_count-count.ensures.value)
+  said =
+      said_up_to _ _ (read_said c.args.first) c.next_reply.new.flight.said (1 + c.chunk_count-count.result) _ _
+      c.next_reply.ensures.within (ap (λ n. 1 + n) c.chunk_count-count.ensures.value)
       (c.in_ok-reply.ensures.talk _ _ c.loop-i.invariant.talk);
   done = search rules;
-  ended = piece_not_done _ _ _ c.args.first c.args.len c.loop-i.i _ c.loop-i.bytes.items c.take_piece.new.bytes.items _ c.in_ok-end.end (omega (arith, c.loop-i-test.true, c.chunk_count-count.ensures.value))
+  ended =
+      piece_not_done _ _ _ c.args.first c.args.len c.loop-i.i _ c.loop-i.bytes.items c.take_piece.new.bytes.items _
+      c.in_ok-end.end (omega (arith, c.loop-i-test.true, c.chunk_count-count.ensures.value))
       c.min.ensures
       (c.in_ok-reply.ensures.talk _ _ c.loop-i.invariant.talk) c.in_ok-end.ensures.ended;
-  waited = unanswered_by (λ v. v.items) c.in_ok-reply.reply _ _ _ c.in_ok-end.end _ _ (unless_then c.in_ok-end.end _ _ (λ k. k.1) c.in_ok-end.ensures.ended) c.in_ok-reply.ensures.waited
+  waited =
+      unanswered_by (λ v. v.items) c.in_ok-reply.reply _ _ _ c.in_ok-end.end _ _
+      (unless_then c.in_ok-end.end _ _ (λ k. k.1) c.in_ok-end.ensures.ended) c.in_ok-reply.ensures.waited
       (λ w. (c.loop-i.talk, w));
   unfailed = omega (arith, c.in_ok-reply.ensures.unfailed, c.loop-i.invariant.unfailed);
   faults = tt;
@@ -81,21 +122,30 @@ returns-in_default g c = record {
 
 pub returns-in_err-last-clause-said : goal.returns-in_err-last-clause-said
 returns-in_err-last-clause-said g c =
-    said_up_to _ _ (read_said c.args.first) c.next_reply-2.new.flight.said (1 + c.chunk_count-count.result) _ _ c.next_reply-2.ensures.within (ap (λ n. 1 + n) c.chunk_count-count.ensures.value)
+    said_up_to _ _ (read_said c.args.first) c.next_reply-2.new.flight.said (1 + c.chunk_count-count.result) _ _
+    c.next_reply-2.ensures.within (ap (λ n. 1 + n) c.chunk_count-count.ensures.value)
     (c.in_err-last.ensures.fault _ _ c.loop-i.invariant.talk)
 
 pub returns-clause-said : goal.returns-clause-said
 returns-clause-said g c =
-    said_up_to _ _ (read_said c.args.first) c.next_reply-2.new.flight.said (1 + c.chunk_count-count.result) _ _ c.next_reply-2.ensures.within (ap (λ n. 1 + n) c.chunk_count-count.ensures.value)
+    said_up_to _ _ (read_said c.args.first) c.next_reply-2.new.flight.said (1 + c.chunk_count-count.result) _ _
+    c.next_reply-2.ensures.within (ap (λ n. 1 + n) c.chunk_count-count.ensures.value)
     (c.in_ok-last.ensures.talk _ _ c.loop-i.invariant.talk)
 
 pub returns-clause-ended : goal.returns-clause-ended
 returns-clause-ended g c =
     let n : c.loop-i.i ≡ c.chunk_count-count.result = search rules in
-    reads_not_done _ _ _ c.args.first c.args.len c.chunk_count-count.result c.loop-i.bytes.items _ _ c.settled.result c.chunk_count-count.ensures.value c.spelled-wanted.ensures
-    (subst (λ m. Since (g.T.Talk.talked c.args.talk.now) (g.T.Talk.talked c.next_reply-2.new.talk) (upto (read_said c.args.first) c.next_reply-2.new.flight.said) (upto (read_heard c.args.first c.loop-i.bytes.items) m ++ heard_in (option_map (λ v. v.items) c.in_ok-last.last))) n
+    reads_not_done _ _ _ c.args.first c.args.len c.chunk_count-count.result c.loop-i.bytes.items _ _ c.settled.result
+    c.chunk_count-count.ensures.value c.spelled-wanted.ensures
+    (subst
+    (λ m. Since (g.T.Talk.talked c.args.talk.now) (g.T.Talk.talked c.next_reply-2.new.talk)
+    (upto (read_said c.args.first) c.next_reply-2.new.flight.said)
+    (upto (read_heard c.args.first c.loop-i.bytes.items) m
+    ++ heard_in (option_map (λ v. v.items) c.in_ok-last.last)))
+    n
     (c.in_ok-last.ensures.talk _ _ c.loop-i.invariant.talk)) c.settled.ensures.ended
 
 pub returns-clause-waited : goal.returns-clause-waited
 returns-clause-waited g c =
-    unanswered_by (λ v. v.items) c.in_ok-last.last _ _ _ c.settled.result _ _ c.settled.ensures.ended c.in_ok-last.ensures.waited (λ w. (c.loop-i.talk, w))
+    unanswered_by (λ v. v.items) c.in_ok-last.last _ _ _ c.settled.result _ _ c.settled.ensures.ended
+    c.in_ok-last.ensures.waited (λ w. (c.loop-i.talk, w))

@@ -14,5 +14,6 @@ invariant-loop-i g l = record {
   place : l.flight.heard ≡ l.i;
   unfailed : (g.T.Talk.course l.talk).failures ≤ (g.T.Talk.course l.fn.talk).failures;
   size : length l.bytes.items ≡ min (MAX_CHUNK * l.i) l.len;
-  talk : Since (g.T.Talk.talked l.fn.talk) (g.T.Talk.talked l.talk) (upto (row_command l.row) l.flight.said) (upto (read_heard l.first l.bytes.items) l.i);
+  talk : Since (g.T.Talk.talked l.fn.talk) (g.T.Talk.talked l.talk) (upto (row_command l.row) l.flight.said)
+      (upto (read_heard l.first l.bytes.items) l.i);
 }

@@ -13,32 +13,54 @@ use Rattle.chaosd_copy.proofs.put.write_all.Goals as goal
 pub loop-i-preserved : goal.loop-i-preserved
 loop-i-preserved g c = record {
   said = c.in_ok-reply.ensures.within;
-  asked = let h : (c.loop-i.flight.heard < c.next_reply.new.flight.said) × (c.next_reply.new.flight.heard ≡ c.loop-i.flight.heard + 1) = wanted_asked (λ v. v.items) ((c.loop-i.flight.heard < c.next_reply.new.flight.said) × (c.next_reply.new.flight.heard ≡ c.loop-i.flight.heard + 1)) c.in_ok-reply.reply _ c.in-Done.ensures.done c.in_ok-reply.ensures.asked in omega (arith, h.0, c.loop-i.invariant.place);
+  asked =
+      let h : (c.loop-i.flight.heard < c.next_reply.new.flight.said)
+      × (c.next_reply.new.flight.heard ≡ c.loop-i.flight.heard + 1) = wanted_asked (λ v. v.items)
+      ((c.loop-i.flight.heard < c.next_reply.new.flight.said)
+      × (c.next_reply.new.flight.heard ≡ c.loop-i.flight.heard + 1))
+      c.in_ok-reply.reply _ c.in-Done.ensures.done c.in_ok-reply.ensures.asked in omega
+      (arith, h.0, c.loop-i.invariant.place);
   unfailed = omega (arith, c.in_ok-reply.ensures.unfailed, c.loop-i.invariant.unfailed);
-  place = let h : (c.loop-i.flight.heard < c.next_reply.new.flight.said) × (c.next_reply.new.flight.heard ≡ c.loop-i.flight.heard + 1) = wanted_asked (λ v. v.items) ((c.loop-i.flight.heard < c.next_reply.new.flight.said) × (c.next_reply.new.flight.heard ≡ c.loop-i.flight.heard + 1)) c.in_ok-reply.reply _ c.in-Done.ensures.done c.in_ok-reply.ensures.asked in h.1 ∙ ap (λ n. n + 1) c.loop-i.invariant.place;
+  place =
+      let h : (c.loop-i.flight.heard < c.next_reply.new.flight.said)
+      × (c.next_reply.new.flight.heard ≡ c.loop-i.flight.heard + 1) = wanted_asked (λ v. v.items)
+      ((c.loop-i.flight.heard < c.next_reply.new.flight.said)
+      × (c.next_reply.new.flight.heard ≡ c.loop-i.flight.heard + 1))
+      c.in_ok-reply.reply _ c.in-Done.ensures.done c.in_ok-reply.ensures.asked in h.1
+      ∙ ap (λ n. n + 1) c.loop-i.invariant.place;
   talk = heard_at _ _ _ (write_heard c.args.first c.args.bytes.now) c.loop-i.i _ _ c.in-Done.ensures.done
-      (c.counted-wanted.ensures ∙ ap (λ n. reply_of (decimal (c.args.first + c.loop-i.i)) file_handle (Wrote n)) c.min.ensures)
+      (c.counted-wanted.ensures
+      ∙ ap (λ n. reply_of (decimal (c.args.first + c.loop-i.i)) file_handle (Wrote n)) c.min.ensures)
       (c.in_ok-reply.ensures.talk _ _ c.loop-i.invariant.talk);
 }
 
 pub returns-in_err-reply-clause-said : goal.returns-in_err-reply-clause-said
 returns-in_err-reply-clause-said g c =
-    said_up_to _ _ (write_said c.args.first c.args.bytes.now) c.next_reply.new.flight.said c.chunk_count-count.result _ _ c.next_reply.ensures.within c.chunk_count-count.ensures.value
+    said_up_to _ _ (write_said c.args.first c.args.bytes.now) c.next_reply.new.flight.said c.chunk_count-count.result _
+    _ c.next_reply.ensures.within c.chunk_count-count.ensures.value
     (c.in_err-reply.ensures.fault _ _ c.loop-i.invariant.talk)
 
 pub returns-in_default : goal.returns-in_default
 returns-in_default g c = record {
-  said = said_up_to _ _ (write_said c.args.first c.args.bytes.now) c.next_reply.new.flight.said c.chunk_count-count.result _ _ c.next_reply.ensures.within c.chunk_count-count.ensures.value
+  said =
+      said_up_to _ _ (write_said c.args.first c.args.bytes.now) c.next_reply.new.flight.said c.chunk_count-count.result
+      _ _ c.next_reply.ensures.within c.chunk_count-count.ensures.value
       (c.in_ok-reply.ensures.talk _ _ c.loop-i.invariant.talk);
   done = search rules;
-  ended = writes_not_done _ _ _ c.args.first c.loop-i.i c.args.bytes.now _ _ c.settled.result (omega (arith, c.loop-i-test.true, c.chunk_count-count.ensures.value))
-      (c.counted-wanted.ensures ∙ ap (λ n. reply_of (decimal (c.args.first + c.loop-i.i)) file_handle (Wrote n)) c.min.ensures)
+  ended =
+      writes_not_done _ _ _ c.args.first c.loop-i.i c.args.bytes.now _ _ c.settled.result
+      (omega (arith, c.loop-i-test.true, c.chunk_count-count.ensures.value))
+      (c.counted-wanted.ensures
+      ∙ ap (λ n. reply_of (decimal (c.args.first + c.loop-i.i)) file_handle (Wrote n)) c.min.ensures)
       (c.in_ok-reply.ensures.talk _ _ c.loop-i.invariant.talk) c.settled.ensures.ended;
-  waited = unanswered_by (λ v. v.items) c.in_ok-reply.reply _ _ _ c.settled.result _ _ c.settled.ensures.ended c.in_ok-reply.ensures.waited (λ w. (c.loop-i.talk, w));
+  waited =
+      unanswered_by (λ v. v.items) c.in_ok-reply.reply _ _ _ c.settled.result _ _ c.settled.ensures.ended
+      c.in_ok-reply.ensures.waited (λ w. (c.loop-i.talk, w));
   unfailed = omega (arith, c.in_ok-reply.ensures.unfailed, c.loop-i.invariant.unfailed);
   faults = tt;
 }
 
 pub returns-clause-said : goal.returns-clause-said
 returns-clause-said g c =
-    said_up_to _ _ (write_said c.args.first c.args.bytes.now) c.loop-i.flight.said c.chunk_count-count.result _ _ c.loop-i.invariant.said c.chunk_count-count.ensures.value c.loop-i.invariant.talk
+    said_up_to _ _ (write_said c.args.first c.args.bytes.now) c.loop-i.flight.said c.chunk_count-count.result _ _
+    c.loop-i.invariant.said c.chunk_count-count.ensures.value c.loop-i.invariant.talk

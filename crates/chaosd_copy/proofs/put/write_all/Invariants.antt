@@ -11,5 +11,6 @@ invariant-loop-i g l = record {
   asked : l.i ≤ l.flight.said;
   place : l.flight.heard ≡ l.i;
   unfailed : (g.T.Talk.course l.talk).failures ≤ (g.T.Talk.course l.fn.talk).failures;
-  talk : Since (g.T.Talk.talked l.fn.talk) (g.T.Talk.talked l.talk) (upto (row_command l.row) l.flight.said) (upto (write_heard l.first l.bytes) l.i);
+  talk : Since (g.T.Talk.talked l.fn.talk) (g.T.Talk.talked l.talk) (upto (row_command l.row) l.flight.said)
+      (upto (write_heard l.first l.bytes) l.i);
 }

@@ -9,24 +9,29 @@ use Rattle.chaosd_copy.proofs.window.ask_telling.Goals as goal
 pub returns-clause-heard : goal.returns-clause-heard
 returns-clause-heard g c =
     let e : c.args.tid + 0 ≡ c.args.tid = omega arith in
-    asked_one (λ v. v.items) _ _ _ _ _ (errand_command c.args.errand 0 c.args.tid) c.next_reply-reply.result (ap (errand_command c.args.errand 0) e)
+    asked_one (λ v. v.items) _ _ _ _ _ (errand_command c.args.errand 0 c.args.tid) c.next_reply-reply.result
+    (ap (errand_command c.args.errand 0) e)
     c.next_reply-reply.ensures.asked c.next_reply-reply.ensures.within
     (c.next_reply-reply.ensures.talk (g.T.Talk.talked c.args.talk.now) [] (since_none _))
 
 pub returns-clause-said : goal.returns-clause-said
 returns-clause-said g c =
     let e : c.args.tid + 0 ≡ c.args.tid = omega arith in
-    asked_or_not (λ v. v.items) _ _ _ _ (errand_command c.args.errand 0 c.args.tid) c.next_reply-reply.result (ap (errand_command c.args.errand 0) e)
+    asked_or_not (λ v. v.items) _ _ _ _ (errand_command c.args.errand 0 c.args.tid) c.next_reply-reply.result
+    (ap (errand_command c.args.errand 0) e)
     c.next_reply-reply.ensures.within
     (c.next_reply-reply.ensures.talk (g.T.Talk.talked c.args.talk.now) [] (since_none _))
     (c.next_reply-reply.ensures.fault (g.T.Talk.talked c.args.talk.now) [] (since_none _))
 
 pub returns-clause-all : goal.returns-clause-all
-returns-clause-all g c = heard_ok (λ v. v.items) _ _ _ c.next_reply-reply.result (c.next_reply-reply.ensures.talk (g.T.Talk.talked c.args.talk.now) [] (since_none _))
+returns-clause-all g c =
+    heard_ok (λ v. v.items) _ _ _ c.next_reply-reply.result
+    (c.next_reply-reply.ensures.talk (g.T.Talk.talked c.args.talk.now) [] (since_none _))
 
 pub returns-clause-known : goal.returns-clause-known
 returns-clause-known g c =
     let e : c.args.tid + 0 ≡ c.args.tid = omega arith in
-    known (λ v. v.items) _ _ _ c.next_reply-reply.new.flight.said _ (errand_command c.args.errand 0 c.args.tid) c.next_reply-reply.result (ap (errand_command c.args.errand 0) e)
+    known (λ v. v.items) _ _ _ c.next_reply-reply.new.flight.said _ (errand_command c.args.errand 0 c.args.tid)
+    c.next_reply-reply.result (ap (errand_command c.args.errand 0) e)
     c.next_reply-reply.ensures.within (λ h. grind (arith, h)) (λ h. grind (arith, h))
     (c.next_reply-reply.ensures.talk (g.T.Talk.talked c.args.talk.now) [] (since_none _))

@@ -9,9 +9,11 @@ use Rattle.chaosd_copy.proofs.window.log_in.Goals as goal
 pub returns-clause-done : goal.returns-clause-done
 returns-clause-done g c =
     copied_then _ _ _ (λ e. wanted_heard (λ v. v.items)
-    (λ x. Since (g.T.Talk.talked c.args.talk.now) (g.T.Talk.talked c.ask_one.new.talk) (login_command c.args.name.now ∷ []) (x ∷ []))
+    (λ x. Since (g.T.Talk.talked c.args.talk.now) (g.T.Talk.talked c.ask_one.new.talk)
+    (login_command c.args.name.now ∷ []) (x ∷ []))
     c.in_ok-reply.reply _ _ e c.spelled-wanted.ensures c.in_ok-reply.ensures.heard) c.settled.ensures.done
 
 pub returns-clause-waited : goal.returns-clause-waited
 returns-clause-waited g c =
-    unanswered_by (λ v. v.items) c.in_ok-reply.reply _ _ _ c.settled.result _ _ c.settled.ensures.ended c.in_ok-reply.ensures.waited (λ w. (c.args.talk.now, w))
+    unanswered_by (λ v. v.items) c.in_ok-reply.reply _ _ _ c.settled.result _ _ c.settled.ensures.ended
+    c.in_ok-reply.ensures.waited (λ w. (c.args.talk.now, w))

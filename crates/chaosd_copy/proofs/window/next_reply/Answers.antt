@@ -7,12 +7,15 @@ use Rattle.chaosd_copy.proofs.window.next_reply.Goals.{then-is_over-via-then-is_
 
 pub returns-in-Some-clause-talk : goal.returns-in-Some-clause-talk
 returns-in-Some-clause-talk g c = λ start replies h.
-    heard_next (λ v. v.items) start _ _ _ replies c.hear_asked.result c.in-Some.reply (c.loop-turns.invariant.talk start replies h) c.hear_asked.ensures.talk c.in-Some.is
+    heard_next (λ v. v.items) start _ _ _ replies c.hear_asked.result c.in-Some.reply
+    (c.loop-turns.invariant.talk start replies h) c.hear_asked.ensures.talk c.in-Some.is
 
 pub returns-then-is_over-clause-talk : goal.returns-then-is_over-clause-talk
 returns-then-is_over-clause-talk g c = λ start replies h.
     let none : c.hear_asked.result ≡ None = search rules in
-    nothing_more start _ _ replies (heard_none (λ v. v.items) start _ _ _ replies c.hear_asked.result (c.loop-turns.invariant.talk start replies h) c.hear_asked.ensures.talk none)
+    nothing_more start _ _ replies
+    (heard_none (λ v. v.items) start _ _ _ replies c.hear_asked.result (c.loop-turns.invariant.talk start replies h)
+    c.hear_asked.ensures.talk none)
 
 pub loop-turns-preserved : goal.loop-turns-preserved
 loop-turns-preserved g c =
@@ -21,21 +24,30 @@ loop-turns-preserved g c =
       within = c.say_on.ensures.within;
       place = c.say_on.ensures.place ∙ c.loop-turns.invariant.place;
       talk = λ start replies h. c.turn.ensures.silent ∙ c.say_on.ensures.talk start replies
-          (heard_none (λ v. v.items) start _ _ _ replies c.hear_asked.result (c.loop-turns.invariant.talk start replies h) c.hear_asked.ensures.talk none);
-      quiet = ap heard_of c.turn.ensures.silent ∙ c.say_on.ensures.quiet ∙ unheard_is_quiet (λ v. v.items) c.hear_asked.result _ _ none c.hear_asked.ensures.talk
+          (heard_none (λ v. v.items) start _ _ _ replies c.hear_asked.result
+          (c.loop-turns.invariant.talk start replies h) c.hear_asked.ensures.talk none);
+      quiet =
+          ap heard_of c.turn.ensures.silent ∙ c.say_on.ensures.quiet
+          ∙ unheard_is_quiet (λ v. v.items) c.hear_asked.result _ _ none c.hear_asked.ensures.talk
           ∙ c.loop-turns.invariant.quiet;
-      unfailed = omega (arith, c.in_ok-turn.ensures.unfailed, c.say_on.ensures.unfailed, c.hear_asked.ensures.unfailed, c.loop-turns.invariant.unfailed);
+      unfailed =
+          omega
+          (arith, c.in_ok-turn.ensures.unfailed, c.say_on.ensures.unfailed, c.hear_asked.ensures.unfailed, c.loop-turns.invariant.unfailed);
       turned = turned_more _ _ _ _ c.loop-turns.invariant.turned
-          (subst (λ b. Turned 1 b (g.T.Talk.course c.turn.new.self).turns) (c.say_on.ensures.still ∙ c.hear_asked.ensures.still) c.turn.ensures.counted);
+          (subst (λ b. Turned 1 b (g.T.Talk.course c.turn.new.self).turns)
+          (c.say_on.ensures.still ∙ c.hear_asked.ensures.still) c.turn.ensures.counted);
     }
 
 pub returns-then-is_over-clause-waited : goal.returns-then-is_over-clause-waited
 returns-then-is_over-clause-waited g c =
     let none : c.hear_asked.result ≡ None = search rules in (
-      unheard_is_quiet (λ v. v.items) c.hear_asked.result _ _ none c.hear_asked.ensures.talk ∙ c.loop-turns.invariant.quiet,
+      unheard_is_quiet (λ v. v.items) c.hear_asked.result _ _ none c.hear_asked.ensures.talk
+          ∙ c.loop-turns.invariant.quiet,
       elim c.then-is_over.branch [
         | then-is_over-via-then-is_over w ↦ inl (sym c.is_over.ensures ∙ w.if-is_over.true)
-        | then-is_over-via-else-is_over+then-is_late w ↦ inr (late _ _ _ _ _ _ _ c.loop-turns.invariant.turned c.hear_asked.ensures.still c.moment-since.ensures (w.is_late.ensures w.if-is_late.true))
+        | then-is_over-via-else-is_over+then-is_late w ↦ inr
+            (late _ _ _ _ _ _ _ c.loop-turns.invariant.turned c.hear_asked.ensures.still c.moment-since.ensures
+            (w.is_late.ensures w.if-is_late.true))
       ],
     )
 
@@ -45,10 +57,12 @@ returns-clause-waited g c =
     (c.loop-turns.invariant.quiet, inr (latest _ _ _ _ _ c.loop-turns.invariant.turned all))
 
 pub returns-clause-talk : goal.returns-clause-talk
-returns-clause-talk g c = λ start replies h. nothing_more start _ _ replies (c.loop-turns.invariant.talk start replies h)
+returns-clause-talk g c =
+    λ start replies h. nothing_more start _ _ replies (c.loop-turns.invariant.talk start replies h)
 
 pub returns-in_err-turn-clause-fault : goal.returns-in_err-turn-clause-fault
 returns-in_err-turn-clause-fault g c = λ start replies h.
     let none : c.hear_asked.result ≡ None = search rules in
     on_err c.from_residual.result _ (c.turn.ensures.silent ∙ c.say_on.ensures.talk start replies
-    (heard_none (λ v. v.items) start _ _ _ replies c.hear_asked.result (c.loop-turns.invariant.talk start replies h) c.hear_asked.ensures.talk none))
+    (heard_none (λ v. v.items) start _ _ _ replies c.hear_asked.result (c.loop-turns.invariant.talk start replies h)
+    c.hear_asked.ensures.talk none))

@@ -15,7 +15,8 @@ pub loop-i-preserved : goal.loop-i-preserved
 loop-i-preserved g c = record {
   talk = λ start replies h.
       let yes : c.say.result ≡ true = search rules in
-      said_next start _ _ (row_command c.args.row.now) c.loop-i.i replies c.say.result _ (c.loop-i.invariant.talk start replies h) c.say.ensures.said yes
+      said_next start _ _ (row_command c.args.row.now) c.loop-i.i replies c.say.result _
+      (c.loop-i.invariant.talk start replies h) c.say.ensures.said yes
       (c.as_slice.ensures.value ∙ c.command-command.ensures);
   quiet = quiet_say _ _ _ _ _ c.loop-i.invariant.quiet c.say.ensures.said;
   still = c.say.ensures.still ∙ c.loop-i.invariant.still;
@@ -28,4 +29,5 @@ returns-then-not-say-clause-quiet g c = quiet_say _ _ _ _ _ c.loop-i.invariant.q
 pub returns-clause-talk : goal.returns-clause-talk
 returns-clause-talk g c = λ start replies h.
     let e : c.loop-i.i ≡ c.args.most = search rules in
-    subst (λ n. Since start (g.T.Talk.talked c.loop-i.talk) (upto (row_command c.args.row.now) n) replies) e (c.loop-i.invariant.talk start replies h)
+    subst (λ n. Since start (g.T.Talk.talked c.loop-i.talk) (upto (row_command c.args.row.now) n) replies) e
+    (c.loop-i.invariant.talk start replies h)

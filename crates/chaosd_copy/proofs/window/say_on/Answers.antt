@@ -6,5 +6,6 @@ use Rattle.chaosd_copy.proofs.window.say_on.Goals as goal
 
 pub returns-clause-talk : goal.returns-clause-talk
 returns-clause-talk g c = λ start replies h.
-    subst (λ n. Since start (g.T.Talk.talked c.say_more-said.new.talk) (upto (row_command c.args.row.now) n) replies) (sym c.note.ensures.said)
+    subst (λ n. Since start (g.T.Talk.talked c.say_more-said.new.talk) (upto (row_command c.args.row.now) n) replies)
+    (sym c.note.ensures.said)
     (c.say_more-said.ensures.talk start replies h)

@@ -24,17 +24,26 @@ pub returns-in_err-ask_line-clause-runs : goal.returns-in_err-ask_line-clause-ru
 returns-in_err-ask_line-clause-runs g c =
     let p = err_from_is_err_and c.from_residual.result c.from_residual.ensures.1 in
     let (given, asked, gives) = c.lines.invariant.asked in
-    rw (p.1, p.2) (line_runs _ (g.T.Turns.pace (g.T.Turns.time c.lines.turns)) _ _ (talker c.ask_line.new.client.caller (g.T.Turns.queue c.ask_line.new.turns)) _ _ _ _ _ c.lines.replied given _ c.in_err-ask_line.field-0.0 asked (next_is _ _ given _ _ c.line-line.ensures (c.lines-test.ensures.given _ _ _ given gives)) c.in_err-ask_line.ensures.asks)
+    rw (p.1, p.2)
+    (line_runs _ (g.T.Turns.pace (g.T.Turns.time c.lines.turns)) _ _
+    (talker c.ask_line.new.client.caller (g.T.Turns.queue c.ask_line.new.turns)) _ _ _ _ _ c.lines.replied given
+    _ c.in_err-ask_line.field-0.0 asked
+    (next_is _ _ given _ _ c.line-line.ensures (c.lines-test.ensures.given _ _ _ given gives))
+    c.in_err-ask_line.ensures.asks)
 
 pub returns-then-not-branch-clause-runs : goal.returns-then-not-branch-clause-runs
 returns-then-not-branch-clause-runs g c =
     let (given, asked, gives) = c.lines.invariant.asked in
-    ran_in_part _ _ _ _ _ _ _ _ _ c.lines.replied given _ asked (next_is _ _ given _ _ c.line-line.ensures (c.lines-test.ensures.given _ _ _ given gives)) (rw (c.if-not-branch.true, c.lines.invariant.same_time) at c.in_ok-ask_line.ensures.asks)
+    ran_in_part _ _ _ _ _ _ _ _ _ c.lines.replied given _ asked
+    (next_is _ _ given _ _ c.line-line.ensures (c.lines-test.ensures.given _ _ _ given gives))
+    (rw (c.if-not-branch.true, c.lines.invariant.same_time) at c.in_ok-ask_line.ensures.asks)
 
 pub returns-then-not-branch-clause-talk : goal.returns-then-not-branch-clause-talk
 returns-then-not-branch-clause-talk g c =
     let (given, asked, gives) = c.lines.invariant.asked in
-    asks_in_part _ _ _ _ _ _ _ _ c.lines.replied given _ asked (next_is _ _ given _ _ c.line-line.ensures (c.lines-test.ensures.given _ _ _ given gives)) (rw (c.if-not-branch.true, c.lines.invariant.same_time) at c.in_ok-ask_line.ensures.asks)
+    asks_in_part _ _ _ _ _ _ _ _ c.lines.replied given _ asked
+    (next_is _ _ given _ _ c.line-line.ensures (c.lines-test.ensures.given _ _ _ given gives))
+    (rw (c.if-not-branch.true, c.lines.invariant.same_time) at c.in_ok-ask_line.ensures.asks)
 
 pub lines-preserved : goal.lines-preserved
 lines-preserved g c =
@@ -48,7 +57,8 @@ lines-preserved g c =
       well = omega (arith, c.lines.invariant.well, c.in_ok-ask_line.ensures.well);
       asked = (
         given ++ raw ∷ [],
-        asked_more _ _ _ _ _ _ _ c.lines.replied given _ raw (ap (take KEPT_LEN) c.line-line.ensures ∙ front) asked (rw (c.if-not-branch.false, c.lines.invariant.same_time) at c.in_ok-ask_line.ensures.asks),
+        asked_more _ _ _ _ _ _ _ c.lines.replied given _ raw (ap (take KEPT_LEN) c.line-line.ensures ∙ front) asked
+            (rw (c.if-not-branch.false, c.lines.invariant.same_time) at c.in_ok-ask_line.ensures.asks),
         more,
       );
     }
@@ -57,71 +67,105 @@ pub reads-preserved : goal.reads-preserved
 reads-preserved g c =
     let (given, asked, gives) = given_kept _ _ _ _ _ _ _ _ _ _ c.lines.invariant.asked c.in_ok-hand_on.ensures.kept in
     record {
-      few = omega (arith, c.lines.invariant.few, c.cut.ensures.room, ap length (c.lines-test.ensures.none refl), c.in_ok-refill.ensures.left);
+      few =
+          omega
+          (arith, c.lines.invariant.few, c.cut.ensures.room, ap length (c.lines-test.ensures.none refl), c.in_ok-refill.ensures.left);
       same_links = c.lines.invariant.same_links;
       same_time = c.lines.invariant.same_time;
       well = c.lines.invariant.well;
-      asked = (given, asked, some_came _ _ _ _ given _ c.in_ok-refill.field-0 c.if-not-branch-2.false (c.in_ok-refill.ensures.given _ _ given (c.lines-test.ensures.given _ _ _ given gives).0));
+      asked =
+          (given, asked, some_came _ _ _ _ given _ c.in_ok-refill.field-0 c.if-not-branch-2.false (c.in_ok-refill.ensures.given _ _ given (c.lines-test.ensures.given _ _ _ given gives).0));
     }
 
 pub returns-in_err-refill-clause-runs : goal.returns-in_err-refill-clause-runs
 returns-in_err-refill-clause-runs g c =
     let p = err_from_is_err_and c.from_residual-in_err-refill.result c.from_residual-in_err-refill.ensures.1 in
     let (given, asked, gives) = given_kept _ _ _ _ _ _ _ _ _ _ c.lines.invariant.asked c.in_ok-hand_on.ensures.kept in
-    rw (p.1, p.2) (unread_runs _ _ _ _ _ _ _ c.lines.replied given c.refill.new.self c.in_err-refill.field-0.0 asked (c.in_err-refill.ensures.given _ _ given (c.lines-test.ensures.given _ _ _ given gives).0))
+    rw (p.1, p.2)
+    (unread_runs _ _ _ _ _ _ _ c.lines.replied given c.refill.new.self c.in_err-refill.field-0.0 asked
+    (c.in_err-refill.ensures.given _ _ given (c.lines-test.ensures.given _ _ _ given gives).0))
 
 pub returns-in_err-refill-clause-failed : goal.returns-in_err-refill-clause-failed
 returns-in_err-refill-clause-failed g c is =
     let (given, asked, gives) = given_kept _ _ _ _ _ _ _ _ _ _ c.lines.invariant.asked c.in_ok-hand_on.ensures.kept in
     absurd
     (told c.from_residual-in_err-refill.result c.in_err-refill.field-0.0 LinkFault
-    (λ f. GivesMore KEPT_LEN INPUT_LIMIT (g.R.Read.remaining c.args.reader.now) (g.R.Read.remaining c.refill.new.reader) given c.refill.new.self (Err f))
-    c.from_residual-in_err-refill.ensures.1 is (c.in_err-refill.ensures.given _ _ given (c.lines-test.ensures.given _ _ _ given gives).0))
+    (λ f. GivesMore KEPT_LEN INPUT_LIMIT (g.R.Read.remaining c.args.reader.now) (g.R.Read.remaining c.refill.new.reader)
+    given c.refill.new.self (Err f))
+    c.from_residual-in_err-refill.ensures.1 is
+    (c.in_err-refill.ensures.given _ _ given (c.lines-test.ensures.given _ _ _ given gives).0))
 
 pub returns-in_err-ask_line-2-clause-runs : goal.returns-in_err-ask_line-2-clause-runs
 returns-in_err-ask_line-2-clause-runs g c =
     let p = err_from_is_err_and c.from_residual-in_err-ask_line-2.result c.from_residual-in_err-ask_line-2.ensures.1 in
     let (given, asked, gives) = given_kept _ _ _ _ _ _ _ _ _ _ c.lines.invariant.asked c.in_ok-hand_on.ensures.kept in
-    let end = none_came _ _ _ _ given _ c.in_ok-refill.field-0 c.if-not-branch-2.true (c.in_ok-refill.ensures.given _ _ given (c.lines-test.ensures.given _ _ _ given gives).0) in
-    rw (p.1, p.2) (line_runs _ (g.T.Turns.pace (g.T.Turns.time c.lines.turns)) _ _ (talker c.ask_line-in-Some.new.client.caller (g.T.Turns.queue c.ask_line-in-Some.new.turns)) _ _ _ _ _ c.lines.replied given _ c.in_err-ask_line-2.field-0.0 asked (last_is _ _ given _ (c.in-Some.ensures _ _ _ given end.0 end.2)) c.in_err-ask_line-2.ensures.asks)
+    let end =
+    none_came _ _ _ _ given _ c.in_ok-refill.field-0 c.if-not-branch-2.true
+    (c.in_ok-refill.ensures.given _ _ given (c.lines-test.ensures.given _ _ _ given gives).0) in
+    rw (p.1, p.2)
+    (line_runs _ (g.T.Turns.pace (g.T.Turns.time c.lines.turns)) _ _
+    (talker c.ask_line-in-Some.new.client.caller (g.T.Turns.queue c.ask_line-in-Some.new.turns)) _ _ _ _ _
+    c.lines.replied given _ c.in_err-ask_line-2.field-0.0 asked
+    (last_is _ _ given _ (c.in-Some.ensures _ _ _ given end.0 end.2)) c.in_err-ask_line-2.ensures.asks)
 
 pub returns-then-not-branch-3-clause-runs : goal.returns-then-not-branch-3-clause-runs
 returns-then-not-branch-3-clause-runs g c =
     let (given, asked, gives) = given_kept _ _ _ _ _ _ _ _ _ _ c.lines.invariant.asked c.in_ok-hand_on.ensures.kept in
-    let end = none_came _ _ _ _ given _ c.in_ok-refill.field-0 c.if-not-branch-2.true (c.in_ok-refill.ensures.given _ _ given (c.lines-test.ensures.given _ _ _ given gives).0) in
-    ran_in_part _ _ _ _ _ _ _ _ _ c.lines.replied given _ asked (last_is _ _ given _ (c.in-Some.ensures _ _ _ given end.0 end.2)) (rw (c.if-not-branch-3.true, c.lines.invariant.same_time) at c.in_ok-ask_line-2.ensures.asks)
+    let end =
+    none_came _ _ _ _ given _ c.in_ok-refill.field-0 c.if-not-branch-2.true
+    (c.in_ok-refill.ensures.given _ _ given (c.lines-test.ensures.given _ _ _ given gives).0) in
+    ran_in_part _ _ _ _ _ _ _ _ _ c.lines.replied given _ asked
+    (last_is _ _ given _ (c.in-Some.ensures _ _ _ given end.0 end.2))
+    (rw (c.if-not-branch-3.true, c.lines.invariant.same_time) at c.in_ok-ask_line-2.ensures.asks)
 
 pub returns-then-not-branch-3-clause-talk : goal.returns-then-not-branch-3-clause-talk
 returns-then-not-branch-3-clause-talk g c =
     let (given, asked, gives) = given_kept _ _ _ _ _ _ _ _ _ _ c.lines.invariant.asked c.in_ok-hand_on.ensures.kept in
-    let end = none_came _ _ _ _ given _ c.in_ok-refill.field-0 c.if-not-branch-2.true (c.in_ok-refill.ensures.given _ _ given (c.lines-test.ensures.given _ _ _ given gives).0) in
-    asks_in_part _ _ _ _ _ _ _ _ c.lines.replied given _ asked (last_is _ _ given _ (c.in-Some.ensures _ _ _ given end.0 end.2)) (rw (c.if-not-branch-3.true, c.lines.invariant.same_time) at c.in_ok-ask_line-2.ensures.asks)
+    let end =
+    none_came _ _ _ _ given _ c.in_ok-refill.field-0 c.if-not-branch-2.true
+    (c.in_ok-refill.ensures.given _ _ given (c.lines-test.ensures.given _ _ _ given gives).0) in
+    asks_in_part _ _ _ _ _ _ _ _ c.lines.replied given _ asked
+    (last_is _ _ given _ (c.in-Some.ensures _ _ _ given end.0 end.2))
+    (rw (c.if-not-branch-3.true, c.lines.invariant.same_time) at c.in_ok-ask_line-2.ensures.asks)
 
 pub returns-clause-runs : goal.returns-clause-runs
 returns-clause-runs g c =
     let (given, asked, gives) = given_kept _ _ _ _ _ _ _ _ _ _ c.lines.invariant.asked c.in_ok-hand_on.ensures.kept in
-    let end = none_came _ _ _ _ given _ c.in_ok-refill.field-0 c.if-not-branch-2.true (c.in_ok-refill.ensures.given _ _ given (c.lines-test.ensures.given _ _ _ given gives).0) in
-    ran_to_end (g.T.Turns.pace (g.T.Turns.time c.args.turns.now)) (talker c.args.client.now.caller (g.T.Turns.queue c.args.turns.now)) (talker c.match-last.client.caller (g.T.Turns.queue c.match-last.turns)) _ _ _ _ c.match-last.replied
+    let end =
+    none_came _ _ _ _ given _ c.in_ok-refill.field-0 c.if-not-branch-2.true
+    (c.in_ok-refill.ensures.given _ _ given (c.lines-test.ensures.given _ _ _ given gives).0) in
+    ran_to_end (g.T.Turns.pace (g.T.Turns.time c.args.turns.now))
+    (talker c.args.client.now.caller (g.T.Turns.queue c.args.turns.now))
+    (talker c.match-last.client.caller (g.T.Turns.queue c.match-last.turns)) _ _ _ _ c.match-last.replied
     (elim c.match-last.branch [
       | in-Some+in_ok-ask_line-2+else-not-branch-3 w ↦
           rw (w.client-is, w.turns-is, w.out-is, w.writer-is, w.replied-is)
-          (last_asked _ _ _ _ _ _ _ _ _ c.lines.replied given _ asked (w.in-Some.ensures _ _ _ given end.0 end.2) (rw (w.if-not-branch-3.false, c.lines.invariant.same_time) at w.in_ok-ask_line-2.ensures.asks))
-      | in_default w ↦ rw (w.client-is, w.turns-is, w.out-is, w.writer-is, w.replied-is) (given, asked, w.in_default.ensures _ _ _ given end.0 end.2)
+          (last_asked _ _ _ _ _ _ _ _ _ c.lines.replied given _ asked (w.in-Some.ensures _ _ _ given end.0 end.2)
+          (rw (w.if-not-branch-3.false, c.lines.invariant.same_time) at w.in_ok-ask_line-2.ensures.asks))
+      | in_default w ↦ rw (w.client-is, w.turns-is, w.out-is, w.writer-is, w.replied-is)
+          (given, asked, w.in_default.ensures _ _ _ given end.0 end.2)
     ])
 
 pub returns-clause-talk : goal.returns-clause-talk
 returns-clause-talk g c =
     let (given, asked, gives) = given_kept _ _ _ _ _ _ _ _ _ _ c.lines.invariant.asked c.in_ok-hand_on.ensures.kept in
-    let end = none_came _ _ _ _ given _ c.in_ok-refill.field-0 c.if-not-branch-2.true (c.in_ok-refill.ensures.given _ _ given (c.lines-test.ensures.given _ _ _ given gives).0) in
+    let end =
+    none_came _ _ _ _ given _ c.in_ok-refill.field-0 c.if-not-branch-2.true
+    (c.in_ok-refill.ensures.given _ _ given (c.lines-test.ensures.given _ _ _ given gives).0) in
     let same : g.T.Turns.time c.match-last.turns ≡ g.T.Turns.time c.args.turns.now = elim c.match-last.branch [
-      | in-Some+in_ok-ask_line-2+else-not-branch-3 w ↦ rw w.turns-is (w.ask_line-in-Some.ensures.same_turns.1 ∙ c.lines.invariant.same_time)
+      | in-Some+in_ok-ask_line-2+else-not-branch-3 w ↦ rw w.turns-is
+          (w.ask_line-in-Some.ensures.same_turns.1 ∙ c.lines.invariant.same_time)
       | in_default w ↦ rw w.turns-is c.lines.invariant.same_time
     ] in
-    asks_to_end (g.T.Turns.pace (g.T.Turns.time c.args.turns.now)) _ (talker c.match-last.client.caller (g.T.Turns.queue c.match-last.turns)) _ _ (g.R.Read.remaining c.refill.new.reader) _ _ c.match-last.replied
+    asks_to_end (g.T.Turns.pace (g.T.Turns.time c.args.turns.now)) _
+    (talker c.match-last.client.caller (g.T.Turns.queue c.match-last.turns)) _ _
+    (g.R.Read.remaining c.refill.new.reader) _ _ c.match-last.replied
     (elim c.match-last.branch [
       | in-Some+in_ok-ask_line-2+else-not-branch-3 w ↦
           rw (w.client-is, w.turns-is, w.out-is, w.writer-is, w.replied-is)
-          (last_asked _ _ _ _ _ _ _ _ _ c.lines.replied given _ asked (w.in-Some.ensures _ _ _ given end.0 end.2) (rw (w.if-not-branch-3.false, c.lines.invariant.same_time) at w.in_ok-ask_line-2.ensures.asks))
-      | in_default w ↦ rw (w.client-is, w.turns-is, w.out-is, w.writer-is, w.replied-is) (given, asked, w.in_default.ensures _ _ _ given end.0 end.2)
+          (last_asked _ _ _ _ _ _ _ _ _ c.lines.replied given _ asked (w.in-Some.ensures _ _ _ given end.0 end.2)
+          (rw (w.if-not-branch-3.false, c.lines.invariant.same_time) at w.in_ok-ask_line-2.ensures.asks))
+      | in_default w ↦ rw (w.client-is, w.turns-is, w.out-is, w.writer-is, w.replied-is)
+          (given, asked, w.in_default.ensures _ _ _ given end.0 end.2)
     ])
     (rw same at c.in_ok-end.ensures.talk)

@@ -14,7 +14,11 @@ invariant-lines g l = record {
   same_time : g.T.Turns.time l.turns ≡ g.T.Turns.time l.fn.turns;
   room : l.lines.room ≡ l.initial.lines.room;
   well : g.T.Turns.failures l.turns ≤ g.T.Turns.failures l.fn.turns;
-  asked : AskedGiven (g.T.Turns.pace (g.T.Turns.time l.fn.turns)) (talker l.fn.client.caller (g.T.Turns.queue l.fn.turns)) (talker l.client.caller (g.T.Turns.queue l.turns)) (g.R.Read.remaining l.fn.reader) (g.R.Read.remaining l.reader) (written_of (g.W.Write.contents l.fn.writer) l.fn.out) (written_of (g.W.Write.contents l.writer) l.out) l.replied l.lines;
+  asked : AskedGiven (g.T.Turns.pace (g.T.Turns.time l.fn.turns))
+      (talker l.fn.client.caller (g.T.Turns.queue l.fn.turns)) (talker l.client.caller (g.T.Turns.queue l.turns))
+      (g.R.Read.remaining l.fn.reader) (g.R.Read.remaining l.reader)
+      (written_of (g.W.Write.contents l.fn.writer) l.fn.out) (written_of (g.W.Write.contents l.writer) l.out) l.replied
+      l.lines;
 }
 
 -- fewer bytes wait
@@ -28,7 +32,11 @@ invariant-reads g l = record {
   same_links : g.T.Turns.links l.turns ≡ g.T.Turns.links l.fn.turns;
   same_time : g.T.Turns.time l.turns ≡ g.T.Turns.time l.fn.turns;
   well : g.T.Turns.failures l.turns ≤ g.T.Turns.failures l.fn.turns;
-  asked : AskedGiven (g.T.Turns.pace (g.T.Turns.time l.fn.turns)) (talker l.fn.client.caller (g.T.Turns.queue l.fn.turns)) (talker l.client.caller (g.T.Turns.queue l.turns)) (g.R.Read.remaining l.fn.reader) (g.R.Read.remaining l.reader) (written_of (g.W.Write.contents l.fn.writer) l.fn.out) (written_of (g.W.Write.contents l.writer) l.out) l.replied l.lines;
+  asked : AskedGiven (g.T.Turns.pace (g.T.Turns.time l.fn.turns))
+      (talker l.fn.client.caller (g.T.Turns.queue l.fn.turns)) (talker l.client.caller (g.T.Turns.queue l.turns))
+      (g.R.Read.remaining l.fn.reader) (g.R.Read.remaining l.reader)
+      (written_of (g.W.Write.contents l.fn.writer) l.fn.out) (written_of (g.W.Write.contents l.writer) l.out) l.replied
+      l.lines;
 }
 
 -- fewer bytes may come

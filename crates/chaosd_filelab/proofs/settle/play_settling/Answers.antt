@@ -11,17 +11,20 @@ use Rattle.chaosd_filelab.proofs.Settling.{typed_none, typed_one, typed_wants}
 use Rattle.chaosd_filelab.proofs.settle.play_settling.Goals as goal
 
 pub loop-event-init : goal.loop-event-init
-loop-event-init g c = (typed_none c.args.lab.now (left c.new-events.result c.args.lab.now) _ (c.new-events.ensures c.args.lab.now), c.requires)
+loop-event-init g c =
+    (typed_none c.args.lab.now (left c.new-events.result c.args.lab.now) _ (c.new-events.ensures c.args.lab.now), c.requires)
 
 pub loop-event-preserved : goal.loop-event-preserved
 loop-event-preserved g c =
     let event : FileHappening = file_event c.in-Some.event in
     let l : FileLabView = c.loop-event.lab in
     let (lab, none, text) = c.in_ok-play_typed.ensures.played in (
-      typed_one c.args.lab.now l c.play_typed.new.lab event (left c.loop-event.events l) (left c.next.new.self c.play_typed.new.lab) _ _ _ _ c.loop-event.invariant.0
+      typed_one c.args.lab.now l c.play_typed.new.lab event (left c.loop-event.events l)
+          (left c.next.new.self c.play_typed.new.lab) _ _ _ _ c.loop-event.invariant.0
           (c.in-Some.ensures.some ∙ ap (λ (m : FileLabView). event ∷ left c.next.new.self m) (sym lab))
           c.in_ok-make_room.ensures.kept lab
-          (waits_more (g.W.Write.contents c.make_room.new.writer) c.make_room.new.out c.play_typed.new.out (file_line event ++ event_text l event) text),
+          (waits_more (g.W.Write.contents c.make_room.new.writer) c.make_room.new.out c.play_typed.new.out
+          (file_line event ++ event_text l event) text),
       none,
     )
 

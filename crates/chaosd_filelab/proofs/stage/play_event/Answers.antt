@@ -12,8 +12,10 @@ returns-clause-played c =
     let mid = c.put_answer.new.out in
     let n = length c.args.lab.now.lab.copies in
     let none : wrote_mem c.act-answer.new.lab ≡ false = search rules in
-    event_plays c.args.lab.now c.act-answer.new.lab c.args.out.now mid c.put_copies.new.out (file_event c.args.event.now) c.act-answer.result _
-    (exact_unless c.args.lab.now c.act-answer.new.lab (file_event c.args.event.now) c.act-answer.result c.act-answer.ensures.exact none)
+    event_plays c.args.lab.now c.act-answer.new.lab c.args.out.now mid c.put_copies.new.out
+    (file_event c.args.event.now) c.act-answer.result _
+    (exact_unless c.args.lab.now c.act-answer.new.lab (file_event c.args.event.now) c.act-answer.result
+    c.act-answer.ensures.exact none)
     (went_well _ _ _ c.written.ensures c.in_ok-written.was c.put_answer.ensures)
     (went_well _ _ _ c.written-2.ensures c.in_ok-written-2.was c.put_copies.ensures
     ∙ ap (λ k. mid ++ copies_text (length k) (drop (length k) c.copies.result.now)) c.copies-before.ensures
@@ -24,7 +26,8 @@ pub returns-clause-no_memory : goal.returns-clause-no_memory
 returns-clause-no_memory c wants ready =
     let mid = c.put_answer.new.out in
     let n = length c.args.lab.now.lab.copies in
-    let (same, more) = event_wants c.args.lab.now c.act-answer.new.lab c.args.out.now mid c.put_copies.new.out c.act-answer.result _
+    let (same, more)
+    = event_wants c.args.lab.now c.act-answer.new.lab c.args.out.now mid c.put_copies.new.out c.act-answer.result _
     (not_wanted c.act-answer.result _ c.act-answer.ensures.refused)
     (went_well _ _ _ c.written.ensures c.in_ok-written.was c.put_answer.ensures)
     (went_well _ _ _ c.written-2.ensures c.in_ok-written-2.was c.put_copies.ensures
@@ -36,4 +39,5 @@ returns-clause-no_memory c wants ready =
 pub returns-then-wrote_mem-clause-no_memory : goal.returns-then-wrote_mem-clause-no_memory
 returns-then-wrote_mem-clause-no_memory c wants ready =
     let mem : wrote_mem c.act-answer.new.lab ≡ true = search rules in
-    serve_wants (file_event c.args.event.now) c.args.lab.now c.act-answer.new.lab c.args.out.now c.act-answer.result c.act-answer.ensures.happens c.act-answer.ensures.mem mem ready
+    serve_wants (file_event c.args.event.now) c.args.lab.now c.act-answer.new.lab c.args.out.now c.act-answer.result
+    c.act-answer.ensures.happens c.act-answer.ensures.mem mem ready

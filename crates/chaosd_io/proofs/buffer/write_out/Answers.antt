@@ -9,9 +9,13 @@ loop-count-preserved g c =
     let count = c.loop-count.count in
     let more = c.in-Ok.more in
     let bytes = c.args.bytes.now in
-    let fits : more ≤ length bytes - count = omega (arith, c.in-Ok.ensures.some, length-take (length bytes - count) (drop count bytes)) in
-    let joined = ap (λ l. take count bytes ++ l) (take-take more (length bytes - count) (drop count bytes) fits) ∙ sym (take-add count more bytes) in
+    let fits : more ≤ length bytes - count =
+    omega (arith, c.in-Ok.ensures.some, length-take (length bytes - count) (drop count bytes)) in
+    let joined =
+    ap (λ l. take count bytes ++ l) (take-take more (length bytes - count) (drop count bytes) fits)
+    ∙ sym (take-add count more bytes) in
     record {
       within = omega arith;
-      written = subst (Appends _ _) joined (Appends-trans _ _ _ _ _ c.loop-count.invariant.written c.in-Ok.ensures.taken);
+      written =
+          subst (Appends _ _) joined (Appends-trans _ _ _ _ _ c.loop-count.invariant.written c.in-Ok.ensures.taken);
     }

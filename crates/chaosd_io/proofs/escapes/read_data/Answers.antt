@@ -10,7 +10,8 @@ loop-i-preserved c =
     let i = c.loop-i.i in
     let n = c.in_ok-i.field-0 in
     let after = c.read_some.new.bytes.items in
-    let read : ReadsFront c.loop-i.bytes.items (drop i text) after n = subst (λ l. ReadsFront c.loop-i.bytes.items l after n) (rest_whole text i) c.in_ok-i.ensures.read in
+    let read : ReadsFront c.loop-i.bytes.items (drop i text) after n =
+    subst (λ l. ReadsFront c.loop-i.bytes.items l after n) (rest_whole text i) c.in_ok-i.ensures.read in
     record {
       within = omega (arith, read.within, length-drop i text);
       room = c.in_ok-i.ensures.room;
@@ -18,4 +19,6 @@ loop-i-preserved c =
     }
 
 pub returns : goal.returns
-returns c = byte_end c.args.text.now c.loop-i.bytes.items c.loop-i.i (omega arith) c.loop-i.invariant.room c.loop-i.invariant.value
+returns c =
+    byte_end c.args.text.now c.loop-i.bytes.items c.loop-i.i (omega arith) c.loop-i.invariant.room
+    c.loop-i.invariant.value

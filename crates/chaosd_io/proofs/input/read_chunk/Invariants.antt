@@ -8,7 +8,8 @@ use Rattle.chaosd_io.proofs.input.read_chunk.Given as goal
 abbrev pub invariant-loop-interruptions : goal.invariant-loop-interruptions
 invariant-loop-interruptions g l = Keeps (g.T.ReadOnce.remaining l.fn.reader) (g.T.ReadOnce.remaining l.reader)
     × (l.fn.interruptions ≤ l.interruptions)
-    × Left (g.T.ReadOnce.interruptions l.fn.reader) (g.T.ReadOnce.interruptions l.reader) l.fn.interruptions l.interruptions
+    × Left (g.T.ReadOnce.interruptions l.fn.reader) (g.T.ReadOnce.interruptions l.reader) l.fn.interruptions
+    l.interruptions
 
 abbrev pub decreases-loop-interruptions : goal.decreases-loop-interruptions
 decreases-loop-interruptions g l = INTERRUPTIONS - l.interruptions

@@ -5,7 +5,8 @@ use Rattle.chaosd_io.proofs.FirstByte.{none_ends, first_cuts}
 use Rattle.chaosd_io.proofs.lines.first_end.Goals as goal
 
 ends : (xs : List ℕ) (r : Option ℕ) → IsFirstByte (is_byte 10) xs r
-    → MatchOption r (All (λ b. is_newline b ≡ false) xs) (λ at. (at < length xs) × IsCut xs (take at xs) (drop (at + 1) xs))
+    → MatchOption r (All (λ b. is_newline b ≡ false) xs)
+    (λ at. (at < length xs) × IsCut xs (take at xs) (drop (at + 1) xs))
 ends xs None h = none_ends xs h
 ends xs (Some at) h = (h.0.high, first_cuts xs at h.0.high h.0.before h.1)
 

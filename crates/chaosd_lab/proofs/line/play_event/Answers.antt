@@ -21,7 +21,8 @@ returns-clause-played c =
     event_plays before after c.args.out.now mid c.put_copies.new.out event (told packet items c.happen-answer.result) _
     c.happen-answer.ensures.happens
     (went_well _ _ _ c.written.ensures c.in_ok-written.was (c.put_answer.ensures packet)
-    ∙ ap (λ (k : List ItemView). c.args.out.now ++ answer_text (told packet k c.happen-answer.result)) c.read_in.ensures)
+    ∙ ap (λ (k : List ItemView). c.args.out.now ++ answer_text (told packet k c.happen-answer.result))
+    c.read_in.ensures)
     (went_well _ _ _ c.written-2.ensures c.in_ok-written-2.was c.put_copies.ensures
     ∙ ap (λ k. mid ++ copies_text (length k) (drop (length k) c.copies.result.now)) c.copies-before.ensures
     ∙ ap (λ k. mid ++ copies_text n (drop n k)) c.copies.ensures)
@@ -39,7 +40,8 @@ returns-clause-no_memory c =
     event_wants before after c.args.out.now mid c.put_copies.new.out event (told packet items c.happen-answer.result) _
     c.happen-answer.ensures.happens
     (went_well _ _ _ c.written.ensures c.in_ok-written.was (c.put_answer.ensures packet)
-    ∙ ap (λ (k : List ItemView). c.args.out.now ++ answer_text (told packet k c.happen-answer.result)) c.read_in.ensures)
+    ∙ ap (λ (k : List ItemView). c.args.out.now ++ answer_text (told packet k c.happen-answer.result))
+    c.read_in.ensures)
     (went_well _ _ _ c.written-2.ensures c.in_ok-written-2.was c.put_copies.ensures
     ∙ ap (λ k. mid ++ copies_text (length k) (drop (length k) c.copies.result.now)) c.copies-before.ensures
     ∙ ap (λ k. mid ++ copies_text n (drop n k)) c.copies.ensures)

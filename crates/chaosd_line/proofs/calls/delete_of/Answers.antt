@@ -15,11 +15,13 @@ returns-in_err-calling c =
 pub returns-in-Some : goal.returns-in-Some
 returns-in-Some c =
     let same = c.in-Some.ensures ∙ raw_values-rows (found_of c.args.matches.now) (codes "PATH") in
-    gives_delete _ c.in_ok-calling.calling _ c.delete_with.result c.in_ok-calling.ensures (ap (λ o. unwrap_or o []) same)
+    gives_delete _ c.in_ok-calling.calling _ c.delete_with.result c.in_ok-calling.ensures
+    (ap (λ o. unwrap_or o []) same)
     c.delete_with.ensures.ok c.delete_with.ensures.err
 
 pub returns-in-None : goal.returns-in-None
 returns-in-None c =
     let same = c.in-None.ensures ∙ raw_values-rows (found_of c.args.matches.now) (codes "PATH") in
-    gives_delete _ c.in_ok-calling.calling _ c.delete_with-in-None.result c.in_ok-calling.ensures (ap (λ o. unwrap_or o []) same)
+    gives_delete _ c.in_ok-calling.calling _ c.delete_with-in-None.result c.in_ok-calling.ensures
+    (ap (λ o. unwrap_or o []) same)
     c.delete_with-in-None.ensures.ok c.delete_with-in-None.ensures.err

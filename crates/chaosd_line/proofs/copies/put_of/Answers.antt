@@ -15,16 +15,19 @@ returns-in_err-copying c =
 pub returns-in-Some : goal.returns-in-Some
 returns-in-Some c =
     let same = c.in-Some.ensures ∙ raw_values-rows (found_of c.args.matches.now) (codes "LOCAL") in
-    gives_put _ c.in_ok-copying.copying _ _ _ c.put_with.result c.in_ok-copying.ensures c.in_ok-is_renaming.ensures c.optional-path.ensures (ap (λ o. unwrap_or o []) same)
+    gives_put _ c.in_ok-copying.copying _ _ _ c.put_with.result c.in_ok-copying.ensures c.in_ok-is_renaming.ensures
+    c.optional-path.ensures (ap (λ o. unwrap_or o []) same)
     c.put_with.ensures.ok c.put_with.ensures.err
 
 pub returns-in-None : goal.returns-in-None
 returns-in-None c =
     let same = c.in-None.ensures ∙ raw_values-rows (found_of c.args.matches.now) (codes "LOCAL") in
-    gives_put _ c.in_ok-copying.copying _ _ _ c.put_with-in-None.result c.in_ok-copying.ensures c.in_ok-is_renaming.ensures c.optional-path.ensures (ap (λ o. unwrap_or o []) same)
+    gives_put _ c.in_ok-copying.copying _ _ _ c.put_with-in-None.result c.in_ok-copying.ensures
+    c.in_ok-is_renaming.ensures c.optional-path.ensures (ap (λ o. unwrap_or o []) same)
     c.put_with-in-None.ensures.ok c.put_with-in-None.ensures.err
 
 pub returns-in_err-is_renaming : goal.returns-in_err-is_renaming
 returns-in_err-is_renaming c =
-    let p = err_from_is_err_and c.from_residual-in_err-is_renaming.result c.from_residual-in_err-is_renaming.ensures.1 in
+    let p =
+    err_from_is_err_and c.from_residual-in_err-is_renaming.result c.from_residual-in_err-is_renaming.ensures.1 in
     rw p.1 (rw p.2 (λ put h. c.in_err-is_renaming.ensures put.is_renaming h.is_renaming))

@@ -17,7 +17,8 @@ returns-then-is_among c =
     let named : c.last_name.result.now ≡ last_of (text (get_or c.args.texts.now c.loop-i.i none)) =
     c.last_name.ensures ∙ ap last_of c.as_bytes.ensures.value in
     sym (c.loop-i.invariant
-    ∙ apart_at has_same_name text c.args.texts.now c.loop-i.i none (λ u. bytes_eq (last_of (text u)) c.last_name.result.now) c.is_among.result
+    ∙ apart_at has_same_name text c.args.texts.now c.loop-i.i none
+    (λ u. bytes_eq (last_of (text u)) c.last_name.result.now) c.is_among.result
     c.loop-i-test.true (ap (λ n u. bytes_eq (last_of (text u)) n) named) c.is_among.ensures
     ∙ ap (λ b. not b && are_distinct (map text (drop (c.loop-i.i + 1) c.args.texts.now))) c.if-is_among.true)
 
@@ -26,6 +27,7 @@ loop-i-preserved c =
     let named : c.last_name.result.now ≡ last_of (text (get_or c.args.texts.now c.loop-i.i none)) =
     c.last_name.ensures ∙ ap last_of c.as_bytes.ensures.value in
     c.loop-i.invariant
-    ∙ apart_at has_same_name text c.args.texts.now c.loop-i.i none (λ u. bytes_eq (last_of (text u)) c.last_name.result.now) c.is_among.result
+    ∙ apart_at has_same_name text c.args.texts.now c.loop-i.i none
+    (λ u. bytes_eq (last_of (text u)) c.last_name.result.now) c.is_among.result
     c.loop-i-test.true (ap (λ n u. bytes_eq (last_of (text u)) n) named) c.is_among.ensures
     ∙ ap (λ b. not b && are_distinct (map text (drop (c.loop-i.i + 1) c.args.texts.now))) c.if-is_among.false

@@ -12,7 +12,9 @@ loop-i-preserved c = elim c.if-text-i-eq47.branch [
   })
   | else-text-i-eq47 w ↦ rw w.start-is (record {
     within = omega (arith, c.loop-i.invariant.within);
-    last = last_kept c.args.text.now c.loop-i.i c.loop-i.start 0 c.loop-i-test.true c.loop-i.invariant.within c.loop-i.invariant.last
+    last =
+        last_kept c.args.text.now c.loop-i.i c.loop-i.start 0 c.loop-i-test.true c.loop-i.invariant.within
+        c.loop-i.invariant.last
         w.if-text-i-eq47.false;
   })
 ]

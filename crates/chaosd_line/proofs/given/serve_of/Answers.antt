@@ -34,12 +34,15 @@ returns-in_err-is_timed c =
 
 pub returns-in_err-hears_only_peers : goal.returns-in_err-hears_only_peers
 returns-in_err-hears_only_peers c =
-    let p = err_from_is_err_and c.from_residual-in_err-hears_only_peers.result c.from_residual-in_err-hears_only_peers.ensures.1 in
+    let p =
+    err_from_is_err_and c.from_residual-in_err-hears_only_peers.result
+    c.from_residual-in_err-hears_only_peers.ensures.1 in
     rw p.1 (λ serve h. c.in_err-hears_only_peers.ensures serve.hears_only_peers h.hears_only_peers)
 
 pub returns-in_err-is_read_only : goal.returns-in_err-is_read_only
 returns-in_err-is_read_only c =
-    let p = err_from_is_err_and c.from_residual-in_err-is_read_only.result c.from_residual-in_err-is_read_only.ensures.1 in
+    let p =
+    err_from_is_err_and c.from_residual-in_err-is_read_only.result c.from_residual-in_err-is_read_only.ensures.1 in
     rw p.1 (λ serve h. c.in_err-is_read_only.ensures serve.is_read_only h.is_read_only)
 
 pub returns-in_err-address : goal.returns-in_err-address

@@ -15,14 +15,20 @@ pub returns-then-is_taken : goal.returns-then-is_taken
 returns-then-is_taken c =
     sym (c.loop-i.invariant
     ∙ apart_at (goes_same c.args.is_renaming) text c.args.texts.now c.loop-i.i none
-    (λ u. is_same_path (path_for c.args.is_renaming (text u)) (option_map (λ p. p.items) c.path_for-path.result)) c.is_taken.result
-    c.loop-i-test.true (ap (λ o u. is_same_path (path_for c.args.is_renaming (text u)) o) c.path_for-path.ensures) c.is_taken.ensures
-    ∙ ap (λ b. not b && are_apart (goes_same c.args.is_renaming) (map text (drop (c.loop-i.i + 1) c.args.texts.now))) c.if-is_taken.true)
+    (λ u. is_same_path (path_for c.args.is_renaming (text u)) (option_map (λ p. p.items) c.path_for-path.result))
+    c.is_taken.result
+    c.loop-i-test.true (ap (λ o u. is_same_path (path_for c.args.is_renaming (text u)) o) c.path_for-path.ensures)
+    c.is_taken.ensures
+    ∙ ap (λ b. not b && are_apart (goes_same c.args.is_renaming) (map text (drop (c.loop-i.i + 1) c.args.texts.now)))
+    c.if-is_taken.true)
 
 pub loop-i-preserved : goal.loop-i-preserved
 loop-i-preserved c =
     c.loop-i.invariant
     ∙ apart_at (goes_same c.args.is_renaming) text c.args.texts.now c.loop-i.i none
-    (λ u. is_same_path (path_for c.args.is_renaming (text u)) (option_map (λ p. p.items) c.path_for-path.result)) c.is_taken.result
-    c.loop-i-test.true (ap (λ o u. is_same_path (path_for c.args.is_renaming (text u)) o) c.path_for-path.ensures) c.is_taken.ensures
-    ∙ ap (λ b. not b && are_apart (goes_same c.args.is_renaming) (map text (drop (c.loop-i.i + 1) c.args.texts.now))) c.if-is_taken.false
+    (λ u. is_same_path (path_for c.args.is_renaming (text u)) (option_map (λ p. p.items) c.path_for-path.result))
+    c.is_taken.result
+    c.loop-i-test.true (ap (λ o u. is_same_path (path_for c.args.is_renaming (text u)) o) c.path_for-path.ensures)
+    c.is_taken.ensures
+    ∙ ap (λ b. not b && are_apart (goes_same c.args.is_renaming) (map text (drop (c.loop-i.i + 1) c.args.texts.now)))
+    c.if-is_taken.false

@@ -11,7 +11,8 @@ abbrev pub invariant-reads : goal.invariant-reads
 invariant-reads g l = (l.player.at.lines + left_of l.lines ≤ INPUT_LIMIT)
     × ((before : Option (List ℕ))
     → PlaysLines g.S.Stage.script before (written_of (g.W.Write.contents l.fn.writer) l.fn.player.out) l.fn.player.at []
-    → PlaysGiven g.S.Stage.script (g.R.Read.remaining l.fn.reader) (g.R.Read.remaining l.reader) before (written_of (g.W.Write.contents l.writer) l.player.out) l.player.at l.lines)
+    → PlaysGiven g.S.Stage.script (g.R.Read.remaining l.fn.reader) (g.R.Read.remaining l.reader) before
+    (written_of (g.W.Write.contents l.writer) l.player.out) l.player.at l.lines)
 
 -- fewer bytes may come
 abbrev pub decreases-reads : goal.decreases-reads

@@ -9,7 +9,9 @@ returns-in_err-play_line-clause-stops g c =
     on_fault c.from_residual.result c.in_err-play_line.field-0.0 _ c.from_residual.ensures.1
     (λ input rest before s.
     let t = plays input rest before s in
-    next_stops g.S.Stage.script input rest before _ _ _ _ _ _ _ t (c.loop-player-test.ensures.given _ input rest t.given t.gives) c.line.ensures (c.in_err-play_line.ensures.stops before t.given))
+    next_stops g.S.Stage.script input rest before _ _ _ _ _ _ _ t
+    (c.loop-player-test.ensures.given _ input rest t.given t.gives) c.line.ensures
+    (c.in_err-play_line.ensures.stops before t.given))
 
 pub loop-player-preserved : goal.loop-player-preserved
 loop-player-preserved g c =
@@ -18,10 +20,13 @@ loop-player-preserved g c =
       c.cut.ensures.room ∙ room,
       λ input rest before s.
           let t = plays input rest before s in
-          next_played g.S.Stage.script input rest before _ _ _ _ _ _ _ t (c.loop-player-test.ensures.given _ input rest t.given t.gives) c.line.ensures (c.in_ok-play_line.ensures.plays before t.given),
+          next_played g.S.Stage.script input rest before _ _ _ _ _ _ _ t
+          (c.loop-player-test.ensures.given _ input rest t.given t.gives) c.line.ensures
+          (c.in_ok-play_line.ensures.plays before t.given),
     )
 
 pub returns-clause-plays : goal.returns-clause-plays
 returns-clause-plays g c input rest before s =
     let t = c.loop-player.invariant.2 input rest before s in
-    given_of g.S.Stage.script input rest rest before _ _ _ _ t (c.loop-player-test.ensures.given _ input rest t.given t.gives).0
+    given_of g.S.Stage.script input rest rest before _ _ _ _ t
+    (c.loop-player-test.ensures.given _ input rest t.given t.gives).0

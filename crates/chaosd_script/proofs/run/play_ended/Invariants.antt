@@ -11,8 +11,10 @@ abbrev pub invariant-loop-player : goal.invariant-loop-player
 invariant-loop-player g l = (l.player.at.lines + left_of l.lines ≤ INPUT_LIMIT)
     × (l.lines.room ≡ l.fn.lines.room)
     × ((input rest before : Option (List ℕ))
-    → PlaysGiven g.S.Stage.script input rest before (written_of (g.W.Write.contents l.fn.writer) l.fn.player.out) l.fn.player.at l.fn.lines
-    → PlaysGiven g.S.Stage.script input rest before (written_of (g.W.Write.contents l.writer) l.player.out) l.player.at l.lines)
+    → PlaysGiven g.S.Stage.script input rest before (written_of (g.W.Write.contents l.fn.writer) l.fn.player.out)
+    l.fn.player.at l.fn.lines
+    → PlaysGiven g.S.Stage.script input rest before (written_of (g.W.Write.contents l.writer) l.player.out) l.player.at
+    l.lines)
 
 -- fewer bytes wait
 abbrev pub decreases-loop-player : goal.decreases-loop-player

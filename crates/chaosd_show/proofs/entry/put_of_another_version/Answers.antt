@@ -6,7 +6,10 @@ use Rattle.chaosd_show.proofs.entry.put_of_another_version.Goals as goal
 pub returns-in_ok-put_fault-in-Err-clause-text : goal.returns-in_ok-put_fault-in-Err-clause-text
 unfolding entry_text
 returns-in_ok-put_fault-in-Err-clause-text c =
-    c.in_ok-put_fault-in-Err.ensures ∙ ap (λ e. c.args.out.now ++ entry_text e) (sym (refused_at c.args.bytes.now c.in-Err.fault c.in-Err.ensures.fault))
+    c.in_ok-put_fault-in-Err.ensures
+    ∙ ap (λ e. c.args.out.now ++ entry_text e)
+    (sym (refused_at c.args.bytes.now c.in-Err.fault c.in-Err.ensures.fault))
 
 pub returns-in_ok-put_fault-in-Err-clause-refused : goal.returns-in_ok-put_fault-in-Err-clause-refused
-returns-in_ok-put_fault-in-Err-clause-refused c = ap is_refusal (sym (refused_at c.args.bytes.now c.in-Err.fault c.in-Err.ensures.fault))
+returns-in_ok-put_fault-in-Err-clause-refused c =
+    ap is_refusal (sym (refused_at c.args.bytes.now c.in-Err.fault c.in-Err.ensures.fault))

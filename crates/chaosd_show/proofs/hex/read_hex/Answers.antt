@@ -8,7 +8,8 @@ loop-i-preserved c =
     let count = c.loop-i.count in
     let byte = 16 * c.in-Some.high + c.in-Some-hex_value.low in
     let high = sym c.hex_value.ensures ∙ c.in-Some.is in
-    let one_more : take (count + 1) (slice_set c.loop-i.bytes count byte) ≡ take count c.loop-i.bytes ++ byte ∷ [] = grind (arith, common_steps) in
+    let one_more : take (count + 1) (slice_set c.loop-i.bytes count byte) ≡ take count c.loop-i.bytes ++ byte ∷ [] =
+    grind (arith, common_steps) in
     record {
       within = omega arith;
       room = omega arith;

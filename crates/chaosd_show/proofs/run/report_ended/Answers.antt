@@ -5,11 +5,13 @@ use Rattle.chaosd_show.proofs.run.report_ended.Goals as goal
 pub loop-reporter-preserved : goal.loop-reporter-preserved
 loop-reporter-preserved g c =
     let (few, room, shown) = c.loop-reporter.invariant in (
-      omega (arith, few, ap (λ t. t.reports) c.in_ok-report.ensures.tally, c.cut.ensures.room, c.loop-reporter-test.ensures.less refl),
+      omega
+          (arith, few, ap (λ t. t.reports) c.in_ok-report.ensures.tally, c.cut.ensures.room, c.loop-reporter-test.ensures.less refl),
       c.cut.ensures.room ∙ room,
       λ input rest before s.
           let t = shown input rest before s in
-          more_shown input rest before _ _ _ _ _ _ _ t (c.loop-reporter-test.ensures.given _ input rest t.given t.gives) c.line.ensures c.in_ok-report.ensures.text c.in_ok-report.ensures.tally,
+          more_shown input rest before _ _ _ _ _ _ _ t (c.loop-reporter-test.ensures.given _ input rest t.given t.gives)
+          c.line.ensures c.in_ok-report.ensures.text c.in_ok-report.ensures.tally,
     )
 
 pub returns-clause-shown : goal.returns-clause-shown

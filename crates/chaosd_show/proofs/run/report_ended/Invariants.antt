@@ -11,7 +11,8 @@ abbrev pub invariant-loop-reporter : goal.invariant-loop-reporter
 invariant-loop-reporter g l = (l.reporter.tally.reports + left_of l.lines ≤ INPUT_LIMIT)
     × (l.lines.room ≡ l.fn.lines.room)
     × ((input rest before : Option (List ℕ))
-    → Shows input rest before (written_of (g.W.Write.contents l.fn.writer) l.fn.reporter.out) l.fn.reporter.tally l.fn.lines
+    → Shows input rest before (written_of (g.W.Write.contents l.fn.writer) l.fn.reporter.out) l.fn.reporter.tally
+    l.fn.lines
     → Shows input rest before (written_of (g.W.Write.contents l.writer) l.reporter.out) l.reporter.tally l.lines)
 
 -- fewer bytes wait

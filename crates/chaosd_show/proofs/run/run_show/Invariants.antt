@@ -8,7 +8,8 @@ use Rattle.chaosd_show.proofs.run.run_show.Given as goal
 -- the lines that were given were shown
 abbrev pub invariant-reads : goal.invariant-reads
 invariant-reads g l = (l.reporter.tally.reports + left_of l.lines ≤ INPUT_LIMIT)
-    × Shows (g.R.Read.remaining l.fn.reader) (g.R.Read.remaining l.reader) (g.W.Write.contents l.fn.writer) (written_of (g.W.Write.contents l.writer) l.reporter.out) l.reporter.tally l.lines
+    × Shows (g.R.Read.remaining l.fn.reader) (g.R.Read.remaining l.reader) (g.W.Write.contents l.fn.writer)
+    (written_of (g.W.Write.contents l.writer) l.reporter.out) l.reporter.tally l.lines
 
 -- fewer bytes may come
 abbrev pub decreases-reads : goal.decreases-reads

@@ -6,7 +6,8 @@ use Rattle.file_server.proofs.arriving.greet_all.Given as goal
 
 abbrev pub invariant-packets : goal.invariant-packets
 invariant-packets g l =
-    TakenSoFar l.fn.terms.carriage (greet l.fn.terms.start l.fn.terms.moment) l.fn.packets l.packets (station l.fn.host (g.L.Link.queue l.fn.link) l.fn.out)
+    TakenSoFar l.fn.terms.carriage (greet l.fn.terms.start l.fn.terms.moment) l.fn.packets l.packets
+    (station l.fn.host (g.L.Link.queue l.fn.link) l.fn.out)
     (station l.host (g.L.Link.queue l.link) l.out) l.sent
 
 abbrev pub decreases-packets : goal.decreases-packets

@@ -7,9 +7,12 @@ use Rattle.chaos_link.specs.declared.carriage.Carriage.{Carriage}
 use Rattle.file_server.specs.Service.{ServesBy}
 use Rattle.file_server.proofs.serve_run.run_serve.Goals as goal
 
-by_same : {S A E : Type 0} (changes : S → S → StoreChange) (carriage : Carriage) (turns me : ℕ) (s t : S) (q q' : Option QueueView) (r : Result A E) (v w : ConfigView)
-    → v ≡ w → OnOk r (ServesBy changes carriage v turns me s t q q') → OnOk r (ServesBy changes carriage w turns me s t q q')
-by_same changes carriage turns me s t q q' r v w e h = subst (λ u. OnOk r (ServesBy changes carriage u turns me s t q q')) e h
+by_same : {S A E : Type 0} (changes : S → S → StoreChange) (carriage : Carriage) (turns me : ℕ) (s t : S)
+    (q q' : Option QueueView) (r : Result A E) (v w : ConfigView)
+    → v ≡ w → OnOk r (ServesBy changes carriage v turns me s t q q')
+    → OnOk r (ServesBy changes carriage w turns me s t q q')
+by_same changes carriage turns me s t q q' r v w e h =
+    subst (λ u. OnOk r (ServesBy changes carriage u turns me s t q q')) e h
 
 pub returns-clause-turns : goal.returns-clause-turns
 returns-clause-turns g c = by_same _ _ _ _ _ _ _ _ _ _ _ c.usual-config.ensures c.run_serve_by.ensures.turns

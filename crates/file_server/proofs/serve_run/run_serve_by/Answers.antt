@@ -9,7 +9,8 @@ use Rattle.file_server.specs.Turn.{RunsTurn}
 use Rattle.file_server.proofs.serve_run.run_serve_by.Goals as goal
 
 -- a turn by the carriage of the server
-turned : {S : Type 0} (changes : S → S → StoreChange) (carriage wanted : Carriage) (start now : ℕ) (before after : Station (Server S)) (end : TurnEnd)
+turned : {S : Type 0} (changes : S → S → StoreChange) (carriage wanted : Carriage) (start now : ℕ)
+    (before after : Station (Server S)) (end : TurnEnd)
     → carriage ≡ wanted → RunsTurn changes carriage start now before after end → ServesTurn changes wanted before after
 turned changes carriage wanted start now before after end e done =
     record { start = start; now = now; end = end; turn = subst (λ (c : Carriage). RunsTurn changes c start now before after end) e done }
@@ -28,4 +29,5 @@ loop-turn-preserved g c = record {
 pub returns-clause-turns : goal.returns-clause-turns
 returns-clause-turns g c =
     let all : c.args.options.turns ≡ c.loop-turn.turn = omega arith in
-    rw all (service_of c.loop-turn.server c.loop-turn.store (g.L.Link.queue c.loop-turn.link), c.loop-turn.invariant.made, refl, refl)
+    rw all
+    (service_of c.loop-turn.server c.loop-turn.store (g.L.Link.queue c.loop-turn.link), c.loop-turn.invariant.made, refl, refl)

@@ -9,9 +9,11 @@ use Rattle.file_server.proofs.serving.serve_slot.Goals as goal
 pub returns-then-not-can_serve_conn : goal.returns-then-not-can_serve_conn
 returns-then-not-can_serve_conn g c =
     let here = c.index_mut-kept.result.now in
-    let read = c.index_mut-kept.ensures.value ∙ ap (λ (xs : List Serving). get_or xs c.args.place here) c.sessions.view_is in
+    let read =
+    c.index_mut-kept.ensures.value ∙ ap (λ (xs : List Serving). get_or xs c.args.place here) c.sessions.view_is in
     passed_so (change g.S.Store.contents g.S.Store.may_give g.S.Store.count) c.args.terms.now.carriage here
-    c.args.sessions.now _ c.args.store.now c.args.place _ c.args.terms.now.moment c.args.host.now c.in-Some.at.1.now c.args.out.now (g.L.Link.queue c.args.link.now)
+    c.args.sessions.now _ c.args.store.now c.args.place _ c.args.terms.now.moment c.args.host.now c.in-Some.at.1.now
+    c.args.out.now (g.L.Link.queue c.args.link.now)
     (sym c.in-Some.ensures.index) (get_or_read c.args.sessions.now c.args.place here c.requires.within read new_serving)
     (ap (λ (xs : List Serving). slice_set xs c.args.place here) c.sessions.view_is) (c.serves.ensures c.if-serves.true)
     c.in-Some.ensures.named
@@ -21,9 +23,12 @@ pub returns : goal.returns
 returns g c =
     let done = c.serve_kept in
     let here = c.index_mut-kept.result.now in
-    let read = c.index_mut-kept.ensures.value ∙ ap (λ (xs : List Serving). get_or xs c.args.place here) c.sessions.view_is in
+    let read =
+    c.index_mut-kept.ensures.value ∙ ap (λ (xs : List Serving). get_or xs c.args.place here) c.sessions.view_is in
     slot_so (change g.S.Store.contents g.S.Store.may_give g.S.Store.count) c.args.terms.now.carriage here done.new.kept
-    c.args.sessions.now _ c.args.store.now done.new.store c.args.place _ c.args.terms.now.moment c.args.host.now done.new.host c.args.out.now done.new.out c.send_all.new.out
+    c.args.sessions.now _ c.args.store.now done.new.store c.args.place _ c.args.terms.now.moment c.args.host.now
+    done.new.host c.args.out.now done.new.out c.send_all.new.out
     (g.L.Link.queue c.args.link.now) (g.L.Link.queue c.send_all.new.link) c.send_all.result
     (sym c.in-Some.ensures.index) (get_or_read c.args.sessions.now c.args.place here c.requires.within read new_serving)
-    (ap (λ (xs : List Serving). slice_set xs c.args.place done.new.kept) c.sessions.view_is) c.requires.empty c.send_all.ensures.sends c.send_all.ensures.empty c.send_all.ensures.told done.ensures
+    (ap (λ (xs : List Serving). slice_set xs c.args.place done.new.kept) c.sessions.view_is) c.requires.empty
+    c.send_all.ensures.sends c.send_all.ensures.empty c.send_all.ensures.told done.ensures

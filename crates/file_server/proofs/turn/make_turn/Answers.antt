@@ -12,7 +12,10 @@ returns-clause-turn g c =
       came = begun.result.came;
       lots = sent.ensures.lots;
       turn = sent.ensures.done;
-      link = goes_over c.args.terms.now.carriage (station (server c.args.host.now c.args.sessions.now c.args.store.now) (queue c.args.link.now) c.args.out.now)
+      link =
+          goes_over c.args.terms.now.carriage
+          (station (server c.args.host.now c.args.sessions.now c.args.store.now) (queue c.args.link.now)
+          c.args.out.now)
           (station (server sent.new.host sent.new.sessions sent.new.store) (queue sent.new.link) sent.new.out)
           (queue begun.new.link) sent.ensures.lots begun.result.came begun.result.worked sent.result c.end_of.result
           begun.ensures.begins sent.ensures.sends sent.ensures.told c.end_of.ensures.work;

@@ -10,5 +10,7 @@ loop-i-preserved c =
     let here = sym c.kept.ensures ∙ ap option_copied c.unwrap.ensures in
     record {
       room = rw c.put_again.ensures (room_step c.loop-i.out _ items c.loop-i.i item here c.loop-i.invariant.room);
-      all = rw (c.put_again.ensures, c.next-num-in-loop-i.ensures) (put_step c.args.self.now c.loop-i.out _ c.loop-i.num items c.loop-i.i item here c.loop-i.invariant.all);
+      all =
+          rw (c.put_again.ensures, c.next-num-in-loop-i.ensures)
+          (put_step c.args.self.now c.loop-i.out _ c.loop-i.num items c.loop-i.i item here c.loop-i.invariant.all);
     }

@@ -12,7 +12,8 @@ returns-in-Some c =
     let es : List Entry = c.self.inside.entries.items in
     let first : position (is_at c.args.old.now) es ≡ Some c.in-Some.place = cc in
     let view : c.args.self.now ≡ files_of es = cc in
-    let free : map.get (files_of es) c.args.path ≡ None = ap (λ m. map.get m c.args.path) (sym view) ∙ c.requires.free in
+    let free : map.get (files_of es) c.args.path ≡ None =
+    ap (λ m. map.get m c.args.path) (sym view) ∙ c.requires.free in
     ap files_of c.move_entry.ensures
     ∙ files_moved c.args.old.now c.args.path es c.in-Some.place first free
     ∙ ap (λ m. with_moved m c.args.old.now c.args.path) (sym view)
@@ -22,6 +23,7 @@ returns-in_default c =
     let es : List Entry = c.self.inside.entries.items in
     let none : position (is_at c.args.old.now) es ≡ None = cc in
     let view : c.args.self.now ≡ files_of es = cc in
-    let gone : is_there c.args.self.now c.args.old.now ≡ false = ap (λ m. is_there m c.args.old.now) view ∙ none_placed c.args.old.now es none in
+    let gone : is_there c.args.self.now c.args.old.now ≡ false =
+    ap (λ m. is_there m c.args.old.now) view ∙ none_placed c.args.old.now es none in
     let k : false ≡ true = sym gone ∙ c.requires.there in
     cc

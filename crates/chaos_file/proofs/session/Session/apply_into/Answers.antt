@@ -10,4 +10,5 @@ end-requires g c = refused_short _ _ _ _ _ _ c.begin.ensures.room c.act-done.res
 pub returns : goal.returns
 returns g c =
     let front : c.begin.new.reply.items ≡ front_to (parsed_view c.parse_command-parsed.result) = cc in
-    is_applied _ c.args.self.now c.act-done.new.self c.args.command.now _ _ c.act-done.result _ _ c.parse_command-parsed.ensures.value front c.end.ensures c.act-done.ensures
+    is_applied _ c.args.self.now c.act-done.new.self c.args.command.now _ _ c.act-done.result _ _
+    c.parse_command-parsed.ensures.value front c.end.ensures c.act-done.ensures

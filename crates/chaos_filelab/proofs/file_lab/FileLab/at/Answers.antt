@@ -13,10 +13,13 @@ use Rattle.chaos_filelab.proofs.file_lab.FileLab.at.Goals as goal
 pub invariant_of-self : goal.invariant_of-self
 invariant_of-self c =
     let l : FileLabView = file_view c.self.inside in
-    let m : FileLabView = file_view (record { lab = c.step.new.self; server = c.self.inside.server; wanted = c.self.inside.wanted }) in
+    let m : FileLabView =
+    file_view (record { lab = c.step.new.self; server = c.self.inside.server; wanted = c.self.inside.wanted }) in
     let isnt : is_by_server (happening_of c.args.event.now) ≡ false = search rules in
     let laws : PhaseLaws = record { answers = c.law_phases.ensures.answers; asked = c.law_phases.ensures.asked } in
-    let same = quiet laws c.self.inside.lab c.step.new.self (happening_of c.args.event.now) c.step.result c.law_headline.ensures.machine isnt (c.step.ensures.refused, c.step.ensures.machine) in
+    let same =
+    quiet laws c.self.inside.lab c.step.new.self (happening_of c.args.event.now) c.step.result
+    c.law_headline.ensures.machine isnt (c.step.ensures.refused, c.step.ensures.machine) in
     record {
       served = same_keeps l m same refl refl c.self.invariant.served;
       flag = c.self.invariant.flag ∙ ap (list_any is_want) (sym same.written);
@@ -28,6 +31,8 @@ returns-clause-mem c =
     let l : FileLabView = file_view c.self.inside in
     let isnt : is_by_server (happening_of c.args.event.now) ≡ false = search rules in
     let laws : PhaseLaws = record { answers = c.law_phases.ensures.answers; asked = c.law_phases.ensures.asked } in
-    let same = quiet laws c.self.inside.lab c.step.new.self (happening_of c.args.event.now) c.step.result c.law_headline.ensures.machine isnt (c.step.ensures.refused, c.step.ensures.machine) in
+    let same =
+    quiet laws c.self.inside.lab c.step.new.self (happening_of c.args.event.now) c.step.result
+    c.law_headline.ensures.machine isnt (c.step.ensures.refused, c.step.ensures.machine) in
     let view : l ≡ c.args.self.now = search rules in
     ap (list_any is_want) same.written ∙ ap wrote_mem view

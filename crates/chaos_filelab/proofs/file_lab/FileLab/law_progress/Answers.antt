@@ -17,6 +17,8 @@ returns c can =
     let view : file_view c.self.inside ≡ l = search rules in
     let served : IsServed l = subst IsServed view c.self.invariant.served in
     let machine : HasMachine l.lab = subst HasMachine lab c.law_headline.ensures.machine in
-    let sound : (x : Side) → IsConn (lab_end l.lab x).conn = subst (λ (k : LabView). (x : Side) → IsConn (lab_end k x).conn) lab c.law_sound.ensures in
-    let laws : Rests = record { phases = record { answers = c.law_phases.ensures.answers; asked = c.law_phases.ensures.asked }; go_on = c.law_replies.ensures.go_on; taken = c.law_reply_taken.ensures } in
+    let sound : (x : Side) → IsConn (lab_end l.lab x).conn =
+    subst (λ (k : LabView). (x : Side) → IsConn (lab_end k x).conn) lab c.law_sound.ensures in
+    let laws : Rests =
+    record { phases = record { answers = c.law_phases.ensures.answers; asked = c.law_phases.ensures.asked }; go_on = c.law_replies.ensures.go_on; taken = c.law_reply_taken.ensures } in
     serves laws l machine sound can.lab (served can.memory)

@@ -14,7 +14,9 @@ pub returns-clause-replies : goal.returns-clause-replies
 returns-clause-replies c =
     let l : FileLabView = c.args.self.now in
     let lab : c.self.inside.lab ≡ l.lab = search rules in
-    let begins = subst (λ (k : LabView). (x : Side) → Begins (lab_end k (other x)).read (lab_end k x).written) lab c.law_headline.ensures.beginning in
+    let begins =
+    subst (λ (k : LabView). (x : Side) → Begins (lab_end k (other x)).read (lab_end k x).written) lab
+    c.law_headline.ensures.beginning in
     let view : file_view c.self.inside ≡ l = search rules in
     let served : IsServed l = subst IsServed view c.self.invariant.served in
     replies_begin l c.law_replies.ensures.go_on (begins B) (begins A) served

@@ -18,8 +18,10 @@ loop-event-preserved c =
     let m : FileLabView = c.step.new.self in
     let few : wrote_mem m ≡ false = sym c.wrote_mem.ensures ∙ c.if-wrote_mem.false in
     let ok : is_err c.step.result ≡ false = sym c.is_err.ensures.value ∙ c.if-is_err.false in
-    let ran : m ≡ (file_happen l event).view = exact_goes l m event c.step.result (exact_unless l m event c.step.result c.step.ensures.exact few) ok in
-    before_one c.args.self.now (file_settling c.args.self.now) l m event (left c.loop-event.events l) (left c.next.new.self m)
+    let ran : m ≡ (file_happen l event).view =
+    exact_goes l m event c.step.result (exact_unless l m event c.step.result c.step.ensures.exact few) ok in
+    before_one c.args.self.now (file_settling c.args.self.now) l m event (left c.loop-event.events l)
+    (left c.next.new.self m)
     c.loop-event.invariant
     (c.in-Some.ensures.some ∙ ap (λ (k : FileLabView). event ∷ left c.next.new.self k) (sym ran))
     ran
@@ -31,7 +33,10 @@ returns-then-is_err-clause-no_memory c =
     let l : FileLabView = c.loop-event.self in
     let m : FileLabView = c.step.new.self in
     elim c.then-is_err.branch [
-      | then-is_err-via-then-is_err w ↦ inr (stopped_before c.args.self.now (file_settling c.args.self.now) l m event (left c.loop-event.events l) (left c.next.new.self (file_happen l event).view)
-          c.loop-event.invariant c.in-Some.ensures.some (refused_by (m ≡ l) c.step.result (sym c.is_err.ensures.value ∙ w.if-is_err.true) c.step.ensures.refused))
+      | then-is_err-via-then-is_err w ↦ inr
+          (stopped_before c.args.self.now (file_settling c.args.self.now) l m event (left c.loop-event.events l)
+          (left c.next.new.self (file_happen l event).view)
+          c.loop-event.invariant c.in-Some.ensures.some
+          (refused_by (m ≡ l) c.step.result (sym c.is_err.ensures.value ∙ w.if-is_err.true) c.step.ensures.refused))
       | then-is_err-via-else-is_err+then-wrote_mem w ↦ inl (sym w.wrote_mem.ensures ∙ w.if-wrote_mem.true)
     ]

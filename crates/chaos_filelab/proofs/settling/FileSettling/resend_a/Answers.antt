@@ -6,4 +6,6 @@ use Rattle.chaos_filelab.proofs.Stepping.{resends_as}
 use Rattle.chaos_filelab.proofs.settling.FileSettling.resend_a.Goals as goal
 
 pub returns : goal.returns
-returns c = resends_as A (resend_moment A c.args.lab.now.lab) homing c.args.lab.now (file_event c.resending.result) c.resending.ensures
+returns c =
+    resends_as A (resend_moment A c.args.lab.now.lab) homing c.args.lab.now (file_event c.resending.result)
+    c.resending.ensures

@@ -5,4 +5,6 @@ use Rattle.chaos_filelab.proofs.Stepping.{starts_as}
 use Rattle.chaos_filelab.proofs.settling.FileSettling.start.Goals as goal
 
 pub returns : goal.returns
-returns c = starts_as homing c.args.lab.now (file_event c.announcement.result) (length c.copies.result.now) c.announcement.ensures (ap length c.copies.ensures)
+returns c =
+    starts_as homing c.args.lab.now (file_event c.announcement.result) (length c.copies.result.now)
+    c.announcement.ensures (ap length c.copies.ensures)

@@ -6,4 +6,6 @@ use Rattle.chaos_filelab.proofs.Stepping.{tells_as}
 use Rattle.chaos_filelab.proofs.settling.FileSettling.tell.Goals as goal
 
 pub returns : goal.returns
-returns c = tells_as A (answers c.args.self.now) c.args.lab.now (file_event c.announcement.result) (length c.copies.result.now) c.announcement.ensures (ap length c.copies.ensures)
+returns c =
+    tells_as A (answers c.args.self.now) c.args.lab.now (file_event c.announcement.result) (length c.copies.result.now)
+    c.announcement.ensures (ap length c.copies.ensures)

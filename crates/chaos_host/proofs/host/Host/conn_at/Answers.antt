@@ -13,7 +13,10 @@ returns-clause-named c =
     let slot = c.in_ok-used.used.now in
     let found = c.in_ok-used.ensures.lookup in
     let there : slice_get slots c.args.slot ≡ Some slot =
-    ap (λ (xs : List Slot). slice_get xs c.args.slot) (sym c.deref.ensures.value) ∙ slice_get_read read (length read) c.args.slot slot refl found.3.0 found.1 in
+    ap (λ (xs : List Slot). slice_get xs c.args.slot) (sym c.deref.ensures.value)
+    ∙ slice_get_read read (length read) c.args.slot slot refl found.3.0 found.1 in
     let used = ap not (sym c.is_free.ensures ∙ c.if-is_free.false) in
     ap (λ (h : HostView). look_slot (λ conn. conn) (named_slot h.slots c.index_at.result)) (sym c.self.view_is)
-    ∙ ap (look_slot (λ conn. conn)) (index_names slots c.args.slot c.index_at.result slot c.self.invariant.table.few there used (sym c.index_at.ensures))
+    ∙ ap (look_slot (λ conn. conn))
+    (index_names slots c.args.slot c.index_at.result slot c.self.invariant.table.few there used
+    (sym c.index_at.ensures))

@@ -12,7 +12,8 @@ pub returns-clause-does : goal.returns-clause-does
 returns-clause-does c =
     let request = rw (← c.self.view_is) at c.requires in
     let does = rw c.end_at-me.ensures at c.take_request.ensures in
-    rw (← c.self.view_is) (requested_done _ _ _ _ _ _ _ _ _ request.within c.index_mut.ensures.value c.index_at-id.ensures does)
+    rw (← c.self.view_is)
+    (requested_done _ _ _ _ _ _ _ _ _ request.within c.index_mut.ensures.value c.index_at-id.ensures does)
 
 pub returns-clause-holds : goal.returns-clause-holds
 returns-clause-holds c id same =

@@ -9,7 +9,9 @@ returns-then-is_used_up c =
     let sight = sight_of c.in_ok-peek.field-0 in
     let used = sym c.is_used_up.ensures ∙ c.if-is_used_up.true in
     let shown = rw (← c.self.view_is) at c.in_ok-peek.ensures.shown in
-    rw (← c.self.view_is) (consumed_item c.args.host.now (record { id = s.id; place = s.place }) (record { id = s.id; place = 0 }) c.args.count sight c.args.out.now
+    rw (← c.self.view_is)
+    (consumed_item c.args.host.now (record { id = s.id; place = s.place }) (record { id = s.id; place = 0 })
+    c.args.count sight c.args.out.now
     c.read_done-done.new.self c.read_done-done.new.out _ used refl c.read_done-done.ensures shown)
 
 pub returns-else-is_used_up : goal.returns-else-is_used_up
@@ -18,4 +20,6 @@ returns-else-is_used_up c =
     let sight = sight_of c.in_ok-peek.field-0 in
     let used = sym c.is_used_up.ensures ∙ c.if-is_used_up.false in
     let shown = rw (← c.self.view_is) at c.in_ok-peek.ensures.shown in
-    rw (← c.self.view_is) (consumed_bytes c.args.host.now (record { id = s.id; place = s.place }) (record { id = s.id; place = s.place + c.args.count }) c.args.count sight c.args.out.now used refl shown)
+    rw (← c.self.view_is)
+    (consumed_bytes c.args.host.now (record { id = s.id; place = s.place })
+    (record { id = s.id; place = s.place + c.args.count }) c.args.count sight c.args.out.now used refl shown)

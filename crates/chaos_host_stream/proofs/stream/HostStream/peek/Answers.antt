@@ -12,4 +12,6 @@ returns-clause-shown c =
     let s = c.self.inside in
     let whole = c.peek-whole.ensures.shown ∙ ap (λ place. peek_of conn place) c.new.ensures in
     let shown = c.shown_from.ensures ∙ ap (λ sight. sight_from sight s.place) whole in
-    rw (← c.self.view_is) (peek_found (named_slot c.args.host.now.slots s.id) conn s.place (sight_of c.shown_from.result) c.in_ok-conn.ensures shown)
+    rw (← c.self.view_is)
+    (peek_found (named_slot c.args.host.now.slots s.id) conn s.place (sight_of c.shown_from.result)
+    c.in_ok-conn.ensures shown)

@@ -6,4 +6,6 @@ use Rattle.chaos_host_stream.proofs.stream.HostStream.put_eof.Goals as goal
 pub returns-clause-looks : goal.returns-clause-looks
 returns-clause-looks c =
     let s = c.self.inside in
-    rw (← c.self.view_is) (looks_after_write c.args.host.now c.write.new.self s.id s.place c.args.out.now c.write.new.out op_eof [] c.args.now _ c.write.ensures)
+    rw (← c.self.view_is)
+    (looks_after_write c.args.host.now c.write.new.self s.id s.place c.args.out.now c.write.new.out op_eof []
+    c.args.now _ c.write.ensures)

@@ -25,7 +25,8 @@ returns-clause-machine c =
     let new : LabView = c.step.new.self in
     let event : Happening = happening_of c.args.event.now in
     let happens : Happens old event new (told_at old new event c.step.result) = search rules in
-    taken (packet_at old event) (items_at new event) c.step.result ((m : Machine) → Ties m old → (n : Machine) × Step m (plain_event old event) n × Ties n new)
+    taken (packet_at old event) (items_at new event) c.step.result
+    ((m : Machine) → Ties m old → (n : Machine) × Step m (plain_event old event) n × Ties n new)
     (step_on old new event (told_at old new event c.step.result) happens)
 
 -- refusals
@@ -35,7 +36,8 @@ returns-clause-checked c =
     let new : LabView = c.step.new.self in
     let event : Happening = happening_of c.args.event.now in
     let happens : Happens old event new (told_at old new event c.step.result) = search rules in
-    λ why is. refused_so (packet_at old event) (items_at new event) c.step.result why (checked old new event (told_at old new event c.step.result) happens why is)
+    λ why is. refused_so (packet_at old event) (items_at new event) c.step.result why
+    (checked old new event (told_at old new event c.step.result) happens why is)
 
 pub returns-clause-refused : goal.returns-clause-refused
 returns-clause-refused c =
@@ -43,4 +45,5 @@ returns-clause-refused c =
     let new : LabView = c.step.new.self in
     let event : Happening = happening_of c.args.event.now in
     let happens : Happens old event new (told_at old new event c.step.result) = search rules in
-    refused (packet_at old event) (items_at new event) c.step.result (new ≡ old) (unchanged old new event (told_at old new event c.step.result) happens)
+    refused (packet_at old event) (items_at new event) c.step.result (new ≡ old)
+    (unchanged old new event (told_at old new event c.step.result) happens)

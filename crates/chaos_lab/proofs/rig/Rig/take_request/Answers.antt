@@ -16,9 +16,13 @@ invariant_of-self-in_err-stepped c =
     let packet : c.write_into.new.packet ≡ c.in-Some.copy.now.packet = search rules in
     let reply = told c.in-Some.copy.now.packet [] c.take_request.result in
     let made : MakesAt B call c.grow.new.ends c.take_request.new.self c.self.inside.out c.take_request.new.out reply =
-    subst (λ (p : PacketView). MakesAt B (TakeRequest p (place_of B) c.self.inside.clock) c.grow.new.ends c.take_request.new.self c.self.inside.out c.take_request.new.out (told p [] c.take_request.result)) packet c.take_request.ensures in
+    subst
+    (λ (p : PacketView). MakesAt B (TakeRequest p (place_of B) c.self.inside.clock) c.grow.new.ends
+    c.take_request.new.self c.self.inside.out c.take_request.new.out (told p [] c.take_request.result))
+    packet c.take_request.ensures in
     let same : AreSame B call c.grow.new.ends c.take_request.new.self c.self.inside.out c.take_request.new.out reply =
-    makes_at_err B call c.grow.new.ends c.take_request.new.self c.self.inside.out c.take_request.new.out reply c.in_err-stepped.field-0.0 (search rules) made in
+    makes_at_err B call c.grow.new.ends c.take_request.new.self c.self.inside.out c.take_request.new.out reply
+    c.in_err-stepped.field-0.0 (search rules) made in
     let a = same.a in
     let b = same.b in
     let packets = same.packets in
@@ -30,9 +34,13 @@ returns-in_err-stepped c =
     let packet : c.write_into.new.packet ≡ c.in-Some.copy.now.packet = search rules in
     let reply = told c.in-Some.copy.now.packet [] c.take_request.result in
     let made : MakesAt B call c.grow.new.ends c.take_request.new.self c.self.inside.out c.take_request.new.out reply =
-    subst (λ (p : PacketView). MakesAt B (TakeRequest p (place_of B) c.self.inside.clock) c.grow.new.ends c.take_request.new.self c.self.inside.out c.take_request.new.out (told p [] c.take_request.result)) packet c.take_request.ensures in
+    subst
+    (λ (p : PacketView). MakesAt B (TakeRequest p (place_of B) c.self.inside.clock) c.grow.new.ends
+    c.take_request.new.self c.self.inside.out c.take_request.new.out (told p [] c.take_request.result))
+    packet c.take_request.ensures in
     let same : AreSame B call c.grow.new.ends c.take_request.new.self c.self.inside.out c.take_request.new.out reply =
-    makes_at_err B call c.grow.new.ends c.take_request.new.self c.self.inside.out c.take_request.new.out reply c.in_err-stepped.field-0.0 (search rules) made in
+    makes_at_err B call c.grow.new.ends c.take_request.new.self c.self.inside.out c.take_request.new.out reply
+    c.in_err-stepped.field-0.0 (search rules) made in
     let at : slice_get c.args.self.now.copies c.args.k ≡ Some c.in-Some.copy.now = search (rules, gets) in
     let a = same.a in
     let b = same.b in
@@ -42,6 +50,8 @@ returns-in_err-stepped c =
 -- B took it
 pub returns : goal.returns
 returns c =
-    let none = makes_ok _ _ _ _ _ _ (in_full c.write_into.new.packet [] c.in_ok-stepped.stepped) (search rules) c.take_request.ensures.0 in
+    let none =
+    makes_ok _ _ _ _ _ _ (in_full c.write_into.new.packet [] c.in_ok-stepped.stepped) (search rules)
+    c.take_request.ensures.0 in
     let at : slice_get c.args.self.now.copies c.args.k ≡ Some c.in-Some.copy.now = search (rules, gets) in
     rw at (search rules)

@@ -20,6 +20,10 @@ returns-then-eq-clause-ok g c =
     let same : end_view c.grow.new.ends.b ≡ l.b = search rules in
     let clock : c.self.inside.clock ≡ l.clock = search rules in
     let empty : before.packets ≡ [] = search rules in
-    let may = subst (λ (z : EndView × ℕ). g.U.User.may_turn c.args.user.now c.take_turn-turned.new.user z.0.conn z.1 t.0) (λ j. (same j, clock j)) t.1 in
-    let ends : EndTurns l.b l.clock t.0 e before after turned.Replied = subst (λ (z : EndView × ℕ × Turned). EndTurns z.0 z.1 t.0 e before after z.2) (λ j. (same j, clock j, done j)) t.2 in
+    let may =
+    subst (λ (z : EndView × ℕ). g.U.User.may_turn c.args.user.now c.take_turn-turned.new.user z.0.conn z.1 t.0)
+    (λ j. (same j, clock j)) t.1 in
+    let ends : EndTurns l.b l.clock t.0 e before after turned.Replied =
+    subst (λ (z : EndView × ℕ × Turned). EndTurns z.0 z.1 t.0 e before after z.2) (λ j. (same j, clock j, done j))
+    t.2 in
     (t.0, may, ends.conn.taken, turned_lab l _ t.0 turned.Replied e before after ends empty (search rules))

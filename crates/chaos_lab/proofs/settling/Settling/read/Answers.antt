@@ -13,5 +13,8 @@ returns-then-times-eq0 c =
       | then-times-eq0-via-then-times-eq0 w ↦ inl w.if-times-eq0.true
       | then-times-eq0-via-else-times-eq0+then-waits w ↦ inr (sym w.waits.ensures ∙ w.if-waits.true)
     ])
-    ∙ ap (λ (b : Burst). then_on c.args.side c.args.self.now (bringing c.args.side b.from (sent_to c.args.side c.args.self.now).to c.args.lab.now) c.args.lab.now) (sym c.sent_to.ensures)
+    ∙ ap
+    (λ (b : Burst). then_on c.args.side c.args.self.now
+    (bringing c.args.side b.from (sent_to c.args.side c.args.self.now).to c.args.lab.now) c.args.lab.now)
+    (sym c.sent_to.ensures)
     ∙ c.come.ensures

@@ -12,7 +12,10 @@ returns c =
     let t : Settling = c.match-side.self in
     takes_as c.args.side c.args.self.now t c.args.lab.now c.recv_cap.result c.recv_cap.ensures
     (elim c.match-side.branch [
-      | in-A w ↦ subst (λ (y : Side). IsTaken y n c.args.self.now t) (sym (let is : c.args.side ≡ A = search rules in is)) (ap (λ (s : Settling). s.of_a) w.self-is, ap (λ (s : Settling). s.of_b.from) w.self-is, ap (λ (s : Settling). s.of_b.to) w.self-is ∙ ap length w.copies.ensures)
-      | in-B w ↦ subst (λ (y : Side). IsTaken y n c.args.self.now t) (sym (let is : c.args.side ≡ B = search rules in is)) w.self-is
+      | in-A w ↦ subst (λ (y : Side). IsTaken y n c.args.self.now t)
+          (sym (let is : c.args.side ≡ A = search rules in is))
+          (ap (λ (s : Settling). s.of_a) w.self-is, ap (λ (s : Settling). s.of_b.from) w.self-is, ap (λ (s : Settling). s.of_b.to) w.self-is ∙ ap length w.copies.ensures)
+      | in-B w ↦ subst (λ (y : Side). IsTaken y n c.args.self.now t)
+          (sym (let is : c.args.side ≡ B = search rules in is)) w.self-is
     ])
     ∙ c.read.ensures

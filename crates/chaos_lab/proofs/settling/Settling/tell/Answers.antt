@@ -11,9 +11,14 @@ use Rattle.chaos_lab.proofs.settling.Settling.tell.Goals as goal
 pub returns : goal.returns
 returns c =
     let n : ℕ = length c.copies-copy.result.now in
-    let t : Settling = record { place = place.Hear c.args.side n; of_a = c.match-side.self.of_a; of_b = c.match-side.self.of_b } in
-    told c.args.side c.args.self.now t c.args.lab.now (happening_of c.announcement.result) n c.announcement.ensures (ap length c.copies-copy.ensures)
+    let t : Settling =
+    record { place = place.Hear c.args.side n; of_a = c.match-side.self.of_a; of_b = c.match-side.self.of_b } in
+    told c.args.side c.args.self.now t c.args.lab.now (happening_of c.announcement.result) n c.announcement.ensures
+    (ap length c.copies-copy.ensures)
     (elim c.match-side.branch [
-      | in-A w ↦ subst (λ (y : Side). IsTold y n c.args.self.now t) (sym (let is : c.args.side ≡ A = search rules in is)) (ap (λ (s : Settling). s.of_a.from) w.self-is, ap (λ (s : Settling). s.of_a.to) w.self-is)
-      | in-B w ↦ subst (λ (y : Side). IsTold y n c.args.self.now t) (sym (let is : c.args.side ≡ B = search rules in is)) tt
+      | in-A w ↦ subst (λ (y : Side). IsTold y n c.args.self.now t)
+          (sym (let is : c.args.side ≡ A = search rules in is))
+          (ap (λ (s : Settling). s.of_a.from) w.self-is, ap (λ (s : Settling). s.of_a.to) w.self-is)
+      | in-B w ↦ subst (λ (y : Side). IsTold y n c.args.self.now t)
+          (sym (let is : c.args.side ≡ B = search rules in is)) tt
     ])

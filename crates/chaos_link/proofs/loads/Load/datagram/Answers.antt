@@ -9,7 +9,8 @@ use Rattle.chaos_link.proofs.loads.Load.datagram.Goals as goal
 pub returns-clause-carried : goal.returns-clause-carried
 returns-clause-carried c =
     let s = c.self.inside in
-    subst (λ (load : List PacketView). Carries2 load (take s.end s.bytes)) c.self.view_is (built_carries (load_in s.end s.bytes) s.to s.end s.bytes c.self.invariant)
+    subst (λ (load : List PacketView). Carries2 load (take s.end s.bytes)) c.self.view_is
+    (built_carries (load_in s.end s.bytes) s.to s.end s.bytes c.self.invariant)
 
 pub returns-clause-read : goal.returns-clause-read
 returns-clause-read c = read_two c.args.self.now _ (returns-clause-carried c)

@@ -5,8 +5,12 @@ use Rattle.chaos_link.proofs.loads.Load.of.Goals as goal
 pub invariant_of-result : goal.invariant_of-result
 invariant_of-result c =
     let to = ap (λ p. p.dst) c.packet.view_is in
-    let built = built_in (c.args.packet.now ∷ []) c.args.packet.now.dst c.put_first-end.result c.put_first-end.new.buffer c.put_first-end.ensures in
+    let built =
+    built_in (c.args.packet.now ∷ []) c.args.packet.now.dst c.put_first-end.result c.put_first-end.new.buffer
+    c.put_first-end.ensures in
     rw to built
 
 pub returns : goal.returns
-returns c = view_of (c.args.packet.now ∷ []) c.args.packet.now.dst c.put_first-end.result c.put_first-end.new.buffer c.put_first-end.ensures
+returns c =
+    view_of (c.args.packet.now ∷ []) c.args.packet.now.dst c.put_first-end.result c.put_first-end.new.buffer
+    c.put_first-end.ensures

@@ -8,7 +8,8 @@ invariant-loop l = record {
   count : length l.self.out.packets + l.counter ≤ 64;
   room : vec_len l.sent + length l.self.out.packets ≤ vec_capacity l.sent;
   spares : length l.self.out.packets ≤ vec_len l.self.spares;
-  joined : l.sent.items ++ map (kept_by l.fn.seat l.fn.self.events) l.self.out.packets ≡ l.fn.sent.items ++ map (kept_by l.fn.seat l.fn.self.events) l.fn.self.out.packets;
+  joined : l.sent.items ++ map (kept_by l.fn.seat l.fn.self.events) l.self.out.packets
+      ≡ l.fn.sent.items ++ map (kept_by l.fn.seat l.fn.self.events) l.fn.self.out.packets;
   cap : l.self.out.cap ≡ l.fn.self.out.cap;
   events : l.self.events ≡ l.fn.self.events;
 }

@@ -15,27 +15,63 @@ answer-requires c = may_a c.self.inside c.self.invariant
 
 pub invariant_of-self : goal.invariant_of-self
 invariant_of-self c =
-    sound_a c.self.inside (record { a = c.answer.new.self; b = c.self.inside.b; desk = c.answer.new.desk }) c.answer.result (At A (Ends c.args.id (Answer c.args.bytes.now))) c.self.invariant refl
+    sound_a c.self.inside (record { a = c.answer.new.self; b = c.self.inside.b; desk = c.answer.new.desk })
+    c.answer.result (At A (Ends c.args.id (Answer c.args.bytes.now))) c.self.invariant refl
     (if_map c.answer.result _ _ (λ told d. done_keeps _ _ _ _ _ _ _ d) c.answer.ensures.done)
-    (if_map c.answer.result _ _ (λ told d. did_end (net_view c.self.inside) (net_view (record { a = c.answer.new.self; b = c.self.inside.b; desk = c.answer.new.desk })) A c.args.id (Answer c.args.bytes.now) refl (made_a c.self.inside (record { a = c.answer.new.self; b = c.self.inside.b; desk = c.answer.new.desk }) _ _ _ refl d)) c.answer.ensures.done)
+    (if_map c.answer.result _ _
+    (λ told d. did_end (net_view c.self.inside)
+    (net_view (record { a = c.answer.new.self; b = c.self.inside.b; desk = c.answer.new.desk })) A c.args.id
+    (Answer c.args.bytes.now) refl
+    (made_a c.self.inside (record { a = c.answer.new.self; b = c.self.inside.b; desk = c.answer.new.desk }) _ _
+    _ refl d))
+    c.answer.ensures.done)
     c.answer.ensures.same
 
 pub returns-in-A-clause-happens : goal.returns-in-A-clause-happens
 returns-in-A-clause-happens c =
-    moved (λ v x. OnOk c.answer.result (Happens v (At x (Ends c.args.id (Answer c.args.bytes.now))) (net_view (record { a = c.answer.new.self; b = c.self.inside.b; desk = c.answer.new.desk })))) c.self.view_is c.in-A.is
-    (if_map c.answer.result _ _ (λ told d. did_end (net_view c.self.inside) (net_view (record { a = c.answer.new.self; b = c.self.inside.b; desk = c.answer.new.desk })) A c.args.id (Answer c.args.bytes.now) refl (made_a c.self.inside (record { a = c.answer.new.self; b = c.self.inside.b; desk = c.answer.new.desk }) _ _ _ refl d)) c.answer.ensures.done)
+    moved
+    (λ v x. OnOk c.answer.result
+    (Happens v (At x (Ends c.args.id (Answer c.args.bytes.now)))
+    (net_view (record { a = c.answer.new.self; b = c.self.inside.b; desk = c.answer.new.desk }))))
+    c.self.view_is c.in-A.is
+    (if_map c.answer.result _ _
+    (λ told d. did_end (net_view c.self.inside)
+    (net_view (record { a = c.answer.new.self; b = c.self.inside.b; desk = c.answer.new.desk })) A c.args.id
+    (Answer c.args.bytes.now) refl
+    (made_a c.self.inside (record { a = c.answer.new.self; b = c.self.inside.b; desk = c.answer.new.desk }) _ _
+    _ refl d))
+    c.answer.ensures.done)
 
 pub answer-requires-in-B : goal.answer-requires-in-B
 answer-requires-in-B c = may_b c.self.inside c.self.invariant
 
 pub invariant_of-self-in-B : goal.invariant_of-self-in-B
 invariant_of-self-in-B c =
-    sound_b c.self.inside (record { a = c.self.inside.a; b = c.answer-in-B.new.self; desk = c.answer-in-B.new.desk }) c.answer-in-B.result (At B (Ends c.args.id (Answer c.args.bytes.now))) c.self.invariant refl
+    sound_b c.self.inside (record { a = c.self.inside.a; b = c.answer-in-B.new.self; desk = c.answer-in-B.new.desk })
+    c.answer-in-B.result (At B (Ends c.args.id (Answer c.args.bytes.now))) c.self.invariant refl
     (if_map c.answer-in-B.result _ _ (λ told d. done_keeps _ _ _ _ _ _ _ d) c.answer-in-B.ensures.done)
-    (if_map c.answer-in-B.result _ _ (λ told d. did_end (net_view c.self.inside) (net_view (record { a = c.self.inside.a; b = c.answer-in-B.new.self; desk = c.answer-in-B.new.desk })) B c.args.id (Answer c.args.bytes.now) refl (made_b c.self.inside (record { a = c.self.inside.a; b = c.answer-in-B.new.self; desk = c.answer-in-B.new.desk }) _ _ _ refl d)) c.answer-in-B.ensures.done)
+    (if_map c.answer-in-B.result _ _
+    (λ told d. did_end (net_view c.self.inside)
+    (net_view (record { a = c.self.inside.a; b = c.answer-in-B.new.self; desk = c.answer-in-B.new.desk })) B
+    c.args.id (Answer c.args.bytes.now) refl
+    (made_b c.self.inside
+    (record { a = c.self.inside.a; b = c.answer-in-B.new.self; desk = c.answer-in-B.new.desk }) _ _ _ refl
+    d))
+    c.answer-in-B.ensures.done)
     c.answer-in-B.ensures.same
 
 pub returns-in-B-clause-happens : goal.returns-in-B-clause-happens
 returns-in-B-clause-happens c =
-    moved (λ v x. OnOk c.answer-in-B.result (Happens v (At x (Ends c.args.id (Answer c.args.bytes.now))) (net_view (record { a = c.self.inside.a; b = c.answer-in-B.new.self; desk = c.answer-in-B.new.desk })))) c.self.view_is c.in-B.is
-    (if_map c.answer-in-B.result _ _ (λ told d. did_end (net_view c.self.inside) (net_view (record { a = c.self.inside.a; b = c.answer-in-B.new.self; desk = c.answer-in-B.new.desk })) B c.args.id (Answer c.args.bytes.now) refl (made_b c.self.inside (record { a = c.self.inside.a; b = c.answer-in-B.new.self; desk = c.answer-in-B.new.desk }) _ _ _ refl d)) c.answer-in-B.ensures.done)
+    moved
+    (λ v x. OnOk c.answer-in-B.result
+    (Happens v (At x (Ends c.args.id (Answer c.args.bytes.now)))
+    (net_view (record { a = c.self.inside.a; b = c.answer-in-B.new.self; desk = c.answer-in-B.new.desk }))))
+    c.self.view_is c.in-B.is
+    (if_map c.answer-in-B.result _ _
+    (λ told d. did_end (net_view c.self.inside)
+    (net_view (record { a = c.self.inside.a; b = c.answer-in-B.new.self; desk = c.answer-in-B.new.desk })) B
+    c.args.id (Answer c.args.bytes.now) refl
+    (made_b c.self.inside
+    (record { a = c.self.inside.a; b = c.answer-in-B.new.self; desk = c.answer-in-B.new.desk }) _ _ _ refl
+    d))
+    c.answer-in-B.ensures.done)

@@ -4,4 +4,5 @@ use Rattle.chaosd_copy.proofs.Spelled.{front_spelled}
 use Rattle.chaosd_copy.proofs.errand.Errand.command.Goals as goal
 
 pub returns-in-OpenWrite : goal.returns-in-OpenWrite
-returns-in-OpenWrite c = rw (c.in-OpenWrite.is) (c.spelled-in-OpenWrite.ensures ∙ front_spelled _ _ (OpenWrite c.in-OpenWrite.path.now))
+returns-in-OpenWrite c =
+    rw (c.in-OpenWrite.is) (c.spelled-in-OpenWrite.ensures ∙ front_spelled _ _ (OpenWrite c.in-OpenWrite.path.now))

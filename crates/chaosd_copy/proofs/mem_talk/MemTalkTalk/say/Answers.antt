@@ -5,7 +5,9 @@ use Rattle.chaosd_copy.proofs.mem_talk.MemTalkTalk.say.Goals as goal
 pub invariant_of-self-2 : goal.invariant_of-self-2
 invariant_of-self-2 c = record {
   within = search rules;
-  honest = serves_next (λ v. v.items) _ _ _ _ _ _ c.args.self.now.said.items _ c.args.self.now.replies.items _ c.kept.result c.in-Some.reply c.args.command.now
+  honest =
+      serves_next (λ v. v.items) _ _ _ _ _ _ c.args.self.now.said.items _ c.args.self.now.replies.items _ c.kept.result
+      c.in-Some.reply c.args.command.now
       c.args.self.now.honest
       (c.push_reserved.ensures.items ∙ ap (λ l. l ++ c.kept.result ∷ []) c.reserve.ensures.items)
       (c.push_reserved-2.ensures.items ∙ ap (λ l. l ++ c.in-Some.reply ∷ []) c.reserve-else-is_err.ensures.items)

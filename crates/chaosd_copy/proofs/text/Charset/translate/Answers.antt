@@ -11,4 +11,5 @@ loop-i-preserved c =
     let below : c.loop-i.i < length c.loop-i.bytes = search rules in
     let there : x ≡ get_or c.loop-i.bytes c.loop-i.i x = get_or_default c.loop-i.bytes c.loop-i.i 0 x below in
     ap (slice_set c.loop-i.bytes c.loop-i.i) c.byte.ensures
-    ∙ map_over_more (byte_in c.args.self) c.args.bytes.now c.loop-i.bytes c.loop-i.i x c.loop-i-test.true c.loop-i.invariant there
+    ∙ map_over_more (byte_in c.args.self) c.args.bytes.now c.loop-i.bytes c.loop-i.i x c.loop-i-test.true
+    c.loop-i.invariant there

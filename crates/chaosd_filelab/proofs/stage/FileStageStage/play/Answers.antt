@@ -20,7 +20,9 @@ returns-then-eq-clause-played g c =
     let new = written_of (g.W.Write.contents c.settle.new.writer) c.settle.new.out in
     IfOk-weaker c.settle.result _ _
     (λ refused did ready.
-    let p = settle_plays c.args.line.now c.self.inside.lab c.settle.new.lab old new refused is did (ap wrote_mem view ∙ ready) in
+    let p =
+    settle_plays c.args.line.now c.self.inside.lab c.settle.new.lab old new refused is did
+    (ap wrote_mem view ∙ ready) in
     (subst (λ (l : FileLabView). PlaysLine filelab_script c.args.line.now l c.settle.new.lab old new refused) view p.0, p.1))
     c.settle.ensures.settled
 
@@ -29,7 +31,9 @@ returns-then-eq-clause-no_memory g c wants =
     let view : c.self.inside.lab ≡ c.args.self.now = search rules in
     let is : bytes_eq c.args.line.now settle_word ≡ true = search rules in
     let (text, of_settling, more) = c.settle.ensures.no_memory wants in
-    let (some, told) = settle_wants c.args.line.now c.args.self.now c.settle.new.lab text is (subst (λ (l : FileLabView). WantsSettling l c.settle.new.lab text) view of_settling) in
+    let (some, told)
+    = settle_wants c.args.line.now c.args.self.now c.settle.new.lab text is
+    (subst (λ (l : FileLabView). WantsSettling l c.settle.new.lab text) view of_settling) in
     (some, λ ready. (text, told, more))
 
 pub returns-clause-played : goal.returns-clause-played
@@ -39,7 +43,8 @@ returns-clause-played g c =
     let held = g.W.Write.contents c.args.writer.now in
     IfOk-weaker c.play.result _ _
     (λ refused did ready.
-    let p = line_plays c.args.line.now c.self.inside.lab c.play.new.lab held c.args.out.now c.play.new.out refused is did in
+    let p =
+    line_plays c.args.line.now c.self.inside.lab c.play.new.lab held c.args.out.now c.play.new.out refused is did in
     (subst (λ (l : FileLabView). PlaysLine filelab_script c.args.line.now l c.play.new.lab (written_of held c.args.out.now) (written_of held c.play.new.out) refused) view p.0, p.1))
     c.play.ensures.played
 
@@ -54,6 +59,8 @@ returns-clause-no_memory g c is =
     let view : c.self.inside.lab ≡ c.args.self.now = search rules in
     let other : bytes_eq c.args.line.now settle_word ≡ false = search rules in
     let (event, said, more) = c.play.ensures.no_memory is in
-    let (some, told) = line_wants c.args.line.now c.self.inside.lab c.play.new.lab (g.W.Write.contents c.args.writer.now) c.args.out.now c.play.new.out event other said in
+    let (some, told)
+    = line_wants c.args.line.now c.self.inside.lab c.play.new.lab (g.W.Write.contents c.args.writer.now)
+    c.args.out.now c.play.new.out event other said in
     let new = written_of (g.W.Write.contents c.args.writer.now) c.play.new.out in
     (some, λ ready. subst (λ (l : FileLabView). (text : List ℕ) × filelab_script.wants l c.args.line.now c.play.new.lab text × Appends (written_of (g.W.Write.contents c.args.writer.now) c.args.out.now) new text) view (told (more (ap wrote_mem view ∙ ready))))

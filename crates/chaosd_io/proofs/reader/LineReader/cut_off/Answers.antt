@@ -28,6 +28,8 @@ returns-in-None-clause-cut g c =
     let room : r.room ≡ c.args.self.now.room = search rules in (
       search rules,
       nothing r.bytes r.to,
-      joined r.bytes r.begin r.from r.to (omega arith) (omega arith) ∙ ap (λ l. l ++ take (r.to - r.from) (drop r.from r.bytes)) begun ∙ ap (λ l. c.args.self.now.begun ++ l) waits,
+      joined r.bytes r.begin r.from r.to (omega arith) (omega arith)
+          ∙ ap (λ l. l ++ take (r.to - r.from) (drop r.from r.bytes)) begun
+          ∙ ap (λ l. c.args.self.now.begun ++ l) waits,
       room,
     )

@@ -14,4 +14,5 @@ returns-else-self g c limit input rest given s end =
     let r = c.self.inside in
     let begun : take (r.from - r.begin) (drop r.begin r.bytes) ≡ c.args.self.now.begun = search rules in
     let some : 0 < length c.args.self.now.begun = search rules in
-    subst (λ l. GivesLast g.row.KEPT limit input rest given (Some l)) (sym begun) (one_last _ limit input rest given _ c.requires.kept c.requires.waiting some s end)
+    subst (λ l. GivesLast g.row.KEPT limit input rest given (Some l)) (sym begun)
+    (one_last _ limit input rest given _ c.requires.kept c.requires.waiting some s end)

@@ -16,7 +16,8 @@ returns-then-is_settle-clause-played g c =
     let old = written_of (g.W.Write.contents c.args.writer.now) c.args.out.now in
     let new = written_of (g.W.Write.contents c.settle.new.writer) c.settle.new.out in
     IfOk-weaker c.settle.result _ _
-    (λ refused did ready. (subst (λ (l : LabView). PlaysLine lab_script c.args.line.now l c.settle.new.lab old new refused) view (settle_plays c.args.line.now c.self.inside.lab c.settle.new.lab old new refused is did), tt))
+    (λ refused did ready.
+    (subst (λ (l : LabView). PlaysLine lab_script c.args.line.now l c.settle.new.lab old new refused) view (settle_plays c.args.line.now c.self.inside.lab c.settle.new.lab old new refused is did), tt))
     c.settle.ensures.settled
 
 pub returns-then-is_settle-clause-no_memory : goal.returns-then-is_settle-clause-no_memory
@@ -24,7 +25,9 @@ returns-then-is_settle-clause-no_memory g c wants =
     let view : c.self.inside.lab ≡ c.args.self.now = search rules in
     let is : bytes_eq c.args.line.now settle_word ≡ true = search rules in
     let (text, of_settling, more) = c.settle.ensures.no_memory wants in
-    let (some, told) = settle_wants c.args.line.now c.args.self.now c.settle.new.lab text is (subst (λ (l : LabView). WantsSettling l c.settle.new.lab text) view of_settling) in
+    let (some, told)
+    = settle_wants c.args.line.now c.args.self.now c.settle.new.lab text is
+    (subst (λ (l : LabView). WantsSettling l c.settle.new.lab text) view of_settling) in
     (some, λ ready. (text, told, more))
 
 pub returns-clause-played : goal.returns-clause-played
@@ -34,8 +37,12 @@ returns-clause-played g c =
     let held = g.W.Write.contents c.args.writer.now in
     IfOk-weaker c.play.result _ _
     (λ refused did ready. (
-      subst (λ (l : LabView). PlaysLine lab_script c.args.line.now l c.play.new.lab (written_of held c.args.out.now) (written_of held c.play.new.out) refused) view
-          (event_line_plays c.args.line.now c.self.inside.lab c.play.new.lab held c.args.out.now c.play.new.out refused is did),
+      subst
+          (λ (l : LabView). PlaysLine lab_script c.args.line.now l c.play.new.lab (written_of held c.args.out.now)
+          (written_of held c.play.new.out) refused)
+          view
+          (event_line_plays c.args.line.now c.self.inside.lab c.play.new.lab held c.args.out.now c.play.new.out refused
+          is did),
       tt,
     ))
     c.play.ensures.played
@@ -51,5 +58,7 @@ returns-clause-no_memory g c is =
     let view : c.self.inside.lab ≡ c.args.self.now = search rules in
     let other : bytes_eq c.args.line.now settle_word ≡ false = search rules in
     let (said, lab, text) = c.play.ensures.no_memory is in
-    let (some, told) = event_line_wants c.args.line.now c.args.self.now c.play.new.lab (g.W.Write.contents c.args.writer.now) c.args.out.now c.play.new.out other said (lab ∙ view) text in
+    let (some, told)
+    = event_line_wants c.args.line.now c.args.self.now c.play.new.lab (g.W.Write.contents c.args.writer.now)
+    c.args.out.now c.play.new.out other said (lab ∙ view) text in
     (some, λ ready. told)

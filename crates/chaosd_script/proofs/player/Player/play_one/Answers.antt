@@ -14,28 +14,45 @@ returns-then-line-gt-LINE_LIMIT-clause-stops g c before ended s =
     let raw = c.args.raw.now in
     let line : c.without_return-line.result.now ≡ strip_last 13 raw = c.without_return-line.ensures in
     let x = c.if-line-gt-LINE_LIMIT.true in
-    too_long_stops g.S.Stage.script before _ _ ended raw (subst (λ l. ltb LINE_LIMIT (length l) ≡ true) line (grind (arith, nat_tests))) s
+    too_long_stops g.S.Stage.script before _ _ ended raw
+    (subst (λ l. ltb LINE_LIMIT (length l) ≡ true) line (grind (arith, nat_tests))) s
 
 pub returns-in_err-refused-clause-stops : goal.returns-in_err-refused-clause-stops
 returns-in_err-refused-clause-stops g c =
     on_fault c.from_residual.result c.in_err-refused.field-0.0 _ c.from_residual.ensures.1 (λ before ended s.
     let raw = c.args.raw.now in
     let line : c.without_return-line.result.now ≡ strip_last 13 raw = c.without_return-line.ensures in
-    event_stops g.S.Stage.script c.in_err-refused.field-0.0 before _ _ _ ended raw c.in-Some.lab c.play.new.self c.in-Some.is (subst (λ l. ltb LINE_LIMIT (length l) ≡ false) line (grind (arith, nat_tests)))
+    event_stops g.S.Stage.script c.in_err-refused.field-0.0 before _ _ _ ended raw c.in-Some.lab c.play.new.self
+    c.in-Some.is (subst (λ l. ltb LINE_LIMIT (length l) ≡ false) line (grind (arith, nat_tests)))
     c.in_err-refused.ensures.faults
-    (λ n e. let (number, said, same) = c.in_err-refused.ensures.bad n e in (number, ap g.S.Stage.script.event (sym line) ∙ said, same))
-    (λ e. let (said, more) = c.in_err-refused.ensures.no_memory e in (λ none. said (ap g.S.Stage.script.event line ∙ none), λ ready. let (text, wants, wrote) = more ready in (text, subst (λ l. g.S.Stage.script.wants c.in-Some.lab l c.play.new.self text) line wants, wrote))) s)
+    (λ n e. let (number, said, same) = c.in_err-refused.ensures.bad n
+    e in (number, ap g.S.Stage.script.event (sym line) ∙ said, same))
+    (λ e. let (said, more) = c.in_err-refused.ensures.no_memory
+    e in (λ none. said (ap g.S.Stage.script.event line ∙ none), λ ready. let (text, wants, wrote) = more ready in (text, subst (λ l. g.S.Stage.script.wants c.in-Some.lab l c.play.new.self text) line wants, wrote)))
+    s)
 
 pub returns-clause-plays : goal.returns-clause-plays
 returns-clause-plays g c before ended s =
     let raw = c.args.raw.now in
     let line : c.without_return-line.result.now ≡ strip_last 13 raw = c.without_return-line.ensures in
-    plays_event g.S.Stage.script before _ _ _ _ ended raw c.in-Some.lab c.play.new.self c.in_ok-refused.refused c.in-Some.is (search rules) (subst (λ l. ltb LINE_LIMIT (length l) ≡ false) line (grind (arith, nat_tests)))
-    (subst (λ l. g.S.Stage.script.ready c.in-Some.lab → PlaysLine g.S.Stage.script l c.in-Some.lab c.play.new.self (written_of (g.W.Write.contents c.args.writer.now) c.args.self.now.out) (written_of (g.W.Write.contents c.play.new.writer) c.play.new.out) c.in_ok-refused.refused × g.S.Stage.script.ready c.play.new.self) line c.in_ok-refused.ensures.played) s
+    plays_event g.S.Stage.script before _ _ _ _ ended raw c.in-Some.lab c.play.new.self c.in_ok-refused.refused
+    c.in-Some.is (search rules) (subst (λ l. ltb LINE_LIMIT (length l) ≡ false) line (grind (arith, nat_tests)))
+    (subst
+    (λ l. g.S.Stage.script.ready c.in-Some.lab
+    → PlaysLine g.S.Stage.script l c.in-Some.lab c.play.new.self
+    (written_of (g.W.Write.contents c.args.writer.now) c.args.self.now.out)
+    (written_of (g.W.Write.contents c.play.new.writer) c.play.new.out) c.in_ok-refused.refused
+    × g.S.Stage.script.ready c.play.new.self)
+    line c.in_ok-refused.ensures.played)
+    s
 
 -- the first line, whatever the writer holds
 pub returns-in_default-clause-plays : goal.returns-in_default-clause-plays
-returns-in_default-clause-plays g c = on_ok c.play_first.result (λ plays _. plays (g.W.Write.contents c.args.writer.now)) c.play_first.ensures.plays c.play_first.ensures.plays
+returns-in_default-clause-plays g c =
+    on_ok c.play_first.result (λ plays _. plays (g.W.Write.contents c.args.writer.now)) c.play_first.ensures.plays
+    c.play_first.ensures.plays
 
 pub returns-in_default-clause-stops : goal.returns-in_default-clause-stops
-returns-in_default-clause-stops g c = IfErr-weaker c.play_first.result _ _ (λ fault stops. stops (g.W.Write.contents c.args.writer.now)) c.play_first.ensures.stops
+returns-in_default-clause-stops g c =
+    IfErr-weaker c.play_first.result _ _ (λ fault stops. stops (g.W.Write.contents c.args.writer.now))
+    c.play_first.ensures.stops

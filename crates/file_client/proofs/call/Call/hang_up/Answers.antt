@@ -2,4 +2,5 @@ use Rattle.std.proofs.Common.{ap}
 use Rattle.file_client.proofs.call.Call.hang_up.Goals as goal
 
 pub returns-clause-same_clock : goal.returns-clause-same_clock
-returns-clause-same_clock g c = (ap (λ t. t.0) c.hang_up.ensures.same_turns.1, ap (λ t. t.1) c.hang_up.ensures.same_turns.1)
+returns-clause-same_clock g c =
+    (ap (λ t. t.0) c.hang_up.ensures.same_turns.1, ap (λ t. t.1) c.hang_up.ensures.same_turns.1)

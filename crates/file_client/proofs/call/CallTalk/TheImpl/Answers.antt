@@ -3,4 +3,5 @@ use Rattle.chaosd_copy.specs.Talk.{counted}
 use Rattle.file_client.proofs.call.CallTalk.TheImpl.Goals as goal
 
 pub hear-tells : goal.hear-tells
-hear-tells g c = record { heard = sym c.ensures.talk; still = ap counted c.ensures.still; unfailed = c.ensures.unfailed }
+hear-tells g c =
+    record { heard = sym c.ensures.talk; still = ap counted c.ensures.still; unfailed = c.ensures.unfailed }

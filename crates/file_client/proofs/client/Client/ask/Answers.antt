@@ -8,8 +8,11 @@ returns-then-take_behind-clause-talk g c =
     let item = command_item c.args.command.now in
     let time = c.in_ok-is_written.ensures.same_turns.1 ∙ c.loop-turn.invariant.same_time in
     let pace = g.T.Turns.pace (g.T.Turns.time c.args.turns.now) in
-    let again = talks_again pace _ _ _ item c.loop-turn.is_written c.in_ok-is_written.is_written c.loop-turn.turn c.loop-turn.invariant.talk (rw c.loop-turn.invariant.same_time at c.in_ok-is_written.ensures.talk) in
-    exchange_done pace _ _ _ c.args.command.now c.take_behind.new.reply.items c.in_ok-is_written.is_written (c.loop-turn.turn + 1) (c.take_behind.ensures.written c.if-take_behind.true) again
+    let again =
+    talks_again pace _ _ _ item c.loop-turn.is_written c.in_ok-is_written.is_written c.loop-turn.turn
+    c.loop-turn.invariant.talk (rw c.loop-turn.invariant.same_time at c.in_ok-is_written.ensures.talk) in
+    exchange_done pace _ _ _ c.args.command.now c.take_behind.new.reply.items c.in_ok-is_written.is_written
+    (c.loop-turn.turn + 1) (c.take_behind.ensures.written c.if-take_behind.true) again
     (rw (c.if-take_behind.true, time) at c.take_behind.ensures.talk)
 
 -- what was written so far, and nothing was heard
@@ -18,20 +21,29 @@ returns-then-is_over-clause-talk g c =
     let item = command_item c.args.command.now in
     let time = c.in_ok-is_written.ensures.same_turns.1 ∙ c.loop-turn.invariant.same_time in
     let pace = g.T.Turns.pace (g.T.Turns.time c.args.turns.now) in
-    let again = talks_again pace _ _ _ item c.loop-turn.is_written c.in_ok-is_written.is_written c.loop-turn.turn c.loop-turn.invariant.talk (rw c.loop-turn.invariant.same_time at c.in_ok-is_written.ensures.talk) in
-    let unheard = talks_unheard pace _ _ _ item false c.in_ok-is_written.is_written (c.loop-turn.turn + 1) again (rw (c.if-take_behind.false, time) at c.take_behind.ensures.talk) in
-    exchange_none pace _ _ c.args.command.now c.in_ok-is_written.is_written (c.loop-turn.turn + 1) unheard (inr (sym c.is_over.ensures ∙ c.if-is_over.true))
+    let again =
+    talks_again pace _ _ _ item c.loop-turn.is_written c.in_ok-is_written.is_written c.loop-turn.turn
+    c.loop-turn.invariant.talk (rw c.loop-turn.invariant.same_time at c.in_ok-is_written.ensures.talk) in
+    let unheard =
+    talks_unheard pace _ _ _ item false c.in_ok-is_written.is_written (c.loop-turn.turn + 1) again
+    (rw (c.if-take_behind.false, time) at c.take_behind.ensures.talk) in
+    exchange_none pace _ _ c.args.command.now c.in_ok-is_written.is_written (c.loop-turn.turn + 1) unheard
+    (inr (sym c.is_over.ensures ∙ c.if-is_over.true))
 
 pub loop-turn-preserved : goal.loop-turn-preserved
 loop-turn-preserved g c =
     let item = command_item c.args.command.now in
     let time = c.in_ok-is_written.ensures.same_turns.1 ∙ c.loop-turn.invariant.same_time in
     let pace = g.T.Turns.pace (g.T.Turns.time c.args.turns.now) in
-    let again = talks_again pace _ _ _ item c.loop-turn.is_written c.in_ok-is_written.is_written c.loop-turn.turn c.loop-turn.invariant.talk (rw c.loop-turn.invariant.same_time at c.in_ok-is_written.ensures.talk) in
+    let again =
+    talks_again pace _ _ _ item c.loop-turn.is_written c.in_ok-is_written.is_written c.loop-turn.turn
+    c.loop-turn.invariant.talk (rw c.loop-turn.invariant.same_time at c.in_ok-is_written.ensures.talk) in
     record {
       shown = rw c.take_behind.ensures.same (rw c.loop-turn.invariant.same_time at c.in_ok-is_written.ensures.moment);
       same_links = (c.in_ok-is_written.ensures.same_turns.0 ∙ c.loop-turn.invariant.same_links);
       same_time = (c.in_ok-is_written.ensures.same_turns.1 ∙ c.loop-turn.invariant.same_time);
       unfailed = (omega (arith, c.loop-turn.invariant.unfailed, c.in_ok-is_written.ensures.unfailed));
-      talk = talks_unheard pace _ _ _ item false c.in_ok-is_written.is_written (c.loop-turn.turn + 1) again (rw (c.if-take_behind.false, time) at c.take_behind.ensures.talk);
+      talk =
+          talks_unheard pace _ _ _ item false c.in_ok-is_written.is_written (c.loop-turn.turn + 1) again
+          (rw (c.if-take_behind.false, time) at c.take_behind.ensures.talk);
     }

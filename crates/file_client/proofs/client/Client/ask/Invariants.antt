@@ -9,6 +9,7 @@ invariant-loop-turn g l = record {
   same_links : g.T.Turns.links l.turns ≡ g.T.Turns.links l.fn.turns;
   same_time : g.T.Turns.time l.turns ≡ g.T.Turns.time l.fn.turns;
   unfailed : g.T.Turns.failures l.turns ≤ g.T.Turns.failures l.fn.turns;
-  talk : WritesAndTurns (g.T.Turns.pace (g.T.Turns.time l.fn.turns)) l.turn (talker l.fn.self.caller (g.T.Turns.queue l.fn.turns)) (command_item l.command) false l.is_written
+  talk : WritesAndTurns (g.T.Turns.pace (g.T.Turns.time l.fn.turns)) l.turn
+      (talker l.fn.self.caller (g.T.Turns.queue l.fn.turns)) (command_item l.command) false l.is_written
       (talker l.self.caller (g.T.Turns.queue l.turns));
 }

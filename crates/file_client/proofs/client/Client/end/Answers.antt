@@ -11,8 +11,12 @@ loop-turn-preserved g c =
       same_links = c.in_ok-is_written.ensures.same_turns.0 ∙ c.loop-turn.invariant.same_links;
       same_time = c.in_ok-is_written.ensures.same_turns.1 ∙ c.loop-turn.invariant.same_time;
       unfailed = omega (arith, c.loop-turn.invariant.unfailed, c.in_ok-is_written.ensures.unfailed);
-      talk = talks_again pace _ _ _ eof_item c.loop-turn.is_written c.in_ok-is_written.is_written c.loop-turn.turn c.loop-turn.invariant.talk (rw c.loop-turn.invariant.same_time at c.in_ok-is_written.ensures.talk);
+      talk =
+          talks_again pace _ _ _ eof_item c.loop-turn.is_written c.in_ok-is_written.is_written c.loop-turn.turn
+          c.loop-turn.invariant.talk (rw c.loop-turn.invariant.same_time at c.in_ok-is_written.ensures.talk);
     }
 
 pub returns-then-not-has_connection-clause-talk : goal.returns-then-not-has_connection-clause-talk
-returns-then-not-has_connection-clause-talk g c = farewell_none _ c.args.self.now.caller (g.T.Turns.queue c.args.turns.now) (sym c.has_connection.ensures ∙ c.if-not-has_connection.true)
+returns-then-not-has_connection-clause-talk g c =
+    farewell_none _ c.args.self.now.caller (g.T.Turns.queue c.args.turns.now)
+    (sym c.has_connection.ensures ∙ c.if-not-has_connection.true)
