@@ -12,7 +12,7 @@ HEAD = re.compile(r"^(\s*)(?:(?:abbrev|unfoldable) pub|pub (?:record|data))\s+([
 ELSE = re.compile(r"^(?:use|pub mod)\b")
 WITHIN = re.compile(r"^module\b")
 USE = re.compile(r"\buse\s+Rattle\.([\w.]+?)(?:\.\{([^}]*)\})?(?:\s+as\s+(\w+))?\s*(?:;|$)", re.M)
-RUST_USE = re.compile(r"(?<!ghost )\buse\s+(chaos\w*)::([^;]*);")
+RUST_USE = re.compile(r"(?<!ghost )\buse\s+(?!(?:crate|self|super)\b)(\w+)::([^;]*);")
 NAME = re.compile(r"[\w']+(?:\.[\w']+)*")
 
 

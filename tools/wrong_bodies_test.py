@@ -28,6 +28,12 @@ pub fn next(n: u8) -> u8
 {
     n + 1
 }
+
+pub fn other(n: u8) -> u8
+    ensures { result ≡ n }
+{
+    n
+}
 """
 
 HIGH = """pub const MOST: u8 = twice(8);
@@ -56,6 +62,23 @@ impl Link for Queue {
 fn silent() {
     let nothing = 0;
 }
+
+use low::Count;
+
+fn after(n: u8) -> u8 {
+    low::next(Count(n).0)
+}
+"""
+
+WORDS = """-- a word
+abbrev pub word : N
+word = below
+
+abbrev pub below : N
+below = 1
+
+abbrev pub spare : N
+spare = 0
 """
 
 EDITS = {
@@ -100,7 +123,9 @@ def example(folder, names):
         (folder / "crates" / crate / "src").mkdir(parents=True)
         (folder / "crates" / crate / "src/lib.rt").write_text(text)
     (folder / "crates/low/specs").mkdir()
-    (folder / "crates/low/specs/Lib.antt").write_text("-- words\npub mod Words\n")
+    (folder / "crates/low/specs/Words.antt").write_text(WORDS)
+    (folder / "crates/high/specs").mkdir()
+    (folder / "crates/high/specs/Words.antt").write_text("use Rattle.low.specs.Words.{word}\n")
     (folder / "crates.txt").write_text("low: arrayvec\nhigh: low # the upper one\n")
     (folder / "HANDLES").write_text("Handles allowed: none.\n")
     (folder / "docs").mkdir()
@@ -210,8 +235,16 @@ class SumsOfCrates(Example):
             ("crates/high/src/lib.rt", "    let one", "    // why\n        let  one"),
             ("crates/low/src/lib.rt", "    n + 1\n", "    1 + n\n"),
             ("crates/low/src/lib.rt", "/// The next number.", "/// The number after this one."),
-            ("crates/low/specs/Lib.antt", "-- words", "-- the words"),
+            ("crates/low/specs/Words.antt", "-- a word", "-- some word"),
             ("crates/high/wrong-bodies/two.edit", "WRONG", "3"),
+        ):
+            self.assertEqual(before, self.sum_after(path, old, new), new)
+
+    def test_what_it_does_not_name_is_not_covered(self):
+        before = Sums(self.top).of("high", self.edit("one"))
+        for path, old, new in (
+            ("crates/low/src/lib.rt", "result ≡ n }", "result ≡ n + 0 }"),
+            ("crates/low/specs/Words.antt", "spare = 0", "spare = 1"),
         ):
             self.assertEqual(before, self.sum_after(path, old, new), new)
 
@@ -220,7 +253,7 @@ class SumsOfCrates(Example):
             ("crates/high/src/lib.rt", "    2\n", "    1 + 1\n"),
             ("crates/low/src/lib.rt", "result ≡ n + 1", "result ≡ 1 + n"),
             ("crates/low/src/lib.rt", "Count(pub u8)", "Count(pub u16)"),
-            ("crates/low/specs/Lib.antt", "pub mod Words", "pub mod Numbers"),
+            ("crates/low/specs/Words.antt", "below = 1", "below = 2"),
             ("crates/high/wrong-bodies/one.edit", "WRONG", "3"),
         ):
             before = Sums(self.top).of("high", self.edit("one"))
@@ -248,15 +281,6 @@ class Refused(Example):
         (self.top / "crates/high/src/lib.rt").write_text(HIGH + "pub fn third() {}\n")
         status, lines, _ = self.tried("--changed")
         self.assertEqual((0, "5 passed, 0 failed"), (status, lines[-1]))
-
-    def test_what_is_marked_untried_is_told_until_it_is_tried(self):
-        self.tried()
-        kept = self.top / "docs/wrong-bodies.sums"
-        kept.write_text("".join(f"{it} untried\n" for it in kept.read_text().split("\n") if it))
-        told = "5 of them were refused when they were written, and not tried since: `make wrong-bodies` tries them"
-        self.assertIn(told, self.tried("--changed")[1])
-        self.tried()
-        self.assertNotIn("untried", kept.read_text())
 
     def test_a_sum_of_what_is_gone_goes(self):
         self.tried()
