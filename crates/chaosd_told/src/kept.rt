@@ -34,8 +34,10 @@ fn last_start(bytes: &[u8]) -> usize
 }
 
 impl<'a, R: Read> Kept<'a, R> {
-    /// Nothing was read yet.
-    pub fn new(alloc: Global, inner: &'a mut R) -> Self {
+    /// Nothing was read yet: it holds the reader that is lent, as it was.
+    pub fn new(alloc: Global, inner: &'a mut R) -> Self
+        ensures { (result.inner.ghost_name ≡ inner.entry.ghost_name) × (result.inner.now ≡ inner.old) }
+    {
         Kept {
             inner,
             lines: Vec::new(alloc),

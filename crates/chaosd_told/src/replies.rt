@@ -1,4 +1,6 @@
 //! What the replies of a script leave undone.
+ghost use Rattle.std.specs.Prelude.{◌≡◌};
+
 use arrayvec::ArrayVec;
 use std::cell::Cell;
 use std::io;
@@ -124,8 +126,10 @@ impl Watch<'_> {
 }
 
 impl<'a, W: Write> Replies<'a, W> {
-    /// Nothing was printed yet.
-    pub fn new(inner: &'a mut W, notes: &'a Notes) -> Self {
+    /// Nothing was printed yet: it holds the writer that is lent, as it was.
+    pub fn new(inner: &'a mut W, notes: &'a Notes) -> Self
+        ensures { (result.inner.ghost_name ≡ inner.entry.ghost_name) × (result.inner.now ≡ inner.old) }
+    {
         Replies {
             inner,
             watch: Watch {

@@ -1,4 +1,6 @@
 //! Reports of packets, and beside them what their data say.
+ghost use Rattle.std.specs.Prelude.{◌≡◌};
+
 use crate::file::put_file;
 use arrayvec::ArrayVec;
 use chaosd_io::{Data, NotWritten, WriteBuffer, put_text};
@@ -56,8 +58,10 @@ fn full(_: NotWritten) -> io::Error {
 }
 
 impl<'a, W: Write> Reports<'a, W> {
-    /// Nothing was reported yet.
-    pub fn new(inner: &'a mut W) -> Self {
+    /// Nothing was reported yet: it holds the writer that is lent, as it was.
+    pub fn new(inner: &'a mut W) -> Self
+        ensures { (result.inner.ghost_name ≡ inner.entry.ghost_name) × (result.inner.now ≡ inner.old) }
+    {
         Reports {
             inner,
             line: ArrayVec::new(),
