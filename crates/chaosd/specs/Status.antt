@@ -1,11 +1,16 @@
 -- The exit statuses of a program that was not asked for a run.
 use Rattle.std.specs.Prelude.{ℕ, Bool, false}
-use Rattle.chaosd_line.specs.Fault.{line_status}
 use Rattle.chaosd_line.specs.declared.fault.LineFault.{LineFault}
 use Rattle.chaosd_line.specs.declared.fault.LineFault.TheVariants.{BadLine, Help}
 use Rattle.chaosd_line.specs.declared.fault.LineFault.TheVariants as line
 use Rattle.chaosd.specs.declared.words.WordsFault.{WordsFault}
 use Rattle.chaosd.specs.declared.words.WordsFault.TheVariants.{NotText, NoMemory}
+
+-- the number of a fault of the line: help or the version was shown, the line is bad, or memory ran out
+abbrev pub line_status : LineFault → ℕ
+line_status Help = 0
+line_status line.BadLine = 2
+line_status line.NoMemory = 4
 
 -- words that cannot be had end the program as the line's own faults do
 abbrev pub words_status : WordsFault → ℕ

@@ -32,6 +32,17 @@ is_done BadLine = false
 is_done Fault = false
 is_done NoMemory = false
 
+-- the number of a fault: 4 out of memory, 2 at a bad line, else 1: reading, writing, a link or the clock failed, or the input is
+-- too long
+abbrev pub fault_status : RunFault → ℕ
+fault_status f.ReadFault = 1
+fault_status f.WriteFault = 1
+fault_status f.InputTooLong = 1
+fault_status f.NoMemory = 4
+fault_status (f.BadScript line) = 2
+fault_status f.LinkFault = 1
+fault_status f.ClockFault = 1
+
 -- that of a run which ended by a fault
 abbrev pub status_of_fault : RunFault → ExitStatus
 status_of_fault f.ReadFault = Fault

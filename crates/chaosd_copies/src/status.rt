@@ -1,7 +1,6 @@
 //! Exit statuses.
 ghost use Rattle.std.specs.Prelude.{◌≡◌};
-ghost use Rattle.chaosd_io.specs.Status.{fault_status};
-ghost use Rattle.chaosd_copies.specs.Status.{number_of, rank, worse, status_of_fault, status_of_run};
+ghost use Rattle.chaosd_copies.specs.Status.{number_of, fault_status, rank, worse, status_of_fault, status_of_run};
 
 use chaosd_io::RunFault;
 

@@ -11,12 +11,10 @@ mod limits;
 mod loop_run;
 mod replies;
 mod script;
-mod status;
 mod why;
 
 pub use ask_run::run_ask;
 pub use end::ScriptEnd;
 pub use limits::{LOOP_CLIENT, LOOP_SERVER, NOBODY};
 pub use loop_run::run_loop;
-pub use status::script_status;
 pub use why::{BadLine, Why};

@@ -133,15 +133,6 @@ pub fn read_data(text: &[u8], bytes: &mut Data) -> Option<()>
     Some(())
 }
 
-/// The bytes that a text stands for, as [`read_data`] reads them, by value.
-pub fn data_of(text: &[u8]) -> Option<Data>
-    ensures { option_map (λ v. v.items) result ≡ data_of text.now }
-{
-    let mut data = ArrayVec::new();
-    read_data(text, &mut data)?;
-    Some(data)
-}
-
 /// A lower-case hexadecimal digit.
 fn low_hex_digit(digit: u8) -> u8
     requires { digit < 16 }

@@ -1,5 +1,5 @@
 //! What the engines of the program `chaosd` share: a reader of lines, a buffer of text that waits to be written, bytes as
-//! text, and the faults and statuses of a run.
+//! text, and the faults of a run.
 //!
 //! Each works on a reader or a writer that its caller hands in: no sockets, no files and no clock. Nothing is allocated.
 #![tactic(auto)]
@@ -12,16 +12,14 @@ mod limits;
 mod lines;
 mod memory;
 mod reader;
-mod status;
 mod texts;
 
 pub use buffer::{NotWritten, WriteBuffer};
-pub use escapes::{Data, data_of, law_read_back, put_text, read_data};
+pub use escapes::{Data, law_read_back, put_text, read_data};
 pub use fault::{RunFault, written};
 pub use input::{ByRead, ReadOnce, read_chunk};
 pub use limits::{BUFFER_LEN, CHUNK_LEN, INPUT_LIMIT, KEPT_LEN, LINE_LIMIT, law_limits};
 pub use lines::without_return;
 pub use memory::{ByMemory, MemInput};
 pub use reader::LineReader;
-pub use status::{BAD_SCRIPT, DONE, FAULT, NO_MEMORY, REFUSED, fault_status};
 pub use texts::{put_decimal, put_line, put_octal_three};

@@ -8,5 +8,4 @@ pub mod Answers
 pub mod Happen
 pub mod Typed
 pub mod Settle
-pub mod Status
 pub mod Play

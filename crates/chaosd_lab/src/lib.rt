@@ -16,7 +16,6 @@ mod parse;
 mod run;
 mod settle;
 mod start;
-mod status;
 mod typed;
 
 pub use answers::{put_copies, put_named, put_refusal, put_stepped, put_stored};
@@ -26,5 +25,4 @@ pub use names::state_name;
 pub use parse::event_of;
 pub use run::run_lab;
 pub use start::{Start, start_of};
-pub use status::lab_status;
 pub use typed::put_event;

@@ -1,5 +1,5 @@
--- What is wrong with a command line, and the statuses that it ends a program with.
-use Rattle.std.specs.Prelude.{◌≡◌, ◌⊎◌, ◌∷◌, ℕ, List, [], MatchResult, Result}
+-- What is wrong with a command line.
+use Rattle.std.specs.Prelude.{◌≡◌, ◌⊎◌, ◌∷◌, List, [], MatchResult, Result}
 use Rattle.clap.specs.Values.{kind_of}
 use Rattle.clap.specs.Words.{IsAmong, Text, fault_of}
 use Rattle.clap.specs.declared.error.Error.{Error}
@@ -19,12 +19,6 @@ IsTold (unread.Bad word) kind = (kind ≡ ValueValidation) ⊎ (kind ≡ OutOfMe
 IsTold (unread.Clash files) kind = (kind ≡ ValueValidation) ⊎ (kind ≡ OutOfMemory)
 IsTold unread.NoMemory kind = kind ≡ OutOfMemory
 
--- the exit status of a fault
-abbrev pub line_status : LineFault → ℕ
-line_status Help = 0
-line_status BadLine = 2
-line_status NoMemory = 4
-
 -- the fault that a kind of clap's errors stands for: the version is shown as help is
 abbrev pub fault_of_kind : ErrorKind → LineFault
 fault_of_kind DisplayHelp = Help
@@ -36,7 +30,7 @@ fault_of_kind _ = BadLine
 abbrev pub HasBadValue : List Text → Type 0
 HasBadValue words = (fault_of chaosd words ≡ []) × ((line : Line) → ¬ (IsLineOf words line))
 
--- the kind is want of memory, one of those that clap has for the words, or that of a bad value
+-- the kind is out of memory, one of those that clap has for the words, or that of a bad value
 abbrev pub IsKindFor : List Text → ErrorKind → Type 0
 IsKindFor words kind = IsAmong kind (OutOfMemory ∷ fault_of chaosd words)
     ⊎ ((kind ≡ ValueValidation) × HasBadValue words)

@@ -1,18 +1,9 @@
 //! Why a command line asks for nothing.
 ghost use Rattle.std.specs.Prelude.{◌≡◌};
-ghost use Rattle.chaosd_line.specs.Fault.{fault_of_kind, line_status};
+ghost use Rattle.chaosd_line.specs.Fault.{fault_of_kind};
 
 use clap::error::ErrorKind;
 use thiserror::Error;
-
-/// The status of a program that did what it was asked, or showed help or its version.
-const DONE: u8 = 0;
-
-/// The status of a program that could not make sense of its command line.
-const BAD_LINE: u8 = 2;
-
-/// The status of a program that ran out of memory.
-const NO_MEMORY: u8 = 4;
 
 /// Why a command line asks for nothing. Cast to an integer, a fault is its number, 1 to 3.
 #[derive(Clone, Copy, Debug, PartialEq, Eq, Error)]
@@ -28,24 +19,10 @@ pub enum LineFault {
     NoMemory = 3,
 }
 
-impl LineFault {
-    /// The exit status of a program that ends by this fault: 0 where help or the version was shown, 2 for a bad
-    /// line, 4 for want of memory.
-    pub fn status(self) -> u8
-        ensures { result ≡ line_status self }
-    {
-        match self {
-            LineFault::BadLine => BAD_LINE,
-            LineFault::Help => DONE,
-            LineFault::NoMemory => NO_MEMORY,
-        }
-    }
-}
-
 impl From<ErrorKind> for LineFault {
     ghost from_gives = { λ kind fault. fault ≡ fault_of_kind kind };
 
-    /// The fault that clap's kind of error stands for: every kind but help, the version and want of
+    /// The fault that clap's kind of error stands for: every kind but help, the version and being out of
     /// memory is a bad line.
     fn from(kind: ErrorKind) -> LineFault {
         match kind {

@@ -8,7 +8,7 @@ ghost use Rattle.chaosd_line.specs.Files.{last_of, are_distinct, are_paths};
 use crate::names::is_path;
 
 /// What stands behind a text's last slash, and the whole where it has none.
-pub fn last_name(text: &[u8]) -> &[u8]
+pub(crate) fn last_name(text: &[u8]) -> &[u8]
     ensures { result.now ≡ last_of text.now }
 {
     let mut start = 0;

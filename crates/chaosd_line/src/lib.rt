@@ -1,7 +1,7 @@
 //! The command line of `chaosd`: which line the words ask for, or what the user is told instead.
 //!
 //! It reads the words that the caller passes, by `clap`, and nothing else: no environment, no
-//! input, no output, no clock, no folder and no socket. It allocates, and a want of memory is a
+//! input, no output, no clock, no folder and no socket. It allocates, and running out of memory is a
 //! fault of its own.
 //!
 //! `parse_line` keeps clap's error, whose text is for the user, and `read_line` keeps the fault
@@ -28,7 +28,6 @@ mod values;
 mod word;
 
 pub use fault::LineFault;
-pub use files::last_name;
 pub use law::law_one_line;
 pub use line::{Ask, Calling, Copying, Delete, Get, Line, LogLevel, Put, Rename, Serve};
 pub use parse::{parse_line, read_line};

@@ -52,7 +52,7 @@ fn error_of(
     command_of(alloc, subcommand)?.error(ErrorKind::ValueValidation, text.as_str())
 }
 
-/// The same, or want of memory.
+/// The same, or out of memory.
 fn told_by(alloc: Global, text: Result<String, AllocError>, subcommand: Option<&str>) -> Error
     ensures { (kind_of result ≡ ValueValidation) ⊎ (kind_of result ≡ OutOfMemory) }
 {
@@ -84,7 +84,7 @@ pub fn parse_line<'a, S: AsStr>(alloc: Global, words: &'a [S]) -> Result<Line<'a
     // The line is what the subcommand and the values that clap gives for the words stand for.
     ensures line { IfOk result (IsLineOf (map S.text words.now)) }
 
-    // It is `Ok` only where nothing is wrong with the words. An `Err` is want of memory, one of
+    // It is `Ok` only where nothing is wrong with the words. An `Err` is out of memory, one of
     // the mistakes, or the wish for help, that clap finds in the words, or where it finds none, a
     // value that is not of its form.
     ensures kinds { FailsFor (map S.text words.now) result }
@@ -101,7 +101,7 @@ pub fn read_line<'a, S: AsStr>(alloc: Global, words: &'a [S]) -> Result<Line<'a>
     // The line is what the subcommand and the values that clap gives for the words stand for.
     ensures line { IfOk result (IsLineOf (map S.text words.now)) }
 
-    // It is `Ok` only where nothing is wrong with the words. The fault is want of memory, or
+    // It is `Ok` only where nothing is wrong with the words. The fault is out of memory, or
     // stands for a kind of error that the words have.
     ensures faults { RefusesFor (map S.text words.now) result }
 {

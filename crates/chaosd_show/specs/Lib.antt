@@ -3,4 +3,3 @@ pub mod Report
 pub mod Entry
 pub mod Show
 pub mod Shown
-pub mod Status

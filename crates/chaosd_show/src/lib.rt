@@ -11,11 +11,9 @@ mod limits;
 mod report;
 mod reporter;
 mod run;
-mod status;
 mod tally;
 
 pub use law::law_report;
 pub use limits::{SHOW_KEPT_LEN, SHOW_LINE_LIMIT, law_limits};
 pub use run::run_show;
-pub use status::show_status;
 pub use tally::Tally;

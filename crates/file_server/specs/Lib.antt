@@ -5,7 +5,6 @@ pub mod Server
 pub mod Service
 pub mod Sessions
 pub mod Slots
-pub mod Status
 pub mod Turn
 pub mod Waiting
 pub mod Watch
