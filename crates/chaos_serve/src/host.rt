@@ -42,8 +42,8 @@ fn finish_at(host: &mut Host, id: ConnId, out: &mut Outbox) -> Served
     Served::Eof
 }
 
-/// Serves the item in front of a connection, by calls of the host. It has no room of a reply of its own, so that a connection
-/// with nothing in front is passed over by one look.
+/// Serves the item in front of a connection, by calls of the host. The room for a reply is made for a command alone, so that a
+/// connection with nothing in front is passed over by one look.
 fn serve_by_calls<S: Store>(
     alloc: Global,
     host: &mut Host,
@@ -52,7 +52,6 @@ fn serve_by_calls<S: Store>(
     store: &mut S,
     now: u64,
     out: &mut Outbox,
-    reply: &mut Reply,
 ) -> Served
     requires { 2 ≤ room_of out.old }
     ensures { DoesWorkByCalls (change S.contents S.may_give S.count store.old store.new) session.old session.new
@@ -67,7 +66,8 @@ fn serve_by_calls<S: Store>(
         Task::Full => Served::NoRoom,
         Task::LastItem => finish_at(host, id, out),
         Task::Command(body) => {
-            session.apply_into(alloc, store, body, reply);
+            let mut reply = Reply::new();
+            session.apply_into(alloc, store, body, &mut reply);
             answer_at(host, id, reply.as_slice(), now, out)
         }
     }
@@ -90,25 +90,5 @@ pub fn serve_one<S: Store>(
     ensures { ServesOne (change S.contents S.may_give S.count store.old store.new) session.old session.new
         host.old id now host.new out.old out.new result }
 {
-    let mut reply = Reply::new();
-    serve_one_by(alloc, host, id, session, store, now, out, &mut reply)
-}
-
-/// The same with a room for the reply that its caller keeps, whatever it holds: one that serves many connections makes it once.
-/// What it holds afterwards no clause says.
-pub fn serve_one_by<S: Store>(
-    alloc: Global,
-    host: &mut Host,
-    id: ConnId,
-    session: &mut Session,
-    store: &mut S,
-    now: u64,
-    out: &mut Outbox,
-    reply: &mut Reply,
-) -> Served
-    requires { 2 ≤ room_of out.old }
-    ensures { ServesOne (change S.contents S.may_give S.count store.old store.new) session.old session.new
-        host.old id now host.new out.old out.new result }
-{
-    serve_by_calls(alloc, host, id, session, store, now, out, reply)
+    serve_by_calls(alloc, host, id, session, store, now, out)
 }

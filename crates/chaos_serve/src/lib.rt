@@ -17,6 +17,6 @@ mod task;
 pub use conn::serve_conn;
 pub use contact::CONTACT;
 pub use due::{can_serve, can_serve_conn};
-pub use host::{serve_one, serve_one_by};
+pub use host::serve_one;
 pub use law::law_reply_taken;
 pub use served::Served;

@@ -9,11 +9,11 @@ ghost use Rattle.file_server.specs.Sessions.{serving_of};
 
 use crate::sessions::{Kept, Sessions};
 use crate::terms::Terms;
-use chaos_file::{Reply, Store};
+use chaos_file::Store;
 use chaos_host::{ConnId, Host};
 use chaos_link::Link;
 use chaos_packet::Outbox;
-use chaos_serve::{can_serve_conn, serve_one_by};
+use chaos_serve::{can_serve_conn, serve_one};
 use chaos_turn::{TURN_ROOM, send_all};
 
 /// Serves a connection once by a slot's session, which is a new one where it served another connection before.
@@ -23,7 +23,6 @@ fn serve_kept<S: Store>(
     kept: &mut Kept,
     store: &mut S,
     out: &mut Outbox,
-    reply: &mut Reply,
     terms: &Terms,
 )
     requires { 2 ≤ room_of out.old }
@@ -32,16 +31,7 @@ fn serve_kept<S: Store>(
 {
     kept.turn_to(id);
     let session = &mut *kept.session;
-    let served = serve_one_by(
-        terms.alloc,
-        host,
-        id,
-        session,
-        store,
-        terms.moment,
-        out,
-        reply,
-    );
+    let served = serve_one(terms.alloc, host, id, session, store, terms.moment, out);
     kept.note(served);
 }
 
@@ -72,8 +62,7 @@ fn serve_slot<S: Store, L: Link>(
     if kept.serves(id) && !can_serve_conn(at.1) {
         return false;
     }
-    let reply = &mut sessions.reply;
-    serve_kept(host, id, kept, store, out, reply, terms);
+    serve_kept(host, id, kept, store, out, terms);
     send_all(link, out, terms.carriage)
 }
 

@@ -4,7 +4,7 @@ ghost use Rattle.chaos_host.specs.View.{id_at};
 ghost use Rattle.file_server.specs.Sessions.{Serving, new_serving, serving_at, serving_of, eof_after, without_files};
 ghost use Rattle.file_server.specs.Slots.{given_back, given_back_at};
 
-use chaos_file::{Reply, Session};
+use chaos_file::Session;
 use chaos_host::{ConnId, Host};
 use chaos_serve::Served;
 use std::alloc::{AllocError, Global};
@@ -37,8 +37,6 @@ impl Model for Kept {
 #[derive(Drop)]
 pub struct Sessions {
     pub(crate) kept: Vec<Kept>,
-    /// The room in which each reply is made, one for all slots; no contract sees it.
-    pub(crate) reply: Reply,
 }
 
 impl Model for Sessions {
@@ -63,10 +61,7 @@ impl Sessions {
         for i in 0..conns {
             kept.push(Kept::new(alloc)?)?;
         }
-        Ok(Sessions {
-            kept,
-            reply: Reply::new(),
-        })
+        Ok(Sessions { kept })
     }
 
     /// The number of slots for which it has a session.

@@ -7,7 +7,7 @@ use Rattle.file_server.proofs.serving.serve_kept.Goals as goal
 
 pub returns : goal.returns
 returns g c =
-    let done = c.serve_one_by-served in
+    let done = c.serve_one-served in
     let turned = c.kept.view_is ∙ c.turn_to.ensures in
     kept_so (change g.S.Store.contents g.S.Store.may_give g.S.Store.count c.args.store.now done.new.store)
     (serving_of c.args.id c.args.kept.now) c.note.new.self done.new.session

@@ -1,6 +1,6 @@
 use Rattle.chaos_file.specs.Store.{change}
 use Rattle.chaos_serve.proofs.Slots.{serves_one}
-use Rattle.chaos_serve.proofs.host.serve_one_by.Goals as goal
+use Rattle.chaos_serve.proofs.host.serve_one.Goals as goal
 
 pub returns : goal.returns
 returns g c =
