@@ -11,7 +11,6 @@ use Rattle.chaos_packet.specs.Number.{num}
 use Rattle.chaos_conn.specs.declared.time.Due.{Due}
 use Rattle.chaos_conn.specs.Act.Call.{Tick}
 use Rattle.chaos_conn.specs.Time.{is_down, is_resend_due, is_probe_due, at_moment, due_of, ticked_by, act_tick}
-use Rattle.chaos_conn.specs.Sending.{packets_from}
 use Rattle.chaos_conn.specs.Calls.{front_of}
 use Rattle.chaos_lab.specs.declared.side.Side.{Side}
 use Rattle.chaos_lab.specs.Machine.{PlainEnd as Plain, Kind, Told, Copy, Machine, other, end_of, with_end, IsSent, Step}

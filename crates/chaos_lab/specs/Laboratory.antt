@@ -1,5 +1,5 @@
 -- What contracts see of the laboratory, and what each event makes of it.
-use Rattle.std.specs.Prelude.{◌≡◌, ℕ, ◌-◌, max, Bool, true, false, ◌&&◌, not, nat_lt, if◌then◌else◌, List, [], ◌∷◌, ◌++◌, length, map, take, codes, Option, Some, None, slice_get, Result, Ok, Err, ◌⊎◌, ⊤}
+use Rattle.std.specs.Prelude.{◌≡◌, ℕ, ◌-◌, max, Bool, true, false, ◌&&◌, not, nat_lt, if◌then◌else◌, List, [], ◌∷◌, ◌++◌, length, map, take, codes, Option, Some, None, slice_get, Result, Ok, Err, ◌⊎◌}
 use Rattle.std.specs.Option.{option_to_list}
 use Rattle.chaos_packet.specs.Item.{ItemView}
 use Rattle.chaos_packet.specs.Opcode.{kind_of, is_rfc}
@@ -238,11 +238,6 @@ abbrev pub Calls : LabView → Side → Call → LabView → Result Stepped LabF
 Calls old x call new answer =
     ((new ≡ (call_at old x call).lab) × (answer ≡ (call_at old x call).answer))
     ⊎ ((new ≡ old) × (answer ≡ Err fault.NoMemory))
-
--- so with a copy that is there
-abbrev pub CallsWith : Option Stamped → (Stamped → Type 0) → Type 0
-CallsWith None P = ⊤
-CallsWith (Some s) P = P s
 
 -- An event did what it does. Or it passed the checks, there was no memory, and nothing changed.
 abbrev pub Happens : LabView → Happening → LabView → Result Stepped LabFault → Type 0

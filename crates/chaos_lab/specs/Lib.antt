@@ -6,6 +6,7 @@ pub mod Law
 pub mod Shown
 pub mod Laboratory
 pub mod Told
+pub mod Calling
 pub mod Tied
 pub mod Headline
 pub mod Inside

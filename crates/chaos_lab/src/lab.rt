@@ -30,7 +30,7 @@ use crate::side::Side;
 use crate::stamped::Stamped;
 use crate::user::User;
 use chaos_conn::ConnConfig;
-use chaos_packet::{MAX_DATA, PktNum};
+use chaos_packet::{MAX_DATA, Packet, PktNum};
 use std::alloc::{AllocError, Global};
 use std::marker::Model;
 
@@ -46,6 +46,8 @@ const CONTACT: &[u8] = b"LAB";
 #[derive(Drop)]
 pub struct Lab {
     pub(crate) rig: Rig,
+    /// The copy that was delivered last: a packet's place, which each delivery writes anew.
+    delivered: Packet,
 }
 
 impl Model for Lab {
@@ -88,7 +90,10 @@ impl Lab {
         ensures machine { IfOk result (λ lab. Ties (machine_for contact.now config_a config_b) lab) }
     {
         let rig = Rig::new(alloc, config_a, config_b, contact, start_a)?;
-        Ok(Lab { rig })
+        Ok(Lab {
+            rig,
+            delivered: Packet::default(),
+        })
     }
 
     /// Lets an event happen. A call without a moment of its own gets the greatest one that was ticked.
@@ -122,7 +127,7 @@ impl Lab {
         // an event that is taken is a step of the plain machine, of the row that the table has for it
         ensures machine { IfOk result (λ _. (m : Machine) → Ties m self.old → (n : Machine) × Step m (plain_event self.old (happening_of event.now)) n × Ties n self.new) }
     {
-        self.rig.step(event)
+        self.rig.step(event, &mut self.delivered)
     }
 
     /// All that the user has read whom an event lets read, item 0 of the other end first; nothing for another event.
@@ -141,7 +146,7 @@ impl Lab {
         // the events that were taken are a run of the plain machine
         ensures machine { OnOk result ((m : Machine) → Ties m self.old → (n : Machine) × Run m (plain_run self.old (map happening_of events.now)) n × Ties n self.new) }
     {
-        self.rig.run(events)
+        self.rig.run(events, &mut self.delivered)
     }
 
     /// Lets a user of B's connection take a turn, at the greatest moment that was ticked. Its read and its write are events of

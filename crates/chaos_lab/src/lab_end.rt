@@ -4,18 +4,18 @@ ghost use Rattle.chaos_packet.specs.Outbox.{room_of, with_put};
 ghost use Rattle.chaos_lab.specs.Turn.{Turn};
 ghost use Rattle.chaos_lab.specs.Turning.{EndTurns};
 ghost use Rattle.chaos_packet.specs.Packet.{blank, item_of};
-ghost use Rattle.chaos_conn.specs.Act.Call.{Accept, Announce, Close, Deliver, Read, TakeRequest, Tick, Write};
-ghost use Rattle.chaos_lab.specs.declared.side.Side.TheVariants.{B};
-ghost use Rattle.chaos_lab.specs.Shown.{place_of};
+ghost use Rattle.chaos_conn.specs.Act.Call.{Accept, Deliver, Read, Write};
 ghost use Rattle.chaos_conn.specs.Calls.{front_of};
 ghost use Rattle.chaos_lab.specs.History.{HasPlace};
 ghost use Rattle.chaos_lab.specs.Inside.{end_view, HasRoom};
+ghost use Rattle.chaos_lab.specs.Calling.{call_of, told_of};
 ghost use Rattle.chaos_lab.specs.Makes.{Makes};
 ghost use Rattle.chaos_lab.specs.Told.{told};
 ghost use Rattle.chaos_conn.specs.View.{new_conn};
 ghost use Rattle.chaos_conn.specs.Opening.{rfc_item};
 ghost use Rattle.chaos_lab.specs.Laboratory.{request_for};
 
+use crate::call::Call;
 use crate::event::StepDone;
 use crate::fault::LabFault;
 use crate::history::History;
@@ -96,8 +96,41 @@ impl LabEnd {
         self.read.grow()
     }
 
+    /// Makes a call of its connection, and keeps what it wrote and what its user read.
+    pub(crate) fn call(
+        &mut self,
+        call: &Call<'_>,
+        now: u64,
+        out: &mut Outbox,
+    ) -> Result<StepDone, LabFault>
+        requires room { HasRoom self.old }
+        requires empty { out.old.packets ≡ [] }
+        requires fits { (self.old.conn.config.send_cap ≤ MAX_WINDOW) × (MAX_WINDOW ≤ out.old.cap) }
+        ensures { Makes (end_view self.old) (call_of call.now now) (end_view self.new) out.old out.new (told_of call.now self.new.read.list.items result) }
+    {
+        match call {
+            Call::Write(op, bytes) => self.write(*op, bytes, now, out),
+            Call::Read => self.read(out),
+            Call::Announce(window) => match self.conn.announce(*window, out) {
+                Ok(()) => Ok(StepDone::Announced(*window)),
+                Err(why) => Err(LabFault::Refused(why)),
+            },
+            Call::Tick(moment) => Ok(StepDone::Ticked(self.conn.tick(*moment, out))),
+            Call::Close(text) => match self.conn.close(text, out) {
+                Ok(()) => Ok(StepDone::Closed),
+                Err(why) => Err(LabFault::Refused(why)),
+            },
+            Call::Accept(start) => self.accept(*start, now, out),
+            Call::TakeRequest(rfc) => match self.conn.take_request(rfc, PLACE_B, now) {
+                Ok(()) => Ok(StepDone::Requested),
+                Err(why) => Err(LabFault::Refused(why)),
+            },
+            Call::Deliver(packet) => self.deliver(packet, now, out),
+        }
+    }
+
     /// Writes an item.
-    pub(crate) fn write(
+    fn write(
         &mut self,
         op: Opcode,
         bytes: &[u8],
@@ -119,7 +152,7 @@ impl LabEnd {
     }
 
     /// Reads the next item, and keeps a copy of it.
-    pub(crate) fn read(&mut self, out: &mut Outbox) -> Result<StepDone, LabFault>
+    fn read(&mut self, out: &mut Outbox) -> Result<StepDone, LabFault>
         requires room { HasRoom self.old }
         requires empty { out.old.packets ≡ [] }
         requires fits { 0 < out.old.cap }
@@ -134,12 +167,7 @@ impl LabEnd {
     }
 
     /// Takes a packet. An OPN that opens the end is read by that.
-    pub(crate) fn deliver(
-        &mut self,
-        packet: &Packet,
-        now: u64,
-        out: &mut Outbox,
-    ) -> Result<StepDone, LabFault>
+    fn deliver(&mut self, packet: &Packet, now: u64, out: &mut Outbox) -> Result<StepDone, LabFault>
         requires room { HasRoom self.old }
         requires empty { out.old.packets ≡ [] }
         requires fits { 0 < out.old.cap }
@@ -161,62 +189,9 @@ impl LabEnd {
         self.read.keep(packet.op, packet.bytes());
     }
 
-    /// Ticks.
-    pub(crate) fn tick(&mut self, moment: u64, out: &mut Outbox) -> Result<StepDone, LabFault>
-        requires empty { out.old.packets ≡ [] }
-        requires fits { (self.old.conn.config.send_cap ≤ MAX_WINDOW) × (MAX_WINDOW ≤ out.old.cap) }
-        ensures { Makes (end_view self.old) (Tick moment) (end_view self.new) out.old out.new (told blank [] result) }
-    {
-        Ok(StepDone::Ticked(self.conn.tick(moment, out)))
-    }
-
-    /// Announces a window.
-    pub(crate) fn announce(&mut self, window: u16, out: &mut Outbox) -> Result<StepDone, LabFault>
-        requires empty { out.old.packets ≡ [] }
-        requires fits { 0 < out.old.cap }
-        ensures { Makes (end_view self.old) (Announce window) (end_view self.new) out.old out.new (told blank [] result) }
-    {
-        match self.conn.announce(window, out) {
-            Ok(()) => Ok(StepDone::Announced(window)),
-            Err(why) => Err(LabFault::Refused(why)),
-        }
-    }
-
-    /// Closes.
-    pub(crate) fn close(&mut self, text: &[u8], out: &mut Outbox) -> Result<StepDone, LabFault>
-        requires empty { out.old.packets ≡ [] }
-        requires fits { 0 < out.old.cap }
-        ensures { Makes (end_view self.old) (Close text.now) (end_view self.new) out.old out.new (told blank [] result) }
-    {
-        match self.conn.close(text, out) {
-            Ok(()) => Ok(StepDone::Closed),
-            Err(why) => Err(LabFault::Refused(why)),
-        }
-    }
-
-    /// Takes a request.
-    pub(crate) fn take_request(
-        &mut self,
-        rfc: &Packet,
-        now: u64,
-        out: &mut Outbox,
-    ) -> Result<StepDone, LabFault>
-        requires empty { out.old.packets ≡ [] }
-        ensures { Makes (end_view self.old) (TakeRequest rfc.now (place_of B) now) (end_view self.new) out.old out.new (told rfc.now [] result) }
-    {
-        match self.conn.take_request(rfc, PLACE_B, now) {
-            Ok(()) => Ok(StepDone::Requested),
-            Err(why) => Err(LabFault::Refused(why)),
-        }
-    }
-
     /// Accepts the request, which is read by that.
-    pub(crate) fn accept(
-        &mut self,
-        start: PktNum,
-        now: u64,
-        out: &mut Outbox,
-    ) -> Result<StepDone, LabFault>
+    #[inline(never)]
+    fn accept(&mut self, start: PktNum, now: u64, out: &mut Outbox) -> Result<StepDone, LabFault>
         requires room { HasRoom self.old }
         requires empty { out.old.packets ≡ [] }
         requires fits { 0 < out.old.cap }

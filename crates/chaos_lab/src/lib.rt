@@ -9,6 +9,7 @@
 #![tactic(auto)]
 
 mod both_ends;
+mod call;
 mod copy_list;
 mod data;
 mod event;

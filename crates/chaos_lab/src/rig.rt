@@ -1,24 +1,21 @@
 //! Two connections and the packets between them.
-ghost use Rattle.std.specs.Prelude.{◌≡◌, ℕ, ◌<◌, ◌+◌, ◌-◌, ◌^◌, ◌≤◌, [], ◌∷◌, ◌++◌, length, map, Option, Some, None, Ok, Err, IfOk, IfErr, OnErr, OnOk, slice_get, nat_lt, ◌⊎◌};
-ghost use Rattle.chaos_lab.specs.Machine.{other, fresh_span};
-ghost use Rattle.chaos_conn.specs.Act.Call.{Accept, Announce, Close, Deliver, Read, TakeRequest, Tick, Write};
-ghost use Rattle.chaos_lab.specs.declared.side.Side.TheVariants.{B};
+ghost use Rattle.std.specs.Prelude.{◌≡◌, ℕ, ◌<◌, ◌+◌, ◌-◌, ◌^◌, ◌≤◌, [], ◌∷◌, ◌++◌, length, map, Option, Some, None, Ok, Err, IfOk, IfErr, OnErr, OnOk, nat_lt, ◌⊎◌};
+ghost use Rattle.chaos_lab.specs.Machine.{fresh_span};
 ghost use Rattle.chaos_conn.specs.Config.{IsConfig};
 ghost use Rattle.chaos_conn.specs.View.{IsConn};
 ghost use Rattle.chaos_lab.specs.declared.side.Side.{Side};
 ghost use Rattle.chaos_conn.specs.Stored.{stored_packets, stored_bytes};
-ghost use Rattle.chaos_lab.specs.Shown.{place_of};
-ghost use Rattle.chaos_lab.specs.Laboratory.{Happens, happen, check, lab_end, start_for, after_all, StopsWithin, Calls, CallsWith, is_fresh, is_request, stamp};
+ghost use Rattle.chaos_lab.specs.Laboratory.{Happens, happen, check, lab_end, start_for, after_all, StopsWithin, Calls, asked_after, clock_after, is_fresh, is_request, stamp};
 ghost use Rattle.chaos_lab.specs.Laboratory.Happening.{DeliverCopy};
 ghost use Rattle.chaos_lab.specs.History.{HasPlace};
 ghost use Rattle.chaos_lab.specs.Inside.{end_view, happening_of, HasRoom, HasSpace};
-ghost use Rattle.chaos_lab.specs.Makes.{MakesAt};
-ghost use Rattle.chaos_lab.specs.Told.{told, told_at, packet_at, items_at};
-ghost use Rattle.chaos_packet.specs.Packet.{blank};
+ghost use Rattle.chaos_lab.specs.Told.{told_at, packet_at, items_at};
+ghost use Rattle.chaos_lab.specs.Calling.{call_of, told_of};
 ghost use Rattle.chaos_lab.specs.Turn.{Turn, IsTaken, turn_events};
 ghost use Rattle.chaos_lab.specs.Turning.{stamped_reply, reply_items};
 
 use crate::both_ends::BothEnds;
+use crate::call::Call;
 use crate::copy_list::CopyList;
 use crate::event::{Event, StepDone};
 use crate::fault::LabFault;
@@ -28,7 +25,7 @@ use crate::side::Side;
 use crate::stamped::Stamped;
 use crate::user::{Turned, User};
 use chaos_conn::{Conn, ConnConfig};
-use chaos_packet::{Kind, MAX_DATA, Opcode, Outbox, Packet, PktNum};
+use chaos_packet::{Kind, MAX_DATA, Outbox, Packet, PktNum};
 use chaos_window::MAX_WINDOW;
 use std::alloc::{AllocError, Global};
 use std::marker::Model;
@@ -48,8 +45,6 @@ pub(crate) struct Rig {
     clock: u64,
     /// Empty between two events.
     out: Outbox,
-    /// The copy that was delivered last: a packet's place, which each delivery writes anew.
-    delivered: Packet,
 }
 
 impl Model for Rig {
@@ -93,7 +88,6 @@ impl Rig {
             asked: false,
             clock: 0,
             out,
-            delivered: Packet::default(),
         })
     }
 
@@ -160,24 +154,25 @@ impl Rig {
     }
 
     /// Lets events happen, one after the other. A refused event changes nothing, and the next one follows. Where there is no
-    /// memory it stops, with the laboratory as after the events before that one.
-    pub(crate) fn run(&mut self, events: &[Event<'_>]) -> Result<(), AllocError>
+    /// memory it stops, with the laboratory as after the events before that one. Each packet that is delivered is written into
+    /// the same place.
+    pub(crate) fn run(&mut self, events: &[Event<'_>], place: &mut Packet) -> Result<(), AllocError>
         ensures all { OnOk result (self.new ≡ after_all self.old (map happening_of events.now)) }
         ensures no_memory { OnErr result (StopsWithin self.old (map happening_of events.now) self.new) }
     {
         for event in events {
-            self.attempt(event)?;
+            self.attempt(event, place)?;
         }
         Ok(())
     }
 
     /// Lets an event happen, whatever it answers, unless there is no memory.
-    fn attempt(&mut self, event: &Event<'_>) -> Result<(), AllocError>
+    fn attempt(&mut self, event: &Event<'_>, place: &mut Packet) -> Result<(), AllocError>
         ensures ok { OnOk result (self.new ≡ (happen self.old (happening_of event.now)).lab) }
         ensures err { OnErr result (self.new ≡ self.old) }
         ensures passed { OnErr result (check self.old (happening_of event.now) ≡ None) }
     {
-        match self.step(event) {
+        match self.step(event, place) {
             Ok(_) => Ok(()),
             Err(LabFault::NoMemory) => Err(AllocError),
             Err(_) => Ok(()),
@@ -185,18 +180,54 @@ impl Rig {
     }
 
     /// Lets an event happen.
-    pub(crate) fn step(&mut self, event: &Event<'_>) -> Result<StepDone, LabFault>
+    pub(crate) fn step(
+        &mut self,
+        event: &Event<'_>,
+        place: &mut Packet,
+    ) -> Result<StepDone, LabFault>
         ensures { Happens self.old (happening_of event.now) self.new (told_at self.old self.new (happening_of event.now) result) }
     {
         match event {
-            Event::Write(side, op, bytes) => self.write(*side, *op, bytes),
-            Event::Read(side) => self.read_next(*side),
-            Event::Announce(side, window) => self.announce(*side, *window),
-            Event::Tick(side, moment) => self.tick(*side, *moment),
-            Event::Close(side, text) => self.close(*side, text),
-            Event::Accept(start) => self.accept(*start),
-            Event::Deliver(k) => self.deliver(*k),
+            Event::Write(side, op, bytes) => self.call(*side, &Call::Write(*op, bytes)),
+            Event::Read(side) => self.call(*side, &Call::Read),
+            Event::Announce(side, window) => self.call(*side, &Call::Announce(*window)),
+            Event::Tick(side, moment) => self.call(*side, &Call::Tick(*moment)),
+            Event::Close(side, text) => self.call(*side, &Call::Close(text)),
+            Event::Accept(start) => self.call(Side::B, &Call::Accept(*start)),
+            Event::Deliver(k) => self.deliver(*k, place),
         }
+    }
+
+    /// A copy comes to the end that it was sent to, as the request or as a packet of the connection.
+    fn deliver(&mut self, k: usize, place: &mut Packet) -> Result<StepDone, LabFault>
+        ensures { Happens self.old (DeliverCopy k) self.new (told_at self.old self.new (DeliverCopy k) result) }
+    {
+        let Some(copy) = self.copies.list.get(k) else {
+            return Err(LabFault::NoSuchCopy);
+        };
+        if !is_fresh(&self.ends, copy) {
+            return Err(LabFault::Stale);
+        }
+        let side = copy.side.other();
+        let asks = is_request(self.asked, copy);
+        copy.packet.write_into(place);
+        if asks {
+            return self.call(side, &Call::TakeRequest(place));
+        }
+        self.call(side, &Call::Deliver(place))
+    }
+
+    /// Makes a call at one end, at the greatest moment that was ticked. What it puts out joins the copies.
+    fn call(&mut self, side: Side, call: &Call<'_>) -> Result<StepDone, LabFault>
+        ensures { Calls self.old side (call_of call.now self.old.clock) self.new (told_of call.now (lab_end self.new side).read result) }
+    {
+        grow(&mut self.ends, &mut self.copies)?;
+        let done = self.ends.call(side, call, self.clock, &mut self.out)?;
+        let (asked, clock) = noted(self.asked, self.clock, call);
+        self.asked = asked;
+        self.clock = clock;
+        post(&mut self.copies, &mut self.out, side, &self.ends);
+        Ok(done)
     }
 
     /// The packet that an event delivers, where its copy is there.
@@ -222,67 +253,6 @@ impl Rig {
         }
     }
 
-    /// A user writes an item.
-    fn write(&mut self, side: Side, op: Opcode, bytes: &[u8]) -> Result<StepDone, LabFault>
-        ensures { Calls self.old side (Write op bytes.now self.old.clock) self.new (told blank [] result) }
-    {
-        grow(&mut self.ends, &mut self.copies)?;
-        let stepped = self.ends.write(side, op, bytes, self.clock, &mut self.out)?;
-        post(&mut self.copies, &mut self.out, side, &self.ends);
-        Ok(stepped)
-    }
-
-    /// A user reads.
-    fn read_next(&mut self, side: Side) -> Result<StepDone, LabFault>
-        ensures { Calls self.old side Read self.new (told blank (lab_end self.new side).read result) }
-    {
-        grow(&mut self.ends, &mut self.copies)?;
-        let stepped = self.ends.read(side, &mut self.out)?;
-        post(&mut self.copies, &mut self.out, side, &self.ends);
-        Ok(stepped)
-    }
-
-    /// A user announces a window.
-    fn announce(&mut self, side: Side, window: u16) -> Result<StepDone, LabFault>
-        ensures { Calls self.old side (Announce window) self.new (told blank [] result) }
-    {
-        grow(&mut self.ends, &mut self.copies)?;
-        let stepped = self.ends.announce(side, window, &mut self.out)?;
-        post(&mut self.copies, &mut self.out, side, &self.ends);
-        Ok(stepped)
-    }
-
-    /// An end gets its own moment.
-    fn tick(&mut self, side: Side, moment: u64) -> Result<StepDone, LabFault>
-        ensures { Calls self.old side (Tick moment) self.new (told blank [] result) }
-    {
-        grow(&mut self.ends, &mut self.copies)?;
-        let stepped = self.ends.tick(side, moment, &mut self.out)?;
-        self.clock = self.clock.max(moment);
-        post(&mut self.copies, &mut self.out, side, &self.ends);
-        Ok(stepped)
-    }
-
-    /// A user closes its end.
-    fn close(&mut self, side: Side, text: &[u8]) -> Result<StepDone, LabFault>
-        ensures { Calls self.old side (Close text.now) self.new (told blank [] result) }
-    {
-        grow(&mut self.ends, &mut self.copies)?;
-        let stepped = self.ends.close(side, text, &mut self.out)?;
-        post(&mut self.copies, &mut self.out, side, &self.ends);
-        Ok(stepped)
-    }
-
-    /// B's user accepts the request.
-    fn accept(&mut self, start: PktNum) -> Result<StepDone, LabFault>
-        ensures { Calls self.old B (Accept start self.old.clock) self.new (told blank [] result) }
-    {
-        grow(&mut self.ends, &mut self.copies)?;
-        let stepped = self.ends.accept(start, self.clock, &mut self.out)?;
-        post(&mut self.copies, &mut self.out, Side::B, &self.ends);
-        Ok(stepped)
-    }
-
     /// Lets B's user take a turn. Where there is no memory it takes none.
     pub(crate) fn take_turn<U: User>(
         &mut self,
@@ -306,56 +276,6 @@ impl Rig {
             post(&mut self.copies, &mut self.out, Side::B, &self.ends);
         }
         Ok(())
-    }
-
-    /// A copy comes to the end that it was sent to.
-    fn deliver(&mut self, k: usize) -> Result<StepDone, LabFault>
-        ensures { Happens self.old (DeliverCopy k) self.new (told_at self.old self.new (DeliverCopy k) result) }
-    {
-        let Some(copy) = self.copies.list.get(k) else {
-            return Err(LabFault::NoSuchCopy);
-        };
-        if !is_fresh(&self.ends, copy) {
-            return Err(LabFault::Stale);
-        }
-        if is_request(self.asked, copy) {
-            return self.take_request(k);
-        }
-        self.deliver_packet(k)
-    }
-
-    /// B takes the request that a copy carries.
-    fn take_request(&mut self, k: usize) -> Result<StepDone, LabFault>
-        ensures { CallsWith (slice_get self.old.copies k) (λ copy. Calls self.old B (TakeRequest copy.packet (place_of B) self.old.clock) self.new (told copy.packet [] result)) }
-    {
-        grow(&mut self.ends, &mut self.copies)?;
-        let Some(copy) = self.copies.list.get(k) else {
-            return Err(LabFault::NoSuchCopy);
-        };
-        copy.packet.write_into(&mut self.delivered);
-        let stepped = self
-            .ends
-            .take_request(&self.delivered, self.clock, &mut self.out)?;
-        self.asked = true;
-        post(&mut self.copies, &mut self.out, Side::B, &self.ends);
-        Ok(stepped)
-    }
-
-    /// A copy comes as a packet of the connection.
-    fn deliver_packet(&mut self, k: usize) -> Result<StepDone, LabFault>
-        ensures { CallsWith (slice_get self.old.copies k) (λ copy. Calls self.old (other copy.side) (Deliver copy.packet self.old.clock) self.new (told copy.packet [] result)) }
-    {
-        grow(&mut self.ends, &mut self.copies)?;
-        let Some(copy) = self.copies.list.get(k) else {
-            return Err(LabFault::NoSuchCopy);
-        };
-        let side = copy.side.other();
-        copy.packet.write_into(&mut self.delivered);
-        let stepped = self
-            .ends
-            .deliver(side, &self.delivered, self.clock, &mut self.out)?;
-        post(&mut self.copies, &mut self.out, side, &self.ends);
-        Ok(stepped)
     }
 }
 
@@ -391,6 +311,18 @@ fn is_request(asked: bool, copy: &Stamped) -> bool
     ensures { result ≡ is_request asked copy.now }
 {
     copy.side == Side::A && !asked && copy.packet.op().kind() == Kind::Rfc
+}
+
+/// Whether B took a request, and the greatest moment that was ticked, after a call at this moment.
+fn noted(asked: bool, now: u64, call: &Call<'_>) -> (bool, u64)
+    ensures asked { result.0 ≡ asked_after asked (call_of call.now now) }
+    ensures clock { result.1 ≡ clock_after now (call_of call.now now) }
+{
+    match call {
+        Call::Tick(moment) => (asked, now.max(*moment)),
+        Call::TakeRequest(_) => (true, now),
+        _ => (asked, now),
+    }
 }
 
 /// Takes what was put out into the copies.
