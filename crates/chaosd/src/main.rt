@@ -5,6 +5,7 @@
 #![tactic(auto)]
 
 mod asking;
+mod at_server;
 mod changes;
 mod connections;
 mod copies;
