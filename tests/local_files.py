@@ -135,6 +135,23 @@ class Limits(Case):
             problems += stored_problems(here / "F", b"old") + stored_problems(here / "G", b"g") + left_problems(here)
             self.check("get past the limit of sizes: told, status 1, and the next is got", problems)
 
+    def test_get_past_the_limit_through_standard_output_is_told(self):
+        content, small = mixed_content(SMALL - 100), mixed_content(101)
+        with serving() as server, folder() as here:
+            (server.folder / "F").write_bytes(content)
+            (server.folder / "G").write_bytes(small)
+            out = here / "out"
+            for output in ["-", "/dev/stdout"]:
+                told = f"chaosd: can't write {output}: File too large".encode()
+                for name, mode, status, kept in [("F", "wb", DONE, content), ("G", "ab", FAULT, content), ("G", "wb", DONE, small)]:
+                    with out.open(mode) as stream:
+                        ended = copied(server, "get", name, options=["--output", output], stdout=stream, prepare=limited)
+                    problems = ended.problems(status, None, [told] if status == FAULT else b"") + stored_problems(out, kept)
+                    self.check(f"get --output {output} of {name} into a file, as {mode}: status {status}", problems)
+            (server.folder / "F").write_bytes(mixed_content(5 * SMALL))
+            ended = copied(server, "get", "F", options=["--output", "-"], prepare=limited)
+            self.check("get --output - of more into a pipe", ended.problems(DONE, mixed_content(5 * SMALL), b""))
+
     def test_put_of_too_large_a_file_is_a_store_fault_and_the_server_goes_on(self):
         with serving(prepare=limited) as server, folder() as here:
             (here / "F").write_bytes(mixed_content(5 * SMALL))

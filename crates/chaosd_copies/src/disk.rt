@@ -2,19 +2,17 @@
 ghost use Rattle.std.specs.Prelude.{None};
 
 use crate::local::Locals;
+use crate::stream::{STDOUT, check_stream, write_stream};
 use crate::whole::{check_whole, write_at};
 use chaosd_copy::read_whole;
 use std::fs::File;
-use std::io::Write;
 use std::rt::Files;
 use std::{fs, io};
 
 /// The name of standard input and output.
 const STREAM: &str = "-";
 
-/// The names of two devices that are written as such.
-const STDOUT: &str = "/dev/stdout";
-
+/// The name of a device that is written as such, as standard output is.
 const NOWHERE: &str = "/dev/null";
 
 /// Where a file of some name goes.
@@ -52,19 +50,6 @@ impl<'a, R> Disk<'a, R> {
     pub fn new(rt: &'a R, mark: u16) -> Self {
         Disk { rt, mark }
     }
-}
-
-/// Writes to standard output.
-fn write_stream<R: Print>(rt: &R, bytes: &[u8]) -> io::Result<()> {
-    let mut writer = io::writer(rt);
-    writer.write_all(bytes)?;
-    writer.flush()
-}
-
-/// Makes sure that standard output can be written: it is asked to take nothing.
-fn check_stream<R: Print>(rt: &R) -> io::Result<()> {
-    let _count = io::writer(rt).write(&[])?;
-    Ok(())
 }
 
 impl<R: AllocGlobal + Files<File = File> + Input + Print> Locals for Disk<'_, R> {

@@ -17,6 +17,7 @@ mod progress;
 mod puts;
 mod session;
 mod status;
+mod stream;
 mod text;
 mod watched;
 mod whole;
