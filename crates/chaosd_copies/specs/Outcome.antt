@@ -10,7 +10,7 @@ use Rattle.chaosd_copies.specs.declared.outcome.Outcome.{Outcome}
 use Rattle.chaosd_copies.specs.declared.outcome.Outcome.TheVariants.{Copied, Changed, Garbled, TooBig, TooLong, Unnamed, Unread, Unwritten, Failed, Refused, Strange, NoReply, Unknown, NotTried}
 use Rattle.chaosd_copies.specs.Status.{status_of_fault}
 
--- want of memory, or another fault of this side
+-- out of memory, or another fault of this side
 abbrev pub status_of_kind : ErrorKind → ExitStatus
 status_of_kind k.OutOfMemory = s.NoMemory
 status_of_kind _ = s.Fault

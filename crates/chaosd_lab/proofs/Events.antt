@@ -57,7 +57,7 @@ pub told_refused : (packet : PacketView) (items : List ItemView) (answer : Resul
 told_refused packet items (Ok done) = refl
 told_refused packet items (Err why) = refl
 
--- ---- want of memory
+-- ---- out of memory
 
 is_want : (answer : Result Stepped LabFault) → refused_or_ended answer ≡ Err run.NoMemory → answer ≡ Err NoMemory
 is_want (Ok stepped) h = absurd (cc)

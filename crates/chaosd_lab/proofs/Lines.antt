@@ -33,7 +33,7 @@ settle_plays line before after old new refused is (lab, count, text) = record {
   count = count;
 }
 
--- it met want of memory
+-- memory ran out at it
 pub settle_wants : (line : List ℕ) (l after : LabView) (text : List ℕ) → bytes_eq line settle_word ≡ true
     → WantsSettling l after text → (line_done line ≢ None) × lab_script.wants l line after text
 settle_wants line l after text is wants = (
@@ -68,7 +68,7 @@ pub bad_line : (line : List ℕ) → bytes_eq line settle_word ≡ false → eve
 bad_line line is none =
     ap (λ b. cond b (Some settle_done) (option_map event_done (event_of line))) is ∙ ap (option_map event_done) none
 
--- it met want of memory
+-- memory ran out at it
 pub event_line_wants : (line : List ℕ) (l after : LabView) (held : Option (List ℕ)) (old new : List ℕ)
     → bytes_eq line settle_word ≡ false → event_of line ≢ None → after ≡ l → new ≡ old ++ refusal_text NoMemory
     → (line_done line ≢ None)

@@ -26,12 +26,12 @@ end_text l = stored_line (stored_packets l.a.conn) (stored_packets l.b.conn)
 abbrev pub line_done : List ℕ → Option (LabView → Done LabView)
 line_done line = if bytes_eq line settle_word then Some settle_done else option_map event_done (event_of line)
 
--- what a line that meets want of memory leaves, and what is printed of it: an event changes nothing
+-- what a line leaves at which memory runs out, and what is printed of it: an event changes nothing
 abbrev pub WantsBy : (is_settle : Bool) → (before after : LabView) → List ℕ → Type 0
 WantsBy true l after text = WantsSettling l after text
 WantsBy false l after text = (after ≡ l) × (text ≡ refusal_text NoMemory)
 
--- every laboratory is ready, and want of memory is told
+-- every laboratory is ready, and where memory runs out that is told
 abbrev pub lab_script : Script LabView
 lab_script = record {
   first = first_of;

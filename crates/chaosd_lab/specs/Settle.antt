@@ -36,7 +36,7 @@ settle_by false l = record { lab = l; text = unsettled_text; is_refused = true }
 abbrev pub settle_done : LabView → Done LabView
 settle_done l = settle_by (can_settle l) l
 
--- At want of memory in the midst of settling the events before the one that met it happened, and they are printed, that
+-- Where memory runs out in the midst of settling, the events before that one happened, and they are printed, that
 -- one's line, and the refusal.
 abbrev pub WantsEvents : (before after : LabView) → List ℕ → Type 0
 WantsEvents l after text =

@@ -22,7 +22,7 @@ use std::io::{Read, Write};
 ///
 /// # Errors
 /// [`RunFault`]: 1 where the reader fails or is interrupted 2,000,000 times, 2 where the writer fails, 3 where more than
-/// 1,048,576 bytes come, 4 where an event or the start met want of memory, 5 at a line that is of no form.
+/// 1,048,576 bytes come, 4 where memory ran out at an event or at the start, 5 at a line that is of no form.
 pub fn run_lab<R: Read, W: Write>(
     alloc: Global,
     reader: &mut R,
@@ -48,7 +48,7 @@ pub fn run_lab<R: Read, W: Write>(
     // Where the reader failed, no line that ended in what it had given is of no form, and those were played, and no more.
     ensures unread { result ≡ Err RunFault.ReadFault → PlaysRead lab_script (R.remaining reader.old) (R.remaining reader.new) (W.contents writer.old) (W.contents writer.new) }
 
-    // At want of memory the lines before were played, and an event that met it is told, as are those of a line `settle` before it; the
+    // Where memory runs out the lines before were played, and the event at which it did is told, as are those of a line `settle` before it; the
     // line is of the form of its place, and it ends within the limit or the input does.
     ensures no_memory { result ≡ Err RunFault.NoMemory → IfSome (R.remaining reader.old) (Wants lab_script (W.contents writer.old) (W.contents writer.new)) }
 {
