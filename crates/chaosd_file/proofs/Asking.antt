@@ -21,11 +21,12 @@ use Rattle.chaosd_file.specs.Command.{command_of}
 use Rattle.file_client.specs.Fault.{IsTurnFault}
 use Rattle.chaosd_file.specs.Printed.{ending_of, reply_line, replies_text, no_reply_line, PrintsReplies}
 use Rattle.chaosd_file.specs.Script.{IsCommand, IsFirstBad, BeginWithCommands, AreCommands, lines_within, Ran, Runs}
-use Rattle.chaosd_file.specs.Asking.{Asked, AskedAll, AsksLine}
-use Rattle.chaosd_file.specs.Conversation.{AsksAll, Converses, commands_said, item_for}
+use Rattle.chaosd_file.specs.Asking.{AskedAll, AskedGiven, AsksLine, Idles}
+use Rattle.chaosd_file.specs.Conversation.{Asked, Asks, AsksAll, AsksBefore, Converses, IfAsked, commands_said, item_for}
 use Rattle.chaos_link.specs.Link.{QueueView}
+use Rattle.chaosd_clock.specs.declared.clock.Beginning.{Beginning}
 use Rattle.file_client.specs.Pace.{Pace}
-use Rattle.file_client.specs.Talk.{Talker, SaysFarewell, and_later, command_item, silence}
+use Rattle.file_client.specs.Talk.{Talker, Does, SaysFarewell, Talk, Turns, and_later, command_item, silence}
 use Rattle.chaosd_file.specs.declared.end.ScriptEnd.{ScriptEnd}
 use Rattle.chaos_packet.specs.Item.{ItemView}
 use Rattle.file_client.proofs.Talking.{talks_none, talks_on}
@@ -187,6 +188,48 @@ pub last_asked : (p : Pace) (first mid last : Talker) (input rest before between
 last_asked p first mid last input rest before between after replied given line s (raw, front, done) asks =
     (given ++ raw ∷ [], asked_more p first mid last before between after replied given line raw front s asks, done)
 
+-- ---- turns between commands
+
+-- so many turns, in which nothing was said or heard
+abbrev pub idle : ℕ → Talk
+idle turns = record { said = []; heard = []; turns = turns }
+
+pub idles_none : (p : Pace) (c : Talker) → Idles p c c
+idles_none p c = (0, talks_none p c)
+
+-- one turn more
+pub idles_on : (p : Pace) (c d e : Talker) (now : ℕ) → Idles p c d → Does p d (Turns now) e → Idles p c e
+idles_on p c d e now (turns, talks) does = (
+  turns + 1,
+  talks_on p c d e (idle turns) (idle 1) talks
+      (record { steps = Turns now ∷ []; goes = (d, refl, does); same = refl }),
+)
+
+asked_idle : (p : Pace) (first mid last : Talker) (before after : Option (List ℕ)) (replied : ℕ)
+    (given : List (List ℕ))
+    → Asked p first mid before after replied given → Idles p mid last
+    → Asked p first last before after replied given
+asked_idle p first mid last before after replied given s (turns, talks) = record {
+  count = s.count;
+  commands = s.commands;
+  printed = s.printed;
+  talk = and_later s.talk (idle turns);
+  talks = talks_on p first mid last s.talk (idle turns) s.talks talks;
+  said = append-nil s.talk.said ∙ s.said;
+  heard = append-nil s.talk.heard ∙ s.heard;
+}
+
+-- what was asked stays asked where turns went by before more came
+pub given_idle : (p : Pace) (first mid last : Talker) (input rest later before after : Option (List ℕ)) (replied : ℕ)
+    (v : LinesView)
+    → AskedGiven p first mid input rest before after replied v → Idles p mid last → later ≡ rest
+    → AskedGiven p first last input later before after replied v
+given_idle p first mid last input rest later before after replied v (given, s, gives) idles same = (
+  given,
+  asked_idle p first mid last before after replied given s idles,
+  subst (λ r. Gives KEPT_LEN INPUT_LIMIT input r given v) (sym same) gives,
+)
+
 -- ---- how a run ends
 
 tried_first : (input : Option (List ℕ)) (tried : List (List ℕ)) (count : ℕ) → All IsCommand tried → length tried ≡ count
@@ -291,7 +334,7 @@ met_bad p first last input rest before between after replied given line s (raw, 
 -- a line stands for no command, or its turns or its text met a fault
 pub line_runs : (p q : Pace) (first mid last : Talker) (input rest before between after : Option (List ℕ)) (replied : ℕ) (given : List (List ℕ)) (line : List ℕ) (fault : RunFault) → Asked p first mid before between replied given
     → IsNext input given line → AsksLine q mid last replied line between after (Err fault) → Runs input rest before after (Err fault)
-line_runs p q first mid last input rest before between after replied given line (BadScript number) s next (none, e, same) =
+line_runs p q first mid last input rest before between after replied given line (BadScript number) s next (none, e, same, still) =
     subst (λ n. Runs input rest before after (Err (BadScript n))) (sym e) (met_bad p first mid input rest before between after replied given line s next none same)
 line_runs p q first mid last input rest before between after replied given line WriteFault s next h = tt
 line_runs p q first mid last input rest before between after replied given line LinkFault s next h = tt
@@ -357,15 +400,24 @@ nothing_asked p first before = record {
 
 -- ---- what was said and heard
 
+-- the lines that were given are so many first ones
+given_first : (input : Option (List ℕ)) (given : List (List ℕ)) (count : ℕ) → length given ≡ count → Begins input given
+    → IfSome input (λ all. given ≡ take count (lines_within all))
+given_first None given count number h = tt
+given_first (Some all) given count number (others, whole) =
+    sym
+    (ap (λ n. take n (lines_within all)) (sym number) ∙ ap (take (length given)) whole ∙ take-append_seam given others)
+
+said_by : (input : Option (List ℕ)) (given : List (List ℕ)) (count : ℕ) (said : List ItemView)
+    → said ≡ commands_said given → IfSome input (λ all. given ≡ take count (lines_within all))
+    → IfSome input (λ all. said ≡ commands_said (take count (lines_within all)))
+said_by None given count said e h = tt
+said_by (Some all) given count said e h = e ∙ ap commands_said h
+
 first_said : (input : Option (List ℕ)) (given : List (List ℕ)) (count : ℕ) (said : List ItemView)
     → said ≡ commands_said given → length given ≡ count → Begins input given
     → IfSome input (λ all. said ≡ commands_said (take count (lines_within all)))
-first_said None given count said e number h = tt
-first_said (Some all) given count said e number (others, whole) =
-    let front : take count (lines_within all) ≡ given =
-    ap (λ n. take n (lines_within all)) (sym number) ∙ ap (take (length given)) whole
-    ∙ take-append_seam given others in
-    e ∙ ap commands_said (sym front)
+first_said input given count said e number h = said_by input given count said e (given_first input given count number h)
 
 tried_said : (input : Option (List ℕ)) (given : List (List ℕ)) (count : ℕ) (said last : List ItemView)
     → said ++ last ≡ commands_said given → length given ≡ count → Begins input given
@@ -426,3 +478,113 @@ asks_in_part p first last parted input before between after replied given line s
             (length-append given (raw ∷ []) ∙ ap (λ n. n + 1) s.count) begun,
       );
     }
+
+-- ---- what was asked before a fault
+
+asked_printed : (p : Pace) (first last : Talker) (before between after : Option (List ℕ)) (replied : ℕ)
+    (given : List (List ℕ))
+    → after ≡ between → Asked p first last before between replied given
+    → Asked p first last before after replied given
+asked_printed p first last before between after replied given same s =
+    subst (λ o. Asked p first last before o replied given) (sym same) s
+
+bad_before : (p : Pace) (first last : Talker) (input rest before after : Option (List ℕ)) (replied : ℕ)
+    (given : List (List ℕ)) (raw : List ℕ)
+    → Asked p first last before after replied given → Begins input (given ++ raw ∷ [])
+    → AsksBefore p first last input rest before after (BadScript (replied + 1))
+bad_before p first last input rest before after replied given raw s begun =
+    let number : replied ≡ replied + 1 - 1 = omega arith in (
+      given,
+      subst (λ n. Asked p first last before after n given) number s,
+      given_first input given (replied + 1 - 1) (s.count ∙ number) (fewer_begin input given raw begun),
+    )
+
+met_before : (p q : Pace) (first mid last : Talker) (input rest before between after : Option (List ℕ))
+    (replied number : ℕ) (given : List (List ℕ)) (line : List ℕ)
+    → Asked p first mid before between replied given → IsNext input given line
+    → AsksLine q mid last replied line between after (Err (BadScript number))
+    → AsksBefore p first last input rest before after (BadScript number)
+met_before p q first mid last input rest before between after replied number given line s (raw, front, begun)
+    (none, e, same, still) =
+    subst (λ n. AsksBefore p first last input rest before after (BadScript n)) (sym e)
+    (subst (λ t. AsksBefore p first t input rest before after (BadScript (replied + 1))) (sym still)
+    (bad_before p first mid input rest before after replied given raw
+    (asked_printed p first mid before between after replied given same s) begun))
+
+-- a line stands for no command, or its turns or its text met a fault
+pub line_before : (p q : Pace) (first mid last : Talker) (input rest before between after : Option (List ℕ))
+    (replied : ℕ) (given : List (List ℕ)) (line : List ℕ) (fault : RunFault)
+    → Asked p first mid before between replied given → IsNext input given line
+    → AsksLine q mid last replied line between after (Err fault)
+    → AsksBefore p first last input rest before after fault
+line_before p q first mid last input rest before between after replied given line (BadScript number) s next h =
+    met_before p q first mid last input rest before between after replied number given line s next h
+line_before p q first mid last input rest before between after replied given line WriteFault s next h = tt
+line_before p q first mid last input rest before between after replied given line LinkFault s next h = tt
+line_before p q first mid last input rest before between after replied given line ClockFault s next h = tt
+line_before p q first mid last input rest before between after replied given line NoMemory s next h = absurd h
+line_before p q first mid last input rest before between after replied given line ReadFault s next h = absurd h
+line_before p q first mid last input rest before between after replied given line InputTooLong s next h = absurd h
+
+asked_to : (p : Pace) (first last : Talker) (before after : Option (List ℕ)) (replied : ℕ) (given lines : List (List ℕ))
+    → given ≡ lines → Asked p first last before after replied given
+    → Asked p first last before after (length lines) lines
+asked_to p first last before after replied given lines e s =
+    subst (λ l. Asked p first last before after (length l) l) e
+    (subst (λ n. Asked p first last before after n given) (sym s.count) s)
+
+past_before : (input : Option (List ℕ)) (given : List (List ℕ))
+    → IfSome input (λ all. (INPUT_LIMIT < length all) × (given ≡ ended_lines (take INPUT_LIMIT all)))
+    → IfSome input (λ all. given ≡ ended_lines (take INPUT_LIMIT all))
+past_before None given h = tt
+past_before (Some all) given h = h.1
+
+-- no more could be had
+pub unread_before : (p : Pace) (first last : Talker) (input rest before after : Option (List ℕ)) (replied : ℕ)
+    (given : List (List ℕ)) (v : LinesView) (fault : RunFault)
+    → Asked p first last before after replied given
+    → GivesMore KEPT_LEN INPUT_LIMIT input rest given v (Err fault)
+    → AsksBefore p first last input rest before after fault
+unread_before p first last input rest before after replied given v ReadFault s (read, consumed, e) =
+    (read, consumed, asked_to p first last before after replied given _ e s)
+unread_before p first last input rest before after replied given v InputTooLong s h =
+    (given, asked_to p first last before after replied given given refl s, past_before input given h)
+unread_before p first last input rest before after replied given v WriteFault s h = absurd h
+unread_before p first last input rest before after replied given v NoMemory s h = absurd h
+unread_before p first last input rest before after replied given v (BadScript number) s h = absurd h
+unread_before p first last input rest before after replied given v LinkFault s h = absurd h
+unread_before p first last input rest before after replied given v ClockFault s h = absurd h
+
+-- ---- a whole run
+
+-- a run that ended by a fault
+pub broke_off : (p : Pace) (first parted : Talker) (queue : Option QueueView) (input rest before after : Option (List ℕ))
+    (result : Result ScriptEnd RunFault) (fault : RunFault)
+    → result ≡ Err fault → Asks p first parted input rest before after result
+    → Converses p first queue input rest before after result
+broke_off p first parted queue input rest before after (Ok end) fault is asks = absurd (let no : ⊥ = cc in no)
+broke_off p first parted queue input rest before after (Err met) fault is asks = (parted, asks)
+
+pub if_asked : (result : Result ScriptEnd RunFault) (P : Type 0) → P → IfAsked result P
+if_asked (Ok end) P h = h
+if_asked (Err (BadScript number)) P h = h
+if_asked (Err ReadFault) P h = h
+if_asked (Err InputTooLong) P h = h
+if_asked (Err WriteFault) P h = tt
+if_asked (Err NoMemory) P h = tt
+if_asked (Err LinkFault) P h = tt
+if_asked (Err ClockFault) P h = tt
+
+-- a run by a clock that began then
+pub by_clock : (Begins Speaks : Beginning → Type 0) (result : Result ScriptEnd RunFault) (beginning : Beginning)
+    → Begins beginning → Speaks beginning → IfAsked result ((x : Beginning) × Begins x × Speaks x)
+by_clock Begins Speaks result beginning begins speaks =
+    let run : (x : Beginning) × Begins x × Speaks x = (beginning, begins, speaks) in
+    if_asked result ((x : Beginning) × Begins x × Speaks x) run
+
+pub same_queue : (p : Pace) (first : Talker) (was queue : Option QueueView) (input rest before after : Option (List ℕ))
+    (result : Result ScriptEnd RunFault)
+    → Converses p first was input rest before after result → was ≡ queue
+    → Converses p first queue input rest before after result
+same_queue p first was queue input rest before after result speaks same =
+    subst (λ q. Converses p first q input rest before after result) same speaks

@@ -1,13 +1,14 @@
 -- A run over a script whose last replies were handed on.
-use Rattle.std.proofs.Common.{◌≡◌, ℕ, Bool, true, false, List, [], ◌++◌, ◌∙◌, refl, sym, ap, subst, append-nil}
-use Rattle.std.specs.Prelude.{Option, None, Some, IfOk, Result, Ok, Err}
+use Rattle.std.proofs.Common.{◌≡◌, ℕ, ◌-◌, Bool, true, false, List, [], ◌++◌, length, ◌∙◌, refl, sym, ap, subst, append-nil}
+use Rattle.std.specs.Prelude.{Option, None, Some, Result, Ok, Err}
 use Rattle.std.specs.Io.KnownBytes.{Keeps}
 use Rattle.std.proofs.KnownBytes.{Appends-kept}
 use Rattle.chaosd_io.specs.Buffer.{written_of}
+use Rattle.chaosd_io.specs.Lines.{ended_lines}
 use Rattle.chaosd_io.specs.declared.fault.RunFault.{RunFault}
 use Rattle.chaosd_io.specs.declared.fault.RunFault.TheVariants.{ReadFault, WriteFault, InputTooLong, NoMemory, BadScript, LinkFault, ClockFault}
-use Rattle.chaosd_file.specs.Asking.{Asked, AskedGiven}
-use Rattle.chaosd_file.specs.Conversation.{AsksAll}
+use Rattle.chaosd_file.specs.Asking.{AskedGiven}
+use Rattle.chaosd_file.specs.Conversation.{Asked, Asks, AsksAll, AsksBefore}
 use Rattle.chaosd_file.specs.Printed.{PrintsReplies}
 use Rattle.chaosd_file.specs.Script.{PrintsRepliesTo, Ran, Runs}
 use Rattle.file_client.specs.Pace.{Pace}
@@ -106,10 +107,10 @@ runs_handed input rest before between held begun waiting result none runs kept e
     runs_kept input rest before between held result (subst (λ o. Runs input rest o between result) from runs)
     (nothing_waits between held waiting empty kept)
 
-asks_kept : (p : Pace) (first parted : Talker) (input before between after : Option (List ℕ)) (end : ScriptEnd)
+all_kept : (p : Pace) (first parted : Talker) (input before between after : Option (List ℕ)) (end : ScriptEnd)
     → AsksAll p first parted input before between end → Keeps between after
     → AsksAll p first parted input before after end
-asks_kept p first parted input before between after end s kept = record {
+all_kept p first parted input before between after end s kept = record {
   talk = s.talk;
   replied = s.replied;
   asks = s.asks;
@@ -120,15 +121,29 @@ asks_kept p first parted input before between after end s kept = record {
   in_part = s.in_part;
 }
 
-pub asks_handed : (p : Pace) (first parted : Talker) (input before between held : Option (List ℕ))
+asks_kept : (p : Pace) (first parted : Talker) (input rest before between after : Option (List ℕ))
+    (result : Result ScriptEnd RunFault)
+    → Asks p first parted input rest before between result → Keeps between after
+    → Asks p first parted input rest before after result
+asks_kept p first parted input rest before between after (Ok end) s kept =
+    all_kept p first parted input before between after end s kept
+asks_kept p first parted input rest before between after (Err (BadScript number)) (given, s, is) kept =
+    (given, asked_kept p first parted before between after (number - 1) given s kept, is)
+asks_kept p first parted input rest before between after (Err ReadFault) (read, consumed, s) kept =
+    (read, consumed, asked_kept p first parted before between after _ (ended_lines read) s kept)
+asks_kept p first parted input rest before between after (Err InputTooLong) (given, s, is) kept =
+    (given, asked_kept p first parted before between after (length given) given s kept, is)
+asks_kept p first parted input rest before between after (Err WriteFault) s kept = tt
+asks_kept p first parted input rest before between after (Err NoMemory) s kept = tt
+asks_kept p first parted input rest before between after (Err LinkFault) s kept = tt
+asks_kept p first parted input rest before between after (Err ClockFault) s kept = tt
+
+pub asks_handed : (p : Pace) (first parted : Talker) (input rest before between held : Option (List ℕ))
     (begun waiting : List ℕ) (result : Result ScriptEnd RunFault)
-    → begun ≡ []
-    → IfOk result (λ end. AsksAll p first parted input (written_of before begun) between end)
-    → Keeps between (written_of held waiting) → waiting ≡ []
-    → IfOk result (λ end. AsksAll p first parted input before held end)
-asks_handed p first parted input before between held begun waiting (Err fault) none asks kept empty = tt
-asks_handed p first parted input before between held begun waiting (Ok end) none asks kept empty =
+    → begun ≡ [] → Asks p first parted input rest (written_of before begun) between result
+    → Keeps between (written_of held waiting) → waiting ≡ [] → Asks p first parted input rest before held result
+asks_handed p first parted input rest before between held begun waiting result none asks kept empty =
     let from : written_of before begun ≡ before = ap (written_of before) none ∙ begun_with before in
-    asks_kept p first parted input before between held end
-    (subst (λ o. AsksAll p first parted input o between end) from asks)
+    asks_kept p first parted input rest before between held result
+    (subst (λ o. Asks p first parted input rest o between result) from asks)
     (nothing_waits between held waiting empty kept)

@@ -1,28 +1,19 @@
 -- What a run over a script has done so far, and what becomes of a line.
-use Rattle.std.specs.Prelude.{◌≡◌, ℕ, ◌+◌, Bool, true, false, List, All, length, Option, Some, None, Result, Ok, Err}
+use Rattle.std.specs.Prelude.{◌≡◌, ℕ, ◌+◌, Bool, true, false, List, [], Option, Some, None, Result, Ok, Err}
 use Rattle.std.specs.Io.KnownBytes.{Appends}
 use Rattle.chaosd_io.specs.declared.fault.RunFault.{RunFault}
 use Rattle.chaosd_io.specs.declared.fault.RunFault.TheVariants.{ReadFault, WriteFault, InputTooLong, NoMemory, BadScript, LinkFault, ClockFault}
 use Rattle.chaosd_io.specs.declared.limits.TheConstants.{INPUT_LIMIT, KEPT_LEN}
 use Rattle.chaosd_io.specs.Reader.{LinesView, Gives, Done}
 use Rattle.chaosd_file.specs.Command.{command_of}
-use Rattle.chaosd_file.specs.Conversation.{commands_said}
-use Rattle.chaosd_file.specs.Printed.{PrintsReplies, reply_line, no_reply_line}
-use Rattle.chaosd_file.specs.Script.{IsCommand}
+use Rattle.chaosd_file.specs.Conversation.{Asked}
+use Rattle.chaosd_file.specs.Printed.{reply_line, no_reply_line}
 use Rattle.file_client.specs.Pace.{Pace}
-use Rattle.file_client.specs.Talk.{Talker, Talk, Talks, Exchanges}
+use Rattle.file_client.specs.Talk.{Talker, Exchanges, Talks}
 
--- Each line that was given stands for a command that got a reply, and the replies were printed. `last`: the client
--- after `first`, whose connection wrote these commands and read these replies.
-pub record Asked (p : Pace) (first last : Talker) (before after : Option (List ℕ)) (replied : ℕ)
-    (given : List (List ℕ)) : Type 0 where
-  pub count : length given ≡ replied
-  pub commands : All IsCommand given
-  pub printed : PrintsReplies replied before after
-  pub talk : Talk
-  pub talks : Talks p first talk last
-  pub said : talk.said ≡ commands_said given
-  pub heard : talk.heard ≡ printed.replies
+-- A client took turns, and said and heard nothing.
+abbrev pub Idles : Pace → Talker → Talker → Type 0
+Idles p first last = (turns : ℕ) × Talks p first (record { said = []; heard = []; turns = turns }) last
 
 -- So it is with the lines that the reader gave of an input.
 abbrev pub AskedGiven : Pace → Talker → Talker → Option (List ℕ) → Option (List ℕ) → Option (List ℕ) → Option (List ℕ)
@@ -38,7 +29,7 @@ AskedAll p first last input rest before after replied =
     (given : List (List ℕ)) × Asked p first last before after replied given × Done INPUT_LIMIT input rest given
 
 -- The line stands for a command, and its reply was printed; or that it got none was. Or it stands for none, and nothing
--- was printed; or there was a fault of a turn or of the writer.
+-- was printed or done by the client; or there was a fault of a turn or of the writer.
 abbrev pub AsksLine : Pace → Talker → Talker → ℕ → List ℕ → Option (List ℕ) → Option (List ℕ) → Result Bool RunFault
     → Type 0
 AsksLine p first last replied line before after (Ok true) =
@@ -48,7 +39,7 @@ AsksLine p first last replied line before after (Ok false) =
     (command : List ℕ) × (command_of line ≡ Some command) × Exchanges p first command None last
     × Appends before after no_reply_line
 AsksLine p first last replied line before after (Err (BadScript number)) =
-    (command_of line ≡ None) × (number ≡ replied + 1) × (after ≡ before)
+    (command_of line ≡ None) × (number ≡ replied + 1) × (after ≡ before) × (last ≡ first)
 AsksLine p first last replied line before after (Err WriteFault) = Unit {0}
 AsksLine p first last replied line before after (Err LinkFault) = Unit {0}
 AsksLine p first last replied line before after (Err ClockFault) = Unit {0}

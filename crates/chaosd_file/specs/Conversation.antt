@@ -1,15 +1,19 @@
 -- A whole run of a client: what it says, hears and prints.
-use Rattle.std.specs.Prelude.{◌≡◌, ℕ, ◌+◌, ◌*◌, min, List, [], ◌∷◌, ◌++◌, length, take, Option, Some, None, IfSome}
+use Rattle.std.specs.Prelude.{◌≡◌, ℕ, ◌+◌, ◌-◌, ◌*◌, min, List, [], ◌∷◌, ◌++◌, All, length, take, Option, Some, None, IfSome, Result, Ok, Err}
 use Rattle.std.specs.List.{flat_map}
-use Rattle.std.specs.Io.KnownBytes.{Appends}
+use Rattle.std.specs.Io.KnownBytes.{Appends, Consumes}
 use Rattle.chaos_packet.specs.Count.{max_count}
 use Rattle.chaos_packet.specs.Item.{ItemView}
 use Rattle.chaos_link.specs.Link.{QueueView}
+use Rattle.chaosd_io.specs.declared.fault.RunFault.{RunFault}
+use Rattle.chaosd_io.specs.declared.fault.RunFault.TheVariants.{ReadFault, WriteFault, InputTooLong, NoMemory, BadScript, LinkFault, ClockFault}
+use Rattle.chaosd_io.specs.declared.limits.TheConstants.{INPUT_LIMIT}
+use Rattle.chaosd_io.specs.Lines.{ended_lines}
 use Rattle.chaosd_file.specs.declared.limits.TheConstants.{LOOP_TURN}
 use Rattle.chaosd_file.specs.declared.end.ScriptEnd.{ScriptEnd}
 use Rattle.chaosd_file.specs.Command.{command_of}
-use Rattle.chaosd_file.specs.Printed.{ending_of, replies_text}
-use Rattle.chaosd_file.specs.Script.{lines_within}
+use Rattle.chaosd_file.specs.Printed.{PrintsReplies, ending_of, replies_text}
+use Rattle.chaosd_file.specs.Script.{IsCommand, lines_within}
 use Rattle.file_client.specs.Caller.{CallerView, HangsUp}
 use Rattle.file_client.specs.Pace.{Pace}
 use Rattle.file_client.specs.Talk.{Talker, Talk, Talks, Exchanges, SaysFarewell, command_item}
@@ -30,6 +34,18 @@ item_for (Some command) = command_item command ∷ []
 abbrev pub commands_said : List (List ℕ) → List ItemView
 commands_said lines = flat_map (λ raw. item_for (command_of raw)) lines
 
+-- Each line that was given stands for a command that got a reply, and the replies were printed. `last`: the client
+-- after `first`, whose connection wrote these commands and read these replies.
+pub record Asked (p : Pace) (first last : Talker) (before after : Option (List ℕ)) (replied : ℕ)
+    (given : List (List ℕ)) : Type 0 where
+  pub count : length given ≡ replied
+  pub commands : All IsCommand given
+  pub printed : PrintsReplies replied before after
+  pub talk : Talk
+  pub talks : Talks p first talk last
+  pub said : talk.said ≡ commands_said given
+  pub heard : talk.heard ≡ printed.replies
+
 -- A client wrote the commands of an input's first lines, one after another, each where the one before it had got its
 -- reply, and what was printed are the data that it read. Behind the last command the EOF was tried; or one command more
 -- was, and got no reply.
@@ -46,8 +62,45 @@ pub record AsksAll (p : Pace) (first parted : Talker) (input before after : Opti
         × IfSome input
         (λ all. commands_said (take end.commands (lines_within all)) ≡ talk.said ++ command_item command ∷ [])
 
--- And then it hung up. `queue`: what its link is then.
+-- So many lines were asked before a fault of the script or of its reader: those before the bad one, those that ended in
+-- what was read, or those that ended within the limit.
+abbrev pub AsksBefore : Pace → Talker → Talker → Option (List ℕ) → Option (List ℕ) → Option (List ℕ) → Option (List ℕ)
+    → RunFault → Type 0
+AsksBefore p first parted input rest before after (BadScript number) =
+    (given : List (List ℕ)) × Asked p first parted before after (number - 1) given
+    × IfSome input (λ all. given ≡ take (number - 1) (lines_within all))
+AsksBefore p first parted input rest before after ReadFault =
+    (read : List ℕ) × Consumes input rest read
+    × Asked p first parted before after (length (ended_lines read)) (ended_lines read)
+AsksBefore p first parted input rest before after InputTooLong =
+    (given : List (List ℕ)) × Asked p first parted before after (length given) given
+    × IfSome input (λ all. given ≡ ended_lines (take INPUT_LIMIT all))
+AsksBefore p first parted input rest before after WriteFault = Unit {0}
+AsksBefore p first parted input rest before after NoMemory = Unit {0}
+AsksBefore p first parted input rest before after LinkFault = Unit {0}
+AsksBefore p first parted input rest before after ClockFault = Unit {0}
+
+-- What was asked, however a run ended.
+abbrev pub Asks : Pace → Talker → Talker → Option (List ℕ) → Option (List ℕ) → Option (List ℕ) → Option (List ℕ)
+    → Result ScriptEnd RunFault → Type 0
+Asks p first parted input rest before after (Ok end) = AsksAll p first parted input before after end
+Asks p first parted input rest before after (Err fault) = AsksBefore p first parted input rest before after fault
+
+-- A run that ended well asked all and then hung up. `queue`: what its link is then.
 abbrev pub Converses : Pace → Talker → Option QueueView → Option (List ℕ) → Option (List ℕ) → Option (List ℕ)
-    → ScriptEnd → Type 0
-Converses p first queue input before after end = (parted : Talker) × (left : CallerView)
+    → Option (List ℕ) → Result ScriptEnd RunFault → Type 0
+Converses p first queue input rest before after (Ok end) = (parted : Talker) × (left : CallerView)
     × AsksAll p first parted input before after end × HangsUp p parted.queue queue parted.caller left
+Converses p first queue input rest before after (Err fault) =
+    (parted : Talker) × AsksBefore p first parted input rest before after fault
+
+-- So it is where a run ended well, or by a fault of its script or of its reader.
+abbrev pub IfAsked : Result ScriptEnd RunFault → Type 0 → Type 0
+IfAsked (Ok end) P = P
+IfAsked (Err (BadScript number)) P = P
+IfAsked (Err ReadFault) P = P
+IfAsked (Err InputTooLong) P = P
+IfAsked (Err WriteFault) P = Unit {0}
+IfAsked (Err NoMemory) P = Unit {0}
+IfAsked (Err LinkFault) P = Unit {0}
+IfAsked (Err ClockFault) P = Unit {0}

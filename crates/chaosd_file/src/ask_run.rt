@@ -1,7 +1,7 @@
 //! The engine `ask`.
-ghost use Rattle.std.specs.Prelude.{◌≡◌, ◌<◌, ◌≤◌, Err, IfOk, OnOk};
+ghost use Rattle.std.specs.Prelude.{◌≡◌, ◌<◌, ◌≤◌, Err, OnOk};
 ghost use Rattle.chaosd_file.specs.declared.limits.TheConstants.{SCRIPT_WINDOW};
-ghost use Rattle.chaosd_file.specs.Conversation.{Converses};
+ghost use Rattle.chaosd_file.specs.Conversation.{Converses, IfAsked};
 ghost use Rattle.chaosd_file.specs.Script.{Runs};
 ghost use Rattle.file_client.specs.Caller.{new_caller};
 ghost use Rattle.chaosd_clock.specs.Clock.{BeginsBy, low_bits_of};
@@ -11,6 +11,7 @@ ghost use Rattle.chaosd_clock.specs.declared.clock.Beginning.{Beginning};
 
 use crate::end::ScriptEnd;
 use crate::limits::SCRIPT_WINDOW;
+use crate::ready::{Ready, Unasked};
 use crate::script::run_script;
 use crate::why::Why;
 use chaos_link::{Carriage, Link};
@@ -45,16 +46,61 @@ pub fn run_ask<C: Dial, R: Read, W: Write, L: Link>(
     requires { 0 < me }
     // Which lines were commands, what was printed, and how it ended.
     ensures runs { Runs (R.remaining reader.old) (R.remaining reader.new) (W.contents writer.old) (W.contents writer.new) result }
-    // What its connection wrote are the commands of these lines, in order, and then an EOF, and what was printed are the data that it
-    // read, in order.
-    ensures talk { IfOk result (λ end. (beginning : Beginning) × BeginsBy (C.shows clock.now) (C.dates clock.now) beginning
-        × Converses (clock_pace (C.shows clock.now) beginning) (talker (new_caller me to SCRIPT_WINDOW carriage (low_bits_of beginning)) (L.queue link.old)) (L.queue link.new) (R.remaining reader.old) (W.contents writer.old) (W.contents writer.new) end) }
+    // What its connection wrote are the commands of these lines, in order, and, where it ended well, then an EOF, and what was printed
+    // are the data that it read, in order.
+    ensures talk { IfAsked result ((beginning : Beginning) × BeginsBy (C.shows clock.now) (C.dates clock.now) beginning
+        × Converses (clock_pace (C.shows clock.now) beginning) (talker (new_caller me to SCRIPT_WINDOW carriage (low_bits_of beginning)) (L.queue link.old)) (L.queue link.new) (R.remaining reader.old) (R.remaining reader.new) (W.contents writer.old) (W.contents writer.new) result) }
+    // It ends well only where the link's count of failures didn't rise.
+    ensures well { OnOk result (L.count link.new ≤ L.count link.old) }
+    // It ends by a LinkFault only where the link counted failures.
+    ensures failed { result ≡ Err RunFault.LinkFault → 0 < L.count link.new }
+{
+    let route = Route { me, to, carriage };
+    run_ask_by::<Unasked, C, R, W, L>(clock, alloc, reader, writer, link, why, route)
+}
+
+/// Who asks whom, and how its packets are carried.
+#[derive(Clone, Copy)]
+pub struct Route {
+    pub me: u16,
+    pub to: u16,
+    pub carriage: Carriage,
+}
+
+/// The same, of a reader that is asked whether it has something to give before each read: while it hasn't, and there is a connection,
+/// the client takes turns. So it answers the server's probes while somebody types.
+///
+/// # Errors
+/// As [`run_ask`].
+pub fn run_ask_by<P: Ready<R>, C: Dial, R: Read, W: Write, L: Link>(
+    clock: &C,
+    alloc: Global,
+    reader: &mut R,
+    writer: &mut W,
+    link: &mut L,
+    why: &mut Option<Why>,
+    route: Route,
+) -> Result<ScriptEnd, RunFault>
+    requires { 0 < route.me }
+    // Which lines were commands, what was printed, and how it ended.
+    ensures runs { Runs (R.remaining reader.old) (R.remaining reader.new) (W.contents writer.old) (W.contents writer.new) result }
+    // What its connection wrote are the commands of these lines, in order, and, where it ended well, then an EOF, and what was printed
+    // are the data that it read, in order.
+    ensures talk { IfAsked result ((beginning : Beginning) × BeginsBy (C.shows clock.now) (C.dates clock.now) beginning
+        × Converses (clock_pace (C.shows clock.now) beginning) (talker (new_caller route.me route.to SCRIPT_WINDOW route.carriage (low_bits_of beginning)) (L.queue link.old)) (L.queue link.new) (R.remaining reader.old) (R.remaining reader.new) (W.contents writer.old) (W.contents writer.new) result) }
     // It ends well only where the link's count of failures didn't rise.
     ensures well { OnOk result (L.count link.new ≤ L.count link.old) }
     // It ends by a LinkFault only where the link counted failures.
     ensures failed { result ≡ Err RunFault.LinkFault → 0 < L.count link.new }
 {
     let mut turns = Timed::new(clock, link)?;
-    let mut client = Client::new(alloc, &turns, me, to, SCRIPT_WINDOW, carriage)?;
-    run_script(&mut client, &mut turns, reader, writer, why)
+    let mut client = Client::new(
+        alloc,
+        &turns,
+        route.me,
+        route.to,
+        SCRIPT_WINDOW,
+        route.carriage,
+    )?;
+    run_script::<P, Timed<'_, C, L>, R, W>(&mut client, &mut turns, reader, writer, why)
 }

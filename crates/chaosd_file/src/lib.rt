@@ -1,7 +1,7 @@
 //! The engines of the program `chaosd` that run a script of FILE: `loop` and `ask`.
 //!
 //! They work on readers, writers, links and a clock that their callers hand in. `command` reads a line of a script,
-//! `replies` prints, `script` runs a script by a client, and `loop_run` and `ask_run` are the engines. `why` has what a user is told of a run besides.
+//! `replies` prints, `ready` has how a reader is asked whether it has something to give, `script` runs a script by a client, and `loop_run` and `ask_run` are the engines. `why` has what a user is told of a run besides.
 #![tactic(auto)]
 
 mod ask_run;
@@ -9,12 +9,14 @@ mod command;
 mod end;
 mod limits;
 mod loop_run;
+mod ready;
 mod replies;
 mod script;
 mod why;
 
-pub use ask_run::run_ask;
+pub use ask_run::{Route, run_ask, run_ask_by};
 pub use end::ScriptEnd;
 pub use limits::{LOOP_CLIENT, LOOP_SERVER, NOBODY};
 pub use loop_run::run_loop;
+pub use ready::{Ready, Unasked};
 pub use why::{BadLine, Why};

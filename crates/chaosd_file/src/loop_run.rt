@@ -1,6 +1,6 @@
 //! The engine `loop`.
-ghost use Rattle.std.specs.Prelude.{◌≡◌, ◌<◌, ◌≤◌, ◌+◌, ℕ, Err, IfOk, OnOk};
-ghost use Rattle.chaosd_file.specs.Conversation.{Converses, loop_pace};
+ghost use Rattle.std.specs.Prelude.{◌≡◌, ◌<◌, ◌≤◌, ◌+◌, Err, OnOk};
+ghost use Rattle.chaosd_file.specs.Conversation.{Converses, IfAsked, loop_pace};
 ghost use Rattle.chaosd_file.specs.Script.{Runs};
 ghost use Rattle.chaosd_file.specs.declared.limits.TheConstants.{LOOP_CLIENT, LOOP_SERVER, SCRIPT_WINDOW};
 ghost use Rattle.file_client.specs.Caller.{new_caller};
@@ -10,6 +10,7 @@ use crate::end::ScriptEnd;
 use crate::limits::{
     LOOP_CLIENT, LOOP_CLIENT_START, LOOP_SERVER, LOOP_SERVER_START, LOOP_TURN, SCRIPT_WINDOW,
 };
+use crate::ready::Unasked;
 use crate::script::run_script;
 use crate::why::Why;
 use chaos_conn::ConnConfig;
@@ -147,9 +148,9 @@ pub fn run_loop<R: Read, W: Write, A: Link, B: Link>(
 ) -> Result<ScriptEnd, RunFault>
     // Which lines were commands, what was printed, and how it ended.
     ensures runs { Runs (R.remaining reader.old) (R.remaining reader.new) (W.contents writer.old) (W.contents writer.new) result }
-    // What its connection wrote are the commands of these lines, in order, and then an EOF, and what was printed are the data that it
-    // read, in order.
-    ensures talk { IfOk result (λ end. Converses loop_pace (talker (new_caller LOOP_CLIENT LOOP_SERVER SCRIPT_WINDOW carriage 0) (A.queue link_a.old)) (A.queue link_a.new) (R.remaining reader.old) (W.contents writer.old) (W.contents writer.new) end) }
+    // What its connection wrote are the commands of these lines, in order, and, where it ended well, then an EOF, and what was printed
+    // are the data that it read, in order.
+    ensures talk { IfAsked result (Converses loop_pace (talker (new_caller LOOP_CLIENT LOOP_SERVER SCRIPT_WINDOW carriage 0) (A.queue link_a.old)) (A.queue link_a.new) (R.remaining reader.old) (R.remaining reader.new) (W.contents writer.old) (W.contents writer.new) result) }
     // It ends well only where the links' counts of failures, together, didn't rise.
     ensures well { OnOk result (A.count link_a.new + B.count link_b.new ≤ A.count link_a.old + B.count link_b.old) }
     // It ends by a LinkFault only where a link counted failures.
@@ -183,7 +184,7 @@ fn run_between<R: Read, W: Write, A: Link, B: Link>(
     carriage: Carriage,
 ) -> Result<ScriptEnd, RunFault>
     ensures runs { Runs (R.remaining reader.old) (R.remaining reader.new) (W.contents writer.old) (W.contents writer.new) result }
-    ensures talk { IfOk result (λ end. Converses loop_pace (talker (new_caller LOOP_CLIENT LOOP_SERVER SCRIPT_WINDOW carriage 0) (A.queue near.old)) (A.queue near.new) (R.remaining reader.old) (W.contents writer.old) (W.contents writer.new) end) }
+    ensures talk { IfAsked result (Converses loop_pace (talker (new_caller LOOP_CLIENT LOOP_SERVER SCRIPT_WINDOW carriage 0) (A.queue near.old)) (A.queue near.new) (R.remaining reader.old) (R.remaining reader.new) (W.contents writer.old) (W.contents writer.new) result) }
     ensures well { OnOk result (A.count near.new + B.count far.new ≤ A.count near.old + B.count far.old) }
     ensures failed { result ≡ Err RunFault.LinkFault → 0 < A.count near.new + B.count far.new }
 {
@@ -205,5 +206,5 @@ fn run_between<R: Read, W: Write, A: Link, B: Link>(
         SCRIPT_WINDOW,
         carriage,
     )?;
-    run_script(&mut client, &mut turns, reader, writer, why)
+    run_script::<Unasked, Both<'_, A, B>, R, W>(&mut client, &mut turns, reader, writer, why)
 }

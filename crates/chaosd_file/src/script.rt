@@ -1,14 +1,16 @@
 //! The run over a script.
-ghost use Rattle.std.specs.Prelude.{◌≡◌, ◌<◌, ◌≤◌, Err, IfOk, OnOk};
+ghost use Rattle.std.specs.Prelude.{◌≡◌, ◌<◌, ◌≤◌, Err, IfErr, None, OnOk};
 ghost use Rattle.chaosd_io.specs.Buffer.{written_of};
 ghost use Rattle.chaosd_io.specs.declared.limits.TheConstants.{INPUT_LIMIT};
-ghost use Rattle.chaosd_file.specs.Asking.{AsksLine};
-ghost use Rattle.chaosd_file.specs.Conversation.{AsksAll, Converses};
+ghost use Rattle.chaosd_file.specs.Asking.{AsksLine, Idles};
+ghost use Rattle.chaosd_file.specs.Conversation.{Asks, Converses, IfAsked};
 ghost use Rattle.chaosd_file.specs.Script.{Runs};
+ghost use Rattle.file_client.specs.Fault.{IsTurnFault};
 ghost use Rattle.file_client.specs.Talk.{talker};
 
 use crate::command::{Places, read_command};
 use crate::end::ScriptEnd;
+use crate::ready::Ready;
 use crate::replies::{hand_on, print_none, print_reply};
 use crate::why::{Why, bad_line};
 use chaosd_io::{Data, INPUT_LIMIT, KEPT_LEN, LineReader, RunFault, WriteBuffer};
@@ -17,8 +19,9 @@ use std::io::{Read, Write};
 
 /// Asks each command of a script, and closes the connection however that ends, but for a fault of a link or of the clock: no turn
 /// is taken after those. The first fault is the answer. Replies wait until the reader is asked for more, or to the end: somebody who
-/// types sees each at once, and a script that is there takes a call of the writer for many. What is wrong with a bad line, and why no reply came, is left in `why`.
-pub fn run_script<T: Turns, R: Read, W: Write>(
+/// types sees each at once, and a script that is there takes a call of the writer for many. While the reader has nothing to give, as
+/// `P` tells, turns go on. What is wrong with a bad line, and why no reply came, is left in `why`.
+pub fn run_script<P: Ready<R>, T: Turns, R: Read, W: Write>(
     client: &mut Client,
     turns: &mut T,
     reader: &mut R,
@@ -29,9 +32,10 @@ pub fn run_script<T: Turns, R: Read, W: Write>(
     ensures same_turns { (T.links turns.new ≡ T.links turns.old) × (T.time turns.new ≡ T.time turns.old) }
     ensures failed { result ≡ Err RunFault.LinkFault → 0 < T.failures turns.new }
     ensures well { OnOk result (T.failures turns.new ≤ T.failures turns.old) }
-    ensures talk { IfOk result (λ end. Converses (T.pace (T.time turns.old)) (talker client.old.caller (T.queue turns.old)) (T.queue turns.new) (R.remaining reader.old) (W.contents writer.old) (W.contents writer.new) end) }
+    ensures talk { Converses (T.pace (T.time turns.old)) (talker client.old.caller (T.queue turns.old)) (T.queue turns.new) (R.remaining reader.old) (R.remaining reader.new) (W.contents writer.old) (W.contents writer.new) result }
+    ensures gone { IfAsked result (client.new.caller.id ≡ None) }
 {
-    let end = ask_all(client, turns, reader, writer, why);
+    let end = ask_all::<P, T, R, W>(client, turns, reader, writer, why);
     match end {
         Ok(_) => client.hang_up(turns)?,
         Err(RunFault::LinkFault | RunFault::ClockFault) => {}
@@ -44,7 +48,7 @@ pub fn run_script<T: Turns, R: Read, W: Write>(
 
 /// Asks each command in turn and prints its reply, until one gets none. Behind the last an EOF is sent. What waits to be printed is
 /// handed on however that ends.
-fn ask_all<T: Turns, R: Read, W: Write>(
+fn ask_all<P: Ready<R>, T: Turns, R: Read, W: Write>(
     client: &mut Client,
     turns: &mut T,
     reader: &mut R,
@@ -55,7 +59,7 @@ fn ask_all<T: Turns, R: Read, W: Write>(
     ensures same_turns { (T.links turns.new ≡ T.links turns.old) × (T.time turns.new ≡ T.time turns.old) }
     ensures failed { result ≡ Err RunFault.LinkFault → 0 < T.failures turns.new }
     ensures well { OnOk result (T.failures turns.new ≤ T.failures turns.old) }
-    ensures talk { IfOk result (λ end. AsksAll (T.pace (T.time turns.old)) (talker client.old.caller (T.queue turns.old)) (talker client.new.caller (T.queue turns.new)) (R.remaining reader.old) (W.contents writer.old) (W.contents writer.new) end) }
+    ensures talk { Asks (T.pace (T.time turns.old)) (talker client.old.caller (T.queue turns.old)) (talker client.new.caller (T.queue turns.new)) (R.remaining reader.old) (R.remaining reader.new) (W.contents writer.old) (W.contents writer.new) result }
 {
     let mut out = WriteBuffer::new();
     let mut places = Places {
@@ -63,7 +67,7 @@ fn ask_all<T: Turns, R: Read, W: Write>(
         reply: Data::new(),
         why: None,
     };
-    let end = ask_lines(client, turns, reader, &mut places, &mut out, writer);
+    let end = ask_lines::<P, T, R, W>(client, turns, reader, &mut places, &mut out, writer);
     *why = places.why.take();
     if let Err(RunFault::LinkFault | RunFault::ClockFault) = end {
         let _later = hand_on(&mut out, writer);
@@ -74,7 +78,7 @@ fn ask_all<T: Turns, R: Read, W: Write>(
 }
 
 /// Asks each command in turn, and puts its reply behind what waits to be printed, which is handed on before each read.
-fn ask_lines<T: Turns, R: Read, W: Write>(
+fn ask_lines<P: Ready<R>, T: Turns, R: Read, W: Write>(
     client: &mut Client,
     turns: &mut T,
     reader: &mut R,
@@ -86,8 +90,8 @@ fn ask_lines<T: Turns, R: Read, W: Write>(
     ensures same_turns { (T.links turns.new ≡ T.links turns.old) × (T.time turns.new ≡ T.time turns.old) }
     ensures failed { result ≡ Err RunFault.LinkFault → 0 < T.failures turns.new }
     ensures well { OnOk result (T.failures turns.new ≤ T.failures turns.old) }
-    ensures talk { IfOk result (λ end. AsksAll (T.pace (T.time turns.old)) (talker client.old.caller (T.queue turns.old)) (talker client.new.caller (T.queue turns.new)) (R.remaining reader.old)
-        (written_of (W.contents writer.old) out.old) (written_of (W.contents writer.new) out.new) end) }
+    ensures talk { Asks (T.pace (T.time turns.old)) (talker client.old.caller (T.queue turns.old)) (talker client.new.caller (T.queue turns.new)) (R.remaining reader.old) (R.remaining reader.new)
+        (written_of (W.contents writer.old) out.old) (written_of (W.contents writer.new) out.new) result }
 {
     let mut lines: LineReader<KEPT_LEN> = LineReader::new(INPUT_LIMIT);
     let mut replied = 0;
@@ -103,6 +107,7 @@ fn ask_lines<T: Turns, R: Read, W: Write>(
             replied += 1;
         }
         hand_on(out, writer)?;
+        wait_for_input::<P, T, R>(client, turns, reader)?;
         if !lines.refill(reader)? {
             break 'reads;
         }
@@ -121,6 +126,30 @@ fn ask_lines<T: Turns, R: Read, W: Write>(
         commands: replied,
         replied,
     })
+}
+
+/// Takes turns until the reader has something to give, or there is no connection: then a read may wait.
+fn wait_for_input<P: Ready<R>, T: Turns, R: Read>(
+    client: &mut Client,
+    turns: &mut T,
+    reader: &mut R,
+) -> Result<(), RunFault>
+    ensures idles { OnOk result (Idles (T.pace (T.time turns.old)) (talker client.old.caller (T.queue turns.old)) (talker client.new.caller (T.queue turns.new))) }
+    ensures input { R.remaining reader.new ≡ R.remaining reader.old }
+    ensures faults { IfErr result (IsTurnFault (T.failures turns.new)) }
+    ensures well { OnOk result (T.failures turns.new ≤ T.failures turns.old) }
+    ensures same_turns { (T.links turns.new ≡ T.links turns.old) × (T.time turns.new ≡ T.time turns.old) }
+{
+    for turn in 0..u64::MAX {
+        if client.is_over() {
+            return Ok(());
+        }
+        if P::is_ready(reader) {
+            return Ok(());
+        }
+        client.turn(turns)?;
+    }
+    Ok(())
 }
 
 /// Asks the command that a line stands for and prints its reply, and says whether it got one.

@@ -9,6 +9,6 @@ returns-clause-runs g c =
 
 pub returns-clause-talk : goal.returns-clause-talk
 returns-clause-talk g c =
-    asks_handed _ _ _ _ (g.W.Write.contents c.args.writer.now) _ (g.W.Write.contents c.hand_on.new.writer)
+    asks_handed _ _ _ _ _ (g.W.Write.contents c.args.writer.now) _ (g.W.Write.contents c.hand_on.new.writer)
     c.new-out.result c.hand_on.new.out c.ask_lines-end.result c.new-out.ensures c.ask_lines-end.ensures.talk
     c.in_ok-hand_on.ensures.kept c.in_ok-hand_on.ensures.empty

@@ -6,7 +6,7 @@ use Rattle.chaosd_io.specs.declared.limits.TheConstants.{INPUT_LIMIT, KEPT_LEN}
 use Rattle.chaosd_io.specs.Reader.{GivesMore}
 use Rattle.chaosd_io.proofs.Cutting.{none_came, told}
 use Rattle.file_client.specs.Talk.{talker}
-use Rattle.chaosd_file.proofs.Asking.{nothing_asked, next_is, last_is, asked_more, last_asked, line_runs, unread_runs, ran_in_part, ran_to_end, asks_in_part, asks_to_end}
+use Rattle.chaosd_file.proofs.Asking.{given_idle, nothing_asked, next_is, last_is, asked_more, last_asked, line_before, line_runs, unread_before, unread_runs, ran_in_part, ran_to_end, asks_in_part, asks_to_end}
 use Rattle.chaosd_file.proofs.Handed.{given_kept, some_came}
 use Rattle.chaosd_file.proofs.script.ask_lines.Goals.{in-Some+in_ok-ask_line-2+else-not-branch-3, in_default}
 use Rattle.chaosd_file.proofs.script.ask_lines.Goals as goal
@@ -26,6 +26,17 @@ returns-in_err-ask_line-clause-runs g c =
     let (given, asked, gives) = c.lines.invariant.asked in
     rw (p.1, p.2)
     (line_runs _ (g.T.Turns.pace (g.T.Turns.time c.lines.turns)) _ _
+    (talker c.ask_line.new.client.caller (g.T.Turns.queue c.ask_line.new.turns)) _ _ _ _ _ c.lines.replied given
+    _ c.in_err-ask_line.field-0.0 asked
+    (next_is _ _ given _ _ c.line-line.ensures (c.lines-test.ensures.given _ _ _ given gives))
+    c.in_err-ask_line.ensures.asks)
+
+pub returns-in_err-ask_line-clause-talk : goal.returns-in_err-ask_line-clause-talk
+returns-in_err-ask_line-clause-talk g c =
+    let p = err_from_is_err_and c.from_residual.result c.from_residual.ensures.1 in
+    let (given, asked, gives) = c.lines.invariant.asked in
+    rw (p.1, p.2)
+    (line_before _ (g.T.Turns.pace (g.T.Turns.time c.lines.turns)) _ _
     (talker c.ask_line.new.client.caller (g.T.Turns.queue c.ask_line.new.turns)) _ _ _ _ _ c.lines.replied given
     _ c.in_err-ask_line.field-0.0 asked
     (next_is _ _ given _ _ c.line-line.ensures (c.lines-test.ensures.given _ _ _ given gives))
@@ -65,14 +76,17 @@ lines-preserved g c =
 
 pub reads-preserved : goal.reads-preserved
 reads-preserved g c =
-    let (given, asked, gives) = given_kept _ _ _ _ _ _ _ _ _ _ c.lines.invariant.asked c.in_ok-hand_on.ensures.kept in
+    let (given, asked, gives) =
+    given_idle _ _ _ _ _ _ _ _ _ _ _
+    (given_kept _ _ _ _ _ _ _ _ _ _ c.lines.invariant.asked c.in_ok-hand_on.ensures.kept)
+    (rw c.lines.invariant.same_time at c.in_ok-wait_for_input.ensures.idles) c.wait_for_input.ensures.input in
     record {
       few =
           omega
           (arith, c.lines.invariant.few, c.cut.ensures.room, ap length (c.lines-test.ensures.none refl), c.in_ok-refill.ensures.left);
-      same_links = c.lines.invariant.same_links;
-      same_time = c.lines.invariant.same_time;
-      well = c.lines.invariant.well;
+      same_links = c.wait_for_input.ensures.same_turns.0 ∙ c.lines.invariant.same_links;
+      same_time = c.wait_for_input.ensures.same_turns.1 ∙ c.lines.invariant.same_time;
+      well = omega (arith, c.lines.invariant.well, c.in_ok-wait_for_input.ensures.well);
       asked =
           (given, asked, some_came _ _ _ _ given _ c.in_ok-refill.field-0 c.if-not-branch-2.false (c.in_ok-refill.ensures.given _ _ given (c.lines-test.ensures.given _ _ _ given gives).0));
     }
@@ -80,14 +94,31 @@ reads-preserved g c =
 pub returns-in_err-refill-clause-runs : goal.returns-in_err-refill-clause-runs
 returns-in_err-refill-clause-runs g c =
     let p = err_from_is_err_and c.from_residual-in_err-refill.result c.from_residual-in_err-refill.ensures.1 in
-    let (given, asked, gives) = given_kept _ _ _ _ _ _ _ _ _ _ c.lines.invariant.asked c.in_ok-hand_on.ensures.kept in
+    let (given, asked, gives) =
+    given_idle _ _ _ _ _ _ _ _ _ _ _
+    (given_kept _ _ _ _ _ _ _ _ _ _ c.lines.invariant.asked c.in_ok-hand_on.ensures.kept)
+    (rw c.lines.invariant.same_time at c.in_ok-wait_for_input.ensures.idles) c.wait_for_input.ensures.input in
     rw (p.1, p.2)
     (unread_runs _ _ _ _ _ _ _ c.lines.replied given c.refill.new.self c.in_err-refill.field-0.0 asked
     (c.in_err-refill.ensures.given _ _ given (c.lines-test.ensures.given _ _ _ given gives).0))
 
+pub returns-in_err-refill-clause-talk : goal.returns-in_err-refill-clause-talk
+returns-in_err-refill-clause-talk g c =
+    let p = err_from_is_err_and c.from_residual-in_err-refill.result c.from_residual-in_err-refill.ensures.1 in
+    let (given, asked, gives) =
+    given_idle _ _ _ _ _ _ _ _ _ _ _
+    (given_kept _ _ _ _ _ _ _ _ _ _ c.lines.invariant.asked c.in_ok-hand_on.ensures.kept)
+    (rw c.lines.invariant.same_time at c.in_ok-wait_for_input.ensures.idles) c.wait_for_input.ensures.input in
+    rw (p.1, p.2)
+    (unread_before _ _ _ _ _ _ _ c.lines.replied given c.refill.new.self c.in_err-refill.field-0.0 asked
+    (c.in_err-refill.ensures.given _ _ given (c.lines-test.ensures.given _ _ _ given gives).0))
+
 pub returns-in_err-refill-clause-failed : goal.returns-in_err-refill-clause-failed
 returns-in_err-refill-clause-failed g c is =
-    let (given, asked, gives) = given_kept _ _ _ _ _ _ _ _ _ _ c.lines.invariant.asked c.in_ok-hand_on.ensures.kept in
+    let (given, asked, gives) =
+    given_idle _ _ _ _ _ _ _ _ _ _ _
+    (given_kept _ _ _ _ _ _ _ _ _ _ c.lines.invariant.asked c.in_ok-hand_on.ensures.kept)
+    (rw c.lines.invariant.same_time at c.in_ok-wait_for_input.ensures.idles) c.wait_for_input.ensures.input in
     absurd
     (told c.from_residual-in_err-refill.result c.in_err-refill.field-0.0 LinkFault
     (λ f. GivesMore KEPT_LEN INPUT_LIMIT (g.R.Read.remaining c.args.reader.now) (g.R.Read.remaining c.refill.new.reader)
@@ -98,39 +129,70 @@ returns-in_err-refill-clause-failed g c is =
 pub returns-in_err-ask_line-2-clause-runs : goal.returns-in_err-ask_line-2-clause-runs
 returns-in_err-ask_line-2-clause-runs g c =
     let p = err_from_is_err_and c.from_residual-in_err-ask_line-2.result c.from_residual-in_err-ask_line-2.ensures.1 in
-    let (given, asked, gives) = given_kept _ _ _ _ _ _ _ _ _ _ c.lines.invariant.asked c.in_ok-hand_on.ensures.kept in
+    let (given, asked, gives) =
+    given_idle _ _ _ _ _ _ _ _ _ _ _
+    (given_kept _ _ _ _ _ _ _ _ _ _ c.lines.invariant.asked c.in_ok-hand_on.ensures.kept)
+    (rw c.lines.invariant.same_time at c.in_ok-wait_for_input.ensures.idles) c.wait_for_input.ensures.input in
     let end =
     none_came _ _ _ _ given _ c.in_ok-refill.field-0 c.if-not-branch-2.true
     (c.in_ok-refill.ensures.given _ _ given (c.lines-test.ensures.given _ _ _ given gives).0) in
     rw (p.1, p.2)
-    (line_runs _ (g.T.Turns.pace (g.T.Turns.time c.lines.turns)) _ _
+    (line_runs _ (g.T.Turns.pace (g.T.Turns.time c.wait_for_input.new.turns)) _ _
+    (talker c.ask_line-in-Some.new.client.caller (g.T.Turns.queue c.ask_line-in-Some.new.turns)) _ _ _ _ _
+    c.lines.replied given _ c.in_err-ask_line-2.field-0.0 asked
+    (last_is _ _ given _ (c.in-Some.ensures _ _ _ given end.0 end.2)) c.in_err-ask_line-2.ensures.asks)
+
+pub returns-in_err-ask_line-2-clause-talk : goal.returns-in_err-ask_line-2-clause-talk
+returns-in_err-ask_line-2-clause-talk g c =
+    let p = err_from_is_err_and c.from_residual-in_err-ask_line-2.result c.from_residual-in_err-ask_line-2.ensures.1 in
+    let (given, asked, gives) =
+    given_idle _ _ _ _ _ _ _ _ _ _ _
+    (given_kept _ _ _ _ _ _ _ _ _ _ c.lines.invariant.asked c.in_ok-hand_on.ensures.kept)
+    (rw c.lines.invariant.same_time at c.in_ok-wait_for_input.ensures.idles) c.wait_for_input.ensures.input in
+    let end =
+    none_came _ _ _ _ given _ c.in_ok-refill.field-0 c.if-not-branch-2.true
+    (c.in_ok-refill.ensures.given _ _ given (c.lines-test.ensures.given _ _ _ given gives).0) in
+    rw (p.1, p.2)
+    (line_before _ (g.T.Turns.pace (g.T.Turns.time c.wait_for_input.new.turns)) _ _
     (talker c.ask_line-in-Some.new.client.caller (g.T.Turns.queue c.ask_line-in-Some.new.turns)) _ _ _ _ _
     c.lines.replied given _ c.in_err-ask_line-2.field-0.0 asked
     (last_is _ _ given _ (c.in-Some.ensures _ _ _ given end.0 end.2)) c.in_err-ask_line-2.ensures.asks)
 
 pub returns-then-not-branch-3-clause-runs : goal.returns-then-not-branch-3-clause-runs
 returns-then-not-branch-3-clause-runs g c =
-    let (given, asked, gives) = given_kept _ _ _ _ _ _ _ _ _ _ c.lines.invariant.asked c.in_ok-hand_on.ensures.kept in
+    let time = c.wait_for_input.ensures.same_turns.1 ∙ c.lines.invariant.same_time in
+    let (given, asked, gives) =
+    given_idle _ _ _ _ _ _ _ _ _ _ _
+    (given_kept _ _ _ _ _ _ _ _ _ _ c.lines.invariant.asked c.in_ok-hand_on.ensures.kept)
+    (rw c.lines.invariant.same_time at c.in_ok-wait_for_input.ensures.idles) c.wait_for_input.ensures.input in
     let end =
     none_came _ _ _ _ given _ c.in_ok-refill.field-0 c.if-not-branch-2.true
     (c.in_ok-refill.ensures.given _ _ given (c.lines-test.ensures.given _ _ _ given gives).0) in
     ran_in_part _ _ _ _ _ _ _ _ _ c.lines.replied given _ asked
     (last_is _ _ given _ (c.in-Some.ensures _ _ _ given end.0 end.2))
-    (rw (c.if-not-branch-3.true, c.lines.invariant.same_time) at c.in_ok-ask_line-2.ensures.asks)
+    (rw (c.if-not-branch-3.true, time) at c.in_ok-ask_line-2.ensures.asks)
 
 pub returns-then-not-branch-3-clause-talk : goal.returns-then-not-branch-3-clause-talk
 returns-then-not-branch-3-clause-talk g c =
-    let (given, asked, gives) = given_kept _ _ _ _ _ _ _ _ _ _ c.lines.invariant.asked c.in_ok-hand_on.ensures.kept in
+    let time = c.wait_for_input.ensures.same_turns.1 ∙ c.lines.invariant.same_time in
+    let (given, asked, gives) =
+    given_idle _ _ _ _ _ _ _ _ _ _ _
+    (given_kept _ _ _ _ _ _ _ _ _ _ c.lines.invariant.asked c.in_ok-hand_on.ensures.kept)
+    (rw c.lines.invariant.same_time at c.in_ok-wait_for_input.ensures.idles) c.wait_for_input.ensures.input in
     let end =
     none_came _ _ _ _ given _ c.in_ok-refill.field-0 c.if-not-branch-2.true
     (c.in_ok-refill.ensures.given _ _ given (c.lines-test.ensures.given _ _ _ given gives).0) in
     asks_in_part _ _ _ _ _ _ _ _ c.lines.replied given _ asked
     (last_is _ _ given _ (c.in-Some.ensures _ _ _ given end.0 end.2))
-    (rw (c.if-not-branch-3.true, c.lines.invariant.same_time) at c.in_ok-ask_line-2.ensures.asks)
+    (rw (c.if-not-branch-3.true, time) at c.in_ok-ask_line-2.ensures.asks)
 
 pub returns-clause-runs : goal.returns-clause-runs
 returns-clause-runs g c =
-    let (given, asked, gives) = given_kept _ _ _ _ _ _ _ _ _ _ c.lines.invariant.asked c.in_ok-hand_on.ensures.kept in
+    let time = c.wait_for_input.ensures.same_turns.1 ∙ c.lines.invariant.same_time in
+    let (given, asked, gives) =
+    given_idle _ _ _ _ _ _ _ _ _ _ _
+    (given_kept _ _ _ _ _ _ _ _ _ _ c.lines.invariant.asked c.in_ok-hand_on.ensures.kept)
+    (rw c.lines.invariant.same_time at c.in_ok-wait_for_input.ensures.idles) c.wait_for_input.ensures.input in
     let end =
     none_came _ _ _ _ given _ c.in_ok-refill.field-0 c.if-not-branch-2.true
     (c.in_ok-refill.ensures.given _ _ given (c.lines-test.ensures.given _ _ _ given gives).0) in
@@ -141,21 +203,25 @@ returns-clause-runs g c =
       | in-Some+in_ok-ask_line-2+else-not-branch-3 w ↦
           rw (w.client-is, w.turns-is, w.out-is, w.writer-is, w.replied-is)
           (last_asked _ _ _ _ _ _ _ _ _ c.lines.replied given _ asked (w.in-Some.ensures _ _ _ given end.0 end.2)
-          (rw (w.if-not-branch-3.false, c.lines.invariant.same_time) at w.in_ok-ask_line-2.ensures.asks))
+          (rw (w.if-not-branch-3.false, time) at w.in_ok-ask_line-2.ensures.asks))
       | in_default w ↦ rw (w.client-is, w.turns-is, w.out-is, w.writer-is, w.replied-is)
           (given, asked, w.in_default.ensures _ _ _ given end.0 end.2)
     ])
 
 pub returns-clause-talk : goal.returns-clause-talk
 returns-clause-talk g c =
-    let (given, asked, gives) = given_kept _ _ _ _ _ _ _ _ _ _ c.lines.invariant.asked c.in_ok-hand_on.ensures.kept in
+    let time = c.wait_for_input.ensures.same_turns.1 ∙ c.lines.invariant.same_time in
+    let (given, asked, gives) =
+    given_idle _ _ _ _ _ _ _ _ _ _ _
+    (given_kept _ _ _ _ _ _ _ _ _ _ c.lines.invariant.asked c.in_ok-hand_on.ensures.kept)
+    (rw c.lines.invariant.same_time at c.in_ok-wait_for_input.ensures.idles) c.wait_for_input.ensures.input in
     let end =
     none_came _ _ _ _ given _ c.in_ok-refill.field-0 c.if-not-branch-2.true
     (c.in_ok-refill.ensures.given _ _ given (c.lines-test.ensures.given _ _ _ given gives).0) in
     let same : g.T.Turns.time c.match-last.turns ≡ g.T.Turns.time c.args.turns.now = elim c.match-last.branch [
       | in-Some+in_ok-ask_line-2+else-not-branch-3 w ↦ rw w.turns-is
-          (w.ask_line-in-Some.ensures.same_turns.1 ∙ c.lines.invariant.same_time)
-      | in_default w ↦ rw w.turns-is c.lines.invariant.same_time
+          (w.ask_line-in-Some.ensures.same_turns.1 ∙ time)
+      | in_default w ↦ rw w.turns-is time
     ] in
     asks_to_end (g.T.Turns.pace (g.T.Turns.time c.args.turns.now)) _
     (talker c.match-last.client.caller (g.T.Turns.queue c.match-last.turns)) _ _
@@ -164,7 +230,7 @@ returns-clause-talk g c =
       | in-Some+in_ok-ask_line-2+else-not-branch-3 w ↦
           rw (w.client-is, w.turns-is, w.out-is, w.writer-is, w.replied-is)
           (last_asked _ _ _ _ _ _ _ _ _ c.lines.replied given _ asked (w.in-Some.ensures _ _ _ given end.0 end.2)
-          (rw (w.if-not-branch-3.false, c.lines.invariant.same_time) at w.in_ok-ask_line-2.ensures.asks))
+          (rw (w.if-not-branch-3.false, time) at w.in_ok-ask_line-2.ensures.asks))
       | in_default w ↦ rw (w.client-is, w.turns-is, w.out-is, w.writer-is, w.replied-is)
           (given, asked, w.in_default.ensures _ _ _ given end.0 end.2)
     ])

@@ -1,0 +1,21 @@
+//! How it is asked whether a reader has something to give.
+ghost use Rattle.std.specs.Prelude.{◌≡◌};
+
+use std::io::Read;
+
+/// How a reader of the type `R` is asked whether it has something to give. std's `Read` can't be asked.
+pub trait Ready<R: Read> {
+    /// Whether a read would be answered at once, by bytes, the end or a fault. Where it would not, the client of a script takes a turn,
+    /// which may wait a moment, and asks again.
+    fn is_ready(reader: &mut R) -> bool
+        ensures { R.remaining reader.new ≡ R.remaining reader.old };
+}
+
+/// The way of readers that aren't asked: a read may wait, and no turns are taken while it does.
+pub struct Unasked;
+
+impl<R: Read> Ready<R> for Unasked {
+    fn is_ready(_reader: &mut R) -> bool {
+        true
+    }
+}
