@@ -5,31 +5,49 @@ use Rattle.chaos_link.specs.declared.link.Sent.TheVariants as sending
 use Rattle.chaos_link.specs.declared.link.Received.{Received}
 use Rattle.chaos_link.specs.declared.link.Received.TheVariants as receiving
 
--- the datagrams of a queue, the oldest first, and how many there may be
+-- a datagram, and the Chaosnet address of the host that it was sent to
+pub record Addressed : Type 0 where
+  pub to : ℕ
+  pub bytes : List ℕ
+
+-- The link was asked to send these datagrams more, each to its address, and nothing else, whatever it answered.
+abbrev pub AsksMore : List Addressed → Option (List Addressed) → List Addressed → Type 0
+AsksMore datagrams after before = after ≡ Some (before ++ datagrams)
+
+-- ---- A queue
+
+-- the datagrams of a queue with their addresses, the oldest first, and how many there may be
 pub record QueueView : Type 0 where
-  pub datagrams : List (List ℕ)
+  pub datagrams : List Addressed
   pub cap : ℕ
 
 -- The datagram goes behind the others. One that finds the queue full is lost.
-abbrev pub with_datagram : List ℕ → QueueView → QueueView
-with_datagram bytes queue = record queue {
-  datagrams = if nat_lt (length queue.datagrams) queue.cap then queue.datagrams ++ bytes ∷ [] else queue.datagrams;
+abbrev pub with_datagram : Addressed → QueueView → QueueView
+with_datagram datagram queue = record queue {
+  datagrams = if nat_lt (length queue.datagrams) queue.cap then queue.datagrams ++ datagram ∷ [] else queue.datagrams;
 }
 
--- A queue takes every datagram as sent.
-abbrev pub SendsInto : List ℕ → Sent → Option QueueView → QueueView → Type 0
-SendsInto bytes result after before = (result ≡ sending.Sent) × (after ≡ Some (with_datagram bytes before))
+-- A queue takes every datagram as sent, with the address that it was given.
+abbrev pub SendsInto : ℕ → List ℕ → Sent → Option QueueView → QueueView → Type 0
+SendsInto to bytes result after before =
+    (result ≡ sending.Sent) × (after ≡ Some (with_datagram (record { to = to; bytes = bytes }) before))
 
--- The oldest datagram is taken and stands in the front of the buffer. From an empty queue nothing is.
-abbrev pub TakesOldest : List (List ℕ) → ℕ → List ℕ → List ℕ → Received → Option QueueView → Type 0
-TakesOldest [] cap old new result after =
-    (result ≡ receiving.Nothing) × (new ≡ old) × (after ≡ Some (record { datagrams = []; cap = cap }))
-TakesOldest (oldest ∷ others) cap old new result after =
-    (result ≡ receiving.Got (length oldest)) × (new ≡ oldest ++ drop (length oldest) old)
-    × (after ≡ Some (record { datagrams = others; cap = cap }))
+-- what stays where the oldest datagram is received
+abbrev pub without_first : QueueView → QueueView
+without_first queue = record queue { datagrams = drop 1 queue.datagrams }
 
+-- The oldest of these datagrams stands in the front of the buffer. Where there is none, nothing does.
+abbrev pub HandsOut : List Addressed → List ℕ → List ℕ → Received → Type 0
+HandsOut [] old new result = (result ≡ receiving.Nothing) × (new ≡ old)
+HandsOut (oldest ∷ others) old new result =
+    (result ≡ receiving.Got (length oldest.bytes)) × (new ≡ oldest.bytes ++ drop (length oldest.bytes) old)
+
+-- The oldest datagram is taken, whomever it was sent to. From an empty queue nothing is.
 abbrev pub ReceivesFrom : List ℕ → List ℕ → Received → Option QueueView → QueueView → Type 0
-ReceivesFrom old new result after before = TakesOldest before.datagrams before.cap old new result after
+ReceivesFrom old new result after before =
+    HandsOut before.datagrams old new result × (after ≡ Some (without_first before))
+
+-- ---- Any link
 
 -- What was received has no more bytes than this.
 abbrev pub IsWithin : ℕ → Received → Type 0

@@ -1,8 +1,7 @@
 //! A link that fails once.
-ghost use Rattle.std.specs.Prelude.{◌≡◌, ◌≢◌, ◌==◌, ◌≤◌, IfSome, length, if◌then◌else◌};
+ghost use Rattle.std.specs.Prelude.{◌≡◌, ◌≢◌, ◌==◌, ◌≤◌, ◌∷◌, [], IfSome, length, if◌then◌else◌};
 ghost use Rattle.chaos_packet.specs.Count.{Rose};
-ghost use Rattle.chaos_link.specs.Addressed.{SendsTo, TakesAddressed};
-ghost use Rattle.chaos_link.specs.Link.{SendsInto, ReceivesFrom, IsWithin};
+ghost use Rattle.chaos_link.specs.Link.{AsksMore, SendsInto, ReceivesFrom, IsWithin};
 ghost use Rattle.chaos_link.specs.Fuse.{new_fuse, count_with, queue_with, after_blow, after_pass};
 
 use crate::limits::LINK_ROOM;
@@ -63,20 +62,18 @@ impl<L: Link> Link for FuseLink<L> {
 
     ghost queue = { queue_with L.queue };
 
-    ghost addressed = { queue_with L.addressed };
-
     fn send(&mut self, to_address: u16, bytes: &[u8]) -> Sent
         requires { length bytes.now ≤ LINK_ROOM }
         ensures failed { result ≡ Sent.Failed → Rose (count_with L.count self.old) (count_with L.count self.new) }
-        ensures queued { IfSome (queue_with L.queue self.old) (SendsInto bytes.now result (queue_with L.queue self.new)) }
-        ensures addressed { IfSome (queue_with L.addressed self.old) (SendsTo to_address bytes.now result (queue_with L.addressed self.new)) }
+        ensures uncounted { result ≢ Sent.Failed → count_with L.count self.new ≡ count_with L.count self.old }
+        ensures queued { IfSome (queue_with L.queue self.old) (SendsInto to_address bytes.now result (queue_with L.queue self.new)) }
         // The call that fails doesn't reach the link, and is counted.
         ensures blown { self.old.calls_left ≡ 1 → (result ≡ Sent.Failed) × (self.new ≡ after_blow self.old) }
         // Every other call is the link's: it fails only where the link's count rose, and over a queue is the queue's.
         ensures passed { self.old.calls_left ≢ 1 → self.new ≡ after_pass self.new.inner self.old }
         ensures passed_failed { self.old.calls_left ≢ 1 → result ≡ Sent.Failed → Rose (L.count self.old.inner) (L.count self.new.inner) }
-        ensures passed_queued { self.old.calls_left ≢ 1 → IfSome (L.queue self.old.inner) (SendsInto bytes.now result (L.queue self.new.inner)) }
-        ensures passed_addressed { self.old.calls_left ≢ 1 → IfSome (L.addressed self.old.inner) (SendsTo to_address bytes.now result (L.addressed self.new.inner)) }
+        ensures passed_queued { self.old.calls_left ≢ 1 → IfSome (L.queue self.old.inner) (SendsInto to_address bytes.now result (L.queue self.new.inner)) }
+        ensures passed_asked { self.old.calls_left ≢ 1 → IfSome (L.asked self.old.inner) (AsksMore (record { to = to_address; bytes = bytes.now } ∷ []) (L.asked self.new.inner)) }
     {
         if self.blows() {
             return Sent::Failed;
@@ -87,14 +84,14 @@ impl<L: Link> Link for FuseLink<L> {
     fn receive(&mut self, buffer: &mut [u8; LINK_ROOM], may_wait: bool) -> Received
         ensures failed { result ≡ Received.Failed → Rose (count_with L.count self.old) (count_with L.count self.new) }
         ensures within { IsWithin LINK_ROOM result }
+        ensures uncounted { result ≢ Received.Failed → count_with L.count self.new ≡ count_with L.count self.old }
         ensures queued { IfSome (queue_with L.queue self.old) (ReceivesFrom buffer.old buffer.new result (queue_with L.queue self.new)) }
-        ensures addressed { IfSome (queue_with L.addressed self.old) (TakesAddressed buffer.old buffer.new result (queue_with L.addressed self.new)) }
         // As of a send; the buffer stays as it was.
         ensures blown { self.old.calls_left ≡ 1 → (result ≡ Received.Failed) × (self.new ≡ after_blow self.old) × (buffer.new ≡ buffer.old) }
         ensures passed { self.old.calls_left ≢ 1 → self.new ≡ after_pass self.new.inner self.old }
         ensures passed_failed { self.old.calls_left ≢ 1 → result ≡ Received.Failed → Rose (L.count self.old.inner) (L.count self.new.inner) }
         ensures passed_queued { self.old.calls_left ≢ 1 → IfSome (L.queue self.old.inner) (ReceivesFrom buffer.old buffer.new result (L.queue self.new.inner)) }
-        ensures passed_addressed { self.old.calls_left ≢ 1 → IfSome (L.addressed self.old.inner) (TakesAddressed buffer.old buffer.new result (L.addressed self.new.inner)) }
+        ensures passed_asked { self.old.calls_left ≢ 1 → L.asked self.new.inner ≡ L.asked self.old.inner }
     {
         if self.blows() {
             return Received::Failed;

@@ -1,6 +1,5 @@
 //! A link in memory.
 ghost use Rattle.std.specs.Prelude.{◌≡◌, ◌≤◌, length, Some, IfOk, []};
-ghost use Rattle.chaos_link.specs.Addressed.{bytes_alone};
 
 use crate::limits::LINK_ROOM;
 use crate::link::{Link, Received, Sent};
@@ -19,9 +18,9 @@ pub struct MemLink {
 }
 
 impl Model for MemLink {
-    ghost use Rattle.chaos_link.specs.Addressed.{AddressedQueue};
+    ghost use Rattle.chaos_link.specs.Link.{QueueView};
 
-    ghost Value = { AddressedQueue };
+    ghost Value = { QueueView };
 
     ghost view = { λ link. record { datagrams = link.ring.items; cap = link.ring.capacity } };
 }
@@ -35,7 +34,7 @@ struct Datagram {
 }
 
 impl Model for Datagram {
-    ghost use Rattle.chaos_link.specs.Addressed.{Addressed};
+    ghost use Rattle.chaos_link.specs.Link.{Addressed};
 
     ghost Value = { Addressed };
 
@@ -68,9 +67,7 @@ fn datagram_to(to: u16, bytes: &[u8]) -> Datagram
 impl Link for MemLink {
     ghost count = { λ _. 0 };
 
-    ghost queue = { λ link. Some (bytes_alone link) };
-
-    ghost addressed = { λ link. Some link };
+    ghost queue = { λ link. Some link };
 
     /// Puts the datagram behind those that wait. One that finds the queue full is lost, and answered as sent.
     fn send(&mut self, to_address: u16, bytes: &[u8]) -> Sent {

@@ -66,6 +66,7 @@ impl<S: DatagramSocket> Link for UdpLink<S> {
     fn send(&mut self, to_address: u16, bytes: &[u8]) -> Sent
         requires { length bytes.now ≤ LINK_ROOM }
         ensures failed { result ≡ Sent.Failed → Rose self.old.failures self.new.failures }
+        ensures uncounted { result ≢ Sent.Failed → self.new.failures ≡ self.old.failures }
         ensures queued { Unit {0} }
         // An address is unknown exactly where no peer has it.
         ensures unknown { (result ≡ Sent.Unknown) ↔ (socket_of to_address self.old.peers ≡ None) }
@@ -90,6 +91,7 @@ impl<S: DatagramSocket> Link for UdpLink<S> {
     /// many for any packet, so that it is refused as a datagram.
     fn receive(&mut self, buffer: &mut [u8; LINK_ROOM], may_wait: bool) -> Received
         ensures failed { result ≡ Received.Failed → Rose self.old.failures self.new.failures }
+        ensures uncounted { result ≢ Received.Failed → self.new.failures ≡ self.old.failures }
         ensures within { IsWithin LINK_ROOM result }
         ensures queued { Unit {0} }
         ensures asked { S.asked self.new.socket ≡ S.asked self.old.socket }

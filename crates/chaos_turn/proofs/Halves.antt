@@ -6,11 +6,11 @@ use Rattle.chaos_host.specs.View.{HostView}
 use Rattle.chaos_host.specs.declared.answers.HostDelivered.{HostDelivered}
 use Rattle.chaos_link.specs.declared.carriage.Carriage.{Carriage}
 use Rattle.chaos_link.specs.declared.carriage.Carriage.TheVariants.{One, Two}
-use Rattle.chaos_link.specs.Link.{QueueView}
+use Rattle.chaos_link.specs.Link.{Addressed, QueueView, without_first}
 use Rattle.chaos_turn.specs.Arrive.{Arrival, arrival_from, arrive_at_client}
 use Rattle.chaos_turn.specs.End.{TellsWork}
 use Rattle.chaos_turn.specs.Halves.{RunsArrival, RunsTicks, tick_all}
-use Rattle.chaos_turn.specs.Link.{Sends, datagrams_of, has_packets, sent_by, sent_into, without_first}
+use Rattle.chaos_turn.specs.Link.{Sends, datagrams_of, has_packets, sent_by, sent_into}
 use Rattle.chaos_turn.specs.Phase.{DoesPhase, over_slots}
 use Rattle.chaos_turn.specs.Slots.{tick_at}
 use Rattle.chaos_turn.specs.Station.{Station, station}
@@ -43,7 +43,7 @@ queue_of_both : (carriage : Carriage) (q0 q1 q2 : Option QueueView) (waiting : L
 queue_of_both carriage None q1 q2 waiting xs ys came first last = tt
 queue_of_both carriage (Some queue) q1 q2 waiting xs ys came first last =
     let late : Sends q1 (sent_by carriage ys) q2 =
-    subst (λ (ds : List (List ℕ)). Sends q1 ds q2) (empty_lot carriage ys) last in
+    subst (λ (ds : List Addressed). Sends q1 ds q2) (empty_lot carriage ys) last in
     (first.0, sends_both carriage (Some (without_first (sent_into queue (datagrams_of carriage waiting)))) q1 q2 xs ys first.1 late)
 
 -- a client's turn is its two halves, with nothing between them

@@ -5,9 +5,8 @@ use Rattle.chaos_host.specs.declared.answers.HostDelivered.{HostDelivered}
 use Rattle.chaos_host.specs.Deliver.{host_deliver}
 use Rattle.chaos_host.specs.View.{HostView}
 use Rattle.chaos_link.specs.declared.fault.LinkFault.{LinkFault}
-use Rattle.chaos_link.specs.Link.{QueueView}
+use Rattle.chaos_link.specs.Link.{QueueView, without_first}
 use Rattle.chaos_link.specs.Packets.{packets_read}
-use Rattle.chaos_turn.specs.Link.{without_first}
 use Rattle.chaos_turn.specs.Phase.{Effect, no_effect_on, effect_of, over_packets}
 
 -- what comes: the packets of a datagram of either version, or why it carries none; or no datagram
@@ -16,7 +15,7 @@ Arrival = Option (Result (List PacketView) LinkFault)
 
 -- what comes from a queue
 abbrev pub arrival_from : QueueView → Arrival
-arrival_from queue = option_map packets_read (slice_get queue.datagrams 0)
+arrival_from queue = option_map (λ d. packets_read d.bytes) (slice_get queue.datagrams 0)
 
 -- The oldest datagram of a queue was received.
 abbrev pub Receives : Arrival → Option QueueView → QueueView → Type 0

@@ -1,43 +1,56 @@
--- Packets sent into a link, where it is a queue.
-use Rattle.std.specs.Prelude.{◌≡◌, ℕ, Bool, true, false, List, [], ◌∷◌, ◌++◌, drop, map, All, Option, Some, IfSome, Result, Ok, Err}
+-- Packets sent into a link, where it is a queue or tells what it was asked.
+use Rattle.std.specs.Prelude.{◌≡◌, ℕ, Bool, true, false, List, [], ◌∷◌, ◌++◌, map, All, Option, Some, IfSome, Result, Ok, Err}
 use Rattle.chaos_packet.specs.Packet.{PacketView}
 use Rattle.chaos_link.specs.declared.carriage.Carriage.{Carriage}
 use Rattle.chaos_link.specs.declared.carriage.Carriage.TheVariants.{One, Two}
 use Rattle.chaos_link.specs.Bundle.{datagram_of_all}
 use Rattle.chaos_link.specs.Datagram.{datagram_of}
-use Rattle.chaos_link.specs.Link.{QueueView, with_datagram}
+use Rattle.chaos_link.specs.Link.{Addressed, AsksMore, QueueView, with_datagram}
 use Rattle.chaos_link.specs.Loads.{EachSpelled, loads_of, packets_of}
 use Rattle.chaos_link.specs.Packets.{packets_read}
 use Rattle.chaos_link.specs.declared.fault.LinkFault.{LinkFault}
 
+-- a packet's canonical datagram, to the packet's destination
+abbrev pub datagram_for : PacketView → Addressed
+datagram_for p = record { to = p.dst; bytes = datagram_of p }
+
+-- where a load goes: all its packets go where the first does
+abbrev pub destination_of : List PacketView → ℕ
+destination_of [] = 0
+destination_of (p ∷ ps) = p.dst
+
+-- a load's datagram, to the load's destination
+abbrev pub datagram_for_all : List PacketView → Addressed
+datagram_for_all load = record { to = destination_of load; bytes = datagram_of_all load }
+
 -- the datagrams that packets go out in, in order: each as its canonical one, or each load of them as one of version 2
-abbrev pub datagrams_of : Carriage → List PacketView → List (List ℕ)
-datagrams_of One packets = map datagram_of packets
-datagrams_of Two packets = map datagram_of_all (loads_of packets)
+abbrev pub datagrams_of : Carriage → List PacketView → List Addressed
+datagrams_of One packets = map datagram_for packets
+datagrams_of Two packets = map datagram_for_all (loads_of packets)
 
 -- the datagrams that lots of packets go out in, lot by lot; a lot is what goes out at once
-abbrev pub sent_by : Carriage → List (List PacketView) → List (List ℕ)
+abbrev pub sent_by : Carriage → List (List PacketView) → List Addressed
 sent_by carriage [] = []
 sent_by carriage (lot ∷ lots) = datagrams_of carriage lot ++ sent_by carriage lots
 
 -- datagrams sent in order; one that finds the queue full is lost
-abbrev pub sent_into : QueueView → List (List ℕ) → QueueView
+abbrev pub sent_into : QueueView → List Addressed → QueueView
 sent_into queue [] = queue
 sent_into queue (d ∷ ds) = sent_into (with_datagram d queue) ds
 
 -- The link, where it is a queue, took these datagrams.
-abbrev pub Sends : Option QueueView → List (List ℕ) → Option QueueView → Type 0
+abbrev pub Sends : Option QueueView → List Addressed → Option QueueView → Type 0
 Sends before datagrams after = IfSome before (λ queue. after ≡ Some (sent_into queue datagrams))
+
+-- The link, where it tells what it was asked, was asked these datagrams more.
+abbrev pub Asks : Option (List Addressed) → List Addressed → Option (List Addressed) → Type 0
+Asks before datagrams after = IfSome before (AsksMore datagrams after)
 
 -- there is a packet in one of these lots
 abbrev pub has_packets : List (List PacketView) → Bool
 has_packets [] = false
 has_packets ([] ∷ lots) = has_packets lots
 has_packets ((p ∷ ps) ∷ lots) = true
-
--- what stays where the oldest datagram is received
-abbrev pub without_first : QueueView → QueueView
-without_first queue = record queue { datagrams = drop 1 queue.datagrams }
 
 -- The law that packets sent singly in two lots are sent as one.
 abbrev pub SendsOneByOne : Type 0
@@ -50,9 +63,9 @@ abbrev pub packets_in : Result (List PacketView) LinkFault → List PacketView
 packets_in (Ok packets) = packets
 packets_in (Err fault) = []
 
-abbrev pub read_all : List (List ℕ) → List PacketView
+abbrev pub read_all : List Addressed → List PacketView
 read_all [] = []
-read_all (d ∷ ds) = packets_in (packets_read d) ++ read_all ds
+read_all (d ∷ ds) = packets_in (packets_read d.bytes) ++ read_all ds
 
 -- The law that of the datagrams of either carriage the packets are read that went out, in their order, where words
 -- spell each.

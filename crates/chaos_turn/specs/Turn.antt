@@ -4,10 +4,10 @@ use Rattle.chaos_packet.specs.Packet.{PacketView}
 use Rattle.chaos_host.specs.View.{HostView}
 use Rattle.chaos_host.specs.declared.answers.HostDelivered.{HostDelivered}
 use Rattle.chaos_link.specs.declared.carriage.Carriage.{Carriage}
-use Rattle.chaos_link.specs.Link.{QueueView}
+use Rattle.chaos_link.specs.Link.{QueueView, without_first}
 use Rattle.chaos_turn.specs.Arrive.{Arrival, arrival_from, arrive_at_client, told_at_client}
 use Rattle.chaos_turn.specs.End.{TellsWork}
-use Rattle.chaos_turn.specs.Link.{datagrams_of, has_packets, sent_by, sent_into, without_first}
+use Rattle.chaos_turn.specs.Link.{datagrams_of, has_packets, sent_by, sent_into}
 use Rattle.chaos_turn.specs.Phase.{Effect, and_then, over_slots}
 use Rattle.chaos_turn.specs.Slots.{tick_at}
 use Rattle.chaos_turn.specs.Station.{Station}

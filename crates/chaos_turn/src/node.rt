@@ -38,7 +38,7 @@ impl Node {
     ghost use Rattle.std.specs.Prelude.{◌≡◌, ◌↔◌, [], ◌∷◌, None, IfOk};
     ghost use Rattle.chaos_packet.specs.Count.{Rose};
     ghost use Rattle.chaos_turn.specs.Halves.{RunsArrival, RunsTicks};
-    ghost use Rattle.chaos_turn.specs.Link.{Sends, has_packets, sent_by};
+    ghost use Rattle.chaos_turn.specs.Link.{Asks, Sends, has_packets, sent_by};
     ghost use Rattle.chaos_turn.specs.Station.{station};
     ghost use Rattle.chaos_turn.specs.Turn.{RunsClientTurn};
 
@@ -64,6 +64,7 @@ impl Node {
     /// Sends all that waits, the oldest first, and says whether anything did.
     pub fn send<L: Link>(&mut self, link: &mut L) -> bool
         ensures sends { Sends (L.queue link.old) (sent_by self.old.carriage (self.old.out.packets ∷ [])) (L.queue link.new) }
+        ensures asks { Asks (L.asked link.old) (sent_by self.old.carriage (self.old.out.packets ∷ [])) (L.asked link.new) }
         ensures outbox { self.new.out ≡ record { packets = []; cap = self.old.out.cap } }
         ensures told { result ≡ has_packets (self.old.out.packets ∷ []) }
         ensures host { self.new.host ≡ self.old.host }

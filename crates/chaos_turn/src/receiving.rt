@@ -1,5 +1,5 @@
 //! What comes from a link.
-ghost use Rattle.std.specs.Prelude.{◌≡◌, Some, IfSome};
+ghost use Rattle.std.specs.Prelude.{◌≡◌, IfSome};
 ghost use Rattle.chaos_turn.specs.Arrive.{Receives};
 
 use chaos_link::{LINK_ROOM, Link, LinkFault, Packets, Received, open_datagram};
@@ -14,7 +14,11 @@ pub fn receive<'a, L: Link>(
     buffer: &'a mut [u8; LINK_ROOM],
     may_wait: bool,
 ) -> Option<Result<Packets<'a>, LinkFault>>
-    ensures { IfSome (L.queue link.old) (Receives result (L.queue link.new)) }
+    ensures queued { IfSome (L.queue link.old) (Receives result (L.queue link.new)) }
+    // Something came only where the link counted no failure.
+    ensures counted { IfSome result (λ _. L.count link.new ≡ L.count link.old) }
+    // The link is asked to send nothing.
+    ensures asked { L.asked link.new ≡ L.asked link.old }
 {
     match link.receive(buffer, may_wait) {
         Received::Got(count) => Some(open_datagram(&buffer[..count])),

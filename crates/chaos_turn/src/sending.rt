@@ -1,20 +1,22 @@
 //! What a host put out goes into a link.
 ghost use Rattle.std.specs.Prelude.{◌≡◌, [], ◌∷◌};
 ghost use Rattle.chaos_packet.specs.Outbox.{OutboxView};
-ghost use Rattle.chaos_link.specs.Bundle.{datagram_of_all};
-ghost use Rattle.chaos_turn.specs.Link.{IsReadBack, Sends, SendsOneByOne, datagrams_of, has_packets, sent_by};
+ghost use Rattle.chaos_turn.specs.Link.{Asks, IsReadBack, Sends, SendsOneByOne, datagram_for_all, datagrams_of, has_packets, sent_by};
 
 use chaos_link::{Carriage, Link, Load, MAX_DATAGRAM, write_datagram};
 use chaos_packet::{Outbox, Packet};
 
-/// Sends all that waits by the carriage, the oldest first, and says whether anything did. A packet whose send fails is lost,
-/// and with it those in its datagram; the link's count of failures tells it.
+/// Sends all that waits by the carriage, the oldest first, each datagram to where its packets go, and says whether anything did.
+/// A packet whose send fails is lost, and with it those in its datagram; the link's count of failures tells it, and the others
+/// are sent all the same.
 ///
 /// A turn does so after each call of its host. A service of one's own does so after its own calls, so that what they put out
 /// doesn't wait for the next turn. It takes no memory, and costs a look where nothing waits, as after most calls of a turn.
 #[inline(always)]
 pub fn send_all<L: Link>(link: &mut L, out: &mut Outbox, carriage: Carriage) -> bool
     ensures sends { Sends (L.queue link.old) (sent_by carriage (out.old.packets ∷ [])) (L.queue link.new) }
+    // Whatever the link answers, it is asked to send all of it, once and in order, and nothing else.
+    ensures asks { Asks (L.asked link.old) (sent_by carriage (out.old.packets ∷ [])) (L.asked link.new) }
     ensures empty { out.new ≡ record { packets = []; cap = out.old.cap } }
     ensures told { result ≡ has_packets (out.old.packets ∷ []) }
 {
@@ -28,6 +30,7 @@ pub fn send_all<L: Link>(link: &mut L, out: &mut Outbox, carriage: Carriage) -> 
 /// Sends all that waits by the carriage, the oldest first.
 fn send_waiting<L: Link>(link: &mut L, out: &mut Outbox, carriage: Carriage)
     ensures sends { Sends (L.queue link.old) (sent_by carriage (out.old.packets ∷ [])) (L.queue link.new) }
+    ensures asks { Asks (L.asked link.old) (sent_by carriage (out.old.packets ∷ [])) (L.asked link.new) }
     ensures empty { out.new ≡ record { packets = []; cap = out.old.cap } }
 {
     match carriage {
@@ -36,9 +39,10 @@ fn send_waiting<L: Link>(link: &mut L, out: &mut Outbox, carriage: Carriage)
     }
 }
 
-/// Sends all that waits, each packet as its canonical datagram, which is written from the packet where it lies.
+/// Sends all that waits, each packet as its canonical datagram to its destination, which is written from the packet where it lies.
 fn send_singly<L: Link>(link: &mut L, out: &mut Outbox)
     ensures sends { Sends (L.queue link.old) (datagrams_of Carriage.One out.old.packets) (L.queue link.new) }
+    ensures asks { Asks (L.asked link.old) (datagrams_of Carriage.One out.old.packets) (L.asked link.new) }
     ensures empty { out.new ≡ record { packets = []; cap = out.old.cap } }
 {
     // One buffer for all: it is filled once.
@@ -51,7 +55,8 @@ fn send_singly<L: Link>(link: &mut L, out: &mut Outbox)
 
 /// Sends a packet as its canonical datagram, which is written into the buffer.
 fn send<L: Link>(link: &mut L, packet: &Packet, buffer: &mut [u8; MAX_DATAGRAM])
-    ensures { Sends (L.queue link.old) (datagrams_of Carriage.One (packet.now ∷ [])) (L.queue link.new) }
+    ensures sends { Sends (L.queue link.old) (datagrams_of Carriage.One (packet.now ∷ [])) (L.queue link.new) }
+    ensures asks { Asks (L.asked link.old) (datagrams_of Carriage.One (packet.now ∷ [])) (L.asked link.new) }
 {
     let end = write_datagram(packet, buffer);
     let _ = link.send(packet.dst, &buffer[..end]);
@@ -60,6 +65,7 @@ fn send<L: Link>(link: &mut L, packet: &Packet, buffer: &mut [u8; MAX_DATAGRAM])
 /// Sends all that waits, load by load: a packet that doesn't join the load before it begins the next.
 fn send_loads<L: Link>(link: &mut L, out: &mut Outbox)
     ensures sends { Sends (L.queue link.old) (datagrams_of Carriage.Two out.old.packets) (L.queue link.new) }
+    ensures asks { Asks (L.asked link.old) (datagrams_of Carriage.Two out.old.packets) (L.asked link.new) }
     ensures empty { out.new ≡ record { packets = []; cap = out.old.cap } }
 {
     let Some(first) = out.front() else {
@@ -79,7 +85,8 @@ fn send_loads<L: Link>(link: &mut L, out: &mut Outbox)
 
 /// Sends a load as its datagram.
 fn send_load<L: Link>(link: &mut L, load: &Load)
-    ensures { Sends (L.queue link.old) (datagram_of_all load.now ∷ []) (L.queue link.new) }
+    ensures sends { Sends (L.queue link.old) (datagram_for_all load.now ∷ []) (L.queue link.new) }
+    ensures asks { Asks (L.asked link.old) (datagram_for_all load.now ∷ []) (L.asked link.new) }
 {
     let _ = link.send(load.destination(), load.datagram());
 }

@@ -21,7 +21,7 @@ impl<R: Clock + Eprint, L: Link> Link for NotedLink<'_, R, L> {
 
     ghost queue = { λ link. L.queue link.inner };
 
-    ghost addressed = { λ link. L.addressed link.inner };
+    ghost asked = { λ link. L.asked link.inner };
 
     fn send(&mut self, to_address: u16, bytes: &[u8]) -> Sent {
         self.journal.answer(to_address);

@@ -1,8 +1,19 @@
-use Rattle.chaos_link.specs.Datagram.{datagram_of}
-use Rattle.chaos_turn.proofs.Queue.{sends_one}
+use Rattle.std.proofs.Common.{ap}
+use Rattle.chaos_packet.specs.Packet.{PacketView}
+use Rattle.chaos_turn.specs.Link.{datagram_for}
+use Rattle.chaos_turn.proofs.Queue.{asks_one, packet_there, sends_one}
 use Rattle.chaos_turn.proofs.sending.send.Goals as goal
 
-pub returns : goal.returns
-returns g c =
-    sends_one (g.L.Link.queue c.args.link.now) (g.L.Link.queue c.send.new.self) _ (datagram_of c.args.packet.now)
-    c.send.result c.write_datagram-end.ensures.exact c.send.ensures.queued
+pub returns-clause-sends : goal.returns-clause-sends
+returns-clause-sends g c =
+    let there = ap (λ (p : PacketView). p.dst) c.packet.view_is in
+    sends_one (g.L.Link.queue c.args.link.now) (g.L.Link.queue c.send.new.self) c.packet.inside.dst _
+    (datagram_for c.args.packet.now) c.send.result
+    (packet_there c.args.packet.now _ _ there c.write_datagram-end.ensures.exact) c.send.ensures.queued
+
+pub returns-clause-asks : goal.returns-clause-asks
+returns-clause-asks g c =
+    let there = ap (λ (p : PacketView). p.dst) c.packet.view_is in
+    asks_one (g.L.Link.asked c.args.link.now) (g.L.Link.asked c.send.new.self) c.packet.inside.dst _
+    (datagram_for c.args.packet.now)
+    (packet_there c.args.packet.now _ _ there c.write_datagram-end.ensures.exact) c.send.ensures.asked

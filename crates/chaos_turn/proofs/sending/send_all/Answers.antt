@@ -1,12 +1,20 @@
 use Rattle.std.proofs.Common.{sym, ◌∙◌}
-use Rattle.chaos_turn.proofs.Queue.{none_empty, none_lent, none_sends}
+use Rattle.chaos_turn.proofs.Queue.{none_empty, none_goes, none_lent, told}
 use Rattle.chaos_turn.proofs.sending.send_all.Goals as goal
 
 pub returns-then-is_none-clause-sends : goal.returns-then-is_none-clause-sends
 returns-then-is_none-clause-sends g c =
-    none_sends c.args.out.now
+    let none = none_goes c.args.out.now
     (sym c.front.ensures ∙ none_lent c.front.result c.is_none.result c.is_none.ensures c.if-is_none.true)
-    c.args.carriage (g.L.Link.queue c.args.link.now)
+    c.args.carriage (told (g.L.Link.queue c.args.link.now) (g.L.Link.asked c.args.link.now)) in
+    none.sends
+
+pub returns-then-is_none-clause-asks : goal.returns-then-is_none-clause-asks
+returns-then-is_none-clause-asks g c =
+    let none = none_goes c.args.out.now
+    (sym c.front.ensures ∙ none_lent c.front.result c.is_none.result c.is_none.ensures c.if-is_none.true)
+    c.args.carriage (told (g.L.Link.queue c.args.link.now) (g.L.Link.asked c.args.link.now)) in
+    none.asks
 
 pub returns-then-is_none-clause-empty : goal.returns-then-is_none-clause-empty
 returns-then-is_none-clause-empty g c =
