@@ -7,4 +7,5 @@ pub mod Opcode
 pub mod Outbox
 pub mod Packet
 pub mod Request
+pub mod Ring
 pub mod Words

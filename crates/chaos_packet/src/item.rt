@@ -1,5 +1,6 @@
 //! What is numbered, kept and delivered in order.
 ghost use Rattle.std.specs.Prelude.{◌≡◌, ◌≤◌, length};
+ghost use Rattle.chaos_packet.specs.Item.{blank_item};
 
 use crate::limits::MAX_DATA;
 use crate::opcode::Opcode;
@@ -22,6 +23,15 @@ impl Model for Item {
     ghost view = { λ item. record { op = item.op; body = item.body.items } };
 
     ghost inverse = { λ v. record { op = v.op; body = record { items = v.body } } };
+}
+
+/// Lies in the places that hold no item yet: opcode 0, and no data.
+impl Default for Item {
+    fn default() -> Self
+        ensures { result ≡ blank_item }
+    {
+        Item::new(Opcode(0), &[])
+    }
 }
 
 impl Item {

@@ -1,7 +1,7 @@
-//! Chaosnet packets: their words, their header, their opcodes and their numbers (AI Memo 628, on packets), and a queue
-//! of them.
+//! Chaosnet packets: their words, their header, their opcodes and their numbers (AI Memo 628, on packets), a queue of
+//! them, and the ring of places that it stands on.
 //!
-//! Values and their spelling alone: no sockets, no clock, and no allocation but that of `Outbox::new`.
+//! Values and their spelling alone: no sockets, no clock, and no allocation but that of `Ring::new`.
 #![tactic(auto)]
 
 mod fault;
@@ -12,9 +12,9 @@ mod number;
 mod opcode;
 mod outbox;
 mod packet;
-mod place;
 mod reading;
 mod request;
+mod ring;
 mod writing;
 
 pub use fault::PacketFault;
@@ -27,4 +27,5 @@ pub use outbox::Outbox;
 pub use packet::Packet;
 pub use reading::{from_words, law_spells};
 pub use request::{arguments_in, contact_in};
+pub use ring::{Place, Ring};
 pub use writing::{to_words, write_words};

@@ -1,5 +1,5 @@
 //! Packets that wait to be sent.
-ghost use Rattle.std.specs.Prelude.{◌≡◌, ◌+◌, ◌<◌, ◌≤◌, length, [], ◌∷◌, slice_get, IfOk, OnOk};
+ghost use Rattle.std.specs.Prelude.{◌≡◌, ◌+◌, ◌<◌, ◌≤◌, length, [], ◌∷◌, slice_get, IfOk};
 ghost use Rattle.std.specs.Option.{option_copied};
 ghost use Rattle.chaos_packet.specs.Header.{packet_of};
 ghost use Rattle.chaos_packet.specs.Outbox.{room_of, with_put, without_oldest};
@@ -7,8 +7,7 @@ ghost use Rattle.chaos_packet.specs.Outbox.{room_of, with_put, without_oldest};
 use crate::header::Header;
 use crate::limits::MAX_DATA;
 use crate::packet::Packet;
-use crate::place::Place;
-use circular_buffer::HeapCircularBuffer;
+use crate::ring::Ring;
 use std::alloc::{AllocError, Global};
 use std::marker::Model;
 
@@ -19,22 +18,18 @@ use std::marker::Model;
 /// the packet goes; to put one in or to take one out moves no other.
 #[derive(Drop)]
 pub struct Outbox {
-    /// The packets that wait, the oldest first.
-    waiting: HeapCircularBuffer<Place>,
-    /// The places in which none waits, with whatever lay there last.
-    spare: HeapCircularBuffer<Place>,
+    waiting: Ring<Packet>,
 }
 
 impl Model for Outbox {
-    ghost use Rattle.std.specs.Prelude.{◌≡◌, ◌+◌, length};
+    ghost use Rattle.std.specs.Prelude.{◌≡◌};
     ghost use Rattle.chaos_packet.specs.Outbox.{OutboxView};
 
     ghost Value = { OutboxView };
 
-    ghost view = { λ out. record { packets = out.waiting.items; cap = out.waiting.capacity } };
+    ghost view = { λ out. record { packets = out.waiting.items; cap = out.waiting.cap } };
 
-    ghost invariant = { λ out. (length out.waiting.items + length out.spare.items ≡ out.waiting.capacity)
-        × (out.spare.capacity ≡ out.waiting.capacity) };
+    ghost invariant = { λ out. out.waiting.taken ≡ 0 };
 }
 
 impl Outbox {
@@ -42,10 +37,8 @@ impl Outbox {
     pub fn new(alloc: Global, cap: usize) -> Result<Self, AllocError>
         ensures { IfOk result (λ out. out ≡ record { packets = []; cap = cap }) }
     {
-        let waiting = HeapCircularBuffer::with_capacity(alloc, cap)?;
-        let mut spare = HeapCircularBuffer::with_capacity(alloc, cap)?;
-        fill_up(alloc, &mut spare, cap)?;
-        Ok(Outbox { waiting, spare })
+        let waiting = Ring::new(alloc, cap)?;
+        Ok(Outbox { waiting })
     }
 
     /// How many more packets fit.
@@ -54,7 +47,7 @@ impl Outbox {
         // No more packets wait than fit.
         ensures sound { length self.now.packets + result ≡ self.now.cap }
     {
-        self.waiting.capacity() - self.waiting.len()
+        self.waiting.cap() - self.waiting.len()
     }
 
     /// Puts a packet in, behind those that wait. The caller sees to the room: [`Outbox::room`] tells it.
@@ -62,9 +55,9 @@ impl Outbox {
         requires { 0 < room_of self.old }
         ensures { self.new ≡ with_put self.old (packet ∷ []) }
     {
-        if let Some(mut place) = self.spare.pop_back() {
-            place.put(packet);
-            let _none = self.waiting.push_back(place);
+        if let Some(mut place) = self.waiting.take_spare() {
+            *place.value = packet;
+            self.waiting.push(place);
         }
     }
 
@@ -75,9 +68,9 @@ impl Outbox {
         requires fits { length bytes.now ≤ MAX_DATA }
         ensures { self.new ≡ with_put self.old (packet_of header bytes.now ∷ []) }
     {
-        if let Some(mut place) = self.spare.pop_back() {
-            place.fill(header, bytes);
-            let _none = self.waiting.push_back(place);
+        if let Some(mut place) = self.waiting.take_spare() {
+            place.value.overwrite(header, bytes);
+            self.waiting.push(place);
         }
     }
 
@@ -86,17 +79,14 @@ impl Outbox {
     pub fn front(&self) -> Option<&Packet>
         ensures { option_copied result ≡ slice_get self.now.packets 0 }
     {
-        let place = self.waiting.front()?;
-        Some(place.packet())
+        self.waiting.get(0)
     }
 
     /// Drops the oldest packet, where there is one.
     pub fn drop_front(&mut self)
         ensures { self.new ≡ without_oldest self.old }
     {
-        if let Some(place) = self.waiting.pop_front() {
-            let _none = self.spare.push_back(place);
-        }
+        self.waiting.drop_front();
     }
 
     /// Takes a copy of the oldest packet out, where there is one: of the one that [`Outbox::front`] lends.
@@ -104,26 +94,8 @@ impl Outbox {
         ensures oldest { result ≡ slice_get self.old.packets 0 }
         ensures rest { self.new ≡ without_oldest self.old }
     {
-        let place = self.waiting.pop_front()?;
-        let packet = place.packet().copy();
-        let _none = self.spare.push_back(place);
+        let packet = self.front()?.copy();
+        self.drop_front();
         Some(packet)
     }
-}
-
-/// Fills an empty ring with places.
-fn fill_up(
-    alloc: Global,
-    places: &mut HeapCircularBuffer<Place>,
-    count: usize,
-) -> Result<(), AllocError>
-    requires room { places.old.capacity ≡ count }
-    requires empty { places.old.items ≡ [] }
-    ensures count { OnOk result (length places.new.items ≡ count) }
-    ensures capacity { places.new.capacity ≡ count }
-{
-    for i in 0..count {
-        let _none = places.push_back(Place::new(alloc)?);
-    }
-    Ok(())
 }

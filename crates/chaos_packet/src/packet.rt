@@ -1,9 +1,11 @@
 //! A packet.
 ghost use Rattle.std.specs.Prelude.{◌≡◌, ◌+◌, ◌*◌, ◌≤◌, length};
+ghost use Rattle.chaos_packet.specs.Header.{packet_of};
 ghost use Rattle.chaos_packet.specs.Packet.{blank, status_of, status_words, contact_of, arguments_of};
 ghost use Rattle.chaos_packet.specs.Words.{header_of};
 
-use crate::item::body_of;
+use crate::header::Header;
+use crate::item::{body_of, overwrite_body};
 use crate::limits::{HEADER_WORDS, MAX_DATA};
 use crate::number::PktNum;
 use crate::opcode::{Kind, Opcode};
@@ -123,6 +125,22 @@ impl Packet {
             ack: self.ack,
             body: body_of(self.bytes()),
         }
+    }
+
+    /// Makes it the packet with this header and these data, which no host forwarded: the data are written over those that it had.
+    pub(crate) fn overwrite(&mut self, header: Header, bytes: &[u8])
+        requires { length bytes.now ≤ MAX_DATA }
+        ensures { self.new ≡ packet_of header bytes.now }
+    {
+        self.op = header.op;
+        self.fwd = 0;
+        self.dst = header.dst;
+        self.dst_index = header.dst_index;
+        self.src = header.src;
+        self.src_index = header.src_index;
+        self.num = header.num;
+        self.ack = header.ack;
+        overwrite_body(&mut self.body, bytes);
     }
 
     /// The data bytes, lent.

@@ -31,7 +31,7 @@ impl Slot {
     pub fn new(alloc: Global) -> Result<Self, AllocError>
         ensures { IfOk result (λ slot. slot ≡ None) }
     {
-        let place = Box::new(alloc, Item::new(Opcode(0), &[]))?;
+        let place = Box::new(alloc, Item::default())?;
         Ok(Slot { held: false, place })
     }
 
