@@ -5,10 +5,12 @@ import os
 import pty
 import select
 import socket
+import struct
 import time
 
+from tests.packets import OPN, SNS, STS, datagram
 from tests.scripts import NO_REPLY
-from tests.support import DONE, LONG, REFUSED, SOON, Case, Ended, at, folder, free_ports, run, serving, started
+from tests.support import DONE, LONG, REFUSED, SOON, Case, Ended, Relay, at, folder, free_ports, network_before, run, serving, started
 
 LOGIN = b"T1  LOGIN LISPM\n"
 NOT_KEPT = b"chaosd: handle %s was written and not closed, so its file was not kept\n"
@@ -72,6 +74,57 @@ class Typing(Case):
         ]
         for name, seen, told in zip(["the prompt", "one space", "a key", "LOGIN", "OPEN", "an escape", "WRITE", "the end"], shown, wanted):
             self.check(f"{name} at a terminal", [] if seen.endswith(told) else [f"{seen!r} and not {told!r}"])
+        self.check("the run ends", [] if status == DONE else [f"status {status}"])
+
+
+class Kept(Relay):
+    """A network that keeps what it hands on, and each one's port."""
+
+    def __init__(self, port, ends):
+        super().__init__(port, ends)
+        self.kept = []
+
+    def passed(self, datagram, port):
+        self.kept.append((port, datagram))
+        return [(datagram, port)]
+
+    def asks(self, opened, client):
+        """Asks the client of this OPN for its status, as a server does that heard nothing for long, and says whether it told it soon."""
+        here, there = (struct.unpack(">HH", opened[place : place + 4]) for place in (8, 12))
+        server, told = self.other[client], len(self.kept)
+        self.socket.sendto(datagram(SNS, here, there), ("127.0.0.1", client))
+        end = time.monotonic() + SOON
+        while time.monotonic() < end:
+            if any(port == server and packet[4] == STS for port, packet in self.kept[told:]):
+                return True
+            time.sleep(0.01)
+        return False
+
+
+class Thinking(Case):
+    """Somebody who types thinks, and the client goes on."""
+
+    seconds = 4
+
+    def test_a_server_is_answered_while_a_line_is_typed(self):
+        with serving() as server, network_before(server, Kept) as network:
+            (client,) = network.peers
+            terminal = Terminal(["ask", "402", at(client), "401", f"401={at(network.port)}"])
+            try:
+                terminal.shown(b"> ")
+                terminal.typed(LOGIN)
+                opened = next(packet for port, packet in network.kept if port == client and packet[4] == OPN)
+                answered = [network.asks(opened, client)]
+                os.write(terminal.master, b"T2  DEL")
+                answered.append(network.asks(opened, client))
+                shown = terminal.typed(b"ETE^A\n")
+                status = os.write(terminal.master, b"\x04") and terminal.process.wait(SOON)
+            finally:
+                terminal.end()
+        self.check("before a line", [] if answered[0] else ["a server that asks is told nothing"])
+        self.check("in a line", [] if answered[1] else ["a server that asks is told nothing"])
+        reply = b"T2  ERROR FNF No such file.\n> "
+        self.check("the line begun is kept", [] if shown.endswith(reply) else [f"{shown!r} and not {reply!r}"])
         self.check("the run ends", [] if status == DONE else [f"status {status}"])
 
 

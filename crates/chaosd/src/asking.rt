@@ -5,16 +5,18 @@ use crate::network::{end_script, has_input};
 use crate::patient::Patient;
 use crate::run_ends::tell_unopened;
 use crate::terminals::Terminals;
-use crate::typed::Typed;
+use crate::typed::{ByLook, Typed, Typing};
 use crate::unanswered::Unanswered;
 use crate::waiting::{Waiting, WaitingSocket};
 use chaos_link::{Carriage, Link, Peer, Peers, UdpLink};
 use chaosd_copies::ExitStatus;
-use chaosd_file::{NOBODY, ScriptEnd, Why, run_ask};
+use chaosd_file::{NOBODY, Route, ScriptEnd, Why, run_ask_by};
 use chaosd_io::RunFault;
 use chaosd_line::Ask;
 use chaosd_told::{Name, Notes, Replies};
 use file_client::Shown;
+use std::cell::Cell;
+use std::fs::{File, Files};
 use std::io;
 use std::io::{Read, Write};
 use std::net::{Net, SocketAddr, SocketAddrV4, UdpSocket};
@@ -64,12 +66,12 @@ fn ask_over<R: AllocGlobal + Clock + Eprint + Input + Print, L: Link>(
     rt: &R,
     link: &mut L,
     asked: &Asked,
-    terminals: Terminals,
+    typing: Typing<'_>,
 ) -> Answered {
     let notes = Notes::new();
     let mut reader = rt.reader();
     let mut writer = io::writer(rt);
-    ask_through(rt, link, asked, terminals, &notes, &mut reader, &mut writer)
+    ask_through(rt, link, asked, typing, &notes, &mut reader, &mut writer)
 }
 
 /// Puts the reader's script over the link, and its replies into the writer.
@@ -77,24 +79,27 @@ fn ask_through<'a, R: AllocGlobal + Clock + Eprint, L: Link, I: Read, W: Write>(
     rt: &'a R,
     link: &mut L,
     asked: &Asked,
-    terminals: Terminals,
+    typing: Typing<'a>,
     notes: &'a Notes,
     reader: &'a mut I,
     writer: &'a mut W,
 ) -> Answered {
-    let mut typed = Typed::new(rt, reader, notes, asked.is_strict, terminals);
+    let mut typed = Typed::new(rt, reader, typing, notes, asked.is_strict);
     let mut replies = Replies::new(writer, notes);
     let mut why = None;
-    let end = run_ask(
+    let route = Route {
+        me: asked.address,
+        to: asked.server.address,
+        carriage: asked.carriage,
+    };
+    let end = run_ask_by::<ByLook, R, Typed<'a, R, I>, Replies<'a, W>, L>(
         rt,
         rt.alloc(),
         &mut typed,
         &mut replies,
         link,
-        asked.address,
-        asked.server.address,
         &mut why,
-        asked.carriage,
+        route,
     );
     if end.is_ok() {
         tell_written(rt, replies.written());
@@ -143,11 +148,10 @@ fn strict_status(status: ExitStatus, was_error: bool) -> ExitStatus {
 }
 
 /// Runs `ask` from standard input to standard output.
-pub(crate) fn run_ask_line<R: AllocGlobal + Clock + Eprint + Input + Net + Print>(
-    rt: &R,
-    line: Ask,
-    terminals: Terminals,
-) -> ExitStatus {
+pub(crate) fn run_ask_line<R>(rt: &R, line: Ask, terminals: Terminals) -> ExitStatus
+where
+    R: AllocGlobal + Clock + Eprint + Files<File = File> + Input + Net + Print,
+{
     let Ask {
         carriage,
         timeout,
@@ -177,8 +181,14 @@ pub(crate) fn run_ask_line<R: AllocGlobal + Clock + Eprint + Input + Net + Print
         socket,
         server,
     };
-    let mut link = Patient::new(rt, link, timeout);
-    let answered = ask_over(rt, &mut link, &asked, terminals);
+    let is_awaited = Cell::new(false);
+    let typing = Typing {
+        terminals,
+        terminal: terminals.open_input(rt),
+        is_awaited: &is_awaited,
+    };
+    let mut link = Patient::new(rt, link, timeout).while_awaited(&is_awaited);
+    let answered = ask_over(rt, &mut link, &asked, typing);
     end_asked(rt, &asked, &waiting, answered)
 }
 

@@ -9,6 +9,7 @@ use chaos_link::{LINK_ROOM, Link, Received, Sent};
 use chaosd_clock::{Beginning, Dial};
 use chaosd_copy::Talk;
 use chaosd_io::RunFault;
+use std::cell::Cell;
 
 /// How a link's waits are counted.
 #[derive(Drop)]
@@ -28,6 +29,8 @@ pub(crate) struct Patient<'a, C: Dial, L> {
     clock: &'a C,
     inner: L,
     waits: Option<Waits>,
+    /// Whether no reply is waited for, but a line that somebody types.
+    is_awaited: Option<&'a Cell<bool>>,
     failures: u64,
 }
 
@@ -47,7 +50,24 @@ impl<'a, C: Dial, L> Patient<'a, C, L> {
             clock,
             inner,
             waits,
+            is_awaited: None,
             failures: 0,
+        }
+    }
+
+    /// The same, which waits as the link does while a line is waited for.
+    pub(crate) fn while_awaited(self, is_awaited: &'a Cell<bool>) -> Self {
+        Patient {
+            is_awaited: Some(is_awaited),
+            ..self
+        }
+    }
+
+    /// Whether a line is waited for.
+    fn awaits_line(&self) -> bool {
+        match self.is_awaited {
+            Some(is_awaited) => is_awaited.get(),
+            None => false,
         }
     }
 }
@@ -100,8 +120,13 @@ impl<C: Dial, L: Link> Link for Patient<'_, C, L> {
     }
 
     fn receive(&mut self, buffer: &mut [u8; LINK_ROOM], may_wait: bool) -> Received {
+        let awaits_line = self.awaits_line();
         let got = match &mut self.waits {
-            Some(waits) if may_wait => waits.receive(self.clock, &mut self.inner, buffer),
+            Some(waits) if may_wait && !awaits_line => waits.receive(
+                self.clock,
+                &mut self.inner,
+                buffer,
+            ),
             _ => self.inner.receive(buffer, may_wait),
         };
         if got == Received::Failed {

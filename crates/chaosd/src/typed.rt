@@ -3,19 +3,34 @@ ghost use Rattle.std.specs.Prelude.{◌≡◌, ◌≤◌, ◌+◌, length, IfOk}
 ghost use Rattle.std.specs.Counts.{IsPrefixLen};
 
 use crate::terminals::Terminals;
+use chaosd_file::Ready;
 use chaosd_told::{Notes, why_text};
+use std::cell::Cell;
+use std::fs::File;
 use std::io;
-use std::io::Read;
+use std::io::{ErrorKind, Read};
 
 /// The bytes that are asked of a reader at a time. A terminal gives a line at a time, of at most 4,096 bytes.
 const CHUNK: usize = 4_096;
 
+/// Where somebody types.
+#[derive(Drop)]
+pub(crate) struct Typing<'a> {
+    pub(crate) terminals: Terminals,
+    /// The terminal, where it can be read without waiting.
+    pub(crate) terminal: Option<File>,
+    /// Whether a line is waited for while turns go on.
+    pub(crate) is_awaited: &'a Cell<bool>,
+}
+
 /// A script that is read from standard input. On a terminal it asks for each line by a prompt, and leaves out one that stands for no
-/// command, which is told. Where a run is to end by its first error, it gives a line at a time, and none behind an error.
+/// command, which is told. Where a run is to end by its first error, it gives a line at a time, and none behind an error. It can be asked
+/// whether a line was typed.
 #[derive(Drop)]
 pub(crate) struct Typed<'a, R: Eprint, I: Read> {
     rt: &'a R,
     inner: &'a mut I,
+    typing: Typing<'a>,
     notes: &'a Notes,
     is_strict: bool,
     /// Whether somebody types, and is told more.
@@ -24,6 +39,10 @@ pub(crate) struct Typed<'a, R: Eprint, I: Read> {
     /// What of the chunk came, and was given.
     came: usize,
     given: usize,
+    /// Whether a prompt was shown to which nothing came yet.
+    is_prompted: bool,
+    /// Whether the script has ended.
+    is_over: bool,
     ghost within: { given ≤ came },
     ghost fits: { came ≤ 4096 },
 }
@@ -50,19 +69,23 @@ impl<'a, R: Eprint, I: Read> Typed<'a, R, I> {
     pub(crate) fn new(
         rt: &'a R,
         inner: &'a mut I,
+        typing: Typing<'a>,
         notes: &'a Notes,
         is_strict: bool,
-        terminals: Terminals,
     ) -> Self {
+        let is_typed = typing.terminals.input && typing.terminals.errors;
         Typed {
             rt,
             inner,
+            typing,
             notes,
             is_strict,
-            is_typed: terminals.input && terminals.errors,
+            is_typed,
             chunk: [0; CHUNK],
             came: 0,
             given: 0,
+            is_prompted: false,
+            is_over: false,
         }
     }
 
@@ -96,48 +119,95 @@ impl<'a, R: Eprint, I: Read> Typed<'a, R, I> {
         }
     }
 
+    /// Reads once.
+    fn read_once(&mut self, may_wait: bool) -> io::Result<usize>
+        ensures bound { IfOk result (λ n. n ≤ 4096) }
+    {
+        match &mut self.typing.terminal {
+            Some(terminal) if !may_wait => terminal.read(&mut self.chunk),
+            _ => self.inner.read(&mut self.chunk),
+        }
+    }
+
     /// Reads more of the script. There is none where none came.
-    fn fill(&mut self) -> io::Result<()> {
-        self.prompt();
+    fn fill(&mut self, may_wait: bool) -> io::Result<()> {
+        if !self.is_prompted {
+            self.prompt();
+            self.is_prompted = true;
+        }
         self.given = 0;
         self.came = 0;
-        self.came = self.inner.read(&mut self.chunk)?;
-        if self.came == 0 && self.is_typed {
-            let _ = eprint!(self.rt; "\n");
+        self.came = self.read_once(may_wait)?;
+        self.is_prompted = false;
+        if self.came == 0 {
+            self.is_over = true;
+            if self.is_typed {
+                let _ = eprint!(self.rt; "\n");
+            }
         }
         Ok(())
+    }
+
+    /// How long the next line is, or as much of it as so many bytes hold: nothing at the end.
+    fn find(&mut self, most: usize, may_wait: bool) -> io::Result<usize>
+        ensures bound { IfOk result (λ n. (n ≤ most) × (self.new.given + n ≤ self.new.came)) }
+    {
+        for _ in 0..u64::MAX {
+            if self.is_over || self.is_strict && self.notes.has_error.get() {
+                return Ok(0);
+            }
+            if self.given == self.came {
+                self.fill(may_wait)?;
+            }
+            let length = line_length(&self.chunk[self.given..self.came]).min(most);
+            if !self.is_left_out(length) {
+                return Ok(length);
+            }
+            self.given += length;
+        }
+        Ok(0)
     }
 
     /// Gives the next line, or as much of it as there is room for.
     fn give(&mut self, buf: &mut [u8]) -> io::Result<usize>
         ensures bound { IfOk result (λ n. IsPrefixLen n buf.new) }
     {
-        for _ in 0..u64::MAX {
-            if self.is_strict && self.notes.has_error.get() {
-                return Ok(0);
-            }
-            if self.given == self.came {
-                self.fill()?;
-            }
-            let length = line_length(&self.chunk[self.given..self.came]).min(buf.len());
-            let is_left_out = self.is_left_out(length);
-            let from = self.given;
-            self.given += length;
-            if !is_left_out {
-                buf[..length].copy_from_slice(&self.chunk[from..from + length]);
-                return Ok(length);
+        let length = self.find(buf.len(), true)?;
+        let from = self.given;
+        buf[..length].copy_from_slice(&self.chunk[from..from + length]);
+        self.given += length;
+        Ok(length)
+    }
+
+    /// Whether the next line is there, or the end, or a fault.
+    fn is_there(&mut self) -> bool {
+        match self.find(CHUNK, false) {
+            Ok(_) => true,
+            Err(error) => {
+                let kind = error.kind();
+                kind != ErrorKind::WouldBlock && kind != ErrorKind::Interrupted
             }
         }
-        Ok(0)
     }
 }
 
 impl<R: Eprint, I: Read> Read for Typed<'_, R, I> {
     fn read(&mut self, buf: &mut [u8]) -> io::Result<usize> {
-        if self.is_strict || self.is_typed {
+        if self.is_strict || self.is_typed || self.typing.terminal.is_some() {
             self.give(buf)
         } else {
             self.inner.read(buf)
         }
+    }
+}
+
+/// The way of a script that is typed: at a terminal that can be read without waiting it is asked whether a line was typed.
+pub(crate) struct ByLook;
+
+impl<R: Eprint, I: Read> Ready<Typed<'_, R, I>> for ByLook {
+    fn is_ready(reader: &mut Typed<'_, R, I>) -> bool {
+        let is_ready = reader.typing.terminal.is_none() || reader.is_there();
+        reader.typing.is_awaited.set(!is_ready);
+        is_ready
     }
 }
