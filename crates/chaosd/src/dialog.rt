@@ -20,8 +20,8 @@ pub(crate) struct CallDialog<'a, 'r, C: Dial> {
     waiting: &'a Waiting<'r, C>,
     /// Whether nobody listens there, as the last turn found.
     is_refused: bool,
-    /// How many commands were said to which no reply was heard.
-    unheard: u64,
+    /// How many commands were sent to which no reply was received.
+    unreceived: u64,
     client: Peer,
 }
 
@@ -50,7 +50,7 @@ impl<'a, 'r, C: AllocGlobal + Dial + Eprint> CallDialog<'a, 'r, C> {
             call: Hurried::new(call, calling.timeout),
             waiting,
             is_refused: false,
-            unheard: 0,
+            unreceived: 0,
             client,
         })
     }
@@ -63,15 +63,15 @@ impl<C: Dial + Eprint> Talk for CallDialog<'_, '_, C> {
 
     ghost failed_by = { λ dialog. ⟦<Hurried<Call<'static, C, Patient<'static, C, UdpLink>>> as Talk>⟧.failed_by dialog.call };
 
-    fn say(&mut self, command: &[u8]) -> bool {
-        let is_said = self.call.say(command);
-        self.unheard = self.unheard.saturating_add(u64::from(is_said));
-        is_said
+    fn send(&mut self, command: &[u8]) -> bool {
+        let is_sent = self.call.send(command);
+        self.unreceived = self.unreceived.saturating_add(u64::from(is_sent));
+        is_sent
     }
 
-    fn hear(&mut self) -> Option<Reply> {
-        let reply = self.call.hear();
-        self.unheard = self.unheard.saturating_sub(u64::from(reply.is_some()));
+    fn receive(&mut self) -> Option<Reply> {
+        let reply = self.call.receive();
+        self.unreceived = self.unreceived.saturating_sub(u64::from(reply.is_some()));
         if reply.is_some() {
             self.waiting.hear();
         }
@@ -98,14 +98,14 @@ impl<C: Dial + Eprint> Dialog for CallDialog<'_, '_, C> {
     type Why = Unanswered;
 
     fn begin(&mut self) -> Result<(), RunFault> {
-        self.unheard = 0;
+        self.unreceived = 0;
         self.call.begin();
         self.call.inner.connect()
     }
 
-    /// Says farewell first, where every reply was heard: so no connection is left at the server where a CLS is lost.
+    /// Says farewell first, where every reply was received: so no connection is left at the server where a CLS is lost.
     fn end(&mut self) {
-        if self.unheard == 0 && !self.is_refused {
+        if self.unreceived == 0 && !self.is_refused {
             let _ = self.call.inner.end();
         }
         let _ = self.call.inner.hang_up();

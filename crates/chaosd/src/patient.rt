@@ -6,7 +6,7 @@ ghost use Rattle.chaos_link.specs.declared.limits.TheConstants.{LINK_ROOM};
 
 use chaos_file::Reply;
 use chaos_link::{LINK_ROOM, Link, Received, Sent};
-use chaosd_clock::{Beginning, Dial};
+use chaosd_clock::{Dial, Epoch};
 use chaosd_copy::Talk;
 use chaosd_io::RunFault;
 use std::cell::Cell;
@@ -14,7 +14,7 @@ use std::cell::Cell;
 /// How a link's waits are counted.
 #[derive(Drop)]
 struct Waits {
-    beginning: Beginning,
+    epoch: Epoch,
     /// The milliseconds that a turn may wait: a thousandth of what a reply is waited for.
     share: u64,
     /// The milliseconds that the turns so far might wait, and those that they waited.
@@ -37,9 +37,9 @@ pub(crate) struct Patient<'a, C: Dial, L> {
 impl<'a, C: Dial, L> Patient<'a, C, L> {
     /// Where the clock can't be read it waits as the link does.
     pub(crate) fn new(clock: &'a C, inner: L, seconds: Option<u16>) -> Self {
-        let waits = match (seconds, Beginning::new(clock)) {
-            (Some(seconds), Ok(beginning)) => Some(Waits {
-                beginning,
+        let waits = match (seconds, Epoch::new(clock)) {
+            (Some(seconds), Ok(epoch)) => Some(Waits {
+                epoch,
                 share: u64::from(seconds),
                 granted: 0,
                 spent: 0,
@@ -75,7 +75,7 @@ impl<'a, C: Dial, L> Patient<'a, C, L> {
 impl Waits {
     /// The moment, and 0 where it can't be read.
     fn moment<C: Dial>(&self, clock: &C) -> u64 {
-        self.beginning.moment(clock).unwrap_or(0)
+        self.epoch.moment(clock).unwrap_or(0)
     }
 
     /// Receives as [`Link::receive`] does, in a turn that may wait for its share of the time.
@@ -194,12 +194,12 @@ impl<T: Talk> Talk for Hurried<T> {
 
     ghost failed_by = { λ h. T.failed_by h.inner };
 
-    fn say(&mut self, command: &[u8]) -> bool {
-        self.inner.say(command)
+    fn send(&mut self, command: &[u8]) -> bool {
+        self.inner.send(command)
     }
 
-    fn hear(&mut self) -> Option<Reply> {
-        let reply = self.inner.hear();
+    fn receive(&mut self) -> Option<Reply> {
+        let reply = self.inner.receive();
         if reply.is_some() {
             self.since = None;
             self.is_late = false;

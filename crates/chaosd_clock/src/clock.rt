@@ -10,21 +10,21 @@ use std::time::Duration;
 
 /// What a clock showed when a run began.
 #[derive(Drop)]
-pub struct Beginning {
+pub struct Epoch {
     /// The milliseconds since 1970.
     millis: u64,
     /// The time since the clock's own start.
     start: Duration,
 }
 
-impl Beginning {
+impl Epoch {
     /// Now.
     pub fn new<C: Dial>(clock: &C) -> Result<Self, RunFault>
         ensures begins { IfOk result (BeginsBy (C.shows clock.now) (C.dates clock.now)) }
         ensures faults { IfErr result (λ fault. fault ≡ RunFault.ClockFault) }
     {
         match (clock.since_start(), clock.date()) {
-            (Ok(start), Ok(date)) => Ok(Beginning {
+            (Ok(start), Ok(date)) => Ok(Epoch {
                 millis: millis_of(date),
                 start,
             }),

@@ -7,5 +7,5 @@
 mod clock;
 mod dial;
 
-pub use clock::Beginning;
+pub use clock::Epoch;
 pub use dial::Dial;

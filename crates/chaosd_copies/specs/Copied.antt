@@ -28,20 +28,20 @@ abbrev pub bytes_in : Charset → Bool → List ℕ → List ℕ
 bytes_in set true bytes = map (byte_in set) bytes
 bytes_in set false bytes = bytes
 
--- ---- what was said last
+-- ---- what was sent last
 
--- The last that was said and heard is all that gets this file, with the replies of a server that has these bytes.
+-- The last that was sent and received is all that gets this file, with the replies of a server that has these bytes.
 abbrev pub HasGot : List ℕ → List ℕ → Option Talked → Type 0
 HasGot path bytes now = (start : Option Talked)
     × Since start now (get_commands (tids_from 1) file_handle path (length bytes))
     (get_replies (tids_from 1) file_handle bytes)
 
--- The last that was said and heard is all that puts this file, with the replies of a server that took it.
+-- The last that was sent and received is all that puts this file, with the replies of a server that took it.
 abbrev pub HasPut : List ℕ → List ℕ → Option Talked → Type 0
 HasPut path bytes now = (start : Option Talked)
     × Since start now (put_commands (tids_from 1) file_handle path bytes) (put_replies (tids_from 1) file_handle bytes)
 
--- The last that was said and heard is the DELETE of this file, and that it was done.
+-- The last that was sent and received is the DELETE of this file, and that it was done.
 abbrev pub HasDeleted : List ℕ → Option Talked → Type 0
 HasDeleted path now = (start : Option Talked) × Since start now (delete_command 1 path ∷ []) (delete_reply 1 ∷ [])
 

@@ -45,7 +45,7 @@ impl<D: Dialog, L: Locals, V: Viewer, N: Naming> Puts<'_, D, L, V, N> {
         }
     }
 
-    /// Puts a local file, which is read whole before anything is said.
+    /// Puts a local file, which is read whole before anything is sent.
     fn put_from(&mut self, local: &str, path: &[u8]) -> Result<Contents, Outcome<D::Why>>
         ensures put { IfOk result (λ contents. PutsWhole path.now (L.held self.old.locals local.now) self.old.is_text self.old.is_digested contents
             (D.talked self.new.session.watched.inner)) }

@@ -12,7 +12,7 @@ use chaosd_copy::{CopyEnd, delete_file, get_file, log_in, put_file, rename_file}
 use chaosd_io::RunFault;
 
 /// The number from which on a file's commands are named. Each file begins with it: a reply that is still on its way finds a
-/// connection that is gone, since one is made anew after each file whose replies were not all heard.
+/// connection that is gone, since one is made anew after each file whose replies were not all received.
 const FIRST: u32 = 1;
 
 /// A user who copies files over a connection, which is made anew after a file that wasn't copied: then replies may still be on their
@@ -22,13 +22,13 @@ pub struct Session<'a, D: Dialog, V: Viewer> {
     /// The dialog with the server, and whoever is shown how far a file has come.
     pub watched: Watched<V, D>,
     login: &'a str,
-    /// Whether the user has logged in, and every reply was heard.
+    /// Whether the user has logged in, and every reply was received.
     is_in: bool,
     ghost login_fits: { length login.now ≤ MAX_NAME },
 }
 
 impl<'a, D: Dialog, V: Viewer> Session<'a, D, V> {
-    /// Nothing is said yet.
+    /// Nothing is sent yet.
     pub fn new(dialog: D, viewer: V, login: &'a str) -> Self
         requires { length login.now ≤ MAX_NAME }
         ensures { result.watched.inner ≡ dialog }

@@ -100,12 +100,12 @@ impl<V: Viewer, T: Talk> Talk for Watched<V, T> {
 
     ghost failed_by = { λ watched. T.failed_by watched.inner };
 
-    fn say(&mut self, command: &[u8]) -> bool {
-        self.inner.say(command)
+    fn send(&mut self, command: &[u8]) -> bool {
+        self.inner.send(command)
     }
 
-    fn hear(&mut self) -> Option<Reply> {
-        let reply = self.inner.hear();
+    fn receive(&mut self) -> Option<Reply> {
+        let reply = self.inner.receive();
         if let Some(reply) = &reply {
             self.progress.note(reply);
         }

@@ -8,14 +8,14 @@ use Rattle.chaos_file.specs.Command.{OpenRead, OpenWrite, Read, Write, Close}
 use Rattle.chaos_file.specs.Spelling.{spelling_of}
 use Rattle.chaos_file.specs.Answer.{Opened, Wrote}
 use Rattle.chaosd_copy.specs.Copy.{upto, chunk, chunk_count, reply_of, put_front, put_front_replies, get_front}
-use Rattle.chaosd_copy.specs.Talk.{Talked, Since, SaidOrNot, SaidUpTo}
-use Rattle.chaosd_copy.specs.Row.{file_handle, heard_in}
-use Rattle.chaosd_copy.specs.Ends.{PutBegun, GetBegun, tids_from, write_said, write_heard, read_said}
+use Rattle.chaosd_copy.specs.Talk.{Talked, Since, SentOrNot, SentUpTo}
+use Rattle.chaosd_copy.specs.Row.{file_handle, received_in}
+use Rattle.chaosd_copy.specs.Ends.{PutBegun, GetBegun, tids_from, write_sent, write_received, read_sent}
 use Rattle.chaosd_copy.proofs.Joined.{upto_same, since_same, next_tid}
 use Rattle.chaosd_copy.proofs.Talks.{since_then}
 
 few_upto : (a b : Option Talked) (f : ℕ → List ℕ) (k : ℕ) (rs : List (List ℕ)) (command : List ℕ) → f 0 ≡ command
-    → k ≤ 1 → Since a b (upto f k) rs → SaidOrNot a b command
+    → k ≤ 1 → Since a b (upto f k) rs → SentOrNot a b command
 few_upto a b f zero rs command e l h = (rs, inl h)
 few_upto a b f (suc k) rs command e l h =
     let one : suc k ≡ 1 = omega arith in
@@ -25,16 +25,16 @@ few_upto a b f (suc k) rs command e l h =
 pub asked_or_not : {R F : Type 0} (items : R → List ℕ) (a b : Option Talked) (f : ℕ → List ℕ) (k : ℕ) (command : List ℕ)
     (result : Result (Option R) F)
     → f 0 ≡ command → k ≤ 1
-    → IfOk result (λ r. Since a b (upto f k) ([] ++ heard_in (option_map items r)))
+    → IfOk result (λ r. Since a b (upto f k) ([] ++ received_in (option_map items r)))
     → OnErr result (Since a b (upto f k) [])
-    → SaidOrNot a b command
+    → SentOrNot a b command
 asked_or_not items a b f k command (Ok r) e l h g = few_upto a b f k _ command e l h
 asked_or_not items a b f k command (Err x) e l h g = few_upto a b f k _ command e l g
 
 -- some of the commands of a row
-pub said_up_to : (a b : Option Talked) (f : ℕ → List ℕ) (k m n : ℕ) (rs : List (List ℕ)) → k ≤ m → m ≡ n
-    → Since a b (upto f k) rs → SaidUpTo a b f n
-said_up_to a b f k m n rs l e h = (k, omega arith, rs, h)
+pub sent_up_to : (a b : Option Talked) (f : ℕ → List ℕ) (k m n : ℕ) (rs : List (List ℕ)) → k ≤ m → m ≡ n
+    → Since a b (upto f k) rs → SentUpTo a b f n
+sent_up_to a b f k m n rs l e h = (k, omega arith, rs, h)
 
 -- ---- a put
 
@@ -42,13 +42,13 @@ pub open_named : (first : ℕ) → first ≡ first + 0
 open_named first = omega arith
 
 writes_named : (first : ℕ) (bytes : List ℕ) (k : ℕ)
-    → upto (write_said (first + 1) bytes) k
+    → upto (write_sent (first + 1) bytes) k
     ≡ upto (λ i. spelling_of (tids_from first (1 + i)) file_handle (Write (chunk bytes i))) k
 writes_named first bytes k =
     upto_same _ _ k (λ i m. ap (λ t. spelling_of (decimal t) file_handle (Write (chunk bytes i))) (next_tid first i))
 
 replies_named : (first : ℕ) (bytes : List ℕ) (k : ℕ)
-    → upto (write_heard (first + 1) bytes) k
+    → upto (write_received (first + 1) bytes) k
     ≡ upto (λ i. reply_of (tids_from first (1 + i)) file_handle (Wrote (min (MAX_CHUNK * (1 + i)) (length bytes))))
     k
 replies_named first bytes k =
@@ -57,7 +57,7 @@ replies_named first bytes k =
     (next_tid first i))
 
 pub put_opening : (a b : Option Talked) (first : ℕ) (path bytes : List ℕ)
-    → SaidOrNot a b (spelling_of (decimal first) file_handle (OpenWrite path))
+    → SentOrNot a b (spelling_of (decimal first) file_handle (OpenWrite path))
     → PutBegun a b (tids_from first) file_handle path bytes
 put_opening a b first path bytes (rs, inl h) = inl (rs, h)
 put_opening a b first path bytes (rs, inr h) =
@@ -67,7 +67,7 @@ put_opening a b first path bytes (rs, inr h) =
 
 pub put_writing : (a b c : Option Talked) (first : ℕ) (path bytes reply : List ℕ)
     → Since a b (spelling_of (decimal first) file_handle (OpenWrite path) ∷ []) (reply ∷ [])
-    → SaidUpTo b c (write_said (first + 1) bytes) (chunk_count (length bytes))
+    → SentUpTo b c (write_sent (first + 1) bytes) (chunk_count (length bytes))
     → PutBegun a c (tids_from first) file_handle path bytes
 put_writing a b c first path bytes reply h (k, l, rs, g) =
     inr (inl (
@@ -83,8 +83,8 @@ put_writing a b c first path bytes reply h (k, l, rs, g) =
 pub put_written : (a b c : Option Talked) (first : ℕ) (path bytes : List ℕ)
     → Since a b (spelling_of (decimal first) file_handle (OpenWrite path) ∷ [])
     (reply_of (decimal first) file_handle (Opened 0) ∷ [])
-    → Since b c (upto (write_said (first + 1) bytes) (chunk_count (length bytes)))
-    (upto (write_heard (first + 1) bytes) (chunk_count (length bytes)))
+    → Since b c (upto (write_sent (first + 1) bytes) (chunk_count (length bytes)))
+    (upto (write_received (first + 1) bytes) (chunk_count (length bytes)))
     → Since a c (put_front (tids_from first) file_handle path bytes (chunk_count (length bytes)))
     (put_front_replies (tids_from first) file_handle bytes (chunk_count (length bytes)))
 put_written a b c first path bytes h g =
@@ -99,7 +99,7 @@ put_written a b c first path bytes h g =
 put_end : (a c d : Option Talked) (first : ℕ) (path bytes : List ℕ)
     → Since a c (put_front (tids_from first) file_handle path bytes (chunk_count (length bytes)))
     (put_front_replies (tids_from first) file_handle bytes (chunk_count (length bytes)))
-    → SaidOrNot c d (spelling_of (decimal (first + 1 + chunk_count (length bytes))) file_handle Close)
+    → SentOrNot c d (spelling_of (decimal (first + 1 + chunk_count (length bytes))) file_handle Close)
     → PutBegun a d (tids_from first) file_handle path bytes
 put_end a c d first path bytes h (rs, inl g) =
     let n = chunk_count (length bytes) in
@@ -122,20 +122,20 @@ put_end a c d first path bytes h (rs, inr g) =
 pub put_closing : (a b c d : Option Talked) (first : ℕ) (path bytes : List ℕ)
     → Since a b (spelling_of (decimal first) file_handle (OpenWrite path) ∷ [])
     (reply_of (decimal first) file_handle (Opened 0) ∷ [])
-    → Since b c (upto (write_said (first + 1) bytes) (chunk_count (length bytes)))
-    (upto (write_heard (first + 1) bytes) (chunk_count (length bytes)))
-    → SaidOrNot c d (spelling_of (decimal (first + 1 + chunk_count (length bytes))) file_handle Close)
+    → Since b c (upto (write_sent (first + 1) bytes) (chunk_count (length bytes)))
+    (upto (write_received (first + 1) bytes) (chunk_count (length bytes)))
+    → SentOrNot c d (spelling_of (decimal (first + 1 + chunk_count (length bytes))) file_handle Close)
     → PutBegun a d (tids_from first) file_handle path bytes
 put_closing a b c d first path bytes h g k = put_end a c d first path bytes (put_written a b c first path bytes h g) k
 
 -- ---- a get
 
 reads_named : (first k : ℕ)
-    → upto (read_said (first + 1)) k ≡ upto (λ i. spelling_of (tids_from first (1 + i)) file_handle Read) k
+    → upto (read_sent (first + 1)) k ≡ upto (λ i. spelling_of (tids_from first (1 + i)) file_handle Read) k
 reads_named first k = upto_same _ _ k (λ i m. ap (λ t. spelling_of (decimal t) file_handle Read) (next_tid first i))
 
 pub get_opening : (a b : Option Talked) (first : ℕ) (path : List ℕ)
-    → SaidOrNot a b (spelling_of (decimal first) file_handle (OpenRead path))
+    → SentOrNot a b (spelling_of (decimal first) file_handle (OpenRead path))
     → GetBegun a b (tids_from first) file_handle path
 get_opening a b first path (rs, inl h) = inl (rs, h)
 get_opening a b first path (rs, inr h) =
@@ -145,7 +145,7 @@ get_opening a b first path (rs, inr h) =
 
 pub get_reading : (a b c : Option Talked) (first len : ℕ) (path reply : List ℕ) → len ≤ MAX_FILE
     → Since a b (spelling_of (decimal first) file_handle (OpenRead path) ∷ []) (reply ∷ [])
-    → SaidUpTo b c (read_said (first + 1)) (1 + chunk_count len)
+    → SentUpTo b c (read_sent (first + 1)) (1 + chunk_count len)
     → GetBegun a c (tids_from first) file_handle path
 get_reading a b c first len path reply fits h (k, l, rs, g) =
     inr (inl (
@@ -162,7 +162,7 @@ get_reading a b c first len path reply fits h (k, l, rs, g) =
 
 get_end : (a c d : Option Talked) (first len : ℕ) (path : List ℕ) (rs : List (List ℕ)) → len ≤ MAX_FILE
     → Since a c (get_front (tids_from first) file_handle path (1 + chunk_count len)) rs
-    → SaidOrNot c d (spelling_of (decimal (first + 2 + chunk_count len)) file_handle Close)
+    → SentOrNot c d (spelling_of (decimal (first + 2 + chunk_count len)) file_handle Close)
     → GetBegun a d (tids_from first) file_handle path
 get_end a c d first len path rs fits h (qs, inl g) =
     inr (inl (
@@ -188,8 +188,8 @@ get_end a c d first len path rs fits h (qs, inr g) =
 
 pub get_closing : (a b c d : Option Talked) (first len : ℕ) (path reply : List ℕ) (rs : List (List ℕ)) → len ≤ MAX_FILE
     → Since a b (spelling_of (decimal first) file_handle (OpenRead path) ∷ []) (reply ∷ [])
-    → Since b c (upto (read_said (first + 1)) (1 + chunk_count len)) rs
-    → SaidOrNot c d (spelling_of (decimal (first + 2 + chunk_count len)) file_handle Close)
+    → Since b c (upto (read_sent (first + 1)) (1 + chunk_count len)) rs
+    → SentOrNot c d (spelling_of (decimal (first + 2 + chunk_count len)) file_handle Close)
     → GetBegun a d (tids_from first) file_handle path
 get_closing a b c d first len path reply rs fits h g k =
     get_end a c d first len path (reply ∷ rs) fits

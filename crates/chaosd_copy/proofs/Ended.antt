@@ -13,9 +13,9 @@ use Rattle.chaos_file.specs.Answer.{AtEnd, Opened, Wrote, Closed, read_answer, r
 use Rattle.chaosd_copy.specs.declared.end.CopyEnd.{CopyEnd}
 use Rattle.chaosd_copy.specs.declared.end.CopyEnd.TheVariants as e
 use Rattle.chaosd_copy.specs.Copy.{upto, chunk, chunk_count, reply_of, put_reply, put_front, put_front_replies, get_front_replies}
-use Rattle.chaosd_copy.specs.Talk.{Talked, Since, Heard, said_if}
-use Rattle.chaosd_copy.specs.Row.{file_handle, heard_in}
-use Rattle.chaosd_copy.specs.Ends.{UnlessCopied, IsErrorTo, EndedBy, EndedAt, WritesEnded, PutEnded, IsOpened, IsGiven, IsPiece, ReadsEnded, GetEnded, tids_from, unanswered, write_said, write_heard, read_heard}
+use Rattle.chaosd_copy.specs.Talk.{Talked, Since, Received, sent_if}
+use Rattle.chaosd_copy.specs.Row.{file_handle, received_in}
+use Rattle.chaosd_copy.specs.Ends.{UnlessCopied, IsErrorTo, EndedBy, EndedAt, WritesEnded, PutEnded, IsOpened, IsGiven, IsPiece, ReadsEnded, GetEnded, tids_from, unanswered, write_sent, write_received, read_received}
 use Rattle.chaosd_copy.proofs.Talks.{since_then, none_some}
 use Rattle.chaosd_copy.proofs.Begun.{open_named, put_written}
 use Rattle.chaosd_copy.proofs.Joined.{upto_same, next_tid}
@@ -66,28 +66,28 @@ unwanted tid handle V W last (e.Strange reply) f h = (h.0, h.1, λ w. h.2 (f rep
 unwanted tid handle V W last e.NoReply f h = h
 unwanted tid handle V W last e.Unknown f h = h
 
--- ---- what was heard
+-- ---- what was received
 
-pub heard_ok : {R F : Type 0} (items : R → List ℕ) (a b : Option Talked) (cs : List (List ℕ))
+pub received_ok : {R F : Type 0} (items : R → List ℕ) (a b : Option Talked) (cs : List (List ℕ))
     (result : Result (Option R) F)
-    → IfOk result (λ r. Since a b cs ([] ++ heard_in (option_map items r)))
-    → IfOk result (λ r. Heard a b (heard_in (option_map items r)))
-heard_ok items a b cs (Ok r) h = (cs, h)
-heard_ok items a b cs (Err x) h = tt
+    → IfOk result (λ r. Since a b cs ([] ++ received_in (option_map items r)))
+    → IfOk result (λ r. Received a b (received_in (option_map items r)))
+received_ok items a b cs (Ok r) h = (cs, h)
+received_ok items a b cs (Err x) h = tt
 
-pub heard_then : (a b c : Option Talked) (cs rs qs : List (List ℕ)) → Since a b cs rs → Heard b c qs
-    → Heard a c (rs ++ qs)
-heard_then a b c cs rs qs h (ds, k) = (cs ++ ds, since_then a b c cs rs ds qs h k)
+pub received_then : (a b c : Option Talked) (cs rs qs : List (List ℕ)) → Since a b cs rs → Received b c qs
+    → Received a c (rs ++ qs)
+received_then a b c cs rs qs h (ds, k) = (cs ++ ds, since_then a b c cs rs ds qs h k)
 
 -- ---- a put
 
 writes_ended_named : (first i : ℕ) (bytes : List ℕ)
-    → write_heard (first + 1) bytes i ≡ put_reply (tids_from first) file_handle bytes i
+    → write_received (first + 1) bytes i ≡ put_reply (tids_from first) file_handle bytes i
 writes_ended_named first i bytes =
     ap (λ t. reply_of (decimal t) file_handle (Wrote (min (MAX_CHUNK * (1 + i)) (length bytes)))) (next_tid first i)
 
 pub put_ended_opening : (a b : Option Talked) (first : ℕ) (path bytes : List ℕ) (last : Option (List ℕ)) (end : CopyEnd)
-    → Heard a b (heard_in last)
+    → Received a b (received_in last)
     → EndedBy (decimal first) file_handle (λ r. r ≡ reply_of (decimal first) file_handle (Opened 0)) last end
     → PutEnded a b (tids_from first) file_handle path bytes end
 put_ended_opening a b first path bytes last end h k =
@@ -103,14 +103,14 @@ opened_put a b first cs h =
     subst (λ n. Since a b cs (reply_of (decimal n) file_handle (Opened 0) ∷ [])) (open_named first) h
 
 -- the replies to OPEN and some WRITEs
-front_heard : (a b c : Option Talked) (first : ℕ) (bytes : List ℕ) (cs qs : List (List ℕ)) (i : ℕ)
+front_received : (a b c : Option Talked) (first : ℕ) (bytes : List ℕ) (cs qs : List (List ℕ)) (i : ℕ)
     → Since a b cs (reply_of (decimal first) file_handle (Opened 0) ∷ [])
-    → Heard b c (upto (write_heard (first + 1) bytes) i ++ qs)
-    → Heard a c (put_front_replies (tids_from first) file_handle bytes i ++ qs)
-front_heard a b c first bytes cs qs i h k =
-    heard_then a b c cs (reply_of (tids_from first 0) file_handle (Opened 0) ∷ []) _ (opened_put a b first cs h)
-    (subst (λ rs. Heard b c (rs ++ qs))
-    (upto_same (write_heard (first + 1) bytes) (put_reply (tids_from first) file_handle bytes) i
+    → Received b c (upto (write_received (first + 1) bytes) i ++ qs)
+    → Received a c (put_front_replies (tids_from first) file_handle bytes i ++ qs)
+front_received a b c first bytes cs qs i h k =
+    received_then a b c cs (reply_of (tids_from first 0) file_handle (Opened 0) ∷ []) _ (opened_put a b first cs h)
+    (subst (λ rs. Received b c (rs ++ qs))
+    (upto_same (write_received (first + 1) bytes) (put_reply (tids_from first) file_handle bytes) i
     (λ j m. writes_ended_named first j bytes))
     k)
 
@@ -118,13 +118,13 @@ pub put_ended_writing : (a b c : Option Talked) (first : ℕ) (path bytes : List
     → Since a b cs (reply_of (decimal first) file_handle (Opened 0) ∷ [])
     → WritesEnded b c (first + 1) bytes end
     → PutEnded a c (tids_from first) file_handle path bytes end
-put_ended_writing a b c first path bytes cs end h (i, below, (last, heard, ended)) =
+put_ended_writing a b c first path bytes cs end h (i, below, (last, received, ended)) =
     inr (inl (
       i,
       below,
       (
         last,
-        front_heard a b c first bytes cs (heard_in last) i h heard,
+        front_received a b c first bytes cs (received_in last) i h received,
         subst
             (λ t. EndedBy (decimal t) file_handle
             (λ r. r ≡ reply_of (decimal t) file_handle (Wrote (min (MAX_CHUNK * (1 + i)) (length bytes)))) last end)
@@ -135,17 +135,17 @@ put_ended_writing a b c first path bytes cs end h (i, below, (last, heard, ended
 -- all WRITEs were answered well
 pub front_closing : (a b c d : Option Talked) (first : ℕ) (bytes : List ℕ) (cs ds qs : List (List ℕ))
     → Since a b cs (reply_of (decimal first) file_handle (Opened 0) ∷ [])
-    → Since b c ds (upto (write_heard (first + 1) bytes) (chunk_count (length bytes))) → Heard c d qs
-    → Heard a d (put_front_replies (tids_from first) file_handle bytes (chunk_count (length bytes)) ++ qs)
+    → Since b c ds (upto (write_received (first + 1) bytes) (chunk_count (length bytes))) → Received c d qs
+    → Received a d (put_front_replies (tids_from first) file_handle bytes (chunk_count (length bytes)) ++ qs)
 front_closing a b c d first bytes cs ds qs h k l =
-    front_heard a b d first bytes cs qs (chunk_count (length bytes)) h (heard_then b c d ds _ qs k l)
+    front_received a b d first bytes cs qs (chunk_count (length bytes)) h (received_then b c d ds _ qs k l)
 
 pub put_ended_closing : (a b c d : Option Talked) (first tid : ℕ) (path bytes : List ℕ) (cs ds : List (List ℕ))
     (last : Option (List ℕ)) (end : CopyEnd)
     → (last ≡ None → ⊥)
     → tid ≡ chunk_count (length bytes)
     → Since a b cs (reply_of (decimal first) file_handle (Opened 0) ∷ [])
-    → Since b c ds (upto (write_heard (first + 1) bytes) (chunk_count (length bytes))) → Heard c d (heard_in last)
+    → Since b c ds (upto (write_received (first + 1) bytes) (chunk_count (length bytes))) → Received c d (received_in last)
     → EndedBy (decimal (first + 1 + tid)) file_handle
     (λ r. r ≡ reply_of (decimal (first + 1 + tid)) file_handle (Closed (length bytes))) last end
     → PutEnded a d (tids_from first) file_handle path bytes end
@@ -161,14 +161,14 @@ put_ended_closing a b c d first tid path bytes cs ds (Some reply) end some same 
     )))
 
 -- CLOSE got no reply
-pub put_ended_unanswered : (a b c d : Option Talked) (first tid : ℕ) (path bytes : List ℕ) (is_said : Bool)
+pub put_ended_unanswered : (a b c d : Option Talked) (first tid : ℕ) (path bytes : List ℕ) (is_sent : Bool)
     → tid ≡ chunk_count (length bytes)
     → Since a b (spelling_of (decimal first) file_handle (OpenWrite path) ∷ [])
     (reply_of (decimal first) file_handle (Opened 0) ∷ [])
-    → Since b c (upto (write_said (first + 1) bytes) (chunk_count (length bytes)))
-    (upto (write_heard (first + 1) bytes) (chunk_count (length bytes)))
-    → Since c d (said_if is_said (spelling_of (decimal (first + 1 + tid)) file_handle Close)) []
-    → PutEnded a d (tids_from first) file_handle path bytes (unanswered is_said)
+    → Since b c (upto (write_sent (first + 1) bytes) (chunk_count (length bytes)))
+    (upto (write_received (first + 1) bytes) (chunk_count (length bytes)))
+    → Since c d (sent_if is_sent (spelling_of (decimal (first + 1 + tid)) file_handle Close)) []
+    → PutEnded a d (tids_from first) file_handle path bytes (unanswered is_sent)
 put_ended_unanswered a b c d first tid path bytes true same h g k =
     let n = chunk_count (length bytes) in
     inr (inr (inr (inl (
@@ -197,7 +197,7 @@ put_ended_unanswered a b c d first tid path bytes false same h g k =
 pub writes_not_done : (a b : Option Talked) (cs : List (List ℕ)) (first i : ℕ) (bytes wanted : List ℕ)
     (last : Option (List ℕ)) (end : CopyEnd)
     → i < chunk_count (length bytes)
-    → wanted ≡ write_heard first bytes i → Since a b cs (upto (write_heard first bytes) i ++ heard_in last)
+    → wanted ≡ write_received first bytes i → Since a b cs (upto (write_received first bytes) i ++ received_in last)
     → UnlessCopied end (EndedBy (decimal (first + i)) file_handle (λ r. r ≡ wanted) last)
     → UnlessCopied end (WritesEnded a b first bytes)
 writes_not_done a b cs first i bytes wanted last end below same h =
@@ -208,7 +208,7 @@ writes_not_done a b cs first i bytes wanted last end below same h =
 pub put_not_opened : (a b : Option Talked) (first : ℕ) (path bytes wanted : List ℕ) (last : Option (List ℕ))
     (end : CopyEnd)
     → wanted ≡ reply_of (decimal first) file_handle (Opened 0)
-    → Heard a b (heard_in last) → UnlessCopied end (EndedBy (decimal first) file_handle (λ r. r ≡ wanted) last)
+    → Received a b (received_in last) → UnlessCopied end (EndedBy (decimal first) file_handle (λ r. r ≡ wanted) last)
     → UnlessCopied end (PutEnded a b (tids_from first) file_handle path bytes)
 put_not_opened a b first path bytes wanted last end same h =
     unless_then end _ _
@@ -228,21 +228,21 @@ pub put_not_closed : (a b c d : Option Talked) (first tid : ℕ) (path bytes wan
     → tid ≡ chunk_count (length bytes)
     → wanted ≡ reply_of (decimal (first + 1 + tid)) file_handle (Closed (length bytes))
     → Since a b cs (reply_of (decimal first) file_handle (Opened 0) ∷ [])
-    → Since b c ds (upto (write_heard (first + 1) bytes) (chunk_count (length bytes))) → Heard c d (heard_in last)
+    → Since b c ds (upto (write_received (first + 1) bytes) (chunk_count (length bytes))) → Received c d (received_in last)
     → UnlessCopied end (EndedBy (decimal (first + 1 + tid)) file_handle (λ r. r ≡ wanted) last)
     → UnlessCopied end (PutEnded a d (tids_from first) file_handle path bytes)
 put_not_closed a b c d first tid path bytes wanted cs ds last end some count same h k l =
     unless_then end _ _ (λ m. put_ended_closing a b c d first tid path bytes cs ds last end some count h k l
     (subst (λ w. EndedBy (decimal (first + 1 + tid)) file_handle (λ r. r ≡ w) last end) same m))
 
-pub unheard : {R : Type 0} (items : R → List ℕ) (r : Option R) → r ≡ None → option_map items r ≡ None
-unheard items None e = refl
-unheard items (Some x) e = cc
+pub unreceived : {R : Type 0} (items : R → List ℕ) (r : Option R) → r ≡ None → option_map items r ≡ None
+unreceived items None e = refl
+unreceived items (Some x) e = cc
 
-pub is_heard : {R : Type 0} (items : R → List ℕ) (r : Option R) (b : Bool) → is_some r ≡ not b → b ≡ false
+pub is_received : {R : Type 0} (items : R → List ℕ) (r : Option R) (b : Bool) → is_some r ≡ not b → b ≡ false
     → option_map items r ≡ None → ⊥
-is_heard items None b told f e = let h : false ≡ not false = told ∙ ap not f in cc
-is_heard items (Some x) b told f e = none_some (items x) (sym e)
+is_received items None b told f e = let h : false ≡ not false = told ∙ ap not f in cc
+is_received items (Some x) b told f e = none_some (items x) (sym e)
 
 -- ---- a get
 
@@ -256,7 +256,7 @@ pub reads_not_done : (a b : Option Talked) (cs : List (List ℕ)) (first len i :
     (last : Option (List ℕ)) (end : CopyEnd)
     → i ≡ chunk_count len
     → wanted ≡ reply_of (decimal (first + i)) file_handle AtEnd
-    → Since a b cs (upto (read_heard first bytes) i ++ heard_in last)
+    → Since a b cs (upto (read_received first bytes) i ++ received_in last)
     → UnlessCopied end (EndedBy (decimal (first + i)) file_handle (λ r. r ≡ wanted) last)
     → UnlessCopied end (ReadsEnded a b first len bytes)
 reads_not_done a b cs first len i bytes wanted last end all same h =
@@ -284,7 +284,7 @@ a_piece tid handle len i size x below same (piece, long, is) =
 pub piece_not_done : (a b : Option Talked) (cs : List (List ℕ)) (first len i size : ℕ) (xs ys : List ℕ)
     (last : Option (List ℕ)) (end : CopyEnd)
     → i < chunk_count len
-    → size ≡ min (len - MAX_CHUNK * i) MAX_CHUNK → Since a b cs (upto (read_heard first xs) i ++ heard_in last)
+    → size ≡ min (len - MAX_CHUNK * i) MAX_CHUNK → Since a b cs (upto (read_received first xs) i ++ received_in last)
     → UnlessCopied end
     (λ e. (ys ≡ xs)
     × EndedBy (decimal (first + i)) file_handle (IsGiven (decimal (first + i)) file_handle size) last e)
@@ -296,7 +296,7 @@ piece_not_done a b cs first len i size xs ys last end inside same h =
       omega (arith, inside),
       (
         last,
-        (cs, subst (λ zs. Since a b cs (upto (read_heard first zs) i ++ heard_in last)) (sym k.0) h),
+        (cs, subst (λ zs. Since a b cs (upto (read_received first zs) i ++ received_in last)) (sym k.0) h),
         unwanted (decimal (first + i)) file_handle (IsGiven (decimal (first + i)) file_handle size)
             (IsPiece (decimal (first + i)) file_handle len i) last end
             (λ x e w. a_piece (decimal (first + i)) file_handle len i size x below same w) k.1,
@@ -320,7 +320,7 @@ one_length found reply tid len wanted all some same x e (n, fits, is) =
 
 pub get_not_opened : (a b : Option Talked) (first : ℕ) (bytes : List ℕ) (V : List ℕ → Type 0) (last : Option (List ℕ))
     (end : CopyEnd)
-    → ((x : List ℕ) → last ≡ Some x → IsOpened (decimal first) file_handle x → V x) → Heard a b (heard_in last)
+    → ((x : List ℕ) → last ≡ Some x → IsOpened (decimal first) file_handle x → V x) → Received a b (received_in last)
     → UnlessCopied end (EndedBy (decimal first) file_handle V last)
     → UnlessCopied end (GetEnded a b (tids_from first) file_handle bytes)
 get_not_opened a b first bytes V last end f h =
@@ -331,19 +331,19 @@ get_not_opened a b first bytes V last end f h =
     (last, h, unwanted (decimal first) file_handle V (IsOpened (decimal first) file_handle) last end f k)))
 
 reads_named : (first i : ℕ) (bytes : List ℕ)
-    → read_heard (first + 1) bytes i ≡ reply_of (tids_from first (1 + i)) file_handle (read_answer (chunk bytes i))
+    → read_received (first + 1) bytes i ≡ reply_of (tids_from first (1 + i)) file_handle (read_answer (chunk bytes i))
 reads_named first i bytes = ap (λ t. reply_of (decimal t) file_handle (read_answer (chunk bytes i))) (next_tid first i)
 
 -- the replies to OPEN and some READs
 got_front : (a b c : Option Talked) (first len : ℕ) (bytes : List ℕ) (cs qs : List (List ℕ)) (i : ℕ)
     → Since a b cs (reply_of (decimal first) file_handle (Opened len) ∷ [])
-    → Heard b c (upto (read_heard (first + 1) bytes) i ++ qs)
-    → Heard a c (get_front_replies (tids_from first) file_handle len bytes i ++ qs)
+    → Received b c (upto (read_received (first + 1) bytes) i ++ qs)
+    → Received a c (get_front_replies (tids_from first) file_handle len bytes i ++ qs)
 got_front a b c first len bytes cs qs i h k =
-    heard_then a b c cs (reply_of (tids_from first 0) file_handle (Opened len) ∷ []) _
+    received_then a b c cs (reply_of (tids_from first 0) file_handle (Opened len) ∷ []) _
     (subst (λ n. Since a b cs (reply_of (decimal n) file_handle (Opened len) ∷ [])) (open_named first) h)
-    (subst (λ rs. Heard b c (rs ++ qs))
-    (upto_same (read_heard (first + 1) bytes)
+    (subst (λ rs. Received b c (rs ++ qs))
+    (upto_same (read_received (first + 1) bytes)
     (λ j. reply_of (tids_from first (1 + j)) file_handle (read_answer (chunk bytes j))) i
     (λ j m. reads_named first j bytes))
     k)
@@ -352,7 +352,7 @@ get_ended_reading : (a b c : Option Talked) (first len : ℕ) (bytes : List ℕ)
     → len ≤ MAX_FILE
     → Since a b cs (reply_of (decimal first) file_handle (Opened len) ∷ []) → ReadsEnded b c (first + 1) len bytes end
     → GetEnded a c (tids_from first) file_handle bytes end
-get_ended_reading a b c first len bytes cs end fits h (i, below, (last, heard, ended)) =
+get_ended_reading a b c first len bytes cs end fits h (i, below, (last, received, ended)) =
     inr (
       len,
       fits,
@@ -361,7 +361,7 @@ get_ended_reading a b c first len bytes cs end fits h (i, below, (last, heard, e
         below,
         (
           last,
-          got_front a b c first len bytes cs (heard_in last) i h heard,
+          got_front a b c first len bytes cs (received_in last) i h received,
           subst (λ t. EndedBy (decimal t) file_handle (IsPiece (decimal t) file_handle len i) last end)
               (next_tid first i) ended,
         ),
@@ -381,7 +381,7 @@ pub get_not_closed : (a b c d : Option Talked) (first len tid : ℕ) (bytes want
     → len ≤ MAX_FILE
     → tid ≡ chunk_count len → wanted ≡ reply_of (decimal (first + 2 + tid)) file_handle (Closed len)
     → Since a b cs (reply_of (decimal first) file_handle (Opened len) ∷ [])
-    → Since b c ds (upto (read_heard (first + 1) bytes) (1 + chunk_count len)) → Heard c d (heard_in last)
+    → Since b c ds (upto (read_received (first + 1) bytes) (1 + chunk_count len)) → Received c d (received_in last)
     → UnlessCopied end (EndedBy (decimal (first + 2 + tid)) file_handle (λ r. r ≡ wanted) last)
     → UnlessCopied end (GetEnded a d (tids_from first) file_handle bytes)
 get_not_closed a b c d first len tid bytes wanted cs ds last end fits count is h k l =
@@ -392,7 +392,7 @@ get_not_closed a b c d first len tid bytes wanted cs ds last end fits count is h
       fits,
       inr (
         last,
-        got_front a b d first len bytes cs (heard_in last) (1 + n) h (heard_then b c d ds _ (heard_in last) k l),
+        got_front a b d first len bytes cs (received_in last) (1 + n) h (received_then b c d ds _ (received_in last) k l),
         subst (λ t. EndedBy (decimal t) file_handle (λ r. r ≡ reply_of (decimal t) file_handle (Closed len)) last end)
             same
             (subst (λ w. EndedBy (decimal (first + 2 + tid)) file_handle (λ r. r ≡ w) last end) is m),

@@ -7,9 +7,9 @@ use Rattle.chaos_file.specs.declared.limits.TheConstants.{MAX_CHUNK}
 use Rattle.chaos_file.specs.Answer.{Given, AtEnd, read_answer}
 use Rattle.chaosd_copy.specs.Copy.{upto, chunk, reply_of}
 use Rattle.chaosd_copy.specs.Talk.{Talked, Since}
-use Rattle.chaosd_copy.specs.Row.{file_handle, heard_in}
-use Rattle.chaosd_copy.specs.Ends.{read_heard}
-use Rattle.chaosd_copy.proofs.Talks.{heard_at}
+use Rattle.chaosd_copy.specs.Row.{file_handle, received_in}
+use Rattle.chaosd_copy.specs.Ends.{read_received}
+use Rattle.chaosd_copy.proofs.Talks.{received_at}
 use Rattle.chaosd_copy.proofs.Joined.{upto_same}
 
 chunk_front : (xs ys : List ℕ) (i j : ℕ) → j < i → length xs ≡ MAX_CHUNK * i → chunk (xs ++ ys) j ≡ chunk xs j
@@ -33,15 +33,15 @@ given (y ∷ ys) l = search rules
 pub grows : (a b : Option Talked) (cs : List (List ℕ)) (first i : ℕ) (xs ys : List ℕ) (o : Option (List ℕ))
     → length xs ≡ MAX_CHUNK * i → 0 < length ys → length ys ≤ MAX_CHUNK
     → o ≡ Some (reply_of (decimal (first + i)) file_handle (Given ys))
-    → Since a b cs (upto (read_heard first xs) i ++ heard_in o)
-    → Since a b cs (upto (read_heard first (xs ++ ys)) (i + 1))
+    → Since a b cs (upto (read_received first xs) i ++ received_in o)
+    → Since a b cs (upto (read_received first (xs ++ ys)) (i + 1))
 grows a b cs first i xs ys o e p l f h =
-    heard_at a b cs (read_heard first (xs ++ ys)) i o _ f
+    received_at a b cs (read_received first (xs ++ ys)) i o _ f
     (sym
     (ap (λ z. reply_of (decimal (first + i)) file_handle (read_answer z)) (chunk_last xs ys i e l)
     ∙ ap (reply_of (decimal (first + i)) file_handle) (given ys p)))
-    (subst (λ rs. Since a b cs (rs ++ heard_in o))
-    (upto_same (read_heard first xs) (read_heard first (xs ++ ys)) i
+    (subst (λ rs. Since a b cs (rs ++ received_in o))
+    (upto_same (read_received first xs) (read_received first (xs ++ ys)) i
     (λ j m. ap (λ z. reply_of (decimal (first + j)) file_handle (read_answer z))
     (sym (chunk_front xs ys i j m e))))
     h)
@@ -50,8 +50,8 @@ grows a b cs first i xs ys o e p l f h =
 pub ends : (a b : Option Talked) (cs : List (List ℕ)) (first : ℕ) (xs : List ℕ) (n : ℕ) (o : Option (List ℕ))
     → length xs ≤ MAX_CHUNK * n
     → o ≡ Some (reply_of (decimal (first + n)) file_handle AtEnd)
-    → Since a b cs (upto (read_heard first xs) n ++ heard_in o)
-    → Since a b cs (upto (read_heard first xs) (n + 1))
+    → Since a b cs (upto (read_received first xs) n ++ received_in o)
+    → Since a b cs (upto (read_received first xs) (n + 1))
 ends a b cs first xs n o l f h =
-    heard_at a b cs (read_heard first xs) n o _ f
+    received_at a b cs (read_received first xs) n o _ f
     (sym (ap (λ z. reply_of (decimal (first + n)) file_handle (read_answer z)) (chunk_none xs n l))) h

@@ -11,7 +11,7 @@ use Rattle.chaosd_copy.specs.declared.end.CopyEnd.TheVariants as e
 use Rattle.chaosd_copy.specs.Copy.{upto, chunk, chunk_count, reply_of, put_commands, put_replies, get_commands, get_replies}
 use Rattle.chaosd_copy.specs.Talk.{Talked, Since}
 use Rattle.chaosd_copy.specs.Row.{file_handle}
-use Rattle.chaosd_copy.specs.Ends.{IfCopied, EndedBy, tids_from, write_said, write_heard, read_said, read_heard}
+use Rattle.chaosd_copy.specs.Ends.{IfCopied, EndedBy, tids_from, write_sent, write_received, read_sent, read_received}
 use Rattle.chaosd_copy.proofs.Talks.{since_then}
 
 pub not_copied : (tid handle : List ℕ) (Wanted : List ℕ → Type 0) (last : Option (List ℕ)) (end : CopyEnd) (P : Type 0)
@@ -66,8 +66,8 @@ single a b s t command answer e h =
 pub put_joined : (a b c d : Option Talked) (first : ℕ) (path bytes : List ℕ)
     → Since a b (spelling_of (decimal first) file_handle (OpenWrite path) ∷ [])
     (reply_of (decimal first) file_handle (Opened 0) ∷ [])
-    → Since b c (upto (write_said (first + 1) bytes) (chunk_count (length bytes)))
-    (upto (write_heard (first + 1) bytes) (chunk_count (length bytes)))
+    → Since b c (upto (write_sent (first + 1) bytes) (chunk_count (length bytes)))
+    (upto (write_received (first + 1) bytes) (chunk_count (length bytes)))
     → Since c d (spelling_of (decimal (first + 1 + chunk_count (length bytes))) file_handle Close ∷ [])
     (reply_of (decimal (first + 1 + chunk_count (length bytes))) file_handle (Closed (length bytes)) ∷ [])
     → Since a d (put_commands (tids_from first) file_handle path bytes)
@@ -88,8 +88,8 @@ put_joined a b c d first path bytes h k l =
 pub get_joined : (a b c d : Option Talked) (first : ℕ) (path bytes : List ℕ)
     → Since a b (spelling_of (decimal first) file_handle (OpenRead path) ∷ [])
     (reply_of (decimal first) file_handle (Opened (length bytes)) ∷ [])
-    → Since b c (upto (read_said (first + 1)) (1 + chunk_count (length bytes)))
-    (upto (read_heard (first + 1) bytes) (1 + chunk_count (length bytes)))
+    → Since b c (upto (read_sent (first + 1)) (1 + chunk_count (length bytes)))
+    (upto (read_received (first + 1) bytes) (1 + chunk_count (length bytes)))
     → Since c d (spelling_of (decimal (first + 2 + chunk_count (length bytes))) file_handle Close ∷ [])
     (reply_of (decimal (first + 2 + chunk_count (length bytes))) file_handle (Closed (length bytes)) ∷ [])
     → Since a d (get_commands (tids_from first) file_handle path (length bytes))

@@ -10,7 +10,7 @@ use Rattle.chaosd_copy.specs.Talk.{Talked}
 use Rattle.chaosd_copy.proofs.Runs.{runs_one, runs_append}
 
 abbrev pub talk_of : List (List ℕ) → List (List ℕ) → Option Talked
-talk_of said heard = Some (record { said = said; heard = heard })
+talk_of sent received = Some (record { sent = sent; received = received })
 
 map_last : {X : Type 0} (f : X → List ℕ) (xs : List X) (x : X) → map f (xs ++ x ∷ []) ≡ map f xs ++ f x ∷ []
 map_last f [] x = refl
@@ -23,23 +23,23 @@ take_next f [] i x l e = absurd (omega arith)
 take_next f (y ∷ ys) zero x l e = ap (λ z. f z ∷ []) (sym e)
 take_next f (y ∷ ys) (suc i) x l e = ap (λ r. f y ∷ r) (take_next f ys i x (omega arith) e)
 
-pub hears_next : {X : Type 0} (f : X → List ℕ) (said : List (List ℕ)) (xs : List X) (i : ℕ) (x : X) (r : List ℕ)
+pub receives_next : {X : Type 0} (f : X → List ℕ) (sent : List (List ℕ)) (xs : List X) (i : ℕ) (x : X) (r : List ℕ)
     → i < length xs → x ≡ get_or xs i x → r ≡ f x
-    → talk_of said (take (i + 1) (map f xs)) ≡ talk_of said (take i (map f xs) ++ r ∷ [])
-hears_next f said xs i x r l e g =
+    → talk_of sent (take (i + 1) (map f xs)) ≡ talk_of sent (take i (map f xs) ++ r ∷ [])
+receives_next f sent xs i x r l e g =
     let n : i + 1 ≡ suc i = omega arith in
-    ap (talk_of said)
+    ap (talk_of sent)
     (ap (λ k. take k (map f xs)) n ∙ take_next f xs i x l e ∙ ap (λ y. take i (map f xs) ++ y ∷ []) (sym g))
 
-pub serves_next : {X : Type 0} (f : X → List ℕ) (m n o : Files) (s t u : SessionView) (said saids replies more : List X)
+pub serves_next : {X : Type 0} (f : X → List ℕ) (m n o : Files) (s t u : SessionView) (sent all_sent replies more : List X)
     (c r : X) (command : List ℕ)
-    → Does m s (map f said) n t (map f replies) → saids ≡ said ++ c ∷ [] → more ≡ replies ++ r ∷ [] → f c ≡ command
-    → StepsOrStays (file_step n t command) n t o u (Some (f r)) → Does m s (map f saids) o u (map f more)
-serves_next f m n o s t u said saids replies more c r command h e g k p =
-    let one = runs_append m s (map f said) n t (map f replies) (command ∷ []) o u (f r ∷ []) h
+    → Does m s (map f sent) n t (map f replies) → all_sent ≡ sent ++ c ∷ [] → more ≡ replies ++ r ∷ [] → f c ≡ command
+    → StepsOrStays (file_step n t command) n t o u (Some (f r)) → Does m s (map f all_sent) o u (map f more)
+serves_next f m n o s t u sent all_sent replies more c r command h e g k p =
+    let one = runs_append m s (map f sent) n t (map f replies) (command ∷ []) o u (f r ∷ []) h
     (runs_one n t command o u (f r) (record { files = sym p.0; session = sym p.1; reply_is = sym p.2 })) in
-    let said_is : map f saids ≡ map f said ++ command ∷ [] =
-    ap (map f) e ∙ map_last f said c ∙ ap (λ x. map f said ++ x ∷ []) k in
+    let sent_is : map f all_sent ≡ map f sent ++ command ∷ [] =
+    ap (map f) e ∙ map_last f sent c ∙ ap (λ x. map f sent ++ x ∷ []) k in
     let replies_are : map f more ≡ map f replies ++ f r ∷ [] = ap (map f) g ∙ map_last f replies r in
-    subst (λ cs. Does m s cs o u (map f more)) (sym said_is)
-    (subst (λ rs. Does m s (map f said ++ command ∷ []) o u rs) (sym replies_are) one)
+    subst (λ cs. Does m s cs o u (map f more)) (sym sent_is)
+    (subst (λ rs. Does m s (map f sent ++ command ∷ []) o u rs) (sym replies_are) one)

@@ -1,29 +1,29 @@
--- Turns in which nothing is heard.
+-- Turns in which nothing is received.
 use Rattle.std.proofs.Common.{◌≡◌, ℕ, ◌+◌, ◌-◌, ◌<◌, ◌≤◌, Bool, true, false, List, [], ◌∷◌, ◌++◌, Option, Some, None, refl, ap, ◌∙◌, sym, subst, arith, inl, inr}
 use Rattle.std.specs.Prelude.{option_map, Result, Ok, Err, IfOk, MatchOption}
 use Rattle.chaosd_copy.specs.declared.limits.TheConstants.{REPLY_TURNS, REPLY_MILLIS, MOST_TURNS}
 use Rattle.chaosd_copy.specs.Copy.{upto}
-use Rattle.chaosd_copy.specs.Row.{heard_in}
-use Rattle.chaosd_copy.specs.Talk.{Talked, Since, Turned, IsLong, after_say, after_hear, heard_of, said_if}
+use Rattle.chaosd_copy.specs.Row.{received_in}
+use Rattle.chaosd_copy.specs.Talk.{Talked, Since, Turned, IsLong, after_send, after_receive, received_of, sent_if}
 use Rattle.chaosd_copy.specs.declared.end.CopyEnd.{CopyEnd}
 use Rattle.chaosd_copy.specs.declared.end.CopyEnd.TheVariants as e
 use Rattle.chaosd_copy.specs.Ends.{EndedBy, UnlessCopied, UnlessAnswered, unanswered}
 use Rattle.chaosd_copy.proofs.Talks.{none_some}
 
--- a command that is said is none that is heard
-pub said_is_quiet : (r : Bool) (command : List ℕ) (a : Option Talked) → heard_of (after_say r command a) ≡ heard_of a
-said_is_quiet true command None = refl
-said_is_quiet true command (Some a) = refl
-said_is_quiet false command a = refl
+-- a command that is sent is none that is received
+pub sent_is_quiet : (r : Bool) (command : List ℕ) (a : Option Talked) → received_of (after_send r command a) ≡ received_of a
+sent_is_quiet true command None = refl
+sent_is_quiet true command (Some a) = refl
+sent_is_quiet false command a = refl
 
-pub quiet_say : (r : Bool) (command : List ℕ) (a b c : Option Talked) → heard_of b ≡ heard_of a
-    → c ≡ after_say r command b → heard_of c ≡ heard_of a
-quiet_say r command a b c h e = ap heard_of e ∙ said_is_quiet r command b ∙ h
+pub quiet_send : (r : Bool) (command : List ℕ) (a b c : Option Talked) → received_of b ≡ received_of a
+    → c ≡ after_send r command b → received_of c ≡ received_of a
+quiet_send r command a b c h e = ap received_of e ∙ sent_is_quiet r command b ∙ h
 
-pub unheard_is_quiet : {R : Type 0} (items : R → List ℕ) (r : Option R) (a b : Option Talked) → r ≡ None
-    → b ≡ after_hear (option_map items r) a → heard_of b ≡ heard_of a
-unheard_is_quiet items None a b none e = ap heard_of e
-unheard_is_quiet items (Some x) a b none e = cc
+pub unreceived_is_quiet : {R : Type 0} (items : R → List ℕ) (r : Option R) (a b : Option Talked) → r ≡ None
+    → b ≡ after_receive (option_map items r) a → received_of b ≡ received_of a
+unreceived_is_quiet items None a b none e = ap received_of e
+unreceived_is_quiet items (Some x) a b none e = cc
 
 pub turned_none : (a : Option ℕ) → Turned 0 a a
 turned_none None = tt
@@ -36,13 +36,13 @@ turned_more n a b (Some k) h (one, same) =
     let less : k - 1 - n ≡ k - (n + 1) = omega arith in
     (omega (arith, t.0, one), t.1 ∙ ap Some less)
 
--- one command, of which it is known whether it was said
-pub known : {R F : Type 0} (items : R → List ℕ) (a b : Option Talked) (f : ℕ → List ℕ) (k : ℕ) (is_said : Bool)
+-- one command, of which it is known whether it was sent
+pub known : {R F : Type 0} (items : R → List ℕ) (a b : Option Talked) (f : ℕ → List ℕ) (k : ℕ) (is_sent : Bool)
     (command : List ℕ) (result : Result (Option R) F)
     → f 0 ≡ command → k ≤ 1
-    → (is_said ≡ true → 0 < k) → (is_said ≡ false → k ≤ 0)
-    → IfOk result (λ r. Since a b (upto f k) ([] ++ heard_in (option_map items r)))
-    → IfOk result (λ r. MatchOption r (Since a b (said_if is_said command) []) (λ _. Unit {0}))
+    → (is_sent ≡ true → 0 < k) → (is_sent ≡ false → k ≤ 0)
+    → IfOk result (λ r. Since a b (upto f k) ([] ++ received_in (option_map items r)))
+    → IfOk result (λ r. MatchOption r (Since a b (sent_if is_sent command) []) (λ _. Unit {0}))
 known items a b f k s command (Err fault) e l m n h = tt
 known items a b f k s command (Ok (Some r)) e l m n h = tt
 known items a b f k true command (Ok None) e l m n h =
@@ -66,8 +66,8 @@ unanswered_by items None tid handle W e.NoReply P Q h w f = f w
 unanswered_by items (Some x) tid handle W e.NoReply P Q h w f = absurd (none_some (items x) (sym h))
 unanswered_by items r tid handle W e.Unknown P Q h w f = absurd h
 
-pub unanswered_waited : {R : Type 0} (r : Option R) (end : CopyEnd) (is_said : Bool) (P Q : Type 0)
-    → end ≡ unanswered is_said → r ≡ None → MatchOption r P (λ _. Unit {0}) → (P → Q) → UnlessAnswered end Q
+pub unanswered_waited : {R : Type 0} (r : Option R) (end : CopyEnd) (is_sent : Bool) (P Q : Type 0)
+    → end ≡ unanswered is_sent → r ≡ None → MatchOption r P (λ _. Unit {0}) → (P → Q) → UnlessAnswered end Q
 unanswered_waited None end true P Q same e w f = subst (λ x. UnlessAnswered x Q) (sym same) (f w)
 unanswered_waited None end false P Q same e w f = subst (λ x. UnlessAnswered x Q) (sym same) (f w)
 unanswered_waited (Some x) end s P Q same e w f = cc

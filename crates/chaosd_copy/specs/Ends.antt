@@ -1,4 +1,4 @@
--- How a copy ended, and what was said and heard in it.
+-- How a copy ended, and what was sent and received in it.
 use Rattle.std.specs.Prelude.{◌≡◌, ◌≤◌, ◌<◌, ◌⊎◌, ℕ, ◌+◌, ◌-◌, ◌*◌, Bool, true, false, List, [], ◌∷◌, ◌++◌, codes, length, min, Option, Some, None, Result, Ok, Err}
 use Rattle.std.specs.Fmt.{decimal}
 use Rattle.chaos_file.specs.declared.limits.TheConstants.{MAX_CHUNK, MAX_FILE}
@@ -9,8 +9,8 @@ use Rattle.chaosd_io.specs.declared.fault.RunFault.{RunFault}
 use Rattle.chaosd_copy.specs.declared.end.CopyEnd.{CopyEnd}
 use Rattle.chaosd_copy.specs.declared.end.CopyEnd.TheVariants as e
 use Rattle.chaosd_copy.specs.Copy.{Tids, upto, chunk, chunk_count, reply_of, put_front, put_reply, put_front_replies, put_commands, get_front, get_front_replies, get_commands}
-use Rattle.chaosd_copy.specs.Talk.{Talked, Since, Heard}
-use Rattle.chaosd_copy.specs.Row.{file_handle, heard_in}
+use Rattle.chaosd_copy.specs.Talk.{Talked, Since, Received}
+use Rattle.chaosd_copy.specs.Row.{file_handle, received_in}
 
 abbrev pub IfCopied : CopyEnd → Type 0 → Type 0
 IfCopied e.Done P = P
@@ -49,23 +49,23 @@ abbrev pub delete_reply : ℕ → List ℕ
 delete_reply tid = reply_of (decimal tid) [] Deleted
 
 -- the WRITEs of a file, and their replies
-abbrev pub write_said : ℕ → List ℕ → ℕ → List ℕ
-write_said first bytes i = spelling_of (decimal (first + i)) file_handle (Write (chunk bytes i))
+abbrev pub write_sent : ℕ → List ℕ → ℕ → List ℕ
+write_sent first bytes i = spelling_of (decimal (first + i)) file_handle (Write (chunk bytes i))
 
-abbrev pub write_heard : ℕ → List ℕ → ℕ → List ℕ
-write_heard first bytes i =
+abbrev pub write_received : ℕ → List ℕ → ℕ → List ℕ
+write_received first bytes i =
     reply_of (decimal (first + i)) file_handle (Wrote (min (MAX_CHUNK * (1 + i)) (length bytes)))
 
 -- the READs of a file, and their replies
-abbrev pub read_said : ℕ → ℕ → List ℕ
-read_said first i = spelling_of (decimal (first + i)) file_handle Read
+abbrev pub read_sent : ℕ → ℕ → List ℕ
+read_sent first i = spelling_of (decimal (first + i)) file_handle Read
 
-abbrev pub read_heard : ℕ → List ℕ → ℕ → List ℕ
-read_heard first bytes i = reply_of (decimal (first + i)) file_handle (read_answer (chunk bytes i))
+abbrev pub read_received : ℕ → List ℕ → ℕ → List ℕ
+read_received first bytes i = reply_of (decimal (first + i)) file_handle (read_answer (chunk bytes i))
 
--- ---- what was said, however a copy ended
+-- ---- what was sent, however a copy ended
 
--- Of a put nothing was said since then; or OPEN and some of the WRITEs, which change no file; or all of it, CLOSE too,
+-- Of a put nothing was sent since then; or OPEN and some of the WRITEs, which change no file; or all of it, CLOSE too,
 -- and then OPEN and each WRITE were answered as they should be.
 abbrev pub PutBegun : Option Talked → Option Talked → Tids → List ℕ → List ℕ → List ℕ → Type 0
 PutBegun start now tid handle path bytes =
@@ -76,7 +76,7 @@ PutBegun start now tid handle path bytes =
     × Since start now (put_commands tid handle path bytes)
     (put_front_replies tid handle bytes (chunk_count (length bytes)) ++ last)))
 
--- Of a get nothing was said since then; or OPEN and some READs, no more than a file of FILE needs; or all that gets a
+-- Of a get nothing was sent since then; or OPEN and some READs, no more than a file of FILE needs; or all that gets a
 -- file of some such length.
 abbrev pub GetBegun : Option Talked → Option Talked → Tids → List ℕ → List ℕ → Type 0
 GetBegun start now tid handle path =
@@ -113,7 +113,7 @@ abbrev pub IfUnanswered : Result CopyEnd RunFault → Type 0 → Type 0
 IfUnanswered (Ok end) P = UnlessAnswered end P
 IfUnanswered (Err fault) P = Unit {0}
 
--- how a put ends where CLOSE got no reply, and was said or wasn't
+-- how a put ends where CLOSE got no reply, and was sent or wasn't
 abbrev pub unanswered : Bool → CopyEnd
 unanswered true = e.Unknown
 unanswered false = e.NoReply
@@ -131,21 +131,21 @@ EndedBy tid handle Wanted last (e.Strange reply) =
 EndedBy tid handle Wanted last e.NoReply = last ≡ None
 EndedBy tid handle Wanted last e.Unknown = ⊥
 
--- Since then these replies were heard, and then the last, or none, by which the copy ended.
+-- Since then these replies were received, and then the last, or none, by which the copy ended.
 abbrev pub EndedAt : Option Talked → Option Talked → List (List ℕ) → List ℕ → List ℕ → (List ℕ → Type 0) → CopyEnd
     → Type 0
 EndedAt start now before tid handle Wanted end =
-    (last : Option (List ℕ)) × Heard start now (before ++ heard_in last) × EndedBy tid handle Wanted last end
+    (last : Option (List ℕ)) × Received start now (before ++ received_in last) × EndedBy tid handle Wanted last end
 
 -- Some WRITEs were answered well, and the put ended by the reply to the next.
 abbrev pub WritesEnded : Option Talked → Option Talked → ℕ → List ℕ → CopyEnd → Type 0
 WritesEnded start now first bytes end = (i : ℕ) × (i < chunk_count (length bytes))
-    × EndedAt start now (upto (write_heard first bytes) i) (decimal (first + i)) file_handle
-    (λ r. r ≡ write_heard first bytes i) end
+    × EndedAt start now (upto (write_received first bytes) i) (decimal (first + i)) file_handle
+    (λ r. r ≡ write_received first bytes i) end
 
 -- A put ended by the reply to OPEN; or OPEN was answered well, and it ended by the reply to a WRITE, and those before
--- it were answered well; or so were all, and it ended by the reply to CLOSE; or CLOSE was said, got none, and whether
--- the file was put isn't known; or it could not be said.
+-- it were answered well; or so were all, and it ended by the reply to CLOSE; or CLOSE was sent, got none, and whether
+-- the file was put isn't known; or it could not be sent.
 abbrev pub PutEnded : Option Talked → Option Talked → Tids → List ℕ → List ℕ → List ℕ → CopyEnd → Type 0
 PutEnded start now tid handle path bytes end =
     EndedAt start now [] (tid 0) handle (λ r. r ≡ reply_of (tid 0) handle (Opened 0)) end
@@ -153,7 +153,7 @@ PutEnded start now tid handle path bytes end =
     × EndedAt start now (put_front_replies tid handle bytes i) (tid (1 + i)) handle
     (λ r. r ≡ put_reply tid handle bytes i) end)
     ⊎ (((reply : List ℕ)
-    × Heard start now (put_front_replies tid handle bytes (chunk_count (length bytes)) ++ reply ∷ [])
+    × Received start now (put_front_replies tid handle bytes (chunk_count (length bytes)) ++ reply ∷ [])
     × EndedBy (tid (1 + chunk_count (length bytes))) handle
     (λ r. r ≡ reply_of (tid (1 + chunk_count (length bytes))) handle (Closed (length bytes))) (Some reply) end)
     ⊎ (((end ≡ e.Unknown)
@@ -180,7 +180,7 @@ IsPiece tid handle len i reply =
 -- Some READs gave these bytes, and the get ended by the reply to the next.
 abbrev pub ReadsEnded : Option Talked → Option Talked → ℕ → ℕ → List ℕ → CopyEnd → Type 0
 ReadsEnded start now first len bytes end = (i : ℕ) × (i ≤ chunk_count len)
-    × EndedAt start now (upto (read_heard first bytes) i) (decimal (first + i)) file_handle
+    × EndedAt start now (upto (read_received first bytes) i) (decimal (first + i)) file_handle
     (IsPiece (decimal (first + i)) file_handle len i) end
 
 -- A get ended by the reply to OPEN; or that told a length, and some READs gave these bytes, and it ended by the reply

@@ -1,49 +1,49 @@
--- What was said and heard in a talk with a FILE server.
+-- What was sent and received in a talk with a FILE server.
 use Rattle.std.specs.Prelude.{◌≡◌, ◌≤◌, ◌⊎◌, ℕ, ◌+◌, ◌-◌, Bool, true, false, List, [], ◌∷◌, ◌++◌, Option, Some, None, option_map, nat_lt, if◌then◌else◌}
 use Rattle.chaos_packet.specs.Count.{max_count}
 use Rattle.chaosd_copy.specs.declared.limits.TheConstants.{REPLY_TURNS, REPLY_MILLIS, MOST_TURNS}
 use Rattle.chaosd_copy.specs.Copy.{upto}
 
 pub record Talked : Type 0 where
-  pub said : List (List ℕ)
-  pub heard : List (List ℕ)
+  pub sent : List (List ℕ)
+  pub received : List (List ℕ)
 
-abbrev pub with_said : List (List ℕ) → Talked → Talked
-with_said commands t = record t { said = t.said ++ commands }
+abbrev pub with_sent : List (List ℕ) → Talked → Talked
+with_sent commands t = record t { sent = t.sent ++ commands }
 
-abbrev pub with_heard : List (List ℕ) → Talked → Talked
-with_heard replies t = record t { heard = t.heard ++ replies }
+abbrev pub with_received : List (List ℕ) → Talked → Talked
+with_received replies t = record t { received = t.received ++ replies }
 
-abbrev pub after_say : Bool → List ℕ → Option Talked → Option Talked
-after_say true command t = option_map (with_said (command ∷ [])) t
-after_say false command t = t
+abbrev pub after_send : Bool → List ℕ → Option Talked → Option Talked
+after_send true command t = option_map (with_sent (command ∷ [])) t
+after_send false command t = t
 
-abbrev pub after_hear : Option (List ℕ) → Option Talked → Option Talked
-after_hear (Some reply) t = option_map (with_heard (reply ∷ [])) t
-after_hear None t = t
+abbrev pub after_receive : Option (List ℕ) → Option Talked → Option Talked
+after_receive (Some reply) t = option_map (with_received (reply ∷ [])) t
+after_receive None t = t
 
--- Since then these commands were said and these replies heard, and no others.
+-- Since then these commands were sent and these replies received, and no others.
 abbrev pub Since : Option Talked → Option Talked → List (List ℕ) → List (List ℕ) → Type 0
-Since start now commands replies = now ≡ option_map (λ t. with_heard replies (with_said commands t)) start
+Since start now commands replies = now ≡ option_map (λ t. with_received replies (with_sent commands t)) start
 
--- Since then these replies were heard, and no others.
-abbrev pub Heard : Option Talked → Option Talked → List (List ℕ) → Type 0
-Heard start now replies = (commands : List (List ℕ)) × Since start now commands replies
+-- Since then these replies were received, and no others.
+abbrev pub Received : Option Talked → Option Talked → List (List ℕ) → Type 0
+Received start now replies = (commands : List (List ℕ)) × Since start now commands replies
 
--- Since then this command was said or not, and no other.
-abbrev pub SaidOrNot : Option Talked → Option Talked → List ℕ → Type 0
-SaidOrNot start now command =
+-- Since then this command was sent or not, and no other.
+abbrev pub SentOrNot : Option Talked → Option Talked → List ℕ → Type 0
+SentOrNot start now command =
     (replies : List (List ℕ)) × (Since start now [] replies ⊎ Since start now (command ∷ []) replies)
 
--- Since then some of the commands f 0, f 1, .. were said, from the first on and at most so many, and no others.
-abbrev pub SaidUpTo : Option Talked → Option Talked → (ℕ → List ℕ) → ℕ → Type 0
-SaidUpTo start now f most =
-    (said : ℕ) × (said ≤ most) × (replies : List (List ℕ)) × Since start now (upto f said) replies
+-- Since then some of the commands f 0, f 1, .. were sent, from the first on and at most so many, and no others.
+abbrev pub SentUpTo : Option Talked → Option Talked → (ℕ → List ℕ) → ℕ → Type 0
+SentUpTo start now f most =
+    (sent : ℕ) × (sent ≤ most) × (replies : List (List ℕ)) × Since start now (upto f sent) replies
 
--- a command, where it was said
-abbrev pub said_if : Bool → List ℕ → List (List ℕ)
-said_if true command = command ∷ []
-said_if false command = []
+-- a command, where it was sent
+abbrev pub sent_if : Bool → List ℕ → List (List ℕ)
+sent_if true command = command ∷ []
+sent_if false command = []
 
 -- ---- how far a talk has come
 
@@ -66,16 +66,16 @@ abbrev pub Turned : ℕ → Option ℕ → Option ℕ → Type 0
 Turned n before None = Unit {0}
 Turned n before (Some k) = (n ≤ k) × (before ≡ Some (k - n))
 
-abbrev pub heard_of : Option Talked → Option (List (List ℕ))
-heard_of talk = option_map (λ t. t.heard) talk
+abbrev pub received_of : Option Talked → Option (List (List ℕ))
+received_of talk = option_map (λ t. t.received) talk
 
 -- That many turns, from the one moment to the other, are long enough to wait for a reply: 1,000, and 10 seconds; where
 -- the clock stands still, 4,294,967,295.
 abbrev pub IsLong : ℕ → ℕ → ℕ → Type 0
 IsLong turns since moment = (REPLY_TURNS ≤ turns) × ((since + REPLY_MILLIS ≤ moment) ⊎ (turns ≡ MOST_TURNS))
 
--- Since then nothing was heard, and the talk is over or has gone on for long enough.
+-- Since then nothing was received, and the talk is over or has gone on for long enough.
 abbrev pub InVain : Option Talked → Course → Option Talked → Course → Type 0
-InVain start since now course = (heard_of now ≡ heard_of start)
+InVain start since now course = (received_of now ≡ received_of start)
     × ((course.is_over ≡ true)
     ⊎ ((turns : ℕ) × Turned turns since.turns course.turns × IsLong turns since.moment course.moment))

@@ -3,17 +3,17 @@ ghost use Rattle.std.specs.Prelude.{◌≡◌, ◌≤◌, ◌∷◌, [], length,
 ghost use Rattle.std.specs.Fmt.{decimal};
 ghost use Rattle.chaos_file.specs.declared.limits.TheConstants.{MAX_PATH};
 ghost use Rattle.chaosd_copy.specs.declared.limits.TheConstants.{MAX_FIRST};
-ghost use Rattle.chaosd_copy.specs.Talk.{Since, SaidOrNot, InVain};
+ghost use Rattle.chaosd_copy.specs.Talk.{Since, SentOrNot, InVain};
 ghost use Rattle.chaosd_copy.specs.Ends.{IfDone, IfUnanswered, UnlessDone, EndedAt, delete_command, delete_reply, rename_command, rename_reply};
 
 use crate::end::CopyEnd;
-use crate::errand::Errand;
+use crate::request::Request;
 use crate::talk::Talk;
 use crate::window::{ask_one, settled};
 use crate::words::spelled;
 use chaosd_io::RunFault;
 
-/// Renames a file, by a RENAME of this name. Where the answer is `Done`, that was said and answered.
+/// Renames a file, by a RENAME of this name. Where the answer is `Done`, that was sent and answered.
 ///
 /// Where no reply came it isn't known whether the server did so: the command may have reached it.
 ///
@@ -31,8 +31,8 @@ pub fn rename_file<T: Talk>(
     ensures done { IfDone result (Since (T.talked talk.old) (T.talked talk.new) (rename_command tid old.now new.now ∷ []) (rename_reply tid ∷ [])) }
     // Where it wasn't done, it ended by the reply, which was another, or by none.
     ensures ended { UnlessDone result (EndedAt (T.talked talk.old) (T.talked talk.new) [] (decimal tid) [] (λ r. r ≡ rename_reply tid)) }
-    // However it ended, nothing but this command was said.
-    ensures begun { SaidOrNot (T.talked talk.old) (T.talked talk.new) (rename_command tid old.now new.now) }
+    // However it ended, nothing but this command was sent.
+    ensures begun { SentOrNot (T.talked talk.old) (T.talked talk.new) (rename_command tid old.now new.now) }
     // It got no reply only where one was waited for long enough, or no more come.
     ensures waited { IfUnanswered result ((t : T) × InVain (T.talked t) (T.course t) (T.talked talk.new) (T.course talk.new)) }
     // It ends well only where no failure was counted.
@@ -40,12 +40,12 @@ pub fn rename_file<T: Talk>(
     // It fails only by a turn that did, by the same fault.
     ensures faults { IfErr result (T.failed_by talk.new) }
 {
-    let reply = ask_one(talk, Errand::Rename(old, new), tid)?;
+    let reply = ask_one(talk, Request::Rename(old, new), tid)?;
     let wanted = spelled(tid, b"", b"RENAME", b"");
     Ok(settled(reply, &wanted, tid, b""))
 }
 
-/// Deletes a file, by a DELETE of this name. Where the answer is `Done`, that was said and answered.
+/// Deletes a file, by a DELETE of this name. Where the answer is `Done`, that was sent and answered.
 ///
 /// Where no reply came it isn't known whether the server did so: the command may have reached it.
 ///
@@ -57,8 +57,8 @@ pub fn delete_file<T: Talk>(talk: &mut T, tid: u32, path: &[u8]) -> Result<CopyE
     ensures done { IfDone result (Since (T.talked talk.old) (T.talked talk.new) (delete_command tid path.now ∷ []) (delete_reply tid ∷ [])) }
     // Where it wasn't done, it ended by the reply, which was another, or by none.
     ensures ended { UnlessDone result (EndedAt (T.talked talk.old) (T.talked talk.new) [] (decimal tid) [] (λ r. r ≡ delete_reply tid)) }
-    // However it ended, nothing but this command was said.
-    ensures begun { SaidOrNot (T.talked talk.old) (T.talked talk.new) (delete_command tid path.now) }
+    // However it ended, nothing but this command was sent.
+    ensures begun { SentOrNot (T.talked talk.old) (T.talked talk.new) (delete_command tid path.now) }
     // It got no reply only where one was waited for long enough, or no more come.
     ensures waited { IfUnanswered result ((t : T) × InVain (T.talked t) (T.course t) (T.talked talk.new) (T.course talk.new)) }
     // It ends well only where no failure was counted.
@@ -66,7 +66,7 @@ pub fn delete_file<T: Talk>(talk: &mut T, tid: u32, path: &[u8]) -> Result<CopyE
     // It fails only by a turn that did, by the same fault.
     ensures faults { IfErr result (T.failed_by talk.new) }
 {
-    let reply = ask_one(talk, Errand::Delete(path), tid)?;
+    let reply = ask_one(talk, Request::Delete(path), tid)?;
     let wanted = spelled(tid, b"", b"DELETE", b"");
     Ok(settled(reply, &wanted, tid, b""))
 }

@@ -12,6 +12,6 @@ pub enum CopyEnd {
     Strange(Reply),
     /// No reply came within 1,000 turns and 10 seconds, or the connection ended before one.
     NoReply,
-    /// Likewise, but to the CLOSE of a put, which was said: whether the file was put isn't known.
+    /// Likewise, but to the CLOSE of a put, which was sent: whether the file was put isn't known.
     Unknown,
 }

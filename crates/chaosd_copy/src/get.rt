@@ -6,13 +6,13 @@ ghost use Rattle.chaos_file.specs.Answer.{Given, Opened};
 ghost use Rattle.chaosd_copy.specs.declared.limits.TheConstants.{MAX_FIRST};
 ghost use Rattle.chaosd_copy.specs.Copy.{upto, chunk_count, reply_of, get_commands, get_replies};
 ghost use Rattle.chaosd_copy.specs.Row.{file_handle};
-ghost use Rattle.chaosd_copy.specs.Talk.{Since, SaidUpTo, InVain};
-ghost use Rattle.chaosd_copy.specs.Ends.{IfDone, IfUnanswered, UnlessDone, EndedBy, IsGiven, ReadsEnded, GetBegun, GetEnded, tids_from, read_said, read_heard};
+ghost use Rattle.chaosd_copy.specs.Talk.{Since, SentUpTo, InVain};
+ghost use Rattle.chaosd_copy.specs.Ends.{IfDone, IfUnanswered, UnlessDone, EndedBy, IsGiven, ReadsEnded, GetBegun, GetEnded, tids_from, read_sent, read_received};
 
 use crate::end::CopyEnd;
-use crate::errand::Errand;
 use crate::limits::HANDLE;
 use crate::put::chunk_count;
+use crate::request::Request;
 use crate::talk::Talk;
 use crate::window::{Flight, Row, ask_one, next_reply, refusal, settled};
 use crate::words::{counted, spelled};
@@ -107,9 +107,9 @@ fn read_all<T: Talk>(
     requires first { first ≤ MAX_FIRST + 1 }
     requires fits { len ≤ MAX_FILE }
     requires empty { bytes.old.items ≡ [] }
-    ensures said { SaidUpTo (T.talked talk.old) (T.talked talk.new) (read_said first) (1 + chunk_count len) }
+    ensures sent { SentUpTo (T.talked talk.old) (T.talked talk.new) (read_sent first) (1 + chunk_count len) }
     ensures done { IfDone result ((length bytes.new.items ≡ len) × Since (T.talked talk.old) (T.talked talk.new)
-        (upto (read_said first) (1 + chunk_count len)) (upto (read_heard first bytes.new.items) (1 + chunk_count len))) }
+        (upto (read_sent first) (1 + chunk_count len)) (upto (read_received first bytes.new.items) (1 + chunk_count len))) }
     ensures ended { UnlessDone result (ReadsEnded (T.talked talk.old) (T.talked talk.new) first len bytes.new.items) }
     ensures waited { IfUnanswered result ((t : T) × InVain (T.talked t) (T.course t) (T.talked talk.new) (T.course talk.new)) }
     ensures unfailed { OnOk result ((T.course talk.new).failures ≤ (T.course talk.old).failures) }
@@ -119,7 +119,7 @@ fn read_all<T: Talk>(
     let row = Row {
         first,
         count: 1 + count,
-        errand: Errand::Read,
+        request: Request::Read,
     };
     let mut flight = Flight::new();
     for i in 0..count {
@@ -140,7 +140,7 @@ fn read_all<T: Talk>(
     Ok(settled(last, &wanted, tid, HANDLE))
 }
 
-/// Gets a file. Where the answer is `Done`, the commands that were said are OPEN, READs up to the one answered EOF, and CLOSE, and
+/// Gets a file. Where the answer is `Done`, the commands that were sent are OPEN, READs up to the one answered EOF, and CLOSE, and
 /// the bytes are those of the replies, joined, as many as OPEN and CLOSE told.
 ///
 /// # Errors
@@ -159,7 +159,7 @@ pub fn get_file<T: Talk>(
     // Where it wasn't done, some READs gave bytes, with which these begin, and it ended by the reply to the next command, which was
     // another than a file's, or by none.
     ensures ended { UnlessDone result (GetEnded (T.talked talk.old) (T.talked talk.new) (tids_from first) file_handle bytes.new.items) }
-    // However it ended, what was said begins the commands that get a file of some length.
+    // However it ended, what was sent begins the commands that get a file of some length.
     ensures begun { GetBegun (T.talked talk.old) (T.talked talk.new) (tids_from first) file_handle path.now }
     // It got no reply only where one was waited for long enough, or no more come.
     ensures waited { IfUnanswered result ((t : T) × InVain (T.talked t) (T.course t) (T.talked talk.new) (T.course talk.new)) }
@@ -168,7 +168,7 @@ pub fn get_file<T: Talk>(
     // It fails for want of memory, or by a turn that did, by the same fault.
     ensures faults { IfErr result (λ fault. (fault ≡ RunFault.NoMemory) ⊎ T.failed_by talk.new fault) }
 {
-    let opened = ask_one(talk, Errand::OpenRead(path), first)?;
+    let opened = ask_one(talk, Request::OpenRead(path), first)?;
     let Some(len) = opened_length(&opened, first) else {
         return Ok(refusal(opened, first, HANDLE));
     };
@@ -182,7 +182,7 @@ pub fn get_file<T: Talk>(
         end => return Ok(end),
     }
     let last = first + 2 + chunk_count(len) as u32;
-    let closed = ask_one(talk, Errand::Close, last)?;
+    let closed = ask_one(talk, Request::Close, last)?;
     let all = counted(last, HANDLE, b"CLOSE ", len);
     Ok(settled(closed, &all, last, HANDLE))
 }

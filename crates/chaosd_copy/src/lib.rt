@@ -3,13 +3,13 @@
 
 mod change;
 mod end;
-mod errand;
 mod get;
 mod laws;
 mod limits;
 mod local;
 mod mem_talk;
 mod put;
+mod request;
 mod talk;
 mod text;
 mod window;

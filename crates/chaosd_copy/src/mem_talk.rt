@@ -19,19 +19,19 @@ use chaosd_io::RunFault;
 use std::alloc::Global;
 
 /// A talk with a FILE server in memory, which begins without files and answers each command at once, as FILE's definition says. It
-/// keeps all that was said and answered, so that a test can look at it.
+/// keeps all that was sent and answered, so that a test can look at it.
 #[derive(Drop)]
 pub struct MemTalk {
     alloc: Global,
     store: MemStore,
     session: Session,
-    said: Vec<Reply>,
+    sent: Vec<Reply>,
     replies: Vec<Reply>,
-    /// So many of the replies were heard.
-    heard: usize,
+    /// So many of the replies were received.
+    received: usize,
     turns: u64,
-    ghost within: { heard ≤ length replies.items },
-    ghost honest: { Does fin.empty new_session (map (λ v. v.items) said.items) store session (map (λ v. v.items) replies.items) },
+    ghost within: { received ≤ length replies.items },
+    ghost honest: { Does fin.empty new_session (map (λ v. v.items) sent.items) store session (map (λ v. v.items) replies.items) },
 }
 
 /// The reply for want of memory to a command.
@@ -76,24 +76,24 @@ fn kept(command: &[u8]) -> Reply
 }
 
 impl MemTalk {
-    /// A server without files, and nothing said yet. It takes no memory.
+    /// A server without files, and nothing sent yet. It takes no memory.
     pub fn new(alloc: Global) -> Self
-        ensures { ⟦<MemTalk as Talk>⟧.talked result ≡ Some (record { said = []; heard = [] }) }
+        ensures { ⟦<MemTalk as Talk>⟧.talked result ≡ Some (record { sent = []; received = [] }) }
     {
         MemTalk {
             alloc,
             store: MemStore::new(alloc),
             session: Session::new(),
-            said: Vec::new(alloc),
+            sent: Vec::new(alloc),
             replies: Vec::new(alloc),
-            heard: 0,
+            received: 0,
             turns: 0,
         }
     }
 }
 
 impl Talk for MemTalk {
-    ghost talked = { λ t. Some (record { said = map (λ v. v.items) t.said.items; heard = take t.heard (map (λ v. v.items) t.replies.items) }) };
+    ghost talked = { λ t. Some (record { sent = map (λ v. v.items) t.sent.items; received = take t.received (map (λ v. v.items) t.replies.items) }) };
 
     /// It never ends. It counts turns as far as they can be.
     ghost course = { λ t. record { turns = counted t.turns; moment = min (t.turns * 10) max_count; is_over = false; failures = 0 } };
@@ -101,24 +101,24 @@ impl Talk for MemTalk {
     /// No turn fails.
     ghost failed_by = { λ _ _. ⊥ };
 
-    fn say(&mut self, command: &[u8]) -> bool {
-        if self.said.reserve(1).is_err() || self.replies.reserve(1).is_err() {
+    fn send(&mut self, command: &[u8]) -> bool {
+        if self.sent.reserve(1).is_err() || self.replies.reserve(1).is_err() {
             return false;
         }
         let Some(reply) = applied(self.alloc, &mut self.store, &mut self.session, command) else {
             return false;
         };
-        self.said.push_reserved(kept(command));
+        self.sent.push_reserved(kept(command));
         self.replies.push_reserved(reply);
         true
     }
 
-    fn hear(&mut self) -> Option<Reply> {
-        if self.heard >= self.replies.len() {
+    fn receive(&mut self) -> Option<Reply> {
+        if self.received >= self.replies.len() {
             return None;
         }
-        let reply = kept(self.replies[self.heard].as_slice());
-        self.heard += 1;
+        let reply = kept(self.replies[self.received].as_slice());
+        self.received += 1;
         Some(reply)
     }
 

@@ -4,12 +4,12 @@ ghost use Rattle.chaos_file.specs.declared.limits.TheConstants.{MAX_FILE, MAX_PA
 ghost use Rattle.chaosd_copy.specs.declared.limits.TheConstants.{MAX_FIRST};
 ghost use Rattle.chaosd_copy.specs.Copy.{upto, chunk_count, put_commands, put_replies};
 ghost use Rattle.chaosd_copy.specs.Row.{file_handle};
-ghost use Rattle.chaosd_copy.specs.Talk.{Since, SaidUpTo, InVain};
-ghost use Rattle.chaosd_copy.specs.Ends.{IfDone, IfUnanswered, UnlessDone, unanswered, PutBegun, PutEnded, WritesEnded, tids_from, write_said, write_heard};
+ghost use Rattle.chaosd_copy.specs.Talk.{Since, SentUpTo, InVain};
+ghost use Rattle.chaosd_copy.specs.Ends.{IfDone, IfUnanswered, UnlessDone, unanswered, PutBegun, PutEnded, WritesEnded, tids_from, write_sent, write_received};
 
 use crate::end::CopyEnd;
-use crate::errand::Errand;
 use crate::limits::HANDLE;
+use crate::request::Request;
 use crate::talk::Talk;
 use crate::window::{Flight, Row, ask_one, ask_telling, next_reply, settled};
 use crate::words::counted;
@@ -29,9 +29,9 @@ pub fn chunk_count(length: usize) -> usize
 fn write_all<T: Talk>(talk: &mut T, first: u32, bytes: &[u8]) -> Result<CopyEnd, RunFault>
     requires first { first ≤ MAX_FIRST + 1 }
     requires fits { length bytes.now ≤ MAX_FILE }
-    ensures said { SaidUpTo (T.talked talk.old) (T.talked talk.new) (write_said first bytes.now) (chunk_count (length bytes.now)) }
+    ensures sent { SentUpTo (T.talked talk.old) (T.talked talk.new) (write_sent first bytes.now) (chunk_count (length bytes.now)) }
     ensures done { IfDone result (Since (T.talked talk.old) (T.talked talk.new)
-        (upto (write_said first bytes.now) (chunk_count (length bytes.now))) (upto (write_heard first bytes.now) (chunk_count (length bytes.now)))) }
+        (upto (write_sent first bytes.now) (chunk_count (length bytes.now))) (upto (write_received first bytes.now) (chunk_count (length bytes.now)))) }
     ensures ended { UnlessDone result (WritesEnded (T.talked talk.old) (T.talked talk.new) first bytes.now) }
     ensures waited { IfUnanswered result ((t : T) × InVain (T.talked t) (T.course t) (T.talked talk.new) (T.course talk.new)) }
     ensures unfailed { OnOk result ((T.course talk.new).failures ≤ (T.course talk.old).failures) }
@@ -41,7 +41,7 @@ fn write_all<T: Talk>(talk: &mut T, first: u32, bytes: &[u8]) -> Result<CopyEnd,
     let row = Row {
         first,
         count,
-        errand: Errand::Write(bytes),
+        request: Request::Write(bytes),
     };
     let mut flight = Flight::new();
     for i in 0..count {
@@ -61,19 +61,19 @@ fn write_all<T: Talk>(talk: &mut T, first: u32, bytes: &[u8]) -> Result<CopyEnd,
     Ok(CopyEnd::Done)
 }
 
-/// How a put ends whose CLOSE got no reply, and was said or wasn't.
-fn unanswered(is_said: bool) -> CopyEnd
-    ensures { result ≡ unanswered is_said }
+/// How a put ends whose CLOSE got no reply, and was sent or wasn't.
+fn unanswered(is_sent: bool) -> CopyEnd
+    ensures { result ≡ unanswered is_sent }
 {
-    if is_said {
+    if is_sent {
         CopyEnd::Unknown
     } else {
         CopyEnd::NoReply
     }
 }
 
-/// Puts a file. Where the answer is `Done`, the commands that were said are OPEN, the file in WRITEs and CLOSE, and the server
-/// answered that it has the whole file. Where the CLOSE was said and got no reply it is `Unknown` whether the file was put; CLOSE is said only after
+/// Puts a file. Where the answer is `Done`, the commands that were sent are OPEN, the file in WRITEs and CLOSE, and the server
+/// answered that it has the whole file. Where the CLOSE was sent and got no reply it is `Unknown` whether the file was put; CLOSE is sent only after
 /// each WRITE was answered by its count.
 ///
 /// # Errors
@@ -91,7 +91,7 @@ pub fn put_file<T: Talk>(
         (put_commands (tids_from first) file_handle path.now bytes.now) (put_replies (tids_from first) file_handle bytes.now)) }
     // Where it wasn't done, it ended by the first reply that was another than those, or by none.
     ensures ended { UnlessDone result (PutEnded (T.talked talk.old) (T.talked talk.new) (tids_from first) file_handle path.now bytes.now) }
-    // However it ended, what was said begins those commands, and CLOSE was said only where all before it was answered as it should be.
+    // However it ended, what was sent begins those commands, and CLOSE was sent only where all before it was answered as it should be.
     ensures begun { PutBegun (T.talked talk.old) (T.talked talk.new) (tids_from first) file_handle path.now bytes.now }
     // It got no reply only where one was waited for long enough, or no more come.
     ensures waited { IfUnanswered result ((t : T) × InVain (T.talked t) (T.course t) (T.talked talk.new) (T.course talk.new)) }
@@ -100,7 +100,7 @@ pub fn put_file<T: Talk>(
     // It fails only by a turn that did, by the same fault.
     ensures faults { IfErr result (T.failed_by talk.new) }
 {
-    let opened = ask_one(talk, Errand::OpenWrite(path), first)?;
+    let opened = ask_one(talk, Request::OpenWrite(path), first)?;
     let wanted = counted(first, HANDLE, b"OPEN ", 0);
     match settled(opened, &wanted, first, HANDLE) {
         CopyEnd::Done => {}
@@ -111,10 +111,10 @@ pub fn put_file<T: Talk>(
         end => return Ok(end),
     }
     let last = first + 1 + chunk_count(bytes.len()) as u32;
-    let mut is_said = false;
-    let closed = ask_telling(talk, Errand::Close, last, &mut is_said)?;
+    let mut is_sent = false;
+    let closed = ask_telling(talk, Request::Close, last, &mut is_sent)?;
     if closed.is_none() {
-        return Ok(unanswered(is_said));
+        return Ok(unanswered(is_sent));
     }
     let all = counted(last, HANDLE, b"CLOSE ", bytes.len());
     Ok(settled(closed, &all, last, HANDLE))

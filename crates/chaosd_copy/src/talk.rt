@@ -1,6 +1,6 @@
 //! A talk with a FILE server.
 ghost use Rattle.std.specs.Prelude.{◌≡◌, ◌≤◌, Option, option_map, length, IfErr, IfSome, OnOk};
-ghost use Rattle.chaosd_copy.specs.Talk.{Talked, Course, Turned, after_say, after_hear};
+ghost use Rattle.chaosd_copy.specs.Talk.{Talked, Course, Turned, after_send, after_receive};
 ghost use Rattle.chaos_file.specs.declared.limits.TheConstants.{MAX_REPLY};
 ghost use Rattle.chaosd_io.specs.declared.fault.RunFault.{RunFault};
 
@@ -9,7 +9,7 @@ use chaosd_io::RunFault;
 
 /// A talk with a FILE server: commands go out, and replies come back in the same order.
 pub trait Talk {
-    /// The commands that were said and the replies that were heard so far, each in order, where the talk can tell them.
+    /// The commands that were sent and the replies that were received so far, each in order, where the talk can tell them.
     ghost talked: { Self → Option Talked };
 
     /// How far it has come: the turns that were made, where the talk counts them, the moment of the last, whether no more replies
@@ -20,19 +20,19 @@ pub trait Talk {
     ghost failed_by: { Self → RunFault → Type 0 };
 
     /// Says a command where there is room for it on its way, and says whether it did.
-    fn say(&mut self, command: &[u8]) -> bool
+    fn send(&mut self, command: &[u8]) -> bool
         requires { length command.now ≤ MAX_REPLY }
-        ensures said { talked self.new ≡ after_say result command.now (talked self.old) }
+        ensures sent { talked self.new ≡ after_send result command.now (talked self.old) }
         ensures still { (course self.new).turns ≡ (course self.old).turns }
         ensures unfailed { (course self.new).failures ≡ (course self.old).failures };
 
     /// The next reply, where it is there.
-    fn hear(&mut self) -> Option<Reply>
-        ensures heard { talked self.new ≡ after_hear (option_map (λ v. v.items) result) (talked self.old) }
+    fn receive(&mut self) -> Option<Reply>
+        ensures received { talked self.new ≡ after_receive (option_map (λ v. v.items) result) (talked self.old) }
         ensures still { (course self.new).turns ≡ (course self.old).turns }
         ensures unfailed { (course self.new).failures ≡ (course self.old).failures };
 
-    /// Goes on: what was said is sent, and one that comes is taken, for which it may wait a moment.
+    /// Goes on: what was sent is sent, and one that comes is taken, for which it may wait a moment.
     ///
     /// # Errors
     /// `LinkFault` and `ClockFault`.

@@ -22,11 +22,11 @@ use Rattle.file_client.specs.Fault.{IsTurnFault}
 use Rattle.chaosd_file.specs.Printed.{ending_of, reply_line, replies_text, no_reply_line, PrintsReplies}
 use Rattle.chaosd_file.specs.Script.{IsCommand, IsFirstBad, BeginWithCommands, AreCommands, lines_within, Ran, Runs}
 use Rattle.chaosd_file.specs.Asking.{AskedAll, AskedGiven, AsksLine, Idles}
-use Rattle.chaosd_file.specs.Conversation.{Asked, Asks, AsksAll, AsksBefore, Converses, IfAsked, commands_said, item_for}
+use Rattle.chaosd_file.specs.Conversation.{Asked, Asks, AsksAll, AsksBefore, Converses, IfAsked, commands_sent, item_for}
 use Rattle.chaos_link.specs.Link.{QueueView}
-use Rattle.chaosd_clock.specs.declared.clock.Beginning.{Beginning}
+use Rattle.chaosd_clock.specs.declared.clock.Epoch.{Epoch}
 use Rattle.file_client.specs.Pace.{Pace}
-use Rattle.file_client.specs.Talk.{Talker, Does, SaysFarewell, Talk, Turns, and_later, command_item, silence}
+use Rattle.file_client.specs.Talk.{Talker, Does, SendsFarewell, Talk, Turns, and_later, command_item, silence}
 use Rattle.chaosd_file.specs.declared.end.ScriptEnd.{ScriptEnd}
 use Rattle.chaos_packet.specs.Item.{ItemView}
 use Rattle.file_client.proofs.Talking.{talks_none, talks_on}
@@ -151,21 +151,21 @@ text_more before between after replies reply printed more =
     ∙ ap (λ l. replies_text replies ++ l) (append-nil (reply_line reply))))
     (Appends-trans before between after (replies_text replies) (reply_line reply) printed more)
 
-one_said : (raw command : List ℕ) → command_of raw ≡ Some command → commands_said (raw ∷ []) ≡ command_item command ∷ []
-one_said raw command is = ap (λ o. item_for o ++ []) is
+one_sent : (raw command : List ℕ) → command_of raw ≡ Some command → commands_sent (raw ∷ []) ≡ command_item command ∷ []
+one_sent raw command is = ap (λ o. item_for o ++ []) is
 
 -- one command more
-said_more : (given : List (List ℕ)) (before said : List ItemView) (raw command : List ℕ) → before ≡ commands_said given
-    → said ≡ command_item command ∷ [] → command_of raw ≡ Some command
-    → before ++ said ≡ commands_said (given ++ raw ∷ [])
-said_more given before said raw command so_far now is =
-    ap (λ l. l ++ said) so_far ∙ ap (λ l. commands_said given ++ l) (now ∙ sym (one_said raw command is))
+sent_more : (given : List (List ℕ)) (before sent : List ItemView) (raw command : List ℕ) → before ≡ commands_sent given
+    → sent ≡ command_item command ∷ [] → command_of raw ≡ Some command
+    → before ++ sent ≡ commands_sent (given ++ raw ∷ [])
+sent_more given before sent raw command so_far now is =
+    ap (λ l. l ++ sent) so_far ∙ ap (λ l. commands_sent given ++ l) (now ∙ sym (one_sent raw command is))
     ∙ sym (flat_map-append (λ line. item_for (command_of line)) given (raw ∷ []))
 
 -- a command got its reply
 pub asked_more : (p : Pace) (first mid last : Talker) (before between after : Option (List ℕ)) (replied : ℕ) (given : List (List ℕ)) (line raw : List ℕ) → take KEPT_LEN line ≡ take KEPT_LEN raw → Asked p first mid before between replied given
     → AsksLine p mid last replied line between after (Ok true) → Asked p first last before after (replied + 1) (given ++ raw ∷ [])
-asked_more p first mid last before between after replied given line raw front s (command, reply, is, (talk, talks, (said, heard)), printed) = record {
+asked_more p first mid last before between after replied given line raw front s (command, reply, is, (talk, talks, (sent, received)), printed) = record {
   count = length-append given (raw ∷ []) ∙ ap (λ n. n + 1) s.count;
   commands = All-push IsCommand given raw s.commands (some_command line raw command front is);
   printed = record {
@@ -175,8 +175,8 @@ asked_more p first mid last before between after replied given line raw front s 
   };
   talk = and_later s.talk talk;
   talks = talks_on p first mid last s.talk talk s.talks talks;
-  said = said_more given s.talk.said talk.said raw command s.said said (kept_decides line raw front ∙ is);
-  heard = ap (λ l. s.talk.heard ++ l) heard ∙ ap (λ l. l ++ reply ∷ []) s.heard;
+  sent = sent_more given s.talk.sent talk.sent raw command s.sent sent (kept_decides line raw front ∙ is);
+  received = ap (λ l. s.talk.received ++ l) received ∙ ap (λ l. l ++ reply ∷ []) s.received;
 }
 
 pub last_asked : (p : Pace) (first mid last : Talker) (input rest before between after : Option (List ℕ)) (replied : ℕ)
@@ -190,9 +190,9 @@ last_asked p first mid last input rest before between after replied given line s
 
 -- ---- turns between commands
 
--- so many turns, in which nothing was said or heard
+-- so many turns, in which nothing was sent or received
 abbrev pub idle : ℕ → Talk
-idle turns = record { said = []; heard = []; turns = turns }
+idle turns = record { sent = []; received = []; turns = turns }
 
 pub idles_none : (p : Pace) (c : Talker) → Idles p c c
 idles_none p c = (0, talks_none p c)
@@ -215,8 +215,8 @@ asked_idle p first mid last before after replied given s (turns, talks) = record
   printed = s.printed;
   talk = and_later s.talk (idle turns);
   talks = talks_on p first mid last s.talk (idle turns) s.talks talks;
-  said = append-nil s.talk.said ∙ s.said;
-  heard = append-nil s.talk.heard ∙ s.heard;
+  sent = append-nil s.talk.sent ∙ s.sent;
+  received = append-nil s.talk.received ∙ s.received;
 }
 
 -- what was asked stays asked where turns went by before more came
@@ -394,11 +394,11 @@ nothing_asked p first before = record {
   printed = record { replies = []; number = refl; text = Appends-nil before };
   talk = silence;
   talks = talks_none p first;
-  said = refl;
-  heard = refl;
+  sent = refl;
+  received = refl;
 }
 
--- ---- what was said and heard
+-- ---- what was sent and received
 
 -- the lines that were given are so many first ones
 given_first : (input : Option (List ℕ)) (given : List (List ℕ)) (count : ℕ) → length given ≡ count → Begins input given
@@ -408,45 +408,45 @@ given_first (Some all) given count number (others, whole) =
     sym
     (ap (λ n. take n (lines_within all)) (sym number) ∙ ap (take (length given)) whole ∙ take-append_seam given others)
 
-said_by : (input : Option (List ℕ)) (given : List (List ℕ)) (count : ℕ) (said : List ItemView)
-    → said ≡ commands_said given → IfSome input (λ all. given ≡ take count (lines_within all))
-    → IfSome input (λ all. said ≡ commands_said (take count (lines_within all)))
-said_by None given count said e h = tt
-said_by (Some all) given count said e h = e ∙ ap commands_said h
+sent_by : (input : Option (List ℕ)) (given : List (List ℕ)) (count : ℕ) (sent : List ItemView)
+    → sent ≡ commands_sent given → IfSome input (λ all. given ≡ take count (lines_within all))
+    → IfSome input (λ all. sent ≡ commands_sent (take count (lines_within all)))
+sent_by None given count sent e h = tt
+sent_by (Some all) given count sent e h = e ∙ ap commands_sent h
 
-first_said : (input : Option (List ℕ)) (given : List (List ℕ)) (count : ℕ) (said : List ItemView)
-    → said ≡ commands_said given → length given ≡ count → Begins input given
-    → IfSome input (λ all. said ≡ commands_said (take count (lines_within all)))
-first_said input given count said e number h = said_by input given count said e (given_first input given count number h)
+first_sent : (input : Option (List ℕ)) (given : List (List ℕ)) (count : ℕ) (sent : List ItemView)
+    → sent ≡ commands_sent given → length given ≡ count → Begins input given
+    → IfSome input (λ all. sent ≡ commands_sent (take count (lines_within all)))
+first_sent input given count sent e number h = sent_by input given count sent e (given_first input given count number h)
 
-tried_said : (input : Option (List ℕ)) (given : List (List ℕ)) (count : ℕ) (said last : List ItemView)
-    → said ++ last ≡ commands_said given → length given ≡ count → Begins input given
-    → IfSome input (λ all. commands_said (take count (lines_within all)) ≡ said ++ last)
-tried_said None given count said last e number h = tt
-tried_said (Some all) given count said last e number h =
-    sym (first_said (Some all) given count (said ++ last) e number h)
+tried_sent : (input : Option (List ℕ)) (given : List (List ℕ)) (count : ℕ) (sent last : List ItemView)
+    → sent ++ last ≡ commands_sent given → length given ≡ count → Begins input given
+    → IfSome input (λ all. commands_sent (take count (lines_within all)) ≡ sent ++ last)
+tried_sent None given count sent last e number h = tt
+tried_sent (Some all) given count sent last e number h =
+    sym (first_sent (Some all) given count (sent ++ last) e number h)
 
 fewer_begin : (input : Option (List ℕ)) (given : List (List ℕ)) (raw : List ℕ) → Begins input (given ++ raw ∷ [])
     → Begins input given
 fewer_begin None given raw h = tt
 fewer_begin (Some all) given raw (others, whole) = (raw ∷ others, whole ∙ append_assoc given (raw ∷ []) others)
 
-heard_text : (before after : Option (List ℕ)) (printed heard : List (List ℕ)) (more : List ℕ) → heard ≡ printed
-    → Appends before after (replies_text printed ++ more) → Appends before after (replies_text heard ++ more)
-heard_text before after printed heard more e h = subst (λ l. Appends before after (replies_text l ++ more)) (sym e) h
+received_text : (before after : Option (List ℕ)) (printed received : List (List ℕ)) (more : List ℕ) → received ≡ printed
+    → Appends before after (replies_text printed ++ more) → Appends before after (replies_text received ++ more)
+received_text before after printed received more e h = subst (λ l. Appends before after (replies_text l ++ more)) (sym e) h
 
 -- each command got a reply
 pub asks_to_end : (p : Pace) (first last parted : Talker) (input rest before after : Option (List ℕ)) (replied : ℕ)
-    → AskedAll p first last input rest before after replied → SaysFarewell p last parted
+    → AskedAll p first last input rest before after replied → SendsFarewell p last parted
     → AsksAll p first parted input before after (record { commands = replied; replied = replied })
 asks_to_end p first last parted input rest before after replied (given, s, done) farewell = record {
   talk = s.talk;
   replied = last;
   asks = s.talks;
-  said = first_said input given replied s.talk.said s.said s.count (done_begins input rest given done);
-  heard = ap length s.heard ∙ s.printed.number;
+  sent = first_sent input given replied s.talk.sent s.sent s.count (done_begins input rest given done);
+  received = ap length s.received ∙ s.printed.number;
   text =
-      heard_text before after s.printed.replies s.talk.heard _ s.heard
+      received_text before after s.printed.replies s.talk.received _ s.received
       (whole_text before after replied s.printed.replies s.printed.text);
   to_end = λ _. farewell;
   in_part = λ differ. absurd (omega (arith, differ));
@@ -463,17 +463,17 @@ asks_in_part p first last parted input before between after replied given line s
       talk = s.talk;
       replied = last;
       asks = s.talks;
-      said = first_said input given replied s.talk.said s.said s.count (fewer_begin input given raw begun);
-      heard = ap length s.heard ∙ s.printed.number;
+      sent = first_sent input given replied s.talk.sent s.sent s.count (fewer_begin input given raw begun);
+      received = ap length s.received ∙ s.printed.number;
       text =
-          heard_text before after s.printed.replies s.talk.heard _ s.heard
+          received_text before after s.printed.replies s.talk.received _ s.received
           (part_text before between after replied s.printed.replies s.printed.text printed);
       to_end = λ same. absurd (omega (arith, same));
       in_part = λ _. (
         command,
         exchange,
-        tried_said input (given ++ raw ∷ []) (replied + 1) s.talk.said (command_item command ∷ [])
-            (said_more given s.talk.said (command_item command ∷ []) raw command s.said refl
+        tried_sent input (given ++ raw ∷ []) (replied + 1) s.talk.sent (command_item command ∷ [])
+            (sent_more given s.talk.sent (command_item command ∷ []) raw command s.sent refl
             (kept_decides line raw front ∙ is))
             (length-append given (raw ∷ []) ∙ ap (λ n. n + 1) s.count) begun,
       );
@@ -576,11 +576,11 @@ if_asked (Err LinkFault) P h = tt
 if_asked (Err ClockFault) P h = tt
 
 -- a run by a clock that began then
-pub by_clock : (Begins Speaks : Beginning → Type 0) (result : Result ScriptEnd RunFault) (beginning : Beginning)
-    → Begins beginning → Speaks beginning → IfAsked result ((x : Beginning) × Begins x × Speaks x)
-by_clock Begins Speaks result beginning begins speaks =
-    let run : (x : Beginning) × Begins x × Speaks x = (beginning, begins, speaks) in
-    if_asked result ((x : Beginning) × Begins x × Speaks x) run
+pub by_clock : (Begins Speaks : Epoch → Type 0) (result : Result ScriptEnd RunFault) (epoch : Epoch)
+    → Begins epoch → Speaks epoch → IfAsked result ((x : Epoch) × Begins x × Speaks x)
+by_clock Begins Speaks result epoch begins speaks =
+    let run : (x : Epoch) × Begins x × Speaks x = (epoch, begins, speaks) in
+    if_asked result ((x : Epoch) × Begins x × Speaks x) run
 
 pub same_queue : (p : Pace) (first : Talker) (was queue : Option QueueView) (input rest before after : Option (List ℕ))
     (result : Result ScriptEnd RunFault)

@@ -37,8 +37,8 @@ asked_kept p first last before between after replied given s kept = record {
   printed = prints_kept replied before between after s.printed kept;
   talk = s.talk;
   talks = s.talks;
-  said = s.said;
-  heard = s.heard;
+  sent = s.sent;
+  received = s.received;
 }
 
 -- what was asked stays asked where the replies are handed on
@@ -114,8 +114,8 @@ all_kept p first parted input before between after end s kept = record {
   talk = s.talk;
   replied = s.replied;
   asks = s.asks;
-  said = s.said;
-  heard = s.heard;
+  sent = s.sent;
+  received = s.received;
   text = Appends-kept before between after _ s.text kept;
   to_end = s.to_end;
   in_part = s.in_part;

@@ -11,9 +11,9 @@ use Rattle.chaosd_file.specs.Printed.{reply_line, no_reply_line}
 use Rattle.file_client.specs.Pace.{Pace}
 use Rattle.file_client.specs.Talk.{Talker, Exchanges, Talks}
 
--- A client took turns, and said and heard nothing.
+-- A client took turns, and sent and received nothing.
 abbrev pub Idles : Pace → Talker → Talker → Type 0
-Idles p first last = (turns : ℕ) × Talks p first (record { said = []; heard = []; turns = turns }) last
+Idles p first last = (turns : ℕ) × Talks p first (record { sent = []; received = []; turns = turns }) last
 
 -- So it is with the lines that the reader gave of an input.
 abbrev pub AskedGiven : Pace → Talker → Talker → Option (List ℕ) → Option (List ℕ) → Option (List ℕ) → Option (List ℕ)

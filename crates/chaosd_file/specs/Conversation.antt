@@ -16,7 +16,7 @@ use Rattle.chaosd_file.specs.Printed.{PrintsReplies, ending_of, replies_text}
 use Rattle.chaosd_file.specs.Script.{IsCommand, lines_within}
 use Rattle.file_client.specs.Caller.{CallerView, HangsUp}
 use Rattle.file_client.specs.Pace.{Pace}
-use Rattle.file_client.specs.Talk.{Talker, Talk, Talks, Exchanges, SaysFarewell, command_item}
+use Rattle.file_client.specs.Talk.{Talker, Talk, Talks, Exchanges, SendsFarewell, command_item}
 
 -- what the client of `loop` goes by: turns times 10 milliseconds, always the same first number, and it asks but once
 abbrev pub loop_pace : Pace
@@ -31,8 +31,8 @@ item_for None = []
 item_for (Some command) = command_item command ∷ []
 
 -- the items of the commands that lines stand for
-abbrev pub commands_said : List (List ℕ) → List ItemView
-commands_said lines = flat_map (λ raw. item_for (command_of raw)) lines
+abbrev pub commands_sent : List (List ℕ) → List ItemView
+commands_sent lines = flat_map (λ raw. item_for (command_of raw)) lines
 
 -- Each line that was given stands for a command that got a reply, and the replies were printed. `last`: the client
 -- after `first`, whose connection wrote these commands and read these replies.
@@ -43,8 +43,8 @@ pub record Asked (p : Pace) (first last : Talker) (before after : Option (List �
   pub printed : PrintsReplies replied before after
   pub talk : Talk
   pub talks : Talks p first talk last
-  pub said : talk.said ≡ commands_said given
-  pub heard : talk.heard ≡ printed.replies
+  pub sent : talk.sent ≡ commands_sent given
+  pub received : talk.received ≡ printed.replies
 
 -- A client wrote the commands of an input's first lines, one after another, each where the one before it had got its
 -- reply, and what was printed are the data that it read. Behind the last command the EOF was tried; or one command more
@@ -54,13 +54,13 @@ pub record AsksAll (p : Pace) (first parted : Talker) (input before after : Opti
     pub talk : Talk
     pub replied : Talker
     pub asks : Talks p first talk replied
-    pub said : IfSome input (λ all. talk.said ≡ commands_said (take end.replied (lines_within all)))
-    pub heard : length talk.heard ≡ end.replied
-    pub text : Appends before after (replies_text talk.heard ++ ending_of end)
-    pub to_end : end.replied ≡ end.commands → SaysFarewell p replied parted
+    pub sent : IfSome input (λ all. talk.sent ≡ commands_sent (take end.replied (lines_within all)))
+    pub received : length talk.received ≡ end.replied
+    pub text : Appends before after (replies_text talk.received ++ ending_of end)
+    pub to_end : end.replied ≡ end.commands → SendsFarewell p replied parted
     pub in_part : end.commands ≡ end.replied + 1 → (command : List ℕ) × Exchanges p replied command None parted
         × IfSome input
-        (λ all. commands_said (take end.commands (lines_within all)) ≡ talk.said ++ command_item command ∷ [])
+        (λ all. commands_sent (take end.commands (lines_within all)) ≡ talk.sent ++ command_item command ∷ [])
 
 -- So many lines were asked before a fault of the script or of its reader: those before the bad one, those that ended in
 -- what was read, or those that ended within the limit.

@@ -7,7 +7,7 @@ ghost use Rattle.file_client.specs.Caller.{new_caller};
 ghost use Rattle.chaosd_clock.specs.Clock.{BeginsBy, low_bits_of};
 ghost use Rattle.file_client.specs.Pace.{clock_pace};
 ghost use Rattle.file_client.specs.Talk.{talker};
-ghost use Rattle.chaosd_clock.specs.declared.clock.Beginning.{Beginning};
+ghost use Rattle.chaosd_clock.specs.declared.clock.Epoch.{Epoch};
 
 use crate::end::ScriptEnd;
 use crate::limits::SCRIPT_WINDOW;
@@ -48,8 +48,8 @@ pub fn run_ask<C: Dial, R: Read, W: Write, L: Link>(
     ensures runs { Runs (R.remaining reader.old) (R.remaining reader.new) (W.contents writer.old) (W.contents writer.new) result }
     // What its connection wrote are the commands of these lines, in order, and, where it ended well, then an EOF, and what was printed
     // are the data that it read, in order.
-    ensures talk { IfAsked result ((beginning : Beginning) × BeginsBy (C.shows clock.now) (C.dates clock.now) beginning
-        × Converses (clock_pace (C.shows clock.now) beginning) (talker (new_caller me to SCRIPT_WINDOW carriage (low_bits_of beginning)) (L.queue link.old)) (L.queue link.new) (R.remaining reader.old) (R.remaining reader.new) (W.contents writer.old) (W.contents writer.new) result) }
+    ensures talk { IfAsked result ((epoch : Epoch) × BeginsBy (C.shows clock.now) (C.dates clock.now) epoch
+        × Converses (clock_pace (C.shows clock.now) epoch) (talker (new_caller me to SCRIPT_WINDOW carriage (low_bits_of epoch)) (L.queue link.old)) (L.queue link.new) (R.remaining reader.old) (R.remaining reader.new) (W.contents writer.old) (W.contents writer.new) result) }
     // It ends well only where the link's count of failures didn't rise.
     ensures well { OnOk result (L.count link.new ≤ L.count link.old) }
     // It ends by a LinkFault only where the link counted failures.
@@ -86,8 +86,8 @@ pub fn run_ask_by<P: Ready<R>, C: Dial, R: Read, W: Write, L: Link>(
     ensures runs { Runs (R.remaining reader.old) (R.remaining reader.new) (W.contents writer.old) (W.contents writer.new) result }
     // What its connection wrote are the commands of these lines, in order, and, where it ended well, then an EOF, and what was printed
     // are the data that it read, in order.
-    ensures talk { IfAsked result ((beginning : Beginning) × BeginsBy (C.shows clock.now) (C.dates clock.now) beginning
-        × Converses (clock_pace (C.shows clock.now) beginning) (talker (new_caller route.me route.to SCRIPT_WINDOW route.carriage (low_bits_of beginning)) (L.queue link.old)) (L.queue link.new) (R.remaining reader.old) (R.remaining reader.new) (W.contents writer.old) (W.contents writer.new) result) }
+    ensures talk { IfAsked result ((epoch : Epoch) × BeginsBy (C.shows clock.now) (C.dates clock.now) epoch
+        × Converses (clock_pace (C.shows clock.now) epoch) (talker (new_caller route.me route.to SCRIPT_WINDOW route.carriage (low_bits_of epoch)) (L.queue link.old)) (L.queue link.new) (R.remaining reader.old) (R.remaining reader.new) (W.contents writer.old) (W.contents writer.new) result) }
     // It ends well only where the link's count of failures didn't rise.
     ensures well { OnOk result (L.count link.new ≤ L.count link.old) }
     // It ends by a LinkFault only where the link counted failures.

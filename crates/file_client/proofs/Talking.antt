@@ -8,7 +8,7 @@ use Rattle.chaos_host.specs.View.{HostView}
 use Rattle.file_client.specs.Calls.{is_over}
 use Rattle.file_client.specs.Caller.{CallerView, Connects, HangsUpBy, asked, all_read}
 use Rattle.file_client.specs.Pace.{Pace}
-use Rattle.file_client.specs.Talk.{Talker, Talk, Step, Calls, Writes, Reads, Turns, Does, Goes, Talks, WritesAndTurns, Exchanges, SaysFarewell, and_later, and_then, command_item, eof_item, hearing, newly_said, silence, talk_of, talker}
+use Rattle.file_client.specs.Talk.{Talker, Talk, Step, Calls, Writes, Reads, Turns, Does, Goes, Talks, WritesAndTurns, Exchanges, SendsFarewell, and_later, and_then, command_item, eof_item, receiving, newly_sent, silence, talk_of, talker}
 use Rattle.file_client.specs.declared.limits.TheConstants.{COMMAND_TURNS, END_TURNS}
 
 pub talks_none : (p : Pace) (c : Talker) → Talks p c silence c
@@ -29,25 +29,25 @@ goes_on p first between last xs (step ∷ ys) g (mid, before, does) = (mid, goes
 then_later : (t u : Talk) (step : Step) → and_then (and_later t u) step ≡ and_later t (and_then u step)
 then_later t u (Calls now) = refl
 then_later t u (Writes item now true) =
-    ap (λ (l : List ItemView). record { said = l; heard = t.heard ++ u.heard; turns = t.turns + u.turns })
-    (append_assoc t.said u.said (item ∷ []))
+    ap (λ (l : List ItemView). record { sent = l; received = t.received ++ u.received; turns = t.turns + u.turns })
+    (append_assoc t.sent u.sent (item ∷ []))
 then_later t u (Writes item now false) = refl
 then_later t u (Reads None) = refl
 then_later t u (Reads (Some bytes)) =
-    ap (λ (l : List (List ℕ)). record { said = t.said ++ u.said; heard = l; turns = t.turns + u.turns })
-    (append_assoc t.heard u.heard (bytes ∷ []))
+    ap (λ (l : List (List ℕ)). record { sent = t.sent ++ u.sent; received = l; turns = t.turns + u.turns })
+    (append_assoc t.received u.received (bytes ∷ []))
 then_later t u (Turns now) =
-    ap (λ (n : ℕ). record { said = t.said ++ u.said; heard = t.heard ++ u.heard; turns = n })
+    ap (λ (n : ℕ). record { sent = t.sent ++ u.sent; received = t.received ++ u.received; turns = n })
     (add_assoc t.turns u.turns 1)
 
 abbrev talk_by : List ItemView → List (List ℕ) → ℕ → Talk
-talk_by said heard turns = record { said = said; heard = heard; turns = turns }
+talk_by sent received turns = record { sent = sent; received = received; turns = turns }
 
 later_none : (t : Talk) → and_later t silence ≡ t
 later_none t =
-    ap (λ (l : List ItemView). talk_by l (t.heard ++ []) (t.turns + 0)) (append-nil t.said)
-    ∙ ap (λ (l : List (List ℕ)). talk_by t.said l (t.turns + 0)) (append-nil t.heard)
-    ∙ ap (λ (n : ℕ). talk_by t.said t.heard n) (add-zero t.turns)
+    ap (λ (l : List ItemView). talk_by l (t.received ++ []) (t.turns + 0)) (append-nil t.sent)
+    ∙ ap (λ (l : List (List ℕ)). talk_by t.sent l (t.turns + 0)) (append-nil t.received)
+    ∙ ap (λ (n : ℕ). talk_by t.sent t.received n) (add-zero t.turns)
 
 talk_later : (xs ys : List Step) → talk_of (ys ++ xs) ≡ and_later (talk_of xs) (talk_of ys)
 talk_later xs [] = sym (later_none (talk_of xs))
@@ -66,12 +66,12 @@ talks_same : (p : Pace) (first last : Talker) (talk other : Talk) → talk ≡ o
     → Talks p first other last
 talks_same p first last talk other e t = subst (λ k. Talks p first k last) e t
 
--- nothing was said or heard before
+-- nothing was sent or received before
 pub talks_behind : (p : Pace) (first between last : Talker) (talk : Talk) → Talks p first silence between
     → Talks p between talk last → Talks p first talk last
 talks_behind p first between last talk t u =
     let none : 0 + talk.turns ≡ talk.turns = omega arith in
-    talks_same p first last (and_later silence talk) talk (ap (λ (n : ℕ). talk_by talk.said talk.heard n) none)
+    talks_same p first last (and_later silence talk) talk (ap (λ (n : ℕ). talk_by talk.sent talk.received n) none)
     (talks_on p first between last silence talk t u)
 
 -- ---- the steps of a client
@@ -103,7 +103,7 @@ talks_called p now queue queue' c d (Err fault) none connects = tt
 
 -- it read
 pub talks_reading : (p : Pace) (c d : Talker) (got : Option (List ℕ)) → Does p c (Reads got) d
-    → Talks p c (hearing got) d
+    → Talks p c (receiving got) d
 talks_reading p c d None does = talks_step p c c d silence (Reads None) (talks_none p c) does
 talks_reading p c d (Some bytes) does = talks_step p c c d silence (Reads (Some bytes)) (talks_none p c) does
 
@@ -137,42 +137,42 @@ talks_again p c d e item true false turns first later =
 talks_again p c d e item false is turns first later =
     (λ same. absurd (let no : ⊥ = cc in no), talks_on p c d e _ _ first.1 later.1)
 
--- nothing was heard behind it
-pub talks_unheard : (p : Pace) (c d e : Talker) (item : ItemView) (was is : Bool) (turns : ℕ)
+-- nothing was received behind it
+pub talks_unreceived : (p : Pace) (c d e : Talker) (item : ItemView) (was is : Bool) (turns : ℕ)
     → WritesAndTurns p turns c item was is d → Talks p d silence e → WritesAndTurns p turns c item was is e
-talks_unheard p c d e item was is turns (kept, talk) later
+talks_unreceived p c d e item was is turns (kept, talk) later
     = (kept, talks_same p c e _ _ (later_none _) (talks_on p c d e _ silence talk later))
 
--- nothing was said before it
+-- nothing was sent before it
 pub talks_begun : (p : Pace) (b c d : Talker) (item : ItemView) (was is : Bool) (turns : ℕ) → Talks p b silence c
     → WritesAndTurns p turns c item was is d → WritesAndTurns p turns b item was is d
 talks_begun p b c d item was is turns before (kept, talk) = (kept, talks_behind p b c d _ before talk)
 
 -- ---- one command, and the EOF
 
--- a reply was heard behind the command
+-- a reply was received behind the command
 pub exchange_done : (p : Pace) (c d e : Talker) (command reply : List ℕ) (is : Bool) (turns : ℕ) → is ≡ true
-    → WritesAndTurns p turns c (command_item command) false is d → Talks p d (hearing (Some reply)) e
+    → WritesAndTurns p turns c (command_item command) false is d → Talks p d (receiving (Some reply)) e
     → Exchanges p c command (Some reply) e
-exchange_done p c d e command reply true turns same (kept, talk) heard
-    = (_, talks_on p c d e _ _ talk heard, (refl, refl))
-exchange_done p c d e command reply false turns same first heard = absurd (let no : ⊥ = cc in no)
+exchange_done p c d e command reply true turns same (kept, talk) received
+    = (_, talks_on p c d e _ _ talk received, (refl, refl))
+exchange_done p c d e command reply false turns same first received = absurd (let no : ⊥ = cc in no)
 
 -- none was
 pub exchange_none : (p : Pace) (c d : Talker) (command : List ℕ) (is : Bool) (turns : ℕ)
     → WritesAndTurns p turns c (command_item command) false is d
     → (turns ≡ COMMAND_TURNS) ⊎ (is_over d.caller.host d.caller.id ≡ true) → Exchanges p c command None d
 exchange_none p c d command is turns (kept, talk) ends
-    = (record { said = newly_said false is (command_item command); heard = []; turns = turns }, talk, (is, refl, refl, ends))
+    = (record { sent = newly_sent false is (command_item command); received = []; turns = turns }, talk, (is, refl, refl, ends))
 
 -- the EOF's wait has ended
 pub farewell_by : (p : Pace) (c d : Talker) (is : Bool) (turns : ℕ) → WritesAndTurns p turns c eof_item false is d
     → turns ≤ END_TURNS
     → ((turns ≡ END_TURNS) ⊎ (is_over d.caller.host d.caller.id ≡ true))
     ⊎ ((is ≡ true) × (all_read d.caller.host d.caller.id ≡ true))
-    → SaysFarewell p c d
+    → SendsFarewell p c d
 farewell_by p c d is turns (kept, talk) within ends =
-    (record { said = newly_said false is eof_item; heard = []; turns = turns }, talk, record { is_written = is; said = refl; heard = refl; within = within; ends = ends })
+    (record { sent = newly_sent false is eof_item; received = []; turns = turns }, talk, record { is_written = is; sent = refl; received = refl; within = within; ends = ends })
 
 over_none : (h : HostView) (id : Option ℕ) → is_some id ≡ false → is_over h id ≡ true
 over_none h None none = refl
@@ -180,6 +180,6 @@ over_none h (Some id) none = absurd (let no : ⊥ = cc in no)
 
 -- there is no connection
 pub farewell_none : (p : Pace) (c : CallerView) (queue : Option QueueView) → is_some c.id ≡ false
-    → SaysFarewell p (talker c queue) (talker c queue)
+    → SendsFarewell p (talker c queue) (talker c queue)
 farewell_none p c queue none =
-    (silence, talks_none p (talker c queue), record { is_written = false; said = refl; heard = refl; within = omega arith; ends = inl (inr (over_none c.host c.id none)) })
+    (silence, talks_none p (talker c queue), record { is_written = false; sent = refl; received = refl; within = omega arith; ends = inl (inr (over_none c.host c.id none)) })

@@ -59,12 +59,12 @@ Acts room none done result acted c d =
     ((room_of c.out < room) × (result ≡ none) × (d ≡ c)) ⊎ ((result ≡ done) × (d ≡ after_call c acted))
 
 -- The item was written to the connection at this moment, and it is told whether the connection took it.
-abbrev pub Says : ItemView → ℕ → Bool → CallerView → CallerView → Type 0
-Says item now taken c d = Acts 2 false (is_wrote (write_of item now c).answer) taken (write_of item now c) c d
+abbrev pub Sends : ItemView → ℕ → Bool → CallerView → CallerView → Type 0
+Sends item now taken c d = Acts 2 false (is_wrote (write_of item now c).answer) taken (write_of item now c) c d
 
 -- The connection was read, and these are the data that it gave.
-abbrev pub Hears : Option (List ℕ) → CallerView → CallerView → Type 0
-Hears got c d = Acts 1 None (data_read (read_of c).answer) got (read_of c) c d
+abbrev pub Receives : Option (List ℕ) → CallerView → CallerView → Type 0
+Receives got c d = Acts 1 None (data_read (read_of c).answer) got (read_of c) c d
 
 -- ---- a connection's beginning and end
 

@@ -1,7 +1,7 @@
 -- What a client goes by.
 use Rattle.std.specs.Prelude.{ℕ}
 use Rattle.chaosd_clock.specs.Clock.{IsMoment, number_of}
-use Rattle.chaosd_clock.specs.declared.clock.Beginning.{Beginning}
+use Rattle.chaosd_clock.specs.declared.clock.Epoch.{Epoch}
 use Rattle.file_client.specs.declared.limits.TheConstants.{OPEN_MILLIS}
 
 pub record Pace : Type 1 where
@@ -13,6 +13,6 @@ pub record Pace : Type 1 where
   pub wait : ℕ
 
 -- what a client by this clock goes by
-abbrev pub clock_pace : (ℕ → Type 0) → Beginning → Pace
-clock_pace Shows beginning =
-    record { Shows = IsMoment Shows beginning; starts = number_of beginning; wait = OPEN_MILLIS }
+abbrev pub clock_pace : (ℕ → Type 0) → Epoch → Pace
+clock_pace Shows epoch =
+    record { Shows = IsMoment Shows epoch; starts = number_of epoch; wait = OPEN_MILLIS }

@@ -4,7 +4,7 @@ use Rattle.chaos_packet.specs.Item.{ItemView}
 use Rattle.chaos_packet.specs.Opcode.{op_data, op_eof}
 use Rattle.chaos_link.specs.Link.{QueueView}
 use Rattle.file_client.specs.Calls.{is_over}
-use Rattle.file_client.specs.Caller.{CallerView, Hears, Says, TurnsAt, all_read, asked, asked_again}
+use Rattle.file_client.specs.Caller.{CallerView, Receives, Sends, TurnsAt, all_read, asked, asked_again}
 use Rattle.file_client.specs.Pace.{Pace}
 use Rattle.file_client.specs.declared.limits.TheConstants.{COMMAND_TURNS, END_TURNS}
 
@@ -18,17 +18,17 @@ talker caller queue = record { caller = caller; queue = queue }
 
 -- the items that its connection wrote and the data that it was given, in order, and how many turns it took
 pub record Talk : Type 0 where
-  pub said : List ItemView
-  pub heard : List (List ℕ)
+  pub sent : List ItemView
+  pub received : List (List ℕ)
   pub turns : ℕ
 
 abbrev pub silence : Talk
-silence = record { said = []; heard = []; turns = 0 }
+silence = record { sent = []; received = []; turns = 0 }
 
 -- one after the other
 abbrev pub and_later : Talk → Talk → Talk
 and_later first later =
-    record { said = first.said ++ later.said; heard = first.heard ++ later.heard; turns = first.turns + later.turns }
+    record { sent = first.sent ++ later.sent; received = first.received ++ later.received; turns = first.turns + later.turns }
 
 -- ---- what a client does
 
@@ -41,20 +41,20 @@ pub data Step : Type 0 where
 -- what a step adds to the talk: an item that is taken, data that are read, a turn
 abbrev pub and_then : Talk → Step → Talk
 and_then talk (Calls now) = talk
-and_then talk (Writes item now true) = record talk { said = talk.said ++ item ∷ [] }
+and_then talk (Writes item now true) = record talk { sent = talk.sent ++ item ∷ [] }
 and_then talk (Writes item now false) = talk
 and_then talk (Reads None) = talk
-and_then talk (Reads (Some bytes)) = record talk { heard = talk.heard ++ bytes ∷ [] }
+and_then talk (Reads (Some bytes)) = record talk { received = talk.received ++ bytes ∷ [] }
 and_then talk (Turns now) = record talk { turns = talk.turns + 1 }
 
 abbrev pub talk_of : List Step → Talk
 talk_of [] = silence
 talk_of (step ∷ before) = and_then (talk_of before) step
 
--- what was said where an item was or wasn't written before, and is or isn't now
-abbrev pub newly_said : Bool → Bool → ItemView → List ItemView
-newly_said false true item = item ∷ []
-newly_said was is item = []
+-- what was sent where an item was or wasn't written before, and is or isn't now
+abbrev pub newly_sent : Bool → Bool → ItemView → List ItemView
+newly_sent false true item = item ∷ []
+newly_sent was is item = []
 
 abbrev pub eof_item : ItemView
 eof_item = record { op = op_eof; body = [] }
@@ -64,8 +64,8 @@ module _ (p : Pace) where
   -- before which it asks again where no OPN came for long.
   abbrev pub Does : Talker → Step → Talker → Type 0
   Does c (Calls now) d = p.Shows now × (c.caller.id ≡ None) × (d ≡ talker (asked (p.starts now) now c.caller) c.queue)
-  Does c (Writes item now taken) d = p.Shows now × Says item now taken c.caller d.caller × (d.queue ≡ c.queue)
-  Does c (Reads got) d = Hears got c.caller d.caller × (d.queue ≡ c.queue)
+  Does c (Writes item now taken) d = p.Shows now × Sends item now taken c.caller d.caller × (d.queue ≡ c.queue)
+  Does c (Reads got) d = Receives got c.caller d.caller × (d.queue ≡ c.queue)
   Does c (Turns now) d = p.Shows now × TurnsAt now c.queue d.queue (asked_again p now c.caller) d.caller
 
   -- A client took these steps, the last one first.
@@ -73,7 +73,7 @@ module _ (p : Pace) where
   Goes first [] last = last ≡ first
   Goes first (step ∷ before) last = (between : Talker) × Goes first before between × Does between step last
 
-  -- A client became another, and said and heard this meanwhile.
+  -- A client became another, and sent and received this meanwhile.
   pub record Talks (first : Talker) (talk : Talk) (last : Talker) : Type 0 where
     pub steps : List Step
     pub goes : Goes first steps last
@@ -82,7 +82,7 @@ module _ (p : Pace) where
   -- An item was written where it wasn't before and was taken, and so many turns were taken.
   abbrev pub WritesAndTurns : ℕ → Talker → ItemView → Bool → Bool → Talker → Type 0
   WritesAndTurns turns first item was is last =
-      (was ≡ true → is ≡ true) × Talks first (record { said = newly_said was is item; heard = []; turns = turns }) last
+      (was ≡ true → is ≡ true) × Talks first (record { sent = newly_sent was is item; received = []; turns = turns }) last
 
 -- So many turns were taken, or the connection has ended, or there is none.
 abbrev pub GivesUp : ℕ → Talk → Talker → Type 0
@@ -93,17 +93,17 @@ GivesUp most talk last = (talk.turns ≡ most) ⊎ (is_over last.caller.host las
 abbrev pub command_item : List ℕ → ItemView
 command_item bytes = record { op = op_data; body = bytes }
 
--- what is heard by one read
-abbrev pub hearing : Option (List ℕ) → Talk
-hearing None = silence
-hearing (Some bytes) = record silence { heard = bytes ∷ [] }
+-- what is received by one read
+abbrev pub receiving : Option (List ℕ) → Talk
+receiving None = silence
+receiving (Some bytes) = record silence { received = bytes ∷ [] }
 
 -- The command was written, and this was read in answer; or nothing came within 1,000 turns, or the connection has
 -- ended.
 abbrev pub IsExchange : List ℕ → Option (List ℕ) → Talk → Talker → Type 0
-IsExchange command (Some reply) talk last = (talk.said ≡ command_item command ∷ []) × (talk.heard ≡ reply ∷ [])
+IsExchange command (Some reply) talk last = (talk.sent ≡ command_item command ∷ []) × (talk.received ≡ reply ∷ [])
 IsExchange command None talk last =
-    (is_written : Bool) × (talk.said ≡ newly_said false is_written (command_item command)) × (talk.heard ≡ [])
+    (is_written : Bool) × (talk.sent ≡ newly_sent false is_written (command_item command)) × (talk.received ≡ [])
     × GivesUp COMMAND_TURNS talk last
 
 abbrev pub Exchanges : Pace → Talker → List ℕ → Option (List ℕ) → Talker → Type 0
@@ -111,14 +111,14 @@ Exchanges p first command reply last = (talk : Talk) × Talks p first talk last 
 
 -- ---- a farewell
 
--- The EOF was written or wasn't taken, and nothing was heard. It ended where the server had read all, after 100 turns,
+-- The EOF was written or wasn't taken, and nothing was received. It ended where the server had read all, after 100 turns,
 -- or where the connection had ended or there was none.
 pub record IsFarewell (talk : Talk) (last : Talker) : Type 0 where
   pub is_written : Bool
-  pub said : talk.said ≡ newly_said false is_written eof_item
-  pub heard : talk.heard ≡ []
+  pub sent : talk.sent ≡ newly_sent false is_written eof_item
+  pub received : talk.received ≡ []
   pub within : talk.turns ≤ END_TURNS
   pub ends : GivesUp END_TURNS talk last ⊎ ((is_written ≡ true) × (all_read last.caller.host last.caller.id ≡ true))
 
-abbrev pub SaysFarewell : Pace → Talker → Talker → Type 0
-SaysFarewell p first last = (talk : Talk) × Talks p first talk last × IsFarewell talk last
+abbrev pub SendsFarewell : Pace → Talker → Talker → Type 0
+SendsFarewell p first last = (talk : Talk) × Talks p first talk last × IsFarewell talk last

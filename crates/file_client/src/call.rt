@@ -2,16 +2,16 @@
 ghost use Rattle.std.specs.Prelude.{◌≡◌, ◌<◌, ◌≤◌, ◌⊎◌, Err, IfErr, IfOk, None, OnOk, option_map};
 ghost use Rattle.chaos_packet.specs.Count.{Rose};
 ghost use Rattle.chaos_packet.specs.Opcode.{op_data};
-ghost use Rattle.chaosd_copy.specs.Talk.{Turned, after_hear, after_say, counted};
+ghost use Rattle.chaosd_copy.specs.Talk.{Turned, after_receive, after_send, counted};
 ghost use Rattle.file_client.specs.Calls.{is_over};
-ghost use Rattle.file_client.specs.Caller.{Connects, HangsUp, Hears, Says, TurnsAt, asked_again, new_caller};
+ghost use Rattle.file_client.specs.Caller.{Connects, HangsUp, Receives, Sends, TurnsAt, asked_again, new_caller};
 ghost use Rattle.chaosd_clock.specs.Clock.{BeginsBy, low_bits_of};
 ghost use Rattle.file_client.specs.Fault.{IsTurnFault};
 ghost use Rattle.file_client.specs.Pace.{clock_pace};
-ghost use Rattle.file_client.specs.Talk.{SaysFarewell, talker};
+ghost use Rattle.file_client.specs.Talk.{SendsFarewell, talker};
 
 use crate::client::Client;
-use crate::patience::NoReply;
+use crate::reply_timer::NoReply;
 use crate::timed::Timed;
 use chaos_file::Reply;
 use chaos_link::{Carriage, Link};
@@ -21,7 +21,7 @@ use chaosd_copy::Talk;
 use chaosd_io::RunFault;
 use std::alloc::Global;
 
-/// A client over a link to another process, by a clock, with the turns that it takes. It tells nothing of what was said and heard, since
+/// A client over a link to another process, by a clock, with the turns that it takes. It tells nothing of what was sent and received, since
 /// a network can't be known.
 #[derive(Drop)]
 pub struct Call<'a, C: Dial, L: Link> {
@@ -45,8 +45,8 @@ impl<'a, C: Dial, L: Link> Call<'a, C, L> {
     ) -> Result<Self, RunFault>
         requires { 0 < me }
         ensures faults { IfErr result (λ fault. (fault ≡ RunFault.ClockFault) ⊎ (fault ≡ RunFault.NoMemory)) }
-        ensures begins { IfOk result (λ call. (call.turns.clock.now ≡ clock.now) × BeginsBy (C.shows clock.now) (C.dates clock.now) call.turns.beginning) }
-        ensures made { IfOk result (λ call. call.client.caller ≡ new_caller me to window carriage (low_bits_of call.turns.beginning)) }
+        ensures begins { IfOk result (λ call. (call.turns.clock.now ≡ clock.now) × BeginsBy (C.shows clock.now) (C.dates clock.now) call.turns.epoch) }
+        ensures made { IfOk result (λ call. call.client.caller ≡ new_caller me to window carriage (low_bits_of call.turns.epoch)) }
     {
         let turns = Timed::new(clock, link)?;
         let client = Client::new(alloc, &turns, me, to, window, carriage)?;
@@ -59,10 +59,10 @@ impl<'a, C: Dial, L: Link> Call<'a, C, L> {
     /// `ClockFault` and `LinkFault`.
     pub fn connect(&mut self) -> Result<(), RunFault>
         ensures faults { IfErr result (IsTurnFault (L.count self.new.turns.link.now)) }
-        ensures well { OnOk result (Connects (clock_pace (C.shows self.old.turns.clock.now) self.old.turns.beginning) self.new.client.now (L.queue self.old.turns.link.now) (L.queue self.new.turns.link.now) self.old.client.caller self.new.client.caller) }
+        ensures well { OnOk result (Connects (clock_pace (C.shows self.old.turns.clock.now) self.old.turns.epoch) self.new.client.now (L.queue self.old.turns.link.now) (L.queue self.new.turns.link.now) self.old.client.caller self.new.client.caller) }
         ensures unfailed { OnOk result (L.count self.new.turns.link.now ≤ L.count self.old.turns.link.now) }
         ensures same_server { (self.new.client.caller.to ≡ self.old.client.caller.to) × (self.new.client.caller.carriage ≡ self.old.client.caller.carriage) }
-        ensures same_clock { (self.new.turns.clock.now ≡ self.old.turns.clock.now) × (self.new.turns.beginning ≡ self.old.turns.beginning) }
+        ensures same_clock { (self.new.turns.clock.now ≡ self.old.turns.clock.now) × (self.new.turns.epoch ≡ self.old.turns.epoch) }
     {
         self.client.connect(&mut self.turns)
     }
@@ -73,7 +73,7 @@ impl<'a, C: Dial, L: Link> Call<'a, C, L> {
     /// `ClockFault` and `LinkFault`.
     pub fn end(&mut self) -> Result<(), RunFault>
         ensures faults { IfErr result (IsTurnFault (L.count self.new.turns.link.now)) }
-        ensures talk { OnOk result (SaysFarewell (clock_pace (C.shows self.old.turns.clock.now) self.old.turns.beginning) (talker self.old.client.caller (L.queue self.old.turns.link.now)) (talker self.new.client.caller (L.queue self.new.turns.link.now))) }
+        ensures talk { OnOk result (SendsFarewell (clock_pace (C.shows self.old.turns.clock.now) self.old.turns.epoch) (talker self.old.client.caller (L.queue self.old.turns.link.now)) (talker self.new.client.caller (L.queue self.new.turns.link.now))) }
         ensures unfailed { OnOk result (L.count self.new.turns.link.now ≤ L.count self.old.turns.link.now) }
     {
         self.client.end(&mut self.turns)
@@ -85,11 +85,11 @@ impl<'a, C: Dial, L: Link> Call<'a, C, L> {
     /// `ClockFault` and `LinkFault`. The connection is given up also then.
     pub fn hang_up(&mut self) -> Result<(), RunFault>
         ensures faults { IfErr result (IsTurnFault (L.count self.new.turns.link.now)) }
-        ensures well { OnOk result (HangsUp (clock_pace (C.shows self.old.turns.clock.now) self.old.turns.beginning) (L.queue self.old.turns.link.now) (L.queue self.new.turns.link.now) self.old.client.caller self.new.client.caller) }
+        ensures well { OnOk result (HangsUp (clock_pace (C.shows self.old.turns.clock.now) self.old.turns.epoch) (L.queue self.old.turns.link.now) (L.queue self.new.turns.link.now) self.old.client.caller self.new.client.caller) }
         ensures unfailed { OnOk result (L.count self.new.turns.link.now ≤ L.count self.old.turns.link.now) }
         ensures gone { self.new.client.caller.id ≡ None }
         ensures same_server { (self.new.client.caller.to ≡ self.old.client.caller.to) × (self.new.client.caller.carriage ≡ self.old.client.caller.carriage) }
-        ensures same_clock { (self.new.turns.clock.now ≡ self.old.turns.clock.now) × (self.new.turns.beginning ≡ self.old.turns.beginning) }
+        ensures same_clock { (self.new.turns.clock.now ≡ self.old.turns.clock.now) × (self.new.turns.epoch ≡ self.old.turns.epoch) }
     {
         self.client.hang_up(&mut self.turns)
     }
@@ -111,9 +111,9 @@ impl<C: Dial, L: Link> Talk for Call<'_, C, L> {
     /// A fault of the clock, or of the link, where it counts a failure.
     ghost failed_by = { λ call. IsTurnFault (L.count call.turns.link.now) };
 
-    fn say(&mut self, command: &[u8]) -> bool
-        ensures talk { after_say result command.now None ≡ None }
-        ensures said { Says (record { op = op_data; body = command.now }) self.old.client.now result self.old.client.caller self.new.client.caller }
+    fn send(&mut self, command: &[u8]) -> bool
+        ensures talk { after_send result command.now None ≡ None }
+        ensures sent { Sends (record { op = op_data; body = command.now }) self.old.client.now result self.old.client.caller self.new.client.caller }
         ensures still { self.new.client.count ≡ self.old.client.count }
         ensures unfailed { L.count self.new.turns.link.now ≡ L.count self.old.turns.link.now }
         ensures same { (self.new.turns ≡ self.old.turns) × (self.new.client.now ≡ self.old.client.now) }
@@ -121,9 +121,9 @@ impl<C: Dial, L: Link> Talk for Call<'_, C, L> {
         self.client.write(Opcode::DATA, command)
     }
 
-    fn hear(&mut self) -> Option<Reply>
-        ensures talk { after_hear (option_map (λ v. v.items) result) None ≡ None }
-        ensures heard { Hears (option_map (λ v. v.items) result) self.old.client.caller self.new.client.caller }
+    fn receive(&mut self) -> Option<Reply>
+        ensures talk { after_receive (option_map (λ v. v.items) result) None ≡ None }
+        ensures received { Receives (option_map (λ v. v.items) result) self.old.client.caller self.new.client.caller }
         ensures still { self.new.client.count ≡ self.old.client.count }
         ensures unfailed { L.count self.new.turns.link.now ≡ L.count self.old.turns.link.now }
         ensures same { (self.new.turns ≡ self.old.turns) × (self.new.client.now ≡ self.old.client.now) }
@@ -139,12 +139,12 @@ impl<C: Dial, L: Link> Talk for Call<'_, C, L> {
     fn turn(&mut self) -> Result<(), RunFault>
         ensures faults { IfErr result (IsTurnFault (L.count self.new.turns.link.now)) }
         ensures failed { result ≡ Err RunFault.LinkFault → Rose (L.count self.old.turns.link.now) (L.count self.new.turns.link.now) }
-        ensures well { OnOk result (TurnsAt self.new.client.now (L.queue self.old.turns.link.now) (L.queue self.new.turns.link.now) (asked_again (clock_pace (C.shows self.old.turns.clock.now) self.old.turns.beginning) self.new.client.now self.old.client.caller) self.new.client.caller) }
-        ensures moment { OnOk result ((clock_pace (C.shows self.old.turns.clock.now) self.old.turns.beginning).Shows self.new.client.now) }
+        ensures well { OnOk result (TurnsAt self.new.client.now (L.queue self.old.turns.link.now) (L.queue self.new.turns.link.now) (asked_again (clock_pace (C.shows self.old.turns.clock.now) self.old.turns.epoch) self.new.client.now self.old.client.caller) self.new.client.caller) }
+        ensures moment { OnOk result ((clock_pace (C.shows self.old.turns.clock.now) self.old.turns.epoch).Shows self.new.client.now) }
         ensures counted { Turned 1 (counted self.old.client.count) (counted self.new.client.count) }
         ensures unfailed { OnOk result (L.count self.new.turns.link.now ≤ L.count self.old.turns.link.now) }
         ensures same_server { (self.new.client.caller.to ≡ self.old.client.caller.to) × (self.new.client.caller.carriage ≡ self.old.client.caller.carriage) }
-        ensures same_clock { (self.new.turns.clock.now ≡ self.old.turns.clock.now) × (self.new.turns.beginning ≡ self.old.turns.beginning) }
+        ensures same_clock { (self.new.turns.clock.now ≡ self.old.turns.clock.now) × (self.new.turns.epoch ≡ self.old.turns.epoch) }
     {
         self.client.turn(&mut self.turns)
     }

@@ -1,7 +1,7 @@
 //! A host that calls, by one connection after another.
 ghost use Rattle.std.specs.Prelude.{◌≡◌, ◌<◌, ◌≤◌, ◌↔◌, Err, IfErr, IfOk, OnOk, [], is_some, true};
 ghost use Rattle.file_client.specs.Calls.{is_over, taken};
-ghost use Rattle.file_client.specs.Caller.{Says, Hears, TurnsAt, all_read, asked, closed, is_asking, is_late, new_caller};
+ghost use Rattle.file_client.specs.Caller.{Sends, Receives, TurnsAt, all_read, asked, closed, is_asking, is_late, new_caller};
 ghost use Rattle.file_client.specs.Fault.{IsTurnFault};
 
 use crate::calls::{is_over, take_reply, write_item};
@@ -135,7 +135,7 @@ impl Caller {
 
     /// Writes an item, where there is room for it and a packet more, and says whether the connection took it.
     pub(crate) fn write(&mut self, op: Opcode, bytes: &[u8], now: u64) -> bool
-        ensures { Says (record { op = op; body = bytes.now }) now result self.old self.new }
+        ensures { Sends (record { op = op; body = bytes.now }) now result self.old self.new }
     {
         if self.out.room() < 2 {
             return false;
@@ -146,7 +146,7 @@ impl Caller {
     /// Reads the next item, where there is room for what that sends, and says whether it is data, which are then left in the caller's
     /// place.
     pub(crate) fn read(&mut self, reply: &mut Reply) -> bool
-        ensures { Hears (taken result reply.new.items) self.old self.new }
+        ensures { Receives (taken result reply.new.items) self.old self.new }
     {
         if self.out.room() == 0 {
             return false;

@@ -2,13 +2,13 @@
 ghost use Rattle.std.specs.Prelude.{◌≡◌, ◌<◌, ◌≤◌, ◌⊎◌, ◌↔◌, Err, IfErr, IfOk, None, OnOk, true};
 ghost use Rattle.chaosd_copy.specs.Talk.{Turned, counted};
 ghost use Rattle.file_client.specs.Calls.{is_over, taken};
-ghost use Rattle.file_client.specs.Caller.{Connects, HangsUp, Hears, Says, TurnsAt, all_read, asked_again, new_caller};
-ghost use Rattle.file_client.specs.Talk.{Exchanges, SaysFarewell, Talks, WritesAndTurns, hearing, silence, talker};
+ghost use Rattle.file_client.specs.Caller.{Connects, HangsUp, Receives, Sends, TurnsAt, all_read, asked_again, new_caller};
+ghost use Rattle.file_client.specs.Talk.{Exchanges, SendsFarewell, Talks, WritesAndTurns, receiving, silence, talker};
 ghost use Rattle.file_client.specs.Fault.{IsTurnFault};
 
 use crate::caller::Caller;
 use crate::limits::{COMMAND_TURNS, END_TURNS};
-use crate::patience::{NoReply, Patience};
+use crate::reply_timer::{NoReply, ReplyTimer};
 use crate::turns::Turns;
 use chaos_file::Reply;
 use chaos_link::Carriage;
@@ -26,7 +26,7 @@ pub struct Client {
     /// How many turns were begun.
     pub(crate) count: u64,
     /// Since when a reply is waited for, and why none came.
-    pub(crate) patience: Patience,
+    pub(crate) reply_timer: ReplyTimer,
 }
 
 impl Client {
@@ -57,7 +57,7 @@ impl Client {
             caller,
             now: 0,
             count: 0,
-            patience: Patience::new(),
+            reply_timer: ReplyTimer::new(),
         })
     }
 
@@ -74,8 +74,8 @@ impl Client {
     {
         self.hang_up(turns)?;
         self.look(turns)?;
-        self.patience = Patience::new();
-        self.patience.begin(self.now);
+        self.reply_timer = ReplyTimer::new();
+        self.reply_timer.begin(self.now);
         let start = turns.start(self.now);
         self.caller.ask(start, self.now);
         Ok(())
@@ -116,13 +116,13 @@ impl Client {
         ensures same { self.new.caller ≡ self.old.caller }
     {
         self.look(turns)?;
-        self.patience.begin(self.now);
+        self.reply_timer.begin(self.now);
         Ok(())
     }
 
     /// Writes an item, where there is room for it on its way, and says whether the connection took it.
     pub fn write(&mut self, op: Opcode, bytes: &[u8]) -> bool
-        ensures said { Says (record { op = op; body = bytes.now }) self.old.now result self.old.caller self.new.caller }
+        ensures sent { Sends (record { op = op; body = bytes.now }) self.old.now result self.old.caller self.new.caller }
         ensures same { (self.new.now ≡ self.old.now) × (self.new.count ≡ self.old.count) }
     {
         self.caller.write(op, bytes, self.now)
@@ -131,12 +131,12 @@ impl Client {
     /// Reads the next item, where it is there, and says whether it is data, which are then left in the caller's place. What is no data
     /// is dropped: an EOF is no reply.
     pub fn take(&mut self, reply: &mut Reply) -> bool
-        ensures heard { Hears (taken result reply.new.items) self.old.caller self.new.caller }
+        ensures received { Receives (taken result reply.new.items) self.old.caller self.new.caller }
         ensures same { (self.new.now ≡ self.old.now) × (self.new.count ≡ self.old.count) }
     {
         let came = self.caller.read(reply);
         if came {
-            self.patience.begin(self.now);
+            self.reply_timer.begin(self.now);
         }
         came
     }
@@ -208,7 +208,7 @@ impl Client {
     /// `LinkFault` and `ClockFault`.
     pub fn end<T: Turns>(&mut self, turns: &mut T) -> Result<(), RunFault>
         ensures faults { IfErr result (IsTurnFault (T.failures turns.new)) }
-        ensures talk { OnOk result (SaysFarewell (T.pace (T.time turns.old)) (talker self.old.caller (T.queue turns.old)) (talker self.new.caller (T.queue turns.new))) }
+        ensures talk { OnOk result (SendsFarewell (T.pace (T.time turns.old)) (talker self.old.caller (T.queue turns.old)) (talker self.new.caller (T.queue turns.new))) }
         ensures unfailed { OnOk result (T.failures turns.new ≤ T.failures turns.old) }
         ensures same_turns { (T.links turns.new ≡ T.links turns.old) × (T.time turns.new ≡ T.time turns.old) }
     {
@@ -241,7 +241,7 @@ impl Client {
 
     /// Takes the reply to a command, where that was written and a reply is there. Says whether one came.
     fn take_behind<T: Turns>(&mut self, turns: &T, is_written: bool, reply: &mut Reply) -> bool
-        ensures talk { Talks (T.pace (T.time turns.now)) (talker self.old.caller (T.queue turns.now)) (hearing (taken result reply.new.items)) (talker self.new.caller (T.queue turns.now)) }
+        ensures talk { Talks (T.pace (T.time turns.now)) (talker self.old.caller (T.queue turns.now)) (receiving (taken result reply.new.items)) (talker self.new.caller (T.queue turns.now)) }
         ensures written { result ≡ true → is_written ≡ true }
         ensures same { self.new.now ≡ self.old.now }
     {
@@ -301,7 +301,7 @@ impl Client {
     pub fn no_reply(&mut self) -> NoReply
         ensures { self.new.caller ≡ self.old.caller }
     {
-        self.patience.no_reply()
+        self.reply_timer.no_reply()
     }
 
     /// Looks at the clock.
@@ -337,7 +337,7 @@ impl Client {
     {
         let mut told = None;
         self.caller.turn(turns, self.now, &mut told, may_wait)?;
-        self.patience.note(self.now, told);
+        self.reply_timer.note(self.now, told);
         Ok(())
     }
 }

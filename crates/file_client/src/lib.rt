@@ -4,7 +4,7 @@
 //! No sockets and no clock of its own, and no allocation but the host's. `client` is the client, and `call` one with turns over a link
 //! by a clock: a talk with a FILE server. `caller` has a client's host and connection, and `calls` what is done with that; `turns` is what
 //! it takes turns with, `timed` turns over a link by a clock. `indices` passes over indices that an older process may have had;
-//! `patience` has the wait, and `text` bytes in words for a user.
+//! `reply_timer` has the wait, and `text` bytes in words for a user.
 #![tactic(auto)]
 
 mod call;
@@ -13,14 +13,14 @@ mod calls;
 mod client;
 mod indices;
 mod limits;
-mod patience;
+mod reply_timer;
 mod text;
 mod timed;
 mod turns;
 
 pub use call::Call;
 pub use client::Client;
-pub use patience::NoReply;
+pub use reply_timer::NoReply;
 pub use text::Shown;
 pub use timed::Timed;
 pub use turns::Turns;

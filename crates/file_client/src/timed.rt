@@ -8,7 +8,7 @@ use chaos_host::{Host, HostDelivered};
 use chaos_link::{Carriage, LINK_ROOM, Link};
 use chaos_packet::{Outbox, PktNum};
 use chaos_turn::{TurnEnd, client_turn};
-use chaosd_clock::{Beginning, Dial};
+use chaosd_clock::{Dial, Epoch};
 use chaosd_io::RunFault;
 
 /// A client's turns over a link to another process, by a clock.
@@ -16,7 +16,7 @@ use chaosd_io::RunFault;
 pub struct Timed<'a, C: Dial, L: Link> {
     clock: &'a C,
     link: &'a mut L,
-    beginning: Beginning,
+    epoch: Epoch,
     /// Where datagrams are received.
     buffer: [u8; LINK_ROOM],
 }
@@ -28,14 +28,14 @@ impl<'a, C: Dial, L: Link> Timed<'a, C, L> {
     /// `ClockFault`.
     pub fn new(clock: &'a C, link: &'a mut L) -> Result<Self, RunFault>
         ensures faults { IfErr result (λ fault. fault ≡ RunFault.ClockFault) }
-        ensures begins { IfOk result (λ turns. (turns.clock.now ≡ clock.now) × BeginsBy (C.shows clock.now) (C.dates clock.now) turns.beginning) }
+        ensures begins { IfOk result (λ turns. (turns.clock.now ≡ clock.now) × BeginsBy (C.shows clock.now) (C.dates clock.now) turns.epoch) }
         ensures link { IfOk result (λ turns. (turns.link.ghost_name ≡ link.entry.ghost_name) × (turns.link.now ≡ link.old)) }
     {
-        let beginning = Beginning::new(clock)?;
+        let epoch = Epoch::new(clock)?;
         Ok(Timed {
             clock,
             link,
-            beginning,
+            epoch,
             buffer: [0; LINK_ROOM],
         })
     }
@@ -46,11 +46,11 @@ impl<C: Dial, L: Link> Turns for Timed<'_, C, L> {
     ghost use Rattle.chaos_packet.specs.Count.{Rose};
     ghost use Rattle.chaosd_clock.specs.Clock.{low_bits_of};
     ghost use Rattle.file_client.specs.Pace.{clock_pace};
-    ghost use Rattle.chaosd_clock.specs.declared.clock.Beginning.{Beginning};
+    ghost use Rattle.chaosd_clock.specs.declared.clock.Epoch.{Epoch};
 
-    ghost Time = { C × Beginning };
+    ghost Time = { C × Epoch };
 
-    ghost time = { λ turns. (turns.clock.now, turns.beginning) };
+    ghost time = { λ turns. (turns.clock.now, turns.epoch) };
 
     ghost pace = { λ time. clock_pace (C.shows time.0) time.1 };
 
@@ -65,11 +65,11 @@ impl<C: Dial, L: Link> Turns for Timed<'_, C, L> {
     ghost queue = { λ turns. L.queue turns.link.now };
 
     fn now(&self) -> Result<u64, RunFault> {
-        self.beginning.moment(self.clock)
+        self.epoch.moment(self.clock)
     }
 
     fn start(&self, now: u64) -> PktNum {
-        self.beginning.number(now)
+        self.epoch.number(now)
     }
 
     fn wait(&self) -> u64 {
@@ -77,7 +77,7 @@ impl<C: Dial, L: Link> Turns for Timed<'_, C, L> {
     }
 
     fn passed(&self) -> u8 {
-        self.beginning.low_bits()
+        self.epoch.low_bits()
     }
 
     fn turn(

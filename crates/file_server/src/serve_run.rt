@@ -11,7 +11,7 @@ use chaos_conn::ConnConfig;
 use chaos_file::Store;
 use chaos_link::{Carriage, Link};
 use chaos_turn::TurnEnd;
-use chaosd_clock::Beginning;
+use chaosd_clock::Epoch;
 use chaosd_io::RunFault;
 use std::alloc::Global;
 use std::time::Clock;
@@ -87,12 +87,12 @@ pub fn run_serve_by<C: Clock, L: Link, S: Store, G: Log>(
     ensures well { OnOk result (L.count link.new ≤ L.count link.old) }
     ensures failed { result ≡ Err RunFault.LinkFault → 0 < L.count link.new }
 {
-    let beginning = Beginning::new(clock)?;
+    let epoch = Epoch::new(clock)?;
     let mut server = Server::new(alloc, options.me, options.config, options.carriage)?;
     let mut watch = Watch::new();
     for turn in 0..options.turns {
-        let now = beginning.moment(clock)?;
-        let end = server.turn(alloc, store, link, beginning.number(now), now, true);
+        let now = epoch.moment(clock)?;
+        let end = server.turn(alloc, store, link, epoch.number(now), now, true);
         server.watch(&mut watch, log);
         if end == TurnEnd::LinkFault {
             return Err(RunFault::LinkFault);

@@ -5,11 +5,11 @@ use Rattle.chaos_file.specs.Answer.{Opened, Closed}
 use Rattle.chaos_file.specs.Command.{OpenRead, Close}
 use Rattle.chaos_file.specs.Spelling.{spelling_of}
 use Rattle.chaosd_copy.specs.Copy.{upto, reply_of, chunk_count}
-use Rattle.chaosd_copy.specs.Talk.{Since, SaidOrNot}
+use Rattle.chaosd_copy.specs.Talk.{Since, SentOrNot}
 use Rattle.chaosd_copy.specs.Row.{file_handle}
-use Rattle.chaosd_copy.specs.Ends.{read_said, read_heard}
+use Rattle.chaosd_copy.specs.Ends.{read_sent, read_received}
 use Rattle.chaosd_copy.proofs.Joined.{copied_then, when_copied, get_joined}
-use Rattle.chaosd_copy.proofs.Talks.{wanted_heard}
+use Rattle.chaosd_copy.proofs.Talks.{wanted_received}
 use Rattle.chaosd_copy.proofs.Begun.{get_reading, get_closing}
 use Rattle.chaosd_copy.proofs.Ended.{unless, no_length, one_length, get_not_opened, get_not_read, get_not_closed}
 use Rattle.chaosd_copy.proofs.Quiet.{unanswered_by}
@@ -24,14 +24,14 @@ returns-clause-done g c =
     let xs = c.read_all.new.bytes.items in
     let p = when_copied _ _ c.in-Done-2.is c.in_ok-end.ensures.done in
     copied_then _ _ _ (λ e. get_joined a b m d c.args.first c.args.path.now xs
-    (wanted_heard (λ v. v.items)
+    (wanted_received (λ v. v.items)
     (λ x. Since a b (spelling_of (decimal c.args.first) file_handle (OpenRead c.args.path.now) ∷ []) (x ∷ []))
     c.in_ok-opened.opened _ _ c.in-Done.ensures.done
     (c.counted-wanted.ensures ∙ ap (λ n. reply_of (decimal c.args.first) file_handle (Opened n)) (sym p.0))
-    c.in_ok-opened.ensures.heard)
+    c.in_ok-opened.ensures.received)
     (subst
-    (λ n. Since b m (upto (read_said (c.args.first + 1)) (1 + chunk_count n))
-    (upto (read_heard (c.args.first + 1) xs) (1 + chunk_count n)))
+    (λ n. Since b m (upto (read_sent (c.args.first + 1)) (1 + chunk_count n))
+    (upto (read_received (c.args.first + 1) xs) (1 + chunk_count n)))
     (sym p.0) p.1)
     (subst
     (λ n. Since m d (spelling_of (decimal (c.args.first + 2 + chunk_count n)) file_handle Close ∷ [])
@@ -41,20 +41,20 @@ returns-clause-done g c =
     (λ n. Since m d (spelling_of (decimal (c.args.first + 2 + n)) file_handle Close ∷ [])
     (reply_of (decimal (c.args.first + 2 + n)) file_handle (Closed c.in-Some.len) ∷ []))
     c.chunk_count.ensures.value
-    (wanted_heard (λ v. v.items)
+    (wanted_received (λ v. v.items)
     (λ x. Since m d (spelling_of (decimal (c.args.first + 2 + c.chunk_count.result)) file_handle Close ∷ [])
     (x ∷ []))
-    c.in_ok-closed.closed _ _ e c.counted-all.ensures c.in_ok-closed.ensures.heard)))) c.settled-2.ensures.done
+    c.in_ok-closed.closed _ _ e c.counted-all.ensures c.in_ok-closed.ensures.received)))) c.settled-2.ensures.done
 
 pub returns-in_err-end-clause-begun : goal.returns-in_err-end-clause-begun
 returns-in_err-end-clause-begun g c =
     let fits : c.in-Some.len ≤ MAX_FILE = search rules in
     get_reading _ _ _ c.args.first c.in-Some.len c.args.path.now _ fits
-    (wanted_heard (λ v. v.items)
+    (wanted_received (λ v. v.items)
     (λ x. Since (g.T.Talk.talked c.args.talk.now) (g.T.Talk.talked c.ask_one.new.talk)
     (spelling_of (decimal c.args.first) file_handle (OpenRead c.args.path.now) ∷ []) (x ∷ []))
-    c.in_ok-opened.opened _ _ c.in-Done.ensures.done c.counted-wanted.ensures c.in_ok-opened.ensures.heard)
-    c.read_all.ensures.said
+    c.in_ok-opened.opened _ _ c.in-Done.ensures.done c.counted-wanted.ensures c.in_ok-opened.ensures.received)
+    c.read_all.ensures.sent
 
 pub returns-in_default-2 : goal.returns-in_default-2
 returns-in_default-2 g c =
@@ -62,49 +62,49 @@ returns-in_default-2 g c =
     record {
       done = search rules;
       ended = get_not_read _ _ _ c.args.first c.in-Some.len c.read_all.new.bytes.items _ c.in_ok-end.end fits
-          (wanted_heard (λ v. v.items)
+          (wanted_received (λ v. v.items)
           (λ x. Since (g.T.Talk.talked c.args.talk.now) (g.T.Talk.talked c.ask_one.new.talk)
           (spelling_of (decimal c.args.first) file_handle (OpenRead c.args.path.now) ∷ []) (x ∷ []))
-          c.in_ok-opened.opened _ _ c.in-Done.ensures.done c.counted-wanted.ensures c.in_ok-opened.ensures.heard)
+          c.in_ok-opened.opened _ _ c.in-Done.ensures.done c.counted-wanted.ensures c.in_ok-opened.ensures.received)
           c.in_ok-end.ensures.ended;
       waited = c.in_ok-end.ensures.waited;
       unfailed = omega (arith, c.in_ok-end.ensures.unfailed, c.in_ok-opened.ensures.unfailed);
       faults = tt;
       begun = get_reading _ _ _ c.args.first c.in-Some.len c.args.path.now _ fits
-          (wanted_heard (λ v. v.items)
+          (wanted_received (λ v. v.items)
           (λ x. Since (g.T.Talk.talked c.args.talk.now) (g.T.Talk.talked c.ask_one.new.talk)
           (spelling_of (decimal c.args.first) file_handle (OpenRead c.args.path.now) ∷ []) (x ∷ []))
-          c.in_ok-opened.opened _ _ c.in-Done.ensures.done c.counted-wanted.ensures c.in_ok-opened.ensures.heard)
-          c.read_all.ensures.said;
+          c.in_ok-opened.opened _ _ c.in-Done.ensures.done c.counted-wanted.ensures c.in_ok-opened.ensures.received)
+          c.read_all.ensures.sent;
     }
 
 pub returns-in_err-closed-clause-begun : goal.returns-in_err-closed-clause-begun
 returns-in_err-closed-clause-begun g c =
     let fits : c.in-Some.len ≤ MAX_FILE = search rules in
     get_closing _ _ _ _ c.args.first c.in-Some.len c.args.path.now _ _ fits
-    (wanted_heard (λ v. v.items)
+    (wanted_received (λ v. v.items)
     (λ x. Since (g.T.Talk.talked c.args.talk.now) (g.T.Talk.talked c.ask_one.new.talk)
     (spelling_of (decimal c.args.first) file_handle (OpenRead c.args.path.now) ∷ []) (x ∷ []))
-    c.in_ok-opened.opened _ _ c.in-Done.ensures.done c.counted-wanted.ensures c.in_ok-opened.ensures.heard)
+    c.in_ok-opened.opened _ _ c.in-Done.ensures.done c.counted-wanted.ensures c.in_ok-opened.ensures.received)
     (when_copied _ _ c.in-Done-2.is c.in_ok-end.ensures.done).1
     (subst
-    (λ n. SaidOrNot (g.T.Talk.talked c.read_all.new.talk) (g.T.Talk.talked c.ask_one-2.new.talk)
+    (λ n. SentOrNot (g.T.Talk.talked c.read_all.new.talk) (g.T.Talk.talked c.ask_one-2.new.talk)
     (spelling_of (decimal (c.args.first + 2 + n)) file_handle Close))
-    c.chunk_count.ensures.value c.ask_one-2.ensures.said)
+    c.chunk_count.ensures.value c.ask_one-2.ensures.sent)
 
 pub returns-clause-begun : goal.returns-clause-begun
 returns-clause-begun g c =
     let fits : c.in-Some.len ≤ MAX_FILE = search rules in
     get_closing _ _ _ _ c.args.first c.in-Some.len c.args.path.now _ _ fits
-    (wanted_heard (λ v. v.items)
+    (wanted_received (λ v. v.items)
     (λ x. Since (g.T.Talk.talked c.args.talk.now) (g.T.Talk.talked c.ask_one.new.talk)
     (spelling_of (decimal c.args.first) file_handle (OpenRead c.args.path.now) ∷ []) (x ∷ []))
-    c.in_ok-opened.opened _ _ c.in-Done.ensures.done c.counted-wanted.ensures c.in_ok-opened.ensures.heard)
+    c.in_ok-opened.opened _ _ c.in-Done.ensures.done c.counted-wanted.ensures c.in_ok-opened.ensures.received)
     (when_copied _ _ c.in-Done-2.is c.in_ok-end.ensures.done).1
     (subst
-    (λ n. SaidOrNot (g.T.Talk.talked c.read_all.new.talk) (g.T.Talk.talked c.ask_one-2.new.talk)
+    (λ n. SentOrNot (g.T.Talk.talked c.read_all.new.talk) (g.T.Talk.talked c.ask_one-2.new.talk)
     (spelling_of (decimal (c.args.first + 2 + n)) file_handle Close))
-    c.chunk_count.ensures.value c.ask_one-2.ensures.said)
+    c.chunk_count.ensures.value c.ask_one-2.ensures.sent)
 
 pub returns-in_default-clause-ended : goal.returns-in_default-clause-ended
 returns-in_default-clause-ended g c =
@@ -125,10 +125,10 @@ returns-clause-ended g c =
     let fits : c.in-Some.len ≤ MAX_FILE = search rules in
     get_not_closed _ _ _ _ c.args.first c.in-Some.len c.chunk_count.result c.read_all.new.bytes.items _ _ _ _
     c.settled-2.result fits c.chunk_count.ensures.value c.counted-all.ensures
-    (wanted_heard (λ v. v.items)
+    (wanted_received (λ v. v.items)
     (λ x. Since (g.T.Talk.talked c.args.talk.now) (g.T.Talk.talked c.ask_one.new.talk)
     (spelling_of (decimal c.args.first) file_handle (OpenRead c.args.path.now) ∷ []) (x ∷ []))
-    c.in_ok-opened.opened _ _ c.in-Done.ensures.done c.counted-wanted.ensures c.in_ok-opened.ensures.heard)
+    c.in_ok-opened.opened _ _ c.in-Done.ensures.done c.counted-wanted.ensures c.in_ok-opened.ensures.received)
     (when_copied _ _ c.in-Done-2.is c.in_ok-end.ensures.done).1 c.in_ok-closed.ensures.all c.settled-2.ensures.ended
 
 pub returns-in_default-clause-waited : goal.returns-in_default-clause-waited

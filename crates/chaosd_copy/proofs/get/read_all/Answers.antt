@@ -5,12 +5,12 @@ use Rattle.chaos_file.specs.declared.limits.TheConstants.{MAX_CHUNK}
 use Rattle.chaos_file.specs.Answer.{AtEnd}
 use Rattle.chaosd_copy.specs.Copy.{upto, reply_of, chunk_count}
 use Rattle.chaosd_copy.specs.Talk.{Since}
-use Rattle.chaosd_copy.specs.Row.{file_handle, heard_in}
-use Rattle.chaosd_copy.specs.Ends.{read_said, read_heard}
+use Rattle.chaosd_copy.specs.Row.{file_handle, received_in}
+use Rattle.chaosd_copy.specs.Ends.{read_sent, read_received}
 use Rattle.chaosd_copy.proofs.Talks.{wanted_asked}
 use Rattle.chaosd_copy.proofs.Joined.{when_copied, from_copied}
 use Rattle.chaosd_copy.proofs.Growing.{grows, ends}
-use Rattle.chaosd_copy.proofs.Begun.{said_up_to}
+use Rattle.chaosd_copy.proofs.Begun.{sent_up_to}
 use Rattle.chaosd_copy.proofs.Ended.{unless_then, piece_not_done, reads_not_done}
 use Rattle.chaosd_copy.proofs.Quiet.{unanswered_by}
 use Rattle.chaosd_copy.proofs.get.read_all.Goals as goal
@@ -22,14 +22,14 @@ loop-i-preserved g c =
     omega (arith, c.chunk_count-count.ensures.value, c.loop-i-test.true) in
     let old : length c.loop-i.bytes.items ≡ MAX_CHUNK * c.loop-i.i = c.loop-i.invariant.size ∙ omega arith in
     let size : length p.0 ≡ min (c.args.len - MAX_CHUNK * c.loop-i.i) MAX_CHUNK = p.1 ∙ c.min.ensures in
-    let h : (c.loop-i.flight.heard < c.next_reply.new.flight.said)
-    × (c.next_reply.new.flight.heard ≡ c.loop-i.flight.heard + 1) =
+    let h : (c.loop-i.flight.received < c.next_reply.new.flight.sent)
+    × (c.next_reply.new.flight.received ≡ c.loop-i.flight.received + 1) =
     wanted_asked (λ v. v.items)
-    ((c.loop-i.flight.heard < c.next_reply.new.flight.said)
-    × (c.next_reply.new.flight.heard ≡ c.loop-i.flight.heard + 1))
+    ((c.loop-i.flight.received < c.next_reply.new.flight.sent)
+    × (c.next_reply.new.flight.received ≡ c.loop-i.flight.received + 1))
     c.in_ok-reply.reply _ p.3 c.in_ok-reply.ensures.asked in
     record {
-      said = c.in_ok-reply.ensures.within;
+      sent = c.in_ok-reply.ensures.within;
       asked = omega (arith, h.0, c.loop-i.invariant.place);
       unfailed = omega (arith, c.in_ok-reply.ensures.unfailed, c.loop-i.invariant.unfailed);
       place = h.1 ∙ ap (λ n. n + 1) c.loop-i.invariant.place;
@@ -37,10 +37,10 @@ loop-i-preserved g c =
       talk =
           subst
           (λ b. Since (g.T.Talk.talked c.args.talk.now) (g.T.Talk.talked c.next_reply.new.talk)
-          (upto (read_said c.args.first) c.next_reply.new.flight.said)
-          (upto (read_heard c.args.first b) (c.loop-i.i + 1)))
+          (upto (read_sent c.args.first) c.next_reply.new.flight.sent)
+          (upto (read_received c.args.first b) (c.loop-i.i + 1)))
           (sym p.2)
-          (grows _ _ (upto (read_said c.args.first) c.next_reply.new.flight.said) c.args.first c.loop-i.i
+          (grows _ _ (upto (read_sent c.args.first) c.next_reply.new.flight.sent) c.args.first c.loop-i.i
           c.loop-i.bytes.items p.0 _ old (omega arith) (omega arith) p.3
           (c.in_ok-reply.ensures.talk _ _ c.loop-i.invariant.talk));
     }
@@ -54,32 +54,32 @@ returns-clause-done g c =
     from_copied c.settled.result _
     ((length c.loop-i.bytes.items ≡ c.args.len)
     × Since (g.T.Talk.talked c.args.talk.now) (g.T.Talk.talked c.next_reply-2.new.talk)
-    (upto (read_said c.args.first) (1 + chunk_count c.args.len))
-    (upto (read_heard c.args.first c.loop-i.bytes.items) (1 + chunk_count c.args.len)))
+    (upto (read_sent c.args.first) (1 + chunk_count c.args.len))
+    (upto (read_received c.args.first c.loop-i.bytes.items) (1 + chunk_count c.args.len)))
     c.settled.ensures.done (λ e.
-    let h : (c.loop-i.flight.heard < c.next_reply-2.new.flight.said)
-    × (c.next_reply-2.new.flight.heard ≡ c.loop-i.flight.heard + 1) =
+    let h : (c.loop-i.flight.received < c.next_reply-2.new.flight.sent)
+    × (c.next_reply-2.new.flight.received ≡ c.loop-i.flight.received + 1) =
     wanted_asked (λ v. v.items)
-    ((c.loop-i.flight.heard < c.next_reply-2.new.flight.said)
-    × (c.next_reply-2.new.flight.heard ≡ c.loop-i.flight.heard + 1))
+    ((c.loop-i.flight.received < c.next_reply-2.new.flight.sent)
+    × (c.next_reply-2.new.flight.received ≡ c.loop-i.flight.received + 1))
     c.in_ok-last.last _ e c.in_ok-last.ensures.asked in
-    let asked : c.chunk_count-count.result < c.next_reply-2.new.flight.said =
+    let asked : c.chunk_count-count.result < c.next_reply-2.new.flight.sent =
     omega (arith, h.0, c.loop-i.invariant.place, n) in
-    let within : c.next_reply-2.new.flight.said ≤ 1 + c.chunk_count-count.result = c.in_ok-last.ensures.within in
-    let said : c.next_reply-2.new.flight.said ≡ 1 + chunk_count c.args.len = omega arith in
-    let heard : c.loop-i.i + 1 ≡ 1 + chunk_count c.args.len = omega arith in (
+    let within : c.next_reply-2.new.flight.sent ≤ 1 + c.chunk_count-count.result = c.in_ok-last.ensures.within in
+    let sent : c.next_reply-2.new.flight.sent ≡ 1 + chunk_count c.args.len = omega arith in
+    let received : c.loop-i.i + 1 ≡ 1 + chunk_count c.args.len = omega arith in (
       size,
       subst
           (λ m. Since (g.T.Talk.talked c.args.talk.now) (g.T.Talk.talked c.next_reply-2.new.talk)
-          (upto (read_said c.args.first) m)
-          (upto (read_heard c.args.first c.loop-i.bytes.items) (1 + chunk_count c.args.len)))
-          said
+          (upto (read_sent c.args.first) m)
+          (upto (read_received c.args.first c.loop-i.bytes.items) (1 + chunk_count c.args.len)))
+          sent
           (subst
           (λ m. Since (g.T.Talk.talked c.args.talk.now) (g.T.Talk.talked c.next_reply-2.new.talk)
-          (upto (read_said c.args.first) c.next_reply-2.new.flight.said)
-          (upto (read_heard c.args.first c.loop-i.bytes.items) m))
-          heard
-          (ends _ _ (upto (read_said c.args.first) c.next_reply-2.new.flight.said) c.args.first c.loop-i.bytes.items
+          (upto (read_sent c.args.first) c.next_reply-2.new.flight.sent)
+          (upto (read_received c.args.first c.loop-i.bytes.items) m))
+          received
+          (ends _ _ (upto (read_sent c.args.first) c.next_reply-2.new.flight.sent) c.args.first c.loop-i.bytes.items
           c.loop-i.i _ (omega arith)
           (e
           ∙ ap Some
@@ -88,22 +88,22 @@ returns-clause-done g c =
           (c.in_ok-last.ensures.talk _ _ c.loop-i.invariant.talk))),
     ))
 
-pub returns-in_err-reply-clause-said : goal.returns-in_err-reply-clause-said
-returns-in_err-reply-clause-said g c =
-    said_up_to _ _ (read_said c.args.first) c.next_reply.new.flight.said (1 + c.chunk_count-count.result) _ _
+pub returns-in_err-reply-clause-sent : goal.returns-in_err-reply-clause-sent
+returns-in_err-reply-clause-sent g c =
+    sent_up_to _ _ (read_sent c.args.first) c.next_reply.new.flight.sent (1 + c.chunk_count-count.result) _ _
     c.next_reply.ensures.within (ap (λ n. 1 + n) c.chunk_count-count.ensures.value)
     (c.in_err-reply.ensures.fault _ _ c.loop-i.invariant.talk)
 
-pub returns-in_err-end-clause-said : goal.returns-in_err-end-clause-said
-returns-in_err-end-clause-said g c =
-    said_up_to _ _ (read_said c.args.first) c.next_reply.new.flight.said (1 + c.chunk_count-count.result) _ _
+pub returns-in_err-end-clause-sent : goal.returns-in_err-end-clause-sent
+returns-in_err-end-clause-sent g c =
+    sent_up_to _ _ (read_sent c.args.first) c.next_reply.new.flight.sent (1 + c.chunk_count-count.result) _ _
     c.next_reply.ensures.within (ap (λ n. 1 + n) c.chunk_count-count.ensures.value)
     (c.in_ok-reply.ensures.talk _ _ c.loop-i.invariant.talk)
 
 pub returns-in_default : goal.returns-in_default
 returns-in_default g c = record {
-  said =
-      said_up_to _ _ (read_said c.args.first) c.next_reply.new.flight.said (1 + c.chunk_count-count.result) _ _
+  sent =
+      sent_up_to _ _ (read_sent c.args.first) c.next_reply.new.flight.sent (1 + c.chunk_count-count.result) _ _
       c.next_reply.ensures.within (ap (λ n. 1 + n) c.chunk_count-count.ensures.value)
       (c.in_ok-reply.ensures.talk _ _ c.loop-i.invariant.talk);
   done = search rules;
@@ -120,15 +120,15 @@ returns-in_default g c = record {
   faults = tt;
 }
 
-pub returns-in_err-last-clause-said : goal.returns-in_err-last-clause-said
-returns-in_err-last-clause-said g c =
-    said_up_to _ _ (read_said c.args.first) c.next_reply-2.new.flight.said (1 + c.chunk_count-count.result) _ _
+pub returns-in_err-last-clause-sent : goal.returns-in_err-last-clause-sent
+returns-in_err-last-clause-sent g c =
+    sent_up_to _ _ (read_sent c.args.first) c.next_reply-2.new.flight.sent (1 + c.chunk_count-count.result) _ _
     c.next_reply-2.ensures.within (ap (λ n. 1 + n) c.chunk_count-count.ensures.value)
     (c.in_err-last.ensures.fault _ _ c.loop-i.invariant.talk)
 
-pub returns-clause-said : goal.returns-clause-said
-returns-clause-said g c =
-    said_up_to _ _ (read_said c.args.first) c.next_reply-2.new.flight.said (1 + c.chunk_count-count.result) _ _
+pub returns-clause-sent : goal.returns-clause-sent
+returns-clause-sent g c =
+    sent_up_to _ _ (read_sent c.args.first) c.next_reply-2.new.flight.sent (1 + c.chunk_count-count.result) _ _
     c.next_reply-2.ensures.within (ap (λ n. 1 + n) c.chunk_count-count.ensures.value)
     (c.in_ok-last.ensures.talk _ _ c.loop-i.invariant.talk)
 
@@ -139,9 +139,9 @@ returns-clause-ended g c =
     c.chunk_count-count.ensures.value c.spelled-wanted.ensures
     (subst
     (λ m. Since (g.T.Talk.talked c.args.talk.now) (g.T.Talk.talked c.next_reply-2.new.talk)
-    (upto (read_said c.args.first) c.next_reply-2.new.flight.said)
-    (upto (read_heard c.args.first c.loop-i.bytes.items) m
-    ++ heard_in (option_map (λ v. v.items) c.in_ok-last.last)))
+    (upto (read_sent c.args.first) c.next_reply-2.new.flight.sent)
+    (upto (read_received c.args.first c.loop-i.bytes.items) m
+    ++ received_in (option_map (λ v. v.items) c.in_ok-last.last)))
     n
     (c.in_ok-last.ensures.talk _ _ c.loop-i.invariant.talk)) c.settled.ensures.ended
 

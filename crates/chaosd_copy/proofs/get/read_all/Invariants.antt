@@ -4,16 +4,16 @@ use Rattle.chaos_file.specs.declared.limits.TheConstants.{MAX_CHUNK}
 use Rattle.chaosd_copy.specs.Copy.{upto}
 use Rattle.chaosd_copy.specs.Talk.{Since}
 use Rattle.chaosd_copy.specs.Row.{row_command}
-use Rattle.chaosd_copy.specs.Ends.{read_heard}
+use Rattle.chaosd_copy.specs.Ends.{read_received}
 use Rattle.chaosd_copy.proofs.get.read_all.Given as goal
 
 abbrev pub invariant-loop-i : goal.invariant-loop-i
 invariant-loop-i g l = record {
-  said : l.flight.said ≤ l.row.count;
-  asked : l.i ≤ l.flight.said;
-  place : l.flight.heard ≡ l.i;
+  sent : l.flight.sent ≤ l.row.count;
+  asked : l.i ≤ l.flight.sent;
+  place : l.flight.received ≡ l.i;
   unfailed : (g.T.Talk.course l.talk).failures ≤ (g.T.Talk.course l.fn.talk).failures;
   size : length l.bytes.items ≡ min (MAX_CHUNK * l.i) l.len;
-  talk : Since (g.T.Talk.talked l.fn.talk) (g.T.Talk.talked l.talk) (upto (row_command l.row) l.flight.said)
-      (upto (read_heard l.first l.bytes.items) l.i);
+  talk : Since (g.T.Talk.talked l.fn.talk) (g.T.Talk.talked l.talk) (upto (row_command l.row) l.flight.sent)
+      (upto (read_received l.first l.bytes.items) l.i);
 }

@@ -4,12 +4,12 @@ use Rattle.chaos_file.specs.Answer.{Closed}
 use Rattle.chaos_file.specs.Command.{OpenWrite, Close}
 use Rattle.chaos_file.specs.Spelling.{spelling_of}
 use Rattle.chaosd_copy.specs.Copy.{reply_of}
-use Rattle.chaosd_copy.specs.Talk.{Since, SaidOrNot}
+use Rattle.chaosd_copy.specs.Talk.{Since, SentOrNot}
 use Rattle.chaosd_copy.specs.Row.{file_handle}
 use Rattle.chaosd_copy.proofs.Joined.{copied_then, when_copied, put_joined}
-use Rattle.chaosd_copy.proofs.Talks.{wanted_heard}
+use Rattle.chaosd_copy.proofs.Talks.{wanted_received}
 use Rattle.chaosd_copy.proofs.Begun.{put_opening, put_writing, put_closing}
-use Rattle.chaosd_copy.proofs.Ended.{unless, put_not_opened, put_not_written, put_not_closed, put_ended_unanswered, is_heard}
+use Rattle.chaosd_copy.proofs.Ended.{unless, put_not_opened, put_not_written, put_not_closed, put_ended_unanswered, is_received}
 use Rattle.chaosd_copy.proofs.Quiet.{unanswered_by, unanswered_waited, where_none}
 use Rattle.chaosd_copy.proofs.put.put_file.Goals as goal
 
@@ -20,90 +20,90 @@ returns-clause-done g c =
     let m = g.T.Talk.talked c.write_all.new.talk in
     let d = g.T.Talk.talked c.ask_telling.new.talk in
     copied_then _ _ _ (λ e. put_joined a b m d c.args.first c.args.path.now c.args.bytes.now
-    (wanted_heard (λ v. v.items)
+    (wanted_received (λ v. v.items)
     (λ x. Since a b (spelling_of (decimal c.args.first) file_handle (OpenWrite c.args.path.now) ∷ []) (x ∷ []))
-    c.in_ok-opened.opened _ _ c.in-Done.ensures.done c.counted-wanted.ensures c.in_ok-opened.ensures.heard)
+    c.in_ok-opened.opened _ _ c.in-Done.ensures.done c.counted-wanted.ensures c.in_ok-opened.ensures.received)
     (when_copied _ _ c.in-Done-2.is c.in_ok-end.ensures.done)
     (subst
     (λ n. Since m d (spelling_of (decimal (c.args.first + 1 + n)) file_handle Close ∷ [])
     (reply_of (decimal (c.args.first + 1 + n)) file_handle (Closed (length c.args.bytes.now)) ∷ []))
     c.chunk_count.ensures.value
-    (wanted_heard (λ v. v.items)
+    (wanted_received (λ v. v.items)
     (λ x. Since m d (spelling_of (decimal (c.args.first + 1 + c.chunk_count.result)) file_handle Close ∷ [])
     (x ∷ []))
-    c.in_ok-closed.closed _ _ e c.counted-all.ensures c.in_ok-closed.ensures.heard))) c.settled-2.ensures.done
+    c.in_ok-closed.closed _ _ e c.counted-all.ensures c.in_ok-closed.ensures.received))) c.settled-2.ensures.done
 
 pub returns-in_err-opened-clause-begun : goal.returns-in_err-opened-clause-begun
 returns-in_err-opened-clause-begun g c =
-    put_opening _ _ c.args.first c.args.path.now c.args.bytes.now c.ask_one.ensures.said
+    put_opening _ _ c.args.first c.args.path.now c.args.bytes.now c.ask_one.ensures.sent
 
 pub returns-in_err-end-clause-begun : goal.returns-in_err-end-clause-begun
 returns-in_err-end-clause-begun g c =
     put_writing _ _ _ c.args.first c.args.path.now c.args.bytes.now _
-    (wanted_heard (λ v. v.items)
+    (wanted_received (λ v. v.items)
     (λ x. Since (g.T.Talk.talked c.args.talk.now) (g.T.Talk.talked c.ask_one.new.talk)
     (spelling_of (decimal c.args.first) file_handle (OpenWrite c.args.path.now) ∷ []) (x ∷ []))
-    c.in_ok-opened.opened _ _ c.in-Done.ensures.done c.counted-wanted.ensures c.in_ok-opened.ensures.heard)
-    c.write_all.ensures.said
+    c.in_ok-opened.opened _ _ c.in-Done.ensures.done c.counted-wanted.ensures c.in_ok-opened.ensures.received)
+    c.write_all.ensures.sent
 
 pub returns-in_default-2 : goal.returns-in_default-2
 returns-in_default-2 g c = record {
   done = search rules;
   ended = put_not_written _ _ _ c.args.first c.args.path.now c.args.bytes.now _ c.in_ok-end.end
-      (wanted_heard (λ v. v.items)
+      (wanted_received (λ v. v.items)
       (λ x. Since (g.T.Talk.talked c.args.talk.now) (g.T.Talk.talked c.ask_one.new.talk)
       (spelling_of (decimal c.args.first) file_handle (OpenWrite c.args.path.now) ∷ []) (x ∷ []))
-      c.in_ok-opened.opened _ _ c.in-Done.ensures.done c.counted-wanted.ensures c.in_ok-opened.ensures.heard)
+      c.in_ok-opened.opened _ _ c.in-Done.ensures.done c.counted-wanted.ensures c.in_ok-opened.ensures.received)
       c.in_ok-end.ensures.ended;
   waited = c.in_ok-end.ensures.waited;
   unfailed = omega (arith, c.in_ok-end.ensures.unfailed, c.in_ok-opened.ensures.unfailed);
   faults = tt;
   begun = put_writing _ _ _ c.args.first c.args.path.now c.args.bytes.now _
-      (wanted_heard (λ v. v.items)
+      (wanted_received (λ v. v.items)
       (λ x. Since (g.T.Talk.talked c.args.talk.now) (g.T.Talk.talked c.ask_one.new.talk)
       (spelling_of (decimal c.args.first) file_handle (OpenWrite c.args.path.now) ∷ []) (x ∷ []))
-      c.in_ok-opened.opened _ _ c.in-Done.ensures.done c.counted-wanted.ensures c.in_ok-opened.ensures.heard)
-      c.write_all.ensures.said;
+      c.in_ok-opened.opened _ _ c.in-Done.ensures.done c.counted-wanted.ensures c.in_ok-opened.ensures.received)
+      c.write_all.ensures.sent;
 }
 
 pub returns-in_err-closed-clause-begun : goal.returns-in_err-closed-clause-begun
 returns-in_err-closed-clause-begun g c =
     put_closing _ _ _ _ c.args.first c.args.path.now c.args.bytes.now
-    (wanted_heard (λ v. v.items)
+    (wanted_received (λ v. v.items)
     (λ x. Since (g.T.Talk.talked c.args.talk.now) (g.T.Talk.talked c.ask_one.new.talk)
     (spelling_of (decimal c.args.first) file_handle (OpenWrite c.args.path.now) ∷ []) (x ∷ []))
-    c.in_ok-opened.opened _ _ c.in-Done.ensures.done c.counted-wanted.ensures c.in_ok-opened.ensures.heard)
+    c.in_ok-opened.opened _ _ c.in-Done.ensures.done c.counted-wanted.ensures c.in_ok-opened.ensures.received)
     (when_copied _ _ c.in-Done-2.is c.in_ok-end.ensures.done)
     (subst
-    (λ n. SaidOrNot (g.T.Talk.talked c.write_all.new.talk) (g.T.Talk.talked c.ask_telling.new.talk)
+    (λ n. SentOrNot (g.T.Talk.talked c.write_all.new.talk) (g.T.Talk.talked c.ask_telling.new.talk)
     (spelling_of (decimal (c.args.first + 1 + n)) file_handle Close))
-    c.chunk_count.ensures.value c.ask_telling.ensures.said)
+    c.chunk_count.ensures.value c.ask_telling.ensures.sent)
 
 pub returns-then-is_none-clause-begun : goal.returns-then-is_none-clause-begun
 returns-then-is_none-clause-begun g c =
     put_closing _ _ _ _ c.args.first c.args.path.now c.args.bytes.now
-    (wanted_heard (λ v. v.items)
+    (wanted_received (λ v. v.items)
     (λ x. Since (g.T.Talk.talked c.args.talk.now) (g.T.Talk.talked c.ask_one.new.talk)
     (spelling_of (decimal c.args.first) file_handle (OpenWrite c.args.path.now) ∷ []) (x ∷ []))
-    c.in_ok-opened.opened _ _ c.in-Done.ensures.done c.counted-wanted.ensures c.in_ok-opened.ensures.heard)
+    c.in_ok-opened.opened _ _ c.in-Done.ensures.done c.counted-wanted.ensures c.in_ok-opened.ensures.received)
     (when_copied _ _ c.in-Done-2.is c.in_ok-end.ensures.done)
     (subst
-    (λ n. SaidOrNot (g.T.Talk.talked c.write_all.new.talk) (g.T.Talk.talked c.ask_telling.new.talk)
+    (λ n. SentOrNot (g.T.Talk.talked c.write_all.new.talk) (g.T.Talk.talked c.ask_telling.new.talk)
     (spelling_of (decimal (c.args.first + 1 + n)) file_handle Close))
-    c.chunk_count.ensures.value c.ask_telling.ensures.said)
+    c.chunk_count.ensures.value c.ask_telling.ensures.sent)
 
 pub returns-clause-begun : goal.returns-clause-begun
 returns-clause-begun g c =
     put_closing _ _ _ _ c.args.first c.args.path.now c.args.bytes.now
-    (wanted_heard (λ v. v.items)
+    (wanted_received (λ v. v.items)
     (λ x. Since (g.T.Talk.talked c.args.talk.now) (g.T.Talk.talked c.ask_one.new.talk)
     (spelling_of (decimal c.args.first) file_handle (OpenWrite c.args.path.now) ∷ []) (x ∷ []))
-    c.in_ok-opened.opened _ _ c.in-Done.ensures.done c.counted-wanted.ensures c.in_ok-opened.ensures.heard)
+    c.in_ok-opened.opened _ _ c.in-Done.ensures.done c.counted-wanted.ensures c.in_ok-opened.ensures.received)
     (when_copied _ _ c.in-Done-2.is c.in_ok-end.ensures.done)
     (subst
-    (λ n. SaidOrNot (g.T.Talk.talked c.write_all.new.talk) (g.T.Talk.talked c.ask_telling.new.talk)
+    (λ n. SentOrNot (g.T.Talk.talked c.write_all.new.talk) (g.T.Talk.talked c.ask_telling.new.talk)
     (spelling_of (decimal (c.args.first + 1 + n)) file_handle Close))
-    c.chunk_count.ensures.value c.ask_telling.ensures.said)
+    c.chunk_count.ensures.value c.ask_telling.ensures.sent)
 
 pub returns-in_default-clause-ended : goal.returns-in_default-clause-ended
 returns-in_default-clause-ended g c =
@@ -116,19 +116,19 @@ returns-then-is_none-clause-ended g c =
     unless c.unanswered.result _
     (rw c.unanswered.ensures
     (put_ended_unanswered _ _ _ _ c.args.first c.chunk_count.result c.args.path.now c.args.bytes.now
-    c.ask_telling.new.is_said
+    c.ask_telling.new.is_sent
     c.chunk_count.ensures.value
-    (wanted_heard (λ v. v.items)
+    (wanted_received (λ v. v.items)
     (λ x. Since (g.T.Talk.talked c.args.talk.now) (g.T.Talk.talked c.ask_one.new.talk)
     (spelling_of (decimal c.args.first) file_handle (OpenWrite c.args.path.now) ∷ []) (x ∷ []))
-    c.in_ok-opened.opened _ _ c.in-Done.ensures.done c.counted-wanted.ensures c.in_ok-opened.ensures.heard)
+    c.in_ok-opened.opened _ _ c.in-Done.ensures.done c.counted-wanted.ensures c.in_ok-opened.ensures.received)
     (when_copied _ _ c.in-Done-2.is c.in_ok-end.ensures.done)
     (where_none c.in_ok-closed.closed _ none c.in_ok-closed.ensures.known)))
 
 pub returns-then-is_none-clause-waited : goal.returns-then-is_none-clause-waited
 returns-then-is_none-clause-waited g c =
     let none : c.in_ok-closed.closed ≡ None = search rules in
-    unanswered_waited c.in_ok-closed.closed c.unanswered.result c.ask_telling.new.is_said _ _ c.unanswered.ensures none
+    unanswered_waited c.in_ok-closed.closed c.unanswered.result c.ask_telling.new.is_sent _ _ c.unanswered.ensures none
     c.in_ok-closed.ensures.waited (λ w. (c.write_all.new.talk, w))
 
 pub returns-in_default-clause-waited : goal.returns-in_default-clause-waited
@@ -144,10 +144,10 @@ returns-clause-waited g c =
 pub returns-clause-ended : goal.returns-clause-ended
 returns-clause-ended g c =
     put_not_closed _ _ _ _ c.args.first c.chunk_count.result c.args.path.now c.args.bytes.now _ _ _ _ c.settled-2.result
-    (is_heard (λ v. v.items) c.in_ok-closed.closed _ c.is_none.ensures c.if-is_none.false)
+    (is_received (λ v. v.items) c.in_ok-closed.closed _ c.is_none.ensures c.if-is_none.false)
     c.chunk_count.ensures.value c.counted-all.ensures
-    (wanted_heard (λ v. v.items)
+    (wanted_received (λ v. v.items)
     (λ x. Since (g.T.Talk.talked c.args.talk.now) (g.T.Talk.talked c.ask_one.new.talk)
     (spelling_of (decimal c.args.first) file_handle (OpenWrite c.args.path.now) ∷ []) (x ∷ []))
-    c.in_ok-opened.opened _ _ c.in-Done.ensures.done c.counted-wanted.ensures c.in_ok-opened.ensures.heard)
+    c.in_ok-opened.opened _ _ c.in-Done.ensures.done c.counted-wanted.ensures c.in_ok-opened.ensures.received)
     (when_copied _ _ c.in-Done-2.is c.in_ok-end.ensures.done) c.in_ok-closed.ensures.all c.settled-2.ensures.ended

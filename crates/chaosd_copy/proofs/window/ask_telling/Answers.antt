@@ -1,37 +1,37 @@
 use Rattle.std.proofs.Common.{arith, ap, [], ◌+◌, ◌≡◌}
-use Rattle.chaosd_copy.specs.Row.{errand_command}
+use Rattle.chaosd_copy.specs.Row.{request_command}
 use Rattle.chaosd_copy.proofs.Talks.{asked_one, since_none}
 use Rattle.chaosd_copy.proofs.Begun.{asked_or_not}
-use Rattle.chaosd_copy.proofs.Ended.{heard_ok}
+use Rattle.chaosd_copy.proofs.Ended.{received_ok}
 use Rattle.chaosd_copy.proofs.Quiet.{known}
 use Rattle.chaosd_copy.proofs.window.ask_telling.Goals as goal
 
-pub returns-clause-heard : goal.returns-clause-heard
-returns-clause-heard g c =
+pub returns-clause-received : goal.returns-clause-received
+returns-clause-received g c =
     let e : c.args.tid + 0 ≡ c.args.tid = omega arith in
-    asked_one (λ v. v.items) _ _ _ _ _ (errand_command c.args.errand 0 c.args.tid) c.next_reply-reply.result
-    (ap (errand_command c.args.errand 0) e)
+    asked_one (λ v. v.items) _ _ _ _ _ (request_command c.args.request 0 c.args.tid) c.next_reply-reply.result
+    (ap (request_command c.args.request 0) e)
     c.next_reply-reply.ensures.asked c.next_reply-reply.ensures.within
     (c.next_reply-reply.ensures.talk (g.T.Talk.talked c.args.talk.now) [] (since_none _))
 
-pub returns-clause-said : goal.returns-clause-said
-returns-clause-said g c =
+pub returns-clause-sent : goal.returns-clause-sent
+returns-clause-sent g c =
     let e : c.args.tid + 0 ≡ c.args.tid = omega arith in
-    asked_or_not (λ v. v.items) _ _ _ _ (errand_command c.args.errand 0 c.args.tid) c.next_reply-reply.result
-    (ap (errand_command c.args.errand 0) e)
+    asked_or_not (λ v. v.items) _ _ _ _ (request_command c.args.request 0 c.args.tid) c.next_reply-reply.result
+    (ap (request_command c.args.request 0) e)
     c.next_reply-reply.ensures.within
     (c.next_reply-reply.ensures.talk (g.T.Talk.talked c.args.talk.now) [] (since_none _))
     (c.next_reply-reply.ensures.fault (g.T.Talk.talked c.args.talk.now) [] (since_none _))
 
 pub returns-clause-all : goal.returns-clause-all
 returns-clause-all g c =
-    heard_ok (λ v. v.items) _ _ _ c.next_reply-reply.result
+    received_ok (λ v. v.items) _ _ _ c.next_reply-reply.result
     (c.next_reply-reply.ensures.talk (g.T.Talk.talked c.args.talk.now) [] (since_none _))
 
 pub returns-clause-known : goal.returns-clause-known
 returns-clause-known g c =
     let e : c.args.tid + 0 ≡ c.args.tid = omega arith in
-    known (λ v. v.items) _ _ _ c.next_reply-reply.new.flight.said _ (errand_command c.args.errand 0 c.args.tid)
-    c.next_reply-reply.result (ap (errand_command c.args.errand 0) e)
+    known (λ v. v.items) _ _ _ c.next_reply-reply.new.flight.sent _ (request_command c.args.request 0 c.args.tid)
+    c.next_reply-reply.result (ap (request_command c.args.request 0) e)
     c.next_reply-reply.ensures.within (λ h. grind (arith, h)) (λ h. grind (arith, h))
     (c.next_reply-reply.ensures.talk (g.T.Talk.talked c.args.talk.now) [] (since_none _))

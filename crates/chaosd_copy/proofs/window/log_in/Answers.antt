@@ -2,16 +2,16 @@ use Rattle.std.proofs.Common.{[], ◌∷◌}
 use Rattle.chaosd_copy.specs.Talk.{Since}
 use Rattle.chaosd_copy.specs.Ends.{login_command}
 use Rattle.chaosd_copy.proofs.Joined.{copied_then}
-use Rattle.chaosd_copy.proofs.Talks.{wanted_heard}
+use Rattle.chaosd_copy.proofs.Talks.{wanted_received}
 use Rattle.chaosd_copy.proofs.Quiet.{unanswered_by}
 use Rattle.chaosd_copy.proofs.window.log_in.Goals as goal
 
 pub returns-clause-done : goal.returns-clause-done
 returns-clause-done g c =
-    copied_then _ _ _ (λ e. wanted_heard (λ v. v.items)
+    copied_then _ _ _ (λ e. wanted_received (λ v. v.items)
     (λ x. Since (g.T.Talk.talked c.args.talk.now) (g.T.Talk.talked c.ask_one.new.talk)
     (login_command c.args.name.now ∷ []) (x ∷ []))
-    c.in_ok-reply.reply _ _ e c.spelled-wanted.ensures c.in_ok-reply.ensures.heard) c.settled.ensures.done
+    c.in_ok-reply.reply _ _ e c.spelled-wanted.ensures c.in_ok-reply.ensures.received) c.settled.ensures.done
 
 pub returns-clause-waited : goal.returns-clause-waited
 returns-clause-waited g c =

@@ -1,52 +1,52 @@
 use Rattle.std.proofs.Common.{rules, arith, ap, sym, subst, ◌∙◌, ◌≡◌, None, inl, inr}
-use Rattle.chaosd_copy.proofs.Talks.{heard_next, heard_none, nothing_more, on_err}
-use Rattle.chaosd_copy.specs.Talk.{Turned, heard_of}
-use Rattle.chaosd_copy.proofs.Quiet.{unheard_is_quiet, turned_more, late, latest}
+use Rattle.chaosd_copy.proofs.Talks.{received_next, received_none, nothing_more, on_err}
+use Rattle.chaosd_copy.specs.Talk.{Turned, received_of}
+use Rattle.chaosd_copy.proofs.Quiet.{unreceived_is_quiet, turned_more, late, latest}
 use Rattle.chaosd_copy.proofs.window.next_reply.Goals as goal
 use Rattle.chaosd_copy.proofs.window.next_reply.Goals.{then-is_over-via-then-is_over, then-is_over-via-else-is_over+then-is_late}
 
 pub returns-in-Some-clause-talk : goal.returns-in-Some-clause-talk
 returns-in-Some-clause-talk g c = λ start replies h.
-    heard_next (λ v. v.items) start _ _ _ replies c.hear_asked.result c.in-Some.reply
-    (c.loop-turns.invariant.talk start replies h) c.hear_asked.ensures.talk c.in-Some.is
+    received_next (λ v. v.items) start _ _ _ replies c.receive_asked.result c.in-Some.reply
+    (c.loop-turns.invariant.talk start replies h) c.receive_asked.ensures.talk c.in-Some.is
 
 pub returns-then-is_over-clause-talk : goal.returns-then-is_over-clause-talk
 returns-then-is_over-clause-talk g c = λ start replies h.
-    let none : c.hear_asked.result ≡ None = search rules in
+    let none : c.receive_asked.result ≡ None = search rules in
     nothing_more start _ _ replies
-    (heard_none (λ v. v.items) start _ _ _ replies c.hear_asked.result (c.loop-turns.invariant.talk start replies h)
-    c.hear_asked.ensures.talk none)
+    (received_none (λ v. v.items) start _ _ _ replies c.receive_asked.result (c.loop-turns.invariant.talk start replies h)
+    c.receive_asked.ensures.talk none)
 
 pub loop-turns-preserved : goal.loop-turns-preserved
 loop-turns-preserved g c =
-    let none : c.hear_asked.result ≡ None = search rules in
+    let none : c.receive_asked.result ≡ None = search rules in
     record {
-      within = c.say_on.ensures.within;
-      place = c.say_on.ensures.place ∙ c.loop-turns.invariant.place;
-      talk = λ start replies h. c.turn.ensures.silent ∙ c.say_on.ensures.talk start replies
-          (heard_none (λ v. v.items) start _ _ _ replies c.hear_asked.result
-          (c.loop-turns.invariant.talk start replies h) c.hear_asked.ensures.talk none);
+      within = c.send_on.ensures.within;
+      place = c.send_on.ensures.place ∙ c.loop-turns.invariant.place;
+      talk = λ start replies h. c.turn.ensures.silent ∙ c.send_on.ensures.talk start replies
+          (received_none (λ v. v.items) start _ _ _ replies c.receive_asked.result
+          (c.loop-turns.invariant.talk start replies h) c.receive_asked.ensures.talk none);
       quiet =
-          ap heard_of c.turn.ensures.silent ∙ c.say_on.ensures.quiet
-          ∙ unheard_is_quiet (λ v. v.items) c.hear_asked.result _ _ none c.hear_asked.ensures.talk
+          ap received_of c.turn.ensures.silent ∙ c.send_on.ensures.quiet
+          ∙ unreceived_is_quiet (λ v. v.items) c.receive_asked.result _ _ none c.receive_asked.ensures.talk
           ∙ c.loop-turns.invariant.quiet;
       unfailed =
           omega
-          (arith, c.in_ok-turn.ensures.unfailed, c.say_on.ensures.unfailed, c.hear_asked.ensures.unfailed, c.loop-turns.invariant.unfailed);
+          (arith, c.in_ok-turn.ensures.unfailed, c.send_on.ensures.unfailed, c.receive_asked.ensures.unfailed, c.loop-turns.invariant.unfailed);
       turned = turned_more _ _ _ _ c.loop-turns.invariant.turned
           (subst (λ b. Turned 1 b (g.T.Talk.course c.turn.new.self).turns)
-          (c.say_on.ensures.still ∙ c.hear_asked.ensures.still) c.turn.ensures.counted);
+          (c.send_on.ensures.still ∙ c.receive_asked.ensures.still) c.turn.ensures.counted);
     }
 
 pub returns-then-is_over-clause-waited : goal.returns-then-is_over-clause-waited
 returns-then-is_over-clause-waited g c =
-    let none : c.hear_asked.result ≡ None = search rules in (
-      unheard_is_quiet (λ v. v.items) c.hear_asked.result _ _ none c.hear_asked.ensures.talk
+    let none : c.receive_asked.result ≡ None = search rules in (
+      unreceived_is_quiet (λ v. v.items) c.receive_asked.result _ _ none c.receive_asked.ensures.talk
           ∙ c.loop-turns.invariant.quiet,
       elim c.then-is_over.branch [
         | then-is_over-via-then-is_over w ↦ inl (sym c.is_over.ensures ∙ w.if-is_over.true)
         | then-is_over-via-else-is_over+then-is_late w ↦ inr
-            (late _ _ _ _ _ _ _ c.loop-turns.invariant.turned c.hear_asked.ensures.still c.moment-since.ensures
+            (late _ _ _ _ _ _ _ c.loop-turns.invariant.turned c.receive_asked.ensures.still c.moment-since.ensures
             (w.is_late.ensures w.if-is_late.true))
       ],
     )
@@ -62,7 +62,7 @@ returns-clause-talk g c =
 
 pub returns-in_err-turn-clause-fault : goal.returns-in_err-turn-clause-fault
 returns-in_err-turn-clause-fault g c = λ start replies h.
-    let none : c.hear_asked.result ≡ None = search rules in
-    on_err c.from_residual.result _ (c.turn.ensures.silent ∙ c.say_on.ensures.talk start replies
-    (heard_none (λ v. v.items) start _ _ _ replies c.hear_asked.result (c.loop-turns.invariant.talk start replies h)
-    c.hear_asked.ensures.talk none))
+    let none : c.receive_asked.result ≡ None = search rules in
+    on_err c.from_residual.result _ (c.turn.ensures.silent ∙ c.send_on.ensures.talk start replies
+    (received_none (λ v. v.items) start _ _ _ replies c.receive_asked.result (c.loop-turns.invariant.talk start replies h)
+    c.receive_asked.ensures.talk none))

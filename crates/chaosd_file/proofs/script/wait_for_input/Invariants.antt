@@ -3,7 +3,7 @@ use Rattle.chaosd_file.specs.Asking.{Idles}
 use Rattle.file_client.specs.Talk.{talker}
 use Rattle.chaosd_file.proofs.script.wait_for_input.Given as goal
 
--- nothing was said, heard or read
+-- nothing was sent, received or read
 abbrev pub invariant-loop-turn : goal.invariant-loop-turn
 invariant-loop-turn g l = record {
   same_links : g.T.Turns.links l.turns ≡ g.T.Turns.links l.fn.turns;

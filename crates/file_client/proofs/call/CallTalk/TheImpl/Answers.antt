@@ -2,6 +2,6 @@ use Rattle.std.proofs.Common.{ap, sym}
 use Rattle.chaosd_copy.specs.Talk.{counted}
 use Rattle.file_client.proofs.call.CallTalk.TheImpl.Goals as goal
 
-pub hear-tells : goal.hear-tells
-hear-tells g c =
-    record { heard = sym c.ensures.talk; still = ap counted c.ensures.still; unfailed = c.ensures.unfailed }
+pub receive-tells : goal.receive-tells
+receive-tells g c =
+    record { received = sym c.ensures.talk; still = ap counted c.ensures.still; unfailed = c.ensures.unfailed }

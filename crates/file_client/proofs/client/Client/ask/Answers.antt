@@ -1,6 +1,6 @@
 use Rattle.std.proofs.Common.{◌+◌, false, sym, inr, ◌∙◌, arith}
 use Rattle.file_client.specs.Talk.{command_item}
-use Rattle.file_client.proofs.Talking.{talks_again, talks_unheard, exchange_done, exchange_none}
+use Rattle.file_client.proofs.Talking.{talks_again, talks_unreceived, exchange_done, exchange_none}
 use Rattle.file_client.proofs.client.Client.ask.Goals as goal
 
 pub returns-then-take_behind-clause-talk : goal.returns-then-take_behind-clause-talk
@@ -15,7 +15,7 @@ returns-then-take_behind-clause-talk g c =
     (c.loop-turn.turn + 1) (c.take_behind.ensures.written c.if-take_behind.true) again
     (rw (c.if-take_behind.true, time) at c.take_behind.ensures.talk)
 
--- what was written so far, and nothing was heard
+-- what was written so far, and nothing was received
 pub returns-then-is_over-clause-talk : goal.returns-then-is_over-clause-talk
 returns-then-is_over-clause-talk g c =
     let item = command_item c.args.command.now in
@@ -24,10 +24,10 @@ returns-then-is_over-clause-talk g c =
     let again =
     talks_again pace _ _ _ item c.loop-turn.is_written c.in_ok-is_written.is_written c.loop-turn.turn
     c.loop-turn.invariant.talk (rw c.loop-turn.invariant.same_time at c.in_ok-is_written.ensures.talk) in
-    let unheard =
-    talks_unheard pace _ _ _ item false c.in_ok-is_written.is_written (c.loop-turn.turn + 1) again
+    let unreceived =
+    talks_unreceived pace _ _ _ item false c.in_ok-is_written.is_written (c.loop-turn.turn + 1) again
     (rw (c.if-take_behind.false, time) at c.take_behind.ensures.talk) in
-    exchange_none pace _ _ c.args.command.now c.in_ok-is_written.is_written (c.loop-turn.turn + 1) unheard
+    exchange_none pace _ _ c.args.command.now c.in_ok-is_written.is_written (c.loop-turn.turn + 1) unreceived
     (inr (sym c.is_over.ensures ∙ c.if-is_over.true))
 
 pub loop-turn-preserved : goal.loop-turn-preserved
@@ -44,6 +44,6 @@ loop-turn-preserved g c =
       same_time = (c.in_ok-is_written.ensures.same_turns.1 ∙ c.loop-turn.invariant.same_time);
       unfailed = (omega (arith, c.loop-turn.invariant.unfailed, c.in_ok-is_written.ensures.unfailed));
       talk =
-          talks_unheard pace _ _ _ item false c.in_ok-is_written.is_written (c.loop-turn.turn + 1) again
+          talks_unreceived pace _ _ _ item false c.in_ok-is_written.is_written (c.loop-turn.turn + 1) again
           (rw (c.if-take_behind.false, time) at c.take_behind.ensures.talk);
     }

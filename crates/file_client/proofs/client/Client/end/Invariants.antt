@@ -2,7 +2,7 @@ use Rattle.std.proofs.Common.{◌≡◌, ◌≤◌, false}
 use Rattle.file_client.specs.Talk.{WritesAndTurns, eof_item, talker}
 use Rattle.file_client.proofs.client.Client.end.Given as goal
 
--- the EOF was written at most once, and nothing was heard
+-- the EOF was written at most once, and nothing was received
 abbrev pub invariant-loop-turn : goal.invariant-loop-turn
 invariant-loop-turn g l = record {
   shown : (g.T.Turns.pace (g.T.Turns.time l.fn.turns)).Shows l.self.now;

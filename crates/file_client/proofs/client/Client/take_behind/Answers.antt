@@ -8,4 +8,4 @@ pub returns-clause-talk : goal.returns-clause-talk
 returns-clause-talk g c =
     let first = talker c.args.self.now.caller (g.T.Turns.queue c.args.turns.now) in
     let last = talker c.take.new.self.caller (g.T.Turns.queue c.args.turns.now) in
-    talks_reading _ first last (taken c.take.result c.take.new.reply.items) (c.take.ensures.heard, refl)
+    talks_reading _ first last (taken c.take.result c.take.new.reply.items) (c.take.ensures.received, refl)

@@ -11,4 +11,4 @@ returns-clause-talk g c =
     let last = talker c.write.new.self.caller (g.T.Turns.queue c.args.turns.now) in
     rw c.if-is_written.false
     (talks_writing _ first last item c.args.self.now.now c.write.result
-    (c.requires.moment, c.write.ensures.said, refl))
+    (c.requires.moment, c.write.ensures.sent, refl))

@@ -2,10 +2,10 @@ use Rattle.std.proofs.Common.{sym, subst}
 use Rattle.chaosd_copy.specs.Copy.{upto}
 use Rattle.chaosd_copy.specs.Talk.{Since}
 use Rattle.chaosd_copy.specs.Row.{row_command}
-use Rattle.chaosd_copy.proofs.window.say_on.Goals as goal
+use Rattle.chaosd_copy.proofs.window.send_on.Goals as goal
 
 pub returns-clause-talk : goal.returns-clause-talk
 returns-clause-talk g c = λ start replies h.
-    subst (λ n. Since start (g.T.Talk.talked c.say_more-said.new.talk) (upto (row_command c.args.row.now) n) replies)
-    (sym c.note.ensures.said)
-    (c.say_more-said.ensures.talk start replies h)
+    subst (λ n. Since start (g.T.Talk.talked c.send_more-sent.new.talk) (upto (row_command c.args.row.now) n) replies)
+    (sym c.note.ensures.sent)
+    (c.send_more-sent.ensures.talk start replies h)

@@ -8,16 +8,16 @@ use std::fmt::{Display, Formatter};
 
 /// What a client keeps of its wait for a reply.
 #[derive(Drop)]
-pub(crate) struct Patience {
+pub(crate) struct ReplyTimer {
     since: u64,
     waited: u64,
     is_open: bool,
     end: Option<Delivered>,
 }
 
-impl Patience {
+impl ReplyTimer {
     pub(crate) fn new() -> Self {
-        Patience {
+        ReplyTimer {
             since: 0,
             waited: 0,
             is_open: false,

@@ -1,12 +1,12 @@
 use Rattle.std.proofs.Common.{rules, ap, ◌∙◌, ◌++◌, [], ◌∷◌}
 use Rattle.chaosd_copy.proofs.Memory.{serves_next}
-use Rattle.chaosd_copy.proofs.mem_talk.MemTalkTalk.say.Goals as goal
+use Rattle.chaosd_copy.proofs.mem_talk.MemTalkTalk.send.Goals as goal
 
 pub invariant_of-self-2 : goal.invariant_of-self-2
 invariant_of-self-2 c = record {
   within = search rules;
   honest =
-      serves_next (λ v. v.items) _ _ _ _ _ _ c.args.self.now.said.items _ c.args.self.now.replies.items _ c.kept.result
+      serves_next (λ v. v.items) _ _ _ _ _ _ c.args.self.now.sent.items _ c.args.self.now.replies.items _ c.kept.result
       c.in-Some.reply c.args.command.now
       c.args.self.now.honest
       (c.push_reserved.ensures.items ∙ ap (λ l. l ++ c.kept.result ∷ []) c.reserve.ensures.items)

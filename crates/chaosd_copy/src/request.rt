@@ -2,15 +2,15 @@
 ghost use Rattle.std.specs.Prelude.{◌≡◌, ◌≤◌, ◌<◌, ◌+◌, ◌*◌, length, take, drop};
 ghost use Rattle.chaos_file.specs.declared.limits.TheConstants.{MAX_REPLY, MAX_CHUNK};
 ghost use Rattle.chaosd_copy.specs.Copy.{chunk};
-ghost use Rattle.chaosd_copy.specs.Row.{ErrandFits, errand_command};
+ghost use Rattle.chaosd_copy.specs.Row.{RequestFits, request_command};
 
 use crate::limits::HANDLE;
 use crate::words::{paired, spelled};
 use chaos_file::{MAX_CHUNK, Reply};
 
-/// A command that is said once, or again and again.
+/// A command that is sent once, or again and again.
 #[derive(Clone, Copy)]
-pub enum Errand<'a> {
+pub enum Request<'a> {
     Login(&'a [u8]),
     OpenRead(&'a [u8]),
     OpenWrite(&'a [u8]),
@@ -55,26 +55,26 @@ fn piece(bytes: &[u8], i: usize) -> &[u8]
     at_most(behind(bytes, MAX_CHUNK * i), MAX_CHUNK)
 }
 
-impl Errand<'_> {
-    /// The command that is said at a place of the row, which is named by this number.
+impl Request<'_> {
+    /// The command that is sent at a place of the row, which is named by this number.
     #[tactic(auto, using(crate::proofs::Spelled::front_spelled))]
     pub fn command(&self, i: usize, tid: u32) -> Reply
         requires place { i ≤ 1000000 }
         requires tid { tid < 100000000 }
-        requires fits { ErrandFits self.now }
-        ensures { result.items ≡ errand_command self.now i tid }
+        requires fits { RequestFits self.now }
+        ensures { result.items ≡ request_command self.now i tid }
     {
         match self {
-            Errand::Login(name) => spelled(tid, b"", b"LOGIN ", name),
-            Errand::OpenRead(path) => spelled(tid, HANDLE, b"OPEN READ\x8d", path),
-            Errand::OpenWrite(path) => spelled(tid, HANDLE, b"OPEN WRITE\x8d", path),
-            Errand::Read => spelled(tid, HANDLE, b"READ", b""),
-            Errand::Write(bytes) => spelled(tid, HANDLE, b"WRITE\x8d", piece(bytes, i)),
-            Errand::Close => spelled(tid, HANDLE, b"CLOSE", b""),
-            Errand::Rename(old, new) => {
+            Request::Login(name) => spelled(tid, b"", b"LOGIN ", name),
+            Request::OpenRead(path) => spelled(tid, HANDLE, b"OPEN READ\x8d", path),
+            Request::OpenWrite(path) => spelled(tid, HANDLE, b"OPEN WRITE\x8d", path),
+            Request::Read => spelled(tid, HANDLE, b"READ", b""),
+            Request::Write(bytes) => spelled(tid, HANDLE, b"WRITE\x8d", piece(bytes, i)),
+            Request::Close => spelled(tid, HANDLE, b"CLOSE", b""),
+            Request::Rename(old, new) => {
                 spelled(tid, b"", b"RENAME\x8d", paired(old, new).as_slice())
             }
-            Errand::Delete(path) => spelled(tid, b"", b"DELETE\x8d", path),
+            Request::Delete(path) => spelled(tid, b"", b"DELETE\x8d", path),
         }
     }
 }
