@@ -2,11 +2,16 @@
 ghost use Rattle.std.specs.Prelude.{option_map};
 ghost use Rattle.chaosd.specs.Paths.{path_under};
 
-use crate::at_server::{Screen, ServerSession, Work, run_at_server};
+use crate::dialog::CallDialog;
 use crate::file_words::{FileWords, PUT_UNKNOWN};
-use crate::network::has_input;
+use crate::network::{has_input, link_to_server};
+use crate::patient::Patient;
+use crate::progress::ProgressLine;
+use crate::run_ends::{tell_unbegun, tell_unopened};
+use crate::waiting::Waiting;
+use chaos_link::UdpLink;
 use chaosd_clock::Dial;
-use chaosd_copies::{Disk, ExitStatus, FilePath, Gets, Naming, Puts, Target, run_copies};
+use chaosd_copies::{Disk, ExitStatus, FilePath, Gets, Naming, Puts, Session, Target, run_copies};
 use chaosd_io::RunFault;
 use chaosd_line::{Copying, Get, Put, path_for};
 use std::fs::File;
@@ -16,58 +21,23 @@ use std::rt::Files;
 /// The name of standard input.
 const STREAM: &str = "-";
 
-/// What a user's screen shows while files are copied.
-fn screen_of(copying: &Copying<'_>, is_terminal: bool) -> Screen {
-    let is_shown = is_terminal && !copying.is_quiet;
-    Screen {
-        waits: is_shown,
-        progress: is_shown,
-        is_quiet: copying.is_quiet,
-    }
+/// Whether a user is told of each file that was copied.
+fn is_told(copying: &Copying<'_>, is_terminal: bool) -> bool {
+    copying.is_verbose || (is_terminal && !copying.is_quiet)
 }
 
-/// Whoever tells of the files of a copy: of each that was copied only where that is wanted.
-fn words_of<'a, 't, R: Eprint>(
+/// Whoever is shown how far a file has come.
+fn progress_of<'a, R: AllocGlobal + Eprint>(
     rt: &'a R,
     copying: &Copying<'_>,
     is_terminal: bool,
-    target: Target<'t>,
-) -> FileWords<'a, 't, R> {
-    FileWords {
+) -> ProgressLine<'a, R> {
+    ProgressLine::new(
         rt,
-        is_told: copying.is_verbose || (is_terminal && !copying.is_quiet),
-        target,
-        unknown: PUT_UNKNOWN,
-    }
-}
-
-/// Files that are got.
-#[derive(Drop)]
-struct Getting<'a> {
-    line: &'a Get<'a>,
-    is_terminal: bool,
-}
-
-impl<R> Work<R> for Getting<'_>
-where
-    R: AllocGlobal + Dial + Eprint + Files<File = File> + Input + Net + Print,
-{
-    fn run(&self, rt: &R, session: ServerSession<'_, '_, '_, R>) -> ExitStatus {
-        let line = self.line;
-        let copying = &line.copying;
-        let mut gets = Gets {
-            alloc: rt.alloc(),
-            session,
-            locals: Disk::new(rt, copying.calling.socket.port()),
-            target: Target::of(line.output),
-            is_text: copying.is_text,
-            is_digested: copying.is_verbose,
-        };
-        let mut words = words_of(rt, copying, self.is_terminal, Target::of(line.output));
-        let status = run_copies(&mut gets, &mut words, line.paths.as_slice());
-        gets.session.end();
-        status
-    }
+        rt.alloc(),
+        is_terminal && !copying.is_quiet,
+        copying.is_quiet,
+    )
 }
 
 /// Runs `get`.
@@ -76,8 +46,49 @@ where
     R: AllocGlobal + Dial + Eprint + Files<File = File> + Input + Net + Print,
 {
     let copying = &line.copying;
-    let work = Getting { line, is_terminal };
-    run_at_server(rt, &copying.calling, screen_of(copying, is_terminal), &work)
+    let calling = &copying.calling;
+    let waiting = Waiting::new(rt, calling.server, is_terminal && !copying.is_quiet);
+    match link_to_server(rt, calling) {
+        Ok(mut link) => get_over(&*rt, &mut link, &waiting, line, is_terminal),
+        Err(error) => tell_unopened(rt, &calling.socket, &error),
+    }
+}
+
+/// Gets files over a link.
+fn get_over<'a, 'r, R>(
+    rt: &'a R,
+    link: &'a mut Patient<'r, R, UdpLink>,
+    waiting: &'a Waiting<'r, R>,
+    line: &Get<'_>,
+    is_terminal: bool,
+) -> ExitStatus
+where
+    R: AllocGlobal + Dial + Eprint + Files<File = File> + Input + Net + Print,
+{
+    let copying = &line.copying;
+    let calling = &copying.calling;
+    let dialog = match CallDialog::new(rt, link, calling, waiting) {
+        Ok(dialog) => dialog,
+        Err(fault) => return tell_unbegun(rt, fault),
+    };
+    let progress = progress_of(rt, copying, is_terminal);
+    let mut gets = Gets {
+        alloc: rt.alloc(),
+        session: Session::new(dialog, progress, calling.login),
+        locals: Disk::new(rt, calling.socket.port()),
+        target: Target::of(line.output),
+        is_text: copying.is_text,
+        is_digested: copying.is_verbose,
+    };
+    let mut words = FileWords {
+        rt,
+        is_told: is_told(copying, is_terminal),
+        target: Target::of(line.output),
+        unknown: PUT_UNKNOWN,
+    };
+    let status = run_copies(&mut gets, &mut words, line.paths.as_slice());
+    gets.session.end();
+    status
 }
 
 /// The paths that local files go to.
@@ -105,37 +116,6 @@ fn lacks_input<R: Input>(rt: &R, locals: &[&str]) -> bool {
     locals.iter().any(|local| *local == STREAM) && !has_input(rt)
 }
 
-/// Files that are put.
-#[derive(Drop)]
-struct Putting<'a> {
-    line: &'a Put<'a>,
-    is_terminal: bool,
-}
-
-impl<R> Work<R> for Putting<'_>
-where
-    R: AllocGlobal + Dial + Eprint + Files<File = File> + Input + Net + Print,
-{
-    fn run(&self, rt: &R, session: ServerSession<'_, '_, '_, R>) -> ExitStatus {
-        let line = self.line;
-        let copying = &line.copying;
-        let mut puts = Puts {
-            session,
-            locals: Disk::new(rt, copying.calling.socket.port()),
-            naming: Paths {
-                given: line.path,
-                is_renaming: line.is_renaming,
-            },
-            is_text: copying.is_text,
-            is_digested: copying.is_verbose,
-        };
-        let mut words = words_of(rt, copying, self.is_terminal, Target::Own);
-        let status = run_copies(&mut puts, &mut words, line.locals.as_slice());
-        puts.session.end();
-        status
-    }
-}
-
 /// Runs `put`.
 pub(crate) fn run_put_line<R>(rt: &R, line: &Put<'_>, is_terminal: bool) -> ExitStatus
 where
@@ -146,6 +126,49 @@ where
         return ExitStatus::Fault;
     }
     let copying = &line.copying;
-    let work = Putting { line, is_terminal };
-    run_at_server(rt, &copying.calling, screen_of(copying, is_terminal), &work)
+    let calling = &copying.calling;
+    let waiting = Waiting::new(rt, calling.server, is_terminal && !copying.is_quiet);
+    match link_to_server(rt, calling) {
+        Ok(mut link) => put_over(&*rt, &mut link, &waiting, line, is_terminal),
+        Err(error) => tell_unopened(rt, &calling.socket, &error),
+    }
+}
+
+/// Puts files over a link.
+fn put_over<'a, 'r, R>(
+    rt: &'a R,
+    link: &'a mut Patient<'r, R, UdpLink>,
+    waiting: &'a Waiting<'r, R>,
+    line: &Put<'_>,
+    is_terminal: bool,
+) -> ExitStatus
+where
+    R: AllocGlobal + Dial + Eprint + Files<File = File> + Input + Net + Print,
+{
+    let copying = &line.copying;
+    let calling = &copying.calling;
+    let dialog = match CallDialog::new(rt, link, calling, waiting) {
+        Ok(dialog) => dialog,
+        Err(fault) => return tell_unbegun(rt, fault),
+    };
+    let progress = progress_of(rt, copying, is_terminal);
+    let mut puts = Puts {
+        session: Session::new(dialog, progress, calling.login),
+        locals: Disk::new(rt, calling.socket.port()),
+        naming: Paths {
+            given: line.path,
+            is_renaming: line.is_renaming,
+        },
+        is_text: copying.is_text,
+        is_digested: copying.is_verbose,
+    };
+    let mut words = FileWords {
+        rt,
+        is_told: is_told(copying, is_terminal),
+        target: Target::Own,
+        unknown: PUT_UNKNOWN,
+    };
+    let status = run_copies(&mut puts, &mut words, line.locals.as_slice());
+    puts.session.end();
+    status
 }

@@ -5,7 +5,6 @@
 #![tactic(auto)]
 
 mod asking;
-mod at_server;
 mod changes;
 mod connections;
 mod copies;
