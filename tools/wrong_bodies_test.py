@@ -282,6 +282,15 @@ class Refused(Example):
         status, lines, _ = self.tried("--changed")
         self.assertEqual((0, "5 passed, 0 failed"), (status, lines[-1]))
 
+    def test_what_is_marked_untried_is_told_until_it_is_tried(self):
+        self.tried()
+        kept = self.top / "docs/wrong-bodies.sums"
+        kept.write_text("".join(f"{it} untried\n" for it in kept.read_text().split("\n") if it))
+        told = "5 of them were refused when they were written, and not tried since: `make wrong-bodies` tries them"
+        self.assertIn(told, self.tried("--changed")[1])
+        self.tried()
+        self.assertNotIn("untried", kept.read_text())
+
     def test_a_sum_of_what_is_gone_goes(self):
         self.tried()
         (self.top / "crates/high/wrong-bodies/one.edit").unlink()

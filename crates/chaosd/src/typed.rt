@@ -135,9 +135,9 @@ impl<'a, R: Eprint, I: Read> Typed<'a, R, I> {
             self.prompt();
             self.is_prompted = true;
         }
+        let count = self.read_once(may_wait)?;
         self.given = 0;
-        self.came = 0;
-        self.came = self.read_once(may_wait)?;
+        self.came = count;
         self.is_prompted = false;
         if self.came == 0 {
             self.is_over = true;
