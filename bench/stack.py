@@ -17,7 +17,8 @@ import tempfile
 HERE = pathlib.Path(__file__).resolve().parent
 PROGRAM = HERE.parent / "bin/chaosd"
 SCRIPT = HERE.parent / "examples/hello.file"
-TURN = "BothTurns::turn"
+# what a client's turn is made of; in `loop` it is one of both ends
+TURN = "file_client::client::Client::turn_with::"
 WISHED = 65_536
 
 # what gdb does: at the beginning of each turn it paints, and at its end it looks
@@ -49,7 +50,8 @@ def depth():
 
 run("set pagination off")
 run(f"starti loop --carriage {VERSION} < {SCRIPT} > /dev/null")
-run(f"break *{base() + TURN}")
+for turn in TURNS:
+    run(f"break *{base() + turn}")
 run("continue")
 depths = []
 while gdb.selected_inferior().pid:
@@ -61,10 +63,11 @@ print(f"carriage {VERSION}: a turn of both takes {max(depths)} bytes of stack at
 
 def measure(program, version, folder):
     symbols = subprocess.run(["nm", program], capture_output=True, text=True, check=True).stdout
-    place = re.search(rf"^([0-9a-f]+) t .*{TURN}", symbols, re.M)
-    if not place:
+    places = re.findall(rf"^([0-9a-f]+) t .*{TURN}", symbols, re.M)
+    if not places:
         sys.exit(f"{program} has no symbol of {TURN}")
-    named = {"PROGRAM": str(program), "SCRIPT": str(SCRIPT), "VERSION": version, "TURN": int(place[1], 16), "WISHED": WISHED}
+    turns = [int(it, 16) for it in places]
+    named = {"PROGRAM": str(program), "SCRIPT": str(SCRIPT), "VERSION": version, "TURNS": turns, "WISHED": WISHED}
     text = pathlib.Path(folder) / "painting.py"
     text.write_text("".join(f"{name} = {value!r}\n" for name, value in named.items()) + PAINTING)
     ran = subprocess.run(["gdb", "-q", "-batch", "-nx", program, "-x", text], capture_output=True, text=True)
