@@ -166,13 +166,13 @@ def both(ours, theirs):
 
 def table_of(benches, figures):
     """A table of these rows, as a document has it."""
-    lines = ["What | here/plain Rust | ratio | aim | instructions | `make bench-`", "---|---|---|---|---|---"]
+    lines = ["What|here/plain Rust|ratio|aim|instructions|`make bench-`", "---|---|---|---|---|---"]
     for bench, rows in benches.items():
         for row in rows:
             ours, theirs, ratio = figures.timed[row.line]
             aim = "" if row.aim is None else f"{row.aim}"
             counted = f"{figures.counted[row.counted]:.2f}" if row.counted in figures.counted else ""
-            lines.append(" | ".join([row.what, both(ours, theirs), f"{ratio:.2f}", aim, counted, f"`{bench}`"]))
+            lines.append("|".join([row.what, both(ours, theirs), f"{ratio:.2f}", aim, counted, f"`{bench}`"]))
     return "\n".join(lines)
 
 
