@@ -4,7 +4,8 @@
     bench/speed.py              runs the benches, keeps what they print in out/bench.log, and writes the tables
     bench/speed.py --from LOG   writes the tables from what an earlier run kept
 
-A row of a table is a line of a bench. At the end stand the rows that miss their aim; docs/SPEED.md has them too, each with its reason.
+A row of a table is a line of a bench. At the end stand the rows that miss their aim; docs/SPEED.md has them too, each with its
+reason where one is known.
 A row whose bench printed no such line is a fault: then the document stays as it was, and the status is 1.
 """
 

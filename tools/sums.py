@@ -6,7 +6,7 @@ them `untried` says that it was refused on earlier sources, and not tried on the
 A proof reads src/, specs/ and proofs/ of its crate; of the crates below it the definitions, types and constants that these cite, with
 all that they stand on, and the contracts of the public functions that they name. A function of a type counts where
 the type is among those. Only words count, so neither a comment nor a layout changes a sum, nor the body of a function of
-another crate. The kit isn't in it: with another kit all are to be tried again.
+another crate, nor its lemmas. The kit isn't in it: with another kit all are to be tried again.
 """
 
 import re
