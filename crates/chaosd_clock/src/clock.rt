@@ -21,7 +21,7 @@ impl Epoch {
     /// Now.
     pub fn new<C: Dial>(clock: &C) -> Result<Self, RunFault>
         ensures begins { IfOk result (BeginsBy (C.shows clock.now) (C.dates clock.now)) }
-        ensures faults { IfErr result (λ fault. fault ≡ RunFault.ClockFault) }
+        ensures faults { IfErr result (λ fault. (fault ≡ RunFault.ClockFault) × C.fails clock.now) }
     {
         match (clock.since_start(), clock.date()) {
             (Ok(start), Ok(date)) => Ok(Epoch {
@@ -35,7 +35,7 @@ impl Epoch {
     /// The milliseconds since then.
     pub fn moment<C: Dial>(&self, clock: &C) -> Result<u64, RunFault>
         ensures moment { IfOk result (IsMoment (C.shows clock.now) self.now) }
-        ensures faults { IfErr result (λ fault. fault ≡ RunFault.ClockFault) }
+        ensures faults { IfErr result (λ fault. (fault ≡ RunFault.ClockFault) × C.fails clock.now) }
     {
         match clock.since_start() {
             Ok(time) => Ok(millis_of(time.saturating_sub(self.start))),

@@ -1,5 +1,5 @@
 //! What a clock shows.
-ghost use Rattle.std.specs.Prelude.{ℕ, IfOk};
+ghost use Rattle.std.specs.Prelude.{ℕ, IfErr, IfOk};
 ghost use Rattle.std.specs.Duration.{as_nanos};
 
 use std::io;
@@ -13,25 +13,32 @@ pub trait Dial {
     /// The nanoseconds since 1970 that it may show.
     ghost dates: { Self → ℕ → Type 0 };
 
+    /// That it may be one that can't be read.
+    ghost fails: { Self → Type 0 };
+
     /// The time since a start of its own.
     ///
     /// # Errors
     /// Where the clock can't be read.
     fn since_start(&self) -> io::Result<Duration>
-        ensures { IfOk result (λ time. shows self.now (as_nanos time)) };
+        ensures shown { IfOk result (λ time. shows self.now (as_nanos time)) }
+        ensures fails { IfErr result (λ _. fails self.now) };
 
     /// The time since 1970.
     ///
     /// # Errors
     /// Where the clock can't be read.
     fn date(&self) -> io::Result<Duration>
-        ensures { IfOk result (λ time. dates self.now (as_nanos time)) };
+        ensures shown { IfOk result (λ time. dates self.now (as_nanos time)) }
+        ensures fails { IfErr result (λ _. fails self.now) };
 }
 
 impl<C: Clock> Dial for C {
     ghost shows = { λ _ _. Unit {0} };
 
     ghost dates = { λ _ _. Unit {0} };
+
+    ghost fails = { λ _. Unit {0} };
 
     fn since_start(&self) -> io::Result<Duration> {
         self.monotonic()

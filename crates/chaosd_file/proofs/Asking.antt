@@ -1,6 +1,6 @@
 -- A run over a script, command by command.
-use Rattle.std.proofs.Common.{◌≡◌, ℕ, ◌+◌, ◌-◌, ◌<◌, ◌≤◌, Bool, true, false, cond, eqb, ltb, List, [], ◌∷◌, ◌++◌, All, length, take, refl, sym, ap, ◌∙◌, subst, arith, append_assoc, append-nil, take_all, length-take, length-append}
-use Rattle.std.specs.Prelude.{Option, None, Some, is_some, IfSome, IfOk, Result, Ok, Err}
+use Rattle.std.proofs.Common.{◌≡◌, ℕ, ◌+◌, ◌-◌, ◌<◌, ◌≤◌, ◌⊎◌, inl, inr, Bool, true, false, cond, eqb, ltb, List, [], ◌∷◌, ◌++◌, All, length, take, refl, sym, ap, ◌∙◌, subst, arith, append_assoc, append-nil, take_all, length-take, length-append}
+use Rattle.std.specs.Prelude.{Option, None, Some, is_some, IfSome, IfErr, OnOk, Result, Ok, Err}
 use Rattle.std.specs.Io.BufRead.{strip_last}
 use Rattle.std.specs.Io.KnownBytes.{Appends}
 use Rattle.std.proofs.KnownBytes.{Appends-nil, Appends-trans}
@@ -22,9 +22,10 @@ use Rattle.file_client.specs.Fault.{IsTurnFault}
 use Rattle.chaosd_file.specs.Printed.{ending_of, reply_line, replies_text, no_reply_line, PrintsReplies}
 use Rattle.chaosd_file.specs.Script.{IsCommand, IsFirstBad, BeginWithCommands, AreCommands, lines_within, Ran, Runs}
 use Rattle.chaosd_file.specs.Asking.{AskedAll, AskedGiven, AsksLine, Idles}
-use Rattle.chaosd_file.specs.Conversation.{Asked, Asks, AsksAll, AsksBefore, Converses, IfAsked, commands_sent, item_for}
+use Rattle.chaosd_file.specs.Conversation.{Asked, Asks, AsksAll, AsksBefore, Converses, IfAsked, Parts, commands_sent, item_for}
 use Rattle.chaos_link.specs.Link.{QueueView}
 use Rattle.chaosd_clock.specs.declared.clock.Epoch.{Epoch}
+use Rattle.file_client.specs.Caller.{CallerView, HangsUp}
 use Rattle.file_client.specs.Pace.{Pace}
 use Rattle.file_client.specs.Talk.{Talker, Does, SendsFarewell, Talk, Turns, and_later, command_item, silence}
 use Rattle.chaosd_file.specs.declared.end.ScriptEnd.{ScriptEnd}
@@ -371,21 +372,6 @@ unread_runs p first last input rest before after replied given v (BadScript numb
 unread_runs p first last input rest before after replied given v LinkFault s h = absurd h
 unread_runs p first last input rest before after replied given v ClockFault s h = absurd h
 
--- a fault of a turn says nothing
-pub turn_runs : (input rest before after : Option (List ℕ)) (count : ℕ) (fault : RunFault) → IsTurnFault count fault
-    → Runs input rest before after (Err fault)
-turn_runs input rest before after count LinkFault h = tt
-turn_runs input rest before after count ClockFault h = tt
-turn_runs input rest before after count ReadFault h = absurd h
-turn_runs input rest before after count WriteFault h = absurd h
-turn_runs input rest before after count InputTooLong h = absurd h
-turn_runs input rest before after count NoMemory h = absurd h
-turn_runs input rest before after count (BadScript number) h = absurd h
-
-pub write_runs : (input rest before after : Option (List ℕ)) (fault : RunFault) → fault ≡ WriteFault
-    → Runs input rest before after (Err fault)
-write_runs input rest before after fault same = subst (λ f. Runs input rest before after (Err f)) (sym same) tt
-
 -- nothing was asked yet
 pub nothing_asked : (p : Pace) (first : Talker) (before : Option (List ℕ)) → Asked p first first before before 0 []
 nothing_asked p first before = record {
@@ -499,32 +485,42 @@ bad_before p first last input rest before after replied given raw s begun =
       given_first input given (replied + 1 - 1) (s.count ∙ number) (fewer_begin input given raw begun),
     )
 
-met_before : (p q : Pace) (first mid last : Talker) (input rest before between after : Option (List ℕ))
+met_before : (p : Pace) (first mid last : Talker) (input rest before between after : Option (List ℕ))
     (replied number : ℕ) (given : List (List ℕ)) (line : List ℕ)
     → Asked p first mid before between replied given → IsNext input given line
-    → AsksLine q mid last replied line between after (Err (BadScript number))
+    → AsksLine p mid last replied line between after (Err (BadScript number))
     → AsksBefore p first last input rest before after (BadScript number)
-met_before p q first mid last input rest before between after replied number given line s (raw, front, begun)
+met_before p first mid last input rest before between after replied number given line s (raw, front, begun)
     (none, e, same, still) =
     subst (λ n. AsksBefore p first last input rest before after (BadScript n)) (sym e)
     (subst (λ t. AsksBefore p first t input rest before after (BadScript (replied + 1))) (sym still)
     (bad_before p first mid input rest before after replied given raw
     (asked_printed p first mid before between after replied given same s) begun))
 
+-- at the same pace
+pub line_paced : (q p : Pace) (mid last : Talker) (replied : ℕ) (line : List ℕ) (between after : Option (List ℕ))
+    (fault : RunFault)
+    → q ≡ p → AsksLine q mid last replied line between after (Err fault)
+    → AsksLine p mid last replied line between after (Err fault)
+line_paced q p mid last replied line between after fault same asks =
+    subst (λ t. AsksLine t mid last replied line between after (Err fault)) same asks
+
 -- a line stands for no command, or its turns or its text met a fault
-pub line_before : (p q : Pace) (first mid last : Talker) (input rest before between after : Option (List ℕ))
+pub line_before : (p : Pace) (first mid last : Talker) (input rest before between after : Option (List ℕ))
     (replied : ℕ) (given : List (List ℕ)) (line : List ℕ) (fault : RunFault)
     → Asked p first mid before between replied given → IsNext input given line
-    → AsksLine q mid last replied line between after (Err fault)
+    → AsksLine p mid last replied line between after (Err fault)
     → AsksBefore p first last input rest before after fault
-line_before p q first mid last input rest before between after replied given line (BadScript number) s next h =
-    met_before p q first mid last input rest before between after replied number given line s next h
-line_before p q first mid last input rest before between after replied given line WriteFault s next h = tt
-line_before p q first mid last input rest before between after replied given line LinkFault s next h = tt
-line_before p q first mid last input rest before between after replied given line ClockFault s next h = tt
-line_before p q first mid last input rest before between after replied given line NoMemory s next h = absurd h
-line_before p q first mid last input rest before between after replied given line ReadFault s next h = absurd h
-line_before p q first mid last input rest before between after replied given line InputTooLong s next h = absurd h
+line_before p first mid last input rest before between after replied given line (BadScript number) s next h =
+    met_before p first mid last input rest before between after replied number given line s next h
+line_before p first mid last input rest before between after replied given line WriteFault s next
+    (command, reply, is, (talk, talks, exchange)) =
+    (and_later s.talk talk, talks_on p first mid last s.talk talk s.talks talks)
+line_before p first mid last input rest before between after replied given line LinkFault s next h = tt
+line_before p first mid last input rest before between after replied given line ClockFault s next h = tt
+line_before p first mid last input rest before between after replied given line NoMemory s next h = absurd h
+line_before p first mid last input rest before between after replied given line ReadFault s next h = absurd h
+line_before p first mid last input rest before between after replied given line InputTooLong s next h = absurd h
 
 asked_to : (p : Pace) (first last : Talker) (before after : Option (List ℕ)) (replied : ℕ) (given lines : List (List ℕ))
     → given ≡ lines → Asked p first last before after replied given
@@ -557,23 +553,86 @@ unread_before p first last input rest before after replied given v ClockFault s 
 
 -- ---- a whole run
 
--- a run that ended by a fault
-pub broke_off : (p : Pace) (first parted : Talker) (queue : Option QueueView) (input rest before after : Option (List ℕ))
-    (result : Result ScriptEnd RunFault) (fault : RunFault)
-    → result ≡ Err fault → Asks p first parted input rest before after result
-    → Converses p first queue input rest before after result
-broke_off p first parted queue input rest before after (Ok end) fault is asks = absurd (let no : ⊥ = cc in no)
-broke_off p first parted queue input rest before after (Err met) fault is asks = (parted, asks)
+-- what was asked stays asked where the writer fails
+pub unwritten_before : (p : Pace) (first last : Talker) (input rest before after : Option (List ℕ)) (replied : ℕ)
+    (given : List (List ℕ)) (fault : RunFault)
+    → fault ≡ WriteFault → Asked p first last before after replied given
+    → AsksBefore p first last input rest before after fault
+unwritten_before p first last input rest before after replied given fault is s =
+    let talked : AsksBefore p first last input rest before after WriteFault = (s.talk, s.talks) in
+    subst (λ f. AsksBefore p first last input rest before after f) (sym is) talked
+
+-- It hung up, or met a fault of a turn.
+pub parts_or_failed : (p : Pace) (Stops : Type 0) (count : ℕ) (parted : Talker) (queue : Option QueueView)
+    (left : CallerView) (later : Result (Unit {0}) RunFault)
+    → OnOk later (HangsUp p parted.queue queue parted.caller left) → IfErr later (IsTurnFault Stops count)
+    → Parts p parted queue ⊎ (Stops ⊎ (0 < count))
+parts_or_failed p Stops count parted queue left (Ok done) well faults = inl (left, well)
+parts_or_failed p Stops count parted queue left (Err LinkFault) well faults = inr (inr faults)
+parts_or_failed p Stops count parted queue left (Err ClockFault) well faults = inr (inl faults)
+parts_or_failed p Stops count parted queue left (Err ReadFault) well faults = absurd faults
+parts_or_failed p Stops count parted queue left (Err WriteFault) well faults = absurd faults
+parts_or_failed p Stops count parted queue left (Err InputTooLong) well faults = absurd faults
+parts_or_failed p Stops count parted queue left (Err NoMemory) well faults = absurd faults
+parts_or_failed p Stops count parted queue left (Err (BadScript number)) well faults = absurd faults
 
 pub if_asked : (result : Result ScriptEnd RunFault) (P : Type 0) → P → IfAsked result P
 if_asked (Ok end) P h = h
 if_asked (Err (BadScript number)) P h = h
 if_asked (Err ReadFault) P h = h
 if_asked (Err InputTooLong) P h = h
-if_asked (Err WriteFault) P h = tt
+if_asked (Err WriteFault) P h = h
 if_asked (Err NoMemory) P h = tt
 if_asked (Err LinkFault) P h = tt
 if_asked (Err ClockFault) P h = tt
+
+-- a run that ended by a fault
+pub broke_off : (p : Pace) (Failed : Type 0) (first parted : Talker) (queue : Option QueueView)
+    (input rest before after : Option (List ℕ)) (fault : RunFault)
+    → Asks p first parted input rest before after (Err fault) → Parts p parted queue ⊎ Failed
+    → Converses p Failed first queue input rest before after (Err fault)
+broke_off p Failed first parted queue input rest before after fault asks parts =
+    (parted, asks, if_asked (Err fault) (Parts p parted queue ⊎ Failed) parts)
+
+-- a run that couldn't hang up
+pub not_parted : (p : Pace) (Stops Failed : Type 0) (count : ℕ) (first parted : Talker) (queue : Option QueueView)
+    (input rest before after : Option (List ℕ)) (fault : RunFault)
+    → IsTurnFault Stops count fault → Converses p Failed first queue input rest before after (Err fault)
+not_parted p Stops Failed count first parted queue input rest before after LinkFault h = (parted, tt, tt)
+not_parted p Stops Failed count first parted queue input rest before after ClockFault h = (parted, tt, tt)
+not_parted p Stops Failed count first parted queue input rest before after ReadFault h = absurd h
+not_parted p Stops Failed count first parted queue input rest before after WriteFault h = absurd h
+not_parted p Stops Failed count first parted queue input rest before after InputTooLong h = absurd h
+not_parted p Stops Failed count first parted queue input rest before after NoMemory h = absurd h
+not_parted p Stops Failed count first parted queue input rest before after (BadScript number) h = absurd h
+
+asked_by : (result : Result ScriptEnd RunFault) (P Q : Type 0) → (P → Q) → IfAsked result P → IfAsked result Q
+asked_by (Ok end) P Q f h = f h
+asked_by (Err (BadScript number)) P Q f h = f h
+asked_by (Err ReadFault) P Q f h = f h
+asked_by (Err InputTooLong) P Q f h = f h
+asked_by (Err WriteFault) P Q f h = f h
+asked_by (Err NoMemory) P Q f h = tt
+asked_by (Err LinkFault) P Q f h = tt
+asked_by (Err ClockFault) P Q f h = tt
+
+no_other : (P Q : Type 0) → P ⊎ (⊥ ⊎ Q) → P ⊎ Q
+no_other P Q (inl p) = inl p
+no_other P Q (inr (inl never)) = absurd never
+no_other P Q (inr (inr q)) = inr q
+
+-- a run whose moments can always be told
+pub failed_there : (p : Pace) (Failed : Type 0) (first : Talker) (queue : Option QueueView)
+    (input rest before after : Option (List ℕ)) (result : Result ScriptEnd RunFault)
+    → Converses p (⊥ ⊎ Failed) first queue input rest before after result
+    → Converses p Failed first queue input rest before after result
+failed_there p Failed first queue input rest before after (Ok end) speaks = speaks
+failed_there p Failed first queue input rest before after (Err fault) (parted, asks, parts) = (
+  parted,
+  asks,
+  asked_by (Err fault) (Parts p parted queue ⊎ (⊥ ⊎ Failed)) (Parts p parted queue ⊎ Failed)
+      (no_other (Parts p parted queue) Failed) parts,
+)
 
 -- a run by a clock that began then
 pub by_clock : (Begins Speaks : Epoch → Type 0) (result : Result ScriptEnd RunFault) (epoch : Epoch)
@@ -582,9 +641,11 @@ by_clock Begins Speaks result epoch begins speaks =
     let run : (x : Epoch) × Begins x × Speaks x = (epoch, begins, speaks) in
     if_asked result ((x : Epoch) × Begins x × Speaks x) run
 
-pub same_queue : (p : Pace) (first : Talker) (was queue : Option QueueView) (input rest before after : Option (List ℕ))
-    (result : Result ScriptEnd RunFault)
-    → Converses p first was input rest before after result → was ≡ queue
-    → Converses p first queue input rest before after result
-same_queue p first was queue input rest before after result speaks same =
-    subst (λ q. Converses p first q input rest before after result) same speaks
+-- of the same queue, and of as many failures
+pub same_link : (p : Pace) (Stops : Type 0) (was count : ℕ) (first : Talker) (before after : Option QueueView)
+    (input rest printed all : Option (List ℕ)) (result : Result ScriptEnd RunFault)
+    → Converses p (Stops ⊎ (0 < was)) first before input rest printed all result → before ≡ after → was ≡ count
+    → Converses p (Stops ⊎ (0 < count)) first after input rest printed all result
+same_link p Stops was count first before after input rest printed all result speaks same alike =
+    subst (λ q. Converses p (Stops ⊎ (0 < count)) first q input rest printed all result) same
+    (subst (λ (n : ℕ). Converses p (Stops ⊎ (0 < n)) first before input rest printed all result) alike speaks)

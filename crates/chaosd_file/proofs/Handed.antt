@@ -1,18 +1,20 @@
 -- A run over a script whose last replies were handed on.
-use Rattle.std.proofs.Common.{◌≡◌, ℕ, ◌-◌, Bool, true, false, List, [], ◌++◌, length, ◌∙◌, refl, sym, ap, subst, append-nil}
+use Rattle.std.proofs.Common.{◌≡◌, ℕ, ◌+◌, ◌-◌, ◌≤◌, Bool, true, false, eqb, arith, List, [], ◌++◌, length, ◌∙◌, refl, sym, ap, subst, append-nil}
 use Rattle.std.specs.Prelude.{Option, None, Some, Result, Ok, Err}
 use Rattle.std.specs.Io.KnownBytes.{Keeps}
 use Rattle.std.proofs.KnownBytes.{Appends-kept}
+use Rattle.std.proofs.lemmas.Bool.Decides.{nat_tests}
 use Rattle.chaosd_io.specs.Buffer.{written_of}
 use Rattle.chaosd_io.specs.Lines.{ended_lines}
 use Rattle.chaosd_io.specs.declared.fault.RunFault.{RunFault}
 use Rattle.chaosd_io.specs.declared.fault.RunFault.TheVariants.{ReadFault, WriteFault, InputTooLong, NoMemory, BadScript, LinkFault, ClockFault}
 use Rattle.chaosd_file.specs.Asking.{AskedGiven}
-use Rattle.chaosd_file.specs.Conversation.{Asked, Asks, AsksAll, AsksBefore}
+use Rattle.chaosd_file.specs.Conversation.{Asked, Asks, AsksAll, is_broken}
 use Rattle.chaosd_file.specs.Printed.{PrintsReplies}
 use Rattle.chaosd_file.specs.Script.{PrintsRepliesTo, Ran, Runs}
 use Rattle.file_client.specs.Pace.{Pace}
-use Rattle.file_client.specs.Talk.{Talker}
+use Rattle.file_client.specs.Talk.{Talker, Talk, Talks, and_later}
+use Rattle.file_client.proofs.Talking.{talks_on}
 use Rattle.chaosd_file.specs.declared.end.ScriptEnd.{ScriptEnd}
 use Rattle.chaosd_io.specs.Reader.{LinesView, Gives, GivesMore}
 
@@ -133,8 +135,8 @@ asks_kept p first parted input rest before between after (Err ReadFault) (read, 
     (read, consumed, asked_kept p first parted before between after _ (ended_lines read) s kept)
 asks_kept p first parted input rest before between after (Err InputTooLong) (given, s, is) kept =
     (given, asked_kept p first parted before between after (length given) given s kept, is)
-asks_kept p first parted input rest before between after (Err WriteFault) s kept = tt
-asks_kept p first parted input rest before between after (Err NoMemory) s kept = tt
+asks_kept p first parted input rest before between after (Err WriteFault) s kept = s
+asks_kept p first parted input rest before between after (Err NoMemory) s kept = absurd s
 asks_kept p first parted input rest before between after (Err LinkFault) s kept = tt
 asks_kept p first parted input rest before between after (Err ClockFault) s kept = tt
 
@@ -147,3 +149,43 @@ asks_handed p first parted input rest before between held begun waiting result n
     asks_kept p first parted input rest before between held result
     (subst (λ o. Asks p first parted input rest o between result) from asks)
     (nothing_waits between held waiting empty kept)
+
+-- ---- where the last replies couldn't be handed on
+
+-- what a client did for a whole script
+all_talks : (p : Pace) (first parted : Talker) (input before after : Option (List ℕ)) (commands replied : ℕ)
+    (is_whole : Bool) → eqb replied commands ≡ is_whole
+    → (replied ≤ commands) × (commands ≤ replied + 1)
+    → AsksAll p first parted input before after (record { commands = commands; replied = replied })
+    → (talk : Talk) × Talks p first talk parted
+all_talks p first parted input before after commands replied true same counts s =
+    let (talk, talks, farewell) = s.to_end (grind (arith, nat_tests)) in
+    (and_later s.talk talk, talks_on p first s.replied parted s.talk talk s.asks talks)
+all_talks p first parted input before after commands replied false differ counts s =
+    let (command, (talk, talks, exchange), sent) = s.in_part (grind (arith, nat_tests)) in
+    (and_later s.talk talk, talks_on p first s.replied parted s.talk talk s.asks talks)
+
+-- what a client did, however its run ended
+any_talks : (p : Pace) (first parted : Talker) (input rest before after : Option (List ℕ))
+    (result : Result ScriptEnd RunFault)
+    → is_broken result ≡ false → Runs input rest before after result
+    → Asks p first parted input rest before after result → (talk : Talk) × Talks p first talk parted
+any_talks p first parted input rest before after (Ok end) is runs s =
+    all_talks p first parted input before after end.commands end.replied (eqb end.replied end.commands) refl runs.counts s
+any_talks p first parted input rest before after (Err (BadScript number)) is runs (given, s, first_ones) = (s.talk, s.talks)
+any_talks p first parted input rest before after (Err ReadFault) is runs (read, consumed, s) = (s.talk, s.talks)
+any_talks p first parted input rest before after (Err InputTooLong) is runs (given, s, first_ones) = (s.talk, s.talks)
+any_talks p first parted input rest before after (Err WriteFault) is runs s = s
+any_talks p first parted input rest before after (Err NoMemory) is runs s = absurd s
+any_talks p first parted input rest before after (Err LinkFault) is runs s = absurd (cc)
+any_talks p first parted input rest before after (Err ClockFault) is runs s = absurd (cc)
+
+pub not_handed : (p : Pace) (first parted : Talker) (input rest printed between before after : Option (List ℕ))
+    (result : Result ScriptEnd RunFault) (fault : RunFault)
+    → fault ≡ WriteFault → is_broken result ≡ false → Runs input rest printed between result
+    → Asks p first parted input rest printed between result
+    → Asks p first parted input rest before after (Err fault)
+not_handed p first parted input rest printed between before after result fault writes is runs s =
+    let talked : Asks p first parted input rest before after (Err WriteFault) =
+    any_talks p first parted input rest printed between result is runs s in
+    subst (λ f. Asks p first parted input rest before after (Err f)) (sym writes) talked

@@ -29,7 +29,7 @@ AskedAll p first last input rest before after replied =
     (given : List (List ℕ)) × Asked p first last before after replied given × Done INPUT_LIMIT input rest given
 
 -- The line stands for a command, and its reply was printed; or that it got none was. Or it stands for none, and nothing
--- was printed or done by the client; or there was a fault of a turn or of the writer.
+-- was printed or done by the client; or what was to be printed met a fault, or a turn did.
 abbrev pub AsksLine : Pace → Talker → Talker → ℕ → List ℕ → Option (List ℕ) → Option (List ℕ) → Result Bool RunFault
     → Type 0
 AsksLine p first last replied line before after (Ok true) =
@@ -40,7 +40,8 @@ AsksLine p first last replied line before after (Ok false) =
     × Appends before after no_reply_line
 AsksLine p first last replied line before after (Err (BadScript number)) =
     (command_of line ≡ None) × (number ≡ replied + 1) × (after ≡ before) × (last ≡ first)
-AsksLine p first last replied line before after (Err WriteFault) = Unit {0}
+AsksLine p first last replied line before after (Err WriteFault) =
+    (command : List ℕ) × (reply : Option (List ℕ)) × (command_of line ≡ Some command) × Exchanges p first command reply last
 AsksLine p first last replied line before after (Err LinkFault) = Unit {0}
 AsksLine p first last replied line before after (Err ClockFault) = Unit {0}
 AsksLine p first last replied line before after (Err NoMemory) = ⊥

@@ -1,5 +1,5 @@
--- A whole run of a client: what it says, hears and prints.
-use Rattle.std.specs.Prelude.{◌≡◌, ℕ, ◌+◌, ◌-◌, ◌*◌, min, List, [], ◌∷◌, ◌++◌, All, length, take, Option, Some, None, IfSome, Result, Ok, Err}
+-- A whole run of a client: what it sends, receives and prints.
+use Rattle.std.specs.Prelude.{◌≡◌, ◌⊎◌, Bool, true, false, ℕ, ◌+◌, ◌-◌, ◌*◌, min, List, [], ◌∷◌, ◌++◌, All, length, take, Option, Some, None, IfSome, Result, Ok, Err}
 use Rattle.std.specs.List.{flat_map}
 use Rattle.std.specs.Io.KnownBytes.{Appends, Consumes}
 use Rattle.chaos_packet.specs.Count.{max_count}
@@ -63,7 +63,7 @@ pub record AsksAll (p : Pace) (first parted : Talker) (input before after : Opti
         (λ all. commands_sent (take end.commands (lines_within all)) ≡ talk.sent ++ command_item command ∷ [])
 
 -- So many lines were asked before a fault of the script or of its reader: those before the bad one, those that ended in
--- what was read, or those that ended within the limit.
+-- what was read, or those that ended within the limit. Before a fault of the writer the client did what a client does.
 abbrev pub AsksBefore : Pace → Talker → Talker → Option (List ℕ) → Option (List ℕ) → Option (List ℕ) → Option (List ℕ)
     → RunFault → Type 0
 AsksBefore p first parted input rest before after (BadScript number) =
@@ -75,8 +75,8 @@ AsksBefore p first parted input rest before after ReadFault =
 AsksBefore p first parted input rest before after InputTooLong =
     (given : List (List ℕ)) × Asked p first parted before after (length given) given
     × IfSome input (λ all. given ≡ ended_lines (take INPUT_LIMIT all))
-AsksBefore p first parted input rest before after WriteFault = Unit {0}
-AsksBefore p first parted input rest before after NoMemory = Unit {0}
+AsksBefore p first parted input rest before after WriteFault = (talk : Talk) × Talks p first talk parted
+AsksBefore p first parted input rest before after NoMemory = ⊥
 AsksBefore p first parted input rest before after LinkFault = Unit {0}
 AsksBefore p first parted input rest before after ClockFault = Unit {0}
 
@@ -86,21 +86,32 @@ abbrev pub Asks : Pace → Talker → Talker → Option (List ℕ) → Option (L
 Asks p first parted input rest before after (Ok end) = AsksAll p first parted input before after end
 Asks p first parted input rest before after (Err fault) = AsksBefore p first parted input rest before after fault
 
--- A run that ended well asked all and then hung up. `queue`: what its link is then.
-abbrev pub Converses : Pace → Talker → Option QueueView → Option (List ℕ) → Option (List ℕ) → Option (List ℕ)
-    → Option (List ℕ) → Result ScriptEnd RunFault → Type 0
-Converses p first queue input rest before after (Ok end) = (parted : Talker) × (left : CallerView)
-    × AsksAll p first parted input before after end × HangsUp p parted.queue queue parted.caller left
-Converses p first queue input rest before after (Err fault) =
-    (parted : Talker) × AsksBefore p first parted input rest before after fault
+-- No turn is taken behind a fault of a link or of the clock.
+abbrev pub is_broken : Result ScriptEnd RunFault → Bool
+is_broken (Err LinkFault) = true
+is_broken (Err ClockFault) = true
+is_broken _ = false
 
--- So it is where a run ended well, or by a fault of its script or of its reader.
+-- So it is where a run ended well, or by a fault of its script, its reader or its writer.
 abbrev pub IfAsked : Result ScriptEnd RunFault → Type 0 → Type 0
 IfAsked (Ok end) P = P
 IfAsked (Err (BadScript number)) P = P
 IfAsked (Err ReadFault) P = P
 IfAsked (Err InputTooLong) P = P
-IfAsked (Err WriteFault) P = Unit {0}
+IfAsked (Err WriteFault) P = P
 IfAsked (Err NoMemory) P = Unit {0}
 IfAsked (Err LinkFault) P = Unit {0}
 IfAsked (Err ClockFault) P = Unit {0}
+
+-- Its connection was closed, where there was one, and the CLS was sent. `queue`: what its link is then.
+abbrev pub Parts : Pace → Talker → Option QueueView → Type 0
+Parts p parted queue = (left : CallerView) × HangsUp p parted.queue queue parted.caller left
+
+-- A run that ended well asked all and then hung up. One that met a fault hung up, too, or that `Failed`.
+abbrev pub Converses : Pace → Type 0 → Talker → Option QueueView → Option (List ℕ) → Option (List ℕ) → Option (List ℕ)
+    → Option (List ℕ) → Result ScriptEnd RunFault → Type 0
+Converses p Failed first queue input rest before after (Ok end) =
+    (parted : Talker) × AsksAll p first parted input before after end × Parts p parted queue
+Converses p Failed first queue input rest before after (Err fault) =
+    (parted : Talker) × AsksBefore p first parted input rest before after fault
+    × IfAsked (Err fault) (Parts p parted queue ⊎ Failed)

@@ -1,5 +1,5 @@
 //! The engine `ask`.
-ghost use Rattle.std.specs.Prelude.{◌≡◌, ◌<◌, ◌≤◌, Err, OnOk};
+ghost use Rattle.std.specs.Prelude.{◌≡◌, ◌<◌, ◌≤◌, ◌⊎◌, Err, OnOk};
 ghost use Rattle.chaosd_file.specs.declared.limits.TheConstants.{SCRIPT_WINDOW};
 ghost use Rattle.chaosd_file.specs.Conversation.{Converses, IfAsked};
 ghost use Rattle.chaosd_file.specs.Script.{Runs};
@@ -47,9 +47,9 @@ pub fn run_ask<C: Dial, R: Read, W: Write, L: Link>(
     // Which lines were commands, what was printed, and how it ended.
     ensures runs { Runs (R.remaining reader.old) (R.remaining reader.new) (W.contents writer.old) (W.contents writer.new) result }
     // What its connection wrote are the commands of these lines, in order, and, where it ended well, then an EOF, and what was printed
-    // are the data that it read, in order.
+    // are the data that it read, in order. It is closed however that ends, but where the clock can't be read or the link failed.
     ensures talk { IfAsked result ((epoch : Epoch) × BeginsBy (C.shows clock.now) (C.dates clock.now) epoch
-        × Converses (clock_pace (C.shows clock.now) epoch) (talker (new_caller me to SCRIPT_WINDOW carriage (low_bits_of epoch)) (L.queue link.old)) (L.queue link.new) (R.remaining reader.old) (R.remaining reader.new) (W.contents writer.old) (W.contents writer.new) result) }
+        × Converses (clock_pace (C.shows clock.now) epoch) (C.fails clock.now ⊎ (0 < L.count link.new)) (talker (new_caller me to SCRIPT_WINDOW carriage (low_bits_of epoch)) (L.queue link.old)) (L.queue link.new) (R.remaining reader.old) (R.remaining reader.new) (W.contents writer.old) (W.contents writer.new) result) }
     // It ends well only where the link's count of failures didn't rise.
     ensures well { OnOk result (L.count link.new ≤ L.count link.old) }
     // It ends by a LinkFault only where the link counted failures.
@@ -85,9 +85,9 @@ pub fn run_ask_by<P: Ready<R>, C: Dial, R: Read, W: Write, L: Link>(
     // Which lines were commands, what was printed, and how it ended.
     ensures runs { Runs (R.remaining reader.old) (R.remaining reader.new) (W.contents writer.old) (W.contents writer.new) result }
     // What its connection wrote are the commands of these lines, in order, and, where it ended well, then an EOF, and what was printed
-    // are the data that it read, in order.
+    // are the data that it read, in order. It is closed however that ends, but where the clock can't be read or the link failed.
     ensures talk { IfAsked result ((epoch : Epoch) × BeginsBy (C.shows clock.now) (C.dates clock.now) epoch
-        × Converses (clock_pace (C.shows clock.now) epoch) (talker (new_caller route.me route.to SCRIPT_WINDOW route.carriage (low_bits_of epoch)) (L.queue link.old)) (L.queue link.new) (R.remaining reader.old) (R.remaining reader.new) (W.contents writer.old) (W.contents writer.new) result) }
+        × Converses (clock_pace (C.shows clock.now) epoch) (C.fails clock.now ⊎ (0 < L.count link.new)) (talker (new_caller route.me route.to SCRIPT_WINDOW route.carriage (low_bits_of epoch)) (L.queue link.old)) (L.queue link.new) (R.remaining reader.old) (R.remaining reader.new) (W.contents writer.old) (W.contents writer.new) result) }
     // It ends well only where the link's count of failures didn't rise.
     ensures well { OnOk result (L.count link.new ≤ L.count link.old) }
     // It ends by a LinkFault only where the link counted failures.

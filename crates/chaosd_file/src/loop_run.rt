@@ -1,5 +1,7 @@
 //! The engine `loop`.
-ghost use Rattle.std.specs.Prelude.{◌≡◌, ◌<◌, ◌≤◌, ◌+◌, Err, OnOk};
+ghost use Rattle.std.specs.Prelude.{◌≡◌, ◌<◌, ◌≤◌, ◌+◌, ◌↔◌, Err, OnOk};
+ghost use Rattle.chaos_packet.specs.Count.{Rose};
+ghost use Rattle.chaos_turn.specs.declared.end.TurnEnd.{TurnEnd};
 ghost use Rattle.chaosd_file.specs.Conversation.{Converses, IfAsked, loop_pace};
 ghost use Rattle.chaosd_file.specs.Script.{Runs};
 ghost use Rattle.chaosd_file.specs.declared.limits.TheConstants.{LOOP_CLIENT, LOOP_SERVER, SCRIPT_WINDOW};
@@ -25,14 +27,30 @@ use file_server::Server;
 use std::alloc::Global;
 use std::io::{Read, Write};
 
+/// The server at the other end, and its files.
+#[derive(Drop)]
+struct FarEnd {
+    alloc: Global,
+    server: Server,
+    store: MemStore,
+}
+
+impl FarEnd {
+    /// A turn of the server, which doesn't wait.
+    fn turn<B: Link>(&mut self, link: &mut B, now: u64) -> TurnEnd
+        ensures fault { (result ≡ TurnEnd.LinkFault) ↔ Rose (B.count link.old) (B.count link.new) }
+    {
+        let alloc = self.alloc;
+        self.server.turn(alloc, &mut self.store, link, LOOP_SERVER_START, now, false)
+    }
+}
+
 /// A client's turns with a server in the same process, which keeps its files in memory. The moments are the turns times 10.
 #[derive(Drop)]
 struct Both<'a, A: Link, B: Link> {
-    alloc: Global,
     near: &'a mut A,
     far: &'a mut B,
-    server: &'a mut Server,
-    store: &'a mut MemStore,
+    far_end: &'a mut FarEnd,
     turns: u64,
     /// Where the client receives datagrams.
     buffer: [u8; LINK_ROOM],
@@ -50,6 +68,8 @@ impl<A: Link, B: Link> Turns for Both<'_, A, B> {
     ghost time = { λ _. tt };
 
     ghost pace = { λ _. loop_pace };
+
+    ghost stops = { λ _. ⊥ };
 
     ghost passed = { λ _. 0 };
 
@@ -100,14 +120,7 @@ impl<A: Link, B: Link> Turns for Both<'_, A, B> {
             &mut self.buffer,
             may_wait,
         );
-        let served = self.server.turn(
-            self.alloc,
-            self.store,
-            self.far,
-            LOOP_SERVER_START,
-            now,
-            false,
-        );
+        let served = self.far_end.turn(self.far, now);
         self.is_idle = asked == TurnEnd::Idle && served == TurnEnd::Idle;
         if asked == TurnEnd::LinkFault || served == TurnEnd::LinkFault {
             Err(RunFault::LinkFault)
@@ -149,51 +162,41 @@ pub fn run_loop<R: Read, W: Write, A: Link, B: Link>(
     // Which lines were commands, what was printed, and how it ended.
     ensures runs { Runs (R.remaining reader.old) (R.remaining reader.new) (W.contents writer.old) (W.contents writer.new) result }
     // What its connection wrote are the commands of these lines, in order, and, where it ended well, then an EOF, and what was printed
-    // are the data that it read, in order.
-    ensures talk { IfAsked result (Converses loop_pace (talker (new_caller LOOP_CLIENT LOOP_SERVER SCRIPT_WINDOW carriage 0) (A.queue link_a.old)) (A.queue link_a.new) (R.remaining reader.old) (R.remaining reader.new) (W.contents writer.old) (W.contents writer.new) result) }
+    // are the data that it read, in order. It is closed however that ends, but where a link failed.
+    ensures talk { IfAsked result (Converses loop_pace (0 < A.count link_a.new + B.count link_b.new) (talker (new_caller LOOP_CLIENT LOOP_SERVER SCRIPT_WINDOW carriage 0) (A.queue link_a.old)) (A.queue link_a.new) (R.remaining reader.old) (R.remaining reader.new) (W.contents writer.old) (W.contents writer.new) result) }
     // It ends well only where the links' counts of failures, together, didn't rise.
     ensures well { OnOk result (A.count link_a.new + B.count link_b.new ≤ A.count link_a.old + B.count link_b.old) }
     // It ends by a LinkFault only where a link counted failures.
     ensures failed { result ≡ Err RunFault.LinkFault → 0 < A.count link_a.new + B.count link_b.new }
 {
-    let mut server = Server::new(alloc, LOOP_SERVER, ConnConfig::usual(), carriage)?;
-    let mut store = MemStore::new(alloc);
-    run_between(
+    let mut far_end = FarEnd {
         alloc,
-        reader,
-        writer,
-        link_a,
-        link_b,
-        &mut server,
-        &mut store,
-        why,
-        carriage,
-    )
+        server: Server::new(alloc, LOOP_SERVER, ConnConfig::usual(), carriage)?,
+        store: MemStore::new(alloc),
+    };
+    run_between(reader, writer, link_a, link_b, &mut far_end, why, carriage)
 }
 
 /// Runs a script between a new client and this server.
 fn run_between<R: Read, W: Write, A: Link, B: Link>(
-    alloc: Global,
     reader: &mut R,
     writer: &mut W,
     near: &mut A,
     far: &mut B,
-    server: &mut Server,
-    store: &mut MemStore,
+    far_end: &mut FarEnd,
     why: &mut Option<Why>,
     carriage: Carriage,
 ) -> Result<ScriptEnd, RunFault>
     ensures runs { Runs (R.remaining reader.old) (R.remaining reader.new) (W.contents writer.old) (W.contents writer.new) result }
-    ensures talk { IfAsked result (Converses loop_pace (talker (new_caller LOOP_CLIENT LOOP_SERVER SCRIPT_WINDOW carriage 0) (A.queue near.old)) (A.queue near.new) (R.remaining reader.old) (R.remaining reader.new) (W.contents writer.old) (W.contents writer.new) result) }
+    ensures talk { IfAsked result (Converses loop_pace (0 < A.count near.new + B.count far.new) (talker (new_caller LOOP_CLIENT LOOP_SERVER SCRIPT_WINDOW carriage 0) (A.queue near.old)) (A.queue near.new) (R.remaining reader.old) (R.remaining reader.new) (W.contents writer.old) (W.contents writer.new) result) }
     ensures well { OnOk result (A.count near.new + B.count far.new ≤ A.count near.old + B.count far.old) }
     ensures failed { result ≡ Err RunFault.LinkFault → 0 < A.count near.new + B.count far.new }
 {
+    let alloc = far_end.alloc;
     let mut turns = Both {
-        alloc,
         near,
         far,
-        server,
-        store,
+        far_end,
         turns: 0,
         buffer: [0; LINK_ROOM],
         is_idle: false,

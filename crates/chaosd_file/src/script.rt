@@ -1,9 +1,9 @@
 //! The run over a script.
-ghost use Rattle.std.specs.Prelude.{◌≡◌, ◌<◌, ◌≤◌, Err, IfErr, None, OnOk};
+ghost use Rattle.std.specs.Prelude.{◌≡◌, ◌<◌, ◌≤◌, ◌⊎◌, Err, IfErr, None, OnOk};
 ghost use Rattle.chaosd_io.specs.Buffer.{written_of};
 ghost use Rattle.chaosd_io.specs.declared.limits.TheConstants.{INPUT_LIMIT};
 ghost use Rattle.chaosd_file.specs.Asking.{AsksLine, Idles};
-ghost use Rattle.chaosd_file.specs.Conversation.{Asks, Converses, IfAsked};
+ghost use Rattle.chaosd_file.specs.Conversation.{Asks, Converses, IfAsked, is_broken};
 ghost use Rattle.chaosd_file.specs.Script.{Runs};
 ghost use Rattle.file_client.specs.Fault.{IsTurnFault};
 ghost use Rattle.file_client.specs.Talk.{talker};
@@ -32,18 +32,24 @@ pub fn run_script<P: Ready<R>, T: Turns, R: Read, W: Write>(
     ensures same_turns { (T.links turns.new ≡ T.links turns.old) × (T.time turns.new ≡ T.time turns.old) }
     ensures failed { result ≡ Err RunFault.LinkFault → 0 < T.failures turns.new }
     ensures well { OnOk result (T.failures turns.new ≤ T.failures turns.old) }
-    ensures talk { Converses (T.pace (T.time turns.old)) (talker client.old.caller (T.queue turns.old)) (T.queue turns.new) (R.remaining reader.old) (R.remaining reader.new) (W.contents writer.old) (W.contents writer.new) result }
+    ensures talk { Converses (T.pace (T.time turns.old)) (T.stops (T.time turns.old) ⊎ (0 < T.failures turns.new)) (talker client.old.caller (T.queue turns.old)) (T.queue turns.new) (R.remaining reader.old) (R.remaining reader.new) (W.contents writer.old) (W.contents writer.new) result }
     ensures gone { IfAsked result (client.new.caller.id ≡ None) }
 {
     let end = ask_all::<P, T, R, W>(client, turns, reader, writer, why);
-    match end {
-        Ok(_) => client.hang_up(turns)?,
-        Err(RunFault::LinkFault | RunFault::ClockFault) => {}
-        Err(_) => {
-            let _later = client.hang_up(turns);
-        }
+    if is_broken(&end) {
+        return end;
     }
-    end
+    let parted = client.hang_up(turns);
+    let end = end?;
+    parted?;
+    Ok(end)
+}
+
+/// Whether no turn can be taken any more: a link failed, or the clock.
+fn is_broken(end: &Result<ScriptEnd, RunFault>) -> bool
+    ensures { result ≡ is_broken end.now }
+{
+    matches!(end, Err(RunFault::LinkFault | RunFault::ClockFault))
 }
 
 /// Asks each command in turn and prints its reply, until one gets none. Behind the last an EOF is sent. What waits to be printed is
@@ -69,11 +75,11 @@ fn ask_all<P: Ready<R>, T: Turns, R: Read, W: Write>(
     };
     let end = ask_lines::<P, T, R, W>(client, turns, reader, &mut places, &mut out, writer);
     *why = places.why.take();
-    if let Err(RunFault::LinkFault | RunFault::ClockFault) = end {
-        let _later = hand_on(&mut out, writer);
+    let printed = hand_on(&mut out, writer);
+    if is_broken(&end) {
         return end;
     }
-    hand_on(&mut out, writer)?;
+    printed?;
     end
 }
 
@@ -136,7 +142,7 @@ fn wait_for_input<P: Ready<R>, T: Turns, R: Read>(
 ) -> Result<(), RunFault>
     ensures idles { OnOk result (Idles (T.pace (T.time turns.old)) (talker client.old.caller (T.queue turns.old)) (talker client.new.caller (T.queue turns.new))) }
     ensures input { R.remaining reader.new ≡ R.remaining reader.old }
-    ensures faults { IfErr result (IsTurnFault (T.failures turns.new)) }
+    ensures faults { IfErr result (IsTurnFault (T.stops (T.time turns.old)) (T.failures turns.new)) }
     ensures well { OnOk result (T.failures turns.new ≤ T.failures turns.old) }
     ensures same_turns { (T.links turns.new ≡ T.links turns.old) × (T.time turns.new ≡ T.time turns.old) }
 {

@@ -44,7 +44,7 @@ impl<'a, C: Dial, L: Link> Call<'a, C, L> {
         carriage: Carriage,
     ) -> Result<Self, RunFault>
         requires { 0 < me }
-        ensures faults { IfErr result (λ fault. (fault ≡ RunFault.ClockFault) ⊎ (fault ≡ RunFault.NoMemory)) }
+        ensures faults { IfErr result (λ fault. ((fault ≡ RunFault.ClockFault) × C.fails clock.now) ⊎ (fault ≡ RunFault.NoMemory)) }
         ensures begins { IfOk result (λ call. (call.turns.clock.now ≡ clock.now) × BeginsBy (C.shows clock.now) (C.dates clock.now) call.turns.epoch) }
         ensures made { IfOk result (λ call. call.client.caller ≡ new_caller me to window carriage (low_bits_of call.turns.epoch)) }
     {
@@ -58,7 +58,7 @@ impl<'a, C: Dial, L: Link> Call<'a, C, L> {
     /// # Errors
     /// `ClockFault` and `LinkFault`.
     pub fn connect(&mut self) -> Result<(), RunFault>
-        ensures faults { IfErr result (IsTurnFault (L.count self.new.turns.link.now)) }
+        ensures faults { IfErr result (IsTurnFault (C.fails self.old.turns.clock.now) (L.count self.new.turns.link.now)) }
         ensures well { OnOk result (Connects (clock_pace (C.shows self.old.turns.clock.now) self.old.turns.epoch) self.new.client.now (L.queue self.old.turns.link.now) (L.queue self.new.turns.link.now) self.old.client.caller self.new.client.caller) }
         ensures unfailed { OnOk result (L.count self.new.turns.link.now ≤ L.count self.old.turns.link.now) }
         ensures same_server { (self.new.client.caller.to ≡ self.old.client.caller.to) × (self.new.client.caller.carriage ≡ self.old.client.caller.carriage) }
@@ -72,7 +72,7 @@ impl<'a, C: Dial, L: Link> Call<'a, C, L> {
     /// # Errors
     /// `ClockFault` and `LinkFault`.
     pub fn end(&mut self) -> Result<(), RunFault>
-        ensures faults { IfErr result (IsTurnFault (L.count self.new.turns.link.now)) }
+        ensures faults { IfErr result (IsTurnFault (C.fails self.old.turns.clock.now) (L.count self.new.turns.link.now)) }
         ensures talk { OnOk result (SendsFarewell (clock_pace (C.shows self.old.turns.clock.now) self.old.turns.epoch) (talker self.old.client.caller (L.queue self.old.turns.link.now)) (talker self.new.client.caller (L.queue self.new.turns.link.now))) }
         ensures unfailed { OnOk result (L.count self.new.turns.link.now ≤ L.count self.old.turns.link.now) }
     {
@@ -84,7 +84,7 @@ impl<'a, C: Dial, L: Link> Call<'a, C, L> {
     /// # Errors
     /// `ClockFault` and `LinkFault`. The connection is given up also then.
     pub fn hang_up(&mut self) -> Result<(), RunFault>
-        ensures faults { IfErr result (IsTurnFault (L.count self.new.turns.link.now)) }
+        ensures faults { IfErr result (IsTurnFault (C.fails self.old.turns.clock.now) (L.count self.new.turns.link.now)) }
         ensures well { OnOk result (HangsUp (clock_pace (C.shows self.old.turns.clock.now) self.old.turns.epoch) (L.queue self.old.turns.link.now) (L.queue self.new.turns.link.now) self.old.client.caller self.new.client.caller) }
         ensures unfailed { OnOk result (L.count self.new.turns.link.now ≤ L.count self.old.turns.link.now) }
         ensures gone { self.new.client.caller.id ≡ None }
@@ -108,8 +108,8 @@ impl<C: Dial, L: Link> Talk for Call<'_, C, L> {
     /// It counts turns as far as they can be.
     ghost course = { λ call. record { turns = counted call.client.count; moment = call.client.now; is_over = is_over call.client.caller.host call.client.caller.id; failures = L.count call.turns.link.now } };
 
-    /// A fault of the clock, or of the link, where it counts a failure.
-    ghost failed_by = { λ call. IsTurnFault (L.count call.turns.link.now) };
+    /// A fault of the clock, where that may fail, or of the link, where it counts a failure.
+    ghost failed_by = { λ call. IsTurnFault (C.fails call.turns.clock.now) (L.count call.turns.link.now) };
 
     fn send(&mut self, command: &[u8]) -> bool
         ensures talk { after_send result command.now None ≡ None }
@@ -137,7 +137,7 @@ impl<C: Dial, L: Link> Talk for Call<'_, C, L> {
 
     /// As [`Client::turn`]: where no OPN came for 2 seconds another connection is asked for first.
     fn turn(&mut self) -> Result<(), RunFault>
-        ensures faults { IfErr result (IsTurnFault (L.count self.new.turns.link.now)) }
+        ensures faults { IfErr result (IsTurnFault (C.fails self.new.turns.clock.now) (L.count self.new.turns.link.now)) }
         ensures failed { result ≡ Err RunFault.LinkFault → Rose (L.count self.old.turns.link.now) (L.count self.new.turns.link.now) }
         ensures well { OnOk result (TurnsAt self.new.client.now (L.queue self.old.turns.link.now) (L.queue self.new.turns.link.now) (asked_again (clock_pace (C.shows self.old.turns.clock.now) self.old.turns.epoch) self.new.client.now self.old.client.caller) self.new.client.caller) }
         ensures moment { OnOk result ((clock_pace (C.shows self.old.turns.clock.now) self.old.turns.epoch).Shows self.new.client.now) }

@@ -187,7 +187,7 @@ impl Caller {
         ensures same_links { T.links turns.new ≡ T.links turns.old }
         ensures same_time { T.time turns.new ≡ T.time turns.old }
         ensures well { OnOk result (T.failures turns.new ≤ T.failures turns.old) }
-        ensures faults { IfErr result (IsTurnFault (T.failures turns.new)) }
+        ensures faults { IfErr result (IsTurnFault (T.stops (T.time turns.old)) (T.failures turns.new)) }
         ensures failed { result ≡ Err RunFault.LinkFault → T.failed turns.old turns.new }
     {
         turns.turn(

@@ -66,7 +66,7 @@ impl Client {
     /// # Errors
     /// `ClockFault`, and what `hang_up` gives.
     pub fn connect<T: Turns>(&mut self, turns: &mut T) -> Result<(), RunFault>
-        ensures faults { IfErr result (IsTurnFault (T.failures turns.new)) }
+        ensures faults { IfErr result (IsTurnFault (T.stops (T.time turns.old)) (T.failures turns.new)) }
         ensures well { OnOk result (Connects (T.pace (T.time turns.old)) self.new.now (T.queue turns.old) (T.queue turns.new) self.old.caller self.new.caller) }
         ensures unfailed { OnOk result (T.failures turns.new ≤ T.failures turns.old) }
         ensures same_server { (self.new.caller.to ≡ self.old.caller.to) × (self.new.caller.carriage ≡ self.old.caller.carriage) }
@@ -87,7 +87,7 @@ impl Client {
     /// # Errors
     /// `LinkFault` and `ClockFault`. The connection is given up also then.
     pub fn hang_up<T: Turns>(&mut self, turns: &mut T) -> Result<(), RunFault>
-        ensures faults { IfErr result (IsTurnFault (T.failures turns.new)) }
+        ensures faults { IfErr result (IsTurnFault (T.stops (T.time turns.old)) (T.failures turns.new)) }
         ensures well { OnOk result (HangsUp (T.pace (T.time turns.old)) (T.queue turns.old) (T.queue turns.new) self.old.caller self.new.caller) }
         ensures unfailed { OnOk result (T.failures turns.new ≤ T.failures turns.old) }
         ensures gone { self.new.caller.id ≡ None }
@@ -111,7 +111,7 @@ impl Client {
     /// # Errors
     /// `ClockFault`.
     pub fn begin<T: Turns>(&mut self, turns: &T) -> Result<(), RunFault>
-        ensures faults { IfErr result (λ fault. fault ≡ RunFault.ClockFault) }
+        ensures faults { IfErr result (λ fault. (fault ≡ RunFault.ClockFault) × T.stops (T.time turns.now)) }
         ensures moment { OnOk result ((T.pace (T.time turns.now)).Shows self.new.now) }
         ensures same { self.new.caller ≡ self.old.caller }
     {
@@ -147,7 +147,7 @@ impl Client {
     /// # Errors
     /// `LinkFault` and `ClockFault`.
     pub fn turn<T: Turns>(&mut self, turns: &mut T) -> Result<(), RunFault>
-        ensures faults { IfErr result (IsTurnFault (T.failures turns.new)) }
+        ensures faults { IfErr result (IsTurnFault (T.stops (T.time turns.old)) (T.failures turns.new)) }
         ensures failed { result ≡ Err RunFault.LinkFault → T.failed turns.old turns.new }
         ensures well { OnOk result (TurnsAt self.new.now (T.queue turns.old) (T.queue turns.new) (asked_again (T.pace (T.time turns.old)) self.new.now self.old.caller) self.new.caller) }
         ensures moment { OnOk result ((T.pace (T.time turns.old)).Shows self.new.now) }
@@ -181,7 +181,7 @@ impl Client {
         command: &[u8],
         reply: &mut Reply,
     ) -> Result<bool, RunFault>
-        ensures faults { IfErr result (IsTurnFault (T.failures turns.new)) }
+        ensures faults { IfErr result (IsTurnFault (T.stops (T.time turns.old)) (T.failures turns.new)) }
         ensures talk { IfOk result (λ came. Exchanges (T.pace (T.time turns.old)) (talker self.old.caller (T.queue turns.old)) command.now (taken came reply.new.items) (talker self.new.caller (T.queue turns.new))) }
         ensures unfailed { OnOk result (T.failures turns.new ≤ T.failures turns.old) }
         ensures same_turns { (T.links turns.new ≡ T.links turns.old) × (T.time turns.new ≡ T.time turns.old) }
@@ -207,7 +207,7 @@ impl Client {
     /// # Errors
     /// `LinkFault` and `ClockFault`.
     pub fn end<T: Turns>(&mut self, turns: &mut T) -> Result<(), RunFault>
-        ensures faults { IfErr result (IsTurnFault (T.failures turns.new)) }
+        ensures faults { IfErr result (IsTurnFault (T.stops (T.time turns.old)) (T.failures turns.new)) }
         ensures talk { OnOk result (SendsFarewell (T.pace (T.time turns.old)) (talker self.old.caller (T.queue turns.old)) (talker self.new.caller (T.queue turns.new))) }
         ensures unfailed { OnOk result (T.failures turns.new ≤ T.failures turns.old) }
         ensures same_turns { (T.links turns.new ≡ T.links turns.old) × (T.time turns.new ≡ T.time turns.old) }
@@ -228,7 +228,7 @@ impl Client {
 
     /// Asks for a connection, where there is none.
     fn call<T: Turns>(&mut self, turns: &mut T) -> Result<(), RunFault>
-        ensures faults { IfErr result (IsTurnFault (T.failures turns.new)) }
+        ensures faults { IfErr result (IsTurnFault (T.stops (T.time turns.old)) (T.failures turns.new)) }
         ensures talk { OnOk result (Talks (T.pace (T.time turns.old)) (talker self.old.caller (T.queue turns.old)) silence (talker self.new.caller (T.queue turns.new))) }
         ensures unfailed { OnOk result (T.failures turns.new ≤ T.failures turns.old) }
         ensures same_turns { (T.links turns.new ≡ T.links turns.old) × (T.time turns.new ≡ T.time turns.old) }
@@ -267,7 +267,7 @@ impl Client {
         is_written: bool,
     ) -> Result<bool, RunFault>
         requires moment { (T.pace (T.time turns.old)).Shows self.old.now }
-        ensures faults { IfErr result (IsTurnFault (T.failures turns.new)) }
+        ensures faults { IfErr result (IsTurnFault (T.stops (T.time turns.old)) (T.failures turns.new)) }
         ensures talk { IfOk result (λ is. WritesAndTurns (T.pace (T.time turns.old)) 1 (talker self.old.caller (T.queue turns.old)) (record { op = op; body = bytes.now }) is_written is (talker self.new.caller (T.queue turns.new))) }
         ensures moment { OnOk result ((T.pace (T.time turns.old)).Shows self.new.now) }
         ensures unfailed { OnOk result (T.failures turns.new ≤ T.failures turns.old) }
@@ -306,7 +306,7 @@ impl Client {
 
     /// Looks at the clock.
     pub(crate) fn look<T: Turns>(&mut self, turns: &T) -> Result<(), RunFault>
-        ensures faults { IfErr result (λ fault. fault ≡ RunFault.ClockFault) }
+        ensures faults { IfErr result (λ fault. (fault ≡ RunFault.ClockFault) × T.stops (T.time turns.now)) }
         ensures moment { OnOk result ((T.pace (T.time turns.now)).Shows self.new.now) }
         ensures same { (self.new.caller ≡ self.old.caller) × (self.new.count ≡ self.old.count) }
     {
@@ -327,7 +327,7 @@ impl Client {
 
     /// One turn at this moment. The place where a turn is taken.
     pub(crate) fn pass<T: Turns>(&mut self, turns: &mut T, may_wait: bool) -> Result<(), RunFault>
-        ensures faults { IfErr result (IsTurnFault (T.failures turns.new)) }
+        ensures faults { IfErr result (IsTurnFault (T.stops (T.time turns.old)) (T.failures turns.new)) }
         ensures failed { result ≡ Err RunFault.LinkFault → T.failed turns.old turns.new }
         ensures well { OnOk result (TurnsAt self.old.now (T.queue turns.old) (T.queue turns.new) self.old.caller self.new.caller) }
         ensures unfailed { OnOk result (T.failures turns.new ≤ T.failures turns.old) }

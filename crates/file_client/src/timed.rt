@@ -27,7 +27,7 @@ impl<'a, C: Dial, L: Link> Timed<'a, C, L> {
     /// # Errors
     /// `ClockFault`.
     pub fn new(clock: &'a C, link: &'a mut L) -> Result<Self, RunFault>
-        ensures faults { IfErr result (λ fault. fault ≡ RunFault.ClockFault) }
+        ensures faults { IfErr result (λ fault. (fault ≡ RunFault.ClockFault) × C.fails clock.now) }
         ensures begins { IfOk result (λ turns. (turns.clock.now ≡ clock.now) × BeginsBy (C.shows clock.now) (C.dates clock.now) turns.epoch) }
         ensures link { IfOk result (λ turns. (turns.link.ghost_name ≡ link.entry.ghost_name) × (turns.link.now ≡ link.old)) }
     {
@@ -53,6 +53,8 @@ impl<C: Dial, L: Link> Turns for Timed<'_, C, L> {
     ghost time = { λ turns. (turns.clock.now, turns.epoch) };
 
     ghost pace = { λ time. clock_pace (C.shows time.0) time.1 };
+
+    ghost stops = { λ time. C.fails time.0 };
 
     ghost passed = { λ time. low_bits_of time.1 };
 

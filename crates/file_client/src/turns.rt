@@ -22,6 +22,9 @@ pub trait Turns: Drop {
     /// The moments that it may tell, the numbers that connections begin with, and how long an OPN is waited for.
     ghost pace: { Time → Pace };
 
+    /// That the moment may be one that can't be told.
+    ghost stops: { Time → Type 0 };
+
     /// How many indices a new client passes over.
     ghost passed: { Time → ℕ };
 
@@ -43,7 +46,7 @@ pub trait Turns: Drop {
     /// `ClockFault` where it can't be told.
     fn now(&self) -> Result<u64, RunFault>
         ensures shown { IfOk result (λ now. (pace (time self.now)).Shows now) }
-        ensures faults { IfErr result (λ fault. fault ≡ RunFault.ClockFault) };
+        ensures faults { IfErr result (λ fault. (fault ≡ RunFault.ClockFault) × stops (time self.now)) };
 
     /// The number with which a connection that is asked for at this moment begins.
     fn start(&self, now: u64) -> PktNum
@@ -79,6 +82,6 @@ pub trait Turns: Drop {
         // It ends well only where no link's count rose.
         ensures well { OnOk result (failures self.new ≤ failures self.old) }
         // A fault of a link is told only where one failed, and failures were counted.
-        ensures faults { IfErr result (IsTurnFault (failures self.new)) }
+        ensures faults { IfErr result (IsTurnFault (stops (time self.old)) (failures self.new)) }
         ensures failed { result ≡ Err RunFault.LinkFault → failed self.old self.new };
 }

@@ -2,12 +2,12 @@
 use Rattle.chaosd_io.specs.declared.fault.RunFault.{RunFault}
 use Rattle.chaosd_io.specs.declared.fault.RunFault.TheVariants.{ReadFault, WriteFault, InputTooLong, NoMemory, BadScript, LinkFault, ClockFault}
 
--- want of memory, and a fault of the clock or of its link
-abbrev pub IsServiceFault : RunFault → Type 0
-IsServiceFault NoMemory = Unit {0}
-IsServiceFault LinkFault = Unit {0}
-IsServiceFault ClockFault = Unit {0}
-IsServiceFault ReadFault = ⊥
-IsServiceFault WriteFault = ⊥
-IsServiceFault InputTooLong = ⊥
-IsServiceFault (BadScript number) = ⊥
+-- out of memory, and a fault of its link or of the clock, where that stops
+abbrev pub IsServiceFault : Type 0 → RunFault → Type 0
+IsServiceFault Stops NoMemory = Unit {0}
+IsServiceFault Stops LinkFault = Unit {0}
+IsServiceFault Stops ClockFault = Stops
+IsServiceFault Stops ReadFault = ⊥
+IsServiceFault Stops WriteFault = ⊥
+IsServiceFault Stops InputTooLong = ⊥
+IsServiceFault Stops (BadScript number) = ⊥

@@ -9,6 +9,8 @@ use Rattle.chaos_host.specs.View.{HostView, new_host}
 use Rattle.chaos_turn.specs.Station.{Station, station}
 use Rattle.chaos_turn.specs.declared.end.TurnEnd.{TurnEnd}
 use Rattle.chaos_turn.specs.declared.limits.TheConstants.{TURN_ROOM}
+use Rattle.chaosd_clock.specs.Clock.{BeginsBy, IsMoment, number_of}
+use Rattle.chaosd_clock.specs.declared.clock.Epoch.{Epoch}
 use Rattle.file_server.specs.Server.{Server, server}
 use Rattle.file_server.specs.Sessions.{new_serving}
 use Rattle.file_server.specs.Turn.{RunsTurn}
@@ -32,25 +34,26 @@ module _ {S : Type 0} where
       (record { packets = []; cap = TURN_ROOM })
 
 module _ {S : Type 0} (changes : S → S → StoreChange) (carriage : Carriage) where
-  -- One turn, at some moment; a new connection numbers what it writes from some number on.
-  pub record ServesTurn (before after : Station (Server S)) : Type 0 where
-    pub start : ℕ
+  -- One turn, at a moment that the clock shows; a connection of this turn begins with the number of the moment.
+  pub record ServesTurn (Shows : ℕ → Type 0) (epoch : Epoch) (before after : Station (Server S)) : Type 0 where
     pub now : ℕ
+    pub shown : IsMoment Shows epoch now
     pub end : TurnEnd
-    pub turn : RunsTurn changes carriage start now before after end
+    pub turn : RunsTurn changes carriage (number_of epoch now) now before after end
 
   -- So many turns, one after another.
-  abbrev pub ServesTurns : ℕ → Station (Server S) → Station (Server S) → Type 0
-  ServesTurns zero first last = last ≡ first
-  ServesTurns (suc turns) first last =
-      (between : Station (Server S)) × ServesTurns turns first between × ServesTurn between last
+  abbrev pub ServesTurns : (ℕ → Type 0) → Epoch → ℕ → Station (Server S) → Station (Server S) → Type 0
+  ServesTurns Shows epoch zero first last = last ≡ first
+  ServesTurns Shows epoch (suc turns) first last = (between : Station (Server S))
+      × ServesTurns Shows epoch turns first between × ServesTurn Shows epoch between last
 
-  -- A new service of this configuration and address made so many turns on a store and over a link.
-  abbrev pub ServesBy : ConfigView → ℕ → ℕ → S → S → Option QueueView → Option QueueView → Type 0
-  ServesBy config turns address store store' queue queue' = (last : Station (Server S))
-      × ServesTurns turns (new_service config address store queue) last × (last.node.store ≡ store')
-      × (last.queue ≡ queue')
+  -- A new service of this configuration and address made so many turns on a store and over a link, by this clock.
+  abbrev pub ServesBy : (ℕ → Type 0) → (ℕ → Type 0) → ConfigView → ℕ → ℕ → S → S → Option QueueView → Option QueueView
+      → Type 0
+  ServesBy Shows Dates config turns address store store' queue queue' = (epoch : Epoch) × (last : Station (Server S))
+      × BeginsBy Shows Dates epoch × ServesTurns Shows epoch turns (new_service config address store queue) last
+      × (last.node.store ≡ store') × (last.queue ≡ queue')
 
   -- one of the usual configuration
-  abbrev pub Serves : ℕ → ℕ → S → S → Option QueueView → Option QueueView → Type 0
-  Serves = ServesBy usual_config
+  abbrev pub Serves : (ℕ → Type 0) → (ℕ → Type 0) → ℕ → ℕ → S → S → Option QueueView → Option QueueView → Type 0
+  Serves Shows Dates = ServesBy Shows Dates usual_config

@@ -11,10 +11,9 @@ use chaos_conn::ConnConfig;
 use chaos_file::Store;
 use chaos_link::{Carriage, Link};
 use chaos_turn::TurnEnd;
-use chaosd_clock::Epoch;
+use chaosd_clock::{Dial, Epoch};
 use chaosd_io::RunFault;
 use std::alloc::Global;
-use std::time::Clock;
 
 /// What a service is asked for.
 #[derive(Clone, Copy)]
@@ -40,7 +39,7 @@ pub struct ServeOptions {
 /// # Errors
 /// [`RunFault`]: 4 where there is no memory for the host, 6 where the link failed, after the turn in which it did, 7 where the clock
 /// can't be read.
-pub fn run_serve<C: Clock, L: Link, S: Store>(
+pub fn run_serve<C: Dial, L: Link, S: Store>(
     clock: &C,
     alloc: Global,
     link: &mut L,
@@ -50,9 +49,9 @@ pub fn run_serve<C: Clock, L: Link, S: Store>(
     carriage: Carriage,
 ) -> Result<(), RunFault>
     requires { 0 < me }
-    ensures faults { IfErr result IsServiceFault }
-    // Where it ends well it made all its turns.
-    ensures turns { OnOk result (Serves (change S.contents S.may_give S.count) carriage turns me store.old store.new (L.queue link.old) (L.queue link.new)) }
+    ensures faults { IfErr result (IsServiceFault (C.fails clock.now)) }
+    // Where it ends well it made all its turns, each at a moment of the clock.
+    ensures turns { OnOk result (Serves (change S.contents S.may_give S.count) carriage (C.shows clock.now) (C.dates clock.now) turns me store.old store.new (L.queue link.old) (L.queue link.new)) }
     // It ends well only where the link's count of failures didn't rise, and by LinkFault only where failures were counted.
     ensures well { OnOk result (L.count link.new ≤ L.count link.old) }
     ensures failed { result ≡ Err RunFault.LinkFault → 0 < L.count link.new }
@@ -71,7 +70,7 @@ pub fn run_serve<C: Clock, L: Link, S: Store>(
 ///
 /// # Errors
 /// Those of [`run_serve`].
-pub fn run_serve_by<C: Clock, L: Link, S: Store, G: Log>(
+pub fn run_serve_by<C: Dial, L: Link, S: Store, G: Log>(
     clock: &C,
     alloc: Global,
     link: &mut L,
@@ -80,9 +79,9 @@ pub fn run_serve_by<C: Clock, L: Link, S: Store, G: Log>(
     log: &mut G,
 ) -> Result<(), RunFault>
     requires { 0 < options.me }
-    ensures faults { IfErr result IsServiceFault }
-    // Where it ends well it made all its turns.
-    ensures turns { OnOk result (ServesBy (change S.contents S.may_give S.count) options.carriage options.config options.turns options.me store.old store.new (L.queue link.old) (L.queue link.new)) }
+    ensures faults { IfErr result (IsServiceFault (C.fails clock.now)) }
+    // Where it ends well it made all its turns, each at a moment of the clock.
+    ensures turns { OnOk result (ServesBy (change S.contents S.may_give S.count) options.carriage (C.shows clock.now) (C.dates clock.now) options.config options.turns options.me store.old store.new (L.queue link.old) (L.queue link.new)) }
     // It ends well only where the link's count of failures didn't rise, and by LinkFault only where failures were counted.
     ensures well { OnOk result (L.count link.new ≤ L.count link.old) }
     ensures failed { result ≡ Err RunFault.LinkFault → 0 < L.count link.new }

@@ -1,14 +1,23 @@
-use Rattle.chaosd_file.proofs.Handed.{asks_handed, runs_handed}
+use Rattle.std.proofs.Common.{sym}
+use Rattle.std.proofs.lemmas.Result.{err_from_is_err_and}
+use Rattle.chaosd_file.proofs.Handed.{asks_handed, not_handed, runs_handed}
 use Rattle.chaosd_file.proofs.script.ask_all.Goals as goal
 
 pub returns-clause-runs : goal.returns-clause-runs
 returns-clause-runs g c =
-    runs_handed _ _ (g.W.Write.contents c.args.writer.now) _ (g.W.Write.contents c.hand_on.new.writer) c.new-out.result
-    c.hand_on.new.out c.ask_lines-end.result c.new-out.ensures c.ask_lines-end.ensures.runs
-    c.in_ok-hand_on.ensures.kept c.in_ok-hand_on.ensures.empty
+    runs_handed _ _ (g.W.Write.contents c.args.writer.now) _ (g.W.Write.contents c.hand_on-printed.new.writer)
+    c.new-out.result c.hand_on-printed.new.out c.ask_lines-end.result c.new-out.ensures c.ask_lines-end.ensures.runs
+    c.hand_on-printed.ensures.kept c.in_ok-printed.ensures.empty
 
 pub returns-clause-talk : goal.returns-clause-talk
 returns-clause-talk g c =
-    asks_handed _ _ _ _ _ (g.W.Write.contents c.args.writer.now) _ (g.W.Write.contents c.hand_on.new.writer)
-    c.new-out.result c.hand_on.new.out c.ask_lines-end.result c.new-out.ensures c.ask_lines-end.ensures.talk
-    c.in_ok-hand_on.ensures.kept c.in_ok-hand_on.ensures.empty
+    asks_handed _ _ _ _ _ (g.W.Write.contents c.args.writer.now) _ (g.W.Write.contents c.hand_on-printed.new.writer)
+    c.new-out.result c.hand_on-printed.new.out c.ask_lines-end.result c.new-out.ensures c.ask_lines-end.ensures.talk
+    c.hand_on-printed.ensures.kept c.in_ok-printed.ensures.empty
+
+pub returns-in_err-printed-clause-talk : goal.returns-in_err-printed-clause-talk
+returns-in_err-printed-clause-talk g c =
+    let p = err_from_is_err_and c.from_residual.result c.from_residual.ensures.1 in
+    rw (p.1, p.2)
+    (not_handed _ _ _ _ _ _ _ _ _ c.ask_lines-end.result c.in_err-printed.field-0.0 c.in_err-printed.ensures.faults
+    (sym c.if-is_broken.ensures) c.ask_lines-end.ensures.runs c.ask_lines-end.ensures.talk)

@@ -6,7 +6,7 @@ use Rattle.chaosd_io.specs.declared.limits.TheConstants.{INPUT_LIMIT, KEPT_LEN}
 use Rattle.chaosd_io.specs.Reader.{GivesMore}
 use Rattle.chaosd_io.proofs.Cutting.{none_came, told}
 use Rattle.file_client.specs.Talk.{talker}
-use Rattle.chaosd_file.proofs.Asking.{given_idle, nothing_asked, next_is, last_is, asked_more, last_asked, line_before, line_runs, unread_before, unread_runs, ran_in_part, ran_to_end, asks_in_part, asks_to_end}
+use Rattle.chaosd_file.proofs.Asking.{given_idle, nothing_asked, next_is, last_is, asked_more, last_asked, line_before, line_paced, line_runs, unread_before, unread_runs, unwritten_before, ran_in_part, ran_to_end, asks_in_part, asks_to_end}
 use Rattle.chaosd_file.proofs.Handed.{given_kept, some_came}
 use Rattle.chaosd_file.proofs.script.ask_lines.Goals.{in-Some+in_ok-ask_line-2+else-not-branch-3, in_default}
 use Rattle.chaosd_file.proofs.script.ask_lines.Goals as goal
@@ -36,11 +36,11 @@ returns-in_err-ask_line-clause-talk g c =
     let p = err_from_is_err_and c.from_residual.result c.from_residual.ensures.1 in
     let (given, asked, gives) = c.lines.invariant.asked in
     rw (p.1, p.2)
-    (line_before _ (g.T.Turns.pace (g.T.Turns.time c.lines.turns)) _ _
-    (talker c.ask_line.new.client.caller (g.T.Turns.queue c.ask_line.new.turns)) _ _ _ _ _ c.lines.replied given
-    _ c.in_err-ask_line.field-0.0 asked
+    (line_before _ _ _ (talker c.ask_line.new.client.caller (g.T.Turns.queue c.ask_line.new.turns)) _ _ _ _ _
+    c.lines.replied given _ c.in_err-ask_line.field-0.0 asked
     (next_is _ _ given _ _ c.line-line.ensures (c.lines-test.ensures.given _ _ _ given gives))
-    c.in_err-ask_line.ensures.asks)
+    (line_paced (g.T.Turns.pace (g.T.Turns.time c.lines.turns)) _ _ _ _ _ _ _ c.in_err-ask_line.field-0.0
+    (ap g.T.Turns.pace c.lines.invariant.same_time) c.in_err-ask_line.ensures.asks))
 
 pub returns-then-not-branch-clause-runs : goal.returns-then-not-branch-clause-runs
 returns-then-not-branch-clause-runs g c =
@@ -90,6 +90,15 @@ reads-preserved g c =
       asked =
           (given, asked, some_came _ _ _ _ given _ c.in_ok-refill.field-0 c.if-not-branch-2.false (c.in_ok-refill.ensures.given _ _ given (c.lines-test.ensures.given _ _ _ given gives).0));
     }
+
+pub returns-in_err-hand_on-clause-talk : goal.returns-in_err-hand_on-clause-talk
+returns-in_err-hand_on-clause-talk g c =
+    let p = err_from_is_err_and c.from_residual-in_err-hand_on.result c.from_residual-in_err-hand_on.ensures.1 in
+    let (given, asked, gives) =
+    given_kept _ _ _ _ _ _ _ _ _ _ c.lines.invariant.asked c.in_err-hand_on.ensures.kept in
+    rw (p.1, p.2)
+    (unwritten_before _ _ _ _ _ _ _ c.lines.replied given c.in_err-hand_on.field-0.0 c.in_err-hand_on.ensures.faults
+    asked)
 
 pub returns-in_err-refill-clause-runs : goal.returns-in_err-refill-clause-runs
 returns-in_err-refill-clause-runs g c =
@@ -153,10 +162,14 @@ returns-in_err-ask_line-2-clause-talk g c =
     none_came _ _ _ _ given _ c.in_ok-refill.field-0 c.if-not-branch-2.true
     (c.in_ok-refill.ensures.given _ _ given (c.lines-test.ensures.given _ _ _ given gives).0) in
     rw (p.1, p.2)
-    (line_before _ (g.T.Turns.pace (g.T.Turns.time c.wait_for_input.new.turns)) _ _
+    (line_before _ _ _
     (talker c.ask_line-in-Some.new.client.caller (g.T.Turns.queue c.ask_line-in-Some.new.turns)) _ _ _ _ _
     c.lines.replied given _ c.in_err-ask_line-2.field-0.0 asked
-    (last_is _ _ given _ (c.in-Some.ensures _ _ _ given end.0 end.2)) c.in_err-ask_line-2.ensures.asks)
+    (last_is _ _ given _ (c.in-Some.ensures _ _ _ given end.0 end.2))
+    (line_paced (g.T.Turns.pace (g.T.Turns.time c.wait_for_input.new.turns)) _ _ _ _ _ _ _
+    c.in_err-ask_line-2.field-0.0
+    (ap g.T.Turns.pace (c.wait_for_input.ensures.same_turns.1 ∙ c.lines.invariant.same_time))
+    c.in_err-ask_line-2.ensures.asks))
 
 pub returns-then-not-branch-3-clause-runs : goal.returns-then-not-branch-3-clause-runs
 returns-then-not-branch-3-clause-runs g c =

@@ -1,4 +1,4 @@
-use Rattle.std.proofs.Common.{◌≡◌, ◌∙◌, length, ap, add-one}
+use Rattle.std.proofs.Common.{◌∙◌, length, ap, add-one}
 use Rattle.chaos_host.specs.View.{id_at}
 use Rattle.file_server.specs.Slots.{given_back_at}
 use Rattle.file_server.proofs.Whole.{as_many_at}
