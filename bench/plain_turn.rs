@@ -14,6 +14,7 @@ mod turn;
 
 use file::MemStore;
 use host::{Packet, DATA, MOST_DATAGRAM};
+use std::hint::black_box;
 use std::io;
 use std::time::Instant;
 use turn::{Link, Server, LINK_ROOM};
@@ -67,7 +68,8 @@ fn timed(slots: usize, conns: u16, name: &str) -> io::Result<()> {
         num = num.wrapping_add(1);
         server.link.put(DATA, conns, conns, num, ack, b"T1  LOGIN LISPM");
         ack = ack.wrapping_add(1);
-        server.turn(START, 0, false)?;
+        // A moment that the compiler doesn't know, as there.
+        server.turn(START, black_box(0), false)?;
     }
     println!("{name} {ROUNDS} {} {}", start.elapsed().as_nanos(), server.link.sent);
     Ok(())

@@ -430,6 +430,9 @@ impl Conn {
 
     #[inline]
     pub fn tick(&mut self, now: u64, out: &mut Out) {
+        if self.state == State::Inactive {
+            return;
+        }
         self.last = self.last.max(now);
         if matches!(self.state, State::RfcSent | State::Open) {
             self.wait(out);

@@ -1,6 +1,6 @@
 //! The turns of a client and of a server over a link.
 use crate::file::{Session, Store};
-use crate::host::{Conn, Host, Item, Out, Packet, State, EOF};
+use crate::host::{Conn, Host, Item, Out, Packet, Slot, State, EOF};
 use std::io;
 
 pub const LINK_ROOM: usize = 2048;
@@ -142,7 +142,7 @@ impl<S: Store, L: Link> Server<S, L> {
         for (slot, kept) in host.slots.iter_mut().zip(sessions) {
             let has_ended = slot.conn.state == State::Ended;
             if has_ended || kept.eof && slot.conn.state != State::Inactive && slot.conn.outstanding() == 0 {
-                slot.close(out);
+                end(slot, kept, out);
                 worked |= send_all(link, out)?;
             }
         }
@@ -160,6 +160,13 @@ impl<S: Store, L: Link> Server<S, L> {
             self.host.slots[slot].conn.accept(start, now, &mut self.out);
         }
     }
+}
+
+/// Frees the slot of a connection that has ended, and gives its session's files back: seldom.
+#[cold]
+fn end(slot: &mut Slot, kept: &mut Kept, out: &mut Out) {
+    slot.close(out);
+    kept.session.drop_files();
 }
 
 /// Serves an open connection once.
