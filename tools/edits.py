@@ -56,10 +56,14 @@ class Edit:
 
 
 class Span:
-    """Where a function stands: its file, its first and its last line, and its folder in proofs/."""
+    """Where a function stands: its file, its first and its last line, and its folder in proofs/. Its attributes are of it: the prover
+    names the line of the first."""
 
     def __init__(self, path, name, function, text):
         self.path, self.first = path, function.place[1]
+        above = text.split("\n")[: self.first - 1]
+        while above and above.pop().lstrip().startswith("#["):
+            self.first -= 1
         self.last = text.count("\n", 0, function.body[1]) + 1
         module = path.removeprefix("src/").removesuffix(".rt").removesuffix("/mod")
         owner = f"{function.owner}{function.trait or ''}" if function.owner else ""

@@ -337,6 +337,13 @@ class Passed(Example):
         kept = (self.top / "docs/wrong-bodies.sums").read_text()
         self.assertEqual(["silent", "two"], [it.split()[1] for it in kept.split("\n") if it])
 
+    def test_its_attributes_are_of_a_function(self):
+        text = HIGH.replace("pub fn first", "#[inline]\npub fn first")
+        (self.top / "crates/high/src/lib.rt").write_text(text)
+        it = Sources(self.top).crate("high").functions[None, "first"][0]
+        span = Span("src/lib.rt", "first", it, text)
+        self.assertEqual((9, 15), (span.first, span.last))
+
     def test_nothing_is_known_where_another_function_fails_too(self):
         span = Sources(self.top).crate("high").functions[None, "first"][0]
         first = Span("src/lib.rt", "first", span, HIGH)
