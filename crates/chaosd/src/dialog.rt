@@ -69,13 +69,13 @@ impl<C: Dial + Eprint> Talk for CallDialog<'_, '_, C> {
         is_sent
     }
 
-    fn receive(&mut self) -> Option<Reply> {
-        let reply = self.call.receive();
-        self.unreceived = self.unreceived.saturating_sub(u64::from(reply.is_some()));
-        if reply.is_some() {
+    fn receive(&mut self, reply: &mut Reply) -> bool {
+        let came = self.call.receive(reply);
+        self.unreceived = self.unreceived.saturating_sub(u64::from(came));
+        if came {
             self.waiting.hear();
         }
-        reply
+        came
     }
 
     fn turn(&mut self) -> Result<(), RunFault> {

@@ -198,13 +198,13 @@ impl<T: Talk> Talk for Hurried<T> {
         self.inner.send(command)
     }
 
-    fn receive(&mut self) -> Option<Reply> {
-        let reply = self.inner.receive();
-        if reply.is_some() {
+    fn receive(&mut self, reply: &mut Reply) -> bool {
+        let came = self.inner.receive(reply);
+        if came {
             self.since = None;
             self.is_late = false;
         }
-        reply
+        came
     }
 
     fn turn(&mut self) -> Result<(), RunFault> {

@@ -1,5 +1,5 @@
 //! A talk of which a user is shown how far a file has come.
-ghost use Rattle.std.specs.Prelude.{◌≡◌, ◌≤◌, length, option_map};
+ghost use Rattle.std.specs.Prelude.{◌≡◌, ◌≤◌, length};
 ghost use Rattle.chaos_file.specs.declared.limits.TheConstants.{MAX_REPLY};
 
 use crate::progress::{Progress, Share};
@@ -104,12 +104,12 @@ impl<V: Viewer, T: Talk> Talk for Watched<V, T> {
         self.inner.send(command)
     }
 
-    fn receive(&mut self) -> Option<Reply> {
-        let reply = self.inner.receive();
-        if let Some(reply) = &reply {
+    fn receive(&mut self, reply: &mut Reply) -> bool {
+        let came = self.inner.receive(reply);
+        if came {
             self.progress.note(reply);
         }
-        reply
+        came
     }
 
     fn turn(&mut self) -> Result<(), RunFault> {

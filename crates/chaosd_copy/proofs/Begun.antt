@@ -1,6 +1,6 @@
 -- What was said of a copy, however it ended.
-use Rattle.std.proofs.Common.{◌≡◌, ℕ, suc, zero, ◌+◌, ◌*◌, ◌≤◌, List, [], ◌∷◌, ◌++◌, length, Option, refl, ap, ◌∙◌, subst, arith, inl, inr}
-use Rattle.std.specs.Prelude.{min, option_map, Result, Ok, Err, IfOk, OnErr}
+use Rattle.std.proofs.Common.{◌≡◌, Bool, ℕ, suc, zero, ◌+◌, ◌*◌, ◌≤◌, List, [], ◌∷◌, ◌++◌, length, Option, refl, ap, ◌∙◌, subst, arith, inl, inr}
+use Rattle.std.specs.Prelude.{min, Result, Ok, Err, IfOk, OnErr}
 use Rattle.std.specs.Fmt.{decimal}
 use Rattle.std.proofs.lemmas.List.{append-nil}
 use Rattle.chaos_file.specs.declared.limits.TheConstants.{MAX_CHUNK, MAX_FILE}
@@ -8,7 +8,7 @@ use Rattle.chaos_file.specs.Command.{OpenRead, OpenWrite, Read, Write, Close}
 use Rattle.chaos_file.specs.Spelling.{spelling_of}
 use Rattle.chaos_file.specs.Answer.{Opened, Wrote}
 use Rattle.chaosd_copy.specs.Copy.{upto, chunk, chunk_count, reply_of, put_front, put_front_replies, get_front}
-use Rattle.chaosd_copy.specs.Talk.{Talked, Since, SentOrNot, SentUpTo}
+use Rattle.chaosd_copy.specs.Talk.{Talked, Since, SentOrNot, SentUpTo, taken}
 use Rattle.chaosd_copy.specs.Row.{file_handle, received_in}
 use Rattle.chaosd_copy.specs.Ends.{PutBegun, GetBegun, tids_from, write_sent, write_received, read_sent}
 use Rattle.chaosd_copy.proofs.Joined.{upto_same, since_same, next_tid}
@@ -22,14 +22,14 @@ few_upto a b f (suc k) rs command e l h =
     (rs, inr (subst (λ cs. Since a b cs rs) (ap (upto f) one ∙ ap (λ c. c ∷ []) e) h))
 
 -- one command, whatever came of it
-pub asked_or_not : {R F : Type 0} (items : R → List ℕ) (a b : Option Talked) (f : ℕ → List ℕ) (k : ℕ) (command : List ℕ)
-    (result : Result (Option R) F)
+pub asked_or_not : {F : Type 0} (a b : Option Talked) (f : ℕ → List ℕ) (k : ℕ) (command reply : List ℕ)
+    (result : Result Bool F)
     → f 0 ≡ command → k ≤ 1
-    → IfOk result (λ r. Since a b (upto f k) ([] ++ received_in (option_map items r)))
+    → IfOk result (λ came. Since a b (upto f k) ([] ++ received_in (taken came reply)))
     → OnErr result (Since a b (upto f k) [])
     → SentOrNot a b command
-asked_or_not items a b f k command (Ok r) e l h g = few_upto a b f k _ command e l h
-asked_or_not items a b f k command (Err x) e l h g = few_upto a b f k _ command e l g
+asked_or_not a b f k command reply (Ok came) e l h g = few_upto a b f k _ command e l h
+asked_or_not a b f k command reply (Err x) e l h g = few_upto a b f k _ command e l g
 
 -- some of the commands of a row
 pub sent_up_to : (a b : Option Talked) (f : ℕ → List ℕ) (k m n : ℕ) (rs : List (List ℕ)) → k ≤ m → m ≡ n

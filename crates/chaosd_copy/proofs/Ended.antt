@@ -1,6 +1,6 @@
 -- How a copy ended that wasn't done.
 use Rattle.std.proofs.Common.{◌≡◌, ℕ, ◌+◌, ◌-◌, ◌*◌, ◌<◌, ◌≤◌, Bool, true, false, List, [], ◌∷◌, ◌++◌, length, take, drop, Option, Some, None, refl, ap, ◌∙◌, sym, subst, arith, inl, inr}
-use Rattle.std.specs.Prelude.{min, codes, not, is_some, option_map, Decides, Result, Ok, Err, IfOk}
+use Rattle.std.specs.Prelude.{min, codes, Decides, Result, Ok, Err, IfOk}
 use Rattle.std.specs.Fmt.{decimal}
 use Rattle.std.proofs.lemmas.List.{append_assoc, append-nil, take-append-drop}
 use Rattle.std.proofs.lemmas.Slice.Eq.{bytes_eq-Decides}
@@ -13,7 +13,7 @@ use Rattle.chaos_file.specs.Answer.{AtEnd, Opened, Wrote, Closed, read_answer, r
 use Rattle.chaosd_copy.specs.declared.end.CopyEnd.{CopyEnd}
 use Rattle.chaosd_copy.specs.declared.end.CopyEnd.TheVariants as e
 use Rattle.chaosd_copy.specs.Copy.{upto, chunk, chunk_count, reply_of, put_reply, put_front, put_front_replies, get_front_replies}
-use Rattle.chaosd_copy.specs.Talk.{Talked, Since, Received, sent_if}
+use Rattle.chaosd_copy.specs.Talk.{Talked, Since, Received, sent_if, taken}
 use Rattle.chaosd_copy.specs.Row.{file_handle, received_in}
 use Rattle.chaosd_copy.specs.Ends.{UnlessCopied, IsErrorTo, EndedBy, EndedAt, WritesEnded, PutEnded, IsOpened, IsGiven, IsPiece, ReadsEnded, GetEnded, tids_from, unanswered, write_sent, write_received, read_received}
 use Rattle.chaosd_copy.proofs.Talks.{since_then, none_some}
@@ -66,14 +66,21 @@ unwanted tid handle V W last (e.Strange reply) f h = (h.0, h.1, λ w. h.2 (f rep
 unwanted tid handle V W last e.NoReply f h = h
 unwanted tid handle V W last e.Unknown f h = h
 
+-- whoever got a reply that isn't the one that was wanted got none that is
+pub refused_wanted : (tid handle wanted : List ℕ) (last : Option (List ℕ)) (end : CopyEnd) (is_wanted : Bool)
+    → Decides is_wanted (last ≡ Some wanted) → is_wanted ≡ false → EndedBy tid handle (λ _. ⊥) last end
+    → EndedBy tid handle (λ r. r ≡ wanted) last end
+refused_wanted tid handle wanted last end is_wanted d other h =
+    unwanted tid handle (λ _. ⊥) (λ r. r ≡ wanted) last end
+    (λ x e w. let both : true ≡ false = sym (d.1 (e ∙ ap Some w)) ∙ other in cc) h
+
 -- ---- what was received
 
-pub received_ok : {R F : Type 0} (items : R → List ℕ) (a b : Option Talked) (cs : List (List ℕ))
-    (result : Result (Option R) F)
-    → IfOk result (λ r. Since a b cs ([] ++ received_in (option_map items r)))
-    → IfOk result (λ r. Received a b (received_in (option_map items r)))
-received_ok items a b cs (Ok r) h = (cs, h)
-received_ok items a b cs (Err x) h = tt
+pub received_ok : {F : Type 0} (a b : Option Talked) (cs : List (List ℕ)) (reply : List ℕ) (result : Result Bool F)
+    → IfOk result (λ came. Since a b cs ([] ++ received_in (taken came reply)))
+    → IfOk result (λ came. Received a b (received_in (taken came reply)))
+received_ok a b cs reply (Ok came) h = (cs, h)
+received_ok a b cs reply (Err x) h = tt
 
 pub received_then : (a b c : Option Talked) (cs rs qs : List (List ℕ)) → Since a b cs rs → Received b c qs
     → Received a c (rs ++ qs)
@@ -235,14 +242,9 @@ put_not_closed a b c d first tid path bytes wanted cs ds last end some count sam
     unless_then end _ _ (λ m. put_ended_closing a b c d first tid path bytes cs ds last end some count h k l
     (subst (λ w. EndedBy (decimal (first + 1 + tid)) file_handle (λ r. r ≡ w) last end) same m))
 
-pub unreceived : {R : Type 0} (items : R → List ℕ) (r : Option R) → r ≡ None → option_map items r ≡ None
-unreceived items None e = refl
-unreceived items (Some x) e = cc
-
-pub is_received : {R : Type 0} (items : R → List ℕ) (r : Option R) (b : Bool) → is_some r ≡ not b → b ≡ false
-    → option_map items r ≡ None → ⊥
-is_received items None b told f e = let h : false ≡ not false = told ∙ ap not f in cc
-is_received items (Some x) b told f e = none_some (items x) (sym e)
+pub is_received : (came : Bool) (reply : List ℕ) → came ≡ true → taken came reply ≡ None → ⊥
+is_received true reply e h = none_some reply (sym h)
+is_received false reply e h = cc
 
 -- ---- a get
 

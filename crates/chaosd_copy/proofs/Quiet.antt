@@ -1,10 +1,10 @@
 -- Turns in which nothing is received.
 use Rattle.std.proofs.Common.{◌≡◌, ℕ, ◌+◌, ◌-◌, ◌<◌, ◌≤◌, Bool, true, false, List, [], ◌∷◌, ◌++◌, Option, Some, None, refl, ap, ◌∙◌, sym, subst, arith, inl, inr}
-use Rattle.std.specs.Prelude.{option_map, Result, Ok, Err, IfOk, MatchOption}
+use Rattle.std.specs.Prelude.{Result, Ok, Err, IfOk, MatchOption}
 use Rattle.chaosd_copy.specs.declared.limits.TheConstants.{REPLY_TURNS, REPLY_MILLIS, MOST_TURNS}
 use Rattle.chaosd_copy.specs.Copy.{upto}
 use Rattle.chaosd_copy.specs.Row.{received_in}
-use Rattle.chaosd_copy.specs.Talk.{Talked, Since, Turned, IsLong, after_send, after_receive, received_of, sent_if}
+use Rattle.chaosd_copy.specs.Talk.{Talked, Since, Turned, IsLong, after_send, after_receive, received_of, sent_if, taken}
 use Rattle.chaosd_copy.specs.declared.end.CopyEnd.{CopyEnd}
 use Rattle.chaosd_copy.specs.declared.end.CopyEnd.TheVariants as e
 use Rattle.chaosd_copy.specs.Ends.{EndedBy, UnlessCopied, UnlessAnswered, unanswered}
@@ -20,10 +20,10 @@ pub quiet_send : (r : Bool) (command : List ℕ) (a b c : Option Talked) → rec
     → c ≡ after_send r command b → received_of c ≡ received_of a
 quiet_send r command a b c h e = ap received_of e ∙ sent_is_quiet r command b ∙ h
 
-pub unreceived_is_quiet : {R : Type 0} (items : R → List ℕ) (r : Option R) (a b : Option Talked) → r ≡ None
-    → b ≡ after_receive (option_map items r) a → received_of b ≡ received_of a
-unreceived_is_quiet items None a b none e = ap received_of e
-unreceived_is_quiet items (Some x) a b none e = cc
+pub unreceived_is_quiet : (came : Bool) (reply : List ℕ) (a b : Option Talked) → came ≡ false
+    → b ≡ after_receive (taken came reply) a → received_of b ≡ received_of a
+unreceived_is_quiet false reply a b none e = ap received_of e
+unreceived_is_quiet true reply a b none e = cc
 
 pub turned_none : (a : Option ℕ) → Turned 0 a a
 turned_none None = tt
@@ -37,44 +37,46 @@ turned_more n a b (Some k) h (one, same) =
     (omega (arith, t.0, one), t.1 ∙ ap Some less)
 
 -- one command, of which it is known whether it was sent
-pub known : {R F : Type 0} (items : R → List ℕ) (a b : Option Talked) (f : ℕ → List ℕ) (k : ℕ) (is_sent : Bool)
-    (command : List ℕ) (result : Result (Option R) F)
+pub known : {F : Type 0} (a b : Option Talked) (f : ℕ → List ℕ) (k : ℕ) (is_sent : Bool) (command reply : List ℕ)
+    (result : Result Bool F)
     → f 0 ≡ command → k ≤ 1
     → (is_sent ≡ true → 0 < k) → (is_sent ≡ false → k ≤ 0)
-    → IfOk result (λ r. Since a b (upto f k) ([] ++ received_in (option_map items r)))
-    → IfOk result (λ r. MatchOption r (Since a b (sent_if is_sent command) []) (λ _. Unit {0}))
-known items a b f k s command (Err fault) e l m n h = tt
-known items a b f k s command (Ok (Some r)) e l m n h = tt
-known items a b f k true command (Ok None) e l m n h =
+    → IfOk result (λ came. Since a b (upto f k) ([] ++ received_in (taken came reply)))
+    → IfOk result (λ came. MatchOption (taken came reply) (Since a b (sent_if is_sent command) []) (λ _. Unit {0}))
+known a b f k s command reply (Err fault) e l m n h = tt
+known a b f k s command reply (Ok true) e l m n h = tt
+known a b f k true command reply (Ok false) e l m n h =
     let more : 0 < k = m refl in
     let one : k ≡ 1 = omega (arith, more) in
     subst (λ cs. Since a b cs []) (ap (upto f) one ∙ ap (λ c. c ∷ []) e) h
-known items a b f k false command (Ok None) e l m n h =
+known a b f k false command reply (Ok false) e l m n h =
     let less : k ≤ 0 = n refl in
     let none : k ≡ 0 = omega (arith, less) in
     subst (λ cs. Since a b cs []) (ap (upto f) none) h
 
 -- who got no reply waited for one
-pub unanswered_by : {R : Type 0} (items : R → List ℕ) (r : Option R) (tid handle : List ℕ) (W : List ℕ → Type 0)
-    (end : CopyEnd) (P Q : Type 0)
-    → UnlessCopied end (EndedBy tid handle W (option_map items r)) → MatchOption r P (λ _. Unit {0}) → (P → Q)
+pub unanswered_by : (last : Option (List ℕ)) (tid handle : List ℕ) (W : List ℕ → Type 0) (end : CopyEnd) (P Q : Type 0)
+    → UnlessCopied end (EndedBy tid handle W last) → MatchOption last P (λ _. Unit {0}) → (P → Q)
     → UnlessAnswered end Q
-unanswered_by items r tid handle W e.Done P Q h w f = tt
-unanswered_by items r tid handle W (e.Refused reply) P Q h w f = tt
-unanswered_by items r tid handle W (e.Strange reply) P Q h w f = tt
-unanswered_by items None tid handle W e.NoReply P Q h w f = f w
-unanswered_by items (Some x) tid handle W e.NoReply P Q h w f = absurd (none_some (items x) (sym h))
-unanswered_by items r tid handle W e.Unknown P Q h w f = absurd h
+unanswered_by last tid handle W e.Done P Q h w f = tt
+unanswered_by last tid handle W (e.Refused reply) P Q h w f = tt
+unanswered_by last tid handle W (e.Strange reply) P Q h w f = tt
+unanswered_by None tid handle W e.NoReply P Q h w f = f w
+unanswered_by (Some x) tid handle W e.NoReply P Q h w f = absurd (none_some x (sym h))
+unanswered_by last tid handle W e.Unknown P Q h w f = absurd h
 
-pub unanswered_waited : {R : Type 0} (r : Option R) (end : CopyEnd) (is_sent : Bool) (P Q : Type 0)
-    → end ≡ unanswered is_sent → r ≡ None → MatchOption r P (λ _. Unit {0}) → (P → Q) → UnlessAnswered end Q
-unanswered_waited None end true P Q same e w f = subst (λ x. UnlessAnswered x Q) (sym same) (f w)
-unanswered_waited None end false P Q same e w f = subst (λ x. UnlessAnswered x Q) (sym same) (f w)
-unanswered_waited (Some x) end s P Q same e w f = cc
+pub where_none : (came : Bool) (reply : List ℕ) (P : Type 0) → came ≡ false
+    → MatchOption (taken came reply) P (λ _. Unit {0}) → P
+where_none false reply P e h = h
+where_none true reply P e h = cc
 
-pub where_none : {R : Type 0} (r : Option R) (P : Type 0) → r ≡ None → MatchOption r P (λ _. Unit {0}) → P
-where_none None P e h = h
-where_none (Some x) P e h = cc
+pub unanswered_waited : (came : Bool) (reply : List ℕ) (end : CopyEnd) (is_sent : Bool) (P Q : Type 0)
+    → end ≡ unanswered is_sent → came ≡ false → MatchOption (taken came reply) P (λ _. Unit {0}) → (P → Q)
+    → UnlessAnswered end Q
+unanswered_waited came reply end true P Q same e w f =
+    subst (λ x. UnlessAnswered x Q) (sym same) (f (where_none came reply P e w))
+unanswered_waited came reply end false P Q same e w f =
+    subst (λ x. UnlessAnswered x Q) (sym same) (f (where_none came reply P e w))
 
 -- it was waited for long enough
 pub late : (a b c : Option ℕ) (n since s m : ℕ) → Turned n a b → c ≡ b → since ≡ s

@@ -1,5 +1,5 @@
 -- What the replies to a get tell, read back.
-use Rattle.std.proofs.Common.{◌≡◌, ℕ, ◌≤◌, List, [], ◌++◌, Some, ap, sym, subst, ◌∙◌, arith}
+use Rattle.std.proofs.Common.{◌≡◌, ℕ, ◌≤◌, List, [], ◌++◌, ap, sym, subst, ◌∙◌, arith}
 use Rattle.std.specs.Prelude.{Result, Ok, codes}
 use Rattle.std.specs.Fmt.{decimal}
 use Rattle.std.specs.Str.{IsAscii, IsUtf8}
@@ -30,7 +30,6 @@ opened_joined tid front n is =
 -- what stands behind the front is the length
 pub opened_digits : (tid front digits reply : List ℕ) (n : ℕ)
     → front ≡ reply_front tid file_handle ++ (codes "OPEN " ++ []) → reply ≡ front ++ digits
-    → Some reply ≡ Some (reply_of tid file_handle (Opened n)) → digits ≡ decimal n
-opened_digits tid front digits reply n is begins e =
-    let same : reply ≡ reply_of tid file_handle (Opened n) = cc in
+    → reply ≡ reply_of tid file_handle (Opened n) → digits ≡ decimal n
+opened_digits tid front digits reply n is begins same =
     append_cancel_left front digits (decimal n) (sym begins ∙ same ∙ sym (opened_joined tid front n is))

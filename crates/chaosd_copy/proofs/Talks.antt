@@ -4,7 +4,7 @@ use Rattle.std.specs.Prelude.{option_map, Result, Ok, Err, IfOk, OnErr, IfSome}
 use Rattle.chaosd_copy.specs.Row.{received_in}
 use Rattle.std.proofs.lemmas.List.{append_assoc, append-nil}
 use Rattle.chaosd_copy.specs.Copy.{upto}
-use Rattle.chaosd_copy.specs.Talk.{Talked, with_sent, with_received, after_send, after_receive, Since}
+use Rattle.chaosd_copy.specs.Talk.{Talked, with_sent, with_received, after_send, after_receive, taken, Since}
 
 pub since_none : (t : Option Talked) → Since t t [] []
 since_none None = refl
@@ -51,16 +51,16 @@ receives_more a b c cs rs r h e =
 one_upto : (f : ℕ → List ℕ) (sent : ℕ) → 0 < sent → sent ≤ 1 → upto f sent ≡ f 0 ∷ []
 one_upto f sent l m = let e : sent ≡ 1 = omega arith in ap (upto f) e
 
-pub asked_one : {R F : Type 0} (items : R → List ℕ) (a b : Option Talked) (f : ℕ → List ℕ) (sent received : ℕ)
-    (command : List ℕ) (result : Result (Option R) F)
+pub asked_one : {F : Type 0} (a b : Option Talked) (f : ℕ → List ℕ) (sent received : ℕ) (command reply : List ℕ)
+    (result : Result Bool F)
     → f 0 ≡ command
-    → IfOk result (λ r. IfSome r (λ _. (0 < sent) × (received ≡ 0 + 1))) → sent ≤ 1
-    → IfOk result (λ r. Since a b (upto f sent) ([] ++ received_in (option_map items r)))
-    → IfOk result (λ r. IfSome r (λ reply. Since a b (command ∷ []) (items reply ∷ [])))
-asked_one items a b f sent received command (Err fault) e asked within h = tt
-asked_one items a b f sent received command (Ok None) e asked within h = tt
-asked_one items a b f sent received command (Ok (Some reply)) e asked within h =
-    subst (λ cs. Since a b cs (items reply ∷ [])) (one_upto f sent asked.0 within ∙ ap (λ c. c ∷ []) e) h
+    → IfOk result (λ came. IfSome (taken came reply) (λ _. (0 < sent) × (received ≡ 0 + 1))) → sent ≤ 1
+    → IfOk result (λ came. Since a b (upto f sent) ([] ++ received_in (taken came reply)))
+    → IfOk result (λ came. IfSome (taken came reply) (λ text. Since a b (command ∷ []) (text ∷ [])))
+asked_one a b f sent received command reply (Err fault) e asked within h = tt
+asked_one a b f sent received command reply (Ok false) e asked within h = tt
+asked_one a b f sent received command reply (Ok true) e asked within h =
+    subst (λ cs. Since a b cs (reply ∷ [])) (one_upto f sent asked.0 within ∙ ap (λ c. c ∷ []) e) h
 
 -- ---- by the answers of the calls
 
@@ -75,20 +75,17 @@ pub sent_next : (a b u : Option Talked) (f : ℕ → List ℕ) (i : ℕ) (rs : L
 sent_next a b u f i rs false c h e k g = cc
 sent_next a b u f i rs true c h e k g = sends_more a b u f i rs h (e ∙ ap (λ x. option_map (with_sent (x ∷ [])) b) g)
 
-pub received_next : {R : Type 0} (items : R → List ℕ) (a b u : Option Talked) (cs rs : List (List ℕ)) (r : Option R)
-    (reply : R)
-    → Since a b cs rs → u ≡ after_receive (option_map items r) b → r ≡ Some reply
-    → Since a u cs (rs ++ items reply ∷ [])
-received_next items a b u cs rs None reply h e k = cc
-received_next items a b u cs rs (Some q) reply h e k =
-    let same : items q ≡ items reply = cc in
-    receives_more a b u cs rs (items reply) h (e ∙ ap (λ x. option_map (with_received (x ∷ [])) b) same)
+pub received_next : (a b u : Option Talked) (cs rs : List (List ℕ)) (came : Bool) (reply : List ℕ)
+    → Since a b cs rs → u ≡ after_receive (taken came reply) b → came ≡ true
+    → Since a u cs (rs ++ reply ∷ [])
+received_next a b u cs rs false reply h e k = cc
+received_next a b u cs rs true reply h e k = receives_more a b u cs rs reply h e
 
-pub received_none : {R : Type 0} (items : R → List ℕ) (a b u : Option Talked) (cs rs : List (List ℕ)) (r : Option R)
-    → Since a b cs rs → u ≡ after_receive (option_map items r) b → r ≡ None
+pub received_none : (a b u : Option Talked) (cs rs : List (List ℕ)) (came : Bool) (reply : List ℕ)
+    → Since a b cs rs → u ≡ after_receive (taken came reply) b → came ≡ false
     → Since a u cs rs
-received_none items a b u cs rs None h e k = e ∙ h
-received_none items a b u cs rs (Some q) h e k = cc
+received_none a b u cs rs false reply h e k = e ∙ h
+received_none a b u cs rs true reply h e k = cc
 
 pub nothing_more : (a b : Option Talked) (cs rs : List (List ℕ)) → Since a b cs rs → Since a b cs (rs ++ [])
 nothing_more a b cs rs h = subst (λ l. Since a b cs l) (sym (append-nil rs)) h
@@ -98,15 +95,19 @@ nothing_more a b cs rs h = subst (λ l. Since a b cs l) (sym (append-nil rs)) h
 pub none_some : (x : List ℕ) → None ≡ Some x → ⊥
 none_some x e = cc
 
-pub wanted_received : {R : Type 0} (items : R → List ℕ) (P : List ℕ → Type 0) (r : Option R) (x y : List ℕ)
-    → option_map items r ≡ Some x → x ≡ y → IfSome r (λ v. P (items v)) → P y
-wanted_received items P None x y e f h = absurd (none_some x e)
-wanted_received items P (Some v) x y e f h = let same : items v ≡ x = cc in subst P (same ∙ f) h
+pub wanted_received : (P : List ℕ → Type 0) (last : Option (List ℕ)) (x y : List ℕ)
+    → last ≡ Some x → x ≡ y → IfSome last P → P y
+wanted_received P None x y e f h = absurd (none_some x e)
+wanted_received P (Some v) x y e f h = let same : v ≡ x = cc in subst P (same ∙ f) h
 
-pub wanted_asked : {R : Type 0} (items : R → List ℕ) (P : Type 0) (r : Option R) (x : List ℕ)
-    → option_map items r ≡ Some x → IfSome r (λ v. P) → P
-wanted_asked items P None x e h = absurd (none_some x e)
-wanted_asked items P (Some v) x e h = h
+pub wanted_asked : (P : Type 0) (last : Option (List ℕ)) (x : List ℕ) → last ≡ Some x → IfSome last (λ _. P) → P
+wanted_asked P None x e h = absurd (none_some x e)
+wanted_asked P (Some v) x e h = h
+
+-- none was left where none came
+pub untaken : (came : Bool) (reply x : List ℕ) → came ≡ false → taken came reply ≡ Some x → ⊥
+untaken false reply x e h = none_some x h
+untaken true reply x e h = cc
 
 pub received_at : (a b : Option Talked) (cs : List (List ℕ)) (g : ℕ → List ℕ) (i : ℕ) (o : Option (List ℕ)) (x : List ℕ)
     → o ≡ Some x → x ≡ g i → Since a b cs (upto g i ++ received_in o)
@@ -118,3 +119,8 @@ received_at a b cs g i o x e f h =
 pub on_err : {T F : Type 0} (r : Result T F) (P : Type 0) → P → OnErr r P
 on_err (Ok x) P h = tt
 on_err (Err x) P h = h
+
+-- what was left is what the place holds
+pub taken_is : (came : Bool) (reply x : List ℕ) → taken came reply ≡ Some x → reply ≡ x
+taken_is true reply x e = cc
+taken_is false reply x e = absurd (none_some x e)

@@ -18,6 +18,11 @@ abbrev pub after_send : Bool → List ℕ → Option Talked → Option Talked
 after_send true command t = option_map (with_sent (command ∷ [])) t
 after_send false command t = t
 
+-- the bytes that were left in a place, where it is told that some were
+abbrev pub taken : Bool → List ℕ → Option (List ℕ)
+taken true bytes = Some bytes
+taken false bytes = None
+
 abbrev pub after_receive : Option (List ℕ) → Option Talked → Option Talked
 after_receive (Some reply) t = option_map (with_received (reply ∷ [])) t
 after_receive None t = t

@@ -10,7 +10,8 @@ use crate::end::CopyEnd;
 use crate::request::Request;
 use crate::talk::Talk;
 use crate::window::{ask_one, settled};
-use crate::words::spelled;
+use crate::words::spell;
+use chaos_file::Reply;
 use chaosd_io::RunFault;
 
 /// Renames a file, by a RENAME of this name. Where the answer is `Done`, that was sent and answered.
@@ -40,9 +41,11 @@ pub fn rename_file<T: Talk>(
     // It fails only by a turn that did, by the same fault.
     ensures faults { IfErr result (T.failed_by talk.new) }
 {
-    let reply = ask_one(talk, Request::Rename(old, new), tid)?;
-    let wanted = spelled(tid, b"", b"RENAME", b"");
-    Ok(settled(reply, &wanted, tid, b""))
+    let mut reply = Reply::new();
+    let came = ask_one(talk, Request::Rename(old, new), tid, &mut reply)?;
+    let mut wanted = Reply::new();
+    spell(&mut wanted, tid, b"", b"RENAME", b"");
+    Ok(settled(came, &reply, &wanted, tid, b""))
 }
 
 /// Deletes a file, by a DELETE of this name. Where the answer is `Done`, that was sent and answered.
@@ -66,7 +69,9 @@ pub fn delete_file<T: Talk>(talk: &mut T, tid: u32, path: &[u8]) -> Result<CopyE
     // It fails only by a turn that did, by the same fault.
     ensures faults { IfErr result (T.failed_by talk.new) }
 {
-    let reply = ask_one(talk, Request::Delete(path), tid)?;
-    let wanted = spelled(tid, b"", b"DELETE", b"");
-    Ok(settled(reply, &wanted, tid, b""))
+    let mut reply = Reply::new();
+    let came = ask_one(talk, Request::Delete(path), tid, &mut reply)?;
+    let mut wanted = Reply::new();
+    spell(&mut wanted, tid, b"", b"DELETE", b"");
+    Ok(settled(came, &reply, &wanted, tid, b""))
 }

@@ -1,13 +1,13 @@
 //! Getting a file.
-ghost use Rattle.std.specs.Prelude.{◌≡◌, ◌≢◌, ◌⊎◌, ◌≤◌, ◌<◌, ◌+◌, ◌++◌, [], ℕ, List, Some, option_map, length, IfErr, IfSome, MatchOption, OnOk};
+ghost use Rattle.std.specs.Prelude.{◌≡◌, ◌≢◌, ◌⊎◌, ◌≤◌, ◌<◌, ◌+◌, ◌++◌, [], ℕ, List, Some, true, false, length, IfOk, IfErr, IfSome, MatchOption, OnOk};
 ghost use Rattle.std.specs.Fmt.{decimal};
 ghost use Rattle.chaos_file.specs.declared.limits.TheConstants.{MAX_FILE, MAX_PATH, MAX_CHUNK};
 ghost use Rattle.chaos_file.specs.Answer.{Given, Opened};
 ghost use Rattle.chaosd_copy.specs.declared.limits.TheConstants.{MAX_FIRST};
 ghost use Rattle.chaosd_copy.specs.Copy.{upto, chunk_count, reply_of, get_commands, get_replies};
 ghost use Rattle.chaosd_copy.specs.Row.{file_handle};
-ghost use Rattle.chaosd_copy.specs.Talk.{Since, SentUpTo, InVain};
-ghost use Rattle.chaosd_copy.specs.Ends.{IfDone, IfUnanswered, UnlessDone, EndedBy, IsGiven, ReadsEnded, GetBegun, GetEnded, tids_from, read_sent, read_received};
+ghost use Rattle.chaosd_copy.specs.Talk.{Since, SentUpTo, InVain, taken};
+ghost use Rattle.chaosd_copy.specs.Ends.{IfDone, IfUnanswered, UnlessDone, IsGiven, ReadsEnded, GetBegun, GetEnded, tids_from, read_sent, read_received};
 
 use crate::end::CopyEnd;
 use crate::limits::HANDLE;
@@ -15,7 +15,7 @@ use crate::put::chunk_count;
 use crate::request::Request;
 use crate::talk::Talk;
 use crate::window::{Flight, Row, ask_one, next_reply, refusal, settled};
-use crate::words::{counted, spelled};
+use crate::words::{spell, spell_count};
 use chaos_file::{MAX_CHUNK, MAX_FILE, Reply};
 use chaosd_io::RunFault;
 use std::str;
@@ -42,19 +42,18 @@ fn behind<'a>(reply: &'a Reply, front: &Reply) -> Option<&'a [u8]>
 }
 
 /// The length that OPEN may have been answered by.
-fn opened_length(reply: &Option<Reply>, tid: u32) -> Option<usize>
+fn opened_length(came: bool, reply: &Reply, tid: u32) -> Option<usize>
     requires { tid < 100000000 }
     ensures within { IfSome result (λ n. n ≤ MAX_FILE) }
-    ensures all { (n : ℕ) → n ≤ MAX_FILE → option_map (λ v. v.items) reply.now ≡ Some (reply_of (decimal tid) file_handle (Opened n)) → result ≡ Some n }
+    ensures all { (n : ℕ) → n ≤ MAX_FILE → taken came reply.now.items ≡ Some (reply_of (decimal tid) file_handle (Opened n)) → result ≡ Some n }
 {
-    match reply {
-        Some(reply) => {
-            let front = spelled(tid, HANDLE, b"OPEN ", b"");
-            match behind(reply, &front) {
-                Some(digits) => number_of(digits),
-                None => None,
-            }
-        }
+    if !came {
+        return None;
+    }
+    let mut front = Reply::new();
+    spell(&mut front, tid, HANDLE, b"OPEN ", b"");
+    match behind(reply, &front) {
+        Some(digits) => number_of(digits),
         None => None,
     }
 }
@@ -70,29 +69,32 @@ fn behind_front<'a>(reply: &'a Reply, front: &Reply, len: usize) -> Option<&'a [
     }
 }
 
-/// Adds the bytes of the reply to a READ, which are so many.
+/// Adds the bytes of the reply to a READ, where one came and has so many, and says so. The front of such a reply is spelled in a place
+/// that is lent.
 fn take_piece(
-    reply: Option<Reply>,
+    came: bool,
+    reply: &Reply,
     tid: u32,
     len: usize,
+    front: &mut Reply,
     bytes: &mut Vec<u8>,
-) -> Result<CopyEnd, RunFault>
+) -> Result<bool, RunFault>
     requires { tid < 100000000 }
-    ensures done { IfDone result ((more : List ℕ) × (length more ≡ len) × (bytes.new.items ≡ bytes.old.items ++ more)
-        × (option_map (λ v. v.items) reply ≡ Some (reply_of (decimal tid) file_handle (Given more)))) }
-    ensures ended { UnlessDone result (λ end. (bytes.new.items ≡ bytes.old.items)
-        × EndedBy (decimal tid) file_handle (IsGiven (decimal tid) file_handle len) (option_map (λ v. v.items) reply) end) }
+    ensures done { IfOk result (λ is_given. is_given ≡ true → (more : List ℕ) × (length more ≡ len) × (bytes.new.items ≡ bytes.old.items ++ more)
+        × (taken came reply.now.items ≡ Some (reply_of (decimal tid) file_handle (Given more)))) }
+    ensures left { IfOk result (λ is_given. is_given ≡ false → (bytes.new.items ≡ bytes.old.items)
+        × ((x : List ℕ) → taken came reply.now.items ≡ Some x → IsGiven (decimal tid) file_handle len x → ⊥)) }
     ensures faults { IfErr result (λ fault. fault ≡ RunFault.NoMemory) }
 {
-    let Some(reply) = reply else {
-        return Ok(CopyEnd::NoReply);
-    };
-    let front = spelled(tid, HANDLE, b"READ\x8d", b"");
-    let Some(more) = behind_front(&reply, &front, len) else {
-        return Ok(refusal(Some(reply), tid, HANDLE));
+    if !came {
+        return Ok(false);
+    }
+    spell(front, tid, HANDLE, b"READ\x8d", b"");
+    let Some(more) = behind_front(reply, front, len) else {
+        return Ok(false);
     };
     match bytes.extend_from_slice(more) {
-        Ok(()) => Ok(CopyEnd::Done),
+        Ok(()) => Ok(true),
         Err(_) => Err(RunFault::NoMemory),
     }
 }
@@ -122,22 +124,21 @@ fn read_all<T: Talk>(
         request: Request::Read,
     };
     let mut flight = Flight::new();
+    let mut reply = Reply::new();
+    let mut wanted = Reply::new();
     for i in 0..count {
-        let reply = next_reply(talk, &row, &mut flight)?;
-        match take_piece(
-            reply,
-            first + i as u32,
-            (len - MAX_CHUNK * i).min(MAX_CHUNK),
-            bytes,
-        )? {
-            CopyEnd::Done => {}
-            end => return Ok(end),
+        let came = next_reply(talk, &row, &mut flight, &mut reply)?;
+        let tid = first + i as u32;
+        let size = (len - MAX_CHUNK * i).min(MAX_CHUNK);
+        let is_given = take_piece(came, &reply, tid, size, &mut wanted, bytes)?;
+        if !is_given {
+            return Ok(refusal(came, &reply, tid, HANDLE));
         }
     }
-    let last = next_reply(talk, &row, &mut flight)?;
+    let came = next_reply(talk, &row, &mut flight, &mut reply)?;
     let tid = first + count as u32;
-    let wanted = spelled(tid, HANDLE, b"EOF", b"");
-    Ok(settled(last, &wanted, tid, HANDLE))
+    spell(&mut wanted, tid, HANDLE, b"EOF", b"");
+    Ok(settled(came, &reply, &wanted, tid, HANDLE))
 }
 
 /// Gets a file. Where the answer is `Done`, the commands that were sent are OPEN, READs up to the one answered EOF, and CLOSE, and
@@ -168,12 +169,14 @@ pub fn get_file<T: Talk>(
     // It fails for want of memory, or by a turn that did, by the same fault.
     ensures faults { IfErr result (λ fault. (fault ≡ RunFault.NoMemory) ⊎ T.failed_by talk.new fault) }
 {
-    let opened = ask_one(talk, Request::OpenRead(path), first)?;
-    let Some(len) = opened_length(&opened, first) else {
-        return Ok(refusal(opened, first, HANDLE));
+    let mut reply = Reply::new();
+    let came = ask_one(talk, Request::OpenRead(path), first, &mut reply)?;
+    let Some(len) = opened_length(came, &reply, first) else {
+        return Ok(refusal(came, &reply, first, HANDLE));
     };
-    let wanted = counted(first, HANDLE, b"OPEN ", len);
-    match settled(opened, &wanted, first, HANDLE) {
+    let mut wanted = Reply::new();
+    spell_count(&mut wanted, first, HANDLE, b"OPEN ", len);
+    match settled(came, &reply, &wanted, first, HANDLE) {
         CopyEnd::Done => {}
         end => return Ok(end),
     }
@@ -182,7 +185,7 @@ pub fn get_file<T: Talk>(
         end => return Ok(end),
     }
     let last = first + 2 + chunk_count(len) as u32;
-    let closed = ask_one(talk, Request::Close, last)?;
-    let all = counted(last, HANDLE, b"CLOSE ", len);
-    Ok(settled(closed, &all, last, HANDLE))
+    let came = ask_one(talk, Request::Close, last, &mut reply)?;
+    spell_count(&mut wanted, last, HANDLE, b"CLOSE ", len);
+    Ok(settled(came, &reply, &wanted, last, HANDLE))
 }

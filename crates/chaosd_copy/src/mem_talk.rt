@@ -13,7 +13,7 @@ ghost use Rattle.chaosd_copy.specs.Memory.{StepsOrStays};
 ghost use Rattle.chaosd_copy.specs.Talk.{Talked, counted};
 
 use crate::talk::Talk;
-use crate::words::put;
+use crate::words::{copied, fill, put};
 use chaos_file::{MemStore, Reply, Session, parse_command};
 use chaosd_io::RunFault;
 use std::alloc::Global;
@@ -65,16 +65,6 @@ fn applied(
     }
 }
 
-/// A copy of a command.
-fn kept(command: &[u8]) -> Reply
-    requires { length command.now ≤ MAX_REPLY }
-    ensures { result.items ≡ command.now }
-{
-    let mut copy = Reply::new();
-    put(&mut copy, command);
-    copy
-}
-
 impl MemTalk {
     /// A server without files, and nothing sent yet. It takes no memory.
     pub fn new(alloc: Global) -> Self
@@ -108,18 +98,18 @@ impl Talk for MemTalk {
         let Some(reply) = applied(self.alloc, &mut self.store, &mut self.session, command) else {
             return false;
         };
-        self.sent.push_reserved(kept(command));
+        self.sent.push_reserved(copied(command));
         self.replies.push_reserved(reply);
         true
     }
 
-    fn receive(&mut self) -> Option<Reply> {
+    fn receive(&mut self, reply: &mut Reply) -> bool {
         if self.received >= self.replies.len() {
-            return None;
+            return false;
         }
-        let reply = kept(self.replies[self.received].as_slice());
+        fill(reply, self.replies[self.received].as_slice());
         self.received += 1;
-        Some(reply)
+        true
     }
 
     fn turn(&mut self) -> Result<(), RunFault> {

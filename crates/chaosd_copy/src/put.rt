@@ -11,9 +11,9 @@ use crate::end::CopyEnd;
 use crate::limits::HANDLE;
 use crate::request::Request;
 use crate::talk::Talk;
-use crate::window::{Flight, Row, ask_one, ask_telling, next_reply, settled};
-use crate::words::counted;
-use chaos_file::MAX_CHUNK;
+use crate::window::{Flight, Row, ask_one, ask_telling, is_wanted, next_reply, refusal, settled};
+use crate::words::spell_count;
+use chaos_file::{MAX_CHUNK, Reply};
 use chaosd_io::RunFault;
 
 /// How many pieces a file of so many bytes has.
@@ -44,18 +44,15 @@ fn write_all<T: Talk>(talk: &mut T, first: u32, bytes: &[u8]) -> Result<CopyEnd,
         request: Request::Write(bytes),
     };
     let mut flight = Flight::new();
+    let mut reply = Reply::new();
+    let mut wanted = Reply::new();
     for i in 0..count {
-        let reply = next_reply(talk, &row, &mut flight)?;
+        let came = next_reply(talk, &row, &mut flight, &mut reply)?;
         let tid = first + i as u32;
-        let wanted = counted(
-            tid,
-            HANDLE,
-            b"WRITE ",
-            (MAX_CHUNK * (1 + i)).min(bytes.len()),
-        );
-        match settled(reply, &wanted, tid, HANDLE) {
-            CopyEnd::Done => {}
-            end => return Ok(end),
+        let written = (MAX_CHUNK * (1 + i)).min(bytes.len());
+        spell_count(&mut wanted, tid, HANDLE, b"WRITE ", written);
+        if !is_wanted(came, &reply, &wanted) {
+            return Ok(refusal(came, &reply, tid, HANDLE));
         }
     }
     Ok(CopyEnd::Done)
@@ -100,9 +97,11 @@ pub fn put_file<T: Talk>(
     // It fails only by a turn that did, by the same fault.
     ensures faults { IfErr result (T.failed_by talk.new) }
 {
-    let opened = ask_one(talk, Request::OpenWrite(path), first)?;
-    let wanted = counted(first, HANDLE, b"OPEN ", 0);
-    match settled(opened, &wanted, first, HANDLE) {
+    let mut reply = Reply::new();
+    let came = ask_one(talk, Request::OpenWrite(path), first, &mut reply)?;
+    let mut wanted = Reply::new();
+    spell_count(&mut wanted, first, HANDLE, b"OPEN ", 0);
+    match settled(came, &reply, &wanted, first, HANDLE) {
         CopyEnd::Done => {}
         end => return Ok(end),
     }
@@ -112,10 +111,10 @@ pub fn put_file<T: Talk>(
     }
     let last = first + 1 + chunk_count(bytes.len()) as u32;
     let mut is_sent = false;
-    let closed = ask_telling(talk, Request::Close, last, &mut is_sent)?;
-    if closed.is_none() {
+    let came = ask_telling(talk, Request::Close, last, &mut reply, &mut is_sent)?;
+    if !came {
         return Ok(unanswered(is_sent));
     }
-    let all = counted(last, HANDLE, b"CLOSE ", bytes.len());
-    Ok(settled(closed, &all, last, HANDLE))
+    spell_count(&mut wanted, last, HANDLE, b"CLOSE ", bytes.len());
+    Ok(settled(came, &reply, &wanted, last, HANDLE))
 }

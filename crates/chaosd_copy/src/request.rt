@@ -5,7 +5,7 @@ ghost use Rattle.chaosd_copy.specs.Copy.{chunk};
 ghost use Rattle.chaosd_copy.specs.Row.{RequestFits, request_command};
 
 use crate::limits::HANDLE;
-use crate::words::{paired, spelled};
+use crate::words::{spell, spell_paths};
 use chaos_file::{MAX_CHUNK, Reply};
 
 /// A command that is sent once, or again and again.
@@ -56,25 +56,23 @@ fn piece(bytes: &[u8], i: usize) -> &[u8]
 }
 
 impl Request<'_> {
-    /// The command that is sent at a place of the row, which is named by this number.
+    /// Spells the command that is sent at a place of the row, which is named by this number, in place of what was there.
     #[tactic(auto, using(crate::proofs::Spelled::front_spelled))]
-    pub fn command(&self, i: usize, tid: u32) -> Reply
+    pub fn command(&self, i: usize, tid: u32, command: &mut Reply)
         requires place { i ≤ 1000000 }
         requires tid { tid < 100000000 }
         requires fits { RequestFits self.now }
-        ensures { result.items ≡ request_command self.now i tid }
+        ensures { command.new.items ≡ request_command self.now i tid }
     {
         match self {
-            Request::Login(name) => spelled(tid, b"", b"LOGIN ", name),
-            Request::OpenRead(path) => spelled(tid, HANDLE, b"OPEN READ\x8d", path),
-            Request::OpenWrite(path) => spelled(tid, HANDLE, b"OPEN WRITE\x8d", path),
-            Request::Read => spelled(tid, HANDLE, b"READ", b""),
-            Request::Write(bytes) => spelled(tid, HANDLE, b"WRITE\x8d", piece(bytes, i)),
-            Request::Close => spelled(tid, HANDLE, b"CLOSE", b""),
-            Request::Rename(old, new) => {
-                spelled(tid, b"", b"RENAME\x8d", paired(old, new).as_slice())
-            }
-            Request::Delete(path) => spelled(tid, b"", b"DELETE\x8d", path),
+            Request::Login(name) => spell(command, tid, b"", b"LOGIN ", name),
+            Request::OpenRead(path) => spell(command, tid, HANDLE, b"OPEN READ\x8d", path),
+            Request::OpenWrite(path) => spell(command, tid, HANDLE, b"OPEN WRITE\x8d", path),
+            Request::Read => spell(command, tid, HANDLE, b"READ", b""),
+            Request::Write(bytes) => spell(command, tid, HANDLE, b"WRITE\x8d", piece(bytes, i)),
+            Request::Close => spell(command, tid, HANDLE, b"CLOSE", b""),
+            Request::Rename(old, new) => spell_paths(command, tid, b"RENAME\x8d", old, new),
+            Request::Delete(path) => spell(command, tid, b"", b"DELETE\x8d", path),
         }
     }
 }

@@ -1,6 +1,6 @@
 //! A talk with a FILE server.
-ghost use Rattle.std.specs.Prelude.{◌≡◌, ◌≤◌, Option, option_map, length, IfErr, IfSome, OnOk};
-ghost use Rattle.chaosd_copy.specs.Talk.{Talked, Course, Turned, after_send, after_receive};
+ghost use Rattle.std.specs.Prelude.{◌≡◌, ◌≤◌, Option, length, IfErr, OnOk};
+ghost use Rattle.chaosd_copy.specs.Talk.{Talked, Course, Turned, after_send, after_receive, taken};
 ghost use Rattle.chaos_file.specs.declared.limits.TheConstants.{MAX_REPLY};
 ghost use Rattle.chaosd_io.specs.declared.fault.RunFault.{RunFault};
 
@@ -26,9 +26,9 @@ pub trait Talk {
         ensures still { (course self.new).turns ≡ (course self.old).turns }
         ensures unfailed { (course self.new).failures ≡ (course self.old).failures };
 
-    /// The next reply, where it is there.
-    fn receive(&mut self) -> Option<Reply>
-        ensures received { talked self.new ≡ after_receive (option_map (λ v. v.items) result) (talked self.old) }
+    /// Leaves the next reply in the caller's place, where it is there, and says so. Where it isn't, no clause says what the place holds.
+    fn receive(&mut self, reply: &mut Reply) -> bool
+        ensures received { talked self.new ≡ after_receive (taken result reply.new.items) (talked self.old) }
         ensures still { (course self.new).turns ≡ (course self.old).turns }
         ensures unfailed { (course self.new).failures ≡ (course self.old).failures };
 

@@ -1,8 +1,8 @@
 //! Commands that are sent before the replies to those before them came.
-ghost use Rattle.std.specs.Prelude.{◌≡◌, ◌≤◌, ◌<◌, ◌+◌, ◌++◌, ◌∷◌, [], ℕ, true, List, Option, Some, option_map, length, Decides, IfOk, IfErr, OnErr, OnOk, IfSome, MatchOption};
+ghost use Rattle.std.specs.Prelude.{◌≡◌, ◌≤◌, ◌<◌, ◌+◌, ◌++◌, ◌∷◌, [], ℕ, true, List, Option, Some, length, Decides, IfOk, IfErr, OnErr, OnOk, IfSome, MatchOption};
 ghost use Rattle.std.specs.Fmt.{decimal};
 ghost use Rattle.chaosd_copy.specs.Copy.{upto};
-ghost use Rattle.chaosd_copy.specs.Talk.{Talked, Since, Received, SentOrNot, InVain, after_receive, received_of, sent_if};
+ghost use Rattle.chaosd_copy.specs.Talk.{Talked, Since, Received, SentOrNot, InVain, after_receive, received_of, sent_if, taken};
 ghost use Rattle.chaosd_copy.specs.Row.{RequestFits, request_command, row_command, received_in};
 ghost use Rattle.chaosd_copy.specs.declared.limits.TheConstants.{MAX_FIRST, REPLY_TURNS, REPLY_MILLIS};
 ghost use Rattle.chaos_file.specs.declared.limits.TheConstants.{MAX_NAME};
@@ -12,7 +12,7 @@ use crate::end::CopyEnd;
 use crate::limits::{MOST_TURNS, REPLY_MILLIS, REPLY_TURNS};
 use crate::request::Request;
 use crate::talk::Talk;
-use crate::words::spelled;
+use crate::words::{copied, spell};
 use chaos_file::Reply;
 use chaosd_io::RunFault;
 
@@ -36,6 +36,8 @@ pub struct Flight {
     pub received: usize,
     /// At most so many commands are without a reply: as many as there was room for at first.
     limit: usize,
+    /// The place where each command is spelled.
+    command: Reply,
 }
 
 impl Flight {
@@ -48,6 +50,7 @@ impl Flight {
             sent: 0,
             received: 0,
             limit: NO_LIMIT,
+            command: Reply::new(),
         }
     }
 
@@ -94,12 +97,19 @@ fn send_on<T: Talk>(talk: &mut T, row: &Row<'_>, flight: &mut Flight)
     ensures unfailed { (T.course talk.new).failures ≡ (T.course talk.old).failures }
 {
     let most = flight.most_sent(row.count);
-    let sent = send_more(talk, row, flight.sent, most);
+    let sent = send_more(talk, row, flight.sent, most, &mut flight.command);
     flight.note(sent);
 }
 
-/// Says more of the commands, up to so many and as there is room for, and answers how many were sent in all.
-fn send_more<T: Talk>(talk: &mut T, row: &Row<'_>, sent: usize, most: usize) -> usize
+/// Says more of the commands, up to so many and as there is room for, and answers how many were sent in all. Each is spelled in the
+/// place that is lent.
+fn send_more<T: Talk>(
+    talk: &mut T,
+    row: &Row<'_>,
+    sent: usize,
+    most: usize,
+    command: &mut Reply,
+) -> usize
     requires sent { sent ≤ most }
     requires most { most ≤ row.now.count }
     requires first { row.now.first ≤ MAX_FIRST + 9000 }
@@ -113,7 +123,7 @@ fn send_more<T: Talk>(talk: &mut T, row: &Row<'_>, sent: usize, most: usize) -> 
     ensures unfailed { (T.course talk.new).failures ≡ (T.course talk.old).failures }
 {
     for i in sent..most {
-        let command = row.request.command(i, row.first + i as u32);
+        row.request.command(i, row.first + i as u32, command);
         if !talk.send(command.as_slice()) {
             return i;
         }
@@ -122,13 +132,13 @@ fn send_more<T: Talk>(talk: &mut T, row: &Row<'_>, sent: usize, most: usize) -> 
 }
 
 /// The next reply, where its command was sent and it is there.
-fn receive_asked<T: Talk>(talk: &mut T, is_asked: bool) -> Option<Reply>
-    ensures asked { IfSome result (λ _. is_asked ≡ true) }
-    ensures talk { T.talked talk.new ≡ after_receive (option_map (λ v. v.items) result) (T.talked talk.old) }
+fn receive_asked<T: Talk>(talk: &mut T, is_asked: bool, reply: &mut Reply) -> bool
+    ensures asked { result ≡ true → is_asked ≡ true }
+    ensures talk { T.talked talk.new ≡ after_receive (taken result reply.new.items) (T.talked talk.old) }
     ensures still { (T.course talk.new).turns ≡ (T.course talk.old).turns }
     ensures unfailed { (T.course talk.new).failures ≡ (T.course talk.old).failures }
 {
-    if is_asked { talk.receive() } else { None }
+    is_asked && talk.receive(reply)
 }
 
 /// Whether a reply has been waited for long enough: by turns and by the clock, since a turn that gets a stranger's datagram doesn't wait.
@@ -138,7 +148,7 @@ fn is_late<T: Talk>(talk: &T, turns: u32, since: u64) -> bool
     turns >= REPLY_TURNS && talk.moment().saturating_sub(since) >= REPLY_MILLIS
 }
 
-/// The next reply, waited for at least 1,000 turns and 10 seconds.
+/// The next reply, waited for at least 1,000 turns and 10 seconds. It is left in the caller's place, and it is said whether one came.
 ///
 /// The first commands are sent at once, as many as there is room for, and from then on never more are without a reply, even where the
 /// server told that it has read some of them. A command tells which replies were read: so what comes to the server last leaves it room for
@@ -147,56 +157,58 @@ pub fn next_reply<T: Talk>(
     talk: &mut T,
     row: &Row<'_>,
     flight: &mut Flight,
-) -> Result<Option<Reply>, RunFault>
+    reply: &mut Reply,
+) -> Result<bool, RunFault>
     requires sent { flight.old.sent ≤ row.now.count }
     requires first { row.now.first ≤ MAX_FIRST + 9000 }
     requires count { row.now.count ≤ 9000 }
     requires fits { RequestFits row.now.request }
     ensures within { flight.new.sent ≤ row.now.count }
     // A reply is received only where its command was sent.
-    ensures asked { IfOk result (λ r. IfSome r (λ _. (flight.old.received < flight.new.sent) × (flight.new.received ≡ flight.old.received + 1))) }
+    ensures asked { IfOk result (λ came. IfSome (taken came reply.new.items) (λ _. (flight.old.received < flight.new.sent) × (flight.new.received ≡ flight.old.received + 1))) }
     ensures talk { (start : Option Talked) (replies : List (List ℕ)) → Since start (T.talked talk.old) (upto (row_command row.now) flight.old.sent) replies
-        → IfOk result (λ r. Since start (T.talked talk.new) (upto (row_command row.now) flight.new.sent) (replies ++ received_in (option_map (λ v. v.items) r))) }
+        → IfOk result (λ came. Since start (T.talked talk.new) (upto (row_command row.now) flight.new.sent) (replies ++ received_in (taken came reply.new.items))) }
     // Where a turn fails, what was sent before it was, and nothing more was received.
     ensures fault { (start : Option Talked) (replies : List (List ℕ)) → Since start (T.talked talk.old) (upto (row_command row.now) flight.old.sent) replies
         → OnErr result (Since start (T.talked talk.new) (upto (row_command row.now) flight.new.sent) replies) }
     // It gives up only where it was waited for long enough, or no more replies come.
-    ensures waited { IfOk result (λ r. MatchOption r (InVain (T.talked talk.old) (T.course talk.old) (T.talked talk.new) (T.course talk.new)) (λ _. Unit {0})) }
+    ensures waited { IfOk result (λ came. MatchOption (taken came reply.new.items) (InVain (T.talked talk.old) (T.course talk.old) (T.talked talk.new) (T.course talk.new)) (λ _. Unit {0})) }
     ensures unfailed { OnOk result ((T.course talk.new).failures ≤ (T.course talk.old).failures) }
     ensures faults { IfErr result (T.failed_by talk.new) }
 {
     let since = talk.moment();
     for turns in 0..MOST_TURNS {
-        if let Some(reply) = receive_asked(talk, flight.received < flight.sent) {
+        if receive_asked(talk, flight.received < flight.sent, reply) {
             flight.received += 1;
-            return Ok(Some(reply));
+            return Ok(true);
         }
         if talk.is_over() || is_late(talk, turns, since) {
-            return Ok(None);
+            return Ok(false);
         }
         send_on(talk, row, flight);
         talk.turn()?;
     }
-    Ok(None)
+    Ok(false)
 }
 
-/// The reply to one command, and whether that was sent.
+/// The reply to one command, left in the caller's place where one came, and whether the command was sent.
 pub fn ask_telling<T: Talk>(
     talk: &mut T,
     request: Request<'_>,
     tid: u32,
+    reply: &mut Reply,
     is_sent: &mut bool,
-) -> Result<Option<Reply>, RunFault>
+) -> Result<bool, RunFault>
     requires tid { tid ≤ MAX_FIRST + 9000 }
     requires fits { RequestFits request }
-    ensures received { IfOk result (λ r. IfSome r (λ reply. Since (T.talked talk.old) (T.talked talk.new)
-        (request_command request.entry 0 tid ∷ []) (reply.items ∷ []))) }
+    ensures received { IfOk result (λ came. IfSome (taken came reply.new.items) (λ text. Since (T.talked talk.old) (T.talked talk.new)
+        (request_command request.entry 0 tid ∷ []) (text ∷ []))) }
     ensures sent { SentOrNot (T.talked talk.old) (T.talked talk.new) (request_command request.entry 0 tid) }
     // What was received is the reply, or nothing.
-    ensures all { IfOk result (λ r. Received (T.talked talk.old) (T.talked talk.new) (received_in (option_map (λ v. v.items) r))) }
+    ensures all { IfOk result (λ came. Received (T.talked talk.old) (T.talked talk.new) (received_in (taken came reply.new.items))) }
     // Where none was, it is told whether the command was sent.
-    ensures known { IfOk result (λ r. MatchOption r (Since (T.talked talk.old) (T.talked talk.new) (sent_if is_sent.new (request_command request.entry 0 tid)) []) (λ _. Unit {0})) }
-    ensures waited { IfOk result (λ r. MatchOption r (InVain (T.talked talk.old) (T.course talk.old) (T.talked talk.new) (T.course talk.new)) (λ _. Unit {0})) }
+    ensures known { IfOk result (λ came. MatchOption (taken came reply.new.items) (Since (T.talked talk.old) (T.talked talk.new) (sent_if is_sent.new (request_command request.entry 0 tid)) []) (λ _. Unit {0})) }
+    ensures waited { IfOk result (λ came. MatchOption (taken came reply.new.items) (InVain (T.talked talk.old) (T.course talk.old) (T.talked talk.new) (T.course talk.new)) (λ _. Unit {0})) }
     ensures unfailed { OnOk result ((T.course talk.new).failures ≤ (T.course talk.old).failures) }
     ensures faults { IfErr result (T.failed_by talk.new) }
 {
@@ -209,30 +221,32 @@ pub fn ask_telling<T: Talk>(
         sent: 0,
         received: 0,
         limit: NO_LIMIT,
+        command: Reply::new(),
     };
-    let reply = next_reply(talk, &row, &mut flight);
+    let came = next_reply(talk, &row, &mut flight, reply);
     *is_sent = flight.sent > 0;
-    reply
+    came
 }
 
-/// The reply to one command.
+/// The reply to one command, left in the caller's place where one came.
 pub fn ask_one<T: Talk>(
     talk: &mut T,
     request: Request<'_>,
     tid: u32,
-) -> Result<Option<Reply>, RunFault>
+    reply: &mut Reply,
+) -> Result<bool, RunFault>
     requires tid { tid ≤ MAX_FIRST + 9000 }
     requires fits { RequestFits request }
-    ensures received { IfOk result (λ r. IfSome r (λ reply. Since (T.talked talk.old) (T.talked talk.new)
-        (request_command request.entry 0 tid ∷ []) (reply.items ∷ []))) }
+    ensures received { IfOk result (λ came. IfSome (taken came reply.new.items) (λ text. Since (T.talked talk.old) (T.talked talk.new)
+        (request_command request.entry 0 tid ∷ []) (text ∷ []))) }
     ensures sent { SentOrNot (T.talked talk.old) (T.talked talk.new) (request_command request.entry 0 tid) }
-    ensures all { IfOk result (λ r. Received (T.talked talk.old) (T.talked talk.new) (received_in (option_map (λ v. v.items) r))) }
-    ensures waited { IfOk result (λ r. MatchOption r (InVain (T.talked talk.old) (T.course talk.old) (T.talked talk.new) (T.course talk.new)) (λ _. Unit {0})) }
+    ensures all { IfOk result (λ came. Received (T.talked talk.old) (T.talked talk.new) (received_in (taken came reply.new.items))) }
+    ensures waited { IfOk result (λ came. MatchOption (taken came reply.new.items) (InVain (T.talked talk.old) (T.course talk.old) (T.talked talk.new) (T.course talk.new)) (λ _. Unit {0})) }
     ensures unfailed { OnOk result ((T.course talk.new).failures ≤ (T.course talk.old).failures) }
     ensures faults { IfErr result (T.failed_by talk.new) }
 {
     let mut is_sent = false;
-    ask_telling(talk, request, tid, &mut is_sent)
+    ask_telling(talk, request, tid, reply, &mut is_sent)
 }
 
 /// Whether a reply tells of an error of the command of this name.
@@ -241,36 +255,46 @@ fn is_error(reply: &Reply, tid: u32, handle: &[u8]) -> bool
     requires handle { length handle.now ≤ 8 }
     ensures { Decides result (IsErrorTo (decimal tid) handle.now reply.now.items) }
 {
-    let error = spelled(tid, handle, b"ERROR ", b"");
+    let mut error = Reply::new();
+    spell(&mut error, tid, handle, b"ERROR ", b"");
     reply.as_slice().starts_with(error.as_slice())
 }
 
-/// Why a reply isn't the one that was hoped for.
-pub fn refusal(reply: Option<Reply>, tid: u32, handle: &[u8]) -> CopyEnd
+/// Why a reply, where one came, isn't the one that was hoped for.
+pub fn refusal(came: bool, reply: &Reply, tid: u32, handle: &[u8]) -> CopyEnd
     requires tid { tid < 100000000 }
     requires handle { length handle.now ≤ 8 }
-    ensures { EndedBy (decimal tid) handle.now (λ _. ⊥) (option_map (λ v. v.items) reply) result }
+    ensures { EndedBy (decimal tid) handle.now (λ _. ⊥) (taken came reply.now.items) result }
 {
-    let Some(reply) = reply else {
+    if !came {
         return CopyEnd::NoReply;
-    };
-    if is_error(&reply, tid, handle) {
-        CopyEnd::Refused(reply)
+    }
+    let kept = copied(reply.as_slice());
+    if is_error(reply, tid, handle) {
+        CopyEnd::Refused(kept)
     } else {
-        CopyEnd::Strange(reply)
+        CopyEnd::Strange(kept)
     }
 }
 
-/// `Done` where a reply is the one that was hoped for, else why it isn't.
-pub fn settled(reply: Option<Reply>, wanted: &Reply, tid: u32, handle: &[u8]) -> CopyEnd
+/// Whether a reply came that is the one that was hoped for.
+pub fn is_wanted(came: bool, reply: &Reply, wanted: &Reply) -> bool
+    ensures { Decides result (taken came reply.now.items ≡ Some wanted.now.items) }
+{
+    came && reply.as_slice() == wanted.as_slice()
+}
+
+/// `Done` where a reply came that is the one that was hoped for, else why it isn't.
+pub fn settled(came: bool, reply: &Reply, wanted: &Reply, tid: u32, handle: &[u8]) -> CopyEnd
     requires tid { tid < 100000000 }
     requires handle { length handle.now ≤ 8 }
-    ensures done { IfCopied result (option_map (λ v. v.items) reply ≡ Some wanted.now.items) }
-    ensures ended { UnlessCopied result (EndedBy (decimal tid) handle.now (λ r. r ≡ wanted.now.items) (option_map (λ v. v.items) reply)) }
+    ensures done { IfCopied result (taken came reply.now.items ≡ Some wanted.now.items) }
+    ensures ended { UnlessCopied result (EndedBy (decimal tid) handle.now (λ r. r ≡ wanted.now.items) (taken came reply.now.items)) }
 {
-    match reply {
-        Some(reply) if reply.as_slice() == wanted.as_slice() => CopyEnd::Done,
-        reply => refusal(reply, tid, handle),
+    if is_wanted(came, reply, wanted) {
+        CopyEnd::Done
+    } else {
+        refusal(came, reply, tid, handle)
     }
 }
 
@@ -292,7 +316,9 @@ pub fn log_in<T: Talk>(talk: &mut T, name: &[u8]) -> Result<CopyEnd, RunFault>
     // It fails only by a turn that did, by the same fault.
     ensures faults { IfErr result (T.failed_by talk.new) }
 {
-    let reply = ask_one(talk, Request::Login(name), 0)?;
-    let wanted = spelled(0, b"", b"LOGIN ", name);
-    Ok(settled(reply, &wanted, 0, b""))
+    let mut reply = Reply::new();
+    let came = ask_one(talk, Request::Login(name), 0, &mut reply)?;
+    let mut wanted = Reply::new();
+    spell(&mut wanted, 0, b"", b"LOGIN ", name);
+    Ok(settled(came, &reply, &wanted, 0, b""))
 }

@@ -24,42 +24,58 @@ fn put_number(text: &mut Reply, n: usize)
     put(text, digits.format(n).as_bytes());
 }
 
-/// A command's name, which is a number.
-fn named(tid: u32) -> Reply
-    requires { tid < 100000000 }
-    ensures value { result.items ≡ decimal tid }
-    ensures room { length result.items ≤ 8 }
+/// Puts bytes in place of what was there.
+pub fn fill(text: &mut Reply, bytes: &[u8])
+    requires { length bytes.now ≤ MAX_REPLY }
+    ensures { text.new.items ≡ bytes.now }
 {
-    let mut text = Reply::new();
-    put_number(&mut text, tid as usize);
-    text
+    text.clear();
+    put(text, bytes);
 }
 
-/// The front of a command and of its reply: its name, which is a number, and the handle's.
-fn front(tid: u32, handle: &[u8]) -> Reply
+/// A copy of a command or of a reply.
+pub fn copied(text: &[u8]) -> Reply
+    requires { length text.now ≤ MAX_REPLY }
+    ensures { result.items ≡ text.now }
+{
+    let mut copy = Reply::new();
+    put(&mut copy, text);
+    copy
+}
+
+/// Spells a command's name, which is a number, in place of what was there.
+fn spell_name(text: &mut Reply, tid: u32)
+    requires { tid < 100000000 }
+    ensures value { text.new.items ≡ decimal tid }
+    ensures room { length text.new.items ≤ 8 }
+{
+    text.clear();
+    put_number(text, tid as usize);
+}
+
+/// Spells the front of a command and of its reply: its name, which is a number, and the handle's.
+fn spell_front(text: &mut Reply, tid: u32, handle: &[u8])
     requires tid { tid < 100000000 }
     requires handle { length handle.now ≤ MAX_HANDLE }
-    ensures value { result.items ≡ reply_front (decimal tid) handle.now }
-    ensures room { length result.items ≤ 18 }
+    ensures value { text.new.items ≡ reply_front (decimal tid) handle.now }
+    ensures room { length text.new.items ≤ 18 }
 {
-    let mut text = named(tid);
-    put(&mut text, b" ");
-    put(&mut text, handle);
-    put(&mut text, b" ");
-    text
+    spell_name(text, tid);
+    put(text, b" ");
+    put(text, handle);
+    put(text, b" ");
 }
 
 /// The same with a word behind it.
-fn worded(tid: u32, handle: &[u8], word: &[u8]) -> Reply
+fn spell_word(text: &mut Reply, tid: u32, handle: &[u8], word: &[u8])
     requires tid { tid < 100000000 }
     requires handle { length handle.now ≤ MAX_HANDLE }
     requires word { length word.now ≤ 11 }
-    ensures value { result.items ≡ reply_front (decimal tid) handle.now ++ word.now }
-    ensures room { length result.items ≤ 29 }
+    ensures value { text.new.items ≡ reply_front (decimal tid) handle.now ++ word.now }
+    ensures room { length text.new.items ≤ 29 }
 {
-    let mut text = front(tid, handle);
-    put(&mut text, word);
-    text
+    spell_front(text, tid, handle);
+    put(text, word);
 }
 
 /// Adds a number that has few digits.
@@ -70,43 +86,52 @@ fn put_count(text: &mut Reply, n: usize)
     put_number(text, n);
 }
 
-/// Two paths, with a newline of FILE between them.
-pub fn paired(old: &[u8], new: &[u8]) -> Reply
+/// Adds two paths, with a newline of FILE between them.
+fn put_paths(text: &mut Reply, old: &[u8], new: &[u8])
+    requires room { length text.old.items ≤ 29 }
     requires old { length old.now ≤ MAX_PATH }
     requires new { length new.now ≤ MAX_PATH }
-    ensures value { result.items ≡ old.now ++ NL ∷ new.now }
-    ensures room { length result.items ≤ MAX_CHUNK }
+    ensures { text.new.items ≡ text.old.items ++ (old.now ++ NL ∷ new.now) }
 {
-    let mut text = Reply::new();
-    put(&mut text, old);
-    put(&mut text, &[NL]);
-    put(&mut text, new);
-    text
+    put(text, old);
+    put(text, &[NL]);
+    put(text, new);
 }
 
-/// A front with a word behind it, and bytes.
+/// Spells a front with a word behind it, and bytes, in place of what was there.
 #[tactic(auto, using(std::proofs::Common::append_assoc))]
-pub fn spelled(tid: u32, handle: &[u8], word: &[u8], bytes: &[u8]) -> Reply
+pub fn spell(text: &mut Reply, tid: u32, handle: &[u8], word: &[u8], bytes: &[u8])
     requires tid { tid < 100000000 }
     requires handle { length handle.now ≤ MAX_HANDLE }
     requires word { length word.now ≤ 11 }
     requires bytes { length bytes.now ≤ MAX_CHUNK }
-    ensures { result.items ≡ reply_front (decimal tid) handle.now ++ (word.now ++ bytes.now) }
+    ensures { text.new.items ≡ reply_front (decimal tid) handle.now ++ (word.now ++ bytes.now) }
 {
-    let mut text = worded(tid, handle, word);
-    put(&mut text, bytes);
-    text
+    spell_word(text, tid, handle, word);
+    put(text, bytes);
 }
 
-/// A front with a word behind it, and a number.
+/// Spells a front with a word behind it, and a number, in place of what was there.
 #[tactic(auto, using(std::proofs::Common::append_assoc))]
-pub fn counted(tid: u32, handle: &[u8], word: &[u8], n: usize) -> Reply
+pub fn spell_count(text: &mut Reply, tid: u32, handle: &[u8], word: &[u8], n: usize)
     requires tid { tid < 100000000 }
     requires handle { length handle.now ≤ MAX_HANDLE }
     requires word { length word.now ≤ 11 }
-    ensures { result.items ≡ reply_front (decimal tid) handle.now ++ (word.now ++ decimal n) }
+    ensures { text.new.items ≡ reply_front (decimal tid) handle.now ++ (word.now ++ decimal n) }
 {
-    let mut text = worded(tid, handle, word);
-    put_count(&mut text, n);
-    text
+    spell_word(text, tid, handle, word);
+    put_count(text, n);
+}
+
+/// Spells a front with a word behind it, and two paths, in place of what was there.
+#[tactic(auto, using(std::proofs::Common::append_assoc))]
+pub fn spell_paths(text: &mut Reply, tid: u32, word: &[u8], old: &[u8], new: &[u8])
+    requires tid { tid < 100000000 }
+    requires word { length word.now ≤ 11 }
+    requires old { length old.now ≤ MAX_PATH }
+    requires new { length new.now ≤ MAX_PATH }
+    ensures { text.new.items ≡ reply_front (decimal tid) [] ++ (word.now ++ (old.now ++ NL ∷ new.now)) }
+{
+    spell_word(text, tid, b"", word);
+    put_paths(text, old, new);
 }

@@ -29,11 +29,6 @@ abbrev pub data_read : HostReply → Option (List ℕ)
 data_read (Ok (Gave (gave.Item item))) = if is_data item.op then Some item.body else None
 data_read _ = None
 
--- the bytes that were left in a place, where it is told that some were
-abbrev pub taken : Bool → List ℕ → Option (List ℕ)
-taken true bytes = Some bytes
-taken false bytes = None
-
 -- ---- the same item, lent and then read where it lies
 
 abbrev pub data_in_front : Result (Option ItemView) CallFault → Option (List ℕ)

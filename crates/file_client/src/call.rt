@@ -1,8 +1,8 @@
 //! A call to a FILE server over a link, by a clock.
-ghost use Rattle.std.specs.Prelude.{◌≡◌, ◌<◌, ◌≤◌, ◌⊎◌, Err, IfErr, IfOk, None, OnOk, option_map};
+ghost use Rattle.std.specs.Prelude.{◌≡◌, ◌<◌, ◌≤◌, ◌⊎◌, Err, IfErr, IfOk, None, OnOk};
 ghost use Rattle.chaos_packet.specs.Count.{Rose};
 ghost use Rattle.chaos_packet.specs.Opcode.{op_data};
-ghost use Rattle.chaosd_copy.specs.Talk.{Turned, after_receive, after_send, counted};
+ghost use Rattle.chaosd_copy.specs.Talk.{Turned, after_receive, after_send, counted, taken};
 ghost use Rattle.file_client.specs.Calls.{is_over};
 ghost use Rattle.file_client.specs.Caller.{Connects, HangsUp, Receives, Sends, TurnsAt, asked_again, new_caller};
 ghost use Rattle.chaosd_clock.specs.Clock.{BeginsBy, low_bits_of};
@@ -121,18 +121,14 @@ impl<C: Dial, L: Link> Talk for Call<'_, C, L> {
         self.client.write(Opcode::DATA, command)
     }
 
-    fn receive(&mut self) -> Option<Reply>
-        ensures talk { after_receive (option_map (λ v. v.items) result) None ≡ None }
-        ensures received { Receives (option_map (λ v. v.items) result) self.old.client.caller self.new.client.caller }
+    fn receive(&mut self, reply: &mut Reply) -> bool
+        ensures talk { after_receive (taken result reply.new.items) None ≡ None }
+        ensures received { Receives (taken result reply.new.items) self.old.client.caller self.new.client.caller }
         ensures still { self.new.client.count ≡ self.old.client.count }
         ensures unfailed { L.count self.new.turns.link.now ≡ L.count self.old.turns.link.now }
         ensures same { (self.new.turns ≡ self.old.turns) × (self.new.client.now ≡ self.old.client.now) }
     {
-        let mut reply = Reply::new();
-        if !self.client.take(&mut reply) {
-            return None;
-        }
-        Some(reply)
+        self.client.take(reply)
     }
 
     /// As [`Client::turn`]: where no OPN came for 2 seconds another connection is asked for first.

@@ -1,6 +1,7 @@
 //! A host that calls, by one connection after another.
 ghost use Rattle.std.specs.Prelude.{◌≡◌, ◌<◌, ◌≤◌, ◌↔◌, Err, IfErr, IfOk, OnOk, [], is_some, true};
-ghost use Rattle.file_client.specs.Calls.{is_over, taken};
+ghost use Rattle.chaosd_copy.specs.Talk.{taken};
+ghost use Rattle.file_client.specs.Calls.{is_over};
 ghost use Rattle.file_client.specs.Caller.{Sends, Receives, TurnsAt, all_read, asked, closed, is_asking, is_late, new_caller};
 ghost use Rattle.file_client.specs.Fault.{IsTurnFault};
 

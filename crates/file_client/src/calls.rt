@@ -5,7 +5,8 @@ ghost use Rattle.chaos_conn.specs.Act.{Finished, Read, Write};
 ghost use Rattle.chaos_conn.specs.Calls.{front_of};
 ghost use Rattle.chaos_host.specs.Calls.{plain_reply_of};
 ghost use Rattle.chaos_host.specs.View.{host_look};
-ghost use Rattle.file_client.specs.Calls.{call_by, data_in_front, data_read, is_over, is_read, is_wrote, taken};
+ghost use Rattle.chaosd_copy.specs.Talk.{taken};
+ghost use Rattle.file_client.specs.Calls.{call_by, data_in_front, data_read, is_over, is_read, is_wrote};
 
 use chaos_conn::ReadDone;
 use chaos_file::Reply;

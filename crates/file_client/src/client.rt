@@ -1,7 +1,7 @@
 //! A client of FILE: it asks for a connection, writes to it and reads from it, turn by turn.
 ghost use Rattle.std.specs.Prelude.{◌≡◌, ◌<◌, ◌≤◌, ◌⊎◌, ◌↔◌, Err, IfErr, IfOk, None, OnOk, true};
-ghost use Rattle.chaosd_copy.specs.Talk.{Turned, counted};
-ghost use Rattle.file_client.specs.Calls.{is_over, taken};
+ghost use Rattle.chaosd_copy.specs.Talk.{Turned, counted, taken};
+ghost use Rattle.file_client.specs.Calls.{is_over};
 ghost use Rattle.file_client.specs.Caller.{Connects, HangsUp, Receives, Sends, TurnsAt, all_read, asked_again, new_caller};
 ghost use Rattle.file_client.specs.Talk.{Exchanges, SendsFarewell, Talks, WritesAndTurns, receiving, silence, talker};
 ghost use Rattle.file_client.specs.Fault.{IsTurnFault};

@@ -1,37 +1,38 @@
-use Rattle.std.proofs.Common.{rules, arith, ap, sym, subst, ◌∙◌, ◌+◌, ◌++◌, ◌-◌, ◌*◌, ◌<◌, ◌≤◌, ◌≡◌, Some, length, length-append}
-use Rattle.std.specs.Prelude.{min, option_map}
+use Rattle.std.proofs.Common.{rules, arith, ap, sym, subst, ◌∙◌, ◌+◌, ◌++◌, ◌-◌, ◌*◌, ◌<◌, ◌≤◌, ◌≡◌, true, false, Some, length, length-append}
+use Rattle.std.specs.Prelude.{min}
 use Rattle.std.specs.Fmt.{decimal}
 use Rattle.chaos_file.specs.declared.limits.TheConstants.{MAX_CHUNK}
 use Rattle.chaos_file.specs.Answer.{AtEnd}
 use Rattle.chaosd_copy.specs.Copy.{upto, reply_of, chunk_count}
-use Rattle.chaosd_copy.specs.Talk.{Since}
+use Rattle.chaosd_copy.specs.Talk.{Since, taken}
 use Rattle.chaosd_copy.specs.Row.{file_handle, received_in}
-use Rattle.chaosd_copy.specs.Ends.{read_sent, read_received}
+use Rattle.chaosd_copy.specs.Ends.{IsGiven, read_sent, read_received}
 use Rattle.chaosd_copy.proofs.Talks.{wanted_asked}
-use Rattle.chaosd_copy.proofs.Joined.{when_copied, from_copied}
+use Rattle.chaosd_copy.proofs.Joined.{from_copied}
 use Rattle.chaosd_copy.proofs.Growing.{grows, ends}
 use Rattle.chaosd_copy.proofs.Begun.{sent_up_to}
-use Rattle.chaosd_copy.proofs.Ended.{unless_then, piece_not_done, reads_not_done}
+use Rattle.chaosd_copy.proofs.Ended.{unless, unwanted, piece_not_done, reads_not_done}
 use Rattle.chaosd_copy.proofs.Quiet.{unanswered_by}
 use Rattle.chaosd_copy.proofs.get.read_all.Goals as goal
 
 pub loop-i-preserved : goal.loop-i-preserved
 loop-i-preserved g c =
-    let p = when_copied _ _ c.in-Done.is c.in_ok-end.ensures.done in
+    let yes : c.in_ok-is_given.is_given ≡ true = search rules in
+    let p = c.in_ok-is_given.ensures.done yes in
     let below : MAX_CHUNK * c.loop-i.i < c.args.len =
     omega (arith, c.chunk_count-count.ensures.value, c.loop-i-test.true) in
     let old : length c.loop-i.bytes.items ≡ MAX_CHUNK * c.loop-i.i = c.loop-i.invariant.size ∙ omega arith in
-    let size : length p.0 ≡ min (c.args.len - MAX_CHUNK * c.loop-i.i) MAX_CHUNK = p.1 ∙ c.min.ensures in
+    let size : length p.0 ≡ min (c.args.len - MAX_CHUNK * c.loop-i.i) MAX_CHUNK = p.1 ∙ c.min-size.ensures in
     let h : (c.loop-i.flight.received < c.next_reply.new.flight.sent)
     × (c.next_reply.new.flight.received ≡ c.loop-i.flight.received + 1) =
-    wanted_asked (λ v. v.items)
+    wanted_asked
     ((c.loop-i.flight.received < c.next_reply.new.flight.sent)
     × (c.next_reply.new.flight.received ≡ c.loop-i.flight.received + 1))
-    c.in_ok-reply.reply _ p.3 c.in_ok-reply.ensures.asked in
+    (taken c.in_ok-came.came c.next_reply.new.reply.items) _ p.3 c.in_ok-came.ensures.asked in
     record {
-      sent = c.in_ok-reply.ensures.within;
+      sent = c.in_ok-came.ensures.within;
       asked = omega (arith, h.0, c.loop-i.invariant.place);
-      unfailed = omega (arith, c.in_ok-reply.ensures.unfailed, c.loop-i.invariant.unfailed);
+      unfailed = omega (arith, c.in_ok-came.ensures.unfailed, c.loop-i.invariant.unfailed);
       place = h.1 ∙ ap (λ n. n + 1) c.loop-i.invariant.place;
       size = ap length p.2 ∙ length-append c.loop-i.bytes.items p.0 ∙ omega arith;
       talk =
@@ -42,7 +43,7 @@ loop-i-preserved g c =
           (sym p.2)
           (grows _ _ (upto (read_sent c.args.first) c.next_reply.new.flight.sent) c.args.first c.loop-i.i
           c.loop-i.bytes.items p.0 _ old (omega arith) (omega arith) p.3
-          (c.in_ok-reply.ensures.talk _ _ c.loop-i.invariant.talk));
+          (c.in_ok-came.ensures.talk _ _ c.loop-i.invariant.talk));
     }
 
 pub returns-clause-done : goal.returns-clause-done
@@ -59,13 +60,13 @@ returns-clause-done g c =
     c.settled.ensures.done (λ e.
     let h : (c.loop-i.flight.received < c.next_reply-2.new.flight.sent)
     × (c.next_reply-2.new.flight.received ≡ c.loop-i.flight.received + 1) =
-    wanted_asked (λ v. v.items)
+    wanted_asked
     ((c.loop-i.flight.received < c.next_reply-2.new.flight.sent)
     × (c.next_reply-2.new.flight.received ≡ c.loop-i.flight.received + 1))
-    c.in_ok-last.last _ e c.in_ok-last.ensures.asked in
+    (taken c.in_ok-came-2.came c.next_reply-2.new.reply.items) _ e c.in_ok-came-2.ensures.asked in
     let asked : c.chunk_count-count.result < c.next_reply-2.new.flight.sent =
     omega (arith, h.0, c.loop-i.invariant.place, n) in
-    let within : c.next_reply-2.new.flight.sent ≤ 1 + c.chunk_count-count.result = c.in_ok-last.ensures.within in
+    let within : c.next_reply-2.new.flight.sent ≤ 1 + c.chunk_count-count.result = c.in_ok-came-2.ensures.within in
     let sent : c.next_reply-2.new.flight.sent ≡ 1 + chunk_count c.args.len = omega arith in
     let received : c.loop-i.i + 1 ≡ 1 + chunk_count c.args.len = omega arith in (
       size,
@@ -83,69 +84,72 @@ returns-clause-done g c =
           c.loop-i.i _ (omega arith)
           (e
           ∙ ap Some
-          (c.spelled-wanted.ensures
+          (c.spell.ensures
           ∙ ap (λ m. reply_of (decimal (c.args.first + m)) file_handle AtEnd) (sym n)))
-          (c.in_ok-last.ensures.talk _ _ c.loop-i.invariant.talk))),
+          (c.in_ok-came-2.ensures.talk _ _ c.loop-i.invariant.talk))),
     ))
 
-pub returns-in_err-reply-clause-sent : goal.returns-in_err-reply-clause-sent
-returns-in_err-reply-clause-sent g c =
+pub returns-in_err-came-clause-sent : goal.returns-in_err-came-clause-sent
+returns-in_err-came-clause-sent g c =
     sent_up_to _ _ (read_sent c.args.first) c.next_reply.new.flight.sent (1 + c.chunk_count-count.result) _ _
     c.next_reply.ensures.within (ap (λ n. 1 + n) c.chunk_count-count.ensures.value)
-    (c.in_err-reply.ensures.fault _ _ c.loop-i.invariant.talk)
+    (c.in_err-came.ensures.fault _ _ c.loop-i.invariant.talk)
 
-pub returns-in_err-end-clause-sent : goal.returns-in_err-end-clause-sent
-returns-in_err-end-clause-sent g c =
+pub returns-in_err-is_given-clause-sent : goal.returns-in_err-is_given-clause-sent
+returns-in_err-is_given-clause-sent g c =
     sent_up_to _ _ (read_sent c.args.first) c.next_reply.new.flight.sent (1 + c.chunk_count-count.result) _ _
     c.next_reply.ensures.within (ap (λ n. 1 + n) c.chunk_count-count.ensures.value)
-    (c.in_ok-reply.ensures.talk _ _ c.loop-i.invariant.talk)
+    (c.in_ok-came.ensures.talk _ _ c.loop-i.invariant.talk)
 
-pub returns-in_default : goal.returns-in_default
-returns-in_default g c = record {
-  sent =
-      sent_up_to _ _ (read_sent c.args.first) c.next_reply.new.flight.sent (1 + c.chunk_count-count.result) _ _
-      c.next_reply.ensures.within (ap (λ n. 1 + n) c.chunk_count-count.ensures.value)
-      (c.in_ok-reply.ensures.talk _ _ c.loop-i.invariant.talk);
-  done = search rules;
-  ended =
-      piece_not_done _ _ _ c.args.first c.args.len c.loop-i.i _ c.loop-i.bytes.items c.take_piece.new.bytes.items _
-      c.in_ok-end.end (omega (arith, c.loop-i-test.true, c.chunk_count-count.ensures.value))
-      c.min.ensures
-      (c.in_ok-reply.ensures.talk _ _ c.loop-i.invariant.talk) c.in_ok-end.ensures.ended;
-  waited =
-      unanswered_by (λ v. v.items) c.in_ok-reply.reply _ _ _ c.in_ok-end.end _ _
-      (unless_then c.in_ok-end.end _ _ (λ k. k.1) c.in_ok-end.ensures.ended) c.in_ok-reply.ensures.waited
-      (λ w. (c.loop-i.talk, w));
-  unfailed = omega (arith, c.in_ok-reply.ensures.unfailed, c.loop-i.invariant.unfailed);
-  faults = tt;
-}
+pub returns-then-not-is_given-clause-sent : goal.returns-then-not-is_given-clause-sent
+returns-then-not-is_given-clause-sent g c =
+    sent_up_to _ _ (read_sent c.args.first) c.next_reply.new.flight.sent (1 + c.chunk_count-count.result) _ _
+    c.next_reply.ensures.within (ap (λ n. 1 + n) c.chunk_count-count.ensures.value)
+    (c.in_ok-came.ensures.talk _ _ c.loop-i.invariant.talk)
 
-pub returns-in_err-last-clause-sent : goal.returns-in_err-last-clause-sent
-returns-in_err-last-clause-sent g c =
+pub returns-then-not-is_given-clause-ended : goal.returns-then-not-is_given-clause-ended
+returns-then-not-is_given-clause-ended g c =
+    let no : c.in_ok-is_given.is_given ≡ false = search rules in
+    let k = c.in_ok-is_given.ensures.left no in
+    let last = taken c.in_ok-came.came c.next_reply.new.reply.items in
+    piece_not_done _ _ _ c.args.first c.args.len c.loop-i.i c.min-size.result c.loop-i.bytes.items
+    c.take_piece.new.bytes.items last c.refusal.result
+    (omega (arith, c.loop-i-test.true, c.chunk_count-count.ensures.value)) c.min-size.ensures
+    (c.in_ok-came.ensures.talk _ _ c.loop-i.invariant.talk)
+    (unless c.refusal.result _
+    (k.0, unwanted _ _ (λ _. ⊥) (IsGiven (decimal (c.args.first + c.loop-i.i)) file_handle c.min-size.result) last c.refusal.result k.1 c.refusal.ensures))
+
+pub returns-then-not-is_given-clause-waited : goal.returns-then-not-is_given-clause-waited
+returns-then-not-is_given-clause-waited g c =
+    unanswered_by (taken c.in_ok-came.came c.next_reply.new.reply.items) _ _ _ c.refusal.result _ _
+    (unless c.refusal.result _ c.refusal.ensures) c.in_ok-came.ensures.waited (λ w. (c.loop-i.talk, w))
+
+pub returns-in_err-came-2-clause-sent : goal.returns-in_err-came-2-clause-sent
+returns-in_err-came-2-clause-sent g c =
     sent_up_to _ _ (read_sent c.args.first) c.next_reply-2.new.flight.sent (1 + c.chunk_count-count.result) _ _
     c.next_reply-2.ensures.within (ap (λ n. 1 + n) c.chunk_count-count.ensures.value)
-    (c.in_err-last.ensures.fault _ _ c.loop-i.invariant.talk)
+    (c.in_err-came-2.ensures.fault _ _ c.loop-i.invariant.talk)
 
 pub returns-clause-sent : goal.returns-clause-sent
 returns-clause-sent g c =
     sent_up_to _ _ (read_sent c.args.first) c.next_reply-2.new.flight.sent (1 + c.chunk_count-count.result) _ _
     c.next_reply-2.ensures.within (ap (λ n. 1 + n) c.chunk_count-count.ensures.value)
-    (c.in_ok-last.ensures.talk _ _ c.loop-i.invariant.talk)
+    (c.in_ok-came-2.ensures.talk _ _ c.loop-i.invariant.talk)
 
 pub returns-clause-ended : goal.returns-clause-ended
 returns-clause-ended g c =
     let n : c.loop-i.i ≡ c.chunk_count-count.result = search rules in
     reads_not_done _ _ _ c.args.first c.args.len c.chunk_count-count.result c.loop-i.bytes.items _ _ c.settled.result
-    c.chunk_count-count.ensures.value c.spelled-wanted.ensures
+    c.chunk_count-count.ensures.value c.spell.ensures
     (subst
     (λ m. Since (g.T.Talk.talked c.args.talk.now) (g.T.Talk.talked c.next_reply-2.new.talk)
     (upto (read_sent c.args.first) c.next_reply-2.new.flight.sent)
     (upto (read_received c.args.first c.loop-i.bytes.items) m
-    ++ received_in (option_map (λ v. v.items) c.in_ok-last.last)))
+    ++ received_in (taken c.in_ok-came-2.came c.next_reply-2.new.reply.items)))
     n
-    (c.in_ok-last.ensures.talk _ _ c.loop-i.invariant.talk)) c.settled.ensures.ended
+    (c.in_ok-came-2.ensures.talk _ _ c.loop-i.invariant.talk)) c.settled.ensures.ended
 
 pub returns-clause-waited : goal.returns-clause-waited
 returns-clause-waited g c =
-    unanswered_by (λ v. v.items) c.in_ok-last.last _ _ _ c.settled.result _ _ c.settled.ensures.ended
-    c.in_ok-last.ensures.waited (λ w. (c.loop-i.talk, w))
+    unanswered_by (taken c.in_ok-came-2.came c.next_reply-2.new.reply.items) _ _ _ c.settled.result _ _ c.settled.ensures.ended
+    c.in_ok-came-2.ensures.waited (λ w. (c.loop-i.talk, w))

@@ -9,29 +9,31 @@ use Rattle.chaosd_copy.proofs.window.ask_telling.Goals as goal
 pub returns-clause-received : goal.returns-clause-received
 returns-clause-received g c =
     let e : c.args.tid + 0 ≡ c.args.tid = omega arith in
-    asked_one (λ v. v.items) _ _ _ _ _ (request_command c.args.request 0 c.args.tid) c.next_reply-reply.result
+    asked_one _ _ _ _ _ (request_command c.args.request 0 c.args.tid) c.next_reply-came.new.reply.items
+    c.next_reply-came.result
     (ap (request_command c.args.request 0) e)
-    c.next_reply-reply.ensures.asked c.next_reply-reply.ensures.within
-    (c.next_reply-reply.ensures.talk (g.T.Talk.talked c.args.talk.now) [] (since_none _))
+    c.next_reply-came.ensures.asked c.next_reply-came.ensures.within
+    (c.next_reply-came.ensures.talk (g.T.Talk.talked c.args.talk.now) [] (since_none _))
 
 pub returns-clause-sent : goal.returns-clause-sent
 returns-clause-sent g c =
     let e : c.args.tid + 0 ≡ c.args.tid = omega arith in
-    asked_or_not (λ v. v.items) _ _ _ _ (request_command c.args.request 0 c.args.tid) c.next_reply-reply.result
+    asked_or_not _ _ _ _ (request_command c.args.request 0 c.args.tid) c.next_reply-came.new.reply.items
+    c.next_reply-came.result
     (ap (request_command c.args.request 0) e)
-    c.next_reply-reply.ensures.within
-    (c.next_reply-reply.ensures.talk (g.T.Talk.talked c.args.talk.now) [] (since_none _))
-    (c.next_reply-reply.ensures.fault (g.T.Talk.talked c.args.talk.now) [] (since_none _))
+    c.next_reply-came.ensures.within
+    (c.next_reply-came.ensures.talk (g.T.Talk.talked c.args.talk.now) [] (since_none _))
+    (c.next_reply-came.ensures.fault (g.T.Talk.talked c.args.talk.now) [] (since_none _))
 
 pub returns-clause-all : goal.returns-clause-all
 returns-clause-all g c =
-    received_ok (λ v. v.items) _ _ _ c.next_reply-reply.result
-    (c.next_reply-reply.ensures.talk (g.T.Talk.talked c.args.talk.now) [] (since_none _))
+    received_ok _ _ _ c.next_reply-came.new.reply.items c.next_reply-came.result
+    (c.next_reply-came.ensures.talk (g.T.Talk.talked c.args.talk.now) [] (since_none _))
 
 pub returns-clause-known : goal.returns-clause-known
 returns-clause-known g c =
     let e : c.args.tid + 0 ≡ c.args.tid = omega arith in
-    known (λ v. v.items) _ _ _ c.next_reply-reply.new.flight.sent _ (request_command c.args.request 0 c.args.tid)
-    c.next_reply-reply.result (ap (request_command c.args.request 0) e)
-    c.next_reply-reply.ensures.within (λ h. grind (arith, h)) (λ h. grind (arith, h))
-    (c.next_reply-reply.ensures.talk (g.T.Talk.talked c.args.talk.now) [] (since_none _))
+    known _ _ _ c.next_reply-came.new.flight.sent _ (request_command c.args.request 0 c.args.tid)
+    c.next_reply-came.new.reply.items c.next_reply-came.result (ap (request_command c.args.request 0) e)
+    c.next_reply-came.ensures.within (λ h. grind (arith, h)) (λ h. grind (arith, h))
+    (c.next_reply-came.ensures.talk (g.T.Talk.talked c.args.talk.now) [] (since_none _))

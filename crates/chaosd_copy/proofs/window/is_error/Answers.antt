@@ -4,5 +4,5 @@ use Rattle.chaosd_copy.proofs.window.is_error.Goals as goal
 
 pub returns : goal.returns
 returns c =
-    error_decides _ _ _ _ _ _ c.as_slice.ensures.value (c.as_slice-2.ensures.value ∙ c.spelled-error.ensures)
+    error_decides _ _ _ _ _ _ c.as_slice.ensures.value (c.as_slice-2.ensures.value ∙ c.spell.ensures)
     c.starts_with.ensures.value

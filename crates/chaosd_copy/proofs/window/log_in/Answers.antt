@@ -1,5 +1,5 @@
 use Rattle.std.proofs.Common.{[], ◌∷◌}
-use Rattle.chaosd_copy.specs.Talk.{Since}
+use Rattle.chaosd_copy.specs.Talk.{Since, taken}
 use Rattle.chaosd_copy.specs.Ends.{login_command}
 use Rattle.chaosd_copy.proofs.Joined.{copied_then}
 use Rattle.chaosd_copy.proofs.Talks.{wanted_received}
@@ -8,12 +8,12 @@ use Rattle.chaosd_copy.proofs.window.log_in.Goals as goal
 
 pub returns-clause-done : goal.returns-clause-done
 returns-clause-done g c =
-    copied_then _ _ _ (λ e. wanted_received (λ v. v.items)
+    copied_then _ _ _ (λ e. wanted_received
     (λ x. Since (g.T.Talk.talked c.args.talk.now) (g.T.Talk.talked c.ask_one.new.talk)
     (login_command c.args.name.now ∷ []) (x ∷ []))
-    c.in_ok-reply.reply _ _ e c.spelled-wanted.ensures c.in_ok-reply.ensures.received) c.settled.ensures.done
+    (taken c.in_ok-came.came c.ask_one.new.reply.items) _ _ e c.spell.ensures c.in_ok-came.ensures.received) c.settled.ensures.done
 
 pub returns-clause-waited : goal.returns-clause-waited
 returns-clause-waited g c =
-    unanswered_by (λ v. v.items) c.in_ok-reply.reply _ _ _ c.settled.result _ _ c.settled.ensures.ended
-    c.in_ok-reply.ensures.waited (λ w. (c.args.talk.now, w))
+    unanswered_by (taken c.in_ok-came.came c.ask_one.new.reply.items) _ _ _ c.settled.result _ _ c.settled.ensures.ended
+    c.in_ok-came.ensures.waited (λ w. (c.args.talk.now, w))

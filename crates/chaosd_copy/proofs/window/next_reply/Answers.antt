@@ -1,34 +1,34 @@
-use Rattle.std.proofs.Common.{rules, arith, ap, sym, subst, ◌∙◌, ◌≡◌, None, inl, inr}
+use Rattle.std.proofs.Common.{arith, ap, sym, subst, ◌∙◌, ◌≡◌, false, inl, inr}
 use Rattle.chaosd_copy.proofs.Talks.{received_next, received_none, nothing_more, on_err}
 use Rattle.chaosd_copy.specs.Talk.{Turned, received_of}
 use Rattle.chaosd_copy.proofs.Quiet.{unreceived_is_quiet, turned_more, late, latest}
 use Rattle.chaosd_copy.proofs.window.next_reply.Goals as goal
 use Rattle.chaosd_copy.proofs.window.next_reply.Goals.{then-is_over-via-then-is_over, then-is_over-via-else-is_over+then-is_late}
 
-pub returns-in-Some-clause-talk : goal.returns-in-Some-clause-talk
-returns-in-Some-clause-talk g c = λ start replies h.
-    received_next (λ v. v.items) start _ _ _ replies c.receive_asked.result c.in-Some.reply
-    (c.loop-turns.invariant.talk start replies h) c.receive_asked.ensures.talk c.in-Some.is
+pub returns-then-receive_asked-clause-talk : goal.returns-then-receive_asked-clause-talk
+returns-then-receive_asked-clause-talk g c = λ start replies h.
+    received_next start _ _ _ replies c.receive_asked.result c.receive_asked.new.reply.items
+    (c.loop-turns.invariant.talk start replies h) c.receive_asked.ensures.talk c.if-receive_asked.true
 
 pub returns-then-is_over-clause-talk : goal.returns-then-is_over-clause-talk
 returns-then-is_over-clause-talk g c = λ start replies h.
-    let none : c.receive_asked.result ≡ None = search rules in
+    let none : c.receive_asked.result ≡ false = c.if-receive_asked.false in
     nothing_more start _ _ replies
-    (received_none (λ v. v.items) start _ _ _ replies c.receive_asked.result (c.loop-turns.invariant.talk start replies h)
+    (received_none start _ _ _ replies c.receive_asked.result c.receive_asked.new.reply.items (c.loop-turns.invariant.talk start replies h)
     c.receive_asked.ensures.talk none)
 
 pub loop-turns-preserved : goal.loop-turns-preserved
 loop-turns-preserved g c =
-    let none : c.receive_asked.result ≡ None = search rules in
+    let none : c.receive_asked.result ≡ false = c.if-receive_asked.false in
     record {
       within = c.send_on.ensures.within;
       place = c.send_on.ensures.place ∙ c.loop-turns.invariant.place;
       talk = λ start replies h. c.turn.ensures.silent ∙ c.send_on.ensures.talk start replies
-          (received_none (λ v. v.items) start _ _ _ replies c.receive_asked.result
+          (received_none start _ _ _ replies c.receive_asked.result c.receive_asked.new.reply.items
           (c.loop-turns.invariant.talk start replies h) c.receive_asked.ensures.talk none);
       quiet =
           ap received_of c.turn.ensures.silent ∙ c.send_on.ensures.quiet
-          ∙ unreceived_is_quiet (λ v. v.items) c.receive_asked.result _ _ none c.receive_asked.ensures.talk
+          ∙ unreceived_is_quiet c.receive_asked.result c.receive_asked.new.reply.items _ _ none c.receive_asked.ensures.talk
           ∙ c.loop-turns.invariant.quiet;
       unfailed =
           omega
@@ -40,8 +40,8 @@ loop-turns-preserved g c =
 
 pub returns-then-is_over-clause-waited : goal.returns-then-is_over-clause-waited
 returns-then-is_over-clause-waited g c =
-    let none : c.receive_asked.result ≡ None = search rules in (
-      unreceived_is_quiet (λ v. v.items) c.receive_asked.result _ _ none c.receive_asked.ensures.talk
+    let none : c.receive_asked.result ≡ false = c.if-receive_asked.false in (
+      unreceived_is_quiet c.receive_asked.result c.receive_asked.new.reply.items _ _ none c.receive_asked.ensures.talk
           ∙ c.loop-turns.invariant.quiet,
       elim c.then-is_over.branch [
         | then-is_over-via-then-is_over w ↦ inl (sym c.is_over.ensures ∙ w.if-is_over.true)
@@ -62,7 +62,7 @@ returns-clause-talk g c =
 
 pub returns-in_err-turn-clause-fault : goal.returns-in_err-turn-clause-fault
 returns-in_err-turn-clause-fault g c = λ start replies h.
-    let none : c.receive_asked.result ≡ None = search rules in
+    let none : c.receive_asked.result ≡ false = c.if-receive_asked.false in
     on_err c.from_residual.result _ (c.turn.ensures.silent ∙ c.send_on.ensures.talk start replies
-    (received_none (λ v. v.items) start _ _ _ replies c.receive_asked.result (c.loop-turns.invariant.talk start replies h)
+    (received_none start _ _ _ replies c.receive_asked.result c.receive_asked.new.reply.items (c.loop-turns.invariant.talk start replies h)
     c.receive_asked.ensures.talk none))

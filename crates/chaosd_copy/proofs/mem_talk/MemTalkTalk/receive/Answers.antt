@@ -6,5 +6,5 @@ pub returns-clause-received : goal.returns-clause-received
 returns-clause-received c =
     let below : c.args.self.now.received < length c.args.self.now.replies.items = search rules in
     receives_next (λ v. v.items) _ c.args.self.now.replies.items c.args.self.now.received c.index.result.now
-    c.kept-reply.result.items below c.index.ensures
-    (c.kept-reply.ensures ∙ c.as_slice.ensures.value)
+    c.fill.new.text.items below c.index.ensures
+    (c.fill.ensures ∙ c.as_slice.ensures.value)

@@ -6,10 +6,10 @@ pub invariant_of-self-2 : goal.invariant_of-self-2
 invariant_of-self-2 c = record {
   within = search rules;
   honest =
-      serves_next (λ v. v.items) _ _ _ _ _ _ c.args.self.now.sent.items _ c.args.self.now.replies.items _ c.kept.result
+      serves_next (λ v. v.items) _ _ _ _ _ _ c.args.self.now.sent.items _ c.args.self.now.replies.items _ c.copied.result
       c.in-Some.reply c.args.command.now
       c.args.self.now.honest
-      (c.push_reserved.ensures.items ∙ ap (λ l. l ++ c.kept.result ∷ []) c.reserve.ensures.items)
+      (c.push_reserved.ensures.items ∙ ap (λ l. l ++ c.copied.result ∷ []) c.reserve.ensures.items)
       (c.push_reserved-2.ensures.items ∙ ap (λ l. l ++ c.in-Some.reply ∷ []) c.reserve-else-is_err.ensures.items)
-      c.kept.ensures c.in-Some.ensures;
+      c.copied.ensures c.in-Some.ensures;
 }

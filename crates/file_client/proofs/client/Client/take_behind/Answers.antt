@@ -1,5 +1,5 @@
 use Rattle.std.proofs.Common.{refl}
-use Rattle.file_client.specs.Calls.{taken}
+use Rattle.chaosd_copy.specs.Talk.{taken}
 use Rattle.file_client.specs.Talk.{talker}
 use Rattle.file_client.proofs.Talking.{talks_reading}
 use Rattle.file_client.proofs.client.Client.take_behind.Goals as goal
