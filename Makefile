@@ -19,7 +19,7 @@ help: ## lists these wishes
 	@sed -n 's/^\([a-zA-Z][^:=]*\):[^#]*## \(.*\)/\1\t\2/p' $(MAKEFILE_LIST) | while IFS="$$(printf '\t')" read -r wish what; do printf 'make %-14s %s\n' "$$wish" "$$what"; done
 
 bin/chaosd: $(SOURCES)
-	@echo "Proving and building bin/chaosd takes some $$((80 / $$(nproc) > 20 ? 80 / $$(nproc) : 20)) minutes on these $$(nproc) cores; 'make demo' needs no proof."
+	@echo "Proving and building bin/chaosd takes some $$((70 / $$(nproc) > 25 ? 70 / $$(nproc) : 25)) minutes on these $$(nproc) cores; 'make demo' needs no proof."
 	@RT=$(RT) tools/build chaosd --help
 	@mkdir -p bin
 	cp crates/chaosd/out/chaosd $@
