@@ -1,5 +1,5 @@
 -- Where both writers know that all was read, nothing is stored.
-use Rattle.std.proofs.Common.{◌≡◌, ℕ, zero, suc, ◌+◌, ◌*◌, ◌-◌, ◌<◌, ◌≤◌, List, [], ◌∷◌, ◌++◌, length, drop, take, replicate, true, Option, None, refl, sym, ap, ◌∙◌, subst, ⊎_elim, arith, length-drop, length-append}
+use Rattle.std.proofs.Common.{◌≡◌, ℕ, zero, suc, ◌+◌, ◌*◌, ◌-◌, ◌<◌, ◌≤◌, List, [], ◌∷◌, length, drop, take, replicate, true, Option, None, refl, sym, ap, ◌∙◌, subst, ⊎_elim, arith, length-drop, length-append}
 use Rattle.std.specs.Prelude.{slice_get, count_by, is_some, is_none}
 use Rattle.std.specs.FinSet.{contains}
 use Rattle.std.proofs.lemmas.Bool.{cond_both, eq-eqb, cases_lt}
@@ -30,10 +30,10 @@ use Rattle.chaos_lab.proofs.RecvTie.{no_slots}
 use Rattle.chaos_lab.proofs.Known.{other_other}
 use Rattle.chaos_lab.proofs.OnSide.{conn_at, first_at, written_at, read_at}
 use Rattle.chaos_lab.proofs.HeadlineLaw.{open_at}
-use Rattle.chaos_lab.proofs.Keeps.{Keeps, keeps_through}
-use Rattle.chaos_lab.proofs.Helping.{shows, same_count, burst_keeps, copies_keep}
+use Rattle.chaos_lab.proofs.Keeps.{Keeps}
+use Rattle.chaos_lab.proofs.Helping.{Burst, Copies, shows, same_count, burst_keeps, copies_keep}
 use Rattle.chaos_lab.proofs.Playing.{Plays, plays_both}
-use Rattle.chaos_lab.proofs.OneWay.{Timely, AreOpen, IsDone, stay_open, done_keeps, same_timely, resent, resends, takes}
+use Rattle.chaos_lab.proofs.OneWay.{Timely, AreOpen, IsDone, HasMoment, Resends, Takes, stay_open, done_keeps, same_timely, resent, resends, takes}
 
 -- ---- lists
 
@@ -181,88 +181,141 @@ taking_fits y first last w l t at near =
     let few = taking_few y first last l in
     omega (arith, cap, caps.2, few, near)
 
--- six events, and those by which both take
-few_of : (a b c d e f : Happening) (first second : List Happening) → length first ≤ 194 → length second ≤ 194
-    → length (a ∷ b ∷ c ∷ d ∷ e ∷ f ∷ (first ++ second)) ≤ most_events
-few_of a b c d e f first second few more = let all = length-append first second in omega (arith, few, more, all)
-
 -- ---- both ways
 
 in_time : (l : LabView) → CanSettle l → (x : Side) → IsInTime (conn_at l x)
 in_time l can A = can.a
 in_time l can B = can.b
 
--- how both ways go, and what comes of it
-record GoesBoth (l : LabView) (w : Machine) : Type 0 where
-  machine : Machine
-  plays : Plays (length l.copies) w l (settling l) machine
-  done : (x : Side) → IsDone machine x
-  few : length (settling l) ≤ most_events
+-- What the end at x sent again as these copies, from the n-th on: one of each item for which it had no receipt.
+record HasSent (n : ℕ) (x : Side) (first last : ℕ) (w : Machine) : Type 0 where
+  receipted : ℕ
+  burst : Burst w x first receipted
+  all : Copies w x first last
+  some : 1 ≤ (end_of w (other x)).announced
+  upto : first ≤ last
+  near : last ≤ first + 64
+  enough : length (end_of w x).written ≤ receipted + (last - first)
+  from : n ≤ first
 
-goes_both : (l : LabView) (w : Machine) → Ties w l → ((x : Side) → IsConn (lab_end l x).conn) → CanSettle l
-    → GoesBoth l w
-goes_both l w t conns can =
-    let n : ℕ = length l.copies in
-    let opens : AreOpen w = λ x. open_at x w l t (in_time l can x).open_end in
-    let time : (x : Side) → Timely (conn_at l x) = λ x. timely (conn_at l x) (conns x) (in_time l can x) in
-    -- A is told, and sends again
-    let a = resends n A w l t opens (omega arith) (time A) (omega (arith, can.moments)) in
-    let u : Machine = a.machine in
-    let m : LabView = resent A l in
-    let from_a : ℕ = length (told B l).copies in
-    let to_a : ℕ = length m.copies in
-    let open_u = stay_open w u a.plays.keeps opens in
-    let speaks = a.speaks in
-    let retransmit : (conn_at m B).config.retransmit ≡ (conn_at l B).config.retransmit =
-    ap (λ c. c.retransmit) speaks.config in
-    -- then B
-    let b =
-    resends n B u m a.ties open_u (omega (arith, a.from, a.upto))
-    (same_timely (conn_at l B) (conn_at m B) speaks (time B))
-    (omega (arith, a.clock, speaks.last, retransmit, can.moments)) in
-    let v : Machine = b.machine in
-    let q : LabView = resent B m in
-    let from_b : ℕ = length (told A m).copies in
-    let to_b : ℕ = length q.copies in
-    let open_v = stay_open u v b.plays.keeps open_u in
-    -- A takes
-    let home =
-    takes n B from_b to_b b.receipted v q b.ties open_v b.some b.burst b.all b.upto b.enough
-    (omega (arith, a.from, a.upto, b.from)) (omega (arith, a.from, a.upto, b.from, b.upto)) in
-    let y : Machine = home.machine in
-    let kuy : Keeps u y = keeps_through u v y b.plays.keeps home.plays.keeps in
-    let r : LabView = after_all q (taking A from_b to_b q) in
-    let before : length q.copies ≡ length v.copies = same_count v q b.ties in
-    let now : length r.copies ≡ length y.copies = same_count y r home.plays.ties in
-    let wrote : length (end_of y A).written ≡ length (end_of u A).written = ap length (kuy.ends A).written in
-    -- then B
+sent_again : (n : ℕ) (x : Side) (w : Machine) (l : LabView) (a : Resends n x w l) → n ≤ length l.copies
+    → HasSent n x (length (told (other x) l).copies) (length (resent x l).copies) a.machine
+sent_again n x w l a from =
+    record {
+      receipted = a.receipted;
+      burst = a.burst;
+      all = a.all;
+      some = a.some;
+      upto = a.upto;
+      near = a.few;
+      enough = a.enough;
+      from = omega (arith, from, a.from);
+    }
+
+sent_keeps : (n : ℕ) (x : Side) (first last : ℕ) (w v : Machine) → Keeps w v → HasSent n x first last w
+    → HasSent n x first last v
+sent_keeps n x first last w v k h =
+    let wrote : length (end_of v x).written ≡ length (end_of w x).written = ap length (k.ends x).written in
+    record {
+      receipted = h.receipted;
+      burst = burst_keeps w v x first h.receipted k h.burst;
+      all = copies_keep w v x first last k h.all;
+      some = (k.ends (other x)).announces h.some;
+      upto = h.upto;
+      near = h.near;
+      enough = omega (arith, wrote, h.enough);
+      from = h.from;
+    }
+
+take_sent : (n : ℕ) (x : Side) (first last : ℕ) (w : Machine) (l : LabView) → Ties w l → AreOpen w
+    → HasSent n x first last w → n ≤ length l.copies → Takes n x first last w l
+take_sent n x first last w l t opens h long =
+    takes n x first last h.receipted w l t opens h.some h.burst h.all h.upto h.enough h.from long
+
+-- these events settle both ways, and there are at most so many of them
+record SettlesBoth (n most : ℕ) (w : Machine) (l : LabView) (events : List Happening) : Type 0 where
+  machine : Machine
+  plays : Plays n w l events machine
+  done : (x : Side) → IsDone machine x
+  few : length events ≤ most
+
+-- both ends have sent again: A takes, and then B
+take_both : (n from_a to_a from_b to_b : ℕ) (w : Machine) (l : LabView) → Ties w l → AreOpen w
+    → HasSent n A from_a to_a w → HasSent n B from_b to_b w → n ≤ length l.copies
+    → SettlesBoth n 388 w l (both_taking from_a to_a from_b to_b l)
+take_both n from_a to_a from_b to_b w l t opens a b long =
+    let home = take_sent n B from_b to_b w l t opens b long in
+    let v : Machine = home.machine in
+    let kept : Keeps w v = home.plays.keeps in
+    let first : List Happening = taking A from_b to_b l in
+    let m : LabView = after_all l first in
+    let before : length l.copies ≡ length w.copies = same_count w l t in
+    let now : length m.copies ≡ length v.copies = same_count v m home.plays.ties in
+    let open_v = stay_open w v kept opens in
     let there =
-    takes n A from_a to_a a.receipted y r home.plays.ties (stay_open u y kuy open_u) ((kuy.ends B).announces a.some)
-    (burst_keeps u y A from_a a.receipted kuy a.burst) (copies_keep u y A from_a to_a kuy a.all) a.upto
-    (omega (arith, a.enough, wrote)) (omega (arith, a.from))
-    (omega (arith, a.from, a.upto, b.from, b.upto, before, now, home.plays.keeps.count)) in
+    take_sent n A from_a to_a v m home.plays.ties open_v (sent_keeps n A from_a to_a w v kept a)
+    (omega (arith, long, before, now, kept.count)) in
     let z : Machine = there.machine in
+    let second : List Happening = taking B from_a to_a m in
+    let few = taking_fits A from_b to_b w l t (opens A) b.near in
+    let more = taking_fits B from_a to_a v m home.plays.ties (open_v B) a.near in
+    let all = length-append first second in
     record {
       machine = z;
-      plays =
-          plays_both n w u z l (telling B l ++ TickOf A (resend_moment A (told B l)) ∷ []) (b_hearing from_a to_a m)
-          a.plays
-          (plays_both n u v z m (telling A m ++ TickOf B (resend_moment B (told A m)) ∷ [])
-          (both_taking from_a to_a from_b to_b q) b.plays
-          (plays_both n v y z q (taking A from_b to_b q) (taking B from_a to_a r) home.plays there.plays));
-      done = both z (done_keeps y z B there.plays.keeps home.done) there.done;
-      few =
-          few_of (AnnounceBy B (conn_at l B).config.recv_cap) (DeliverCopy (length l.copies))
-          (TickOf A (resend_moment A (told B l)))
-          (AnnounceBy A (conn_at m A).config.recv_cap) (DeliverCopy (length m.copies))
-          (TickOf B (resend_moment B (told A m))) (taking A from_b to_b q) (taking B from_a to_a r)
-          (taking_fits A from_b to_b v q b.ties (open_v A) b.few)
-          (taking_fits B from_a to_a y r home.plays.ties (stay_open u y kuy open_u B) a.few);
+      plays = plays_both n w v z l first second home.plays there.plays;
+      done = both z (done_keeps v z B there.plays.keeps home.done) there.done;
+      few = omega (arith, few, more, all);
     }
   where
     both : (g : Machine) → IsDone g B → IsDone g A → (x : Side) → IsDone g x
     both g b a A = a
     both g b a B = b
+
+-- three events more
+three_more : (n most : ℕ) (w u : Machine) (l : LabView) (a b c : Happening) (events : List Happening)
+    → Plays n w l (a ∷ b ∷ c ∷ []) u → SettlesBoth n most u (after_all l (a ∷ b ∷ c ∷ [])) events
+    → SettlesBoth n (3 + most) w l (a ∷ b ∷ c ∷ events)
+three_more n most w u l a b c events p s =
+    record {
+      machine = s.machine;
+      plays = plays_both n w u s.machine l (a ∷ b ∷ c ∷ []) events p s.plays;
+      done = s.done;
+      few = omega (arith, s.few);
+    }
+
+-- A has sent again: B does too, and both take
+b_then_both : (n from_a to_a : ℕ) (w : Machine) (l : LabView) → Ties w l → AreOpen w → HasSent n A from_a to_a w
+    → n ≤ length l.copies → Timely (conn_at l B) → HasMoment B l → SettlesBoth n 391 w l (b_hearing from_a to_a l)
+b_then_both n from_a to_a w l t opens a long time moment =
+    let b = resends n B w l t opens long time moment in
+    let v : Machine = b.machine in
+    let both =
+    take_both n from_a to_a (length (told A l).copies) (length (resent B l).copies) v (resent B l) b.ties
+    (stay_open w v b.plays.keeps opens) (sent_keeps n A from_a to_a w v b.plays.keeps a) (sent_again n B w l b long)
+    (omega (arith, long, b.from, b.upto)) in
+    three_more n 388 w v l (AnnounceBy A (conn_at l A).config.recv_cap) (DeliverCopy (length l.copies))
+    (TickOf B (resend_moment B (told A l)))
+    (both_taking from_a to_a (length (told A l).copies) (length (resent B l).copies) (resent B l)) b.plays both
+
+-- how both ways go, and what comes of it
+goes_both : (l : LabView) (w : Machine) → Ties w l → ((x : Side) → IsConn (lab_end l x).conn) → CanSettle l
+    → SettlesBoth (length l.copies) most_events w l (settling l)
+goes_both l w t conns can =
+    let n : ℕ = length l.copies in
+    let opens : AreOpen w = λ x. open_at x w l t (in_time l can x).open_end in
+    let time : (x : Side) → Timely (conn_at l x) = λ x. timely (conn_at l x) (conns x) (in_time l can x) in
+    let a = resends n A w l t opens (omega arith) (time A) (omega (arith, can.moments)) in
+    let u : Machine = a.machine in
+    let m : LabView = resent A l in
+    let retransmit : (conn_at m B).config.retransmit ≡ (conn_at l B).config.retransmit =
+    ap (λ c. c.retransmit) a.speaks.config in
+    let rest =
+    b_then_both n (length (told B l).copies) (length m.copies) u m a.ties (stay_open w u a.plays.keeps opens)
+    (sent_again n A w l a (omega arith)) (omega (arith, a.from, a.upto))
+    (same_timely (conn_at l B) (conn_at m B) a.speaks (time B))
+    (omega (arith, a.clock, a.speaks.last, retransmit, can.moments)) in
+    three_more n 391 w u l (AnnounceBy B (conn_at l B).config.recv_cap) (DeliverCopy n)
+    (TickOf A (resend_moment A (told B l))) (b_hearing (length (told B l).copies) (length m.copies) m) a.plays rest
 
 pub settles : (l : LabView) → HasMachine l → ((x : Side) → IsConn (lab_end l x).conn) → CanSettle l
     → Settles l (settling l)

@@ -7,6 +7,7 @@ use Rattle.chaos_lab.specs.declared.side.Side.{Side}
 use Rattle.chaos_lab.specs.declared.side.Side.TheVariants.{A, B}
 use Rattle.chaos_lab.specs.declared.settling.Settling.{Settling}
 use Rattle.chaos_lab.specs.declared.settling.Place.TheVariants as place
+use Rattle.chaos_lab.specs.Machine.{other}
 use Rattle.chaos_lab.specs.Laboratory.{LabView, Happening, lab_end, happen, after_all}
 use Rattle.chaos_lab.specs.Laboratory.Happening.{ReadBy, AnnounceBy, TickOf, DeliverCopy}
 use Rattle.chaos_lab.specs.Settling.{resend_moment, reading, reading_on, bringing, taking, b_hearing, b_sending, both_taking}
@@ -38,6 +39,12 @@ told y s t l event copy is count h =
     let goes : Happening → ℕ → List Happening =
     λ e n. e ∷ DeliverCopy n ∷ hears y t (happen (happen l e).lab (DeliverCopy n)).lab in
     told_at y s t l (subst (λ n. IsTold y n s t) count h) ∙ (λ i. goes (sym is i) (sym count i))
+
+-- the other end hears that, and sends again
+pub hears_sends : (y x : Side) (s : Settling) (l : LabView) → x ≡ other y
+    → hears y s l ≡ sends x (record s { place = place.Resend x }) l
+hears_sends A x s l is = ap (λ z. sends z (record s { place = place.Resend z }) l) (sym is)
+hears_sends B x s l is = ap (λ z. sends z (record s { place = place.Resend z }) l) (sym is)
 
 -- ---- an end sends again
 
