@@ -8,7 +8,7 @@ ghost use Rattle.chaosd_lab.specs.Answers.{copies_text};
 ghost use Rattle.chaosd_script.specs.Player.{IsLineFault};
 ghost use Rattle.chaosd_filelab.specs.Event.{file_line_of};
 ghost use Rattle.chaosd_filelab.specs.Happen.{PlaysFileEvent, WantsEvent};
-ghost use Rattle.chaosd_filelab.specs.Start.{first_of};
+ghost use Rattle.chaosd_filelab.specs.Start.{file_start, first_of};
 ghost use Rattle.chaosd_filelab.specs.Play.{filelab_script, end_text};
 
 use crate::answers::put_answer;
@@ -17,7 +17,7 @@ use crate::settle::settle;
 use chaos_filelab::{FileEvent, FileLab, FileStepped};
 use chaos_lab::{LabFault, Side};
 use chaosd_io::{Data, NotWritten, RunFault, WriteBuffer, written};
-use chaosd_lab::{is_refused, put_copies, put_stored, start_of};
+use chaosd_lab::{Start, is_refused, put_copies, put_stored, start_of};
 use chaosd_script::Stage;
 use std::alloc::Global;
 use std::io::Write;
@@ -93,14 +93,26 @@ fn begin(
     let Some(start) = start_of(line) else {
         return Err(RunFault::BadScript(number));
     };
-    let Ok(lab) = FileLab::new(alloc, start.a, start.b, start.start) else {
-        return Err(RunFault::NoMemory);
-    };
-    written(put_copies(out, lab.copies(), 0))?;
-    Ok(FileStage {
-        lab,
-        body: Data::new(),
-    })
+    let stage = stage_of(alloc, start)?;
+    // not by `?`: a path that drops the stage here takes long to prove
+    written(put_copies(out, stage.lab.copies(), 0)).and(Ok(stage))
+}
+
+/// The laboratory that a first line asks for.
+///
+/// # Errors
+/// `NoMemory`.
+fn stage_of(alloc: Global, start: Start) -> Result<FileStage, RunFault>
+    ensures begun { IfOk result (λ stage. stage ≡ file_start start) }
+    ensures fault { IfErr result (λ fault. fault ≡ run.NoMemory) }
+{
+    match FileLab::new(alloc, start.a, start.b, start.start) {
+        Ok(lab) => Ok(FileStage {
+            lab,
+            body: Data::new(),
+        }),
+        Err(_) => Err(RunFault::NoMemory),
+    }
 }
 
 /// Lets the event of a line happen, writes what came of it, and says whether it was refused.

@@ -8,7 +8,7 @@ ghost use Rattle.chaos_lab.specs.Laboratory.{Happening};
 ghost use Rattle.chaosd_io.specs.declared.fault.RunFault.TheVariants as run;
 ghost use Rattle.std.specs.Str.{bytes_eq};
 ghost use Rattle.chaosd_lab.specs.Settle.{settle_word};
-ghost use Rattle.chaosd_lab.specs.Start.{first_of};
+ghost use Rattle.chaosd_lab.specs.Start.{first_of, start_said};
 ghost use Rattle.chaosd_lab.specs.Happen.{PlaysEvent};
 ghost use Rattle.chaosd_lab.specs.Play.{lab_script, end_text, refused_or_ended};
 ghost use Rattle.chaosd_script.specs.Player.{IsLineFault};
@@ -16,7 +16,7 @@ ghost use Rattle.chaosd_script.specs.Player.{IsLineFault};
 use crate::answers::{put_answer, put_copies, put_stored};
 use crate::parse::event_of;
 use crate::settle::settle;
-use crate::start::start_of;
+use crate::start::{Start, start_of};
 use chaos_lab::{Event, Lab, LabFault, Side};
 use chaosd_io::{Data, NotWritten, RunFault, WriteBuffer, written};
 use chaosd_script::Stage;
@@ -98,14 +98,26 @@ fn begin(
     let Some(start) = start_of(line) else {
         return Err(RunFault::BadScript(number));
     };
-    let Ok(lab) = Lab::new(alloc, start.a, start.b, start.start) else {
-        return Err(RunFault::NoMemory);
-    };
-    written(put_copies(out, lab.copies(), 0))?;
-    Ok(LabStage {
-        lab,
-        body: Data::new(),
-    })
+    let stage = stage_of(alloc, start)?;
+    // not by `?`: a path that drops the stage here takes long to prove
+    written(put_copies(out, stage.lab.copies(), 0)).and(Ok(stage))
+}
+
+/// The laboratory that a first line asks for.
+///
+/// # Errors
+/// `NoMemory`.
+fn stage_of(alloc: Global, start: Start) -> Result<LabStage, RunFault>
+    ensures begun { IfOk result (λ stage. stage ≡ start_said start) }
+    ensures fault { IfErr result (λ fault. fault ≡ run.NoMemory) }
+{
+    match Lab::new(alloc, start.a, start.b, start.start) {
+        Ok(lab) => Ok(LabStage {
+            lab,
+            body: Data::new(),
+        }),
+        Err(_) => Err(RunFault::NoMemory),
+    }
 }
 
 /// How many packets both ends store.

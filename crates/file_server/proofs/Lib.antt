@@ -1,3 +1,4 @@
 pub mod Passed
 pub mod Relation
 pub mod Whole
+pub mod Calls

@@ -43,7 +43,6 @@ fn accept<L: Link>(
 }
 
 /// Delivers a packet, and accepts the request for FILE that it is.
-#[tactic(auto, using(chaos_turn::proofs::Phase::put_into_empty, chaos_turn::proofs::Queue::sends_both, chaos_turn::proofs::Queue::has_both))]
 fn greet<L: Link>(
     host: &mut Host,
     packet: &Packet,

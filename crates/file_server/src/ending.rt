@@ -12,7 +12,6 @@ use chaos_turn::{TURN_ROOM, any_of, send_all, tick_slots};
 
 /// Closes the connection in a slot with an empty text, where its EOF was served and its peer read all. Says whether packets
 /// went out, as all here do.
-#[tactic(auto, using(chaos_turn::proofs::Phase::put_into_empty))]
 fn close_slot<L: Link>(
     host: &mut Host,
     sessions: &Sessions,
@@ -26,15 +25,15 @@ fn close_slot<L: Link>(
     requires empty { out.old.packets ≡ [] }
     ensures { DoesPhase carriage (close_at sessions.now place host.old) (station host.old (L.queue link.old) out.old) (station host.new (L.queue link.new) out.new) result }
 {
-    if !sessions.kept[place].eof {
+    if !sessions.eof(place) {
         return false;
     }
     let Some(id) = host.id_of(place) else {
         return false;
     };
-    if host.drained(id) != Ok(true) {
+    let Ok(true) = host.drained(id) else {
         return false;
-    }
+    };
     let _ = host.close(id, b"", out);
     send_all(link, out, carriage)
 }
