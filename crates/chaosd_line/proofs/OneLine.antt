@@ -1,5 +1,5 @@
 -- Words ask for one line at most.
-use Rattle.std.proofs.Common.{◌≡◌, ◌∙◌, ◌+◌, ◌*◌, ℕ, Bool, true, false, codes, List, [], ◌∷◌, Option, None, Some, ap, arith, refl, slice_index, sym}
+use Rattle.std.proofs.Common.{◌≡◌, ◌∙◌, ◌+◌, ◌*◌, ℕ, Bool, codes, List, [], ◌∷◌, Option, None, Some, ap, arith, refl, slice_index, sym}
 use Rattle.std.specs.Option.{IsSomeAnd}
 use Rattle.std.specs.List.{AllZip}
 use Rattle.clap.specs.Words.{Row, Text, first_of}

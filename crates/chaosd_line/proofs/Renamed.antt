@@ -1,12 +1,8 @@
 -- Names and the paths that they are renamed to.
-use Rattle.std.proofs.Common.{◌≡◌, ◌≤◌, ◌<◌, ◌&&◌, ◌∷◌, ℕ, Bool, true, false, not, List, [], length, map, refl, ap, arith, if◌then◌else◌, Option, None, Some}
-use Rattle.std.proofs.lemmas.List.{length-map}
+use Rattle.std.proofs.Common.{◌≡◌, ◌<◌, ◌∷◌, Bool, true, false, [], length, refl, arith, None}
 use Rattle.std.proofs.lemmas.Grind.{common_steps}
-use Rattle.std.specs.Str.{bytes_eq}
-use Rattle.std.specs.Prelude.{codes}
 use Rattle.clap.specs.Words.{Text}
-use Rattle.chaos_file.specs.Names.{is_path}
-use Rattle.chaosd_line.specs.Files.{IfBad, name_for, path_byte, renamed, taken_as}
+use Rattle.chaosd_line.specs.Files.{IfBad, name_for, renamed, taken_as}
 use Rattle.chaosd_line.specs.declared.unread.Unread.{Unread}
 use Rattle.chaosd_line.specs.declared.unread.Unread.TheVariants.{Bad, Clash, NoMemory}
 

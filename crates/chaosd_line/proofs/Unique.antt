@@ -5,7 +5,7 @@ use Rattle.std.specs.declared.net.socket_addr.SocketAddrV4.{SocketAddrV4}
 use Rattle.std.proofs.NetLemmas.Theorems.{IsSocketV4Text_unique}
 use Rattle.clap.specs.Words.{Text}
 use Rattle.chaos_link.specs.declared.peers.Peer.{Peer}
-use Rattle.chaosd_line.specs.Values.{IsAddress, IsFlag, IsPeer, IsSeconds, IsSocket, IsTimeout, IsTurns}
+use Rattle.chaosd_line.specs.Values.{IsAddress, IsFlag, IsPeer, IsSocket, IsTimeout, IsTurns}
 
 pub one_value : {T : Type 0} (Q : Text → T → Type 0) → ((t : Text) (x y : T) → Q t x → Q t y → x ≡ y)
     → (o : Option Text) (x y : T) → IsSomeAnd o (λ t. Q t x) → IsSomeAnd o (λ t. Q t y) → x ≡ y

@@ -1,9 +1,11 @@
 -- The words of the subcommands, and the rules that clap reads them by.
-use Rattle.std.specs.Prelude.{◌++◌, ◌∷◌, List, [], Some, map}
+use Rattle.std.specs.Prelude.{◌++◌, ◌∷◌, List, [], Some, codes, map}
 use Rattle.clap.specs.Lexer.{usize_max}
 use Rattle.clap.specs.Words.{App, Rule, Text, new_app, new_rule, with_subcommand}
-use Rattle.chaosd_line.specs.CommandLine.{file_words, flag, needed, optional, with_default}
+use Rattle.chaosd_line.specs.CommandLine.{ask_command, delete_command, file_words, flag, get_command, loop_command, needed, optional, put_command, rename_command, serve_command, show_command, with_default}
 use Rattle.chaosd_line.specs.declared.sub.Sub.{Sub}
+use Rattle.chaosd_line.specs.declared.sub.SubName.{SubName}
+use Rattle.chaosd_line.specs.declared.sub.SubName.TheVariants as name
 use Rattle.chaosd_line.specs.declared.word.Wanted.{Wanted}
 use Rattle.chaosd_line.specs.declared.word.Wanted.TheVariants as wanted
 use Rattle.chaosd_line.specs.declared.word.Word.{Word}
@@ -32,7 +34,20 @@ with_rules app rules = record app { top = record app.top { rules = app.top.rules
 abbrev pub app_of_sub : Sub → App
 app_of_sub sub = with_rules (new_app sub.name.now) (map rule_of_word sub.words.now)
 
--- these subcommands, one after another
-abbrev pub with_subs : App → List Sub → App
+-- the subcommand of a name
+abbrev pub app_named : SubName → App
+app_named name.Show = show_command
+app_named name.Lab = new_app (codes "lab")
+app_named name.FileLab = new_app (codes "filelab")
+app_named name.Loop = loop_command
+app_named name.Serve = serve_command
+app_named name.Ask = ask_command
+app_named name.Get = get_command
+app_named name.Put = put_command
+app_named name.Delete = delete_command
+app_named name.Rename = rename_command
+
+-- the subcommands of these names, one after another
+abbrev pub with_subs : App → List SubName → App
 with_subs app [] = app
-with_subs app (s ∷ subs) = with_subs (with_subcommand app (app_of_sub s).top) subs
+with_subs app (n ∷ names) = with_subs (with_subcommand app (app_named n).top) names

@@ -6,7 +6,7 @@ ghost use Rattle.chaosd_line.specs.CommandLine.{bare_chaosd, chaosd};
 ghost use Rattle.chaosd_line.specs.Plan.{app_of_sub, rule_of_word, with_rules, with_subs};
 
 use crate::help;
-use crate::sub::{Sub, all_subs};
+use crate::sub::{Sub, SubName, sub_names, sub_of};
 use crate::word::{Word, arg_of};
 use clap::Command;
 use std::alloc::{AllocError, Global};
@@ -61,17 +61,17 @@ fn bare<'a>(alloc: Global) -> Result<Command<'a>, AllocError>
         .bin_name("chaosd")
 }
 
-/// Adds subcommands, one after another.
+/// Adds the subcommands of these names, one after another.
 fn with_subs<'a>(
     alloc: Global,
     command: Command<'a>,
-    subs: &[Sub],
+    names: &[SubName],
 ) -> Result<Command<'a>, AllocError>
-    ensures { IfOk result (λ c. app_of c ≡ with_subs (app_of command.entry) subs.now) }
+    ensures { IfOk result (λ c. app_of c ≡ with_subs (app_of command.entry) names.now) }
 {
     let mut full = command;
-    for sub in subs {
-        let nested = subcommand(alloc, sub)?;
+    for name in names {
+        let nested = subcommand(alloc, sub_of(name))?;
         full = full.subcommand(nested)?;
     }
     Ok(full)
@@ -82,16 +82,24 @@ pub(crate) fn command<'a>(alloc: Global) -> Result<Command<'a>, AllocError>
     ensures { IfOk result (λ c. app_of c ≡ chaosd) }
 {
     let top = bare(alloc)?;
-    with_subs(alloc, top, all_subs())
+    with_subs(alloc, top, sub_names())
+}
+
+/// The subcommand of a name, where there is one.
+fn sub_called(name: &str) -> Option<&'static Sub> {
+    for one in sub_names() {
+        let sub = sub_of(one);
+        if sub.name == name {
+            return Some(sub);
+        }
+    }
+    None
 }
 
 /// The command whose usage helps with a bad word: the subcommand of this name, or else the whole.
 pub(crate) fn command_of<'a>(alloc: Global, name: Option<&str>) -> Result<Command<'a>, AllocError> {
-    let name = name.unwrap_or("");
-    for sub in all_subs() {
-        if sub.name == name {
-            return subcommand(alloc, sub)?.bin_name(sub.shown);
-        }
+    match sub_called(name.unwrap_or("")) {
+        Some(sub) => subcommand(alloc, sub)?.bin_name(sub.shown),
+        None => command(alloc),
     }
-    command(alloc)
 }

@@ -266,25 +266,44 @@ fn rename_line<'a>(matches: &ArgMatches<'a>) -> Result<Line<'a>, Unread<'a>>
     Ok(Line::Rename(rename_of(matches)?))
 }
 
-/// What a subcommand and its values ask for. That it is one of these is clap's care.
+/// That a subcommand is wanted.
+fn no_subcommand<'a>() -> Unread<'a> {
+    Unread::Bad(BadWord {
+        text: "",
+        place: "COMMAND",
+        form: "a subcommand",
+    })
+}
+
+/// What the values of the subcommand of this name ask for. That there is one of this name is clap's care.
+fn line_named<'a>(
+    alloc: Global,
+    name: &str,
+    values: &ArgMatches<'a>,
+) -> Result<Line<'a>, Unread<'a>>
+    ensures { GivesFiles (IsLine name.now (rows_of (found_of values.now))) result }
+{
+    match name {
+        "show" => show_line(values),
+        "lab" => Ok(Line::Lab),
+        "filelab" => Ok(Line::FileLab),
+        "loop" => loop_line(values),
+        "serve" => serve_line(values),
+        "ask" => ask_line(values),
+        "get" => get_line(alloc, values),
+        "put" => put_line(alloc, values),
+        "delete" => delete_line(alloc, values),
+        "rename" => rename_line(values),
+        _ => Err(no_subcommand()),
+    }
+}
+
+/// What a subcommand and its values ask for. That there is one is clap's care.
 pub(crate) fn line_of<'a>(alloc: Global, matches: &ArgMatches<'a>) -> Result<Line<'a>, Unread<'a>>
     ensures { GivesFiles (AsksFor (subcommand_rows_of matches.now)) result }
 {
     match matches.subcommand() {
-        Some(("show", values)) => show_line(values),
-        Some(("lab", _)) => Ok(Line::Lab),
-        Some(("filelab", _)) => Ok(Line::FileLab),
-        Some(("loop", values)) => loop_line(values),
-        Some(("serve", values)) => serve_line(values),
-        Some(("ask", values)) => ask_line(values),
-        Some(("get", values)) => get_line(alloc, values),
-        Some(("put", values)) => put_line(alloc, values),
-        Some(("delete", values)) => delete_line(alloc, values),
-        Some(("rename", values)) => rename_line(values),
-        _ => Err(Unread::Bad(BadWord {
-            text: "",
-            place: "COMMAND",
-            form: "a subcommand",
-        })),
+        Some((name, values)) => line_named(alloc, name, values),
+        None => Err(no_subcommand()),
     }
 }

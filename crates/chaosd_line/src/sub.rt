@@ -1,10 +1,34 @@
 //! The subcommands, each with its words and the texts of its help.
 ghost use Rattle.std.specs.Prelude.{◌≡◌};
 ghost use Rattle.chaosd_line.specs.CommandLine.{bare_chaosd, chaosd};
-ghost use Rattle.chaosd_line.specs.Plan.{with_subs};
+ghost use Rattle.chaosd_line.specs.Plan.{app_named, app_of_sub, with_subs};
 
 use crate::help;
 use crate::word::{Wanted, Word};
+
+/// The name of a subcommand. Each has a table of its own, since one large one would be dear to prove.
+pub(crate) enum SubName {
+    /// `show`.
+    Show,
+    /// `lab`.
+    Lab,
+    /// `filelab`.
+    FileLab,
+    /// `loop`.
+    Loop,
+    /// `serve`.
+    Serve,
+    /// `ask`.
+    Ask,
+    /// `get`.
+    Get,
+    /// `put`.
+    Put,
+    /// `delete`.
+    Delete,
+    /// `rename`.
+    Rename,
+}
 
 /// A subcommand.
 pub(crate) struct Sub {
@@ -42,150 +66,188 @@ const VERBOSE: Word<'static> = Word("verbose", Wanted::Flag, help::VERBOSE);
 
 const SERVER: Word<'static> = Word("SERVER", Wanted::Needed, help::SERVER);
 
-/// The subcommands, in the order of the help.
-static SUBS: [Sub; 10] = [
-    Sub {
-        name: "show",
-        shown: "chaosd show",
-        about: help::SHOW,
-        example: None,
-        words: &[Word("file", Wanted::Flag, help::SHOW_FILE)],
-    },
-    Sub {
-        name: "lab",
-        shown: "chaosd lab",
-        about: help::LAB,
-        example: None,
-        words: &[],
-    },
-    Sub {
-        name: "filelab",
-        shown: "chaosd filelab",
-        about: help::FILELAB,
-        example: None,
-        words: &[],
-    },
-    Sub {
-        name: "loop",
-        shown: "chaosd loop",
-        about: help::LOOP,
-        example: None,
-        words: &[CARRIAGE],
-    },
-    Sub {
-        name: "serve",
-        shown: "chaosd serve",
-        about: help::SERVE,
-        example: Some(help::SERVE_EXAMPLE),
-        words: &[
-            Word("turns", Wanted::Default("N", "1000000000"), help::TURNS),
-            CARRIAGE,
-            Word("window", Wanted::Default("N", "13"), help::SERVE_WINDOW),
-            Word("quiet", Wanted::Flag, help::SERVE_QUIET),
-            Word("log", Wanted::Default("LEVEL", "normal"), help::LOG),
-            Word("log-time", Wanted::Flag, help::LOG_TIME),
-            Word("only-peers", Wanted::Flag, help::ONLY_PEERS),
-            Word("read-only", Wanted::Flag, help::READ_ONLY),
-            ADDRESS,
-            UDP,
-            Word("FOLDER", Wanted::Needed, help::FOLDER),
-            PEER,
-        ],
-    },
-    Sub {
-        name: "ask",
-        shown: "chaosd ask",
-        about: help::ASK,
-        example: Some(help::ASK_EXAMPLE),
-        words: &[
-            CARRIAGE,
-            TIMEOUT,
-            Word("strict", Wanted::Flag, help::STRICT),
-            ADDRESS,
-            UDP,
-            Word("TO", Wanted::Needed, help::TO),
-            PEER,
-        ],
-    },
-    Sub {
-        name: "get",
-        shown: "chaosd get",
-        about: help::GET,
-        example: Some(help::GET_EXAMPLE),
-        words: &[
-            CARRIAGE,
-            LOGIN,
-            WINDOW,
-            TIMEOUT,
-            TEXT,
-            QUIET,
-            VERBOSE,
-            Word("output", Wanted::Optional("LOCAL"), help::OUTPUT),
-            ADDRESS,
-            UDP,
-            SERVER,
-            Word("PATH", Wanted::Several, help::PATH),
-        ],
-    },
-    Sub {
-        name: "put",
-        shown: "chaosd put",
-        about: help::PUT,
-        example: Some(help::PUT_EXAMPLE),
-        words: &[
-            CARRIAGE,
-            LOGIN,
-            WINDOW,
-            TIMEOUT,
-            TEXT,
-            QUIET,
-            VERBOSE,
-            Word("rename", Wanted::Flag, help::RENAMING),
-            Word("as", Wanted::Optional("PATH"), help::AS),
-            ADDRESS,
-            UDP,
-            SERVER,
-            Word("LOCAL", Wanted::Several, help::LOCAL),
-        ],
-    },
-    Sub {
-        name: "delete",
-        shown: "chaosd delete",
-        about: help::DELETE,
-        example: Some(help::DELETE_EXAMPLE),
-        words: &[
-            CARRIAGE,
-            LOGIN,
-            WINDOW,
-            TIMEOUT,
-            ADDRESS,
-            UDP,
-            SERVER,
-            Word("PATH", Wanted::Several, help::PATH),
-        ],
-    },
-    Sub {
-        name: "rename",
-        shown: "chaosd rename",
-        about: help::RENAME,
-        example: Some(help::RENAME_EXAMPLE),
-        words: &[
-            CARRIAGE,
-            LOGIN,
-            WINDOW,
-            TIMEOUT,
-            ADDRESS,
-            UDP,
-            SERVER,
-            Word("OLD", Wanted::Needed, help::OLD),
-            Word("NEW", Wanted::Needed, help::NEW),
-        ],
-    },
+static SHOW: Sub = Sub {
+    name: "show",
+    shown: "chaosd show",
+    about: help::SHOW,
+    example: None,
+    words: &[Word("file", Wanted::Flag, help::SHOW_FILE)],
+};
+
+static LAB: Sub = Sub {
+    name: "lab",
+    shown: "chaosd lab",
+    about: help::LAB,
+    example: None,
+    words: &[],
+};
+
+static FILELAB: Sub = Sub {
+    name: "filelab",
+    shown: "chaosd filelab",
+    about: help::FILELAB,
+    example: None,
+    words: &[],
+};
+
+static LOOP: Sub = Sub {
+    name: "loop",
+    shown: "chaosd loop",
+    about: help::LOOP,
+    example: None,
+    words: &[CARRIAGE],
+};
+
+static SERVE: Sub = Sub {
+    name: "serve",
+    shown: "chaosd serve",
+    about: help::SERVE,
+    example: Some(help::SERVE_EXAMPLE),
+    words: &[
+        Word("turns", Wanted::Default("N", "1000000000"), help::TURNS),
+        CARRIAGE,
+        Word("window", Wanted::Default("N", "13"), help::SERVE_WINDOW),
+        Word("quiet", Wanted::Flag, help::SERVE_QUIET),
+        Word("log", Wanted::Default("LEVEL", "normal"), help::LOG),
+        Word("log-time", Wanted::Flag, help::LOG_TIME),
+        Word("only-peers", Wanted::Flag, help::ONLY_PEERS),
+        Word("read-only", Wanted::Flag, help::READ_ONLY),
+        ADDRESS,
+        UDP,
+        Word("FOLDER", Wanted::Needed, help::FOLDER),
+        PEER,
+    ],
+};
+
+static ASK: Sub = Sub {
+    name: "ask",
+    shown: "chaosd ask",
+    about: help::ASK,
+    example: Some(help::ASK_EXAMPLE),
+    words: &[
+        CARRIAGE,
+        TIMEOUT,
+        Word("strict", Wanted::Flag, help::STRICT),
+        ADDRESS,
+        UDP,
+        Word("TO", Wanted::Needed, help::TO),
+        PEER,
+    ],
+};
+
+static GET: Sub = Sub {
+    name: "get",
+    shown: "chaosd get",
+    about: help::GET,
+    example: Some(help::GET_EXAMPLE),
+    words: &[
+        CARRIAGE,
+        LOGIN,
+        WINDOW,
+        TIMEOUT,
+        TEXT,
+        QUIET,
+        VERBOSE,
+        Word("output", Wanted::Optional("LOCAL"), help::OUTPUT),
+        ADDRESS,
+        UDP,
+        SERVER,
+        Word("PATH", Wanted::Several, help::PATH),
+    ],
+};
+
+static PUT: Sub = Sub {
+    name: "put",
+    shown: "chaosd put",
+    about: help::PUT,
+    example: Some(help::PUT_EXAMPLE),
+    words: &[
+        CARRIAGE,
+        LOGIN,
+        WINDOW,
+        TIMEOUT,
+        TEXT,
+        QUIET,
+        VERBOSE,
+        Word("rename", Wanted::Flag, help::RENAMING),
+        Word("as", Wanted::Optional("PATH"), help::AS),
+        ADDRESS,
+        UDP,
+        SERVER,
+        Word("LOCAL", Wanted::Several, help::LOCAL),
+    ],
+};
+
+static DELETE: Sub = Sub {
+    name: "delete",
+    shown: "chaosd delete",
+    about: help::DELETE,
+    example: Some(help::DELETE_EXAMPLE),
+    words: &[
+        CARRIAGE,
+        LOGIN,
+        WINDOW,
+        TIMEOUT,
+        ADDRESS,
+        UDP,
+        SERVER,
+        Word("PATH", Wanted::Several, help::PATH),
+    ],
+};
+
+static RENAME: Sub = Sub {
+    name: "rename",
+    shown: "chaosd rename",
+    about: help::RENAME,
+    example: Some(help::RENAME_EXAMPLE),
+    words: &[
+        CARRIAGE,
+        LOGIN,
+        WINDOW,
+        TIMEOUT,
+        ADDRESS,
+        UDP,
+        SERVER,
+        Word("OLD", Wanted::Needed, help::OLD),
+        Word("NEW", Wanted::Needed, help::NEW),
+    ],
+};
+
+/// The names of the subcommands, in the order of the help.
+static NAMES: [SubName; 10] = [
+    SubName::Show,
+    SubName::Lab,
+    SubName::FileLab,
+    SubName::Loop,
+    SubName::Serve,
+    SubName::Ask,
+    SubName::Get,
+    SubName::Put,
+    SubName::Delete,
+    SubName::Rename,
 ];
 
-/// The subcommands, in the order of the help.
-pub(crate) fn all_subs() -> &'static [Sub]
+/// The names of the subcommands, in the order of the help.
+pub(crate) fn sub_names() -> &'static [SubName]
     ensures { with_subs bare_chaosd result.now ≡ chaosd }
 {
-    &SUBS
+    &NAMES
+}
+
+/// The subcommand of a name.
+pub(crate) fn sub_of(name: &SubName) -> &'static Sub
+    ensures { app_of_sub result.now ≡ app_named name.now }
+{
+    match name {
+        SubName::Show => &SHOW,
+        SubName::Lab => &LAB,
+        SubName::FileLab => &FILELAB,
+        SubName::Loop => &LOOP,
+        SubName::Serve => &SERVE,
+        SubName::Ask => &ASK,
+        SubName::Get => &GET,
+        SubName::Put => &PUT,
+        SubName::Delete => &DELETE,
+        SubName::Rename => &RENAME,
+    }
 }

@@ -6,5 +6,5 @@ use Rattle.chaosd_line.proofs.command.command.Goals as goal
 
 pub returns : goal.returns
 returns c = IfOk-weaker c.with_subs.result _ _
-    (λ full made. made ∙ ap (λ app. with_subs app c.all_subs.result.now) c.in_ok-top.ensures ∙ c.all_subs.ensures)
+    (λ full made. made ∙ ap (λ app. with_subs app c.sub_names.result.now) c.in_ok-top.ensures ∙ c.sub_names.ensures)
     c.with_subs.ensures

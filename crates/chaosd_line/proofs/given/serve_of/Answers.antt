@@ -54,3 +54,24 @@ pub returns-in_err-socket : goal.returns-in_err-socket
 returns-in_err-socket c =
     let p = err_from_is_err_and c.from_residual-in_err-socket.result c.from_residual-in_err-socket.ensures.1 in
     rw p.1 (λ serve h. c.in_err-socket.ensures serve.socket h.socket)
+
+pub returns-in_err-peers : goal.returns-in_err-peers
+returns-in_err-peers c =
+    let p = err_from_is_err_and c.from_residual-in_err-peers.result c.from_residual-in_err-peers.ensures.1 in
+    rw p.1 (λ serve h. c.in_err-peers.ensures serve.peers h.peers)
+
+pub returns : goal.returns
+returns c = record {
+  turns = c.in_ok-turns.ensures;
+  carriage = c.in_ok-carriage.ensures;
+  window = c.in_ok-window.ensures;
+  is_quiet = c.in_ok-is_quiet.ensures;
+  log = c.in_ok-log.ensures;
+  is_timed = c.in_ok-is_timed.ensures;
+  hears_only_peers = c.in_ok-hears_only_peers.ensures;
+  is_read_only = c.in_ok-is_read_only.ensures;
+  address = c.in_ok-address.ensures;
+  socket = c.in_ok-socket.ensures;
+  folder = c.in_ok-folder.ensures;
+  peers = c.in_ok-peers.ensures;
+}

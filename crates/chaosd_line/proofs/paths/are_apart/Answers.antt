@@ -1,5 +1,5 @@
 -- The path of each text in its turn is that of a later one or not.
-use Rattle.std.proofs.Common.{◌≡◌, ◌∙◌, ◌+◌, ◌&&◌, ℕ, List, [], ap, drop, get_or, map, not, option_map, sym}
+use Rattle.std.proofs.Common.{◌∙◌, ◌+◌, ◌&&◌, ℕ, List, [], ap, drop, map, not, option_map, sym}
 use Rattle.std.specs.Borrow.{Bor}
 use Rattle.chaosd_line.specs.Files.{are_apart, goes_same, is_same_path, path_for}
 use Rattle.chaosd_line.proofs.Named.{apart_at}
