@@ -147,49 +147,61 @@ fn strict_status(status: ExitStatus, was_error: bool) -> ExitStatus {
     }
 }
 
-/// Runs `ask` from standard input to standard output.
-pub(crate) fn run_ask_line<R>(rt: &R, line: Ask, terminals: Terminals) -> ExitStatus
-where
-    R: AllocGlobal + Clock + Eprint + Files<File = File> + Input + Net + Print,
-{
-    let Ask {
-        carriage,
-        timeout,
-        is_strict,
-        address,
-        socket,
-        to,
-        peers,
-    } = line;
-    if !has_input(rt) {
-        return end_script(rt, &Err(RunFault::ReadFault), &None);
+/// Who is asked by this line. A host that can't be asked is told.
+fn asked_of<R: Eprint>(rt: &R, line: &Ask) -> Asked {
+    let to = asked_host(rt, line.to, &line.peers);
+    Asked {
+        carriage: line.carriage,
+        is_strict: line.is_strict,
+        address: line.address,
+        socket: line.socket,
+        server: Peer {
+            address: to,
+            socket: line.peers.find(to).unwrap_or(line.socket),
+        },
     }
-    let to = asked_host(rt, to, &peers);
-    let server = Peer {
-        address: to,
-        socket: peers.find(to).unwrap_or(socket),
-    };
-    let waiting = Waiting::new(rt, server, terminals.errors);
-    let link = match UdpSocket::bind(rt, SocketAddr::V4(socket)) {
-        Ok(bound) => UdpLink::new(WaitingSocket::new(bound, &waiting), peers),
-        Err(error) => return tell_unopened(rt, &socket, &error),
-    };
-    let asked = Asked {
-        carriage,
-        is_strict,
-        address,
-        socket,
-        server,
-    };
+}
+
+/// Puts the script over a link that is as patient as the line wants it, and tells how that ended.
+fn ask_patiently<'r, R, L: Link + Drop>(
+    rt: &'r R,
+    link: Patient<'r, R, L>,
+    asked: &Asked,
+    waiting: &Waiting<'r, R>,
+    terminals: Terminals,
+) -> ExitStatus
+where
+    R: AllocGlobal + Clock + Eprint + Files<File = File> + Input + Print,
+{
     let is_awaited = Cell::new(false);
     let typing = Typing {
         terminals,
         terminal: terminals.open_input(rt),
         is_awaited: &is_awaited,
     };
-    let mut link = Patient::new(rt, link, timeout).while_awaited(&is_awaited);
-    let answered = ask_over(rt, &mut link, &asked, typing);
-    end_asked(rt, &asked, &waiting, answered)
+    let mut link = link.while_awaited(&is_awaited);
+    let answered = ask_over(rt, &mut link, asked, typing);
+    end_asked(rt, asked, waiting, answered)
+}
+
+/// Runs `ask` from standard input to standard output.
+pub(crate) fn run_ask_line<R>(rt: &R, line: Ask, terminals: Terminals) -> ExitStatus
+where
+    R: AllocGlobal + Clock + Eprint + Files<File = File> + Input + Net + Print,
+{
+    if !has_input(rt) {
+        return end_script(rt, &Err(RunFault::ReadFault), &None);
+    }
+    let asked = asked_of(rt, &line);
+    let waiting = Waiting::new(rt, asked.server, terminals.errors);
+    match UdpSocket::bind(rt, SocketAddr::V4(asked.socket)) {
+        Ok(bound) => {
+            let link = UdpLink::new(WaitingSocket::new(bound, &waiting), line.peers);
+            let link = Patient::new(rt, link, line.timeout);
+            ask_patiently(rt, link, &asked, &waiting, terminals)
+        }
+        Err(error) => tell_unopened(rt, &asked.socket, &error),
+    }
 }
 
 /// Tells why a command of a script got no reply, and gives the exit status.

@@ -2,18 +2,17 @@
 ghost use Rattle.std.specs.Prelude.{option_map};
 ghost use Rattle.chaosd.specs.Paths.{path_under};
 
-use crate::dialog::CallDialog;
+use crate::dialogs::{Work, run_work};
 use crate::file_words::{FileWords, PUT_UNKNOWN};
-use crate::network::{has_input, link_to_server};
-use crate::patient::Patient;
+use crate::network::has_input;
 use crate::progress::ProgressLine;
-use crate::run_ends::{tell_unbegun, tell_unopened};
-use crate::waiting::Waiting;
-use chaos_link::UdpLink;
 use chaosd_clock::Dial;
-use chaosd_copies::{Disk, ExitStatus, FilePath, Gets, Naming, Puts, Session, Target, run_copies};
+use chaosd_copies::{
+    Dialog, Disk, ExitStatus, FilePath, Gets, Naming, Puts, Session, Target, run_copies,
+};
 use chaosd_io::RunFault;
 use chaosd_line::{Copying, Get, Put, path_for};
+use std::fmt::Display;
 use std::fs::File;
 use std::net::Net;
 use std::rt::Files;
@@ -40,55 +39,57 @@ fn progress_of<'a, R: AllocGlobal + Eprint>(
     )
 }
 
+/// What `get` or `put` asks for.
+#[derive(Drop)]
+struct Copies<'a, L> {
+    line: &'a L,
+    /// Whether standard error is a terminal.
+    is_terminal: bool,
+}
+
+impl<R> Work<R> for Copies<'_, Get<'_>>
+where
+    R: AllocGlobal + Dial + Eprint + Files<File = File> + Input + Print,
+{
+    fn run<D: Dialog + Drop>(&self, rt: &R, dialog: D) -> ExitStatus
+    where
+        D::Why: Display,
+    {
+        let copying = &self.line.copying;
+        let calling = &copying.calling;
+        let progress = progress_of(rt, copying, self.is_terminal);
+        let mut gets = Gets {
+            alloc: rt.alloc(),
+            session: Session::new(dialog, progress, calling.login),
+            locals: Disk::new(rt, calling.socket.port()),
+            target: Target::of(self.line.output),
+            is_text: copying.is_text,
+            is_digested: copying.is_verbose,
+        };
+        let mut words = FileWords {
+            rt,
+            is_told: is_told(copying, self.is_terminal),
+            target: Target::of(self.line.output),
+            unknown: PUT_UNKNOWN,
+        };
+        let status = run_copies(&mut gets, &mut words, self.line.paths.as_slice());
+        gets.session.end();
+        status
+    }
+}
+
 /// Runs `get`.
 pub(crate) fn run_get_line<R>(rt: &R, line: &Get<'_>, is_terminal: bool) -> ExitStatus
 where
     R: AllocGlobal + Dial + Eprint + Files<File = File> + Input + Net + Print,
 {
     let copying = &line.copying;
-    let calling = &copying.calling;
-    let waiting = Waiting::new(rt, calling.server, is_terminal && !copying.is_quiet);
-    match link_to_server(rt, calling) {
-        Ok(mut link) => get_over(&*rt, &mut link, &waiting, line, is_terminal),
-        Err(error) => tell_unopened(rt, &calling.socket, &error),
-    }
-}
-
-/// Gets files over a link.
-fn get_over<'a, 'r, R>(
-    rt: &'a R,
-    link: &'a mut Patient<'r, R, UdpLink>,
-    waiting: &'a Waiting<'r, R>,
-    line: &Get<'_>,
-    is_terminal: bool,
-) -> ExitStatus
-where
-    R: AllocGlobal + Dial + Eprint + Files<File = File> + Input + Net + Print,
-{
-    let copying = &line.copying;
-    let calling = &copying.calling;
-    let dialog = match CallDialog::new(rt, link, calling, waiting) {
-        Ok(dialog) => dialog,
-        Err(fault) => return tell_unbegun(rt, fault),
-    };
-    let progress = progress_of(rt, copying, is_terminal);
-    let mut gets = Gets {
-        alloc: rt.alloc(),
-        session: Session::new(dialog, progress, calling.login),
-        locals: Disk::new(rt, calling.socket.port()),
-        target: Target::of(line.output),
-        is_text: copying.is_text,
-        is_digested: copying.is_verbose,
-    };
-    let mut words = FileWords {
+    run_work(
         rt,
-        is_told: is_told(copying, is_terminal),
-        target: Target::of(line.output),
-        unknown: PUT_UNKNOWN,
-    };
-    let status = run_copies(&mut gets, &mut words, line.paths.as_slice());
-    gets.session.end();
-    status
+        &copying.calling,
+        is_terminal && !copying.is_quiet,
+        &Copies { line, is_terminal },
+    )
 }
 
 /// The paths that local files go to.
@@ -111,6 +112,39 @@ impl Naming for Paths<'_> {
     }
 }
 
+impl<R> Work<R> for Copies<'_, Put<'_>>
+where
+    R: AllocGlobal + Dial + Eprint + Files<File = File> + Input + Print,
+{
+    fn run<D: Dialog + Drop>(&self, rt: &R, dialog: D) -> ExitStatus
+    where
+        D::Why: Display,
+    {
+        let copying = &self.line.copying;
+        let calling = &copying.calling;
+        let progress = progress_of(rt, copying, self.is_terminal);
+        let mut puts = Puts {
+            session: Session::new(dialog, progress, calling.login),
+            locals: Disk::new(rt, calling.socket.port()),
+            naming: Paths {
+                given: self.line.path,
+                is_renaming: self.line.is_renaming,
+            },
+            is_text: copying.is_text,
+            is_digested: copying.is_verbose,
+        };
+        let mut words = FileWords {
+            rt,
+            is_told: is_told(copying, self.is_terminal),
+            target: Target::Own,
+            unknown: PUT_UNKNOWN,
+        };
+        let status = run_copies(&mut puts, &mut words, self.line.locals.as_slice());
+        puts.session.end();
+        status
+    }
+}
+
 /// Whether standard input is to be put and can't be read. It is asked before the socket is opened.
 fn lacks_input<R: Input>(rt: &R, locals: &[&str]) -> bool {
     locals.iter().any(|local| *local == STREAM) && !has_input(rt)
@@ -126,49 +160,10 @@ where
         return ExitStatus::Fault;
     }
     let copying = &line.copying;
-    let calling = &copying.calling;
-    let waiting = Waiting::new(rt, calling.server, is_terminal && !copying.is_quiet);
-    match link_to_server(rt, calling) {
-        Ok(mut link) => put_over(&*rt, &mut link, &waiting, line, is_terminal),
-        Err(error) => tell_unopened(rt, &calling.socket, &error),
-    }
-}
-
-/// Puts files over a link.
-fn put_over<'a, 'r, R>(
-    rt: &'a R,
-    link: &'a mut Patient<'r, R, UdpLink>,
-    waiting: &'a Waiting<'r, R>,
-    line: &Put<'_>,
-    is_terminal: bool,
-) -> ExitStatus
-where
-    R: AllocGlobal + Dial + Eprint + Files<File = File> + Input + Net + Print,
-{
-    let copying = &line.copying;
-    let calling = &copying.calling;
-    let dialog = match CallDialog::new(rt, link, calling, waiting) {
-        Ok(dialog) => dialog,
-        Err(fault) => return tell_unbegun(rt, fault),
-    };
-    let progress = progress_of(rt, copying, is_terminal);
-    let mut puts = Puts {
-        session: Session::new(dialog, progress, calling.login),
-        locals: Disk::new(rt, calling.socket.port()),
-        naming: Paths {
-            given: line.path,
-            is_renaming: line.is_renaming,
-        },
-        is_text: copying.is_text,
-        is_digested: copying.is_verbose,
-    };
-    let mut words = FileWords {
+    run_work(
         rt,
-        is_told: is_told(copying, is_terminal),
-        target: Target::Own,
-        unknown: PUT_UNKNOWN,
-    };
-    let status = run_copies(&mut puts, &mut words, line.locals.as_slice());
-    puts.session.end();
-    status
+        &copying.calling,
+        is_terminal && !copying.is_quiet,
+        &Copies { line, is_terminal },
+    )
 }

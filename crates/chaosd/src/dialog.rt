@@ -1,11 +1,11 @@
 //! A dialog over a call.
 ghost use Rattle.chaosd.specs.Over.{over_where};
 
-use crate::patient::{Hurried, Patient};
+use crate::patient::Hurried;
 use crate::unanswered::Unanswered;
 use crate::waiting::Waiting;
 use chaos_file::Reply;
-use chaos_link::{Peer, UdpLink};
+use chaos_link::{Link, Peer};
 use chaosd_clock::Dial;
 use chaosd_copies::Dialog;
 use chaosd_copy::Talk;
@@ -15,8 +15,8 @@ use file_client::Call;
 
 /// A dialog with a server over a call, which claims what the call does. It is over too where nobody listens where the server is to be.
 #[derive(Drop)]
-pub(crate) struct CallDialog<'a, 'r, C: Dial> {
-    call: Hurried<Call<'a, C, Patient<'r, C, UdpLink>>>,
+pub(crate) struct CallDialog<'a, 'r, C: Dial, L: Link> {
+    call: Hurried<Call<'a, C, L>>,
     waiting: &'a Waiting<'r, C>,
     /// Whether nobody listens there, as the last turn found.
     is_refused: bool,
@@ -25,11 +25,11 @@ pub(crate) struct CallDialog<'a, 'r, C: Dial> {
     client: Peer,
 }
 
-impl<'a, 'r, C: AllocGlobal + Dial + Eprint> CallDialog<'a, 'r, C> {
+impl<'a, 'r, C: AllocGlobal + Dial + Eprint, L: Link> CallDialog<'a, 'r, C, L> {
     /// Nothing is sent yet.
     pub(crate) fn new(
         rt: &'a C,
-        link: &'a mut Patient<'r, C, UdpLink>,
+        link: &'a mut L,
         calling: &Calling<'_>,
         waiting: &'a Waiting<'r, C>,
     ) -> Result<Self, RunFault> {
@@ -56,12 +56,12 @@ impl<'a, 'r, C: AllocGlobal + Dial + Eprint> CallDialog<'a, 'r, C> {
     }
 }
 
-impl<C: Dial + Eprint> Talk for CallDialog<'_, '_, C> {
-    ghost talked = { λ dialog. ⟦<Hurried<Call<'static, C, Patient<'static, C, UdpLink>>> as Talk>⟧.talked dialog.call };
+impl<C: Dial + Eprint, L: Link> Talk for CallDialog<'_, '_, C, L> {
+    ghost talked = { λ dialog. ⟦<Hurried<Call<'static, C, L>> as Talk>⟧.talked dialog.call };
 
-    ghost course = { λ dialog. over_where dialog.is_refused (⟦<Hurried<Call<'static, C, Patient<'static, C, UdpLink>>> as Talk>⟧.course dialog.call) };
+    ghost course = { λ dialog. over_where dialog.is_refused (⟦<Hurried<Call<'static, C, L>> as Talk>⟧.course dialog.call) };
 
-    ghost failed_by = { λ dialog. ⟦<Hurried<Call<'static, C, Patient<'static, C, UdpLink>>> as Talk>⟧.failed_by dialog.call };
+    ghost failed_by = { λ dialog. ⟦<Hurried<Call<'static, C, L>> as Talk>⟧.failed_by dialog.call };
 
     fn send(&mut self, command: &[u8]) -> bool {
         let is_sent = self.call.send(command);
@@ -94,7 +94,7 @@ impl<C: Dial + Eprint> Talk for CallDialog<'_, '_, C> {
     }
 }
 
-impl<C: Dial + Eprint> Dialog for CallDialog<'_, '_, C> {
+impl<C: Dial + Eprint, L: Link> Dialog for CallDialog<'_, '_, C, L> {
     type Why = Unanswered;
 
     fn begin(&mut self) -> Result<(), RunFault> {

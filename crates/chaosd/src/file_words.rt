@@ -62,15 +62,30 @@ fn told_unnamed<R: Eprint>(rt: &R, name: &str) -> io::Result<()> {
     )
 }
 
-/// Tells that the server refused a command.
-fn told_refused<R: Eprint>(rt: &R, name: &str, reply: &Reply) -> io::Result<()> {
-    eprintln!(rt; "chaosd: {name}: {}", Shown(error_text(reply)))
+/// Tells what became of a file that was not done, in words behind its name.
+fn told_missed<R: Eprint, D: Display>(rt: &R, name: &str, what: &D) -> io::Result<()> {
+    eprintln!(rt; "chaosd: {name}: {what}")
 }
 
 /// Tells that the server sent what is no answer.
 fn told_strange<R: Eprint>(rt: &R, name: &str, reply: &Reply) -> io::Result<()> {
     let text = Shown(reply.as_slice());
     eprintln!(rt; "chaosd: {name}: not an answer of FILE: {text}")
+}
+
+/// Tells that a file, here or there, is longer than FILE allows.
+fn told_big<R: Eprint>(rt: &R, name: &str) -> io::Result<()> {
+    eprintln!(rt; "chaosd: {name} has more than {MAX_FILE} bytes")
+}
+
+/// Tells that the path of a file is longer than FILE allows.
+fn told_long<R: Eprint>(rt: &R, name: &str) -> io::Result<()> {
+    eprintln!(rt; "chaosd: {name}: a path of FILE has at most {MAX_PATH} bytes")
+}
+
+/// Tells that a local file could not be opened.
+fn told_unread<R: Eprint>(rt: &R, name: &str, fault: &io::Error) -> io::Result<()> {
+    eprintln!(rt; "chaosd: can't open {name}: {fault}")
 }
 
 /// Tells that a local file could not be written.
@@ -80,11 +95,12 @@ fn told_unwritten<R: Eprint>(
     name: &str,
     fault: &io::Error,
 ) -> io::Result<()> {
-    match target {
-        Target::Own => eprintln!(rt; "chaosd: can't write {name}: {fault}"),
-        Target::Named(local) => eprintln!(rt; "chaosd: can't write {local}: {fault}"),
-        Target::Inside(folder) => eprintln!(rt; "chaosd: can't write {folder}{name}: {fault}"),
-    }
+    let (folder, local) = match target {
+        Target::Own => ("", name),
+        Target::Named(local) => ("", local),
+        Target::Inside(folder) => (folder, name),
+    };
+    eprintln!(rt; "chaosd: can't write {folder}{local}: {fault}")
 }
 
 /// What the server says of an error: its code and text.
@@ -106,19 +122,19 @@ impl<W: Display, R: Eprint> Teller<W> for FileWords<'_, '_, R> {
             Outcome::Copied(contents) if self.is_told => told_copied(rt, name, contents),
             Outcome::Copied(_) | Outcome::Changed => Ok(()),
             Outcome::Garbled(lost) => told_lost(rt, name, lost),
-            Outcome::TooBig => eprintln!(rt; "chaosd: {name} has more than {MAX_FILE} bytes"),
-            Outcome::TooLong => {
-                eprintln!(rt; "chaosd: {name}: a path of FILE has at most {MAX_PATH} bytes")
-            }
+            Outcome::TooBig => told_big(rt, name),
+            Outcome::TooLong => told_long(rt, name),
             Outcome::Unnamed => told_unnamed(rt, name),
-            Outcome::NotTried => eprintln!(rt; "chaosd: {name}: not tried"),
+            Outcome::NotTried => told_missed(rt, name, &"not tried"),
             Outcome::Unwritten(fault) => told_unwritten(rt, self.target, name, fault),
-            Outcome::Unread(fault) => eprintln!(rt; "chaosd: can't open {name}: {fault}"),
-            Outcome::Failed(fault) => eprintln!(rt; "chaosd: {name}: {fault}"),
-            Outcome::Refused(reply) => told_refused(rt, name, reply),
+            Outcome::Unread(fault) => told_unread(rt, name, fault),
+            Outcome::Failed(fault) => told_missed(rt, name, fault),
+            Outcome::Refused(reply) => told_missed(rt, name, &Shown(error_text(reply))),
             Outcome::Strange(reply) => told_strange(rt, name, reply),
-            Outcome::NoReply(why) => eprintln!(rt; "chaosd: {name}: {why}"),
-            Outcome::Unknown(why) => eprintln!(rt; "chaosd: {name}: {}: {why}", self.unknown),
+            Outcome::NoReply(why) => told_missed(rt, name, why),
+            Outcome::Unknown(why) => {
+                told_missed(rt, name, &format_args!("{}: {why}", self.unknown))
+            }
         };
     }
 }

@@ -10,6 +10,7 @@ mod connections;
 mod copies;
 mod descriptors;
 mod dialog;
+mod dialogs;
 mod file_words;
 mod network;
 mod patient;

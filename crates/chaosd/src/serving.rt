@@ -1,5 +1,5 @@
 //! The run of `serve`.
-ghost use Rattle.std.specs.Prelude.{◌<◌};
+ghost use Rattle.std.specs.Prelude.{◌<◌, ◌≡◌};
 
 use crate::connections::Connections;
 use crate::run_ends::tell_unopened;
@@ -84,52 +84,64 @@ fn tell_served<R: Clock + Eprint>(
     }
 }
 
+/// Serves a store, which is read alone where that is wanted.
+fn serve_store<R: AllocGlobal + Clock + Eprint, L: Link, S: Store + Drop>(
+    rt: &R,
+    options: ServeOptions,
+    journal: &Journal<'_, R>,
+    link: &mut L,
+    mut store: S,
+    is_read_only: bool,
+) -> ExitStatus
+    requires { 0 < options.me }
+{
+    if is_read_only {
+        serve(rt, options, journal, link, &mut ReadOnly::new(store))
+    } else {
+        serve(rt, options, journal, link, &mut store)
+    }
+}
+
+/// What a server is asked for.
+fn options_of(line: &Serve<'_>) -> ServeOptions
+    ensures { result.me ≡ line.now.address }
+{
+    ServeOptions {
+        me: line.address,
+        config: ConnConfig::with_window(line.window),
+        turns: u64::from(line.turns),
+        carriage: line.carriage,
+    }
+}
+
+/// Serves a folder over a socket, and takes note of what comes and goes by both.
+fn serve_folder<R: AllocGlobal + Clock + Eprint + Files<File = File> + Net>(
+    rt: &R,
+    line: Serve<'_>,
+    folder: DirStore<&R>,
+    bound: UdpSocket,
+) -> ExitStatus {
+    let options = options_of(&line);
+    let level = level_of(line.is_quiet, line.log);
+    let journal = Journal::new(rt, level, line.is_timed, Ledger::new(listed(&line.peers)));
+    journal.begin(line.address, line.socket, line.folder);
+    let noted = NotedSocket::new(bound, &journal, line.hears_only_peers);
+    let mut link = NotedLink::new(UdpLink::new(noted, line.peers), &journal);
+    let store = NotedStore::new(folder, Pages(&journal));
+    serve_store(rt, options, &journal, &mut link, store, line.is_read_only)
+}
+
 /// Runs `serve` on a folder, which is opened first, and then the socket.
 pub(crate) fn run_serve_line<R: AllocGlobal + Clock + Eprint + Files<File = File> + Net>(
     rt: &R,
     line: Serve<'_>,
 ) -> ExitStatus {
-    let Serve {
-        turns,
-        carriage,
-        window,
-        is_quiet,
-        log,
-        is_timed,
-        hears_only_peers,
-        is_read_only,
-        address,
-        socket,
-        folder,
-        peers,
-    } = line;
-    let store = match store_at(rt, folder) {
-        Ok(store) => store,
-        Err(error) => return tell_unopened(rt, &folder, &error),
+    let folder = match store_at(rt, line.folder) {
+        Ok(folder) => folder,
+        Err(error) => return tell_unopened(rt, &line.folder, &error),
     };
-    let bound = match UdpSocket::bind(rt, SocketAddr::V4(socket)) {
-        Ok(bound) => bound,
-        Err(error) => return tell_unopened(rt, &socket, &error),
-    };
-    let options = ServeOptions {
-        me: address,
-        config: ConnConfig::with_window(window),
-        turns: u64::from(turns),
-        carriage,
-    };
-    let journal = Journal::new(
-        rt,
-        level_of(is_quiet, log),
-        is_timed,
-        Ledger::new(listed(&peers)),
-    );
-    let noted = NotedSocket::new(bound, &journal, hears_only_peers);
-    let mut link = NotedLink::new(UdpLink::new(noted, peers), &journal);
-    let mut store = NotedStore::new(store, Pages(&journal));
-    journal.begin(address, socket, folder);
-    if is_read_only {
-        serve(rt, options, &journal, &mut link, &mut ReadOnly::new(store))
-    } else {
-        serve(rt, options, &journal, &mut link, &mut store)
+    match UdpSocket::bind(rt, SocketAddr::V4(line.socket)) {
+        Ok(bound) => serve_folder(rt, line, folder, bound),
+        Err(error) => tell_unopened(rt, &line.socket, &error),
     }
 }

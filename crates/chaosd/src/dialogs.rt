@@ -1,0 +1,53 @@
+//! What `get`, `put`, `delete` and `rename` have in common: a dialog with a server over a socket.
+use crate::dialog::CallDialog;
+use crate::network::link_to_server;
+use crate::run_ends::{tell_unbegun, tell_unopened};
+use crate::waiting::Waiting;
+use chaos_link::Link;
+use chaosd_clock::Dial;
+use chaosd_copies::{Dialog, ExitStatus};
+use chaosd_line::Calling;
+use std::fmt::Display;
+use std::net::Net;
+
+/// What a line asks of a server's files.
+pub(crate) trait Work<R> {
+    /// Does it over a dialog, which it ends, and tells what came of each file. The answer is the exit status.
+    fn run<D: Dialog + Drop>(&self, rt: &R, dialog: D) -> ExitStatus
+    where
+        D::Why: Display;
+}
+
+/// Calls a server and does the work over that. Where it is wanted, a user is told that the server is waited for.
+pub(crate) fn run_work<R, W: Work<R>>(
+    rt: &R,
+    calling: &Calling<'_>,
+    is_told: bool,
+    work: &W,
+) -> ExitStatus
+where
+    R: AllocGlobal + Dial + Eprint + Net,
+{
+    let waiting = Waiting::new(rt, calling.server, is_told);
+    match link_to_server(rt, calling) {
+        Ok(mut link) => work_over(&*rt, &mut link, calling, &waiting, work),
+        Err(error) => tell_unopened(rt, &calling.socket, &error),
+    }
+}
+
+/// Does the work over a link.
+fn work_over<'a, 'r, R, L: Link, W: Work<R>>(
+    rt: &'a R,
+    link: &'a mut L,
+    calling: &Calling<'_>,
+    waiting: &'a Waiting<'r, R>,
+    work: &W,
+) -> ExitStatus
+where
+    R: AllocGlobal + Dial + Eprint + Net,
+{
+    match CallDialog::new(rt, link, calling, waiting) {
+        Ok(dialog) => work.run(rt, dialog),
+        Err(fault) => tell_unbegun(rt, fault),
+    }
+}
