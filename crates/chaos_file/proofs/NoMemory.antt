@@ -1,4 +1,4 @@
--- The reply for want of memory is told as such, and no other.
+-- The out-of-memory reply is told as such, and no other.
 use Rattle.std.proofs.Common.{◌≡◌, ℕ, Bool, true, false, List, [], ◌∷◌, ◌++◌, length, ◌+◌, Option, Some, None, Result, Ok, Err, refl, ap, ◌∙◌, append_assoc}
 use Rattle.std.specs.Prelude.{not, ◌==◌, take, drop, nat_lt, if◌then◌else◌}
 use Rattle.std.specs.Str.{bytes_eq}

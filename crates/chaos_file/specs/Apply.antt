@@ -37,11 +37,11 @@ abbrev pub IsFault : StoreChange → Files → SessionView → SessionView → P
 IsFault store m s t p reply =
     store.rose × AsksStore (plan_of s p) × (reply ≡ reply_to p (Err e.StoreFault)) × IsKept store m s t
 
--- want of memory, at a command that may take some, and nothing changed
+-- out of memory, at a command that may take some, and nothing changed
 abbrev pub IsWant : StoreChange → Files → SessionView → SessionView → ParsedView → List ℕ → Type 0
 IsWant store m s t p reply = MayGrow (plan_of s p) × (reply ≡ reply_to p (Err e.NoMemory)) × IsKept store m s t
 
--- the step of the definition, or a store fault, or want of memory
+-- the step of the definition, or a store fault, or out of memory
 abbrev pub Applies : StoreChange → Files → SessionView → SessionView → List ℕ → List ℕ → Type 0
 Applies store m s t command reply =
     IsStep store (file_step m s command) reply t
@@ -75,7 +75,7 @@ Answers store (Ask request) p reply s t = IsServed store request p reply s t ⊎
 -- ---- the whole promise: a command is applied, in the session `s` and then `t`, and has this reply
 
 pub record IsApplied (store : StoreChange) (s t : SessionView) (command reply : List ℕ) : Type 0 where
-  -- over an honest store: the definition's step, or a store fault, or want of memory
+  -- over an honest store: the definition's step, or a store fault, or out of memory
   pub honest : IfSome store.before (λ m. Applies store m s t command reply)
   -- over any store: by the session, the command and the store's answer
   pub any : Answers store (plan_of s (parse_of command)) (parse_of command) reply s t

@@ -34,7 +34,7 @@ abbrev pub whole_reply : Done → List ℕ → List ℕ
 whole_reply (Ok u) after = after
 whole_reply (Err error) after = after ++ error_text error
 
--- answered, or unchanged for want of memory
+-- answered, or unchanged when out of memory
 abbrev pub Grows : SessionView → Answer → Done → Work → Type 0
 Grows u answer (Ok v) work = (work.reply ≡ work.front ++ answer_text answer) × (work.new ≡ u)
 Grows u answer (Err error) work = (error ≡ e.NoMemory) × (work.reply ≡ work.front) × (work.new ≡ work.old)
@@ -92,7 +92,7 @@ abbrev pub Ends : StoreChange → Files → Result Left FileError → Work → T
 Ends store m (Ok l) work = Tells l.answer work.done work × (work.new ≡ l.session) × (store.after ≡ Some l.files)
 Ends store m (Err error) work = Refuses error work × (work.new ≡ work.old) × (store.after ≡ Some m)
 
--- a store fault and want of memory are the store's own; every other error is the definition's
+-- a store fault and out of memory are the store's own; every other error is the definition's
 abbrev pub Fails : StoreChange → Files → Result Left FileError → FileError → Work → Type 0
 Fails store m outcome e.StoreFault work = store.rose × Stays store m work
 Fails store m outcome e.NoMemory work = Stays store m work

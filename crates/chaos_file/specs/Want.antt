@@ -1,4 +1,4 @@
--- Replies for want of memory.
+-- Out-of-memory replies.
 use Rattle.std.specs.Prelude.{ℕ, Bool, true, false, List, Option, Some, None, Result, Err}
 use Rattle.std.specs.Str.{bytes_eq}
 use Rattle.chaos_file.specs.declared.error.FileError.{FileError}
@@ -19,7 +19,7 @@ want_after (Some p) = want_text (cut space p.1)
 abbrev pub is_want : List ℕ → Bool
 is_want reply = want_after (cut space reply)
 
--- the outcome of a command is want of memory
+-- the outcome of a command is out of memory
 abbrev pub is_no_memory : Result Answer FileError → Bool
 is_no_memory (Err e.NoMemory) = true
 is_no_memory _ = false

@@ -35,7 +35,7 @@ pub fn law_replies()
         ≡ replies_of m xs ++ replies_from (files_after m new_session xs) (session_after m new_session xs) ys }
 {}
 
-/// Over every honest store: where its count of failures didn't rise at a command, a reply that isn't for want of memory is the
+/// Over every honest store: where its count of failures didn't rise at a command, a reply that isn't an out-of-memory one is the
 /// definition's, and so are the session and the files.
 #[tactic(auto, using(crate::proofs::Replies::honest_step))]
 pub fn law_honest<S: Store>()
@@ -46,7 +46,7 @@ pub fn law_honest<S: Store>()
         IsStep (change S.contents S.may_give S.count old new) (file_step m s c) reply t }
 {}
 
-/// Over a store in memory, which never fails, a reply that isn't for want of memory is the definition's, and so are the
+/// Over a store in memory, which never fails, a reply that isn't an out-of-memory one is the definition's, and so are the
 /// session and the files.
 #[tactic(auto, using(crate::proofs::Replies::memory_step))]
 pub fn law_memory()
@@ -54,7 +54,7 @@ pub fn law_memory()
         ¬ (reply ≡ reply_to (parse_of c) (Err NoMemory)) → IsStep (memory_change m n) (file_step m s c) reply t }
 {}
 
-/// [`is_want`](crate::is_want) is told of a reply exactly where the command's outcome is want of memory. So no bytes that a READ
+/// [`is_want`](crate::is_want) is told of a reply exactly where the command's outcome is out of memory. So no bytes that a READ
 /// gives read so, and none of the definition's replies does.
 #[tactic(auto, using(crate::proofs::NoMemory::want_told, crate::proofs::NoMemory::none_wanted))]
 pub fn law_want()

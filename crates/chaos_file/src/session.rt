@@ -80,7 +80,7 @@ impl Session {
     /// Carries out a command, and answers it by one reply.
     ///
     /// Over an honest store the reply, the session and the files are those of the language's definition; or the reply is
-    /// a store fault, where the store failed in this call; or it is want of memory, at a command that may take some.
+    /// a store fault, where the store failed in this call; or it is out of memory, at a command that may take some.
     /// After an ERROR reply session and files are as they were. LOGIN, READ, CLOSE of a handle that reads, OPEN WRITE
     /// and every error that is found before the store is asked touch no store and take no memory, over any store; and a
     /// handle that reads holds bytes such as the store's `get` may give.

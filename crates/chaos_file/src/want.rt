@@ -1,11 +1,11 @@
-//! Replies for want of memory.
+//! Out-of-memory replies.
 ghost use Rattle.std.specs.Prelude.{◌≡◌};
 ghost use Rattle.chaos_file.specs.Want.{is_want};
 
 use crate::error::FileError;
 use crate::parse::cut;
 
-/// Whether a reply tells want of memory: behind its two names stands the error MEM, and nothing else. No other reply to a command
+/// Whether a reply tells of being out of memory: behind its two names stands the error MEM, and nothing else. No other reply to a command
 /// reads so: [`law_want`](crate::law_want).
 pub fn is_want(reply: &[u8]) -> bool
     ensures { result ≡ is_want reply.now }

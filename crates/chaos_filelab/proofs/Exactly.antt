@@ -1,4 +1,4 @@
--- An event is a function, but for want of memory.
+-- An event is a function, but for running out of memory.
 use Rattle.std.proofs.Common.{◌≡◌, ℕ, List, [], ◌∷◌, ◌++◌, Bool, true, false, Result, Ok, Err, refl, sym, ap, ◌∙◌, subst, inl, inr, arith}
 use Rattle.std.specs.Prelude.{◌⊎◌, ◌||◌}
 use Rattle.std.specs.List.{list_any}
@@ -35,7 +35,7 @@ or_true : (b : Bool) → (b || true) ≡ true
 or_true true = refl
 or_true false = refl
 
--- the last reply is one for want of memory
+-- the last reply is an out-of-memory one
 any_last : (xs : List (List ℕ)) (x : List ℕ) → is_want x ≡ true → list_any is_want (xs ++ x ∷ []) ≡ true
 any_last [] x is = ap (λ b. b || false) is
 any_last (y ∷ xs) x is = ap (λ b. is_want y || b) (any_last xs x is) ∙ or_true (is_want y)
@@ -105,7 +105,7 @@ serve_exact laws l m answer (inl h) =
       | inr x ↦ inr x
     ])
 
--- where B wrote no reply for want of memory, its server had enough
+-- where B wrote no out-of-memory reply, its server had enough
 pub exact_unless : (l m : FileLabView) (event : FileHappening) (answer : Result FileStepped LabFault)
     → IsExact l event m answer ⊎ Wants l event m answer → wrote_mem m ≡ false → IsExact l event m answer
 exact_unless l m event answer (inl h) none = h

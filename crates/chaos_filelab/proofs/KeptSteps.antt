@@ -159,7 +159,7 @@ one_body items item is = bodies_append items (item ∷ []) ∙ ap (λ k. data_bo
 
 -- ---- one command more
 
--- no reply for want of memory among all
+-- no out-of-memory reply among all
 pub record NoWant (xs : List (List ℕ)) (x : List ℕ) : Type 0 where
   pub before : list_any is_want xs ≡ false
   pub last : is_want x ≡ false
@@ -292,7 +292,7 @@ serving_keeps laws l m served machine s h = by (work_of l.lab.b.conn) refl s.ser
         (subst (λ b. IsApplied (memory_change l.files m.files) l.session m.session b x.0) (sym k.4) x.3.applied)
         machine s.happens h
 
--- ---- a reply for want of memory is known
+-- ---- an out-of-memory reply is known
 
 pub serving_told : (l m : FileLabView) (served : Served) (flag : Bool) → Serving l m served → flag ≡ wrote_mem l
     → (flag || told_want served m.lab.b.written) ≡ wrote_mem m

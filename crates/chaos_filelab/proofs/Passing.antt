@@ -1,4 +1,4 @@
--- Want of memory comes at an event that passed its checks.
+-- Out of memory comes at an event that passed its checks.
 use Rattle.std.proofs.Common.{◌≡◌, true, false, Option, Some, None, Result, Ok, Err, refl, sym, ap, ◌∙◌, inl, inr}
 use Rattle.std.specs.Prelude.{Bool, slice_get}
 use Rattle.std.specs.Bool.{MatchBool}
@@ -19,7 +19,7 @@ use Rattle.chaos_filelab.specs.View.{FileLabView}
 use Rattle.chaos_filelab.specs.declared.event.FileStepped.{FileStepped}
 use Rattle.chaos_filelab.specs.Events.{FileHappening, At, Serve, IsRefused, LabHappens, FileHappens, HasPassed, is_by_server, lab_answer}
 
--- want of memory is no answer of an event itself
+-- out of memory is no answer of an event itself
 no_memory_by : (l : LabView) (x : Side) (call : Call) (o : Option ConnFault)
     → (call_effect l x call o).answer ≡ Err fault.NoMemory → ⊥
 no_memory_by l x call None h = absurd (cc)

@@ -20,7 +20,7 @@ abbrev pub is_data_kind : Kind → Bool
 is_data_kind kind.Data = true
 is_data_kind _ = false
 
--- a data item whose body is a reply for want of memory
+-- a data item whose body is an out-of-memory reply
 abbrev pub is_mem : ItemView → Bool
 is_mem item = is_data_kind (kind_of item.op) && is_want item.body
 

@@ -89,7 +89,7 @@ abbrev pub HasPassed : FileLabView → FileHappening → Type 0
 HasPassed l (At event) = (is_by_server event ≡ false) × (check l.lab event ≡ None)
 HasPassed l Serve = ⊤
 
--- Events stopped for want of memory: so many of them happened or were refused. The next one had passed its checks.
+-- Events stopped when out of memory: so many of them happened or were refused. The next one had passed its checks.
 pub record Stops (old : FileLabView) (events : List FileHappening) (new : FileLabView) : Type 0 where
   pub done : ℕ
   pub event : FileHappening

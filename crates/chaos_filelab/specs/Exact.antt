@@ -1,4 +1,4 @@
--- An event as a function, and what want of memory makes of it.
+-- An event as a function, and what running out of memory makes of it.
 use Rattle.std.specs.Prelude.{◌≡◌, ℕ, List, true, Result, Ok, Err, ◌⊎◌, if◌then◌else◌}
 use Rattle.chaos_packet.specs.Opcode.{op_data}
 use Rattle.chaos_file.specs.declared.error.FileError.TheVariants as e

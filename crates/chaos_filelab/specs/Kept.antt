@@ -24,7 +24,7 @@ pub record AreAnswered (l : FileLabView) : Type 0 where
 abbrev pub IsServed : FileLabView → Type 0
 IsServed l = wrote_mem l ≡ false → AreAnswered l
 
--- and B's replies for want of memory are known
+-- and B's out-of-memory replies are known
 pub record IsSound (s : Inside) : Type 0 where
   pub served : IsServed (file_view s)
   pub flag : s.wanted ≡ wrote_mem (file_view s)

@@ -5,7 +5,7 @@ use Rattle.chaos_packet.specs.Begins.{Begins}
 use Rattle.chaos_file.specs.Replies.{replies_of}
 use Rattle.chaos_filelab.specs.View.{FileLabView, commands_of, replies_to_a, wrote_mem}
 
--- Unless B wrote a reply for want of memory, what A read is a beginning of the replies, by the definition of the
+-- Unless B wrote an out-of-memory reply, what A read is a beginning of the replies, by the definition of the
 -- language and over no files at first, to the commands that A wrote: each command was carried out once, in order.
 abbrev pub RepliesBegin : FileLabView → Type 0
 RepliesBegin l = wrote_mem l ≡ false → Begins (replies_to_a l) (replies_of map.empty (commands_of l))

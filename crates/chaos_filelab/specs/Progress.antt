@@ -12,7 +12,7 @@ use Rattle.chaos_filelab.specs.Events.{FileHappening, At, Serve}
 use Rattle.chaos_filelab.specs.Exact.{file_happen}
 use Rattle.chaos_filelab.specs.Settling.{after_events}
 
--- Both ends can settle, and B wrote no reply for want of memory.
+-- Both ends can settle, and B wrote no out-of-memory reply.
 pub record CanServe (l : FileLabView) : Type 0 where
   pub lab : CanSettle l.lab
   pub memory : wrote_mem l ≡ false

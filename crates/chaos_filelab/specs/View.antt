@@ -28,6 +28,6 @@ commands_at_b l = data_bodies l.lab.b.read
 abbrev pub replies_of_b : FileLabView → List (List ℕ)
 replies_of_b l = data_bodies l.lab.b.written
 
--- B wrote a reply for want of memory
+-- B wrote an out-of-memory reply
 abbrev pub wrote_mem : FileLabView → Bool
 wrote_mem l = list_any is_want (replies_of_b l)

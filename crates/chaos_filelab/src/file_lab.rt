@@ -35,7 +35,7 @@ use std::marker::Model;
 pub struct FileLab {
     lab: Lab,
     server: Server,
-    /// Whether B wrote a reply for want of memory.
+    /// Whether B wrote an out-of-memory reply.
     wanted: bool,
 }
 
@@ -82,7 +82,7 @@ impl FileLab {
     pub fn step(&mut self, alloc: Global, event: &FileEvent<'_>) -> Result<FileStepped, LabFault>
         ensures happens { FileHappens self.old (file_event event.now) self.new result }
         ensures refused { OnErr result (self.new ≡ self.old) }
-        // an event is a function of what was before, but for want of memory: for the histories it is refused, and B's server writes a
+        // an event is a function of what was before, but for running out of memory: for the histories it is refused, and B's server writes a
         // reply that says so
         ensures exact { IsExact self.old (file_event event.now) self.new result ⊎ Wants self.old (file_event event.now) self.new result }
     {
@@ -98,7 +98,7 @@ impl FileLab {
         ensures happens { FileHappens self.old (At (happening_of event.now)) self.new result }
         ensures refused { OnErr result (self.new ≡ self.old) }
         ensures exact { IsExact self.old (At (happening_of event.now)) self.new result }
-        // a reply for want of memory is written by a serve alone
+        // an out-of-memory reply is written by a serve alone
         ensures mem { wrote_mem self.new ≡ wrote_mem self.old }
     {
         if is_by_server(event) {
@@ -182,7 +182,7 @@ impl FileLab {
         Bodies::new(self.lab.read(Side::A))
     }
 
-    /// Whether B wrote a reply for want of memory.
+    /// Whether B wrote an out-of-memory reply.
     pub fn wrote_mem(&self) -> bool
         ensures { result ≡ wrote_mem self.now }
     {
@@ -204,7 +204,7 @@ impl FileLab {
         self.lab.stored(side)
     }
 
-    /// FILE over a losing network: whatever happened, and unless B wrote a reply for want of memory, the replies that A has read
+    /// FILE over a losing network: whatever happened, and unless B wrote an out-of-memory reply, the replies that A has read
     /// are a beginning of those that the definition of the language gives to the commands that A wrote, over no files at first.
     pub fn law_replies(&self)
         ensures machine { HasMachine self.now.lab }
@@ -228,7 +228,7 @@ impl FileLab {
     }
 
     /// Whether it can settle, by the events of [`FileSettling`](crate::FileSettling): both ends are open, each sends again before it
-    /// would count the other as down, there are moments left for that, and B wrote no reply for want of memory.
+    /// would count the other as down, there are moments left for that, and B wrote no out-of-memory reply.
     pub fn can_settle(&self) -> bool
         ensures { IsTrue result ↔ CanServe self.now }
     {
@@ -290,7 +290,7 @@ fn is_by_server(event: &Event<'_>) -> bool
     }
 }
 
-/// Whether an item is a reply for want of memory.
+/// Whether an item is an out-of-memory reply.
 fn is_mem(item: &KeptItem) -> bool
     ensures { result ≡ is_mem item.now }
 {

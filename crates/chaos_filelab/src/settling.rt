@@ -277,7 +277,7 @@ impl FileLab {
     /// nothing is left to be read or sent at either end.
     ///
     /// There are at most 586 events. Where there is no memory it stops, with all as after the events before that one; or B wrote a
-    /// reply for want of memory, which [`FileLab::wrote_mem`] tells.
+    /// out-of-memory reply, which [`FileLab::wrote_mem`] tells.
     pub fn settle(&mut self, alloc: Global) -> Result<(), AllocError>
         requires { CanServe self.old }
         ensures served { OnOk result (AllServed self.old self.new) }

@@ -35,7 +35,7 @@ after_next l events i event at =
     ap (λ n. after_all l (take n events)) (let next : i + 1 ≡ suc i = omega arith in next)
     ∙ after_more l events i event at
 
--- want of memory is no answer of an event itself
+-- out of memory is no answer of an event itself
 no_memory_by : (l : LabView) (x : Side) (call : Call) (o : Option ConnFault)
     → (call_effect l x call o).answer ≡ Err fault.NoMemory → ⊥
 no_memory_by l x call None h = absurd (cc)

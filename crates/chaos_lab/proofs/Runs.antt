@@ -105,7 +105,7 @@ module _ {R E : Type 0} where
   run_on l m events (Ok x) all = run_of l m events all
   run_on l m events (Err x) all = tt
 
-  -- stopped for want of memory: the events before are a run
+  -- stopped when out of memory: the events before are a run
   pub stops_on : (l m : LabView) (events : List Happening) (r : Result R E) → OnErr r (StopsWithin l events m)
       → OnErr r (Stops l events m)
   stops_on l m events (Ok x) s = tt

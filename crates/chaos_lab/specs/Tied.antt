@@ -110,7 +110,7 @@ pub record HasMachine (l : LabView) : Type 0 where
   pub plain : Machine
   pub ties : Ties plain l
 
--- Events stopped for want of memory: so many of them happened, and those that were taken are a run of the plain
+-- Events stopped when out of memory: so many of them happened, and those that were taken are a run of the plain
 -- machine. The next one had passed the checks.
 pub record Stops (old : LabView) (events : List Happening) (new : LabView) : Type 0 where
   pub done : ℕ

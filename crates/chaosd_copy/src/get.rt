@@ -166,7 +166,7 @@ pub fn get_file<T: Talk>(
     ensures waited { IfUnanswered result ((t : T) × InVain (T.talked t) (T.course t) (T.talked talk.new) (T.course talk.new)) }
     // It ends well only where no failure was counted.
     ensures unfailed { OnOk result ((T.course talk.new).failures ≤ (T.course talk.old).failures) }
-    // It fails for want of memory, or by a turn that did, by the same fault.
+    // It fails when out of memory, or by a turn that did, by the same fault.
     ensures faults { IfErr result (λ fault. (fault ≡ RunFault.NoMemory) ⊎ T.failed_by talk.new fault) }
 {
     let mut reply = Reply::new();

@@ -11,7 +11,7 @@ use std::io::Read;
 /// All bytes that a reader has, or None where they are more than a file of FILE may have: one byte more than that is read at most.
 ///
 /// # Errors
-/// Those of the reader, and want of memory.
+/// Those of the reader, and out of memory.
 pub fn read_whole<F: Read>(alloc: Global, from: F) -> io::Result<Option<Vec<u8>>>
 where
     F: Drop,

@@ -34,7 +34,7 @@ pub struct MemTalk {
     ghost honest: { Does fin.empty new_session (map (λ v. v.items) sent.items) store session (map (λ v. v.items) replies.items) },
 }
 
-/// The reply for want of memory to a command.
+/// The out-of-memory reply to a command.
 fn want_of(command: &[u8]) -> Reply
     ensures { result.items ≡ reply_to (parse_of command.now) (Err NoMemory) }
 {

@@ -82,7 +82,7 @@ impl Flight {
     }
 }
 
-/// Says more of the commands, as many as may be without a reply and as there is room for.
+/// Sends more of the commands, as many as may be without a reply and as there is room for.
 fn send_on<T: Talk>(talk: &mut T, row: &Row<'_>, flight: &mut Flight)
     requires sent { flight.old.sent ≤ row.now.count }
     requires first { row.now.first ≤ MAX_FIRST + 9000 }
@@ -101,7 +101,7 @@ fn send_on<T: Talk>(talk: &mut T, row: &Row<'_>, flight: &mut Flight)
     flight.note(sent);
 }
 
-/// Says more of the commands, up to so many and as there is room for, and answers how many were sent in all. Each is spelled in the
+/// Sends more of the commands, up to so many and as there is room for, and answers how many were sent in all. Each is spelled in the
 /// place that is lent.
 fn send_more<T: Talk>(
     talk: &mut T,

@@ -63,7 +63,7 @@ event_plays before after old mid new event answer result exact first last same n
       | inr h ↦ subst (λ a. IfOk (refused_or_ended a) P) (sym h.1) tt
     ])
 
--- ---- want of memory
+-- ---- out of memory
 
 is_want : (answer : Result FileStepped LabFault) → refused_or_ended answer ≡ Err run.NoMemory → answer ≡ Err NoMemory
 is_want (Ok stepped) h = absurd (cc)
@@ -115,7 +115,7 @@ pub event_faults : (answer : Result FileStepped LabFault) (result : Result Bool 
 event_faults answer result same =
     subst (λ r. IfErr r (λ fault. (fault ≡ run.NoMemory) ⊎ (fault ≡ run.WriteFault))) (sym same) (by_fault answer)
 
--- a serve wrote a reply for want of memory
+-- a serve wrote an out-of-memory reply
 pub serve_wants : (event : FileHappening) (before after : FileLabView) (old : List ℕ)
     (answer : Result FileStepped LabFault)
     → FileHappens before event after answer
@@ -150,7 +150,7 @@ settle_plays line before after old new refused is (lab, count, text, none) ready
   none ready,
 )
 
--- it met want of memory
+-- it ran out of memory
 pub settle_wants : (line : List ℕ) (l after : FileLabView) (text : List ℕ) → bytes_eq line settle_word ≡ true
     → WantsSettling l after text → (line_done line ≢ None) × filelab_script.wants l line after text
 settle_wants line l after text is wants = (
@@ -191,7 +191,7 @@ pub bad_line : (line : List ℕ) → bytes_eq line settle_word ≡ false → fil
 bad_line line is none =
     ap (λ b. cond b (Some settle_done) (option_map event_done (file_line_of line))) is ∙ ap (option_map event_done) none
 
--- it met want of memory
+-- it ran out of memory
 pub line_wants : (line : List ℕ) (l after : FileLabView) (held : Option (List ℕ)) (old new : List ℕ)
     (event : FileHappening)
     → bytes_eq line settle_word ≡ false → file_line_of line ≡ Some event

@@ -105,7 +105,7 @@ done_is : (done rest : List FileHappening) → take (length done) (done ++ rest)
 done_is [] rest = refl
 done_is (e ∷ done) rest = ap (λ es. e ∷ es) (done_is done rest)
 
--- the next one met want of memory
+-- the next one ran out of memory
 pub typed_wants : (start now after : FileLabView) (event : FileHappening) (rest others : List FileHappening)
     (old mid ready new : Option (List ℕ))
     → Typed start now rest old mid → rest ≡ event ∷ others

@@ -27,12 +27,12 @@ pub record PlaysFileEvent (event : FileHappening) (before after : FileLabView) (
   pub text : new ≡ old ++ event_text before event
   pub count : refused ≡ is_err (file_happen before event).answer
 
--- B's server served, and wrote a reply for want of memory.
+-- B's server served, and wrote an out-of-memory reply.
 abbrev pub ServesForWant : (before after : FileLabView) → Type 0
 ServesForWant before after = (served : Served) × Serving before after served × (wrote_mem after ≡ true)
 
--- What is printed of an event that meets want of memory: where the histories did, and nothing happened, the refusal;
--- where a serve wrote a reply for want of memory, nothing. It is never both, where B has written no such reply before.
+-- What is printed of an event that runs out of memory: where the histories did, and nothing happened, the refusal;
+-- where a serve wrote an out-of-memory reply, nothing. It is never both, where B has written no such reply before.
 abbrev pub WantsEvent : (before : FileLabView) → FileHappening → (after : FileLabView) → List ℕ → Type 0
 WantsEvent before event after text =
     ((after ≡ before) × (text ≡ refusal_text NoMemory)) ⊎ ((event ≡ Serve) × ServesForWant before after × (text ≡ []))

@@ -22,7 +22,7 @@ end_text l = lab.end_text l.lab
 abbrev pub line_done : List ℕ → Option (FileLabView → Done FileLabView)
 line_done line = if bytes_eq line settle_word then Some settle_done else option_map event_done (file_line_of line)
 
--- what a line that asks for an event leaves at want of memory, and what is printed of it
+-- what a line that asks for an event leaves when memory runs out, and what is printed of it
 abbrev pub WantsLine : List ℕ → (before after : FileLabView) → List ℕ → Type 0
 WantsLine line l after text = (event : FileHappening) × (file_line_of line ≡ Some event) × WantsEvent l event after text
 
@@ -30,7 +30,7 @@ abbrev pub WantsBy : (is_settle : Bool) → List ℕ → (before after : FileLab
 WantsBy true line l after text = WantsSettling l after text
 WantsBy false line l after text = WantsLine line l after text
 
--- A laboratory is ready where B wrote no reply for want of memory.
+-- A laboratory is ready where B wrote no out-of-memory reply.
 abbrev pub filelab_script : Script FileLabView
 filelab_script = record {
   first = first_of;

@@ -15,7 +15,7 @@ abbrev pub file_line : FileHappening → List ℕ
 file_line (At event) = event_line event
 file_line Serve = line (codes "serve")
 
--- both ends can settle, and B wrote no reply for want of memory
+-- both ends can settle, and B wrote no out-of-memory reply
 abbrev pub can_serve : FileLabView → Bool
 can_serve l = lab.can_settle l.lab && not (wrote_mem l)
 
@@ -33,7 +33,7 @@ settle_by false l = record { lab = l; text = lab.unsettled_text; is_refused = tr
 abbrev pub settle_done : FileLabView → Done FileLabView
 settle_done l = settle_by (can_serve l) l
 
--- At want of memory in the midst of settling the events before the one that met it happened, and they are printed, that
+-- When memory runs out, in the midst of settling the events before the one that met it happened, and they are printed, that
 -- one's line, and what is printed of that one.
 abbrev pub WantsEvents : (before after : FileLabView) → List ℕ → Type 0
 WantsEvents l after text =

@@ -22,7 +22,7 @@ use std::io::{Read, Write};
 ///
 /// # Errors
 /// [`RunFault`]: 1 where the reader fails or is interrupted 2,000,000 times, 2 where the writer fails, 3 where more than
-/// 1,048,576 bytes come, 4 where an event or the start met want of memory, or where a `serve` wrote a reply for want of memory, of
+/// 1,048,576 bytes come, 4 where an event or the start ran out of memory, or where a `serve` wrote an out-of-memory reply, of
 /// which nothing is printed, 5 at a line that is of no form.
 pub fn run_filelab<R: Read, W: Write>(
     alloc: Global,
@@ -49,8 +49,8 @@ pub fn run_filelab<R: Read, W: Write>(
     // Where the reader failed, no line that ended in what it had given is of no form, and those were played, and no more.
     ensures unread { result ≡ Err RunFault.ReadFault → PlaysRead filelab_script (R.remaining reader.old) (R.remaining reader.new) (W.contents writer.old) (W.contents writer.new) }
 
-    // At want of memory the lines before were played, and an event that met it is told, but for a serve that wrote a reply for want
-    // of memory; the line is of the form of its place.
+    // When memory runs out, the lines before were played, and an event that met it is told, but for a serve that wrote an out-of-memory
+    // reply; the line is of the form of its place.
     ensures no_memory { result ≡ Err RunFault.NoMemory → IfSome (R.remaining reader.old) (Wants filelab_script (W.contents writer.old) (W.contents writer.new)) }
 {
     run_script::<FileStage, R, W>(alloc, reader, writer)

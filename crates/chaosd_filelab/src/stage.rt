@@ -118,8 +118,8 @@ fn stage_of(alloc: Global, start: Start) -> Result<FileStage, RunFault>
 /// Lets the event of a line happen, writes what came of it, and says whether it was refused.
 ///
 /// # Errors
-/// `BadScript` with this number where the line asks for no event, `NoMemory`, and `WriteFault` where the text doesn't fit. Want of
-/// memory for the histories is written too; of a reply for want of memory nothing is.
+/// `BadScript` with this number where the line asks for no event, `NoMemory`, and `WriteFault` where the text doesn't fit. Out of
+/// memory for the histories is written too; of an out-of-memory reply nothing is.
 fn play(
     alloc: Global,
     lab: &mut FileLab,
@@ -150,8 +150,8 @@ fn play(
 /// Lets an event happen, writes what came of it, and says whether it was refused.
 ///
 /// # Errors
-/// `NoMemory`, and `WriteFault` where the text doesn't fit. Want of memory for the histories is written too; of a reply for want of
-/// memory nothing is.
+/// `NoMemory`, and `WriteFault` where the text doesn't fit. Out of memory for the histories is written too; of an out-of-memory
+/// reply nothing is.
 pub fn play_event(
     alloc: Global,
     lab: &mut FileLab,
@@ -177,7 +177,7 @@ fn act(alloc: Global, lab: &mut FileLab, event: &FileEvent<'_>) -> Result<FileSt
     ensures happens { FileHappens lab.old (file_event event.now) lab.new result }
     ensures refused { OnErr result (lab.new ≡ lab.old) }
     ensures exact { IsExact lab.old (file_event event.now) lab.new result ⊎ Wants lab.old (file_event event.now) lab.new result }
-    // a reply for want of memory is written by a serve alone
+    // an out-of-memory reply is written by a serve alone
     ensures mem { (file_event event.now ≡ Serve) ⊎ (wrote_mem lab.new ≡ wrote_mem lab.old) }
 {
     match event {

@@ -25,7 +25,7 @@ pub record PlaysLines {X : Type 0} (script : Script X) (before written : Option 
   pub text : Appends before written (text_of (play_of script ended))
   pub count : at.lines ≡ length ended
 
--- what is printed at want of memory of a line behind what was played: nothing where the laboratory couldn't be made
+-- what is printed when memory runs out of a line behind what was played: nothing where the laboratory couldn't be made
 abbrev pub IsWantText : {X : Type 0} → Script X → Option (Played X) → List ℕ → List ℕ → Type 0
 IsWantText script None line text = text ≡ []
 IsWantText {X = X} script (Some p) line text = (after : X) × script.wants p.lab (strip_last 13 line) after text
@@ -37,7 +37,7 @@ IsLineFault run.NoMemory = ⊤
 IsLineFault run.WriteFault = ⊤
 IsLineFault _ = ⊥
 
--- Why the line behind those that were played wasn't: it is of no form, or it met want of memory; or the writer failed,
+-- Why the line behind those that were played wasn't: it is of no form, or it ran out of memory; or the writer failed,
 -- of which nothing is said.
 abbrev pub StopsLine : {X : Type 0} → Script X → Option (List ℕ) → Option (List ℕ) → List (List ℕ) → List ℕ → RunFault
     → Type 0
@@ -98,7 +98,7 @@ StopsAt script before written number input =
     IsFirstBad script number (lines_of input) × IsMet INPUT_LIMIT number input
     × Appends before written (text_of (play_of script (take (number - 1) (lines_of input))))
 
--- A line of the input met want of memory that is of the form of its place, it ends within the limit or the input does,
+-- A line of the input ran out of memory that is of the form of its place, it ends within the limit or the input does,
 -- and the text of the lines before it was written, and what is printed of such a line.
 abbrev pub Wants : {X : Type 0} → Script X → Option (List ℕ) → Option (List ℕ) → List ℕ → Type 0
 Wants script before written input =

@@ -21,7 +21,7 @@ pub record Script (X : Type 0) : Type 1 where
   pub ended : X → List ℕ
   -- the laboratories in which lines do what `event` says
   pub ready : X → Type 0
-  -- what a line that meets want of memory in a laboratory leaves of it, and what is printed
+  -- what a line that runs out of memory in a laboratory leaves of it, and what is printed
   pub wants : (before : X) → List ℕ → (after : X) → List ℕ → Type 0
 
 -- what was played: the laboratory, what was printed, and how many events were refused

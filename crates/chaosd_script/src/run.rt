@@ -19,7 +19,7 @@ use std::io::{Read, Write};
 ///
 /// # Errors
 /// [`RunFault`]: 1 where the reader fails or is interrupted 2,000,000 times, 2 where the writer fails, 3 where more than
-/// 1,048,576 bytes come, 4 where a line or the start met want of memory, 5 at a line that is of no form.
+/// 1,048,576 bytes come, 4 where a line or the start ran out of memory, 5 at a line that is of no form.
 pub fn run_script<S: Stage, R: Read, W: Write>(
     alloc: Global,
     reader: &mut R,
@@ -40,7 +40,7 @@ pub fn run_script<S: Stage, R: Read, W: Write>(
     // Where the reader failed, each line that ended in what it had given was played, and no more.
     ensures unread { result ≡ Err RunFault.ReadFault → PlaysRead S.script (R.remaining reader.old) (R.remaining reader.new) (W.contents writer.old) (W.contents writer.new) }
 
-    // At want of memory the lines before were played, and what the language says of it is told; the line is of the form of its place.
+    // When memory runs out, the lines before were played, and what the language says of it is told; the line is of the form of its place.
     ensures no_memory { result ≡ Err RunFault.NoMemory → IfSome (R.remaining reader.old) (Wants S.script (W.contents writer.old) (W.contents writer.new)) }
 {
     let mut player: Player<S> = Player::new(alloc);

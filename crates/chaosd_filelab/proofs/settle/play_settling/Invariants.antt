@@ -5,7 +5,7 @@ use Rattle.chaosd_io.specs.Buffer.{written_of}
 use Rattle.chaosd_filelab.proofs.Settling.{Typed}
 use Rattle.chaosd_filelab.proofs.settle.play_settling.Given as goal
 
--- so many events have happened and are written, and the others are left; B wrote no reply for want of memory
+-- so many events have happened and are written, and the others are left; B wrote no out-of-memory reply
 abbrev pub invariant-loop-event : goal.invariant-loop-event
 invariant-loop-event g l =
     Typed l.fn.lab l.lab (left l.events l.lab) (written_of (g.W.Write.contents l.fn.writer) l.fn.out)

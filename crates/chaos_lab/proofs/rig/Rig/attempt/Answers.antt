@@ -2,7 +2,7 @@ use Rattle.std.proofs.Common.{rules}
 use Rattle.chaos_lab.proofs.Happening.{met, passed}
 use Rattle.chaos_lab.proofs.rig.Rig.attempt.Goals as goal
 
--- want of memory changes nothing
+-- out of memory changes nothing
 pub returns-in-Err-NoMemory-clause-err : goal.returns-in-Err-NoMemory-clause-err
 returns-in-Err-NoMemory-clause-err c = met _ _ _ _ c.step.ensures (search rules)
 

@@ -26,7 +26,7 @@ on_err : (r : Result ⊤ AllocError) (fact : Type 0) → fact → OnErr r fact
 on_err (Ok done) fact holds = tt
 on_err (Err why) fact holds = holds
 
--- want of memory stops it at this event
+-- out of memory stops it at this event
 pub returns-in_err-attempt-clause-all : goal.returns-in_err-attempt-clause-all
 returns-in_err-attempt-clause-all c = on_ok c.from_residual.result _ c.from_residual.ensures.0
 
