@@ -185,6 +185,7 @@ where
 }
 
 /// Runs `ask` from standard input to standard output.
+#[inline(never)]
 pub(crate) fn run_ask_line<R>(rt: &R, line: Ask, terminals: Terminals) -> ExitStatus
 where
     R: AllocGlobal + Clock + Eprint + Files<File = File> + Input + Net + Print,

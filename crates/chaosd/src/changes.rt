@@ -41,6 +41,7 @@ impl<R: AllocGlobal + Eprint> Work<R> for Delete<'_> {
 }
 
 /// Runs `delete`.
+#[inline(never)]
 pub(crate) fn run_delete_line<R>(rt: &R, line: &Delete<'_>, is_terminal: bool) -> ExitStatus
 where
     R: AllocGlobal + Dial + Eprint + Net,
@@ -73,6 +74,7 @@ impl<R: AllocGlobal + Eprint> Work<R> for Rename<'_> {
 }
 
 /// Runs `rename`.
+#[inline(never)]
 pub(crate) fn run_rename_line<R>(rt: &R, line: &Rename<'_>, is_terminal: bool) -> ExitStatus
 where
     R: AllocGlobal + Dial + Eprint + Net,

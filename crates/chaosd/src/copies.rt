@@ -79,6 +79,7 @@ where
 }
 
 /// Runs `get`.
+#[inline(never)]
 pub(crate) fn run_get_line<R>(rt: &R, line: &Get<'_>, is_terminal: bool) -> ExitStatus
 where
     R: AllocGlobal + Dial + Eprint + Files<File = File> + Input + Net + Print,
@@ -151,6 +152,7 @@ fn lacks_input<R: Input>(rt: &R, locals: &[&str]) -> bool {
 }
 
 /// Runs `put`.
+#[inline(never)]
 pub(crate) fn run_put_line<R>(rt: &R, line: &Put<'_>, is_terminal: bool) -> ExitStatus
 where
     R: AllocGlobal + Dial + Eprint + Files<File = File> + Input + Net + Print,

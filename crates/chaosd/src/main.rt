@@ -47,6 +47,8 @@ use std::rt::Env;
 use std::time::Clock;
 
 /// Does what the line asks for. On terminals more is told. The answer is the exit status.
+///
+/// No run is inlined here, so that none takes the stack of all.
 fn run_line<R>(rt: &R, line: Line<'_>, terminals: Terminals) -> ExitStatus
 where
     R: AllocGlobal + Clock + Eprint + Files<File = File> + Input + Net + Print,

@@ -68,6 +68,7 @@ pub(crate) fn end_script<R: Eprint>(
 }
 
 /// Runs `loop` from standard input to standard output.
+#[inline(never)]
 pub(crate) fn run_loop_line<R: AllocGlobal + Eprint + Input + Net + Print>(
     rt: &R,
     carriage: Carriage,

@@ -10,6 +10,7 @@ use std::io;
 use std::io::Read;
 
 /// Runs `show` from standard input to standard output. Where it is asked for, what data say stands in the reports too.
+#[inline(never)]
 pub(crate) fn run_show_line<R: Input + Print + Eprint>(rt: &R, is_file: bool) -> ExitStatus {
     let end = if is_file {
         let mut writer = io::writer(rt);
@@ -39,6 +40,7 @@ fn tell_lab<R: Eprint, I: Read, T>(
 }
 
 /// Runs `lab` from standard input to standard output.
+#[inline(never)]
 pub(crate) fn run_lab_line<R: AllocGlobal + Input + Print + Eprint>(rt: &R) -> ExitStatus {
     let mut input = rt.reader();
     let mut reader = Kept::new(rt.alloc(), &mut input);
@@ -48,6 +50,7 @@ pub(crate) fn run_lab_line<R: AllocGlobal + Input + Print + Eprint>(rt: &R) -> E
 }
 
 /// Runs `filelab` from standard input to standard output.
+#[inline(never)]
 pub(crate) fn run_filelab_line<R: AllocGlobal + Input + Print + Eprint>(rt: &R) -> ExitStatus {
     let mut input = rt.reader();
     let mut reader = Kept::new(rt.alloc(), &mut input);

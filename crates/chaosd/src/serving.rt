@@ -132,6 +132,7 @@ fn serve_folder<R: AllocGlobal + Clock + Eprint + Files<File = File> + Net>(
 }
 
 /// Runs `serve` on a folder, which is opened first, and then the socket.
+#[inline(never)]
 pub(crate) fn run_serve_line<R: AllocGlobal + Clock + Eprint + Files<File = File> + Net>(
     rt: &R,
     line: Serve<'_>,
