@@ -82,7 +82,13 @@ LIBRARIES = {
         Row("of 255 slots", "host: data of 255 connections"),
     ],
     "file": [
-        Row("a FILE WRITE of 448 bytes, in memory", "file: WRITE of 448 bytes", 1.1, "file: the whole run"),
+        Row(
+            "a FILE WRITE of 448 bytes, in memory",
+            "file: WRITE of 448 bytes",
+            1.1,
+            "file: the whole run",
+            "A file that grows is copied into its new room, where plain Rust's `realloc` moves the pages.",
+        ),
         Row(
             "a READ",
             "file: READ of 448 bytes",
