@@ -87,7 +87,7 @@ class Whole(Case):
 
     def test_a_copy_needs_little_of_the_stack(self):
         # a program with checks takes more of it
-        stack = 262_144 if IS_CHECKED else 163_840
+        stack = 262_144 if IS_CHECKED else 131_072
 
         def limited():
             resource.setrlimit(resource.RLIMIT_STACK, (stack, stack))
