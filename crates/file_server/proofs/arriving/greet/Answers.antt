@@ -1,3 +1,4 @@
+-- What came is delivered, and the request for FILE that it is, accepted: two phases, one after the other.
 use Rattle.chaos_host.specs.Deliver.{host_deliver}
 use Rattle.chaos_host.specs.Disposition.{host_with_packet}
 use Rattle.chaos_turn.specs.Station.{station}

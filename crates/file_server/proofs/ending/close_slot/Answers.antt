@@ -1,3 +1,4 @@
+-- A connection whose EOF was served, and whose peer read all, is closed by a call of the host.
 use Rattle.std.proofs.Common.{rules, ◌≡◌, true, [], Some, sym, subst}
 use Rattle.std.specs.Prelude.{Ok}
 use Rattle.chaos_conn.specs.Calls.{is_drained}
