@@ -97,7 +97,13 @@ LIBRARIES = {
         ),
     ],
     "turn": [
-        Row("a server's turn with a command, 1 connection", "turn: turn of 1 connection", 1.3, "turn: the whole run"),
+        Row(
+            "a server's turn with a command, 1 connection",
+            "turn: turn of 1 connection",
+            1.3,
+            "turn: the whole run",
+            "What goes out waits as a packet before its datagram is written, and places are cleared before they are filled.",
+        ),
         Row(
             "1 connection and 254 free slots",
             "turn: turn of 1 connection and 254 free slots",
@@ -127,7 +133,12 @@ PROGRAM = {
     ],
     "loop": [
         Row("a command of `loop`, over two sockets", "loop, 4041 commands", 1.2, "loop, 4041 commands"),
-        Row("a command of `ask` to `serve`", "ask of serve, 1 MiB", 1.2),
+        Row(
+            "a command of `ask` to `serve`",
+            "ask of serve, 1 MiB",
+            1.2,
+            why="`serve` walks over its slots more often than the plain server; `ask` prints a reply by pieces of 32 bytes.",
+        ),
     ],
 }
 FILES = {

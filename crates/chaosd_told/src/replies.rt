@@ -1,7 +1,8 @@
 //! What the replies of a script leave undone.
-ghost use Rattle.std.specs.Prelude.{◌≡◌};
+ghost use Rattle.std.specs.Prelude.{◌≡◌, ◌<◌, ◌≤◌, length};
 
 use arrayvec::ArrayVec;
+use memchr::memchr;
 use std::cell::Cell;
 use std::io;
 use std::io::Write;
@@ -37,7 +38,8 @@ impl Notes {
     }
 }
 
-/// A writer of replies that hands them on to another, and looks at each one's front.
+/// A writer of replies that hands them on to another, and looks at each one's front. Beside the other's work it costs a search for each
+/// line's end; it takes no memory.
 #[derive(Drop)]
 pub struct Replies<'a, W: Write> {
     inner: &'a mut W,
@@ -113,14 +115,31 @@ impl Watch<'_> {
         }
     }
 
+    /// These bytes of a line were written. No more than its front is looked at.
+    fn note_part(&mut self, part: &[u8]) {
+        let count = self.front.remaining_capacity().min(part.len());
+        let _fits = self.front.try_extend_from_slice(&part[..count]);
+    }
+
+    /// The front of these bytes was written: a line with its end, or all of them where none ends. Says how many they are.
+    fn note_line(&mut self, bytes: &[u8]) -> usize
+        requires some { 0 < length bytes.now }
+        ensures within { (0 < result) × (result ≤ length bytes.now) }
+    {
+        let Some(end) = memchr(b'\n', bytes) else {
+            self.note_part(bytes);
+            return bytes.len();
+        };
+        self.note_part(&bytes[..end]);
+        self.note_reply();
+        end + 1
+    }
+
     /// These bytes were written.
     fn note(&mut self, bytes: &[u8]) {
-        for byte in bytes {
-            if *byte == b'\n' {
-                self.note_reply();
-            } else {
-                let _fits = self.front.try_push(*byte);
-            }
+        let mut at = 0;
+        while at < bytes.len() {
+            at += self.note_line(&bytes[at..]);
         }
     }
 }
