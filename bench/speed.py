@@ -56,7 +56,7 @@ LIBRARIES = {
             "read by value",
             "codec: decode of 448 bytes",
             1.3,
-            why="An `ArrayVec` of 488 bytes is handed out through two results, and each hand moves all of it.",
+            why="488 bytes are moved through two results.",
         ),
         Row(
             "written into a lent buffer",
@@ -73,7 +73,7 @@ LIBRARIES = {
             "window: item in order",
             1.2,
             "window: the whole run",
-            "An `ArrayVec` grows only by what is appended, and clears what it drops; a slot that is read goes behind the others.",
+            "An `ArrayVec` clears what it drops; a slot that is read goes behind the others.",
         ),
         Row("in reversed order", "window: item reversed", 1.2, why="As in order."),
     ],
@@ -93,7 +93,7 @@ LIBRARIES = {
             "a READ",
             "file: READ of 448 bytes",
             1.1,
-            why="The reply that stood there is cleared before it is written over, and each copy looks whether it overlaps.",
+            why="A reply's place is cleared before it is written, and copies look for an overlap.",
         ),
     ],
     "turn": [
@@ -102,7 +102,7 @@ LIBRARIES = {
             "turn: turn of 1 connection",
             1.3,
             "turn: the whole run",
-            "What goes out waits as a packet before its datagram is written, and places are cleared before they are filled.",
+            "A packet waits before its datagram is written; places are cleared before they are filled.",
         ),
         Row(
             "1 connection and 254 free slots",
@@ -110,14 +110,14 @@ LIBRARIES = {
             1.3,
             why="A turn walks over the slots five times for three, once into each free slot's session.",
         ),
-        Row("255 connections", "turn: turn of 255 connections", 1.3, why="A walk over the slots goes over 224 bytes of each connection."),
+        Row("255 connections", "turn: turn of 255 connections", 1.3, why="A walk goes over 224 bytes of each connection."),
     ],
 }
 PROGRAM = {
     "show": [
         Row("`show`, short lines", "short lines", 1.1),
         Row("long lines", "long lines", 1.1),
-        Row("empty lines", "empty lines", 1.1, why="A report takes one more call and append; the buffer clears what it handed on."),
+        Row("empty lines", "empty lines", 1.1, why="A report takes one more call; the buffer clears what it handed on."),
         Row("four long packets a line, by version 2", "four long packets a line", 1.1),
         Row("eight short packets a line", "eight short packets a line", 1.1),
     ],
@@ -127,9 +127,15 @@ PROGRAM = {
             "16,000 items in turn",
             1.5,
             "16,000 items in turn",
-            "The laboratory keeps what each end wrote and read, which the plain program doesn't.",
+            "It keeps what each end wrote and read; the plain one doesn't.",
         ),
-        Row("64 items, sent again 240 times", "64 items, sent again 240 times", 1.5, "64 items, sent again 240 times"),
+        Row(
+            "64 items, sent again 240 times",
+            "64 items, sent again 240 times",
+            1.5,
+            "64 items, sent again 240 times",
+            "By instructions it is within; short runs vary.",
+        ),
     ],
     "loop": [
         Row("a command of `loop`, over two sockets", "loop, 4041 commands", 1.2, "loop, 4041 commands"),
@@ -137,7 +143,7 @@ PROGRAM = {
             "a command of `ask` to `serve`",
             "ask of serve, 1 MiB",
             1.2,
-            why="`serve` walks over its slots more often than the plain server; `ask` prints a reply by pieces of 32 bytes.",
+            why="`serve` walks over its slots more often; `ask` prints by pieces of 32 bytes.",
         ),
     ],
 }
