@@ -143,7 +143,7 @@ PROGRAM = {
             "a command of `ask` to `serve`",
             "ask of serve, 1 MiB",
             1.2,
-            why="`serve` walks over its slots more often; `ask` prints by pieces of 32 bytes.",
+            why="Not known: it makes as many calls of the system, which take most of the time.",
         ),
     ],
 }
