@@ -59,6 +59,8 @@ impl<'a, 'r, C: AllocGlobal + Dial + Eprint, L: Link> CallDialog<'a, 'r, C, L> {
 impl<C: Dial + Eprint, L: Link> Talk for CallDialog<'_, '_, C, L> {
     ghost talked = { λ dialog. ⟦<Hurried<Call<'static, C, L>> as Talk>⟧.talked dialog.call };
 
+    ghost ready = { λ dialog. ⟦<Hurried<Call<'static, C, L>> as Talk>⟧.ready dialog.call };
+
     ghost course = { λ dialog. over_where dialog.is_refused (⟦<Hurried<Call<'static, C, L>> as Talk>⟧.course dialog.call) };
 
     ghost failed_by = { λ dialog. ⟦<Hurried<Call<'static, C, L>> as Talk>⟧.failed_by dialog.call };

@@ -190,6 +190,8 @@ impl<T: Talk> Hurried<T> {
 impl<T: Talk> Talk for Hurried<T> {
     ghost talked = { λ h. T.talked h.inner };
 
+    ghost ready = { λ h. T.ready h.inner };
+
     ghost course = { λ h. record (T.course h.inner) { is_over = (T.course h.inner).is_over || h.is_late } };
 
     ghost failed_by = { λ h. T.failed_by h.inner };

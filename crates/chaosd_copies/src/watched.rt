@@ -96,6 +96,8 @@ impl<V: Viewer, T: Talk> Watched<V, T> {
 impl<V: Viewer, T: Talk> Talk for Watched<V, T> {
     ghost talked = { λ watched. T.talked watched.inner };
 
+    ghost ready = { λ watched. T.ready watched.inner };
+
     ghost course = { λ watched. T.course watched.inner };
 
     ghost failed_by = { λ watched. T.failed_by watched.inner };

@@ -45,6 +45,19 @@ abbrev pub SentUpTo : Option Talked → Option Talked → (ℕ → List ℕ) →
 SentUpTo start now f most =
     (sent : ℕ) × (sent ≤ most) × (replies : List (List ℕ)) × Since start now (upto f sent) replies
 
+-- ---- the replies that are there to be received
+
+-- Where a talk tells them, more may have come behind those that were there, and none is lost.
+abbrev pub More : Option (List (List ℕ)) → Option (List (List ℕ)) → Type 0
+More None now = now ≡ None
+More (Some ready) now = (came : List (List ℕ)) × (now ≡ Some (ready ++ came))
+
+-- Where a talk tells them, the first was received, or none where none is there.
+abbrev pub Next : Option (List (List ℕ)) → Option (List ℕ) → Option (List (List ℕ)) → Type 0
+Next None received now = now ≡ None
+Next (Some []) received now = (received ≡ None) × (now ≡ Some [])
+Next (Some (reply ∷ ready)) received now = (received ≡ Some reply) × (now ≡ Some ready)
+
 -- a command, where it was sent
 abbrev pub sent_if : Bool → List ℕ → List (List ℕ)
 sent_if true command = command ∷ []

@@ -1,5 +1,5 @@
 //! A talk with a FILE server in memory.
-ghost use Rattle.std.specs.Prelude.{◌≡◌, ◌≤◌, [], ◌*◌, false, length, take, map, min, option_map, Some, Err};
+ghost use Rattle.std.specs.Prelude.{◌≡◌, ◌≤◌, [], ◌*◌, false, length, take, drop, map, min, option_map, Some, Err};
 ghost use Rattle.chaos_packet.specs.Count.{max_count};
 ghost use Rattle.std.specs.FinMap as fin;
 ghost use Rattle.chaos_file.specs.declared.error.FileError.TheVariants.{NoMemory};
@@ -9,7 +9,7 @@ ghost use Rattle.chaos_file.specs.Grammar.{parse_of};
 ghost use Rattle.chaos_file.specs.Session.{new_session};
 ghost use Rattle.chaos_file.specs.Step.{file_step};
 ghost use Rattle.chaosd_copy.specs.Copy.{Does};
-ghost use Rattle.chaosd_copy.specs.Memory.{StepsOrStays};
+ghost use Rattle.chaosd_copy.specs.Memory.{Answered, StepsOrStays};
 ghost use Rattle.chaosd_copy.specs.Talk.{Talked, counted};
 
 use crate::talk::Talk;
@@ -68,7 +68,8 @@ fn applied(
 impl MemTalk {
     /// A server without files, and nothing sent yet. It takes no memory.
     pub fn new(alloc: Global) -> Self
-        ensures { ⟦<MemTalk as Talk>⟧.talked result ≡ Some (record { sent = []; received = [] }) }
+        ensures talked { ⟦<MemTalk as Talk>⟧.talked result ≡ Some (record { sent = []; received = [] }) }
+        ensures ready { ⟦<MemTalk as Talk>⟧.ready result ≡ Some [] }
     {
         MemTalk {
             alloc,
@@ -80,10 +81,18 @@ impl MemTalk {
             turns: 0,
         }
     }
+
+    /// What was sent is answered as FILE's definition says, by what was received and then by what is there to be received. It does nothing
+    /// when it runs.
+    pub fn law_replies(&self)
+        ensures { Answered (⟦<MemTalk as Talk>⟧.talked self.now) (⟦<MemTalk as Talk>⟧.ready self.now) }
+    {}
 }
 
 impl Talk for MemTalk {
     ghost talked = { λ t. Some (record { sent = map (λ v. v.items) t.sent.items; received = take t.received (map (λ v. v.items) t.replies.items) }) };
+
+    ghost ready = { λ t. Some (drop t.received (map (λ v. v.items) t.replies.items)) };
 
     /// It never ends. It counts turns as far as they can be.
     ghost course = { λ t. record { turns = counted t.turns; moment = min (t.turns * 10) max_count; is_over = false; failures = 0 } };

@@ -1,6 +1,6 @@
 //! A talk with a FILE server.
-ghost use Rattle.std.specs.Prelude.{◌≡◌, ◌≤◌, Option, length, IfErr, OnOk};
-ghost use Rattle.chaosd_copy.specs.Talk.{Talked, Course, Turned, after_send, after_receive, taken};
+ghost use Rattle.std.specs.Prelude.{◌≡◌, ◌≤◌, ℕ, List, Option, length, IfErr, OnOk};
+ghost use Rattle.chaosd_copy.specs.Talk.{Talked, Course, More, Next, Turned, after_send, after_receive, taken};
 ghost use Rattle.chaos_file.specs.declared.limits.TheConstants.{MAX_REPLY};
 ghost use Rattle.chaosd_io.specs.declared.fault.RunFault.{RunFault};
 
@@ -11,6 +11,9 @@ use chaosd_io::RunFault;
 pub trait Talk {
     /// The commands that were sent and the replies that were received so far, each in order, where the talk can tell them.
     ghost talked: { Self → Option Talked };
+
+    /// The replies that are there to be received, in order, where the talk can tell them.
+    ghost ready: { Self → Option (List (List ℕ)) };
 
     /// How far it has come: the turns that were made, where the talk counts them, the moment of the last, whether no more replies
     /// come than are there, and the failures that were counted.
@@ -23,12 +26,14 @@ pub trait Talk {
     fn send(&mut self, command: &[u8]) -> bool
         requires { length command.now ≤ MAX_REPLY }
         ensures sent { talked self.new ≡ after_send result command.now (talked self.old) }
+        ensures kept { More (ready self.old) (ready self.new) }
         ensures still { (course self.new).turns ≡ (course self.old).turns }
         ensures unfailed { (course self.new).failures ≡ (course self.old).failures };
 
     /// Leaves the next reply in the caller's place, where it is there, and says so. Where it isn't, no clause says what the place holds.
     fn receive(&mut self, reply: &mut Reply) -> bool
         ensures received { talked self.new ≡ after_receive (taken result reply.new.items) (talked self.old) }
+        ensures next { Next (ready self.old) (taken result reply.new.items) (ready self.new) }
         ensures still { (course self.new).turns ≡ (course self.old).turns }
         ensures unfailed { (course self.new).failures ≡ (course self.old).failures };
 
@@ -38,6 +43,7 @@ pub trait Talk {
     /// `LinkFault` and `ClockFault`.
     fn turn(&mut self) -> Result<(), RunFault>
         ensures silent { talked self.new ≡ talked self.old }
+        ensures kept { More (ready self.old) (ready self.new) }
         ensures unfailed { OnOk result ((course self.new).failures ≤ (course self.old).failures) }
         ensures counted { Turned 1 (course self.old).turns (course self.new).turns }
         ensures faults { IfErr result (failed_by self.new) };

@@ -105,6 +105,8 @@ impl<'a, C: Dial, L: Link> Call<'a, C, L> {
 impl<C: Dial, L: Link> Talk for Call<'_, C, L> {
     ghost talked = { λ _. None };
 
+    ghost ready = { λ _. None };
+
     /// It counts turns as far as they can be.
     ghost course = { λ call. record { turns = counted call.client.count; moment = call.client.now; is_over = is_over call.client.caller.host call.client.caller.id; failures = L.count call.turns.link.now } };
 

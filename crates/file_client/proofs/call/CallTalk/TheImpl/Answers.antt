@@ -1,7 +1,7 @@
-use Rattle.std.proofs.Common.{ap, sym}
+use Rattle.std.proofs.Common.{refl, ap, sym}
 use Rattle.chaosd_copy.specs.Talk.{counted}
 use Rattle.file_client.proofs.call.CallTalk.TheImpl.Goals as goal
 
 pub receive-tells : goal.receive-tells
 receive-tells g c =
-    record { received = sym c.ensures.talk; still = ap counted c.ensures.still; unfailed = c.ensures.unfailed }
+    record { received = sym c.ensures.talk; next = refl; still = ap counted c.ensures.still; unfailed = c.ensures.unfailed }
