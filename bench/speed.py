@@ -108,7 +108,7 @@ LIBRARIES = {
             "1 connection and 254 free slots",
             "turn: turn of 1 connection and 254 free slots",
             1.3,
-            why="A turn walks over the slots five times for three, once into each free slot's session.",
+            why="A turn walks over the slots five times for three.",
         ),
         Row("255 connections", "turn: turn of 255 connections", 1.3, why="A walk goes over 224 bytes of each connection."),
     ],

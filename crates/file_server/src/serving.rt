@@ -30,6 +30,7 @@ fn serve_kept<S: Store>(
         (λ serving acted. DoesKept serving kept.new host.old acted host.new out.old out.new) host.old }
 {
     kept.turn_to(id);
+    kept.may_hold = true;
     let session = &mut *kept.session;
     let served = serve_one(terms.alloc, host, id, session, store, terms.moment, out);
     kept.note(served);

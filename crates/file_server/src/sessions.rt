@@ -1,5 +1,5 @@
 //! A session for each slot of a host.
-ghost use Rattle.std.specs.Prelude.{◌≡◌, ◌<◌, IfOk, length, option_map, replicate, true};
+ghost use Rattle.std.specs.Prelude.{◌≡◌, ◌<◌, [], IfOk, false, length, option_map, replicate, true};
 ghost use Rattle.chaos_host.specs.View.{id_at};
 ghost use Rattle.file_server.specs.Sessions.{Serving, new_serving, serving_at, serving_of, eof_after, without_files};
 ghost use Rattle.file_server.specs.Slots.{given_back, given_back_at};
@@ -17,8 +17,11 @@ pub(crate) struct Kept {
     pub(crate) eof: bool,
     /// How many commands were replied to; no contract sees it.
     commands: u64,
+    /// Whether its session may have files open: it was served since they were given back.
+    pub(crate) may_hold: bool,
     // In memory of its own: a turn walks over all slots, and looks at few of the sessions.
     pub(crate) session: Box<Session, Global>,
+    ghost bare: { may_hold ≡ false → session.value.handles ≡ [] },
 }
 
 impl Model for Kept {
@@ -111,8 +114,9 @@ impl Sessions {
         requires { place < length self.old }
         ensures { self.new ≡ given_back_at (id_at host.now place) place self.old }
     {
-        if host.id_of(place).is_none() {
-            self.kept[place].drop_files();
+        let kept = &mut self.kept[place];
+        if kept.may_hold_files() && host.id_of(place).is_none() {
+            kept.drop_files();
         }
     }
 
@@ -133,6 +137,7 @@ impl Kept {
             id: None,
             eof: false,
             commands: 0,
+            may_hold: false,
             session: Box::new(alloc, Session::new())?,
         })
     }
@@ -156,11 +161,19 @@ impl Kept {
         }
     }
 
+    /// Whether its session may have files open.
+    fn may_hold_files(&self) -> bool
+        ensures { result ≡ false → without_files self.now ≡ self.now }
+    {
+        self.may_hold
+    }
+
     /// Gives its files back.
     fn drop_files(&mut self)
         ensures { self.new ≡ without_files self.old }
     {
         self.session.drop_files();
+        self.may_hold = false;
     }
 
     /// Keeps that an EOF was served, or counts a command.
