@@ -68,3 +68,8 @@ class Span:
         module = path.removeprefix("src/").removesuffix(".rt").removesuffix("/mod")
         owner = f"{function.owner}{function.trait or ''}" if function.owner else ""
         self.folder = "/".join(it for it in ("proofs", "" if module in ("lib", "main") else module, owner, name) if it)
+        # a type's functions have their answers below the type's module, in whichever file they stand
+        crate = function.place[0].parents[path.count("/")]
+        there = [str(it.relative_to(crate)) for it in crate.glob(f"proofs/**/{owner}/{name}")] if owner else []
+        if len(there) == 1:
+            self.folder = there[0]

@@ -1,7 +1,6 @@
 """Sums of what the refusal of a wrong body rests on, kept in docs/wrong-bodies.sums by whoever saw it refused.
 
-A line is a crate, a wrong body of it, and eight hexadecimal digits over what the proof of its crate reads, and its own text. Behind
-them `untried` says that it was refused on earlier sources, and not tried on these; it counts as kept.
+A line is a crate, a wrong body of it, and eight hexadecimal digits over what the proof of its crate reads, and its own text.
 
 A proof reads src/, specs/ and proofs/ of its crate; of the crates below it the definitions, types and constants that these cite, with
 all that they stand on, and the contracts of the public functions that they name. A function of a type counts where
@@ -17,7 +16,6 @@ from sources import Clause, Sources, without_comments
 COMMENT = re.compile(r"--(?=\s|-|$)[^\n]*")
 NAME = re.compile(r"[A-Za-z_][\w']*")
 PARTS = ("src", "specs", "proofs")
-UNTRIED = "untried"
 # stands for the clauses of a function that has none, whose parameters have types all the same
 NO_CLAUSE = Clause("ensures", None, "")
 
@@ -50,9 +48,9 @@ class Sums:
         self.kept = self.read()
 
     def read(self):
-        """By crate and name what stands behind them."""
+        """The sums that are kept, by crate and name."""
         lines = self.file.read_text().split("\n") if self.file.exists() else []
-        return {(crate, name): words for crate, name, *words in (it.split() for it in lines if it)}
+        return {(crate, name): kept for crate, name, kept in (it.split() for it in lines if it)}
 
     def all_below(self, crate):
         """The crates of this repository that a crate stands on."""
@@ -110,14 +108,11 @@ class Sums:
         return sum_of([self.of_crate(crate), *edit.text.split("\n")])
 
     def is_kept(self, crate, edit):
-        return self.kept.get((crate, edit.name), [])[:1] == [self.of(crate, edit)]
-
-    def is_untried(self, crate, edit):
-        return self.kept.get((crate, edit.name), [])[1:] == [UNTRIED]
+        return self.kept.get((crate, edit.name)) == self.of(crate, edit)
 
     def note(self, crate, edits):
         """Notes that these wrong bodies of a crate were refused, and drops the lines of those that are gone."""
-        kept = self.read() | {(crate, it.name): [self.of(crate, it)] for it in edits}
+        kept = self.read() | {(crate, it.name): self.of(crate, it) for it in edits}
         there = lambda crate, name: (self.top / "crates" / crate / "wrong-bodies" / f"{name}.edit").is_file()
-        lines = [f"{' '.join([*key, *words])}\n" for key, words in sorted(kept.items()) if there(*key)]
+        lines = [f"{crate} {name} {kept_sum}\n" for (crate, name), kept_sum in sorted(kept.items()) if there(crate, name)]
         self.file.write_text("".join(lines))

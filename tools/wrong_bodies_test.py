@@ -204,6 +204,10 @@ class Spans(Example):
         self.assertEqual(("src/lib.rt", 9, 14, "proofs/first"), (span.path, span.first, span.last, span.folder))
         self.assertEqual("proofs/QueueLink/second", self.span("two").folder)
 
+    def test_a_types_function_may_stand_in_another_file_than_the_type(self):
+        (self.top / "crates/high/proofs/queue/QueueLink/second").mkdir(parents=True)
+        self.assertEqual("proofs/queue/QueueLink/second", self.span("two").folder)
+
     def test_none_where_others_may_see_what_it_changes(self):
         for name in "silent", "limit", "const":
             self.assertIsNone(self.span(name), name)
@@ -281,15 +285,6 @@ class Refused(Example):
         (self.top / "crates/high/src/lib.rt").write_text(HIGH + "pub fn third() {}\n")
         status, lines, _ = self.tried("--changed")
         self.assertEqual((0, "5 passed, 0 failed"), (status, lines[-1]))
-
-    def test_what_is_marked_untried_is_told_until_it_is_tried(self):
-        self.tried()
-        kept = self.top / "docs/wrong-bodies.sums"
-        kept.write_text("".join(f"{it} untried\n" for it in kept.read_text().split("\n") if it))
-        told = "5 of them were refused when they were written, and not tried since: `make wrong-bodies` tries them"
-        self.assertIn(told, self.tried("--changed")[1])
-        self.tried()
-        self.assertNotIn("untried", kept.read_text())
 
     def test_a_sum_of_what_is_gone_goes(self):
         self.tried()
