@@ -59,8 +59,9 @@ struct Both<'a, A: Link, B: Link> {
 }
 
 impl<A: Link, B: Link> Turns for Both<'_, A, B> {
-    ghost use Rattle.std.specs.Prelude.{◌∷◌, ◌+◌, ◌⊎◌, []};
-    ghost use Rattle.chaos_packet.specs.Count.{Rose};
+    ghost use Rattle.std.specs.Prelude.{◌∷◌, ◌+◌, ◌*◌, ◌⊎◌, [], Some, min};
+    ghost use Rattle.chaos_packet.specs.Count.{Rose, max_count};
+    ghost use Rattle.chaosd_file.specs.declared.limits.TheConstants.{LOOP_TURN};
     ghost use Rattle.chaosd_file.specs.Conversation.{loop_pace};
 
     ghost Time = { Unit {0} };
@@ -68,6 +69,10 @@ impl<A: Link, B: Link> Turns for Both<'_, A, B> {
     ghost time = { λ _. tt };
 
     ghost pace = { λ _. loop_pace };
+
+    ghost stands = { λ turns. Some (min (turns.turns * LOOP_TURN) max_count) };
+
+    ghost later = { λ moment. min (moment + LOOP_TURN) max_count };
 
     ghost stops = { λ _. ⊥ };
 

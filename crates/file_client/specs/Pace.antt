@@ -1,5 +1,5 @@
 -- What a client goes by.
-use Rattle.std.specs.Prelude.{ℕ}
+use Rattle.std.specs.Prelude.{◌≡◌, ℕ, Option, Some, None, Result, Ok}
 use Rattle.chaosd_clock.specs.Clock.{IsMoment, number_of}
 use Rattle.chaosd_clock.specs.declared.clock.Epoch.{Epoch}
 use Rattle.file_client.specs.declared.limits.TheConstants.{OPEN_MILLIS}
@@ -16,3 +16,8 @@ pub record Pace : Type 1 where
 abbrev pub clock_pace : (ℕ → Type 0) → Epoch → Pace
 clock_pace Shows epoch =
     record { Shows = IsMoment Shows epoch; starts = number_of epoch; wait = OPEN_MILLIS }
+
+-- Who counts turns tells the moment that it stands at.
+abbrev pub StoodAt : {E : Type 0} → Option ℕ → Result ℕ E → Type 0
+StoodAt None told = Unit {0}
+StoodAt (Some moment) told = told ≡ Ok moment

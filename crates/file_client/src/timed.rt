@@ -1,5 +1,5 @@
 //! Turns over a link to another process, by a clock.
-ghost use Rattle.std.specs.Prelude.{◌≡◌, IfErr, IfOk};
+ghost use Rattle.std.specs.Prelude.{◌≡◌, IfErr, IfOk, None};
 ghost use Rattle.chaosd_clock.specs.Clock.{BeginsBy};
 
 use crate::limits::OPEN_MILLIS;
@@ -53,6 +53,10 @@ impl<C: Dial, L: Link> Turns for Timed<'_, C, L> {
     ghost time = { λ turns. (turns.clock.now, turns.epoch) };
 
     ghost pace = { λ time. clock_pace (C.shows time.0) time.1 };
+
+    ghost stands = { λ _. None };
+
+    ghost later = { λ moment. moment };
 
     ghost stops = { λ time. C.fails time.0 };
 

@@ -1,9 +1,9 @@
 //! What a client takes turns with.
-ghost use Rattle.std.specs.Prelude.{◌≡◌, ◌≤◌, ℕ, List, [], Err, Option, IfErr, IfOk, OnOk};
+ghost use Rattle.std.specs.Prelude.{◌≡◌, ◌≤◌, ℕ, List, [], Err, Option, IfErr, IfOk, OnOk, option_map};
 ghost use Rattle.std.specs.Borrow.{GName};
 ghost use Rattle.chaos_link.specs.Link.{QueueView};
 ghost use Rattle.file_client.specs.Fault.{IsTurnFault};
-ghost use Rattle.file_client.specs.Pace.{Pace};
+ghost use Rattle.file_client.specs.Pace.{Pace, StoodAt};
 ghost use Rattle.file_client.specs.Turn.{TakesTurn};
 
 use chaos_host::{Host, HostDelivered};
@@ -21,6 +21,12 @@ pub trait Turns: Drop {
 
     /// The moments that it may tell, the numbers that connections begin with, and how long an OPN is waited for.
     ghost pace: { Time → Pace };
+
+    /// The moment that it stands at, where it counts its turns and asks no clock.
+    ghost stands: { Self → Option ℕ };
+
+    /// The moment behind a turn, of one that counts them.
+    ghost later: { ℕ → ℕ };
 
     /// That the moment may be one that can't be told.
     ghost stops: { Time → Type 0 };
@@ -46,6 +52,7 @@ pub trait Turns: Drop {
     /// `ClockFault` where it can't be told.
     fn now(&self) -> Result<u64, RunFault>
         ensures shown { IfOk result (λ now. (pace (time self.now)).Shows now) }
+        ensures stood { StoodAt (stands self.now) result }
         ensures faults { IfErr result (λ fault. (fault ≡ RunFault.ClockFault) × stops (time self.now)) };
 
     /// The number with which a connection that is asked for at this moment begins.
@@ -79,6 +86,7 @@ pub trait Turns: Drop {
         ensures sent { out.new ≡ record { packets = []; cap = out.old.cap } }
         ensures same_links { links self.new ≡ links self.old }
         ensures same_time { time self.new ≡ time self.old }
+        ensures later { stands self.new ≡ option_map later (stands self.old) }
         // It ends well only where no link's count rose.
         ensures well { OnOk result (failures self.new ≤ failures self.old) }
         // A fault of a link is told only where one failed, and failures were counted.
