@@ -1,6 +1,7 @@
 pub mod FirstByte
 pub mod ReadBack
 pub mod TextBytes
+pub mod Writes
 pub mod Interruptions
 pub mod Steps
 pub mod Cutting

@@ -3,4 +3,5 @@ pub mod Escapes
 pub mod Input
 pub mod Texts
 pub mod Lines
+pub mod Output
 pub mod Reader

@@ -1,10 +1,11 @@
 //! Bytes that wait to be written.
-ghost use Rattle.std.specs.Prelude.{◌≡◌, ◌+◌, ◌-◌, ◌≤◌, ◌↔◌, ◌++◌, [], ℕ, List, Some, Ok, length, min, take, drop, IsOk, OnOk, OnErr, IfOk};
+ghost use Rattle.std.specs.Prelude.{◌≡◌, ◌+◌, ◌-◌, ◌^◌, ◌<◌, ◌≤◌, ◌↔◌, ◌++◌, [], ℕ, List, Some, Ok, length, min, drop, IsOk, IsTrue, OnOk, OnErr, IfSome};
 ghost use Rattle.std.specs.Io.{WritesAtMost};
 ghost use Rattle.std.specs.Io.KnownBytes.{Appends, Keeps, WriteAppends};
 ghost use Rattle.chaosd_io.specs.Buffer.{written_of};
 
 use crate::limits::BUFFER_LEN;
+use crate::output::{ByWrite, WriteOnce, write_out};
 use arrayvec::ArrayVec;
 use std::io;
 use std::io::{Error, ErrorKind, Write};
@@ -78,10 +79,24 @@ impl WriteBuffer {
         ensures kept { Keeps (written_of (W.contents writer.old) self.old) (written_of (W.contents writer.new) self.new) }
         ensures empty { OnOk result (self.new ≡ []) }
     {
-        let (count, end) = write_out(writer, self.bytes.as_slice());
+        self.hand_on_by::<ByWrite, W>(writer)
+    }
+
+    /// [`WriteBuffer::hand_on`] to a writer that is written in a way of its own. An interrupted write is made again.
+    ///
+    /// # Errors
+    /// The writer's first fault that is no interruption, or `WriteZero` where it takes nothing, or was interrupted 2^64 - 1
+    /// times in a row. Nothing is lost: what the writer didn't take is still here.
+    pub fn hand_on_by<T: WriteOnce<W>, W>(&mut self, writer: &mut W) -> io::Result<()>
+        ensures kept { Keeps (written_of (T.contents writer.old) self.old) (written_of (T.contents writer.new) self.new) }
+        ensures empty { OnOk result (self.new ≡ []) }
+        ensures flushed { OnOk result (IfSome (T.is_flushed writer.new) IsTrue) }
+        ensures interrupted { IfSome (T.interruptions writer.old) (λ n. n < 2 ^ 64 - 1 → IsOk result) }
+    {
+        let (count, end) = write_out::<T, W>(writer, self.bytes.as_slice());
         remove_front(&mut self.bytes, count);
         end?;
-        writer.flush()
+        T::flush_once(writer)
     }
 }
 
@@ -122,41 +137,6 @@ impl Write for WriteBuffer {
             Err(NotWritten) => Err(Error::from(ErrorKind::WriteZero)),
         }
     }
-}
-
-/// Writes until all is written or a write fails, and says how many bytes were written.
-fn write_out<W: Write>(writer: &mut W, bytes: &[u8]) -> (usize, io::Result<()>)
-    ensures within { result.0 ≤ length bytes.now }
-    ensures all { OnOk result.1 (result.0 ≡ length bytes.now) }
-    ensures written { Appends (W.contents writer.old) (W.contents writer.new) (take result.0 bytes.now) }
-{
-    let mut count = 0;
-    while count < bytes.len() {
-        match write_some(writer, &bytes[count..]) {
-            Ok(more) => count += more,
-            Err(error) => return (count, Err(error)),
-        }
-    }
-    (count, Ok(()))
-}
-
-/// How many of these bytes, at least one, the writer took.
-fn write_some<W: Write>(writer: &mut W, bytes: &[u8]) -> io::Result<usize>
-    ensures some { IfOk result (λ count. (1 ≤ count) × (count ≤ length bytes.now)) }
-    ensures taken { WriteAppends (W.contents writer.old) (W.contents writer.new) result bytes.now }
-{
-    for _ in 0..u64::MAX {
-        match writer.write(bytes) {
-            Ok(0) => break,
-            Ok(count) => return Ok(count),
-            Err(error) => {
-                if error.kind() != ErrorKind::Interrupted {
-                    return Err(error);
-                }
-            }
-        }
-    }
-    Err(Error::from(ErrorKind::WriteZero))
 }
 
 /// Takes that many bytes off the front.

@@ -11,6 +11,7 @@ mod input;
 mod limits;
 mod lines;
 mod memory;
+mod output;
 mod reader;
 mod texts;
 
@@ -20,6 +21,7 @@ pub use fault::{RunFault, written};
 pub use input::{ByRead, ReadOnce, read_chunk};
 pub use limits::{BUFFER_LEN, CHUNK_LEN, INPUT_LIMIT, KEPT_LEN, LINE_LIMIT, law_limits};
 pub use lines::without_return;
-pub use memory::{ByMemory, MemInput};
+pub use memory::{ByMemory, MemInput, MemSink};
+pub use output::{ByWrite, WriteOnce};
 pub use reader::LineReader;
 pub use texts::{put_decimal, put_line, put_octal_three};

@@ -1,7 +1,8 @@
-//! An input in memory.
-ghost use Rattle.std.specs.Prelude.{Some};
+//! An input in memory, and an output that keeps nothing.
+ghost use Rattle.std.specs.Prelude.{None, Some};
 
 use crate::input::ReadOnce;
+use crate::output::WriteOnce;
 use std::io;
 use std::io::{Error, ErrorKind, Read};
 
@@ -27,5 +28,35 @@ impl<'a> ReadOnce<MemInput<'a>> for ByMemory {
             return Err(Error::from(ErrorKind::Interrupted));
         }
         reader.rest.read(chunk)
+    }
+}
+
+/// An output that keeps none of its bytes, whose writes are interrupted so often before it takes some: by it the clauses of
+/// [`WriteOnce`] can be met where interruptions and flushes are known.
+#[derive(Drop)]
+pub struct MemSink {
+    pub interruptions: u64,
+    pub is_flushed: bool,
+}
+
+impl WriteOnce<MemSink> for ByMemory {
+    ghost contents = { λ _. None };
+
+    ghost interruptions = { λ sink. Some sink.interruptions };
+
+    ghost is_flushed = { λ sink. Some sink.is_flushed };
+
+    fn write_once(writer: &mut MemSink, bytes: &[u8]) -> io::Result<usize> {
+        if writer.interruptions > 0 {
+            writer.interruptions -= 1;
+            return Err(Error::from(ErrorKind::Interrupted));
+        }
+        writer.is_flushed = false;
+        Ok(bytes.len())
+    }
+
+    fn flush_once(writer: &mut MemSink) -> io::Result<()> {
+        writer.is_flushed = true;
+        Ok(())
     }
 }

@@ -2,7 +2,8 @@ use Rattle.std.proofs.Common.{◌≤◌, ◌-◌, length-take, ◌++◌, length,
 use lib.Seq.{take-add, take-take}
 use Rattle.std.specs.Io.KnownBytes.{Appends}
 use Rattle.std.proofs.KnownBytes.{Appends-trans}
-use Rattle.chaosd_io.proofs.buffer.write_out.Goals as goal
+use Rattle.chaosd_io.proofs.Writes.{further}
+use Rattle.chaosd_io.proofs.output.write_out.Goals as goal
 
 pub loop-count-preserved : goal.loop-count-preserved
 loop-count-preserved g c =
@@ -18,4 +19,10 @@ loop-count-preserved g c =
       within = omega arith;
       written =
           subst (Appends _ _) joined (Appends-trans _ _ _ _ _ c.loop-count.invariant.written c.in-Ok.ensures.taken);
+      goes_on =
+          further _ _ _ _ _ (λ e is. absurd cc) c.loop-count.invariant.goes_on c.in-Ok.ensures.interrupted;
     }
+
+pub returns-in-Err-clause-interrupted : goal.returns-in-Err-clause-interrupted
+returns-in-Err-clause-interrupted g c =
+    further _ _ _ _ _ (λ e is. cc) c.loop-count.invariant.goes_on c.in-Err.ensures.interrupted
