@@ -1,11 +1,12 @@
 -- Last names, byte by byte, and names that differ.
-use Rattle.std.proofs.Common.{◌≡◌, ◌≢◌, ◌∙◌, ◌+◌, ◌-◌, ◌<◌, ◌≤◌, ◌==◌, ◌&&◌, ◌||◌, ◌++◌, ◌∷◌, ℕ, Bool, List, [], zero, suc, length, take, drop, get_or, map, not, false, refl, if◌then◌else◌, add-one, ap, sym, arith}
+use Rattle.std.proofs.Common.{◌≡◌, ◌≢◌, ◌∙◌, ◌+◌, ◌-◌, ◌<◌, ◌≤◌, ◌==◌, ◌&&◌, ◌||◌, ◌++◌, ◌∷◌, ℕ, Bool, List, [], zero, suc, length, take, drop, get_or, map, not, true, false, refl, Some, Option, unwrap_or, if◌then◌else◌, add-one, ap, sym, arith}
 use Rattle.std.proofs.Math.Seq.{take-suc}
-use Rattle.std.proofs.lemmas.List.{drop_all, drop-append-le, take_rest}
+use Rattle.std.proofs.lemmas.List.{at_drop_more, drop_all, drop-append-le, take_rest}
 use Rattle.std.proofs.lemmas.Grind.{common_steps}
-use Rattle.std.specs.List.{list_any}
+use Rattle.std.specs.List.{find, list_any}
+use Rattle.chaos_file.specs.Names.{is_path}
 use Rattle.clap.specs.Words.{Text}
-use Rattle.chaosd_line.specs.Files.{are_apart, last_from, last_of}
+use Rattle.chaosd_line.specs.Files.{are_apart, first_repeated, has_same_name, last_from, last_of}
 
 last_behind : (name text : Text) (b : ℕ)
     → last_from name (text ++ b ∷ []) ≡ (if b == 47 then [] else last_from name text ++ b ∷ [])
@@ -77,3 +78,31 @@ apart_at same text ts i d test found lt is e =
     let again : list_any (λ u. same (text u) (text (get_or ts i d))) (drop (i + 1) ts) ≡ found =
     ap (λ f. list_any f (drop (i + 1) ts)) (sym is) ∙ sym all in
     apart_step same text ts i d lt ∙ ap (λ b. not b && are_apart same (map text (drop (i + 1) ts))) again
+
+-- the first text whose name a later one has, from this one on
+pub repeated_at : {T : Type 0} (text : T → Text) (ts : List T) (i : ℕ) (d : T) (test : T → Bool) (found : Bool)
+    → i < length ts → test ≡ (λ u. has_same_name (text u) (text (get_or ts i d)))
+    → found ≡ list_any test (take (length ts - (i + 1)) (drop (i + 1) ts))
+    → first_repeated (map text (drop i ts))
+    ≡ (if found then text (get_or ts i d) else first_repeated (map text (drop (i + 1) ts)))
+repeated_at text ts i d test found lt is e =
+    let rest = drop (i + 1) ts in
+    let named = text (get_or ts i d) in
+    let all : found ≡ list_any test rest = e ∙ ap (list_any test) (take_rest ts (i + 1)) in
+    let again : list_any (λ u. has_same_name u named) (map text rest) ≡ found =
+    any_of (λ u. has_same_name u named) text rest ∙ ap (λ f. list_any f rest) (sym is) ∙ sym all in
+    at_drop_more (λ us. first_repeated (map text us)) ts i d lt
+    ∙ ap (λ b. if b then named else first_repeated (map text rest)) again
+
+-- the first text that is no path, from this one on, or else another
+pub bad_at : {T : Type 0} (text : T → Text) (last : Text) (ts : List T) (i : ℕ) (d : T) → i < length ts
+    → unwrap_or (find (λ t. not (is_path t)) (map text (drop i ts))) last
+    ≡ (if is_path (text (get_or ts i d)) then unwrap_or (find (λ t. not (is_path t)) (map text (drop (i + 1) ts))) last else text (get_or ts i d))
+bad_at text last ts i d lt =
+    at_drop_more (λ us. unwrap_or (find (λ t. not (is_path t)) (map text us)) last) ts i d lt
+    ∙ chosen (is_path (text (get_or ts i d))) (text (get_or ts i d)) (find (λ t. not (is_path t)) (map text (drop (i + 1) ts)))
+  where
+    chosen : (b : Bool) (t : Text) (o : Option Text)
+        → unwrap_or (if not b then Some t else o) last ≡ (if b then unwrap_or o last else t)
+    chosen true t o = refl
+    chosen false t o = refl

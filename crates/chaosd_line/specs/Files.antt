@@ -1,6 +1,6 @@
 -- The values of the commands that call a server: `get`, `put`, `delete` and `rename`.
 use Rattle.std.specs.Prelude.{◌≡◌, ◌≢◌, ◌==◌, ◌-◌, ◌&&◌, ◌||◌, ◌++◌, ◌∷◌, ⊤, ℕ, Bool, true, false, not, List, [], Option, None, Some, slice_get, Result, MatchResult, if◌then◌else◌, codes, length, map, option_map, unwrap_or}
-use Rattle.std.specs.List.{list_all, list_any}
+use Rattle.std.specs.List.{find, list_all, list_any}
 use Rattle.std.specs.Option.{IsSomeAnd}
 use Rattle.std.specs.Str.{bytes_eq}
 use Rattle.clap.specs.Words.{Row, Text, all_of, first_of}
@@ -67,6 +67,16 @@ are_distinct texts = are_apart has_same_name texts
 
 abbrev pub are_paths : List Text → Bool
 are_paths texts = list_all is_path texts && are_distinct texts
+
+-- the first text whose last name a later one has
+abbrev pub first_repeated : List Text → Text
+first_repeated [] = []
+first_repeated (t ∷ texts) = if list_any (λ u. has_same_name u t) texts then t else first_repeated texts
+
+-- the word that is reported where words are no paths, each once: the first that is no path, else the first that stands there
+-- again
+abbrev pub bad_path : List Text → Text
+bad_path texts = unwrap_or (find (λ t. not (is_path t)) texts) (first_repeated texts)
 
 -- local files: none is standard input, and no two go under one path
 abbrev pub is_file : Text → Bool

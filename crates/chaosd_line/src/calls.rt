@@ -2,7 +2,7 @@
 ghost use Rattle.std.specs.Prelude.{◌≡◌, codes, false, map, option_map, IfErr, IfOk};
 ghost use Rattle.std.specs.Option.{IsSomeAnd};
 ghost use Rattle.clap.specs.Words.{first_of, found_of, rows_of};
-ghost use Rattle.chaosd_line.specs.Files.{GivesFiles, IfBad, IsCalling, IsDelete, IsDeleteOf, IsPathOf, IsRename, are_paths};
+ghost use Rattle.chaosd_line.specs.Files.{GivesFiles, IfBad, IsCalling, IsDelete, IsDeleteOf, IsPathOf, IsRename, are_paths, bad_path};
 ghost use Rattle.chaosd_line.specs.Values.{IsLogin, IsPeer, IsTimeout, Reads};
 
 use crate::bad_word::{
@@ -117,7 +117,9 @@ pub(crate) fn kept<'a>(alloc: Global, words: &[&'a str]) -> Result<Vec<&'a str>,
 }
 
 /// What is wrong with words of which one is no path, or stands there twice.
-pub(crate) fn bad_paths<'a>(words: &[&'a str]) -> BadWord<'a> {
+pub(crate) fn bad_paths<'a>(words: &[&'a str]) -> BadWord<'a>
+    ensures { result.text.now ≡ bad_path (map (λ t. t.now) words.now) }
+{
     BadWord {
         text: bad_path(words),
         place: "PATH",

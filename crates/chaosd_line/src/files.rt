@@ -3,7 +3,7 @@ ghost use Rattle.std.specs.Prelude.{◌≡◌, map};
 ghost use Rattle.std.specs.List.{list_all, list_any};
 ghost use Rattle.std.specs.Str.{bytes_eq};
 ghost use Rattle.chaos_file.specs.Names.{is_path};
-ghost use Rattle.chaosd_line.specs.Files.{last_of, are_distinct, are_paths};
+ghost use Rattle.chaosd_line.specs.Files.{are_distinct, are_paths, bad_path, first_repeated, last_of};
 
 use crate::names::is_path;
 
@@ -54,7 +54,9 @@ pub(crate) fn are_paths(texts: &[&str]) -> bool
 }
 
 /// The first text whose last name is that of a later one.
-fn repeated<'a>(texts: &[&'a str]) -> &'a str {
+fn repeated<'a>(texts: &[&'a str]) -> &'a str
+    ensures { result.now ≡ first_repeated (map (λ t. t.now) texts.now) }
+{
     for i in 0..texts.len() {
         if is_among(last_name(texts[i].as_bytes()), &texts[i + 1..]) {
             return texts[i];
@@ -64,7 +66,9 @@ fn repeated<'a>(texts: &[&'a str]) -> &'a str {
 }
 
 /// The first text that is no path, else the first that stands there again, to be named in a mistake.
-pub(crate) fn bad_path<'a>(texts: &[&'a str]) -> &'a str {
+pub(crate) fn bad_path<'a>(texts: &[&'a str]) -> &'a str
+    ensures { result.now ≡ bad_path (map (λ t. t.now) texts.now) }
+{
     for i in 0..texts.len() {
         if !is_path(texts[i].as_bytes()) {
             return texts[i];
