@@ -1,6 +1,6 @@
 -- The definition's replies fit into a packet, in a session whose handles hold files of at most the greatest size.
-use Rattle.std.proofs.Common.{◌≡◌, ◌≤◌, ℕ, zero, suc, Bool, true, false, List, [], ◌∷◌, ◌++◌, length, take, drop, ◌+◌, Option, Some, None, Result, Ok, Err, refl, sym, ap, ◌∙◌, subst, arith, length-append}
-use Rattle.std.specs.Prelude.{◌&&◌, ◌==◌, nat_lt, nat_le, if◌then◌else◌, remove, slice_set, position, codes}
+use Rattle.std.proofs.Common.{◌≡◌, ◌≤◌, ℕ, zero, suc, Bool, true, false, List, [], ◌∷◌, ◌++◌, length, take, drop, ◌+◌, Option, Some, None, Result, Ok, Err, refl, sym, subst, arith, length-append}
+use Rattle.std.specs.Prelude.{◌&&◌, nat_lt, nat_le, if◌then◌else◌, slice_set, position, codes}
 use Rattle.std.specs.Fmt.{decimal}
 use Rattle.std.proofs.lemmas.Bool.{ltb-false, leb-true}
 use Rattle.std.proofs.lemmas.List.{length-take}
@@ -13,16 +13,16 @@ use Rattle.chaos_file.specs.Names.{is_name}
 use Rattle.chaos_file.specs.Spelling.{is_legal}
 use Rattle.chaos_file.specs.Command.{CommandView, Login, OpenRead, OpenWrite, Read, Write, Close, Rename, Delete, ParsedView, BadHead, NoWord, Unknown, BadForm, BadPath, Good, word_said, tid_of, handle_of}
 use Rattle.chaos_file.specs.Grammar.{Head, space, cut, is_nil, head_of, parse_of, parse_of_head}
-use Rattle.chaos_file.specs.Answer.{Answer, LoggedIn, Opened, Given, AtEnd, Wrote, Closed, Renamed, Deleted, read_answer, answer_text, outcome_text, reply_front, reply_to}
+use Rattle.chaos_file.specs.Answer.{Answer, Given, AtEnd, Wrote, answer_text, reply_front}
 use Rattle.chaos_file.specs.Session.{HandleView, SessionView, next_bytes, handle_at, handle_with_place, handle_named, is_named}
 use Rattle.chaos_file.specs.Store.{Files, Look, Missing, Over, Found, look_within, look_for, is_there}
-use Rattle.chaos_file.specs.Plan.{Request, GetFile, PutFile, RenameFile, RemoveFile, Plan, Refuse, Tell, Grow, Ask, plan_read, plan_write, plan_close, open_error, plan_unless, plan_command, may_say, if_known, plan_of}
+use Rattle.chaos_file.specs.Plan.{Request, GetFile, PutFile, RenameFile, RemoveFile, Plan, Refuse, Tell, Grow, Ask, plan_read, plan_write, plan_close, open_error, plan_unless, plan_command, may_say, plan_of}
 use Rattle.chaos_file.specs.Step.{Left, outcome_of_look, outcome_of_request, outcome_of, step_of, file_step}
-use Rattle.chaos_file.specs.Replies.{files_after, session_after}
+use Rattle.chaos_file.specs.Replies.{session_after}
 use Rattle.std.specs.FinMap as map
 use Rattle.chaos_file.proofs.Spelling.{both_left, both_right}
 use Rattle.chaos_file.proofs.Reading.{IsHead, head_parts, read_good}
-use Rattle.chaos_file.proofs.NoMemory.{GivesBack, head_gives}
+use Rattle.chaos_file.proofs.NoMemory.{head_gives}
 
 -- ---- the handles
 
@@ -83,7 +83,7 @@ given_fits h =
     let all = length-append (codes "READ") (141 ∷ next_bytes h) in
     omega arith
 
-error_fits : (error : FileError) → length (error_text error) ≤ 470
+pub error_fits : (error : FileError) → length (error_text error) ≤ 470
 error_fits e.Syntax = omega arith
 error_fits e.UnknownCommand = omega arith
 error_fits e.NotLoggedIn = omega arith
@@ -252,7 +252,7 @@ front_by c (Some g) is =
     front_short _ _ (subst (λ t. length t ≤ 8) (sym back.tid) (name_short 1 MAX_TID g.tid i.1))
     (subst (λ t. length t ≤ 8) (sym back.handle) (name_short 0 MAX_HANDLE g.handle i.2))
 
-front_fits : (c : List ℕ) → length (reply_front (tid_of (parse_of c)) (handle_of (parse_of c))) ≤ 18
+pub front_fits : (c : List ℕ) → length (reply_front (tid_of (parse_of c)) (handle_of (parse_of c))) ≤ 18
 front_fits c = front_by c (head_of c) refl
 
 -- ---- a command

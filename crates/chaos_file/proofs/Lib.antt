@@ -6,3 +6,4 @@ pub mod Spelling
 pub mod Reading
 pub mod NoMemory
 pub mod Fitting
+pub mod AllRead

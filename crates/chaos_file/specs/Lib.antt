@@ -6,6 +6,7 @@ pub mod Error
 pub mod Answer
 pub mod FileBytes
 pub mod Store
+pub mod Folder
 pub mod Fuse
 pub mod Entries
 pub mod Session

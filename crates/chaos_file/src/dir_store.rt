@@ -1,19 +1,19 @@
 //! Files in a folder of the system.
-ghost use Rattle.std.specs.Prelude.{◌≡◌, ◌⊎◌, ◌≤◌, true, false, length, None, IfOk};
+ghost use Rattle.std.specs.Prelude.{◌≡◌, ◌≤◌, true, false, length, None, IfOk};
 ghost use Rattle.chaos_packet.specs.Count.{Rose, with_failure};
 ghost use Rattle.chaos_file.specs.Names.{is_path};
 ghost use Rattle.chaos_file.specs.Store.{Gives, failures_after_get, failures_after_put, failures_after_remove, failures_after_rename};
 
+mod answers;
 mod folder;
 
-use crate::file_bytes::FileBytes;
 use crate::names::is_path;
 use crate::store::{Got, Removed, Renamed, Store, Stored};
+use answers::{got_as, removed_as, renamed_as, stored_as};
 use folder::Folder;
 use std::alloc::Global;
 use std::fs::File;
 use std::io;
-use std::io::ErrorKind;
 use std::marker::Model;
 use std::rt::Files;
 
@@ -81,25 +81,6 @@ impl<R: Files> DirStore<R> {
     }
 }
 
-/// What a fault of the system is told as, by its kind. It is kept.
-fn told_as<T: Drop>(
-    fault: io::Error,
-    absent: T,
-    no_memory: T,
-    failed: T,
-    kept: &mut Option<io::Error>,
-) -> T
-    ensures { (result ≡ absent) ⊎ ((result ≡ no_memory) ⊎ (result ≡ failed)) }
-{
-    let kind = fault.kind();
-    *kept = Some(fault);
-    match kind {
-        ErrorKind::NotFound => absent,
-        ErrorKind::OutOfMemory => no_memory,
-        _ => failed,
-    }
-}
-
 impl<R: Files> Folder<R> {
     fn got(&self, alloc: Global, path: &[u8], limit: usize, kept: &mut Option<io::Error>) -> Got
         ensures illegal { is_path path.now ≡ false → result ≡ Got.Failed }
@@ -108,11 +89,7 @@ impl<R: Files> Folder<R> {
         if !is_path(path) {
             return Got::Failed;
         }
-        match self.get(alloc, path, limit) {
-            Ok(Some(bytes)) => Got::Bytes(FileBytes::from_vec(bytes)),
-            Ok(None) => Got::TooBig,
-            Err(fault) => told_as(fault, Got::Absent, Got::NoMemory, Got::Failed, kept),
-        }
+        got_as(self.get(alloc, path, limit), kept)
     }
 
     fn stored(
@@ -127,16 +104,7 @@ impl<R: Files> Folder<R> {
         if !is_path(path) {
             return Stored::Failed;
         }
-        match self.put(alloc, path, bytes) {
-            Ok(()) => Stored::Done,
-            Err(fault) => told_as(
-                fault,
-                Stored::Failed,
-                Stored::NoMemory,
-                Stored::Failed,
-                kept,
-            ),
-        }
+        stored_as(self.put(alloc, path, bytes), kept)
     }
 
     fn removed(&self, alloc: Global, path: &[u8], kept: &mut Option<io::Error>) -> Removed
@@ -145,16 +113,7 @@ impl<R: Files> Folder<R> {
         if !is_path(path) {
             return Removed::Failed;
         }
-        match self.remove(alloc, path) {
-            Ok(()) => Removed::Done,
-            Err(fault) => told_as(
-                fault,
-                Removed::Absent,
-                Removed::NoMemory,
-                Removed::Failed,
-                kept,
-            ),
-        }
+        removed_as(self.remove(alloc, path), kept)
     }
 
     fn renamed(
@@ -170,17 +129,7 @@ impl<R: Files> Folder<R> {
         if !is_path(old) || !is_path(new) {
             return Renamed::Failed;
         }
-        match self.rename(alloc, old, new) {
-            Ok(true) => Renamed::Done,
-            Ok(false) => Renamed::Exists,
-            Err(fault) => told_as(
-                fault,
-                Renamed::Absent,
-                Renamed::NoMemory,
-                Renamed::Failed,
-                kept,
-            ),
-        }
+        renamed_as(self.rename(alloc, old, new), kept)
     }
 }
 

@@ -1,5 +1,5 @@
 //! One folder of the system, and what is done to its files: only legal paths get here.
-ghost use Rattle.std.specs.Prelude.{◌≡◌, ◌≤◌, true, length, IfOk, IfSome};
+ghost use Rattle.std.specs.Prelude.{◌≡◌, ◌<◌, ◌≤◌, None, true, length, IfOk, IfSome};
 ghost use Rattle.chaos_file.specs.Names.{is_path};
 
 use crate::whole::write_whole;
@@ -45,7 +45,11 @@ fn require_folder(info: &Metadata) -> io::Result<()> {
 
 /// Reads what a file has, or None where that is more than the limit: one byte more than it is read at most.
 fn read_within<F: Read + Drop>(alloc: Global, file: F, limit: usize) -> io::Result<Option<Vec<u8>>>
-    ensures { IfOk result (λ o. IfSome o (λ v. length v.items ≤ limit)) }
+    ensures fits { IfOk result (λ o. IfSome o (λ v. length v.items ≤ limit)) }
+    // What is answered is all that the file has.
+    ensures whole { IfOk result (λ o. IfSome o (λ v. IfSome (F.remaining file) (λ all. v.items ≡ all))) }
+    // It has more than the limit only where it has.
+    ensures much { IfOk result (λ o. o ≡ None → IfSome (F.remaining file) (λ all. limit < length all)) }
 {
     let mut bytes = Vec::new(alloc);
     file.take((limit as u64).saturating_add(1))
