@@ -1,3 +1,4 @@
+pub mod Asked
 pub mod Built
 pub mod Bundled
 pub mod Canon

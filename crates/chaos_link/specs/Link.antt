@@ -1,5 +1,5 @@
 -- What the calls of a link do.
-use Rattle.std.specs.Prelude.{◌≡◌, ◌≤◌, ◌++◌, ◌∷◌, [], ℕ, List, Option, Some, length, drop, if◌then◌else◌, nat_lt}
+use Rattle.std.specs.Prelude.{◌≡◌, ◌≤◌, ◌++◌, ◌∷◌, [], ℕ, Bool, List, Option, Some, length, map, drop, if◌then◌else◌, nat_lt}
 use Rattle.chaos_link.specs.declared.link.Sent.{Sent}
 use Rattle.chaos_link.specs.declared.link.Sent.TheVariants as sending
 use Rattle.chaos_link.specs.declared.link.Received.{Received}
@@ -10,9 +10,29 @@ pub record Addressed : Type 0 where
   pub to : ℕ
   pub bytes : List ℕ
 
--- The link was asked to send these datagrams more, each to its address, and nothing else, whatever it answered.
-abbrev pub AsksMore : List Addressed → Option (List Addressed) → List Addressed → Type 0
-AsksMore datagrams after before = after ≡ Some (before ++ datagrams)
+-- ---- What is asked
+
+-- what a link is asked: to send a datagram, or to receive one, for which it may wait or not
+pub data Ask : Type 0 where
+  Send : (datagram : Addressed) → Ask
+  Receive : (may_wait : Bool) → Ask
+
+-- the asks that send these datagrams, in order
+abbrev pub to_send : List Addressed → List Ask
+to_send datagrams = map Send datagrams
+
+-- for each earlier state: what may have been asked since that state
+abbrev pub AskedSince : Type 0 → Type 0 → Type 1
+AskedSince S A = S → List A → Type 0
+
+-- Between the old state and the new state exactly this was asked, in this order, whatever the answers were: the list of what was
+-- asked since any earlier state grows by exactly this.
+pub record Asks {S A : Type 0} (old new : AskedSince S A) (more : List A) : Type 0 where
+  pub goes : (first : S) (before : List A) → old first before → new first (before ++ more)
+
+-- A link or a socket that claims nothing may have been asked anything.
+abbrev pub AnyAsks : {S A : Type 0} → S → S → List A → Type 0
+AnyAsks now start asks = Unit {0}
 
 -- ---- A queue
 

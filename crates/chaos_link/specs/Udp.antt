@@ -1,5 +1,5 @@
 -- What contracts see of a link over a socket.
-use Rattle.std.specs.Prelude.{◌≡◌, ◌++◌, ◌∷◌, [], ℕ, Bool, List, Option, Some, None}
+use Rattle.std.specs.Prelude.{◌≡◌, ◌++◌, ◌∷◌, [], ℕ, ◌*◌, Bool, true, false, List, Option, Some, None}
 use Rattle.std.specs.declared.net.socket_addr.SocketAddrV4.{SocketAddrV4}
 use Rattle.chaos_packet.specs.Count.{with_failure}
 use Rattle.chaos_link.specs.declared.link.Sent.{Sent}
@@ -7,22 +7,53 @@ use Rattle.chaos_link.specs.declared.link.Sent.TheVariants as sending
 use Rattle.chaos_link.specs.declared.link.Received.{Received}
 use Rattle.chaos_link.specs.declared.link.Received.TheVariants as receiving
 use Rattle.chaos_link.specs.declared.peers.Peer.{Peer}
+use Rattle.std.specs.declared.io.ErrorKind.{ErrorKind}
+use Rattle.std.specs.declared.io.ErrorKind.TheVariants as kind
+use Rattle.chaos_link.specs.declared.limits.TheConstants.{MAX_WAIT}
+use Rattle.chaos_link.specs.Link.{Ask, Send, Receive}
+use Rattle.chaos_link.specs.Peers.{socket_of}
 
 -- ---- The socket
 
--- what a socket is asked to send, and the UDP address that it is to go to
-pub record Asked : Type 0 where
+-- the bytes of a datagram, and the UDP address that they are to go to
+pub record Outgoing : Type 0 where
   pub to : SocketAddrV4
   pub bytes : List ℕ
 
--- It was asked this once more, and nothing else.
-abbrev pub WasAsked : SocketAddrV4 → List ℕ → Option (List Asked) → List Asked → Type 0
-WasAsked to bytes after before = after ≡ Some (before ++ record { to = to; bytes = bytes } ∷ [])
+-- what a socket is asked: to send a datagram; to receive one; to wait for at most so many nanoseconds if it waits; and to
+-- wait, or to poll
+pub data SocketAsk : Type 0 where
+  SendTo : (datagram : Outgoing) → SocketAsk
+  ReceiveOne : SocketAsk
+  WaitAtMost : (nanos : ℕ) → SocketAsk
+  Wait : (waits : Bool) → SocketAsk
 
--- It was asked that of the peer's socket, where there is one, and else nothing.
-abbrev pub WasAskedOf : Option SocketAddrV4 → List ℕ → Option (List Asked) → List Asked → Type 0
-WasAskedOf (Some to) bytes after before = WasAsked to bytes after before
-WasAskedOf None bytes after before = after ≡ Some before
+-- the datagrams that it is asked to send
+abbrev pub datagrams_in : List SocketAsk → List Outgoing
+datagrams_in [] = []
+datagrams_in (SendTo datagram ∷ asks) = datagram ∷ datagrams_in asks
+datagrams_in (_ ∷ asks) = datagrams_in asks
+
+-- ---- What the system says of a call
+
+-- Nothing came or went: there was nothing or no room yet, a signal came, or a socket that was sent to before is gone.
+abbrev pub means_nothing : ErrorKind → Bool
+means_nothing kind.WouldBlock = true
+means_nothing kind.TimedOut = true
+means_nothing kind.Interrupted = true
+means_nothing kind.ConnectionRefused = true
+means_nothing _ = false
+
+-- The datagram is lost: its address can't be reached or isn't allowed, there was no room for it, or nothing went.
+abbrev pub means_loss : ErrorKind → Bool
+means_loss kind.HostUnreachable = true
+means_loss kind.NetworkUnreachable = true
+means_loss kind.NetworkDown = true
+means_loss kind.AddrNotAvailable = true
+means_loss kind.PermissionDenied = true
+means_loss kind.InvalidInput = true
+means_loss kind.OutOfMemory = true
+means_loss other = means_nothing other
 
 -- ---- The link
 
@@ -38,6 +69,34 @@ module _ {S : Type 0} where
   abbrev pub after_send : Sent → S → UdpView S → UdpView S
   after_send sending.Failed socket link = record link { socket = socket; failures = with_failure link.failures }
   after_send _ socket link = record link { socket = socket }
+
+-- the bytes for a peer go to the peer's UDP address; if there is no such peer, nothing goes out
+abbrev pub outgoing_to : Option SocketAddrV4 → List ℕ → List Outgoing
+outgoing_to None bytes = []
+outgoing_to (Some to) bytes = record { to = to; bytes = bytes } ∷ []
+
+-- what goes out if a link with these peers is asked this: each datagram goes to the UDP address of its peer
+abbrev pub outgoing_of : List Peer → List Ask → List Outgoing
+outgoing_of peers [] = []
+outgoing_of peers (Send datagram ∷ asks) =
+    outgoing_to (socket_of datagram.to peers) datagram.bytes ++ outgoing_of peers asks
+outgoing_of peers (Receive may_wait ∷ asks) = outgoing_of peers asks
+
+module _ {S : Type 0} (asked : S → S → List SocketAsk → Type 0) where
+  -- The link has the same peers, and its socket was asked to send exactly what the link was asked to send to these peers.
+  pub record AsksSocket (now start : UdpView S) (asks : List Ask) : Type 0 where
+    pub peers : now.peers ≡ start.peers
+    pub socket_asks : List SocketAsk
+    pub socket_asked : asked now.socket start.socket socket_asks
+    pub outgoing : datagrams_in socket_asks ≡ outgoing_of start.peers asks
+
+-- what a receive asks of the socket before it asks for a datagram: to wait for at most 10 milliseconds, if no receive has set
+-- that; and to wait or to poll, if the last receive set the socket otherwise
+abbrev pub setting : Option Bool → Bool → List SocketAsk
+setting None may_wait = WaitAtMost (MAX_WAIT * 1_000_000) ∷ Wait may_wait ∷ []
+setting (Some true) true = []
+setting (Some false) false = []
+setting (Some _) may_wait = Wait may_wait ∷ []
 
 -- the failures after a receive with this answer
 abbrev pub failures_after : Received → ℕ → ℕ

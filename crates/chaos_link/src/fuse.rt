@@ -1,8 +1,8 @@
 //! A link that fails once.
-ghost use Rattle.std.specs.Prelude.{◌≡◌, ◌≢◌, ◌==◌, ◌≤◌, ◌∷◌, [], IfSome, length, if◌then◌else◌};
+ghost use Rattle.std.specs.Prelude.{◌≡◌, ◌≢◌, ◌==◌, ◌≤◌, ◌∷◌, [], IfSome, length, if◌then◌else◌, refl};
 ghost use Rattle.chaos_packet.specs.Count.{Rose};
-ghost use Rattle.chaos_link.specs.Link.{AsksMore, SendsInto, ReceivesFrom, IsWithin};
-ghost use Rattle.chaos_link.specs.Fuse.{new_fuse, count_with, queue_with, after_blow, after_pass};
+ghost use Rattle.chaos_link.specs.Link.{Asks, Send, Receive, SendsInto, ReceivesFrom, IsWithin};
+ghost use Rattle.chaos_link.specs.Fuse.{new_fuse, asked_behind, count_with, queue_with, after_blow, after_pass};
 
 use crate::limits::LINK_ROOM;
 use crate::link::{Link, Received, Sent};
@@ -62,18 +62,23 @@ impl<L: Link> Link for FuseLink<L> {
 
     ghost queue = { queue_with L.queue };
 
+    ghost asked = { asked_behind L.asked };
+
+    ghost began = { λ fuse. (L.began fuse.inner, refl) };
+
     fn send(&mut self, to_address: u16, bytes: &[u8]) -> Sent
         requires { length bytes.now ≤ LINK_ROOM }
         ensures failed { result ≡ Sent.Failed → Rose (count_with L.count self.old) (count_with L.count self.new) }
         ensures uncounted { result ≢ Sent.Failed → count_with L.count self.new ≡ count_with L.count self.old }
         ensures queued { IfSome (queue_with L.queue self.old) (SendsInto to_address bytes.now result (queue_with L.queue self.new)) }
+        ensures asked { Asks (asked_behind L.asked self.old) (asked_behind L.asked self.new) (Send (record { to = to_address; bytes = bytes.now }) ∷ []) }
         // The call that fails doesn't reach the link, and is counted.
         ensures blown { self.old.calls_left ≡ 1 → (result ≡ Sent.Failed) × (self.new ≡ after_blow self.old) }
         // Every other call is the link's: it fails only where the link's count rose, and over a queue is the queue's.
         ensures passed { self.old.calls_left ≢ 1 → self.new ≡ after_pass self.new.inner self.old }
         ensures passed_failed { self.old.calls_left ≢ 1 → result ≡ Sent.Failed → Rose (L.count self.old.inner) (L.count self.new.inner) }
         ensures passed_queued { self.old.calls_left ≢ 1 → IfSome (L.queue self.old.inner) (SendsInto to_address bytes.now result (L.queue self.new.inner)) }
-        ensures passed_asked { self.old.calls_left ≢ 1 → IfSome (L.asked self.old.inner) (AsksMore (record { to = to_address; bytes = bytes.now } ∷ []) (L.asked self.new.inner)) }
+        ensures passed_asked { self.old.calls_left ≢ 1 → Asks (L.asked self.old.inner) (L.asked self.new.inner) (Send (record { to = to_address; bytes = bytes.now }) ∷ []) }
     {
         if self.blows() {
             return Sent::Failed;
@@ -86,12 +91,13 @@ impl<L: Link> Link for FuseLink<L> {
         ensures within { IsWithin LINK_ROOM result }
         ensures uncounted { result ≢ Received.Failed → count_with L.count self.new ≡ count_with L.count self.old }
         ensures queued { IfSome (queue_with L.queue self.old) (ReceivesFrom buffer.old buffer.new result (queue_with L.queue self.new)) }
+        ensures asked { Asks (asked_behind L.asked self.old) (asked_behind L.asked self.new) (Receive may_wait ∷ []) }
         // As of a send; the buffer stays as it was.
         ensures blown { self.old.calls_left ≡ 1 → (result ≡ Received.Failed) × (self.new ≡ after_blow self.old) × (buffer.new ≡ buffer.old) }
         ensures passed { self.old.calls_left ≢ 1 → self.new ≡ after_pass self.new.inner self.old }
         ensures passed_failed { self.old.calls_left ≢ 1 → result ≡ Received.Failed → Rose (L.count self.old.inner) (L.count self.new.inner) }
         ensures passed_queued { self.old.calls_left ≢ 1 → IfSome (L.queue self.old.inner) (ReceivesFrom buffer.old buffer.new result (L.queue self.new.inner)) }
-        ensures passed_asked { self.old.calls_left ≢ 1 → L.asked self.new.inner ≡ L.asked self.old.inner }
+        ensures passed_asked { self.old.calls_left ≢ 1 → Asks (L.asked self.old.inner) (L.asked self.new.inner) (Receive may_wait ∷ []) }
     {
         if self.blows() {
             return Received::Failed;

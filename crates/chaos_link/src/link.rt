@@ -1,7 +1,7 @@
 //! What carries datagrams between hosts.
-ghost use Rattle.std.specs.Prelude.{◌≡◌, ◌≢◌, ◌≤◌, ◌∷◌, [], ℕ, List, Option, None, IfSome, length};
+ghost use Rattle.std.specs.Prelude.{◌≡◌, ◌≢◌, ◌≤◌, ◌∷◌, [], ℕ, List, Option, IfSome, length};
 ghost use Rattle.chaos_packet.specs.Count.{Rose};
-ghost use Rattle.chaos_link.specs.Link.{Addressed, AsksMore, QueueView, SendsInto, ReceivesFrom, IsWithin};
+ghost use Rattle.chaos_link.specs.Link.{Addressed, Ask, Asks, Send, Receive, QueueView, SendsInto, ReceivesFrom, IsWithin};
 
 use crate::limits::LINK_ROOM;
 
@@ -36,8 +36,12 @@ pub trait Link {
     /// claims nothing.
     ghost queue: { Self → Option QueueView };
 
-    /// All that it was asked to send so far, in order, whatever it answered. `None` for one that doesn't tell it.
-    ghost asked: { Self → Option (List Addressed) } = { λ _. None };
+    /// What the link may have been asked between an earlier state and this state, in order, whatever the link answered. The later
+    /// state stands first. A link that claims nothing allows any list.
+    ghost asked: { Self → Self → List Ask → Type 0 };
+
+    /// Nothing was asked since the present state.
+    ghost began: { (link : Self) → asked link link [] };
 
     /// Sends a datagram of at most [`LINK_ROOM`] bytes to the host with this Chaosnet address.
     fn send(&mut self, to_address: u16, bytes: &[u8]) -> Sent
@@ -47,7 +51,8 @@ pub trait Link {
         ensures uncounted { result ≢ Sent.Failed → count self.new ≡ count self.old }
         // It goes to this address, and to no other.
         ensures queued { IfSome (queue self.old) (SendsInto to_address bytes.now result (queue self.new)) }
-        ensures asked { IfSome (asked self.old) (AsksMore (record { to = to_address; bytes = bytes.now } ∷ []) (asked self.new)) };
+        // The link was asked to send this datagram once, and nothing else.
+        ensures asked { Asks (asked self.old) (asked self.new) (Send (record { to = to_address; bytes = bytes.now }) ∷ []) };
 
     /// Receives at most one datagram into the front of the buffer. Where none is there it may wait for one, for as long as
     /// the link says, where `may_wait` allows it; else it tells at once that none is.
@@ -57,8 +62,8 @@ pub trait Link {
         ensures uncounted { result ≢ Received.Failed → count self.new ≡ count self.old }
         ensures within { IsWithin LINK_ROOM result }
         ensures queued { IfSome (queue self.old) (ReceivesFrom buffer.old buffer.new result (queue self.new)) }
-        // It is asked to send nothing.
-        ensures asked { asked self.new ≡ asked self.old };
+        // The link was asked to receive once, and nothing else.
+        ensures asked { Asks (asked self.old) (asked self.new) (Receive may_wait ∷ []) };
 
     /// How many calls failed so far. The greatest `u64` stands for that many and more.
     fn failures(&self) -> u64

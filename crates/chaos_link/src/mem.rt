@@ -1,5 +1,6 @@
 //! A link in memory.
 ghost use Rattle.std.specs.Prelude.{◌≡◌, ◌≤◌, length, Some, IfOk, []};
+ghost use Rattle.chaos_link.specs.Link.{AnyAsks};
 
 use crate::limits::LINK_ROOM;
 use crate::link::{Link, Received, Sent};
@@ -68,6 +69,10 @@ impl Link for MemLink {
     ghost count = { λ _. 0 };
 
     ghost queue = { λ link. Some link };
+
+    ghost asked = { AnyAsks };
+
+    ghost began = { λ _. tt };
 
     /// Puts the datagram behind those that wait. One that finds the queue full is lost, and answered as sent.
     fn send(&mut self, to_address: u16, bytes: &[u8]) -> Sent {

@@ -1,7 +1,7 @@
 //! Two links in memory that hear each other.
-ghost use Rattle.std.specs.Prelude.{◌≡◌, ◌≤◌, length, None, IfOk, []};
+ghost use Rattle.std.specs.Prelude.{◌≡◌, ◌≤◌, length, None, IfOk, [], ◌∷◌};
 ghost use Rattle.chaos_packet.specs.Count.{Rose};
-ghost use Rattle.chaos_link.specs.Link.{IsWithin};
+ghost use Rattle.chaos_link.specs.Link.{AnyAsks, Asks, IsWithin, Receive, Send};
 ghost use Rattle.chaos_link.specs.Pair.{SendsAcross, HearsOther};
 
 use crate::limits::LINK_ROOM;
@@ -101,12 +101,17 @@ impl Link for PairEnd<'_> {
     // What is sent isn't what is received, so that an end is no queue.
     ghost queue = { λ _. None };
 
+    ghost asked = { AnyAsks };
+
+    ghost began = { λ _. tt };
+
     /// Puts the datagram behind those that wait for the other end. One that finds the queue full is lost, and answered as
     /// sent.
     fn send(&mut self, to_address: u16, bytes: &[u8]) -> Sent
         requires { length bytes.now ≤ LINK_ROOM }
         ensures failed { result ≡ Sent.Failed → Rose 0 0 }
         ensures queued { Unit {0} }
+        ensures asked { Asks (AnyAsks self.old) (AnyAsks self.new) (Send (record { to = to_address; bytes = bytes.now }) ∷ []) }
         ensures across { SendsAcross self.old.side to_address bytes.now result self.old.pair.now self.new.pair.now }
         // It is an end of the same pair still.
         ensures pair { self.new.pair.ghost_name ≡ self.old.pair.ghost_name }
@@ -120,6 +125,7 @@ impl Link for PairEnd<'_> {
         ensures failed { result ≡ Received.Failed → Rose 0 0 }
         ensures within { IsWithin LINK_ROOM result }
         ensures queued { Unit {0} }
+        ensures asked { Asks (AnyAsks self.old) (AnyAsks self.new) (Receive may_wait ∷ []) }
         ensures heard { HearsOther self.old.side buffer.old buffer.new result self.old.pair.now self.new.pair.now }
         ensures pair { self.new.pair.ghost_name ≡ self.old.pair.ghost_name }
         ensures side { self.new.side ≡ self.old.side }

@@ -1,25 +1,31 @@
 //! What a link asks of a socket.
-ghost use Rattle.std.specs.Prelude.{◌≡◌, ◌≤◌, List, Option, None, IfSome, IfOk};
-ghost use Rattle.chaos_link.specs.Udp.{Asked, WasAsked};
+ghost use Rattle.std.specs.Prelude.{◌≤◌, [], ◌∷◌, List, IfOk};
+ghost use Rattle.std.specs.Duration.{as_nanos};
+ghost use Rattle.chaos_link.specs.Link.{AnyAsks, Asks};
+ghost use Rattle.chaos_link.specs.Udp.{SocketAsk, SendTo, ReceiveOne, WaitAtMost, Wait};
 
 use crate::limits::LINK_ROOM;
 use std::io;
 use std::net::{SocketAddr, SocketAddrV4, UdpSocket};
 use std::time::Duration;
 
-/// A socket by which datagrams leave and come: the system's, or one that tells what it was asked to send.
+/// A socket by which datagrams leave and come: the system's, or one that tells what it was asked.
 ///
 /// So a contract over every socket says where a datagram goes, which none says of the system's alone.
 pub trait DatagramSocket {
-    /// What it was asked to send so far, in order. `None` for one that doesn't tell it, as the system's.
-    ghost asked: { Self → Option (List Asked) };
+    /// What the socket may have been asked between an earlier state and this state, in order, whatever the socket answered. The
+    /// later state stands first. A socket that claims nothing, as the system's, allows any list.
+    ghost asked: { Self → Self → List SocketAsk → Type 0 };
+
+    /// Nothing was asked since the present state.
+    ghost began: { (socket : Self) → asked socket socket [] };
 
     /// Sends a datagram to this UDP address.
     ///
     /// # Errors
     /// The socket's. It was asked all the same.
     fn send_datagram(&mut self, bytes: &[u8], to: SocketAddrV4) -> io::Result<()>
-        ensures { IfSome (asked self.old) (WasAsked to bytes.now (asked self.new)) };
+        ensures { Asks (asked self.old) (asked self.new) (SendTo (record { to = to; bytes = bytes.now }) ∷ []) };
 
     /// Receives a datagram into the front of the buffer, and says how many bytes it has there.
     ///
@@ -27,25 +33,27 @@ pub trait DatagramSocket {
     /// The socket's, also where nothing came.
     fn receive_datagram(&mut self, buffer: &mut [u8; LINK_ROOM]) -> io::Result<usize>
         ensures within { IfOk result (λ count. count ≤ LINK_ROOM) }
-        ensures asked { asked self.new ≡ asked self.old };
+        ensures asked { Asks (asked self.old) (asked self.new) (ReceiveOne ∷ []) };
 
     /// How long a send or a receive waits at most, where they wait.
     ///
     /// # Errors
     /// The socket's.
     fn set_wait(&mut self, wait: Duration) -> io::Result<()>
-        ensures { asked self.new ≡ asked self.old };
+        ensures { Asks (asked self.old) (asked self.new) (WaitAtMost (as_nanos wait) ∷ []) };
 
     /// Whether they wait.
     ///
     /// # Errors
     /// The socket's.
     fn set_waits(&mut self, waits: bool) -> io::Result<()>
-        ensures { asked self.new ≡ asked self.old };
+        ensures { Asks (asked self.old) (asked self.new) (Wait waits ∷ []) };
 }
 
 impl DatagramSocket for UdpSocket {
-    ghost asked = { λ _. None };
+    ghost asked = { AnyAsks };
+
+    ghost began = { λ _. tt };
 
     fn send_datagram(&mut self, bytes: &[u8], to: SocketAddrV4) -> io::Result<()> {
         let _count = self.send_to(bytes, SocketAddr::V4(to))?;

@@ -1,9 +1,10 @@
 //! A link over a UDP socket.
-ghost use Rattle.std.specs.Prelude.{◌≡◌, ◌≢◌, ◌↔◌, ◌≤◌, length, Some, None, IfSome, OnOk, OnErr};
+ghost use Rattle.std.specs.Prelude.{◌≡◌, ◌≢◌, ◌↔◌, ◌≤◌, ◌++◌, ◌∷◌, [], List, length, map, Some, None, IfErr, OnOk, OnErr, false, refl};
+ghost use Rattle.std.specs.IoError.{error_kind};
 ghost use Rattle.chaos_packet.specs.Count.{Rose, with_failure};
-ghost use Rattle.chaos_link.specs.Link.{IsWithin};
+ghost use Rattle.chaos_link.specs.Link.{Asks, IsWithin, Receive, Send};
 ghost use Rattle.chaos_link.specs.Peers.{socket_of};
-ghost use Rattle.chaos_link.specs.Udp.{WasAsked, WasAskedOf, after_send, failures_after};
+ghost use Rattle.chaos_link.specs.Udp.{AsksSocket, ReceiveOne, SendTo, SocketAsk, after_send, datagrams_in, failures_after, means_loss, means_nothing, outgoing_to, setting};
 
 use crate::limits::{LINK_ROOM, MAX_WAIT};
 use crate::link::{Link, Received, Sent};
@@ -16,7 +17,7 @@ use std::net::{SocketAddrV4, UdpSocket};
 use std::time::Duration;
 
 /// A link over a UDP socket: datagrams go to the sockets of its peers, and come from anybody. A contract sees the socket,
-/// the peers, the failures and whether the last receive waited; it says what the socket is asked to send, and nothing of
+/// the peers, the failures and whether the last receive waited; it says what the socket is asked, and nothing of
 /// what the system makes of that.
 ///
 /// A receive that may wait does so for at most 10 milliseconds (the system may round that up), where no datagram is there;
@@ -61,6 +62,10 @@ impl<S: DatagramSocket> Link for UdpLink<S> {
 
     ghost queue = { λ _. None };
 
+    ghost asked = { AsksSocket S.asked };
+
+    ghost began = { λ link. record { peers = refl; socket_asks = []; socket_asked = S.began link.socket; outgoing = refl } };
+
     /// Sends a datagram to the socket of the peer with this address. What the system can't or mustn't send there is lost,
     /// and answered as sent.
     fn send(&mut self, to_address: u16, bytes: &[u8]) -> Sent
@@ -71,7 +76,8 @@ impl<S: DatagramSocket> Link for UdpLink<S> {
         // An address is unknown exactly where no peer has it.
         ensures unknown { (result ≡ Sent.Unknown) ↔ (socket_of to_address self.old.peers ≡ None) }
         // The socket is asked once to send these bytes, to the UDP address of that peer; of no peer, it is asked nothing.
-        ensures asked { IfSome (S.asked self.old.socket) (WasAskedOf (socket_of to_address self.old.peers) bytes.now (S.asked self.new.socket)) }
+        ensures socket { Asks (S.asked self.old.socket) (S.asked self.new.socket) (map SendTo (outgoing_to (socket_of to_address self.old.peers) bytes.now)) }
+        ensures asked { Asks (AsksSocket S.asked self.old) (AsksSocket S.asked self.new) (Send (record { to = to_address; bytes = bytes.now }) ∷ []) }
         // A failure is counted; nothing else changes.
         ensures link { self.new ≡ after_send result self.new.socket self.old }
     {
@@ -94,12 +100,13 @@ impl<S: DatagramSocket> Link for UdpLink<S> {
         ensures uncounted { result ≢ Received.Failed → self.new.failures ≡ self.old.failures }
         ensures within { IsWithin LINK_ROOM result }
         ensures queued { Unit {0} }
-        ensures asked { S.asked self.new.socket ≡ S.asked self.old.socket }
+        ensures asked { Asks (AsksSocket S.asked self.old) (AsksSocket S.asked self.new) (Receive may_wait ∷ []) }
         ensures peers { self.new.peers ≡ self.old.peers }
         // A failure is counted, and nothing else is.
         ensures counted { self.new.failures ≡ failures_after result self.old.failures }
-        // It waits exactly where it may.
+        // The receive waits exactly if it may: the socket is set so, if it was set otherwise, and then asked for one datagram.
         ensures waits { result ≢ Received.Failed → self.new.waits ≡ Some may_wait }
+        ensures socket { result ≢ Received.Failed → Asks (S.asked self.old.socket) (S.asked self.new.socket) (setting self.old.waits may_wait ++ ReceiveOne ∷ []) }
     {
         let received = match set_wait(&mut self.socket, &mut self.waits, may_wait) {
             Ok(()) => receive_from(&mut self.socket, buffer),
@@ -125,7 +132,9 @@ fn count_failure(failures: &mut u64)
 
 /// Sends a datagram, which may be lost at once.
 fn send_to<S: DatagramSocket>(socket: &mut S, bytes: &[u8], peer: SocketAddrV4) -> io::Result<()>
-    ensures { IfSome (S.asked socket.old) (WasAsked peer bytes.now (S.asked socket.new)) }
+    ensures asked { Asks (S.asked socket.old) (S.asked socket.new) (SendTo (record { to = peer; bytes = bytes.now }) ∷ []) }
+    // A fault is more than the loss of the datagram.
+    ensures fault { IfErr result (λ fault. means_loss (error_kind fault) ≡ false) }
 {
     match socket.send_datagram(bytes, peer) {
         Ok(()) => Ok(()),
@@ -137,7 +146,9 @@ fn send_to<S: DatagramSocket>(socket: &mut S, bytes: &[u8], peer: SocketAddrV4) 
 /// Whether the system says of a send no more than that its datagram is lost: it can't reach the address or doesn't allow it,
 /// it had no room, or what [`is_nothing`] says. An address that can't be reached from where the socket is bound, as another
 /// network from a socket of this machine alone, is told as an argument that isn't valid, and so is port 0.
-fn is_loss(kind: ErrorKind) -> bool {
+fn is_loss(kind: ErrorKind) -> bool
+    ensures { result ≡ means_loss kind }
+{
     match kind {
         ErrorKind::HostUnreachable
         | ErrorKind::NetworkUnreachable
@@ -153,7 +164,7 @@ fn is_loss(kind: ErrorKind) -> bool {
 /// Receives a datagram, or nothing where none came in time.
 fn receive_from<S: DatagramSocket>(socket: &mut S, buffer: &mut [u8; LINK_ROOM]) -> Received
     ensures within { IsWithin LINK_ROOM result }
-    ensures asked { S.asked socket.new ≡ S.asked socket.old }
+    ensures asked { Asks (S.asked socket.old) (S.asked socket.new) (ReceiveOne ∷ []) }
 {
     match socket.receive_datagram(buffer) {
         Ok(count) => Received::Got(count),
@@ -164,7 +175,9 @@ fn receive_from<S: DatagramSocket>(socket: &mut S, buffer: &mut [u8; LINK_ROOM])
 
 /// Whether the system says no more than that nothing came or went: it had nothing or no room yet, a signal came, or a
 /// socket that was sent to before is gone.
-fn is_nothing(kind: ErrorKind) -> bool {
+fn is_nothing(kind: ErrorKind) -> bool
+    ensures { result ≡ means_nothing kind }
+{
     match kind {
         ErrorKind::WouldBlock
         | ErrorKind::TimedOut
@@ -180,9 +193,11 @@ fn set_wait<S: DatagramSocket>(
     set: &mut Option<bool>,
     waits: bool,
 ) -> io::Result<()>
-    ensures asked { S.asked socket.new ≡ S.asked socket.old }
     ensures ok { OnOk result (set.new ≡ Some waits) }
     ensures err { OnErr result (set.new ≡ set.old) }
+    ensures asked { OnOk result (Asks (S.asked socket.old) (S.asked socket.new) (setting set.old waits)) }
+    // After a fault the socket may have been asked only a part of that; it was asked to send nothing.
+    ensures nothing { (asks : List SocketAsk) × (datagrams_in asks ≡ []) × Asks (S.asked socket.old) (S.asked socket.new) asks }
 {
     if *set == Some(waits) {
         return Ok(());

@@ -4,7 +4,8 @@ use Rattle.chaos_packet.specs.Packet.{PacketView}
 use Rattle.chaos_packet.specs.Outbox.{OutboxView, with_put}
 use Rattle.chaos_host.specs.View.{HostView}
 use Rattle.chaos_link.specs.declared.carriage.Carriage.{Carriage}
-use Rattle.chaos_turn.specs.Link.{Sends, has_packets, sent_by}
+use Rattle.chaos_link.specs.Link.{Ask, AskedSince, Asks}
+use Rattle.chaos_turn.specs.Link.{SendsLots, has_packets}
 use Rattle.chaos_turn.specs.Phase.{Effect, DoesPhase, and_then, over_slots}
 use Rattle.chaos_turn.specs.Station.{Station}
 use Rattle.chaos_turn.proofs.Queue.{sends_both, has_both, or_false}
@@ -14,15 +15,15 @@ pub put_into_empty : (out : OutboxView) (xs : List PacketView) → out.packets �
 put_into_empty out xs e = ap (λ (ps : List PacketView). ps ++ xs) e
 
 -- a phase, and another after it
-pub one_after : (carriage : Carriage) (a b c : Station HostView) (first : Effect) (next : HostView → Effect)
+pub one_after : {L : Type 0} {aa ab ac : AskedSince L Ask} (carriage : Carriage) (a b c : Station HostView) (first : Effect) (next : HostView → Effect)
     (sent more all : Bool)
-    → DoesPhase carriage first a b sent → DoesPhase carriage (next b.node) b c more
-    → all ≡ (if more then true else sent) → DoesPhase carriage (and_then first next) a c all
-one_after carriage a b c first next sent more all one two e =
+    → DoesPhase (Asks aa ab) carriage first a b sent → DoesPhase (Asks ab ac) carriage (next b.node) b c more
+    → all ≡ (if more then true else sent) → DoesPhase (Asks aa ac) carriage (and_then first next) a c all
+one_after {L} {aa} {ab} {ac} carriage a b c first next sent more all one two e =
     let here : next b.node ≡ next first.host = ap next one.host in
     let out = (next first.host).lots in
-    let late : Sends b.queue (sent_by carriage out) c.queue =
-    subst (λ (x : Effect). Sends b.queue (sent_by carriage x.lots) c.queue) here two.sends in
+    let late : SendsLots (Asks ab ac) carriage b.queue out c.queue =
+    subst (λ (x : Effect). SendsLots (Asks ab ac) carriage b.queue x.lots c.queue) here two.sends in
     record {
       host = two.host ∙ ap (λ (x : Effect). x.host) here;
       sends = sends_both carriage a.queue b.queue c.queue first.lots out one.sends late;
@@ -34,33 +35,35 @@ one_after carriage a b c first next sent more all one two e =
     }
 
 -- a phase, and then one over all slots, whose number stayed
-pub then_slots : (carriage : Carriage) (a b c : Station HostView) (first : Effect) (next : ℕ → HostView → Effect)
+pub then_slots : {L : Type 0} {aa ab ac : AskedSince L Ask} (carriage : Carriage) (a b c : Station HostView) (first : Effect) (next : ℕ → HostView → Effect)
     (sent more all : Bool)
-    → DoesPhase carriage first a b sent → DoesPhase carriage (over_slots next (length b.node.slots) b.node) b c more
+    → DoesPhase (Asks aa ab) carriage first a b sent
+    → DoesPhase (Asks ab ac) carriage (over_slots next (length b.node.slots) b.node) b c more
     → all ≡ (if more then true else sent)
-    → DoesPhase carriage (and_then first (over_slots next (length a.node.slots))) a c all
-then_slots carriage a b c first next sent more all one two e =
+    → DoesPhase (Asks aa ac) carriage (and_then first (over_slots next (length a.node.slots))) a c all
+then_slots {L} {aa} {ab} {ac} carriage a b c first next sent more all one two e =
     one_after carriage a b c first (over_slots next (length a.node.slots)) sent more all one
-    (subst (λ (n : ℕ). DoesPhase carriage (over_slots next n b.node) b c more) one.size two) e
+    (subst (λ (n : ℕ). DoesPhase (Asks ab ac) carriage (over_slots next n b.node) b c more) one.size two) e
 
 -- a phase, and then one over all slots, and nothing more
-pub then_slots_alone : (carriage : Carriage) (a b c : Station HostView) (first : Effect) (next : ℕ → HostView → Effect)
+pub then_slots_alone : {L : Type 0} {aa ab ac : AskedSince L Ask} (carriage : Carriage) (a b c : Station HostView) (first : Effect) (next : ℕ → HostView → Effect)
     (sent more all : Bool)
-    → DoesPhase carriage first a b sent → DoesPhase carriage (over_slots next (length b.node.slots) b.node) b c more
+    → DoesPhase (Asks aa ab) carriage first a b sent
+    → DoesPhase (Asks ab ac) carriage (over_slots next (length b.node.slots) b.node) b c more
     → all ≡ (if more then true else (if sent then true else false))
-    → DoesPhase carriage (and_then first (over_slots next (length a.node.slots))) a c all
-then_slots_alone carriage a b c first next sent more all one two e =
+    → DoesPhase (Asks aa ac) carriage (and_then first (over_slots next (length a.node.slots))) a c all
+then_slots_alone {L} {aa} {ab} {ac} carriage a b c first next sent more all one two e =
     then_slots carriage a b c first next sent more all one two
     (e ∙ ap (λ (t : Bool). if more then true else t) (or_false sent))
 
 -- three phases in turn, each over all slots
-pub three_in_turn : (carriage : Carriage) (a b c d : Station HostView) (one two three : ℕ → HostView → Effect)
+pub three_in_turn : {L : Type 0} {aa ab ac ad : AskedSince L Ask} (carriage : Carriage) (a b c d : Station HostView) (one two three : ℕ → HostView → Effect)
     (x y z all : Bool)
-    → DoesPhase carriage (over_slots one (length a.node.slots) a.node) a b x
-    → DoesPhase carriage (over_slots two (length b.node.slots) b.node) b c y
-    → DoesPhase carriage (over_slots three (length c.node.slots) c.node) c d z
+    → DoesPhase (Asks aa ab) carriage (over_slots one (length a.node.slots) a.node) a b x
+    → DoesPhase (Asks ab ac) carriage (over_slots two (length b.node.slots) b.node) b c y
+    → DoesPhase (Asks ac ad) carriage (over_slots three (length c.node.slots) c.node) c d z
     → all ≡ (if z then true else (if y then true else x))
-    → DoesPhase carriage
+    → DoesPhase (Asks aa ad) carriage
     (and_then (and_then (over_slots one (length a.node.slots) a.node) (over_slots two (length a.node.slots)))
     (over_slots three (length a.node.slots)))
     a d all

@@ -7,9 +7,12 @@ use Rattle.chaos_packet.specs.Outbox.{OutboxView, without_oldest}
 use Rattle.chaos_link.specs.declared.carriage.Carriage.{Carriage}
 use Rattle.chaos_link.specs.declared.carriage.Carriage.TheVariants.{One, Two}
 use Rattle.chaos_link.specs.Datagram.{datagram_of}
-use Rattle.chaos_link.specs.Link.{Addressed, AsksMore, QueueView, SendsInto, with_datagram}
+use Rattle.chaos_link.specs.Link.{Addressed, Ask, AskedSince, Asks, QueueView, Receive, Send, SendsInto, to_send, with_datagram}
 use Rattle.chaos_link.specs.declared.link.Sent.{Sent}
-use Rattle.chaos_turn.specs.Link.{Asks, Sends, datagram_for, datagrams_of, has_packets, sent_by, sent_into}
+use Rattle.chaos_turn.specs.Link.{Sends, SendsLots, datagram_for, datagrams_of, has_packets, read_all, sent_by, sent_into, turn_asks}
+use Rattle.chaos_link.specs.Loads.{packets_of}
+use Rattle.chaos_link.proofs.Asked.{asks_both, asks_none}
+use Rattle.chaos_turn.proofs.Readback.{both_read}
 
 sent_twice : (queue : QueueView) (xs ys : List Addressed)
     → sent_into (sent_into queue xs) ys ≡ sent_into queue (xs ++ ys)
@@ -34,13 +37,10 @@ sends_one None after to bytes datagram answer same sent = tt
 sends_one (Some queue) after to bytes datagram answer same sent =
     sent.1 ∙ ap (λ (d : Addressed). Some (with_datagram d queue)) same
 
-pub asks_one : (before after : Option (List Addressed)) (to : ℕ) (bytes : List ℕ) (datagram : Addressed)
+pub asks_one : {L : Type 0} (before after : AskedSince L Ask) (to : ℕ) (bytes : List ℕ) (datagram : Addressed)
     → record { to = to; bytes = bytes } ≡ datagram
-    → IfSome before (λ asked. AsksMore (record { to = to; bytes = bytes } ∷ []) after asked)
-    → Asks before (datagram ∷ []) after
-asks_one None after to bytes datagram same sent = tt
-asks_one (Some asked) after to bytes datagram same sent =
-    sent ∙ ap (λ (d : Addressed). Some (asked ++ d ∷ [])) same
+    → Asks before after (Send (record { to = to; bytes = bytes }) ∷ []) → Asks before after (to_send (datagram ∷ []))
+asks_one before after to bytes datagram same sent = subst (λ (d : Addressed). Asks before after (Send d ∷ [])) same sent
 
 -- a packet's bytes to where it goes are its datagram
 pub packet_there : (p : PacketView) (to : ℕ) (bytes : List ℕ) → to ≡ p.dst → bytes ≡ datagram_of p
@@ -58,13 +58,15 @@ sends_after (Some queue) mid after xs ys first others =
     subst (λ (o : Option QueueView). Sends o ys after) first others in
     rest ∙ ap (λ (q : QueueView). Some q) (sent_twice queue xs ys)
 
-asks_after : (before mid after : Option (List Addressed)) (xs ys : List Addressed) → Asks before xs mid
-    → Asks mid ys after → Asks before (xs ++ ys) after
-asks_after None mid after xs ys first others = tt
-asks_after (Some asked) mid after xs ys first others =
-    let rest : Asks (Some (asked ++ xs)) ys after =
-    subst (λ (o : Option (List Addressed)). Asks o ys after) first others in
-    rest ∙ ap (λ (ds : List Addressed). Some ds) (append_assoc asked xs ys)
+to_send_both : (xs ys : List Addressed) → to_send xs ++ to_send ys ≡ to_send (xs ++ ys)
+to_send_both [] ys = refl
+to_send_both (x ∷ xs) ys = ap (λ (asks : List Ask). Send x ∷ asks) (to_send_both xs ys)
+
+asks_after : {L : Type 0} (before mid after : AskedSince L Ask) (xs ys : List Addressed)
+    → Asks before mid (to_send xs) → Asks mid after (to_send ys) → Asks before after (to_send (xs ++ ys))
+asks_after before mid after xs ys first others =
+    subst (λ (asks : List Ask). Asks before after asks) (to_send_both xs ys)
+    (asks_both before mid after (to_send xs) (to_send ys) first others)
 
 -- ---- lots
 
@@ -78,13 +80,64 @@ lots_both carriage (x ∷ xs) ys =
 pub one_lot : (carriage : Carriage) (lot : List PacketView) → sent_by carriage (lot ∷ []) ≡ datagrams_of carriage lot
 one_lot carriage lot = append-nil (datagrams_of carriage lot)
 
--- the lots that were sent before, and those that were sent then
-pub sends_both : (carriage : Carriage) (before mid after : Option QueueView) (xs ys : List (List PacketView))
+packets_both : (xs ys : List (List PacketView)) → packets_of (xs ++ ys) ≡ packets_of xs ++ packets_of ys
+packets_both [] ys = refl
+packets_both (x ∷ xs) ys =
+    ap (λ (ps : List PacketView). x ++ ps) (packets_both xs ys) ∙ sym (append_assoc x (packets_of xs) (packets_of ys))
+
+-- what is read of lots and of others is read of both
+pub lots_read : (carriage : Carriage) (xs ys : List (List PacketView))
+    → read_all (sent_by carriage xs) ≡ packets_of xs → read_all (sent_by carriage ys) ≡ packets_of ys
+    → read_all (sent_by carriage (xs ++ ys)) ≡ packets_of (xs ++ ys)
+lots_read carriage xs ys first others =
+    ap read_all (sym (lots_both carriage xs ys)) ∙ both_read (sent_by carriage xs) (sent_by carriage ys)
+    ∙ ap (λ (ps : List PacketView). ps ++ read_all (sent_by carriage ys)) first
+    ∙ ap (λ (ps : List PacketView). packets_of xs ++ ps) others ∙ sym (packets_both xs ys)
+
+-- of one lot
+pub lot_read_so : (carriage : Carriage) (lot : List PacketView) → read_all (datagrams_of carriage lot) ≡ lot
+    → read_all (sent_by carriage (lot ∷ [])) ≡ packets_of (lot ∷ [])
+lot_read_so carriage lot e = ap read_all (one_lot carriage lot) ∙ e ∙ sym (append-nil lot)
+
+pub queue_both : (carriage : Carriage) (before mid after : Option QueueView) (xs ys : List (List PacketView))
     → Sends before (sent_by carriage xs) mid → Sends mid (sent_by carriage ys) after
     → Sends before (sent_by carriage (xs ++ ys)) after
-sends_both carriage before mid after xs ys first others =
+queue_both carriage before mid after xs ys first others =
     subst (λ (ds : List Addressed). Sends before ds after) (lots_both carriage xs ys)
     (sends_after before mid after (sent_by carriage xs) (sent_by carriage ys) first others)
+
+-- what was asked of the link in two parts of a turn
+asks_lots : {L : Type 0} (a b c : AskedSince L Ask) (carriage : Carriage) (xs ys : List (List PacketView))
+    → Asks a b (to_send (sent_by carriage xs)) → Asks b c (to_send (sent_by carriage ys))
+    → Asks a c (to_send (sent_by carriage (xs ++ ys)))
+asks_lots a b c carriage xs ys first others =
+    subst (λ (ds : List Addressed). Asks a c (to_send ds)) (lots_both carriage xs ys)
+    (asks_after a b c (sent_by carriage xs) (sent_by carriage ys) first others)
+
+-- a turn, and lots that were sent behind it
+pub turn_asks_more : {L : Type 0} (a b c : AskedSince L Ask) (carriage : Carriage) (may_wait : Bool)
+    (waiting : List PacketView) (xs ys : List (List PacketView))
+    → Asks a b (turn_asks carriage may_wait waiting xs) → Asks b c (to_send (sent_by carriage ys))
+    → Asks a c (turn_asks carriage may_wait waiting (xs ++ ys))
+turn_asks_more a b c carriage may_wait waiting xs ys first others =
+    let front = to_send (datagrams_of carriage waiting) in
+    subst (λ (asks : List Ask). Asks a c asks)
+    (append_assoc front (Receive may_wait ∷ to_send (sent_by carriage xs)) (to_send (sent_by carriage ys))
+    ∙ ap (λ (asks : List Ask). front ++ Receive may_wait ∷ asks)
+    (to_send_both (sent_by carriage xs) (sent_by carriage ys)
+    ∙ ap to_send (lots_both carriage xs ys)))
+    (asks_both a b c (turn_asks carriage may_wait waiting xs) (to_send (sent_by carriage ys)) first others)
+
+-- the lots that were sent before, and those that were sent then
+pub sends_both : {L : Type 0} {a b c : AskedSince L Ask} (carriage : Carriage) (before mid after : Option QueueView)
+    (xs ys : List (List PacketView))
+    → SendsLots (Asks a b) carriage before xs mid → SendsLots (Asks b c) carriage mid ys after
+    → SendsLots (Asks a c) carriage before (xs ++ ys) after
+sends_both {L} {a} {b} {c} carriage before mid after xs ys first others = record {
+  sends = queue_both carriage before mid after xs ys first.sends others.sends;
+  asks = asks_lots a b c carriage xs ys first.asks others.asks;
+  read = lots_read carriage xs ys first.read others.read;
+}
 
 pub or_false : (b : Bool) → (if b then true else false) ≡ b
 or_false true = refl
@@ -104,28 +157,29 @@ pub sends_nothing : (queue : Option QueueView) → Sends queue [] queue
 sends_nothing None = tt
 sends_nothing (Some queue) = refl
 
-asks_nothing : (asked : Option (List Addressed)) → Asks asked [] asked
-asks_nothing None = tt
-asks_nothing (Some asked) = ap (λ (ds : List Addressed). Some ds) (sym (append-nil asked))
+-- no lot was sent
+pub lots_nothing : {L : Type 0} {a : AskedSince L Ask} (carriage : Carriage) (queue : Option QueueView)
+    → SendsLots (Asks a a) carriage queue [] queue
+lots_nothing {L} {a} carriage queue = record { sends = sends_nothing queue; asks = asks_none a; read = refl }
 
 -- ---- what a link tells of what is sent
 
-pub record Told : Type 0 where
+pub record Told (L : Type 0) : Type 1 where
   pub queue : Option QueueView
-  pub asked : Option (List Addressed)
+  pub asked : AskedSince L Ask
 
-abbrev pub told : Option QueueView → Option (List Addressed) → Told
+abbrev pub told : {L : Type 0} → Option QueueView → AskedSince L Ask → Told L
 told queue asked = record { queue = queue; asked = asked }
 
--- It took these datagrams, where it is a queue, and was asked them, where it tells that.
-pub record Takes (before : Told) (datagrams : List Addressed) (after : Told) : Type 0 where
+-- It took these datagrams, where it is a queue, and was asked to send them.
+pub record Takes {L : Type 0} (before : Told L) (datagrams : List Addressed) (after : Told L) : Type 0 where
   pub sends : Sends before.queue datagrams after.queue
-  pub asks : Asks before.asked datagrams after.asked
+  pub asks : Asks before.asked after.asked (to_send datagrams)
 
-pub takes_nothing : (link : Told) → Takes link [] link
-takes_nothing link = record { sends = sends_nothing link.queue; asks = asks_nothing link.asked }
+pub takes_nothing : {L : Type 0} (link : Told L) → Takes link [] link
+takes_nothing link = record { sends = sends_nothing link.queue; asks = asks_none link.asked }
 
-pub takes_after : (before mid after : Told) (xs ys : List Addressed) → Takes before xs mid → Takes mid ys after
+pub takes_after : {L : Type 0} (before mid after : Told L) (xs ys : List Addressed) → Takes before xs mid → Takes mid ys after
     → Takes before (xs ++ ys) after
 takes_after before mid after xs ys first others = record {
   sends = sends_after before.queue mid.queue after.queue xs ys first.sends others.sends;
@@ -135,14 +189,15 @@ takes_after before mid after xs ys first others = record {
 -- ---- an outbox that is emptied packet by packet
 
 -- Of the packets that waited these were sent, and the others wait still.
-pub record SentSoFar (before after : Told) (old out : OutboxView) : Type 0 where
+pub record SentSoFar {L : Type 0} (before after : Told L) (old out : OutboxView) : Type 0 where
   pub done : List PacketView
   pub all : done ++ out.packets ≡ old.packets
   pub cap : out.cap ≡ old.cap
   pub takes : Takes before (datagrams_of One done) after
+  pub read : read_all (datagrams_of One done) ≡ done
 
-pub none_sent : (link : Told) (out : OutboxView) → SentSoFar link link out out
-none_sent link out = record { done = []; all = refl; cap = refl; takes = takes_nothing link }
+pub none_sent : {L : Type 0} (link : Told L) (out : OutboxView) → SentSoFar link link out out
+none_sent link out = record { done = []; all = refl; cap = refl; takes = takes_nothing link; read = refl }
 
 pub first_and_rest : (ps : List PacketView) (p : PacketView) → slice_get ps 0 ≡ Some p → p ∷ drop 1 ps ≡ ps
 first_and_rest [] p e = absurd (cc)
@@ -152,11 +207,11 @@ pub one_less : (ps : List PacketView) (p : PacketView) → slice_get ps 0 ≡ So
 one_less [] p e = absurd (cc)
 one_less (x ∷ ps) p e = omega arith
 
-pub one_more_sent : (before mid after : Told) (old out rest : OutboxView) (p : PacketView)
+pub one_more_sent : {L : Type 0} (before mid after : Told L) (old out rest : OutboxView) (p : PacketView)
     → SentSoFar before mid old out → slice_get out.packets 0 ≡ Some p → rest ≡ without_oldest out
-    → Takes mid (datagrams_of One (p ∷ [])) after
+    → Takes mid (datagrams_of One (p ∷ [])) after → read_all (datagrams_of One (p ∷ [])) ≡ p ∷ []
     → SentSoFar before after old rest
-one_more_sent before mid after old out rest p so first e takes =
+one_more_sent before mid after old out rest p so first e takes read =
     let here : SentSoFar before after old (without_oldest out)
     = record {
       done = so.done ++ p ∷ [];
@@ -167,6 +222,11 @@ one_more_sent before mid after old out rest p so first e takes =
       takes =
           subst (λ (ds : List Addressed). Takes before ds after) (singly_both so.done (p ∷ []))
           (takes_after before mid after (datagrams_of One so.done) (datagrams_of One (p ∷ [])) so.takes takes);
+      read =
+          ap read_all (sym (singly_both so.done (p ∷ [])))
+          ∙ both_read (datagrams_of One so.done) (datagrams_of One (p ∷ []))
+          ∙ ap (λ (ps : List PacketView). ps ++ read_all (datagrams_of One (p ∷ []))) so.read
+          ∙ ap (λ (ps : List PacketView). so.done ++ ps) read;
     } in
     subst (λ (o : OutboxView). SentSoFar before after old o) (sym e) here
 
@@ -175,7 +235,7 @@ none_left [] e = refl
 none_left (x ∷ ps) e = absurd (cc)
 
 -- where none waits any more, all were sent
-module _ (before after : Told) (old out : OutboxView) (so : SentSoFar before after old out)
+module _ {L : Type 0} (before after : Told L) (old out : OutboxView) (so : SentSoFar before after old out)
     (none : slice_get out.packets 0 ≡ None) where
   all_done : so.done ≡ old.packets
   all_done =
@@ -184,6 +244,9 @@ module _ (before after : Told) (old out : OutboxView) (so : SentSoFar before aft
 
   pub all_sent : Takes before (datagrams_of One old.packets) after
   all_sent = subst (λ (ps : List PacketView). Takes before (datagrams_of One ps) after) all_done so.takes
+
+  pub all_read : read_all (datagrams_of One old.packets) ≡ old.packets
+  all_read = subst (λ (ps : List PacketView). read_all (datagrams_of One ps) ≡ ps) all_done so.read
 
   pub all_empty : out ≡ record { packets = []; cap = old.cap }
   all_empty =
@@ -197,12 +260,21 @@ pub none_lent : (lent : Option (Bor PacketView)) (told : Bool) → is_some lent 
 none_lent None told e true-told = refl
 none_lent (Some p) told e true-told = absurd (cc)
 
-nothing_by : (carriage : Carriage) (link : Told) → Takes link (sent_by carriage ([] ∷ [])) link
+nothing_by : {L : Type 0} (carriage : Carriage) (link : Told L) → Takes link (sent_by carriage ([] ∷ [])) link
 nothing_by One link = takes_nothing link
 nothing_by Two link = takes_nothing link
 
+nothing_read : (carriage : Carriage) → read_all (sent_by carriage ([] ∷ [])) ≡ packets_of ([] ∷ [])
+nothing_read One = refl
+nothing_read Two = refl
+
 module _ (out : OutboxView) (none : slice_get out.packets 0 ≡ None) where
-  pub none_goes : (carriage : Carriage) (link : Told) → Takes link (sent_by carriage (out.packets ∷ [])) link
+  pub none_read : (carriage : Carriage) → read_all (sent_by carriage (out.packets ∷ [])) ≡ packets_of (out.packets ∷ [])
+  none_read carriage =
+      subst (λ (ps : List PacketView). read_all (sent_by carriage (ps ∷ [])) ≡ packets_of (ps ∷ []))
+      (sym (none_left out.packets none)) (nothing_read carriage)
+
+  pub none_goes : {L : Type 0} (carriage : Carriage) (link : Told L) → Takes link (sent_by carriage (out.packets ∷ [])) link
   none_goes carriage link =
       subst (λ (ps : List PacketView). Takes link (sent_by carriage (ps ∷ [])) link)
       (sym (none_left out.packets none)) (nothing_by carriage link)

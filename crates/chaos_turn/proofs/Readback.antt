@@ -1,5 +1,5 @@
 -- What is read of the datagrams that lots of packets go out in.
-use Rattle.std.proofs.Common.{◌≡◌, true, List, [], ◌∷◌, ◌++◌, map, Result, All, refl, ap, sym, ◌∙◌, append_assoc}
+use Rattle.std.proofs.Common.{◌≡◌, true, List, [], ◌∷◌, ◌++◌, map, ℕ, Result, Ok, All, append-nil, refl, ap, sym, ◌∙◌, append_assoc}
 use Rattle.std.proofs.lemmas.Bool.{cond_both}
 use Rattle.std.proofs.lemmas.List.Elements.{All-head, All-tail}
 use Rattle.chaos_packet.specs.Packet.{PacketView}
@@ -7,7 +7,7 @@ use Rattle.chaos_link.specs.declared.carriage.Carriage.{Carriage}
 use Rattle.chaos_link.specs.declared.carriage.Carriage.TheVariants.{One, Two}
 use Rattle.chaos_link.specs.declared.fault.LinkFault.{LinkFault}
 use Rattle.chaos_link.specs.Bundle.{datagram_of_all, fit_together}
-use Rattle.chaos_link.specs.Datagram.{datagram_of}
+use Rattle.chaos_link.specs.Datagram.{Carries, datagram_of}
 use Rattle.chaos_link.specs.Link.{Addressed}
 use Rattle.chaos_link.specs.Loads.{EachSpelled, joins, loads_from, packets_of}
 use Rattle.chaos_link.specs.Packets.{packets_read}
@@ -23,6 +23,20 @@ singly (p ∷ ps) each =
     ap (λ (r : Result (List PacketView) LinkFault). packets_in r ++ read_all (map datagram_for ps))
     (read_one p (datagram_of p) (carried_spelling p each.0))
     ∙ ap (λ (qs : List PacketView). p ∷ qs) (singly ps each.1)
+
+-- of a packet's datagram it is read
+pub one_read : (p : PacketView) (bytes : List ℕ) → Carries p bytes → bytes ≡ datagram_of p
+    → read_all (datagram_for p ∷ []) ≡ p ∷ []
+one_read p bytes carried exact =
+    ap (λ (r : Result (List PacketView) LinkFault). packets_in r ++ [])
+    (ap packets_read (sym exact) ∙ read_one p bytes carried)
+
+-- of a load's datagram its packets
+pub load_read_so : (load : List PacketView) (bytes : List ℕ) → packets_read bytes ≡ Ok load → bytes ≡ datagram_of_all load
+    → read_all (datagram_for_all load ∷ []) ≡ load
+load_read_so load bytes read exact =
+    ap (λ (r : Result (List PacketView) LinkFault). packets_in r ++ []) (ap packets_read (sym exact) ∙ read)
+    ∙ append-nil load
 
 -- of the datagram of a load its packets are read
 module _ (load : List PacketView) (fits : fit_together load ≡ true) (each : EachSpelled load) (others : List Addressed)
@@ -48,7 +62,7 @@ lot_read One lot each = singly lot each
 lot_read Two [] each = refl
 lot_read Two (p ∷ ps) each = loads_read (p ∷ []) ps (one_fits p each.0.small) (each.0, tt) each.1
 
-both_read : (ds es : List Addressed) → read_all (ds ++ es) ≡ read_all ds ++ read_all es
+pub both_read : (ds es : List Addressed) → read_all (ds ++ es) ≡ read_all ds ++ read_all es
 both_read [] es = refl
 both_read (d ∷ ds) es =
     ap (λ (ps : List PacketView). packets_in (packets_read d.bytes) ++ ps) (both_read ds es)

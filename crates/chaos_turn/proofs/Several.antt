@@ -6,17 +6,18 @@ use Rattle.chaos_host.specs.View.{HostView}
 use Rattle.chaos_host.specs.Deliver.{host_deliver}
 use Rattle.chaos_host.specs.declared.answers.HostDelivered.{HostDelivered}
 use Rattle.chaos_link.specs.declared.carriage.Carriage.{Carriage}
+use Rattle.chaos_link.specs.Link.{Ask, AskedSince, Asks}
 use Rattle.chaos_turn.specs.Arrive.{told_after}
 use Rattle.chaos_turn.specs.Phase.{Effect, DoesPhase, and_then, no_effect_on, over_packets}
 use Rattle.chaos_turn.specs.Station.{Station}
 use Rattle.chaos_turn.proofs.Phase.{one_after}
-use Rattle.chaos_turn.proofs.Queue.{sends_nothing, first_and_rest, none_left}
+use Rattle.chaos_turn.proofs.Queue.{lots_nothing, first_and_rest, none_left}
 
 -- Of these packets some were taken, and the others are left: what was done and what is left make the whole.
-pub record TakenSoFar (carriage : Carriage) (phase : PacketView → HostView → Effect) (all rest : List PacketView)
+pub record TakenSoFar (asked : List Ask → Type 0) (carriage : Carriage) (phase : PacketView → HostView → Effect) (all rest : List PacketView)
     (a b : Station HostView) (sent : Bool) : Type 0 where
   pub done : Effect
-  pub does : DoesPhase carriage done a b sent
+  pub does : DoesPhase asked carriage done a b sent
   pub whole : and_then done (over_packets phase rest) ≡ over_packets phase all a.node
 
 module _ (carriage : Carriage) (phase : PacketView → HostView → Effect) where
@@ -25,19 +26,20 @@ module _ (carriage : Carriage) (phase : PacketView → HostView → Effect) wher
   none_before [] h = refl
   none_before (p ∷ ps) h = refl
 
-  pub none_taken : (ps : List PacketView) (a : Station HostView) → TakenSoFar carriage phase ps ps a a false
+  pub none_taken : {L : Type 0} {aa : AskedSince L Ask} (ps : List PacketView) (a : Station HostView)
+      → TakenSoFar (Asks aa aa) carriage phase ps ps a a false
   none_taken ps a = record {
     done = no_effect_on a.node;
     does =
-        record { host = refl; sends = sends_nothing a.queue; outbox = refl; told = refl; config = refl; size = refl };
+        record { host = refl; sends = lots_nothing carriage a.queue; outbox = refl; told = refl; config = refl; size = refl };
     whole = none_before ps a.node;
   }
 
   -- the next packet is taken
-  pub one_more_taken : (all rest : List PacketView) (p : PacketView) (a b c : Station HostView) (sent more now : Bool)
-      → TakenSoFar carriage phase all rest a b sent → slice_get rest 0 ≡ Some p
-      → DoesPhase carriage (phase p b.node) b c more → now ≡ (if more then true else sent)
-      → TakenSoFar carriage phase all (drop 1 rest) a c now
+  pub one_more_taken : {L : Type 0} {aa ab ac : AskedSince L Ask} (all rest : List PacketView) (p : PacketView) (a b c : Station HostView) (sent more now : Bool)
+      → TakenSoFar (Asks aa ab) carriage phase all rest a b sent → slice_get rest 0 ≡ Some p
+      → DoesPhase (Asks ab ac) carriage (phase p b.node) b c more → now ≡ (if more then true else sent)
+      → TakenSoFar (Asks aa ac) carriage phase all (drop 1 rest) a c now
   one_more_taken all rest p a b c sent more now so first one e =
       let left = over_packets phase (drop 1 rest) in
       let after = phase p so.done.host in
@@ -56,14 +58,14 @@ module _ (carriage : Carriage) (phase : PacketView → HostView → Effect) wher
       }
 
   -- where none is left, the phase is done over all
-  pub all_taken : (all rest : List PacketView) (a b : Station HostView) (sent : Bool)
-      → TakenSoFar carriage phase all rest a b sent → slice_get rest 0 ≡ None
-      → DoesPhase carriage (over_packets phase all a.node) a b sent
-  all_taken all rest a b sent so none =
+  pub all_taken : {asked : List Ask → Type 0} (all rest : List PacketView) (a b : Station HostView) (sent : Bool)
+      → TakenSoFar asked carriage phase all rest a b sent → slice_get rest 0 ≡ None
+      → DoesPhase asked carriage (over_packets phase all a.node) a b sent
+  all_taken {asked} all rest a b sent so none =
       let over : and_then so.done (over_packets phase rest) ≡ so.done
       = ap (λ (ps : List PacketView). and_then so.done (over_packets phase ps)) (none_left rest none)
       ∙ ap (λ (lots : List (List PacketView)). record { host = so.done.host; lots = lots }) (append-nil so.done.lots) in
-      subst (λ (x : Effect). DoesPhase carriage x a b sent) (sym over ∙ so.whole) so.does
+      subst (λ (x : Effect). DoesPhase asked carriage x a b sent) (sym over ∙ so.whole) so.does
 
 -- ---- whether packets went out, where a loop asks one phase first
 

@@ -2,13 +2,14 @@
 use Rattle.std.proofs.Common.{◌≡◌, Bool, true, if◌then◌else◌, List, [], ◌∷◌, ◌++◌, Option, Some, None, IfSome, is_some, refl, ap, sym, ◌∙◌, subst}
 use Rattle.chaos_packet.specs.Packet.{PacketView}
 use Rattle.chaos_link.specs.declared.carriage.Carriage.{Carriage}
-use Rattle.chaos_link.specs.Link.{QueueView}
+use Rattle.chaos_link.specs.Link.{Ask, AskedSince, Asks, QueueView}
 use Rattle.chaos_turn.specs.Arrive.{Arrival, Receives, arrival_from}
-use Rattle.chaos_turn.specs.Link.{Sends, datagrams_of, has_packets, sent_by, sent_into}
+use Rattle.chaos_turn.specs.Link.{Sends, SendsLots, datagrams_of, has_packets, sent_by, sent_into}
 use Rattle.chaos_turn.specs.Station.{Station}
 use Rattle.chaos_turn.specs.Begin.{Begins}
 use Rattle.chaos_turn.specs.Turn.{GoesOver, has_work, queue_after}
 use Rattle.chaos_turn.specs.End.{TellsWork}
+use Rattle.chaos_turn.proofs.Queue.{lots_read, turn_asks_more}
 use Rattle.chaos_turn.specs.declared.end.TurnEnd.{TurnEnd}
 
 pub has_before : (xs ys : List (List PacketView))
@@ -46,14 +47,15 @@ work_so worked sent waiting lots None one two =
 work_so worked sent waiting lots (Some read) one two = ap (λ (t : Bool). if t then true else sent) one
 
 -- a turn that began so, and in which these lots were sent
-pub goes_over : {N : Type 0}
-    → (carriage : Carriage) (before after : Station N) (q1 : Option QueueView) (lots : List (List PacketView))
+pub goes_over : {N L : Type 0} {a b c : AskedSince L Ask} {may_wait : Bool} (carriage : Carriage) (before after : Station N) (q1 : Option QueueView) (lots : List (List PacketView))
     (came : Arrival) (worked sent : Bool) (result : TurnEnd)
-    → Begins carriage before.outbox.packets before.queue q1 came worked → Sends q1 (sent_by carriage lots) after.queue
+    → Begins (Asks a b) may_wait carriage before.outbox.packets before.queue q1 came worked → SendsLots (Asks b c) carriage q1 lots after.queue
     → sent ≡ has_packets lots
-    → TellsWork (if worked then true else sent) result → GoesOver carriage came lots before after result
-goes_over carriage before after q1 lots came worked sent result first last e told = record {
-  queue = queue_so carriage before.queue q1 after.queue before.outbox.packets lots came first.queue last;
+    → TellsWork (if worked then true else sent) result → GoesOver (Asks a c) may_wait carriage came lots before after result
+goes_over {N} {L} {a} {b} {c} {may_wait} carriage before after q1 lots came worked sent result first last e told = record {
+  queue = queue_so carriage before.queue q1 after.queue before.outbox.packets lots came first.queue last.sends;
+  asks = turn_asks_more a b c carriage may_wait before.outbox.packets [] lots first.asks last.asks;
+  read = lots_read carriage (before.outbox.packets ∷ []) lots first.read last.read;
   work =
       subst (λ (t : Bool). TellsWork t result) (work_so worked sent before.outbox.packets lots came first.work e) told;
 }

@@ -1,11 +1,11 @@
--- Packets sent into a link, where it is a queue or tells what it was asked.
+-- Packets sent into a link, and what the link is asked.
 use Rattle.std.specs.Prelude.{◌≡◌, ℕ, Bool, true, false, List, [], ◌∷◌, ◌++◌, map, All, Option, Some, IfSome, Result, Ok, Err}
 use Rattle.chaos_packet.specs.Packet.{PacketView}
 use Rattle.chaos_link.specs.declared.carriage.Carriage.{Carriage}
 use Rattle.chaos_link.specs.declared.carriage.Carriage.TheVariants.{One, Two}
 use Rattle.chaos_link.specs.Bundle.{datagram_of_all}
 use Rattle.chaos_link.specs.Datagram.{datagram_of}
-use Rattle.chaos_link.specs.Link.{Addressed, AsksMore, QueueView, with_datagram}
+use Rattle.chaos_link.specs.Link.{Addressed, Ask, QueueView, Receive, to_send, with_datagram}
 use Rattle.chaos_link.specs.Loads.{EachSpelled, loads_of, packets_of}
 use Rattle.chaos_link.specs.Packets.{packets_read}
 use Rattle.chaos_link.specs.declared.fault.LinkFault.{LinkFault}
@@ -42,9 +42,11 @@ sent_into queue (d ∷ ds) = sent_into (with_datagram d queue) ds
 abbrev pub Sends : Option QueueView → List Addressed → Option QueueView → Type 0
 Sends before datagrams after = IfSome before (λ queue. after ≡ Some (sent_into queue datagrams))
 
--- The link, where it tells what it was asked, was asked these datagrams more.
-abbrev pub Asks : Option (List Addressed) → List Addressed → Option (List Addressed) → Type 0
-Asks before datagrams after = IfSome before (AsksMore datagrams after)
+-- what a turn asks of its link: to send what waited; then once to receive, and whether the link may wait for that; then to send
+-- the turn's lots
+abbrev pub turn_asks : Carriage → Bool → List PacketView → List (List PacketView) → List Ask
+turn_asks carriage may_wait waiting lots =
+    to_send (datagrams_of carriage waiting) ++ Receive may_wait ∷ to_send (sent_by carriage lots)
 
 -- there is a packet in one of these lots
 abbrev pub has_packets : List (List PacketView) → Bool
@@ -66,6 +68,14 @@ packets_in (Err fault) = []
 abbrev pub read_all : List Addressed → List PacketView
 read_all [] = []
 read_all (d ∷ ds) = packets_in (packets_read d.bytes) ++ read_all ds
+
+-- These lots were sent by the carriage: the link was asked to send their datagrams, each once and in order, and nothing else,
+-- whatever the link answered. Of their datagrams their packets are read, in their order.
+pub record SendsLots (asked : List Ask → Type 0) (carriage : Carriage) (before : Option QueueView)
+    (lots : List (List PacketView)) (after : Option QueueView) : Type 0 where
+  pub sends : Sends before (sent_by carriage lots) after
+  pub asks : asked (to_send (sent_by carriage lots))
+  pub read : read_all (sent_by carriage lots) ≡ packets_of lots
 
 -- The law that of the datagrams of either carriage the packets are read that went out, in their order, where words
 -- spell each.

@@ -4,7 +4,8 @@ use Rattle.chaos_packet.specs.Packet.{PacketView}
 use Rattle.chaos_host.specs.View.{HostView}
 use Rattle.chaos_host.specs.Acted.{HostActed}
 use Rattle.chaos_link.specs.declared.carriage.Carriage.{Carriage}
-use Rattle.chaos_turn.specs.Link.{Sends, has_packets, sent_by}
+use Rattle.chaos_link.specs.Link.{Ask}
+use Rattle.chaos_turn.specs.Link.{SendsLots, has_packets}
 use Rattle.chaos_turn.specs.Station.{Station}
 
 -- what a phase makes of a host, and the packets that go out, lot by lot
@@ -34,13 +35,13 @@ abbrev pub over_packets : (PacketView → HostView → Effect) → List PacketVi
 over_packets phase [] h = no_effect_on h
 over_packets phase (p ∷ ps) h = and_then (phase p h) (over_packets phase ps)
 
--- A phase had this effect on a host at its link: its packets went into the link by this carriage, and it told whether
--- there were any. The outbox is as it was; so are the configuration and the number of slots.
-pub record DoesPhase (carriage : Carriage) (effect : Effect) (before after : Station HostView) (sent : Bool) : Type 0
-  where
-    pub host : after.node ≡ effect.host
-    pub sends : Sends before.queue (sent_by carriage effect.lots) after.queue
-    pub outbox : after.outbox ≡ before.outbox
-    pub told : sent ≡ has_packets effect.lots
-    pub config : after.node.config ≡ before.node.config
-    pub size : length after.node.slots ≡ length before.node.slots
+-- A phase had this effect on a host at its link: the link was asked to send its packets by this carriage, and nothing
+-- else, and it told whether there were any. The outbox is as it was; so are the configuration and the number of slots.
+pub record DoesPhase (asked : List Ask → Type 0) (carriage : Carriage) (effect : Effect)
+    (before after : Station HostView) (sent : Bool) : Type 0 where
+  pub host : after.node ≡ effect.host
+  pub sends : SendsLots asked carriage before.queue effect.lots after.queue
+  pub outbox : after.outbox ≡ before.outbox
+  pub told : sent ≡ has_packets effect.lots
+  pub config : after.node.config ≡ before.node.config
+  pub size : length after.node.slots ≡ length before.node.slots

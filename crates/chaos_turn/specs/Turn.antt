@@ -4,10 +4,11 @@ use Rattle.chaos_packet.specs.Packet.{PacketView}
 use Rattle.chaos_host.specs.View.{HostView}
 use Rattle.chaos_host.specs.declared.answers.HostDelivered.{HostDelivered}
 use Rattle.chaos_link.specs.declared.carriage.Carriage.{Carriage}
-use Rattle.chaos_link.specs.Link.{QueueView, without_first}
+use Rattle.chaos_link.specs.Loads.{packets_of}
+use Rattle.chaos_link.specs.Link.{Ask, QueueView, without_first}
 use Rattle.chaos_turn.specs.Arrive.{Arrival, arrival_from, arrive_at_client, told_at_client}
 use Rattle.chaos_turn.specs.End.{TellsWork}
-use Rattle.chaos_turn.specs.Link.{datagrams_of, has_packets, sent_by, sent_into}
+use Rattle.chaos_turn.specs.Link.{datagrams_of, has_packets, read_all, sent_by, sent_into, turn_asks}
 use Rattle.chaos_turn.specs.Phase.{Effect, and_then, over_slots}
 use Rattle.chaos_turn.specs.Slots.{tick_at}
 use Rattle.chaos_turn.specs.Station.{Station}
@@ -31,17 +32,21 @@ has_work waiting came lots = if is_some came then true else has_packets (waiting
 
 module _ {N : Type 0} where
   -- A turn over a link by this carriage, in which this came and these lots went out.
-  pub record GoesOver (carriage : Carriage) (came : Arrival) (lots : List (List PacketView)) (before after : Station N)
-      (result : TurnEnd) : Type 0 where
+  pub record GoesOver (asked : List Ask → Type 0) (may_wait : Bool) (carriage : Carriage) (came : Arrival)
+      (lots : List (List PacketView)) (before after : Station N) (result : TurnEnd) : Type 0 where
     pub queue : IfSome before.queue
         (λ queue. (came ≡ arrival_from (sent_into queue (datagrams_of carriage before.outbox.packets)))
         × (after.queue ≡ Some (queue_after carriage queue before.outbox.packets lots)))
+    -- any link was asked exactly this: the turn gives any link what it gives a queue
+    pub asks : asked (turn_asks carriage may_wait before.outbox.packets lots)
+    -- of what was posted the packets are read that went out
+    pub read : read_all (sent_by carriage (before.outbox.packets ∷ lots)) ≡ packets_of (before.outbox.packets ∷ lots)
     pub work : TellsWork (has_work before.outbox.packets came lots) result
 
 -- A whole turn of a client at its link, by this carriage; what became of the last packet that came was told.
-pub record RunsClientTurn (carriage : Carriage) (now : ℕ) (before after : Station HostView) (result : TurnEnd)
-    (answer : Option HostDelivered) : Type 0 where
+pub record RunsClientTurn (asked : List Ask → Type 0) (may_wait : Bool) (carriage : Carriage) (now : ℕ)
+    (before after : Station HostView) (result : TurnEnd) (answer : Option HostDelivered) : Type 0 where
   pub came : Arrival
   pub host : after.node ≡ (client_phases came now before.node).host
   pub told : answer ≡ told_at_client came now before.node
-  pub link : GoesOver carriage came (client_phases came now before.node).lots before after result
+  pub link : GoesOver asked may_wait carriage came (client_phases came now before.node).lots before after result

@@ -1,6 +1,7 @@
 //! What the datagram that came makes of a host.
 ghost use Rattle.std.specs.Prelude.{◌≡◌, ◌≤◌, [], Some};
 ghost use Rattle.chaos_host.specs.Deliver.{host_deliver};
+ghost use Rattle.chaos_link.specs.Link.{Asks};
 ghost use Rattle.chaos_turn.specs.Phase.{DoesPhase, over_packets};
 ghost use Rattle.chaos_turn.specs.Arrive.{arrive_at_client, deliver_effect, told_after, told_at_client};
 ghost use Rattle.chaos_turn.specs.Station.{station};
@@ -24,7 +25,7 @@ fn deliver<L: Link>(
 ) -> bool
     requires room { TURN_ROOM ≤ out.old.cap }
     requires empty { out.old.packets ≡ [] }
-    ensures phase { DoesPhase carriage (deliver_effect now packet.now host.old) (station host.old (L.queue link.old) out.old) (station host.new (L.queue link.new) out.new) result }
+    ensures phase { DoesPhase (Asks (L.asked link.old) (L.asked link.new)) carriage (deliver_effect now packet.now host.old) (station host.old (L.queue link.old) out.old) (station host.new (L.queue link.new) out.new) result }
     ensures told { told.new ≡ Some (host_deliver host.old packet.now now).answer }
 {
     *told = Some(host.deliver(packet, now, out));
@@ -43,7 +44,7 @@ fn deliver_all<L: Link>(
 ) -> bool
     requires room { TURN_ROOM ≤ out.old.cap }
     requires empty { out.old.packets ≡ [] }
-    ensures phase { DoesPhase carriage (over_packets (deliver_effect now) packets.entry host.old) (station host.old (L.queue link.old) out.old) (station host.new (L.queue link.new) out.new) result }
+    ensures phase { DoesPhase (Asks (L.asked link.old) (L.asked link.new)) carriage (over_packets (deliver_effect now) packets.entry host.old) (station host.old (L.queue link.old) out.old) (station host.new (L.queue link.new) out.new) result }
     ensures told { told.new ≡ told_after told.old packets.entry now host.old }
 {
     let mut sent = false;
@@ -66,7 +67,7 @@ pub fn arrive_at_client<L: Link>(
 ) -> bool
     requires room { TURN_ROOM ≤ out.old.cap }
     requires empty { out.old.packets ≡ [] }
-    ensures phase { DoesPhase carriage (arrive_at_client came.entry now host.old) (station host.old (L.queue link.old) out.old) (station host.new (L.queue link.new) out.new) result }
+    ensures phase { DoesPhase (Asks (L.asked link.old) (L.asked link.new)) carriage (arrive_at_client came.entry now host.old) (station host.old (L.queue link.old) out.old) (station host.new (L.queue link.new) out.new) result }
     ensures told { told.new ≡ told_at_client came.entry now host.old }
 {
     *told = None;

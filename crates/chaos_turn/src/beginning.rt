@@ -1,5 +1,6 @@
 //! How a turn begins over a link, whatever is done in it.
 ghost use Rattle.std.specs.Prelude.{◌≡◌, []};
+ghost use Rattle.chaos_link.specs.Link.{Asks};
 ghost use Rattle.chaos_turn.specs.Begin.{Begins};
 
 use crate::receiving::receive;
@@ -27,7 +28,7 @@ pub fn begin<'a, L: Link>(
     may_wait: bool,
 ) -> Begun<'a>
     ensures failures { result.failures ≡ L.count link.old }
-    ensures begins { Begins carriage out.old.packets (L.queue link.old) (L.queue link.new) result.came result.worked }
+    ensures begins { Begins (Asks (L.asked link.old) (L.asked link.new)) may_wait carriage out.old.packets (L.queue link.old) (L.queue link.new) result.came result.worked }
     ensures outbox { out.new ≡ record { packets = []; cap = out.old.cap } }
 {
     let failures = link.failures();

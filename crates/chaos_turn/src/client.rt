@@ -1,6 +1,7 @@
 //! One turn of a client.
 ghost use Rattle.std.specs.Prelude.{◌≡◌, ◌≤◌, ◌↔◌, []};
 ghost use Rattle.chaos_packet.specs.Count.{Rose};
+ghost use Rattle.chaos_link.specs.Link.{Asks};
 ghost use Rattle.chaos_turn.specs.Arrive.{told_at_client};
 ghost use Rattle.chaos_turn.specs.Phase.{DoesPhase};
 ghost use Rattle.chaos_turn.specs.Station.{station};
@@ -28,7 +29,7 @@ fn take_client_turn<L: Link>(
     requires room { TURN_ROOM ≤ out.old.cap }
     requires empty { out.old.packets ≡ [] }
     ensures told { told.new ≡ told_at_client came.entry now host.old }
-    ensures phases { DoesPhase carriage (client_phases came.entry now host.old) (station host.old (L.queue link.old) out.old) (station host.new (L.queue link.new) out.new) result }
+    ensures phases { DoesPhase (Asks (L.asked link.old) (L.asked link.new)) carriage (client_phases came.entry now host.old) (station host.old (L.queue link.old) out.old) (station host.new (L.queue link.new) out.new) result }
 {
     let arrived = arrive_at_client(host, came, link, now, out, told, carriage);
     let ticked = tick_slots(host, link, now, out, carriage);
@@ -65,7 +66,7 @@ pub fn client_turn<L: Link>(
 ) -> TurnEnd
     requires room { TURN_ROOM ≤ out.old.cap }
     ensures fault { (result ≡ TurnEnd.LinkFault) ↔ Rose (L.count link.old) (L.count link.new) }
-    ensures turn { RunsClientTurn carriage now (station host.old (L.queue link.old) out.old) (station host.new (L.queue link.new) out.new) result told.new }
+    ensures turn { RunsClientTurn (Asks (L.asked link.old) (L.asked link.new)) may_wait carriage now (station host.old (L.queue link.old) out.old) (station host.new (L.queue link.new) out.new) result told.new }
     // All was sent.
     ensures outbox { out.new ≡ record { packets = []; cap = out.old.cap } }
 {

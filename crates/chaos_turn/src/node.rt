@@ -37,8 +37,9 @@ pub struct Node {
 impl Node {
     ghost use Rattle.std.specs.Prelude.{◌≡◌, ◌↔◌, [], ◌∷◌, None, IfOk};
     ghost use Rattle.chaos_packet.specs.Count.{Rose};
+    ghost use Rattle.chaos_link.specs.Link.{Asks};
     ghost use Rattle.chaos_turn.specs.Halves.{RunsArrival, RunsTicks};
-    ghost use Rattle.chaos_turn.specs.Link.{Asks, Sends, has_packets, sent_by};
+    ghost use Rattle.chaos_turn.specs.Link.{SendsLots, has_packets};
     ghost use Rattle.chaos_turn.specs.Station.{station};
     ghost use Rattle.chaos_turn.specs.Turn.{RunsClientTurn};
 
@@ -63,8 +64,7 @@ impl Node {
 
     /// Sends all that waits, the oldest first, and says whether anything did.
     pub fn send<L: Link>(&mut self, link: &mut L) -> bool
-        ensures sends { Sends (L.queue link.old) (sent_by self.old.carriage (self.old.out.packets ∷ [])) (L.queue link.new) }
-        ensures asks { Asks (L.asked link.old) (sent_by self.old.carriage (self.old.out.packets ∷ [])) (L.asked link.new) }
+        ensures sends { SendsLots (Asks (L.asked link.old) (L.asked link.new)) self.old.carriage (L.queue link.old) (self.old.out.packets ∷ []) (L.queue link.new) }
         ensures outbox { self.new.out ≡ record { packets = []; cap = self.old.out.cap } }
         ensures told { result ≡ has_packets (self.old.out.packets ∷ []) }
         ensures host { self.new.host ≡ self.old.host }
@@ -77,7 +77,7 @@ impl Node {
     /// [`client_turn`](crate::client_turn) over what the node has.
     pub fn turn<L: Link>(&mut self, link: &mut L, now: u64, may_wait: bool) -> TurnEnd
         ensures fault { (result ≡ TurnEnd.LinkFault) ↔ Rose (L.count link.old) (L.count link.new) }
-        ensures turn { RunsClientTurn self.old.carriage now (station self.old.host (L.queue link.old) self.old.out) (station self.new.host (L.queue link.new) self.new.out) result self.new.told }
+        ensures turn { RunsClientTurn (Asks (L.asked link.old) (L.asked link.new)) may_wait self.old.carriage now (station self.old.host (L.queue link.old) self.old.out) (station self.new.host (L.queue link.new) self.new.out) result self.new.told }
         // All was sent.
         ensures outbox { self.new.out ≡ record { packets = []; cap = self.old.out.cap } }
         ensures carriage { self.new.carriage ≡ self.old.carriage }
@@ -93,7 +93,7 @@ impl Node {
     /// by [`Node::tick`].
     pub fn receive<L: Link>(&mut self, link: &mut L, now: u64, may_wait: bool) -> Half
         ensures failures { result.failures ≡ L.count link.old }
-        ensures arrival { RunsArrival self.old.carriage now (station self.old.host (L.queue link.old) self.old.out) (station self.new.host (L.queue link.new) self.new.out) result.worked self.new.told }
+        ensures arrival { RunsArrival (Asks (L.asked link.old) (L.asked link.new)) may_wait self.old.carriage now (station self.old.host (L.queue link.old) self.old.out) (station self.new.host (L.queue link.new) self.new.out) result.worked self.new.told }
         ensures outbox { self.new.out ≡ record { packets = []; cap = self.old.out.cap } }
         ensures carriage { self.new.carriage ≡ self.old.carriage }
     {
@@ -117,7 +117,7 @@ impl Node {
     /// The second half of a turn: sends what waits, ticks each slot, and says how the turn ended.
     pub fn tick<L: Link>(&mut self, link: &mut L, now: u64, half: Half) -> TurnEnd
         ensures fault { (result ≡ TurnEnd.LinkFault) ↔ Rose half.failures (L.count link.new) }
-        ensures ticks { RunsTicks self.old.carriage now (station self.old.host (L.queue link.old) self.old.out) (station self.new.host (L.queue link.new) self.new.out) half.worked result }
+        ensures ticks { RunsTicks (Asks (L.asked link.old) (L.asked link.new)) self.old.carriage now (station self.old.host (L.queue link.old) self.old.out) (station self.new.host (L.queue link.new) self.new.out) half.worked result }
         ensures told { self.new.told ≡ self.old.told }
         ensures outbox { self.new.out ≡ record { packets = []; cap = self.old.out.cap } }
         ensures carriage { self.new.carriage ≡ self.old.carriage }

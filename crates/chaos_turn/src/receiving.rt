@@ -1,5 +1,6 @@
 //! What comes from a link.
-ghost use Rattle.std.specs.Prelude.{◌≡◌, IfSome};
+ghost use Rattle.std.specs.Prelude.{◌≡◌, [], ◌∷◌, IfSome};
+ghost use Rattle.chaos_link.specs.Link.{Asks, Receive};
 ghost use Rattle.chaos_turn.specs.Arrive.{Receives};
 
 use chaos_link::{LINK_ROOM, Link, LinkFault, Packets, Received, open_datagram};
@@ -17,8 +18,8 @@ pub fn receive<'a, L: Link>(
     ensures queued { IfSome (L.queue link.old) (Receives result (L.queue link.new)) }
     // Something came only where the link counted no failure.
     ensures counted { IfSome result (λ _. L.count link.new ≡ L.count link.old) }
-    // The link is asked to send nothing.
-    ensures asked { L.asked link.new ≡ L.asked link.old }
+    // The link was asked to receive once, and nothing else.
+    ensures asked { Asks (L.asked link.old) (L.asked link.new) (Receive may_wait ∷ []) }
 {
     match link.receive(buffer, may_wait) {
         Received::Got(count) => Some(open_datagram(&buffer[..count])),

@@ -1,7 +1,9 @@
 //! What a host put out goes into a link.
 ghost use Rattle.std.specs.Prelude.{◌≡◌, [], ◌∷◌};
 ghost use Rattle.chaos_packet.specs.Outbox.{OutboxView};
-ghost use Rattle.chaos_turn.specs.Link.{Asks, IsReadBack, Sends, SendsOneByOne, datagram_for_all, datagrams_of, has_packets, sent_by};
+ghost use Rattle.chaos_turn.specs.Link.{IsReadBack, Sends, SendsLots, SendsOneByOne, datagram_for_all, datagrams_of, has_packets, read_all, sent_by};
+ghost use Rattle.chaos_link.specs.Link.{Asks, to_send};
+ghost use Rattle.chaos_link.specs.Loads.{packets_of};
 
 use chaos_link::{Carriage, Link, Load, MAX_DATAGRAM, write_datagram};
 use chaos_packet::{Outbox, Packet};
@@ -14,9 +16,9 @@ use chaos_packet::{Outbox, Packet};
 /// doesn't wait for the next turn. It takes no memory, and costs a look where nothing waits, as after most calls of a turn.
 #[inline(always)]
 pub fn send_all<L: Link>(link: &mut L, out: &mut Outbox, carriage: Carriage) -> bool
-    ensures sends { Sends (L.queue link.old) (sent_by carriage (out.old.packets ∷ [])) (L.queue link.new) }
     // Whatever the link answers, it is asked to send all of it, once and in order, and nothing else.
-    ensures asks { Asks (L.asked link.old) (sent_by carriage (out.old.packets ∷ [])) (L.asked link.new) }
+    // Of what it posts the packets are read that waited.
+    ensures sends { SendsLots (Asks (L.asked link.old) (L.asked link.new)) carriage (L.queue link.old) (out.old.packets ∷ []) (L.queue link.new) }
     ensures empty { out.new ≡ record { packets = []; cap = out.old.cap } }
     ensures told { result ≡ has_packets (out.old.packets ∷ []) }
 {
@@ -28,9 +30,11 @@ pub fn send_all<L: Link>(link: &mut L, out: &mut Outbox, carriage: Carriage) -> 
 }
 
 /// Sends all that waits by the carriage, the oldest first.
+#[tactic(auto, using(crate::proofs::Queue::lot_read_so))]
 fn send_waiting<L: Link>(link: &mut L, out: &mut Outbox, carriage: Carriage)
     ensures sends { Sends (L.queue link.old) (sent_by carriage (out.old.packets ∷ [])) (L.queue link.new) }
-    ensures asks { Asks (L.asked link.old) (sent_by carriage (out.old.packets ∷ [])) (L.asked link.new) }
+    ensures read { read_all (sent_by carriage (out.old.packets ∷ [])) ≡ packets_of (out.old.packets ∷ []) }
+    ensures asks { Asks (L.asked link.old) (L.asked link.new) (to_send (sent_by carriage (out.old.packets ∷ []))) }
     ensures empty { out.new ≡ record { packets = []; cap = out.old.cap } }
 {
     match carriage {
@@ -42,7 +46,8 @@ fn send_waiting<L: Link>(link: &mut L, out: &mut Outbox, carriage: Carriage)
 /// Sends all that waits, each packet as its canonical datagram to its destination, which is written from the packet where it lies.
 fn send_singly<L: Link>(link: &mut L, out: &mut Outbox)
     ensures sends { Sends (L.queue link.old) (datagrams_of Carriage.One out.old.packets) (L.queue link.new) }
-    ensures asks { Asks (L.asked link.old) (datagrams_of Carriage.One out.old.packets) (L.asked link.new) }
+    ensures asks { Asks (L.asked link.old) (L.asked link.new) (to_send (datagrams_of Carriage.One out.old.packets)) }
+    ensures read { read_all (datagrams_of Carriage.One out.old.packets) ≡ out.old.packets }
     ensures empty { out.new ≡ record { packets = []; cap = out.old.cap } }
 {
     // One buffer for all: it is filled once.
@@ -56,7 +61,8 @@ fn send_singly<L: Link>(link: &mut L, out: &mut Outbox)
 /// Sends a packet as its canonical datagram, which is written into the buffer.
 fn send<L: Link>(link: &mut L, packet: &Packet, buffer: &mut [u8; MAX_DATAGRAM])
     ensures sends { Sends (L.queue link.old) (datagrams_of Carriage.One (packet.now ∷ [])) (L.queue link.new) }
-    ensures asks { Asks (L.asked link.old) (datagrams_of Carriage.One (packet.now ∷ [])) (L.asked link.new) }
+    ensures asks { Asks (L.asked link.old) (L.asked link.new) (to_send (datagrams_of Carriage.One (packet.now ∷ []))) }
+    ensures read { read_all (datagrams_of Carriage.One (packet.now ∷ [])) ≡ packet.now ∷ [] }
 {
     let end = write_datagram(packet, buffer);
     let _ = link.send(packet.dst, &buffer[..end]);
@@ -65,7 +71,8 @@ fn send<L: Link>(link: &mut L, packet: &Packet, buffer: &mut [u8; MAX_DATAGRAM])
 /// Sends all that waits, load by load: a packet that doesn't join the load before it begins the next.
 fn send_loads<L: Link>(link: &mut L, out: &mut Outbox)
     ensures sends { Sends (L.queue link.old) (datagrams_of Carriage.Two out.old.packets) (L.queue link.new) }
-    ensures asks { Asks (L.asked link.old) (datagrams_of Carriage.Two out.old.packets) (L.asked link.new) }
+    ensures asks { Asks (L.asked link.old) (L.asked link.new) (to_send (datagrams_of Carriage.Two out.old.packets)) }
+    ensures read { read_all (datagrams_of Carriage.Two out.old.packets) ≡ out.old.packets }
     ensures empty { out.new ≡ record { packets = []; cap = out.old.cap } }
 {
     let Some(first) = out.front() else {
@@ -86,7 +93,8 @@ fn send_loads<L: Link>(link: &mut L, out: &mut Outbox)
 /// Sends a load as its datagram.
 fn send_load<L: Link>(link: &mut L, load: &Load)
     ensures sends { Sends (L.queue link.old) (datagram_for_all load.now ∷ []) (L.queue link.new) }
-    ensures asks { Asks (L.asked link.old) (datagram_for_all load.now ∷ []) (L.asked link.new) }
+    ensures asks { Asks (L.asked link.old) (L.asked link.new) (to_send (datagram_for_all load.now ∷ [])) }
+    ensures read { read_all (datagram_for_all load.now ∷ []) ≡ load.now }
 {
     let _ = link.send(load.destination(), load.datagram());
 }

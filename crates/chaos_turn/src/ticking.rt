@@ -1,5 +1,6 @@
 //! What is due in each slot.
 ghost use Rattle.std.specs.Prelude.{◌≡◌, ◌≤◌, [], length};
+ghost use Rattle.chaos_link.specs.Link.{Asks};
 ghost use Rattle.chaos_turn.specs.Phase.{DoesPhase, over_slots};
 ghost use Rattle.chaos_turn.specs.Slots.{tick_at};
 ghost use Rattle.chaos_turn.specs.Station.{station};
@@ -23,7 +24,7 @@ fn tick_slot<L: Link>(
     requires window { host.old.config.send_cap ≤ TURN_ROOM }
     requires room { TURN_ROOM ≤ out.old.cap }
     requires empty { out.old.packets ≡ [] }
-    ensures { DoesPhase carriage (tick_at now place host.old) (station host.old (L.queue link.old) out.old) (station host.new (L.queue link.new) out.new) result }
+    ensures { DoesPhase (Asks (L.asked link.old) (L.asked link.new)) carriage (tick_at now place host.old) (station host.old (L.queue link.old) out.old) (station host.new (L.queue link.new) out.new) result }
 {
     let _ = host.tick(place, now, out);
     send_all(link, out, carriage)
@@ -40,7 +41,7 @@ pub fn tick_slots<L: Link>(
 ) -> bool
     requires room { TURN_ROOM ≤ out.old.cap }
     requires empty { out.old.packets ≡ [] }
-    ensures { DoesPhase carriage (over_slots (tick_at now) (length host.old.slots) host.old) (station host.old (L.queue link.old) out.old) (station host.new (L.queue link.new) out.new) result }
+    ensures { DoesPhase (Asks (L.asked link.old) (L.asked link.new)) carriage (over_slots (tick_at now) (length host.old.slots) host.old) (station host.old (L.queue link.old) out.old) (station host.new (L.queue link.new) out.new) result }
 {
     // A configuration has a send window of at most 64 packets, so that the outbox has room for a tick.
     let _window = host.config().send_cap();

@@ -1,3 +1,4 @@
-pub mod Status
-pub mod Paths
 pub mod Over
+pub mod Paths
+pub mod Patient
+pub mod Status

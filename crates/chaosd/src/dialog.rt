@@ -57,7 +57,9 @@ impl<'a, 'r, C: AllocGlobal + Dial + Eprint, L: Link> CallDialog<'a, 'r, C, L> {
 }
 
 impl<C: Dial + Eprint, L: Link> Talk for CallDialog<'_, '_, C, L> {
-    ghost talked = { λ dialog. ⟦<Hurried<Call<'static, C, L>> as Talk>⟧.talked dialog.call };
+    ghost talked = { λ now start. ⟦<Hurried<Call<'static, C, L>> as Talk>⟧.talked now.call start.call };
+
+    ghost began = { λ dialog. ⟦<Hurried<Call<'static, C, L>> as Talk>⟧.began dialog.call };
 
     ghost ready = { λ dialog. ⟦<Hurried<Call<'static, C, L>> as Talk>⟧.ready dialog.call };
 

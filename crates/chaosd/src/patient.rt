@@ -1,8 +1,9 @@
 //! A link and a talk that wait for a reply as long as a user wants.
-ghost use Rattle.std.specs.Prelude.{◌≡◌, ◌||◌, None};
+ghost use Rattle.std.specs.Prelude.{◌≡◌, ◌||◌, [], None, refl};
 ghost use Rattle.chaos_packet.specs.Count.{with_failure};
 ghost use Rattle.chaos_link.specs.Link.{IsWithin};
 ghost use Rattle.chaos_link.specs.declared.limits.TheConstants.{LINK_ROOM};
+ghost use Rattle.chaosd.specs.Patient.{AsksToSend, SendsNothing};
 
 use chaos_file::Reply;
 use chaos_link::{LINK_ROOM, Link, Received, Sent};
@@ -23,7 +24,7 @@ struct Waits {
 }
 
 /// A link in which a thousand turns that wait take as many seconds as a user wants, or as long as those of the link behind it. It counts
-/// its own failures, since in one turn it may receive several times.
+/// its own failures, since in one turn it may receive several times. It sends what it is asked to send, and nothing else.
 #[derive(Drop)]
 pub(crate) struct Patient<'a, C: Dial, L> {
     clock: &'a C,
@@ -86,6 +87,8 @@ impl Waits {
         buffer: &mut [u8; LINK_ROOM],
     ) -> Received
         ensures within { IsWithin LINK_ROOM result }
+        // It asks the link to receive, maybe several times, and to send nothing.
+        ensures asked { SendsNothing (L.asked inner.old) (L.asked inner.new) }
     {
         self.granted = self.granted.saturating_add(self.share);
         // each wait spends a millisecond at least
@@ -110,6 +113,10 @@ impl<C: Dial, L: Link> Link for Patient<'_, C, L> {
     ghost count = { λ link. link.failures };
 
     ghost queue = { λ _. None };
+
+    ghost asked = { λ now start. AsksToSend L.asked now.inner start.inner };
+
+    ghost began = { λ link. record { asks = []; was_asked = L.began link.inner; sends = refl } };
 
     fn send(&mut self, to_address: u16, bytes: &[u8]) -> Sent {
         let sent = self.inner.send(to_address, bytes);
@@ -188,7 +195,9 @@ impl<T: Talk> Hurried<T> {
 }
 
 impl<T: Talk> Talk for Hurried<T> {
-    ghost talked = { λ h. T.talked h.inner };
+    ghost talked = { λ now start. T.talked now.inner start.inner };
+
+    ghost began = { λ h. T.began h.inner };
 
     ghost ready = { λ h. T.ready h.inner };
 

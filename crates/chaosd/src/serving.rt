@@ -7,6 +7,7 @@ use arrayvec::ArrayVec;
 use chaos_conn::ConnConfig;
 use chaos_file::{DirStore, Store};
 use chaos_link::{Link, MAX_PEERS, Peer, Peers, UdpLink};
+use chaosd_clock::ClockMoments;
 use chaosd_copies::ExitStatus;
 use chaosd_io::RunFault;
 use chaosd_line::{LogLevel, Serve};
@@ -49,6 +50,21 @@ fn level_of(is_quiet: bool, log: LogLevel) -> Level {
     }
 }
 
+/// Makes the turns of a service, by the system's clock.
+fn make_turns<R: AllocGlobal + Clock + Eprint, L: Link, S: Store>(
+    rt: &R,
+    options: ServeOptions,
+    journal: &Journal<'_, R>,
+    link: &mut L,
+    store: &mut S,
+) -> Result<(), RunFault>
+    requires { 0 < options.me }
+{
+    let mut moments = ClockMoments::new(rt)?;
+    let mut log = Connections(&*journal);
+    run_serve_by(&mut moments, rt.alloc(), link, store, options, &mut log)
+}
+
 /// Serves a store, and tells how that ended.
 fn serve<R: AllocGlobal + Clock + Eprint, L: Link, S: Store>(
     rt: &R,
@@ -60,14 +76,7 @@ fn serve<R: AllocGlobal + Clock + Eprint, L: Link, S: Store>(
     requires { 0 < options.me }
 {
     let turns = options.turns;
-    let end = run_serve_by(
-        rt,
-        rt.alloc(),
-        link,
-        store,
-        options,
-        &mut Connections(&*journal),
-    );
+    let end = make_turns(rt, options, journal, link, store);
     tell_served(journal, &end, turns);
     ExitStatus::of_run(end.map(|()| true))
 }

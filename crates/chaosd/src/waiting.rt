@@ -1,6 +1,4 @@
 //! A client that waits for a server, and what it tells of that.
-ghost use Rattle.std.specs.Prelude.{None};
-
 use chaos_link::{DatagramSocket, LINK_ROOM, Peer};
 use std::cell::Cell;
 use std::io;
@@ -152,15 +150,16 @@ impl<'a, R: Eprint> Waiting<'a, R> {
     }
 }
 
-/// A client's socket, whose receives fail once nobody listens where the server is to be.
+/// A client's socket, whose receives fail once nobody listens where the server is to be. It asks the inner
+/// socket exactly what it is asked.
 #[derive(Drop)]
-pub(crate) struct WaitingSocket<'a, R> {
-    inner: UdpSocket,
+pub(crate) struct WaitingSocket<'a, R, S = UdpSocket> {
+    inner: S,
     waiting: &'a Waiting<'a, R>,
 }
 
-impl<'a, R: Clock + Eprint> WaitingSocket<'a, R> {
-    pub(crate) fn new(inner: UdpSocket, waiting: &'a Waiting<'a, R>) -> Self {
+impl<'a, R: Clock + Eprint, S> WaitingSocket<'a, R, S> {
+    pub(crate) fn new(inner: S, waiting: &'a Waiting<'a, R>) -> Self {
         WaitingSocket { inner, waiting }
     }
 
@@ -176,8 +175,10 @@ impl<'a, R: Clock + Eprint> WaitingSocket<'a, R> {
     }
 }
 
-impl<R: Clock + Eprint> DatagramSocket for WaitingSocket<'_, R> {
-    ghost asked = { λ _. None };
+impl<R: Clock + Eprint, S: DatagramSocket> DatagramSocket for WaitingSocket<'_, R, S> {
+    ghost asked = { λ now start. S.asked now.inner start.inner };
+
+    ghost began = { λ socket. S.began socket.inner };
 
     fn send_datagram(&mut self, bytes: &[u8], to: SocketAddrV4) -> io::Result<()> {
         self.inner.send_datagram(bytes, to)

@@ -6,6 +6,8 @@
 
 mod clock;
 mod dial;
+mod moments;
 
 pub use clock::Epoch;
 pub use dial::Dial;
+pub use moments::{ClockMoments, Moments};

@@ -1,6 +1,6 @@
 -- How a copy ends.
 use Rattle.std.proofs.Common.{sym, subst}
-use Rattle.std.specs.Prelude.{◌≡◌, false, Ok, Err, Result, IfOk, IfErr, MatchResult}
+use Rattle.std.specs.Prelude.{◌≡◌, false, Ok, Err, Result, IfOk, IfErr, OnOk, MatchResult}
 use Rattle.chaosd_io.specs.declared.fault.RunFault.{RunFault}
 use Rattle.chaosd_copy.specs.declared.end.CopyEnd.{CopyEnd}
 use Rattle.chaosd_copy.specs.declared.end.CopyEnd.TheVariants as e
@@ -63,3 +63,10 @@ pub of_tried : {W : Type 0} (tried : Result Contents (Outcome W)) (outcome : Out
     → MatchCopied outcome P Q
 of_tried (Ok contents) outcome P R Q is f r missed q = subst (λ w. MatchCopied w P Q) (sym is) (f contents r)
 of_tried (Err m) outcome P R Q is f r missed q = subst (λ w. MatchCopied w P Q) (sym is) (not_copied m P Q missed q)
+
+-- what was done of a command, where it was settled well
+pub settled_then : {D F G : Type 0} (end : Result CopyEnd RunFault) (r : Result G F) (a b : D) (P : D → Type 0)
+    → OnOk r (end ≡ Ok e.Done) → OnOk r (b ≡ a) → IfDone end (P a) → OnOk r (P b)
+settled_then end (Ok x) a b P done same h =
+    subst P (sym same) (let k : IfDone (Ok e.Done) (P a) = subst (λ z. IfDone z (P a)) done h in k)
+settled_then end (Err x) a b P done same h = tt

@@ -6,7 +6,7 @@ use Rattle.chaosd_copy.specs.declared.text.Charset.TheVariants.{LispMachine, Asc
 use Rattle.chaosd_copy.specs.Text.{byte_in}
 use Rattle.chaosd_copy.specs.Copy.{get_commands, get_replies, put_commands, put_replies}
 use Rattle.chaosd_copy.specs.Row.{file_handle}
-use Rattle.chaosd_copy.specs.Talk.{Talked, Since}
+use Rattle.chaosd_copy.specs.Talk.{History}
 use Rattle.chaosd_copy.specs.Ends.{tids_from, delete_command, delete_reply, rename_command, rename_reply}
 use Rattle.chaosd_copies.specs.declared.outcome.Contents.{Contents}
 
@@ -31,23 +31,30 @@ bytes_in set false bytes = bytes
 -- ---- what was sent last
 
 -- The last that was sent and received is all that gets this file, with the replies of a server that has these bytes.
-abbrev pub HasGot : List ℕ → List ℕ → Option Talked → Type 0
-HasGot path bytes now = (start : Option Talked)
-    × Since start now (get_commands (tids_from 1) file_handle path (length bytes))
-    (get_replies (tids_from 1) file_handle bytes)
+abbrev pub HasGot : {T : Type 0} → List ℕ → List ℕ → History T → Type 0
+HasGot {T} path bytes now = (start : T)
+    × now start (record {
+      sent = get_commands (tids_from 1) file_handle path (length bytes);
+      received = get_replies (tids_from 1) file_handle bytes;
+    })
 
 -- The last that was sent and received is all that puts this file, with the replies of a server that took it.
-abbrev pub HasPut : List ℕ → List ℕ → Option Talked → Type 0
-HasPut path bytes now = (start : Option Talked)
-    × Since start now (put_commands (tids_from 1) file_handle path bytes) (put_replies (tids_from 1) file_handle bytes)
+abbrev pub HasPut : {T : Type 0} → List ℕ → List ℕ → History T → Type 0
+HasPut {T} path bytes now = (start : T)
+    × now start (record {
+      sent = put_commands (tids_from 1) file_handle path bytes;
+      received = put_replies (tids_from 1) file_handle bytes;
+    })
 
 -- The last that was sent and received is the DELETE of this file, and that it was done.
-abbrev pub HasDeleted : List ℕ → Option Talked → Type 0
-HasDeleted path now = (start : Option Talked) × Since start now (delete_command 1 path ∷ []) (delete_reply 1 ∷ [])
+abbrev pub HasDeleted : {T : Type 0} → List ℕ → History T → Type 0
+HasDeleted {T} path now =
+    (start : T) × now start (record { sent = delete_command 1 path ∷ []; received = delete_reply 1 ∷ [] })
 
 -- Likewise a RENAME.
-abbrev pub HasRenamed : List ℕ → List ℕ → Option Talked → Type 0
-HasRenamed old new now = (start : Option Talked) × Since start now (rename_command 1 old new ∷ []) (rename_reply 1 ∷ [])
+abbrev pub HasRenamed : {T : Type 0} → List ℕ → List ℕ → History T → Type 0
+HasRenamed {T} old new now =
+    (start : T) × now start (record { sent = rename_command 1 old new ∷ []; received = rename_reply 1 ∷ [] })
 
 -- ---- one file
 
@@ -57,13 +64,13 @@ contents_of true bytes = record { size = length bytes; digest = Some (sha256 byt
 contents_of false bytes = record { size = length bytes; digest = None }
 
 -- These bytes were got, and then written whole here, as a text where that is asked for.
-abbrev pub GetsWhole : List ℕ → List ℕ → Bool → Bool → Contents → Option Talked → Option (List Kept)
+abbrev pub GetsWhole : {T : Type 0} → List ℕ → List ℕ → Bool → Bool → Contents → History T → Option (List Kept)
     → Option (List Kept) → Type 0
 GetsWhole path local is_text is_digested contents talked before after = (bytes : List ℕ) × HasGot path bytes talked
     × (after ≡ kept_after local (bytes_in Ascii is_text bytes) before)
     × (contents ≡ contents_of is_digested (bytes_in Ascii is_text bytes))
 
 -- All that this file has here was put, as a text where that is asked for.
-abbrev pub PutsWhole : List ℕ → Option (List ℕ) → Bool → Bool → Contents → Option Talked → Type 0
+abbrev pub PutsWhole : {T : Type 0} → List ℕ → Option (List ℕ) → Bool → Bool → Contents → History T → Type 0
 PutsWhole path held is_text is_digested contents talked = (bytes : List ℕ) × IfSome held (λ all. bytes ≡ all)
     × HasPut path (bytes_in LispMachine is_text bytes) talked × (contents ≡ contents_of is_digested bytes)

@@ -1,5 +1,4 @@
 //! A dialog with a server.
-ghost use Rattle.std.specs.Prelude.{◌≡◌};
 
 use chaosd_copy::Talk;
 use chaosd_io::RunFault;
@@ -13,14 +12,11 @@ pub trait Dialog: Talk {
     ///
     /// # Errors
     /// Those of the talk's turns.
-    fn begin(&mut self) -> Result<(), RunFault>
-        ensures { Self.talked self.new ≡ Self.talked self.old };
+    fn begin(&mut self) -> Result<(), RunFault>;
 
     /// Ends the connection. What fails then changes nothing of what was copied.
-    fn end(&mut self)
-        ensures { Self.talked self.new ≡ Self.talked self.old };
+    fn end(&mut self);
 
     /// Why no reply came, as far as is known.
-    fn why(&mut self) -> Self::Why
-        ensures { Self.talked self.new ≡ Self.talked self.old };
+    fn why(&mut self) -> Self::Why;
 }

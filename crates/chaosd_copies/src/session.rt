@@ -53,7 +53,7 @@ impl<'a, D: Dialog, V: Viewer> Session<'a, D, V> {
     fn settled(&mut self, end: Result<CopyEnd, RunFault>) -> Result<(), Outcome<D::Why>>
         ensures done { OnOk result (end ≡ Ok CopyEnd.Done) }
         ensures missed { IfErr result (λ outcome. is_well outcome ≡ false) }
-        ensures still { D.talked self.new.watched.inner ≡ D.talked self.old.watched.inner }
+        ensures still { OnOk result (self.new.watched.inner ≡ self.old.watched.inner) }
     {
         match end {
             Ok(CopyEnd::Done) => Ok(()),
@@ -132,7 +132,7 @@ impl<'a, D: Dialog, V: Viewer> Session<'a, D, V> {
     fn settled_change(&mut self, end: Result<CopyEnd, RunFault>) -> Result<(), Outcome<D::Why>>
         ensures done { OnOk result (end ≡ Ok CopyEnd.Done) }
         ensures missed { IfErr result (λ outcome. is_well outcome ≡ false) }
-        ensures still { D.talked self.new.watched.inner ≡ D.talked self.old.watched.inner }
+        ensures still { OnOk result (self.new.watched.inner ≡ self.old.watched.inner) }
     {
         self.is_in = matches!(end, Ok(CopyEnd::Done | CopyEnd::Refused(_)));
         match end {

@@ -94,7 +94,9 @@ impl<V: Viewer, T: Talk> Watched<V, T> {
 }
 
 impl<V: Viewer, T: Talk> Talk for Watched<V, T> {
-    ghost talked = { λ watched. T.talked watched.inner };
+    ghost talked = { λ now start. T.talked now.inner start.inner };
+
+    ghost began = { λ watched. T.began watched.inner };
 
     ghost ready = { λ watched. T.ready watched.inner };
 

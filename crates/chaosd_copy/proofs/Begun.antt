@@ -8,13 +8,13 @@ use Rattle.chaos_file.specs.Command.{OpenRead, OpenWrite, Read, Write, Close}
 use Rattle.chaos_file.specs.Spelling.{spelling_of}
 use Rattle.chaos_file.specs.Answer.{Opened, Wrote}
 use Rattle.chaosd_copy.specs.Copy.{upto, chunk, chunk_count, reply_of, put_front, put_front_replies, get_front}
-use Rattle.chaosd_copy.specs.Talk.{Talked, Since, SentOrNot, SentUpTo, taken}
-use Rattle.chaosd_copy.specs.Row.{file_handle, received_in}
+use Rattle.chaosd_copy.specs.Talk.{received_in, History, Since, SentOrNot, SentUpTo, taken}
+use Rattle.chaosd_copy.specs.Row.{file_handle}
 use Rattle.chaosd_copy.specs.Ends.{PutBegun, GetBegun, tids_from, write_sent, write_received, read_sent}
 use Rattle.chaosd_copy.proofs.Joined.{upto_same, since_same, next_tid}
 use Rattle.chaosd_copy.proofs.Talks.{since_then}
 
-few_upto : (a b : Option Talked) (f : ℕ → List ℕ) (k : ℕ) (rs : List (List ℕ)) (command : List ℕ) → f 0 ≡ command
+few_upto : {T : Type 0} (a b : History T) (f : ℕ → List ℕ) (k : ℕ) (rs : List (List ℕ)) (command : List ℕ) → f 0 ≡ command
     → k ≤ 1 → Since a b (upto f k) rs → SentOrNot a b command
 few_upto a b f zero rs command e l h = (rs, inl h)
 few_upto a b f (suc k) rs command e l h =
@@ -22,7 +22,7 @@ few_upto a b f (suc k) rs command e l h =
     (rs, inr (subst (λ cs. Since a b cs rs) (ap (upto f) one ∙ ap (λ c. c ∷ []) e) h))
 
 -- one command, whatever came of it
-pub asked_or_not : {F : Type 0} (a b : Option Talked) (f : ℕ → List ℕ) (k : ℕ) (command reply : List ℕ)
+pub asked_or_not : {F : Type 0} {T : Type 0} (a b : History T) (f : ℕ → List ℕ) (k : ℕ) (command reply : List ℕ)
     (result : Result Bool F)
     → f 0 ≡ command → k ≤ 1
     → IfOk result (λ came. Since a b (upto f k) ([] ++ received_in (taken came reply)))
@@ -32,7 +32,7 @@ asked_or_not a b f k command reply (Ok came) e l h g = few_upto a b f k _ comman
 asked_or_not a b f k command reply (Err x) e l h g = few_upto a b f k _ command e l g
 
 -- some of the commands of a row
-pub sent_up_to : (a b : Option Talked) (f : ℕ → List ℕ) (k m n : ℕ) (rs : List (List ℕ)) → k ≤ m → m ≡ n
+pub sent_up_to : {T : Type 0} (a b : History T) (f : ℕ → List ℕ) (k m n : ℕ) (rs : List (List ℕ)) → k ≤ m → m ≡ n
     → Since a b (upto f k) rs → SentUpTo a b f n
 sent_up_to a b f k m n rs l e h = (k, omega arith, rs, h)
 
@@ -56,7 +56,7 @@ replies_named first bytes k =
     (λ i m. ap (λ t. reply_of (decimal t) file_handle (Wrote (min (MAX_CHUNK * (1 + i)) (length bytes))))
     (next_tid first i))
 
-pub put_opening : (a b : Option Talked) (first : ℕ) (path bytes : List ℕ)
+pub put_opening : {T : Type 0} (a b : History T) (first : ℕ) (path bytes : List ℕ)
     → SentOrNot a b (spelling_of (decimal first) file_handle (OpenWrite path))
     → PutBegun a b (tids_from first) file_handle path bytes
 put_opening a b first path bytes (rs, inl h) = inl (rs, h)
@@ -65,7 +65,7 @@ put_opening a b first path bytes (rs, inr h) =
     (inl
     (0, omega arith, rs, subst (λ n. Since a b (spelling_of (decimal n) file_handle (OpenWrite path) ∷ []) rs) (open_named first) h))
 
-pub put_writing : (a b c : Option Talked) (first : ℕ) (path bytes reply : List ℕ)
+pub put_writing : {T : Type 0} (a b c : History T) (first : ℕ) (path bytes reply : List ℕ)
     → Since a b (spelling_of (decimal first) file_handle (OpenWrite path) ∷ []) (reply ∷ [])
     → SentUpTo b c (write_sent (first + 1) bytes) (chunk_count (length bytes))
     → PutBegun a c (tids_from first) file_handle path bytes
@@ -80,7 +80,7 @@ put_writing a b c first path bytes reply h (k, l, rs, g) =
           (since_same b c _ _ rs rs (writes_named first bytes k) refl g),
     ))
 
-pub put_written : (a b c : Option Talked) (first : ℕ) (path bytes : List ℕ)
+pub put_written : {T : Type 0} (a b c : History T) (first : ℕ) (path bytes : List ℕ)
     → Since a b (spelling_of (decimal first) file_handle (OpenWrite path) ∷ [])
     (reply_of (decimal first) file_handle (Opened 0) ∷ [])
     → Since b c (upto (write_sent (first + 1) bytes) (chunk_count (length bytes)))
@@ -96,7 +96,7 @@ put_written a b c first path bytes h g =
     (open_named first) h)
     (since_same b c _ _ _ _ (writes_named first bytes n) (replies_named first bytes n) g)
 
-put_end : (a c d : Option Talked) (first : ℕ) (path bytes : List ℕ)
+put_end : {T : Type 0} (a c d : History T) (first : ℕ) (path bytes : List ℕ)
     → Since a c (put_front (tids_from first) file_handle path bytes (chunk_count (length bytes)))
     (put_front_replies (tids_from first) file_handle bytes (chunk_count (length bytes)))
     → SentOrNot c d (spelling_of (decimal (first + 1 + chunk_count (length bytes))) file_handle Close)
@@ -119,7 +119,7 @@ put_end a c d first path bytes h (rs, inr g) =
           (subst (λ t. Since c d (spelling_of (decimal t) file_handle Close ∷ []) rs) (next_tid first n) g),
     ))
 
-pub put_closing : (a b c d : Option Talked) (first : ℕ) (path bytes : List ℕ)
+pub put_closing : {T : Type 0} (a b c d : History T) (first : ℕ) (path bytes : List ℕ)
     → Since a b (spelling_of (decimal first) file_handle (OpenWrite path) ∷ [])
     (reply_of (decimal first) file_handle (Opened 0) ∷ [])
     → Since b c (upto (write_sent (first + 1) bytes) (chunk_count (length bytes)))
@@ -134,7 +134,7 @@ reads_named : (first k : ℕ)
     → upto (read_sent (first + 1)) k ≡ upto (λ i. spelling_of (tids_from first (1 + i)) file_handle Read) k
 reads_named first k = upto_same _ _ k (λ i m. ap (λ t. spelling_of (decimal t) file_handle Read) (next_tid first i))
 
-pub get_opening : (a b : Option Talked) (first : ℕ) (path : List ℕ)
+pub get_opening : {T : Type 0} (a b : History T) (first : ℕ) (path : List ℕ)
     → SentOrNot a b (spelling_of (decimal first) file_handle (OpenRead path))
     → GetBegun a b (tids_from first) file_handle path
 get_opening a b first path (rs, inl h) = inl (rs, h)
@@ -143,7 +143,7 @@ get_opening a b first path (rs, inr h) =
     (inl
     (0, omega arith, 0, omega arith, rs, subst (λ n. Since a b (spelling_of (decimal n) file_handle (OpenRead path) ∷ []) rs) (open_named first) h))
 
-pub get_reading : (a b c : Option Talked) (first len : ℕ) (path reply : List ℕ) → len ≤ MAX_FILE
+pub get_reading : {T : Type 0} (a b c : History T) (first len : ℕ) (path reply : List ℕ) → len ≤ MAX_FILE
     → Since a b (spelling_of (decimal first) file_handle (OpenRead path) ∷ []) (reply ∷ [])
     → SentUpTo b c (read_sent (first + 1)) (1 + chunk_count len)
     → GetBegun a c (tids_from first) file_handle path
@@ -160,7 +160,7 @@ get_reading a b c first len path reply fits h (k, l, rs, g) =
           (since_same b c _ _ rs rs (reads_named first k) refl g),
     ))
 
-get_end : (a c d : Option Talked) (first len : ℕ) (path : List ℕ) (rs : List (List ℕ)) → len ≤ MAX_FILE
+get_end : {T : Type 0} (a c d : History T) (first len : ℕ) (path : List ℕ) (rs : List (List ℕ)) → len ≤ MAX_FILE
     → Since a c (get_front (tids_from first) file_handle path (1 + chunk_count len)) rs
     → SentOrNot c d (spelling_of (decimal (first + 2 + chunk_count len)) file_handle Close)
     → GetBegun a d (tids_from first) file_handle path
@@ -186,7 +186,7 @@ get_end a c d first len path rs fits h (qs, inr g) =
           (subst (λ t. Since c d (spelling_of (decimal t) file_handle Close ∷ []) qs) e g),
     ))
 
-pub get_closing : (a b c d : Option Talked) (first len : ℕ) (path reply : List ℕ) (rs : List (List ℕ)) → len ≤ MAX_FILE
+pub get_closing : {T : Type 0} (a b c d : History T) (first len : ℕ) (path reply : List ℕ) (rs : List (List ℕ)) → len ≤ MAX_FILE
     → Since a b (spelling_of (decimal first) file_handle (OpenRead path) ∷ []) (reply ∷ [])
     → Since b c (upto (read_sent (first + 1)) (1 + chunk_count len)) rs
     → SentOrNot c d (spelling_of (decimal (first + 2 + chunk_count len)) file_handle Close)

@@ -13,8 +13,8 @@ use Rattle.chaos_file.specs.Answer.{AtEnd, Opened, Wrote, Closed, read_answer, r
 use Rattle.chaosd_copy.specs.declared.end.CopyEnd.{CopyEnd}
 use Rattle.chaosd_copy.specs.declared.end.CopyEnd.TheVariants as e
 use Rattle.chaosd_copy.specs.Copy.{upto, chunk, chunk_count, reply_of, put_reply, put_front, put_front_replies, get_front_replies}
-use Rattle.chaosd_copy.specs.Talk.{Talked, Since, Received, sent_if, taken}
-use Rattle.chaosd_copy.specs.Row.{file_handle, received_in}
+use Rattle.chaosd_copy.specs.Talk.{received_in, History, Since, Received, sent_if, taken}
+use Rattle.chaosd_copy.specs.Row.{file_handle}
 use Rattle.chaosd_copy.specs.Ends.{UnlessCopied, IsErrorTo, EndedBy, EndedAt, WritesEnded, PutEnded, IsOpened, IsGiven, IsPiece, ReadsEnded, GetEnded, tids_from, unanswered, write_sent, write_received, read_received}
 use Rattle.chaosd_copy.proofs.Talks.{since_then, none_some}
 use Rattle.chaosd_copy.proofs.Begun.{open_named, put_written}
@@ -76,13 +76,13 @@ refused_wanted tid handle wanted last end is_wanted d other h =
 
 -- ---- what was received
 
-pub received_ok : {F : Type 0} (a b : Option Talked) (cs : List (List ℕ)) (reply : List ℕ) (result : Result Bool F)
+pub received_ok : {F : Type 0} {T : Type 0} (a b : History T) (cs : List (List ℕ)) (reply : List ℕ) (result : Result Bool F)
     → IfOk result (λ came. Since a b cs ([] ++ received_in (taken came reply)))
     → IfOk result (λ came. Received a b (received_in (taken came reply)))
 received_ok a b cs reply (Ok came) h = (cs, h)
 received_ok a b cs reply (Err x) h = tt
 
-pub received_then : (a b c : Option Talked) (cs rs qs : List (List ℕ)) → Since a b cs rs → Received b c qs
+pub received_then : {T : Type 0} (a b c : History T) (cs rs qs : List (List ℕ)) → Since a b cs rs → Received b c qs
     → Received a c (rs ++ qs)
 received_then a b c cs rs qs h (ds, k) = (cs ++ ds, since_then a b c cs rs ds qs h k)
 
@@ -93,7 +93,7 @@ writes_ended_named : (first i : ℕ) (bytes : List ℕ)
 writes_ended_named first i bytes =
     ap (λ t. reply_of (decimal t) file_handle (Wrote (min (MAX_CHUNK * (1 + i)) (length bytes)))) (next_tid first i)
 
-pub put_ended_opening : (a b : Option Talked) (first : ℕ) (path bytes : List ℕ) (last : Option (List ℕ)) (end : CopyEnd)
+pub put_ended_opening : {T : Type 0} (a b : History T) (first : ℕ) (path bytes : List ℕ) (last : Option (List ℕ)) (end : CopyEnd)
     → Received a b (received_in last)
     → EndedBy (decimal first) file_handle (λ r. r ≡ reply_of (decimal first) file_handle (Opened 0)) last end
     → PutEnded a b (tids_from first) file_handle path bytes end
@@ -103,14 +103,14 @@ put_ended_opening a b first path bytes last end h k =
     (open_named first) (last, h, k))
 
 -- OPEN was answered well
-pub opened_put : (a b : Option Talked) (first : ℕ) (cs : List (List ℕ))
+pub opened_put : {T : Type 0} (a b : History T) (first : ℕ) (cs : List (List ℕ))
     → Since a b cs (reply_of (decimal first) file_handle (Opened 0) ∷ [])
     → Since a b cs (reply_of (tids_from first 0) file_handle (Opened 0) ∷ [])
 opened_put a b first cs h =
     subst (λ n. Since a b cs (reply_of (decimal n) file_handle (Opened 0) ∷ [])) (open_named first) h
 
 -- the replies to OPEN and some WRITEs
-front_received : (a b c : Option Talked) (first : ℕ) (bytes : List ℕ) (cs qs : List (List ℕ)) (i : ℕ)
+front_received : {T : Type 0} (a b c : History T) (first : ℕ) (bytes : List ℕ) (cs qs : List (List ℕ)) (i : ℕ)
     → Since a b cs (reply_of (decimal first) file_handle (Opened 0) ∷ [])
     → Received b c (upto (write_received (first + 1) bytes) i ++ qs)
     → Received a c (put_front_replies (tids_from first) file_handle bytes i ++ qs)
@@ -121,7 +121,7 @@ front_received a b c first bytes cs qs i h k =
     (λ j m. writes_ended_named first j bytes))
     k)
 
-pub put_ended_writing : (a b c : Option Talked) (first : ℕ) (path bytes : List ℕ) (cs : List (List ℕ)) (end : CopyEnd)
+pub put_ended_writing : {T : Type 0} (a b c : History T) (first : ℕ) (path bytes : List ℕ) (cs : List (List ℕ)) (end : CopyEnd)
     → Since a b cs (reply_of (decimal first) file_handle (Opened 0) ∷ [])
     → WritesEnded b c (first + 1) bytes end
     → PutEnded a c (tids_from first) file_handle path bytes end
@@ -140,14 +140,14 @@ put_ended_writing a b c first path bytes cs end h (i, below, (last, received, en
     ))
 
 -- all WRITEs were answered well
-pub front_closing : (a b c d : Option Talked) (first : ℕ) (bytes : List ℕ) (cs ds qs : List (List ℕ))
+pub front_closing : {T : Type 0} (a b c d : History T) (first : ℕ) (bytes : List ℕ) (cs ds qs : List (List ℕ))
     → Since a b cs (reply_of (decimal first) file_handle (Opened 0) ∷ [])
     → Since b c ds (upto (write_received (first + 1) bytes) (chunk_count (length bytes))) → Received c d qs
     → Received a d (put_front_replies (tids_from first) file_handle bytes (chunk_count (length bytes)) ++ qs)
 front_closing a b c d first bytes cs ds qs h k l =
     front_received a b d first bytes cs qs (chunk_count (length bytes)) h (received_then b c d ds _ qs k l)
 
-pub put_ended_closing : (a b c d : Option Talked) (first tid : ℕ) (path bytes : List ℕ) (cs ds : List (List ℕ))
+pub put_ended_closing : {T : Type 0} (a b c d : History T) (first tid : ℕ) (path bytes : List ℕ) (cs ds : List (List ℕ))
     (last : Option (List ℕ)) (end : CopyEnd)
     → (last ≡ None → ⊥)
     → tid ≡ chunk_count (length bytes)
@@ -168,7 +168,7 @@ put_ended_closing a b c d first tid path bytes cs ds (Some reply) end some same 
     )))
 
 -- CLOSE got no reply
-pub put_ended_unanswered : (a b c d : Option Talked) (first tid : ℕ) (path bytes : List ℕ) (is_sent : Bool)
+pub put_ended_unanswered : {T : Type 0} (a b c d : History T) (first tid : ℕ) (path bytes : List ℕ) (is_sent : Bool)
     → tid ≡ chunk_count (length bytes)
     → Since a b (spelling_of (decimal first) file_handle (OpenWrite path) ∷ [])
     (reply_of (decimal first) file_handle (Opened 0) ∷ [])
@@ -201,7 +201,7 @@ put_ended_unanswered a b c d first tid path bytes false same h g k =
           (since_then a c d _ _ [] [] (put_written a b c first path bytes h g) k)),
     ))))
 
-pub writes_not_done : (a b : Option Talked) (cs : List (List ℕ)) (first i : ℕ) (bytes wanted : List ℕ)
+pub writes_not_done : {T : Type 0} (a b : History T) (cs : List (List ℕ)) (first i : ℕ) (bytes wanted : List ℕ)
     (last : Option (List ℕ)) (end : CopyEnd)
     → i < chunk_count (length bytes)
     → wanted ≡ write_received first bytes i → Since a b cs (upto (write_received first bytes) i ++ received_in last)
@@ -212,7 +212,7 @@ writes_not_done a b cs first i bytes wanted last end below same h =
     (λ k.
     (i, below, (last, (cs, h), subst (λ w. EndedBy (decimal (first + i)) file_handle (λ r. r ≡ w) last end) same k)))
 
-pub put_not_opened : (a b : Option Talked) (first : ℕ) (path bytes wanted : List ℕ) (last : Option (List ℕ))
+pub put_not_opened : {T : Type 0} (a b : History T) (first : ℕ) (path bytes wanted : List ℕ) (last : Option (List ℕ))
     (end : CopyEnd)
     → wanted ≡ reply_of (decimal first) file_handle (Opened 0)
     → Received a b (received_in last) → UnlessCopied end (EndedBy (decimal first) file_handle (λ r. r ≡ wanted) last)
@@ -222,14 +222,14 @@ put_not_opened a b first path bytes wanted last end same h =
     (λ k. put_ended_opening a b first path bytes last end h
     (subst (λ w. EndedBy (decimal first) file_handle (λ r. r ≡ w) last end) same k))
 
-pub put_not_written : (a b c : Option Talked) (first : ℕ) (path bytes : List ℕ) (cs : List (List ℕ)) (end : CopyEnd)
+pub put_not_written : {T : Type 0} (a b c : History T) (first : ℕ) (path bytes : List ℕ) (cs : List (List ℕ)) (end : CopyEnd)
     → Since a b cs (reply_of (decimal first) file_handle (Opened 0) ∷ [])
     → UnlessCopied end (WritesEnded b c (first + 1) bytes)
     → UnlessCopied end (PutEnded a c (tids_from first) file_handle path bytes)
 put_not_written a b c first path bytes cs end h =
     unless_then end _ _ (put_ended_writing a b c first path bytes cs end h)
 
-pub put_not_closed : (a b c d : Option Talked) (first tid : ℕ) (path bytes wanted : List ℕ) (cs ds : List (List ℕ))
+pub put_not_closed : {T : Type 0} (a b c d : History T) (first tid : ℕ) (path bytes wanted : List ℕ) (cs ds : List (List ℕ))
     (last : Option (List ℕ)) (end : CopyEnd)
     → (last ≡ None → ⊥)
     → tid ≡ chunk_count (length bytes)
@@ -254,7 +254,7 @@ past_end : (tid handle : List ℕ) (len i : ℕ) (x : List ℕ) → len ≤ MAX_
 past_end tid handle len i x past ([], size, is) = is
 past_end tid handle len i x past (b ∷ bs, size, is) = absurd (omega (arith, past, size))
 
-pub reads_not_done : (a b : Option Talked) (cs : List (List ℕ)) (first len i : ℕ) (bytes wanted : List ℕ)
+pub reads_not_done : {T : Type 0} (a b : History T) (cs : List (List ℕ)) (first len i : ℕ) (bytes wanted : List ℕ)
     (last : Option (List ℕ)) (end : CopyEnd)
     → i ≡ chunk_count len
     → wanted ≡ reply_of (decimal (first + i)) file_handle AtEnd
@@ -283,7 +283,7 @@ a_piece tid handle len i size x below same (piece, long, is) =
     omega (arith, below, long) in (piece, long ∙ sym same, is ∙ ap (reply_of tid handle) (given piece some))
 
 -- a READ's reply, by which no more bytes came
-pub piece_not_done : (a b : Option Talked) (cs : List (List ℕ)) (first len i size : ℕ) (xs ys : List ℕ)
+pub piece_not_done : {T : Type 0} (a b : History T) (cs : List (List ℕ)) (first len i size : ℕ) (xs ys : List ℕ)
     (last : Option (List ℕ)) (end : CopyEnd)
     → i < chunk_count len
     → size ≡ min (len - MAX_CHUNK * i) MAX_CHUNK → Since a b cs (upto (read_received first xs) i ++ received_in last)
@@ -320,7 +320,7 @@ one_length found reply tid len wanted all some same x e (n, fits, is) =
     let one : n ≡ len = cc in
     is ∙ ap (λ m. reply_of tid file_handle (Opened m)) one ∙ sym same
 
-pub get_not_opened : (a b : Option Talked) (first : ℕ) (bytes : List ℕ) (V : List ℕ → Type 0) (last : Option (List ℕ))
+pub get_not_opened : {T : Type 0} (a b : History T) (first : ℕ) (bytes : List ℕ) (V : List ℕ → Type 0) (last : Option (List ℕ))
     (end : CopyEnd)
     → ((x : List ℕ) → last ≡ Some x → IsOpened (decimal first) file_handle x → V x) → Received a b (received_in last)
     → UnlessCopied end (EndedBy (decimal first) file_handle V last)
@@ -337,7 +337,7 @@ reads_named : (first i : ℕ) (bytes : List ℕ)
 reads_named first i bytes = ap (λ t. reply_of (decimal t) file_handle (read_answer (chunk bytes i))) (next_tid first i)
 
 -- the replies to OPEN and some READs
-got_front : (a b c : Option Talked) (first len : ℕ) (bytes : List ℕ) (cs qs : List (List ℕ)) (i : ℕ)
+got_front : {T : Type 0} (a b c : History T) (first len : ℕ) (bytes : List ℕ) (cs qs : List (List ℕ)) (i : ℕ)
     → Since a b cs (reply_of (decimal first) file_handle (Opened len) ∷ [])
     → Received b c (upto (read_received (first + 1) bytes) i ++ qs)
     → Received a c (get_front_replies (tids_from first) file_handle len bytes i ++ qs)
@@ -350,7 +350,7 @@ got_front a b c first len bytes cs qs i h k =
     (λ j m. reads_named first j bytes))
     k)
 
-get_ended_reading : (a b c : Option Talked) (first len : ℕ) (bytes : List ℕ) (cs : List (List ℕ)) (end : CopyEnd)
+get_ended_reading : {T : Type 0} (a b c : History T) (first len : ℕ) (bytes : List ℕ) (cs : List (List ℕ)) (end : CopyEnd)
     → len ≤ MAX_FILE
     → Since a b cs (reply_of (decimal first) file_handle (Opened len) ∷ []) → ReadsEnded b c (first + 1) len bytes end
     → GetEnded a c (tids_from first) file_handle bytes end
@@ -370,7 +370,7 @@ get_ended_reading a b c first len bytes cs end fits h (i, below, (last, received
       ),
     )
 
-pub get_not_read : (a b c : Option Talked) (first len : ℕ) (bytes : List ℕ) (cs : List (List ℕ)) (end : CopyEnd)
+pub get_not_read : {T : Type 0} (a b c : History T) (first len : ℕ) (bytes : List ℕ) (cs : List (List ℕ)) (end : CopyEnd)
     → len ≤ MAX_FILE
     → Since a b cs (reply_of (decimal first) file_handle (Opened len) ∷ [])
     → UnlessCopied end (ReadsEnded b c (first + 1) len bytes)
@@ -378,7 +378,7 @@ pub get_not_read : (a b c : Option Talked) (first len : ℕ) (bytes : List ℕ) 
 get_not_read a b c first len bytes cs end fits h =
     unless_then end _ _ (get_ended_reading a b c first len bytes cs end fits h)
 
-pub get_not_closed : (a b c d : Option Talked) (first len tid : ℕ) (bytes wanted : List ℕ) (cs ds : List (List ℕ))
+pub get_not_closed : {T : Type 0} (a b c d : History T) (first len tid : ℕ) (bytes wanted : List ℕ) (cs ds : List (List ℕ))
     (last : Option (List ℕ)) (end : CopyEnd)
     → len ≤ MAX_FILE
     → tid ≡ chunk_count len → wanted ≡ reply_of (decimal (first + 2 + tid)) file_handle (Closed len)

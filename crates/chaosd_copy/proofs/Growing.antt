@@ -6,8 +6,8 @@ use Rattle.std.proofs.Math.Seq.{drop-append_seam}
 use Rattle.chaos_file.specs.declared.limits.TheConstants.{MAX_CHUNK}
 use Rattle.chaos_file.specs.Answer.{Given, AtEnd, read_answer}
 use Rattle.chaosd_copy.specs.Copy.{upto, chunk, reply_of}
-use Rattle.chaosd_copy.specs.Talk.{Talked, Since}
-use Rattle.chaosd_copy.specs.Row.{file_handle, received_in}
+use Rattle.chaosd_copy.specs.Talk.{received_in, History, Since}
+use Rattle.chaosd_copy.specs.Row.{file_handle}
 use Rattle.chaosd_copy.specs.Ends.{read_received}
 use Rattle.chaosd_copy.proofs.Talks.{received_at}
 use Rattle.chaosd_copy.proofs.Joined.{upto_same}
@@ -30,7 +30,7 @@ given [] l = absurd (omega arith)
 given (y ∷ ys) l = search rules
 
 -- one more piece came
-pub grows : (a b : Option Talked) (cs : List (List ℕ)) (first i : ℕ) (xs ys : List ℕ) (o : Option (List ℕ))
+pub grows : {T : Type 0} (a b : History T) (cs : List (List ℕ)) (first i : ℕ) (xs ys : List ℕ) (o : Option (List ℕ))
     → length xs ≡ MAX_CHUNK * i → 0 < length ys → length ys ≤ MAX_CHUNK
     → o ≡ Some (reply_of (decimal (first + i)) file_handle (Given ys))
     → Since a b cs (upto (read_received first xs) i ++ received_in o)
@@ -47,7 +47,7 @@ grows a b cs first i xs ys o e p l f h =
     h)
 
 -- the end was told
-pub ends : (a b : Option Talked) (cs : List (List ℕ)) (first : ℕ) (xs : List ℕ) (n : ℕ) (o : Option (List ℕ))
+pub ends : {T : Type 0} (a b : History T) (cs : List (List ℕ)) (first : ℕ) (xs : List ℕ) (n : ℕ) (o : Option (List ℕ))
     → length xs ≤ MAX_CHUNK * n
     → o ≡ Some (reply_of (decimal (first + n)) file_handle AtEnd)
     → Since a b cs (upto (read_received first xs) n ++ received_in o)

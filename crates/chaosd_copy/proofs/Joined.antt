@@ -9,7 +9,7 @@ use Rattle.chaos_file.specs.Answer.{Answer, Opened, Wrote, Closed, read_answer}
 use Rattle.chaosd_copy.specs.declared.end.CopyEnd.{CopyEnd}
 use Rattle.chaosd_copy.specs.declared.end.CopyEnd.TheVariants as e
 use Rattle.chaosd_copy.specs.Copy.{upto, chunk, chunk_count, reply_of, put_commands, put_replies, get_commands, get_replies}
-use Rattle.chaosd_copy.specs.Talk.{Talked, Since}
+use Rattle.chaosd_copy.specs.Talk.{History, Since}
 use Rattle.chaosd_copy.specs.Row.{file_handle}
 use Rattle.chaosd_copy.specs.Ends.{IfCopied, EndedBy, tids_from, write_sent, write_received, read_sent, read_received}
 use Rattle.chaosd_copy.proofs.Talks.{since_then}
@@ -49,12 +49,12 @@ pub next_tid : (first i : ℕ) → first + 1 + i ≡ first + (1 + i)
 next_tid first i = omega arith
 
 -- a talk by other words for the same commands and replies
-pub since_same : (a b : Option Talked) (xs ys rs qs : List (List ℕ)) → xs ≡ ys → rs ≡ qs → Since a b xs rs
+pub since_same : {T : Type 0} (a b : History T) (xs ys rs qs : List (List ℕ)) → xs ≡ ys → rs ≡ qs → Since a b xs rs
     → Since a b ys qs
 since_same a b xs ys rs qs e f h = subst (λ l. Since a b ys l) f (subst (λ l. Since a b l rs) e h)
 
 -- one command and its reply, by another number that is the same
-single : (a b : Option Talked) (s t : ℕ) (command : CommandView) (answer : Answer) → s ≡ t
+single : {T : Type 0} (a b : History T) (s t : ℕ) (command : CommandView) (answer : Answer) → s ≡ t
     → Since a b (spelling_of (decimal s) file_handle command ∷ []) (reply_of (decimal s) file_handle answer ∷ [])
     → Since a b (spelling_of (decimal t) file_handle command ∷ []) (reply_of (decimal t) file_handle answer ∷ [])
 single a b s t command answer e h =
@@ -63,7 +63,7 @@ single a b s t command answer e h =
     (reply_of (decimal n) file_handle answer ∷ []))
     e h
 
-pub put_joined : (a b c d : Option Talked) (first : ℕ) (path bytes : List ℕ)
+pub put_joined : {T : Type 0} (a b c d : History T) (first : ℕ) (path bytes : List ℕ)
     → Since a b (spelling_of (decimal first) file_handle (OpenWrite path) ∷ [])
     (reply_of (decimal first) file_handle (Opened 0) ∷ [])
     → Since b c (upto (write_sent (first + 1) bytes) (chunk_count (length bytes)))
@@ -85,7 +85,7 @@ put_joined a b c d first path bytes h k l =
     k)
     (single c d (first + 1 + n) (first + (1 + n)) Close (Closed (length bytes)) (next_tid first n) l))
 
-pub get_joined : (a b c d : Option Talked) (first : ℕ) (path bytes : List ℕ)
+pub get_joined : {T : Type 0} (a b c d : History T) (first : ℕ) (path bytes : List ℕ)
     → Since a b (spelling_of (decimal first) file_handle (OpenRead path) ∷ [])
     (reply_of (decimal first) file_handle (Opened (length bytes)) ∷ [])
     → Since b c (upto (read_sent (first + 1)) (1 + chunk_count (length bytes)))

@@ -1,11 +1,9 @@
--- Names of local files, and files read whole.
-use Rattle.std.proofs.Common.{◌≡◌, ℕ, ◌<◌, Bool, true, eqb, List, [], ◌∷◌, ◌++◌, length, take, Option, Some, None, refl, ap, ◌∙◌, sym, subst, arith, inl, inr}
-use Rattle.std.specs.Prelude.{◌==◌, IfSome, get_or, option_map}
+-- Names of local files.
+use Rattle.std.proofs.Common.{◌≡◌, ℕ, ◌<◌, Bool, true, eqb, List, [], ◌∷◌, ◌++◌, length, refl, ap, ◌∙◌, sym, arith, inl, inr}
+use Rattle.std.specs.Prelude.{◌==◌, get_or}
 use Rattle.std.specs.List.{position_or_len, before_first, after_first}
-use Rattle.std.specs.Io.Take.{take_remaining}
-use Rattle.std.specs.declared.io.traits.Take.{Take}
 use Rattle.std.proofs.lemmas.Bool.Decides.{nat_tests}
-use Rattle.std.proofs.lemmas.List.{append_assoc, take_all, length-take}
+use Rattle.std.proofs.lemmas.List.{append_assoc}
 use Rattle.std.proofs.lemmas.List.Sums.{split_at_first, passes_at_first}
 use Rattle.chaosd_copy.specs.Local.{IsBehindSlash}
 
@@ -33,17 +31,3 @@ behind_more path name h l =
           ∙ sym (append_assoc (h.front ++ before_first is_slash name) (47 ∷ []) (after_first is_slash name));
       behind = inr (h.front ++ before_first is_slash name, refl);
     }
-
--- a reader that gave less than the limit gave all
-pub all_read : {R : Type 0} (remaining : R → Option (List ℕ)) (t : Take R) (from : R) (old items : List ℕ)
-    → IfSome (take_remaining remaining t) (λ xs. items ≡ old ++ xs)
-    → old ≡ [] → t.inner ≡ from → length items < t.limit → IfSome (remaining from) (λ input. items ≡ input)
-all_read remaining t from old items h e f l =
-    subst (λ r. IfSome (remaining r) (λ input. items ≡ input)) f (by (remaining t.inner) h)
-  where
-    by : (known : Option (List ℕ)) → IfSome (option_map (take t.limit) known) (λ xs. items ≡ old ++ xs)
-        → IfSome known (λ input. items ≡ input)
-    by None g = tt
-    by (Some input) g =
-        let is : items ≡ take t.limit input = g ∙ ap (λ o. o ++ take t.limit input) e in
-        is ∙ take_all t.limit input (omega (arith, ap length is, length-take t.limit input))

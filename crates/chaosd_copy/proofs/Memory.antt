@@ -1,17 +1,27 @@
 -- A server in memory, one command after another.
 use Rattle.std.proofs.Common.{◌≡◌, ℕ, ◌+◌, ◌<◌, ◌≤◌, List, [], ◌∷◌, ◌++◌, length, get_or, take, drop, Option, Some, refl, ap, ◌∙◌, sym, subst, arith}
 use Rattle.std.specs.Prelude.{map}
-use Rattle.std.proofs.lemmas.List.{drop-append-le, drop_more, get_or-map, length-map, map_push, take_more}
+use Rattle.std.proofs.lemmas.List.{append_assoc, append-nil, drop-append-le, drop_more, get_or-map, length-map, map_push, take_more}
 use Rattle.chaos_file.specs.Session.{SessionView}
 use Rattle.chaos_file.specs.Store.{Files}
 use Rattle.chaos_file.specs.Step.{file_step}
 use Rattle.chaosd_copy.specs.Copy.{Does}
 use Rattle.chaosd_copy.specs.Memory.{StepsOrStays}
-use Rattle.chaosd_copy.specs.Talk.{More, Next, Talked}
+use Rattle.chaosd_copy.specs.Talk.{More, Next, Talked, with_received, with_sent}
 use Rattle.chaosd_copy.proofs.Runs.{runs_one, runs_append}
 
-abbrev pub talk_of : List (List ℕ) → List (List ℕ) → Option Talked
-talk_of sent received = Some (record { sent = sent; received = received })
+abbrev pub talk_of : List (List ℕ) → List (List ℕ) → Talked
+talk_of sent received = record { sent = sent; received = received }
+
+-- a reply more, since any earlier state
+pub heard_more : (start talk now : Talked) (r : List ℕ)
+    → now ≡ with_received talk.received (with_sent talk.sent start)
+    → with_received (r ∷ []) now ≡ with_received (talk.received ++ r ∷ []) (with_sent (talk.sent ++ []) start)
+heard_more start talk now r h =
+    ap (with_received (r ∷ [])) h
+    ∙ ap (λ (l : List (List ℕ)). talk_of (start.sent ++ talk.sent) l) (append_assoc start.received talk.received (r ∷ []))
+    ∙ ap (λ (l : List (List ℕ)). talk_of (start.sent ++ l) (start.received ++ (talk.received ++ r ∷ [])))
+    (sym (append-nil talk.sent))
 
 -- ---- one more is received
 

@@ -3,27 +3,27 @@ use Rattle.std.proofs.Common.{◌≡◌, ℕ, ◌+◌, ◌-◌, ◌<◌, ◌≤�
 use Rattle.std.specs.Prelude.{Result, Ok, Err, IfOk, MatchOption}
 use Rattle.chaosd_copy.specs.declared.limits.TheConstants.{REPLY_TURNS, REPLY_MILLIS, MOST_TURNS}
 use Rattle.chaosd_copy.specs.Copy.{upto}
-use Rattle.chaosd_copy.specs.Row.{received_in}
-use Rattle.chaosd_copy.specs.Talk.{Talked, Since, Turned, IsLong, after_send, after_receive, received_of, sent_if, taken}
+use Rattle.chaosd_copy.specs.Talk.{History, Since, Unheard, Turned, IsLong, received_in, sent_if, taken}
 use Rattle.chaosd_copy.specs.declared.end.CopyEnd.{CopyEnd}
 use Rattle.chaosd_copy.specs.declared.end.CopyEnd.TheVariants as e
 use Rattle.chaosd_copy.specs.Ends.{EndedBy, UnlessCopied, UnlessAnswered, unanswered}
-use Rattle.chaosd_copy.proofs.Talks.{none_some}
+use Rattle.chaosd_copy.proofs.Talks.{none_some, since_none, since_then}
+
+pub unheard_then : {T : Type 0} (a b c : History T) → Unheard a b → Unheard b c → Unheard a c
+unheard_then a b c (xs, h) (ys, k) = (xs ++ ys, since_then a b c xs [] ys [] h k)
+
+pub unheard_none : {T : Type 0} (a : History T) → Unheard a a
+unheard_none a = ([], since_none a)
 
 -- a command that is sent is none that is received
-pub sent_is_quiet : (r : Bool) (command : List ℕ) (a : Option Talked) → received_of (after_send r command a) ≡ received_of a
-sent_is_quiet true command None = refl
-sent_is_quiet true command (Some a) = refl
-sent_is_quiet false command a = refl
+pub quiet_send : {T : Type 0} (r : Bool) (command : List ℕ) (a b c : History T) → Unheard a b
+    → Since b c (sent_if r command) [] → Unheard a c
+quiet_send r command a b c h e = unheard_then a b c h (sent_if r command, e)
 
-pub quiet_send : (r : Bool) (command : List ℕ) (a b c : Option Talked) → received_of b ≡ received_of a
-    → c ≡ after_send r command b → received_of c ≡ received_of a
-quiet_send r command a b c h e = ap received_of e ∙ sent_is_quiet r command b ∙ h
-
-pub unreceived_is_quiet : (came : Bool) (reply : List ℕ) (a b : Option Talked) → came ≡ false
-    → b ≡ after_receive (taken came reply) a → received_of b ≡ received_of a
-unreceived_is_quiet false reply a b none e = ap received_of e
-unreceived_is_quiet true reply a b none e = cc
+pub quiet_unreceived : {T : Type 0} (came : Bool) (reply : List ℕ) (a b c : History T) → came ≡ false → Unheard a b
+    → Since b c [] (received_in (taken came reply)) → Unheard a c
+quiet_unreceived false reply a b c none h e = unheard_then a b c h ([], e)
+quiet_unreceived true reply a b c none h e = cc
 
 pub turned_none : (a : Option ℕ) → Turned 0 a a
 turned_none None = tt
@@ -37,7 +37,7 @@ turned_more n a b (Some k) h (one, same) =
     (omega (arith, t.0, one), t.1 ∙ ap Some less)
 
 -- one command, of which it is known whether it was sent
-pub known : {F : Type 0} (a b : Option Talked) (f : ℕ → List ℕ) (k : ℕ) (is_sent : Bool) (command reply : List ℕ)
+pub known : {F : Type 0} {T : Type 0} (a b : History T) (f : ℕ → List ℕ) (k : ℕ) (is_sent : Bool) (command reply : List ℕ)
     (result : Result Bool F)
     → f 0 ≡ command → k ≤ 1
     → (is_sent ≡ true → 0 < k) → (is_sent ≡ false → k ≤ 0)

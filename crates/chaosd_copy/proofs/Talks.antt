@@ -1,57 +1,59 @@
 -- What was sent and received, step after step.
 use Rattle.std.proofs.Common.{◌≡◌, ℕ, suc, ◌+◌, ◌<◌, ◌≤◌, Bool, true, false, List, [], ◌∷◌, ◌++◌, Option, Some, None, refl, ap, ◌∙◌, sym, subst, arith}
-use Rattle.std.specs.Prelude.{option_map, Result, Ok, Err, IfOk, OnErr, IfSome}
-use Rattle.chaosd_copy.specs.Row.{received_in}
+use Rattle.std.specs.Prelude.{Result, Ok, Err, IfOk, OnErr, IfSome}
 use Rattle.std.proofs.lemmas.List.{append_assoc, append-nil}
 use Rattle.chaosd_copy.specs.Copy.{upto}
-use Rattle.chaosd_copy.specs.Talk.{Talked, with_sent, with_received, after_send, after_receive, taken, Since}
+use Rattle.chaosd_copy.specs.Talk.{History, Talked, Since, received_in, sent_if, taken}
 
-pub since_none : (t : Option Talked) → Since t t [] []
-since_none None = refl
-since_none (Some t) = λ i. Some (record { sent = sym (append-nil t.sent) i; received = sym (append-nil t.received) i })
+pub since_none : {T : Type 0} (t : History T) → Since t t [] []
+since_none t = record {
+  goes = λ first talk h.
+      subst (t first)
+      (ap (λ (l : List (List ℕ)). record { sent = l; received = talk.received }) (sym (append-nil talk.sent))
+      ∙ ap (λ (l : List (List ℕ)). record { sent = talk.sent ++ []; received = l }) (sym (append-nil talk.received))) h;
+}
 
-pub since_then : (a b c : Option Talked) (xs rs ys qs : List (List ℕ)) → Since a b xs rs → Since b c ys qs
+pub since_then : {T : Type 0} (a b c : History T) (xs rs ys qs : List (List ℕ)) → Since a b xs rs → Since b c ys qs
     → Since a c (xs ++ ys) (rs ++ qs)
-since_then None b c xs rs ys qs h k = k ∙ ap (λ o. option_map (λ t. with_received qs (with_sent ys t)) o) h
-since_then (Some a) b c xs rs ys qs h k =
-    k ∙ ap (λ o. option_map (λ t. with_received qs (with_sent ys t)) o) h
-    ∙ (λ i. Some (record { sent = append_assoc a.sent xs ys i; received = append_assoc a.received rs qs i }))
-
-pub since_sent : (t : Option Talked) (c : List ℕ) → Since t (option_map (with_sent (c ∷ [])) t) (c ∷ []) []
-since_sent None c = refl
-since_sent (Some t) c = λ i. Some (record { sent = t.sent ++ c ∷ []; received = sym (append-nil t.received) i })
-
-pub since_received : (t : Option Talked) (r : List ℕ) → Since t (option_map (with_received (r ∷ [])) t) [] (r ∷ [])
-since_received None r = refl
-since_received (Some t) r = λ i. Some (record { sent = sym (append-nil t.sent) i; received = t.received ++ r ∷ [] })
+since_then a b c xs rs ys qs h k = record {
+  goes = λ first talk was.
+      subst (c first)
+      (ap (λ (l : List (List ℕ)). record { sent = l; received = (talk.received ++ rs) ++ qs })
+      (append_assoc talk.sent xs ys)
+      ∙ ap (λ (l : List (List ℕ)). record { sent = talk.sent ++ (xs ++ ys); received = l })
+      (append_assoc talk.received rs qs))
+      (k.goes first _ (h.goes first talk was));
+}
 
 pub upto_more : {A : Type 0} (f : ℕ → A) (i : ℕ) → upto f (i + 1) ≡ upto f i ++ f i ∷ []
 upto_more f i = let e : i + 1 ≡ suc i = omega arith in ap (upto f) e
 
 -- one more command was sent
-pub sends_more : (a b c : Option Talked) (f : ℕ → List ℕ) (i : ℕ) (rs : List (List ℕ)) → Since a b (upto f i) rs
-    → c ≡ option_map (with_sent (f i ∷ [])) b
+pub sends_more : {T : Type 0} (a b c : History T) (f : ℕ → List ℕ) (i : ℕ) (rs : List (List ℕ)) → Since a b (upto f i) rs
+    → Since b c (f i ∷ []) []
     → Since a c (upto f (i + 1)) rs
 sends_more a b c f i rs h e =
     subst (λ cs. Since a c cs rs) (sym (upto_more f i))
     (subst (λ qs. Since a c (upto f i ++ f i ∷ []) qs) (append-nil rs)
-    (since_then a b c (upto f i) rs (f i ∷ []) [] h
-    (subst (λ o. Since b o (f i ∷ []) []) (sym e) (since_sent b (f i)))))
+    (since_then a b c (upto f i) rs (f i ∷ []) [] h e))
 
--- one more reply was received
-pub receives_more : (a b c : Option Talked) (cs rs : List (List ℕ)) (r : List ℕ) → Since a b cs rs
-    → c ≡ option_map (with_received (r ∷ [])) b
-    → Since a c cs (rs ++ r ∷ [])
-receives_more a b c cs rs r h e =
-    subst (λ xs. Since a c xs (rs ++ r ∷ [])) (append-nil cs)
-    (since_then a b c cs rs [] (r ∷ []) h (subst (λ o. Since b o [] (r ∷ [])) (sym e) (since_received b r)))
+-- these replies were received, and nothing was sent
+pub since_heard : {T : Type 0} (a b c : History T) (cs rs qs : List (List ℕ)) → Since a b cs rs → Since b c [] qs
+    → Since a c cs (rs ++ qs)
+since_heard a b c cs rs qs h e =
+    subst (λ xs. Since a c xs (rs ++ qs)) (append-nil cs) (since_then a b c cs rs [] qs h e)
+
+-- nothing was sent or received
+pub since_still : {T : Type 0} (a b c : History T) (cs rs : List (List ℕ)) → Since a b cs rs → Since b c [] []
+    → Since a c cs rs
+since_still a b c cs rs h e = subst (λ l. Since a c cs l) (append-nil rs) (since_heard a b c cs rs [] h e)
 
 -- ---- one command and its reply
 
 one_upto : (f : ℕ → List ℕ) (sent : ℕ) → 0 < sent → sent ≤ 1 → upto f sent ≡ f 0 ∷ []
 one_upto f sent l m = let e : sent ≡ 1 = omega arith in ap (upto f) e
 
-pub asked_one : {F : Type 0} (a b : Option Talked) (f : ℕ → List ℕ) (sent received : ℕ) (command reply : List ℕ)
+pub asked_one : {F : Type 0} {T : Type 0} (a b : History T) (f : ℕ → List ℕ) (sent received : ℕ) (command reply : List ℕ)
     (result : Result Bool F)
     → f 0 ≡ command
     → IfOk result (λ came. IfSome (taken came reply) (λ _. (0 < sent) × (received ≡ 0 + 1))) → sent ≤ 1
@@ -64,30 +66,30 @@ asked_one a b f sent received command reply (Ok true) e asked within h =
 
 -- ---- by the answers of the calls
 
-pub kept_unsent : (a b u : Option Talked) (cs rs : List (List ℕ)) (r : Bool) (c : List ℕ) → Since a b cs rs
-    → u ≡ after_send r c b → r ≡ false → Since a u cs rs
-kept_unsent a b u cs rs false c h e f = e ∙ h
+pub kept_unsent : {T : Type 0} (a b u : History T) (cs rs : List (List ℕ)) (r : Bool) (c : List ℕ) → Since a b cs rs
+    → Since b u (sent_if r c) [] → r ≡ false → Since a u cs rs
+kept_unsent a b u cs rs false c h e f = since_still a b u cs rs h e
 kept_unsent a b u cs rs true c h e f = cc
 
-pub sent_next : (a b u : Option Talked) (f : ℕ → List ℕ) (i : ℕ) (rs : List (List ℕ)) (r : Bool) (c : List ℕ)
-    → Since a b (upto f i) rs → u ≡ after_send r c b → r ≡ true → c ≡ f i
+pub sent_next : {T : Type 0} (a b u : History T) (f : ℕ → List ℕ) (i : ℕ) (rs : List (List ℕ)) (r : Bool) (c : List ℕ)
+    → Since a b (upto f i) rs → Since b u (sent_if r c) [] → r ≡ true → c ≡ f i
     → Since a u (upto f (i + 1)) rs
 sent_next a b u f i rs false c h e k g = cc
-sent_next a b u f i rs true c h e k g = sends_more a b u f i rs h (e ∙ ap (λ x. option_map (with_sent (x ∷ [])) b) g)
+sent_next a b u f i rs true c h e k g = sends_more a b u f i rs h (subst (λ x. Since b u (x ∷ []) []) g e)
 
-pub received_next : (a b u : Option Talked) (cs rs : List (List ℕ)) (came : Bool) (reply : List ℕ)
-    → Since a b cs rs → u ≡ after_receive (taken came reply) b → came ≡ true
+pub received_next : {T : Type 0} (a b u : History T) (cs rs : List (List ℕ)) (came : Bool) (reply : List ℕ)
+    → Since a b cs rs → Since b u [] (received_in (taken came reply)) → came ≡ true
     → Since a u cs (rs ++ reply ∷ [])
 received_next a b u cs rs false reply h e k = cc
-received_next a b u cs rs true reply h e k = receives_more a b u cs rs reply h e
+received_next a b u cs rs true reply h e k = since_heard a b u cs rs (reply ∷ []) h e
 
-pub received_none : (a b u : Option Talked) (cs rs : List (List ℕ)) (came : Bool) (reply : List ℕ)
-    → Since a b cs rs → u ≡ after_receive (taken came reply) b → came ≡ false
+pub received_none : {T : Type 0} (a b u : History T) (cs rs : List (List ℕ)) (came : Bool) (reply : List ℕ)
+    → Since a b cs rs → Since b u [] (received_in (taken came reply)) → came ≡ false
     → Since a u cs rs
-received_none a b u cs rs false reply h e k = e ∙ h
+received_none a b u cs rs false reply h e k = since_still a b u cs rs h e
 received_none a b u cs rs true reply h e k = cc
 
-pub nothing_more : (a b : Option Talked) (cs rs : List (List ℕ)) → Since a b cs rs → Since a b cs (rs ++ [])
+pub nothing_more : {T : Type 0} (a b : History T) (cs rs : List (List ℕ)) → Since a b cs rs → Since a b cs (rs ++ [])
 nothing_more a b cs rs h = subst (λ l. Since a b cs l) (sym (append-nil rs)) h
 
 -- ---- a reply that is the one that was hoped for
@@ -109,7 +111,7 @@ pub untaken : (came : Bool) (reply x : List ℕ) → came ≡ false → taken ca
 untaken false reply x e h = none_some x h
 untaken true reply x e h = cc
 
-pub received_at : (a b : Option Talked) (cs : List (List ℕ)) (g : ℕ → List ℕ) (i : ℕ) (o : Option (List ℕ)) (x : List ℕ)
+pub received_at : {T : Type 0} (a b : History T) (cs : List (List ℕ)) (g : ℕ → List ℕ) (i : ℕ) (o : Option (List ℕ)) (x : List ℕ)
     → o ≡ Some x → x ≡ g i → Since a b cs (upto g i ++ received_in o)
     → Since a b cs (upto g (i + 1))
 received_at a b cs g i o x e f h =

@@ -9,8 +9,8 @@ use Rattle.chaosd_io.specs.declared.fault.RunFault.{RunFault}
 use Rattle.chaosd_copy.specs.declared.end.CopyEnd.{CopyEnd}
 use Rattle.chaosd_copy.specs.declared.end.CopyEnd.TheVariants as e
 use Rattle.chaosd_copy.specs.Copy.{Tids, upto, chunk, chunk_count, reply_of, put_front, put_reply, put_front_replies, put_commands, get_front, get_front_replies, get_commands}
-use Rattle.chaosd_copy.specs.Talk.{Talked, Since, Received}
-use Rattle.chaosd_copy.specs.Row.{file_handle, received_in}
+use Rattle.chaosd_copy.specs.Talk.{History, Since, Received, received_in}
+use Rattle.chaosd_copy.specs.Row.{file_handle}
 
 abbrev pub IfCopied : CopyEnd → Type 0 → Type 0
 IfCopied e.Done P = P
@@ -67,7 +67,7 @@ read_received first bytes i = reply_of (decimal (first + i)) file_handle (read_a
 
 -- Of a put nothing was sent since then; or OPEN and some of the WRITEs, which change no file; or all of it, CLOSE too,
 -- and then OPEN and each WRITE were answered as they should be.
-abbrev pub PutBegun : Option Talked → Option Talked → Tids → List ℕ → List ℕ → List ℕ → Type 0
+abbrev pub PutBegun : {T : Type 0} → History T → History T → Tids → List ℕ → List ℕ → List ℕ → Type 0
 PutBegun start now tid handle path bytes =
     ((replies : List (List ℕ)) × Since start now [] replies)
     ⊎ (((writes : ℕ) × (writes ≤ chunk_count (length bytes)) × (replies : List (List ℕ))
@@ -78,7 +78,7 @@ PutBegun start now tid handle path bytes =
 
 -- Of a get nothing was sent since then; or OPEN and some READs, no more than a file of FILE needs; or all that gets a
 -- file of some such length.
-abbrev pub GetBegun : Option Talked → Option Talked → Tids → List ℕ → List ℕ → Type 0
+abbrev pub GetBegun : {T : Type 0} → History T → History T → Tids → List ℕ → List ℕ → Type 0
 GetBegun start now tid handle path =
     ((replies : List (List ℕ)) × Since start now [] replies)
     ⊎ (((len : ℕ) × (len ≤ MAX_FILE) × (reads : ℕ) × (reads ≤ 1 + chunk_count len) × (replies : List (List ℕ))
@@ -132,13 +132,13 @@ EndedBy tid handle Wanted last e.NoReply = last ≡ None
 EndedBy tid handle Wanted last e.Unknown = ⊥
 
 -- Since then these replies were received, and then the last, or none, by which the copy ended.
-abbrev pub EndedAt : Option Talked → Option Talked → List (List ℕ) → List ℕ → List ℕ → (List ℕ → Type 0) → CopyEnd
+abbrev pub EndedAt : {T : Type 0} → History T → History T → List (List ℕ) → List ℕ → List ℕ → (List ℕ → Type 0) → CopyEnd
     → Type 0
 EndedAt start now before tid handle Wanted end =
     (last : Option (List ℕ)) × Received start now (before ++ received_in last) × EndedBy tid handle Wanted last end
 
 -- Some WRITEs were answered well, and the put ended by the reply to the next.
-abbrev pub WritesEnded : Option Talked → Option Talked → ℕ → List ℕ → CopyEnd → Type 0
+abbrev pub WritesEnded : {T : Type 0} → History T → History T → ℕ → List ℕ → CopyEnd → Type 0
 WritesEnded start now first bytes end = (i : ℕ) × (i < chunk_count (length bytes))
     × EndedAt start now (upto (write_received first bytes) i) (decimal (first + i)) file_handle
     (λ r. r ≡ write_received first bytes i) end
@@ -146,7 +146,7 @@ WritesEnded start now first bytes end = (i : ℕ) × (i < chunk_count (length by
 -- A put ended by the reply to OPEN; or OPEN was answered well, and it ended by the reply to a WRITE, and those before
 -- it were answered well; or so were all, and it ended by the reply to CLOSE; or CLOSE was sent, got none, and whether
 -- the file was put isn't known; or it could not be sent.
-abbrev pub PutEnded : Option Talked → Option Talked → Tids → List ℕ → List ℕ → List ℕ → CopyEnd → Type 0
+abbrev pub PutEnded : {T : Type 0} → History T → History T → Tids → List ℕ → List ℕ → List ℕ → CopyEnd → Type 0
 PutEnded start now tid handle path bytes end =
     EndedAt start now [] (tid 0) handle (λ r. r ≡ reply_of (tid 0) handle (Opened 0)) end
     ⊎ (((i : ℕ) × (i < chunk_count (length bytes))
@@ -178,14 +178,14 @@ IsPiece tid handle len i reply =
     × (reply ≡ reply_of tid handle (read_answer piece))
 
 -- Some READs gave these bytes, and the get ended by the reply to the next.
-abbrev pub ReadsEnded : Option Talked → Option Talked → ℕ → ℕ → List ℕ → CopyEnd → Type 0
+abbrev pub ReadsEnded : {T : Type 0} → History T → History T → ℕ → ℕ → List ℕ → CopyEnd → Type 0
 ReadsEnded start now first len bytes end = (i : ℕ) × (i ≤ chunk_count len)
     × EndedAt start now (upto (read_received first bytes) i) (decimal (first + i)) file_handle
     (IsPiece (decimal (first + i)) file_handle len i) end
 
 -- A get ended by the reply to OPEN; or that told a length, and some READs gave these bytes, and it ended by the reply
 -- to the next; or so did all, and it ended by the reply to CLOSE.
-abbrev pub GetEnded : Option Talked → Option Talked → Tids → List ℕ → List ℕ → CopyEnd → Type 0
+abbrev pub GetEnded : {T : Type 0} → History T → History T → Tids → List ℕ → List ℕ → CopyEnd → Type 0
 GetEnded start now tid handle bytes end =
     EndedAt start now [] (tid 0) handle (IsOpened (tid 0) handle) end
     ⊎ ((len : ℕ) × (len ≤ MAX_FILE)

@@ -1,5 +1,5 @@
 -- What is sent in a row.
-use Rattle.std.specs.Prelude.{◌≤◌, ℕ, ◌+◌, List, [], ◌∷◌, codes, length, Option, Some, None}
+use Rattle.std.specs.Prelude.{◌≤◌, ℕ, ◌+◌, List, [], ◌∷◌, codes, length}
 use Rattle.std.specs.Fmt.{decimal}
 use Rattle.chaos_file.specs.declared.limits.TheConstants.{MAX_NAME, MAX_PATH}
 use Rattle.chaos_file.specs.Command.{CommandView, Login, OpenRead, OpenWrite, Read, Write, Close, Rename, Delete}
@@ -52,8 +52,3 @@ request_command request i tid = spelling_of (decimal tid) (handle_of request) (c
 -- the bytes of the command at a place of a row
 abbrev pub row_command : Row → ℕ → List ℕ
 row_command row i = request_command row.request i (row.first + i)
-
--- what was received
-abbrev pub received_in : Option (List ℕ) → List (List ℕ)
-received_in None = []
-received_in (Some reply) = reply ∷ []

@@ -14,34 +14,54 @@ with_sent commands t = record t { sent = t.sent ++ commands }
 abbrev pub with_received : List (List ℕ) → Talked → Talked
 with_received replies t = record t { received = t.received ++ replies }
 
-abbrev pub after_send : Bool → List ℕ → Option Talked → Option Talked
-after_send true command t = option_map (with_sent (command ∷ [])) t
-after_send false command t = t
-
 -- the bytes that were left in a place, where it is told that some were
 abbrev pub taken : Bool → List ℕ → Option (List ℕ)
 taken true bytes = Some bytes
 taken false bytes = None
 
-abbrev pub after_receive : Option (List ℕ) → Option Talked → Option Talked
-after_receive (Some reply) t = option_map (with_received (reply ∷ [])) t
-after_receive None t = t
+-- a command, where it was sent
+abbrev pub sent_if : Bool → List ℕ → List (List ℕ)
+sent_if true command = command ∷ []
+sent_if false command = []
 
--- Since then these commands were sent and these replies received, and no others.
-abbrev pub Since : Option Talked → Option Talked → List (List ℕ) → List (List ℕ) → Type 0
-Since start now commands replies = now ≡ option_map (λ t. with_received replies (with_sent commands t)) start
+-- what was received
+abbrev pub received_in : Option (List ℕ) → List (List ℕ)
+received_in None = []
+received_in (Some reply) = reply ∷ []
+
+abbrev pub silence : Talked
+silence = record { sent = []; received = [] }
+
+-- What may have been sent and received since each earlier state.
+abbrev pub History : Type 0 → Type 1
+History T = T → Talked → Type 0
+
+-- Since then these commands were sent and these replies received, and no others: what was sent and received since any earlier state
+-- goes on by them.
+pub record Since {T : Type 0} (start now : History T) (commands replies : List (List ℕ)) : Type 0 where
+  pub goes : (first : T) (talk : Talked) → start first talk → now first (with_received replies (with_sent commands talk))
 
 -- Since then these replies were received, and no others.
-abbrev pub Received : Option Talked → Option Talked → List (List ℕ) → Type 0
+abbrev pub Received : {T : Type 0} → History T → History T → List (List ℕ) → Type 0
 Received start now replies = (commands : List (List ℕ)) × Since start now commands replies
 
+-- Since then nothing was received.
+abbrev pub Unheard : {T : Type 0} → History T → History T → Type 0
+Unheard start now = Received start now []
+
+-- Who had sent these commands since any earlier state has now sent those, and has received nothing more.
+abbrev pub SendsOn : {T : Type 0} → (T → History T) → T → T → List (List ℕ) → List (List ℕ) → Type 0
+SendsOn {T} talked old new before after =
+    (start : T) (replies : List (List ℕ)) → Since (talked start) (talked old) before replies
+    → Since (talked start) (talked new) after replies
+
 -- Since then this command was sent or not, and no other.
-abbrev pub SentOrNot : Option Talked → Option Talked → List ℕ → Type 0
+abbrev pub SentOrNot : {T : Type 0} → History T → History T → List ℕ → Type 0
 SentOrNot start now command =
     (replies : List (List ℕ)) × (Since start now [] replies ⊎ Since start now (command ∷ []) replies)
 
 -- Since then some of the commands f 0, f 1, .. were sent, from the first on and at most so many, and no others.
-abbrev pub SentUpTo : Option Talked → Option Talked → (ℕ → List ℕ) → ℕ → Type 0
+abbrev pub SentUpTo : {T : Type 0} → History T → History T → (ℕ → List ℕ) → ℕ → Type 0
 SentUpTo start now f most =
     (sent : ℕ) × (sent ≤ most) × (replies : List (List ℕ)) × Since start now (upto f sent) replies
 
@@ -57,11 +77,6 @@ abbrev pub Next : Option (List (List ℕ)) → Option (List ℕ) → Option (Lis
 Next None received now = now ≡ None
 Next (Some []) received now = (received ≡ None) × (now ≡ Some [])
 Next (Some (reply ∷ ready)) received now = (received ≡ Some reply) × (now ≡ Some ready)
-
--- a command, where it was sent
-abbrev pub sent_if : Bool → List ℕ → List (List ℕ)
-sent_if true command = command ∷ []
-sent_if false command = []
 
 -- ---- how far a talk has come
 
@@ -84,16 +99,13 @@ abbrev pub Turned : ℕ → Option ℕ → Option ℕ → Type 0
 Turned n before None = Unit {0}
 Turned n before (Some k) = (n ≤ k) × (before ≡ Some (k - n))
 
-abbrev pub received_of : Option Talked → Option (List (List ℕ))
-received_of talk = option_map (λ t. t.received) talk
-
 -- That many turns, from the one moment to the other, are long enough to wait for a reply: 1,000, and 10 seconds; where
 -- the clock stands still, 4,294,967,295.
 abbrev pub IsLong : ℕ → ℕ → ℕ → Type 0
 IsLong turns since moment = (REPLY_TURNS ≤ turns) × ((since + REPLY_MILLIS ≤ moment) ⊎ (turns ≡ MOST_TURNS))
 
 -- Since then nothing was received, and the talk is over or has gone on for long enough.
-abbrev pub InVain : Option Talked → Course → Option Talked → Course → Type 0
-InVain start since now course = (received_of now ≡ received_of start)
+abbrev pub InVain : {T : Type 0} → History T → Course → History T → Course → Type 0
+InVain start since now course = Unheard start now
     × ((course.is_over ≡ true)
     ⊎ ((turns : ℕ) × Turned turns since.turns course.turns × IsLong turns since.moment course.moment))

@@ -1,4 +1,6 @@
 //! The numbers that a copy keeps to.
+ghost use Rattle.std.specs.Prelude.{◌≡◌};
+ghost use Rattle.chaosd_copy.specs.declared.limits.TheConstants.{MAX_FIRST, MOST_TURNS, REPLY_MILLIS, REPLY_TURNS};
 
 /// The turns that a reply is waited for at least.
 pub const REPLY_TURNS: u32 = 1_000;
@@ -14,3 +16,11 @@ pub const MAX_FIRST: u32 = 99_900_000;
 
 /// The handle of the file that is copied.
 pub const HANDLE: &[u8] = b"F";
+
+/// The numbers as numerals.
+pub fn law_limits()
+    ensures turns { REPLY_TURNS ≡ 1000 }
+    ensures millis { REPLY_MILLIS ≡ 10000 }
+    ensures most { MOST_TURNS ≡ 4294967295 }
+    ensures first { MAX_FIRST ≡ 99900000 }
+{}

@@ -9,8 +9,8 @@ ghost use Rattle.chaos_file.specs.Grammar.{parse_of};
 ghost use Rattle.chaos_file.specs.Session.{new_session};
 ghost use Rattle.chaos_file.specs.Step.{file_step};
 ghost use Rattle.chaosd_copy.specs.Copy.{Does};
-ghost use Rattle.chaosd_copy.specs.Memory.{Answered, StepsOrStays};
-ghost use Rattle.chaosd_copy.specs.Talk.{Talked, counted};
+ghost use Rattle.chaosd_copy.specs.Memory.{Answered, StepsOrStays, nothing_more, told};
+ghost use Rattle.chaosd_copy.specs.Talk.{Talked, counted, silence, with_received, with_sent};
 
 use crate::talk::Talk;
 use crate::words::{copied, fill, put};
@@ -68,7 +68,7 @@ fn applied(
 impl MemTalk {
     /// A server without files, and nothing sent yet. It takes no memory.
     pub fn new(alloc: Global) -> Self
-        ensures talked { ⟦<MemTalk as Talk>⟧.talked result ≡ Some (record { sent = []; received = [] }) }
+        ensures talked { (told (map (λ v. v.items) result.sent.items) (map (λ v. v.items) result.replies.items) result.received) ≡ silence }
         ensures ready { ⟦<MemTalk as Talk>⟧.ready result ≡ Some [] }
     {
         MemTalk {
@@ -85,12 +85,14 @@ impl MemTalk {
     /// What was sent is answered as FILE's definition says, by what was received and then by what is there to be received. It does nothing
     /// when it runs.
     pub fn law_replies(&self)
-        ensures { Answered (⟦<MemTalk as Talk>⟧.talked self.now) (⟦<MemTalk as Talk>⟧.ready self.now) }
+        ensures { Answered (told (map (λ v. v.items) self.now.sent.items) (map (λ v. v.items) self.now.replies.items) self.now.received) (⟦<MemTalk as Talk>⟧.ready self.now) }
     {}
 }
 
 impl Talk for MemTalk {
-    ghost talked = { λ t. Some (record { sent = map (λ v. v.items) t.sent.items; received = take t.received (map (λ v. v.items) t.replies.items) }) };
+    ghost talked = { λ now start talk. (told (map (λ v. v.items) now.sent.items) (map (λ v. v.items) now.replies.items) now.received) ≡ with_received talk.received (with_sent talk.sent (told (map (λ v. v.items) start.sent.items) (map (λ v. v.items) start.replies.items) start.received)) };
+
+    ghost began = { λ talk. nothing_more (told (map (λ v. v.items) talk.sent.items) (map (λ v. v.items) talk.replies.items) talk.received) };
 
     ghost ready = { λ t. Some (drop t.received (map (λ v. v.items) t.replies.items)) };
 

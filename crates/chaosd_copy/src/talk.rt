@@ -1,6 +1,6 @@
 //! A talk with a FILE server.
-ghost use Rattle.std.specs.Prelude.{◌≡◌, ◌≤◌, ℕ, List, Option, length, IfErr, OnOk};
-ghost use Rattle.chaosd_copy.specs.Talk.{Talked, Course, More, Next, Turned, after_send, after_receive, taken};
+ghost use Rattle.std.specs.Prelude.{◌≡◌, ◌≤◌, [], ℕ, List, Option, length, IfErr, OnOk};
+ghost use Rattle.chaosd_copy.specs.Talk.{Talked, Course, More, Next, Since, Turned, received_in, sent_if, silence, taken};
 ghost use Rattle.chaos_file.specs.declared.limits.TheConstants.{MAX_REPLY};
 ghost use Rattle.chaosd_io.specs.declared.fault.RunFault.{RunFault};
 
@@ -9,8 +9,11 @@ use chaosd_io::RunFault;
 
 /// A talk with a FILE server: commands go out, and replies come back in the same order.
 pub trait Talk {
-    /// The commands that were sent and the replies that were received so far, each in order, where the talk can tell them.
-    ghost talked: { Self → Option Talked };
+    /// What may have been sent and received up to this state, since that one: the commands and the replies, each in order.
+    ghost talked: { Self → Self → Talked → Type 0 };
+
+    /// Since it stands where it is, nothing was.
+    ghost began: { (talk : Self) → talked talk talk silence };
 
     /// The replies that are there to be received, in order, where the talk can tell them.
     ghost ready: { Self → Option (List (List ℕ)) };
@@ -25,14 +28,14 @@ pub trait Talk {
     /// Says a command where there is room for it on its way, and says whether it did.
     fn send(&mut self, command: &[u8]) -> bool
         requires { length command.now ≤ MAX_REPLY }
-        ensures sent { talked self.new ≡ after_send result command.now (talked self.old) }
+        ensures sent { Since (talked self.old) (talked self.new) (sent_if result command.now) [] }
         ensures kept { More (ready self.old) (ready self.new) }
         ensures still { (course self.new).turns ≡ (course self.old).turns }
         ensures unfailed { (course self.new).failures ≡ (course self.old).failures };
 
     /// Leaves the next reply in the caller's place, where it is there, and says so. Where it isn't, no clause says what the place holds.
     fn receive(&mut self, reply: &mut Reply) -> bool
-        ensures received { talked self.new ≡ after_receive (taken result reply.new.items) (talked self.old) }
+        ensures received { Since (talked self.old) (talked self.new) [] (received_in (taken result reply.new.items)) }
         ensures next { Next (ready self.old) (taken result reply.new.items) (ready self.new) }
         ensures still { (course self.new).turns ≡ (course self.old).turns }
         ensures unfailed { (course self.new).failures ≡ (course self.old).failures };
@@ -42,7 +45,7 @@ pub trait Talk {
     /// # Errors
     /// `LinkFault` and `ClockFault`.
     fn turn(&mut self) -> Result<(), RunFault>
-        ensures silent { talked self.new ≡ talked self.old }
+        ensures silent { Since (talked self.old) (talked self.new) [] [] }
         ensures kept { More (ready self.old) (ready self.new) }
         ensures unfailed { OnOk result ((course self.new).failures ≤ (course self.old).failures) }
         ensures counted { Turned 1 (course self.old).turns (course self.new).turns }

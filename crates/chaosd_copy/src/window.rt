@@ -1,9 +1,9 @@
 //! Commands that are sent before the replies to those before them came.
-ghost use Rattle.std.specs.Prelude.{◌≡◌, ◌≤◌, ◌<◌, ◌+◌, ◌++◌, ◌∷◌, [], ℕ, true, List, Option, Some, length, Decides, IfOk, IfErr, OnErr, OnOk, IfSome, MatchOption};
+ghost use Rattle.std.specs.Prelude.{◌≡◌, ◌≤◌, ◌<◌, ◌+◌, ◌++◌, ◌∷◌, [], ℕ, true, List, Some, length, Decides, IfOk, IfErr, OnErr, OnOk, IfSome, MatchOption};
 ghost use Rattle.std.specs.Fmt.{decimal};
 ghost use Rattle.chaosd_copy.specs.Copy.{upto};
-ghost use Rattle.chaosd_copy.specs.Talk.{Talked, Since, Received, SentOrNot, InVain, after_receive, received_of, sent_if, taken};
-ghost use Rattle.chaosd_copy.specs.Row.{RequestFits, request_command, row_command, received_in};
+ghost use Rattle.chaosd_copy.specs.Talk.{Since, Received, SentOrNot, InVain, Unheard, received_in, sent_if, taken};
+ghost use Rattle.chaosd_copy.specs.Row.{RequestFits, request_command, row_command};
 ghost use Rattle.chaosd_copy.specs.declared.limits.TheConstants.{MAX_FIRST, REPLY_TURNS, REPLY_MILLIS};
 ghost use Rattle.chaos_file.specs.declared.limits.TheConstants.{MAX_NAME};
 ghost use Rattle.chaosd_copy.specs.Ends.{IfCopied, IfDone, IfUnanswered, UnlessCopied, UnlessDone, IsErrorTo, EndedBy, EndedAt, login_command, login_reply};
@@ -90,9 +90,9 @@ fn send_on<T: Talk>(talk: &mut T, row: &Row<'_>, flight: &mut Flight)
     requires fits { RequestFits row.now.request }
     ensures within { flight.new.sent ≤ row.now.count }
     ensures place { flight.new.received ≡ flight.old.received }
-    ensures talk { (start : Option Talked) (replies : List (List ℕ)) → Since start (T.talked talk.old) (upto (row_command row.now) flight.old.sent) replies
-        → Since start (T.talked talk.new) (upto (row_command row.now) flight.new.sent) replies }
-    ensures quiet { received_of (T.talked talk.new) ≡ received_of (T.talked talk.old) }
+    ensures talk { (start : T) (replies : List (List ℕ)) → Since (T.talked start) (T.talked talk.old) (upto (row_command row.now) flight.old.sent) replies
+        → Since (T.talked start) (T.talked talk.new) (upto (row_command row.now) flight.new.sent) replies }
+    ensures quiet { Unheard (T.talked talk.old) (T.talked talk.new) }
     ensures still { (T.course talk.new).turns ≡ (T.course talk.old).turns }
     ensures unfailed { (T.course talk.new).failures ≡ (T.course talk.old).failures }
 {
@@ -116,9 +116,9 @@ fn send_more<T: Talk>(
     requires count { row.now.count ≤ 9000 }
     requires fits { RequestFits row.now.request }
     ensures within { result ≤ row.now.count }
-    ensures talk { (start : Option Talked) (replies : List (List ℕ)) → Since start (T.talked talk.old) (upto (row_command row.now) sent) replies
-        → Since start (T.talked talk.new) (upto (row_command row.now) result) replies }
-    ensures quiet { received_of (T.talked talk.new) ≡ received_of (T.talked talk.old) }
+    ensures talk { (start : T) (replies : List (List ℕ)) → Since (T.talked start) (T.talked talk.old) (upto (row_command row.now) sent) replies
+        → Since (T.talked start) (T.talked talk.new) (upto (row_command row.now) result) replies }
+    ensures quiet { Unheard (T.talked talk.old) (T.talked talk.new) }
     ensures still { (T.course talk.new).turns ≡ (T.course talk.old).turns }
     ensures unfailed { (T.course talk.new).failures ≡ (T.course talk.old).failures }
 {
@@ -134,7 +134,7 @@ fn send_more<T: Talk>(
 /// The next reply, where its command was sent and it is there.
 fn receive_asked<T: Talk>(talk: &mut T, is_asked: bool, reply: &mut Reply) -> bool
     ensures asked { result ≡ true → is_asked ≡ true }
-    ensures talk { T.talked talk.new ≡ after_receive (taken result reply.new.items) (T.talked talk.old) }
+    ensures talk { Since (T.talked talk.old) (T.talked talk.new) [] (received_in (taken result reply.new.items)) }
     ensures still { (T.course talk.new).turns ≡ (T.course talk.old).turns }
     ensures unfailed { (T.course talk.new).failures ≡ (T.course talk.old).failures }
 {
@@ -166,11 +166,11 @@ pub fn next_reply<T: Talk>(
     ensures within { flight.new.sent ≤ row.now.count }
     // A reply is received only where its command was sent.
     ensures asked { IfOk result (λ came. IfSome (taken came reply.new.items) (λ _. (flight.old.received < flight.new.sent) × (flight.new.received ≡ flight.old.received + 1))) }
-    ensures talk { (start : Option Talked) (replies : List (List ℕ)) → Since start (T.talked talk.old) (upto (row_command row.now) flight.old.sent) replies
-        → IfOk result (λ came. Since start (T.talked talk.new) (upto (row_command row.now) flight.new.sent) (replies ++ received_in (taken came reply.new.items))) }
+    ensures talk { (start : T) (replies : List (List ℕ)) → Since (T.talked start) (T.talked talk.old) (upto (row_command row.now) flight.old.sent) replies
+        → IfOk result (λ came. Since (T.talked start) (T.talked talk.new) (upto (row_command row.now) flight.new.sent) (replies ++ received_in (taken came reply.new.items))) }
     // Where a turn fails, what was sent before it was, and nothing more was received.
-    ensures fault { (start : Option Talked) (replies : List (List ℕ)) → Since start (T.talked talk.old) (upto (row_command row.now) flight.old.sent) replies
-        → OnErr result (Since start (T.talked talk.new) (upto (row_command row.now) flight.new.sent) replies) }
+    ensures fault { (start : T) (replies : List (List ℕ)) → Since (T.talked start) (T.talked talk.old) (upto (row_command row.now) flight.old.sent) replies
+        → OnErr result (Since (T.talked start) (T.talked talk.new) (upto (row_command row.now) flight.new.sent) replies) }
     // It gives up only where it was waited for long enough, or no more replies come.
     ensures waited { IfOk result (λ came. MatchOption (taken came reply.new.items) (InVain (T.talked talk.old) (T.course talk.old) (T.talked talk.new) (T.course talk.new)) (λ _. Unit {0})) }
     ensures unfailed { OnOk result ((T.course talk.new).failures ≤ (T.course talk.old).failures) }

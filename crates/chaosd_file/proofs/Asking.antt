@@ -23,13 +23,14 @@ use Rattle.chaosd_file.specs.Printed.{ending_of, reply_line, replies_text, no_re
 use Rattle.chaosd_file.specs.Script.{IsCommand, IsFirstBad, BeginWithCommands, AreCommands, lines_within, Ran, Runs}
 use Rattle.chaosd_file.specs.Asking.{AskedAll, AskedGiven, AsksLine, Idles}
 use Rattle.chaosd_file.specs.Conversation.{Asked, Asks, AsksAll, AsksBefore, Converses, IfAsked, Parts, commands_sent, item_for}
-use Rattle.chaos_link.specs.Link.{QueueView}
+use Rattle.chaos_link.specs.Link.{Ask, QueueView}
 use Rattle.chaosd_clock.specs.declared.clock.Epoch.{Epoch}
-use Rattle.file_client.specs.Caller.{CallerView, HangsUp}
+use Rattle.file_client.specs.Caller.{CallerView, HangsUp, TurnsAt, asked_again}
 use Rattle.file_client.specs.Pace.{Pace}
-use Rattle.file_client.specs.Talk.{Talker, Does, SendsFarewell, Talk, Turns, and_later, command_item, silence}
+use Rattle.file_client.specs.Talk.{Talker, Anything, SendsFarewell, Talk, Turns, and_later, command_item, silence}
 use Rattle.chaosd_file.specs.declared.end.ScriptEnd.{ScriptEnd}
 use Rattle.chaos_packet.specs.Item.{ItemView}
+use Rattle.file_client.proofs.Asked.{asks_of, hangs_up_by}
 use Rattle.file_client.proofs.Talking.{talks_none, talks_on}
 
 -- ---- what is kept of a line decides what it stands for
@@ -166,7 +167,7 @@ sent_more given before sent raw command so_far now is =
 -- a command got its reply
 pub asked_more : (p : Pace) (first mid last : Talker) (before between after : Option (List ℕ)) (replied : ℕ) (given : List (List ℕ)) (line raw : List ℕ) → take KEPT_LEN line ≡ take KEPT_LEN raw → Asked p first mid before between replied given
     → AsksLine p mid last replied line between after (Ok true) → Asked p first last before after (replied + 1) (given ++ raw ∷ [])
-asked_more p first mid last before between after replied given line raw front s (command, reply, is, (talk, talks, (sent, received)), printed) = record {
+asked_more p first mid last before between after replied given line raw front s (command, reply, is, (talk, talks, any, (sent, received)), printed) = record {
   count = length-append given (raw ∷ []) ∙ ap (λ n. n + 1) s.count;
   commands = All-push IsCommand given raw s.commands (some_command line raw command front is);
   printed = record {
@@ -192,30 +193,33 @@ last_asked p first mid last input rest before between after replied given line s
 -- ---- turns between commands
 
 -- so many turns, in which nothing was sent or received
-abbrev pub idle : ℕ → Talk
-idle turns = record { sent = []; received = []; turns = turns }
+abbrev pub idle : ℕ → List Ask → Talk
+idle turns asks = record { sent = []; received = []; turns = turns; asks = asks }
 
 pub idles_none : (p : Pace) (c : Talker) → Idles p c c
-idles_none p c = (0, talks_none p c)
+idles_none p c = (0, [], talks_none p c)
 
 -- one turn more
-pub idles_on : (p : Pace) (c d e : Talker) (now : ℕ) → Idles p c d → Does p d (Turns now) e → Idles p c e
-idles_on p c d e now (turns, talks) does = (
-  turns + 1,
-  talks_on p c d e (idle turns) (idle 1) talks
-      (record { steps = Turns now ∷ []; goes = (d, refl, does); same = refl }),
-)
+pub idles_on : (p : Pace) (Asked : List Ask → Type 0) (c d e : Talker) (now : ℕ) → Idles p c d → p.Shows now
+    → TurnsAt Asked (p.Waits true) now d.queue e.queue (asked_again p now d.caller) e.caller → Idles p c e
+idles_on p Asked c d e now (turns, asks, talks) shown turned =
+    let (more, asked, exact) = asks_of Asked (p.Waits true) now d.queue e.queue (asked_again p now d.caller) e.caller turned in (
+      turns + 1,
+      asks ++ more,
+      talks_on p c d e (idle turns asks) (idle 1 more) talks
+          (record { steps = Turns now more ∷ []; goes = (d, refl, (shown, exact)); same = refl }),
+    )
 
 asked_idle : (p : Pace) (first mid last : Talker) (before after : Option (List ℕ)) (replied : ℕ)
     (given : List (List ℕ))
     → Asked p first mid before after replied given → Idles p mid last
     → Asked p first last before after replied given
-asked_idle p first mid last before after replied given s (turns, talks) = record {
+asked_idle p first mid last before after replied given s (turns, asks, talks) = record {
   count = s.count;
   commands = s.commands;
   printed = s.printed;
-  talk = and_later s.talk (idle turns);
-  talks = talks_on p first mid last s.talk (idle turns) s.talks talks;
+  talk = and_later s.talk (idle turns asks);
+  talks = talks_on p first mid last s.talk (idle turns asks) s.talks talks;
   sent = append-nil s.talk.sent ∙ s.sent;
   received = append-nil s.talk.received ∙ s.received;
 }
@@ -423,7 +427,7 @@ received_text before after printed received more e h = subst (λ l. Appends befo
 
 -- each command got a reply
 pub asks_to_end : (p : Pace) (first last parted : Talker) (input rest before after : Option (List ℕ)) (replied : ℕ)
-    → AskedAll p first last input rest before after replied → SendsFarewell p last parted
+    → AskedAll p first last input rest before after replied → SendsFarewell p Anything last parted
     → AsksAll p first parted input before after (record { commands = replied; replied = replied })
 asks_to_end p first last parted input rest before after replied (given, s, done) farewell = record {
   talk = s.talk;
@@ -514,7 +518,7 @@ pub line_before : (p : Pace) (first mid last : Talker) (input rest before betwee
 line_before p first mid last input rest before between after replied given line (BadScript number) s next h =
     met_before p first mid last input rest before between after replied number given line s next h
 line_before p first mid last input rest before between after replied given line WriteFault s next
-    (command, reply, is, (talk, talks, exchange)) =
+    (command, reply, is, (talk, talks, any, exchange)) =
     (and_later s.talk talk, talks_on p first mid last s.talk talk s.talks talks)
 line_before p first mid last input rest before between after replied given line LinkFault s next h = tt
 line_before p first mid last input rest before between after replied given line ClockFault s next h = tt
@@ -563,18 +567,19 @@ unwritten_before p first last input rest before after replied given fault is s =
     subst (λ f. AsksBefore p first last input rest before after f) (sym is) talked
 
 -- It hung up, or met a fault of a turn.
-pub parts_or_failed : (p : Pace) (Stops : Type 0) (count : ℕ) (parted : Talker) (queue : Option QueueView)
+pub parts_or_failed : (p : Pace) (Asked : List Ask → Type 0) (Stops : Type 0) (count : ℕ) (parted : Talker) (queue : Option QueueView)
     (left : CallerView) (later : Result (Unit {0}) RunFault)
-    → OnOk later (HangsUp p parted.queue queue parted.caller left) → IfErr later (IsTurnFault Stops count)
+    → OnOk later (HangsUp p Asked parted.queue queue parted.caller left) → IfErr later (IsTurnFault Stops count)
     → Parts p parted queue ⊎ (Stops ⊎ (0 < count))
-parts_or_failed p Stops count parted queue left (Ok done) well faults = inl (left, well)
-parts_or_failed p Stops count parted queue left (Err LinkFault) well faults = inr (inr faults)
-parts_or_failed p Stops count parted queue left (Err ClockFault) well faults = inr (inl faults)
-parts_or_failed p Stops count parted queue left (Err ReadFault) well faults = absurd faults
-parts_or_failed p Stops count parted queue left (Err WriteFault) well faults = absurd faults
-parts_or_failed p Stops count parted queue left (Err InputTooLong) well faults = absurd faults
-parts_or_failed p Stops count parted queue left (Err NoMemory) well faults = absurd faults
-parts_or_failed p Stops count parted queue left (Err (BadScript number)) well faults = absurd faults
+parts_or_failed p Asked Stops count parted queue left (Ok done) well faults =
+    inl (left, hangs_up_by Asked Anything (λ asks asked. tt) p parted.queue queue parted.caller left well)
+parts_or_failed p Asked Stops count parted queue left (Err LinkFault) well faults = inr (inr faults)
+parts_or_failed p Asked Stops count parted queue left (Err ClockFault) well faults = inr (inl faults)
+parts_or_failed p Asked Stops count parted queue left (Err ReadFault) well faults = absurd faults
+parts_or_failed p Asked Stops count parted queue left (Err WriteFault) well faults = absurd faults
+parts_or_failed p Asked Stops count parted queue left (Err InputTooLong) well faults = absurd faults
+parts_or_failed p Asked Stops count parted queue left (Err NoMemory) well faults = absurd faults
+parts_or_failed p Asked Stops count parted queue left (Err (BadScript number)) well faults = absurd faults
 
 pub if_asked : (result : Result ScriptEnd RunFault) (P : Type 0) → P → IfAsked result P
 if_asked (Ok end) P h = h

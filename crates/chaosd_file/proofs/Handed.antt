@@ -159,10 +159,10 @@ all_talks : (p : Pace) (first parted : Talker) (input before after : Option (Lis
     → AsksAll p first parted input before after (record { commands = commands; replied = replied })
     → (talk : Talk) × Talks p first talk parted
 all_talks p first parted input before after commands replied true same counts s =
-    let (talk, talks, farewell) = s.to_end (grind (arith, nat_tests)) in
+    let (talk, talks, any, farewell) = s.to_end (grind (arith, nat_tests)) in
     (and_later s.talk talk, talks_on p first s.replied parted s.talk talk s.asks talks)
 all_talks p first parted input before after commands replied false differ counts s =
-    let (command, (talk, talks, exchange), sent) = s.in_part (grind (arith, nat_tests)) in
+    let (command, (talk, talks, any, exchange), sent) = s.in_part (grind (arith, nat_tests)) in
     (and_later s.talk talk, talks_on p first s.replied parted s.talk talk s.asks talks)
 
 -- what a client did, however its run ended

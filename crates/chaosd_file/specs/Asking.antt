@@ -1,6 +1,7 @@
 -- What a run over a script has done so far, and what becomes of a line.
 use Rattle.std.specs.Prelude.{◌≡◌, ℕ, ◌+◌, Bool, true, false, List, [], Option, Some, None, Result, Ok, Err}
 use Rattle.std.specs.Io.KnownBytes.{Appends}
+use Rattle.chaos_link.specs.Link.{Ask}
 use Rattle.chaosd_io.specs.declared.fault.RunFault.{RunFault}
 use Rattle.chaosd_io.specs.declared.fault.RunFault.TheVariants.{ReadFault, WriteFault, InputTooLong, NoMemory, BadScript, LinkFault, ClockFault}
 use Rattle.chaosd_io.specs.declared.limits.TheConstants.{INPUT_LIMIT, KEPT_LEN}
@@ -9,11 +10,12 @@ use Rattle.chaosd_file.specs.Command.{command_of}
 use Rattle.chaosd_file.specs.Conversation.{Asked}
 use Rattle.chaosd_file.specs.Printed.{reply_line, no_reply_line}
 use Rattle.file_client.specs.Pace.{Pace}
-use Rattle.file_client.specs.Talk.{Talker, Exchanges, Talks}
+use Rattle.file_client.specs.Talk.{Talker, Anything, Exchanges, Talks}
 
 -- A client took turns, and sent and received nothing.
 abbrev pub Idles : Pace → Talker → Talker → Type 0
-Idles p first last = (turns : ℕ) × Talks p first (record { sent = []; received = []; turns = turns }) last
+Idles p first last =
+    (turns : ℕ) × (asks : List Ask) × Talks p first (record { sent = []; received = []; turns = turns; asks = asks }) last
 
 -- So it is with the lines that the reader gave of an input.
 abbrev pub AskedGiven : Pace → Talker → Talker → Option (List ℕ) → Option (List ℕ) → Option (List ℕ) → Option (List ℕ)
@@ -34,14 +36,14 @@ abbrev pub AsksLine : Pace → Talker → Talker → ℕ → List ℕ → Option
     → Type 0
 AsksLine p first last replied line before after (Ok true) =
     (command : List ℕ) × (reply : List ℕ) × (command_of line ≡ Some command)
-    × Exchanges p first command (Some reply) last × Appends before after (reply_line reply)
+    × Exchanges p Anything first command (Some reply) last × Appends before after (reply_line reply)
 AsksLine p first last replied line before after (Ok false) =
-    (command : List ℕ) × (command_of line ≡ Some command) × Exchanges p first command None last
+    (command : List ℕ) × (command_of line ≡ Some command) × Exchanges p Anything first command None last
     × Appends before after no_reply_line
 AsksLine p first last replied line before after (Err (BadScript number)) =
     (command_of line ≡ None) × (number ≡ replied + 1) × (after ≡ before) × (last ≡ first)
 AsksLine p first last replied line before after (Err WriteFault) =
-    (command : List ℕ) × (reply : Option (List ℕ)) × (command_of line ≡ Some command) × Exchanges p first command reply last
+    (command : List ℕ) × (reply : Option (List ℕ)) × (command_of line ≡ Some command) × Exchanges p Anything first command reply last
 AsksLine p first last replied line before after (Err LinkFault) = Unit {0}
 AsksLine p first last replied line before after (Err ClockFault) = Unit {0}
 AsksLine p first last replied line before after (Err NoMemory) = ⊥

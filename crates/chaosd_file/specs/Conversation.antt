@@ -16,14 +16,16 @@ use Rattle.chaosd_file.specs.Printed.{PrintsReplies, ending_of, replies_text}
 use Rattle.chaosd_file.specs.Script.{IsCommand, lines_within}
 use Rattle.file_client.specs.Caller.{CallerView, HangsUp}
 use Rattle.file_client.specs.Pace.{Pace}
-use Rattle.file_client.specs.Talk.{Talker, Talk, Talks, Exchanges, SendsFarewell, command_item}
+use Rattle.file_client.specs.Talk.{Talker, Talk, Talks, Anything, Exchanges, SendsFarewell, command_item}
 
--- what the client of `loop` goes by: turns times 10 milliseconds, always the same first number, and it asks but once
+-- what the client of `loop` goes by: turns times 10 milliseconds, always the same first number, it asks but once, and a turn
+-- waits only where it may
 abbrev pub loop_pace : Pace
 loop_pace = record {
   Shows = λ moment. (turns : ℕ) × (moment ≡ min (turns * LOOP_TURN) max_count);
   starts = λ moment. 65534;
   wait = max_count;
+  Waits = λ allowed waits. waits ≡ true → allowed ≡ true;
 }
 
 abbrev pub item_for : Option (List ℕ) → List ItemView
@@ -57,8 +59,8 @@ pub record AsksAll (p : Pace) (first parted : Talker) (input before after : Opti
     pub sent : IfSome input (λ all. talk.sent ≡ commands_sent (take end.replied (lines_within all)))
     pub received : length talk.received ≡ end.replied
     pub text : Appends before after (replies_text talk.received ++ ending_of end)
-    pub to_end : end.replied ≡ end.commands → SendsFarewell p replied parted
-    pub in_part : end.commands ≡ end.replied + 1 → (command : List ℕ) × Exchanges p replied command None parted
+    pub to_end : end.replied ≡ end.commands → SendsFarewell p Anything replied parted
+    pub in_part : end.commands ≡ end.replied + 1 → (command : List ℕ) × Exchanges p Anything replied command None parted
         × IfSome input
         (λ all. commands_sent (take end.commands (lines_within all)) ≡ talk.sent ++ command_item command ∷ [])
 
@@ -105,7 +107,7 @@ IfAsked (Err ClockFault) P = Unit {0}
 
 -- Its connection was closed, where there was one, and the CLS was sent. `queue`: what its link is then.
 abbrev pub Parts : Pace → Talker → Option QueueView → Type 0
-Parts p parted queue = (left : CallerView) × HangsUp p parted.queue queue parted.caller left
+Parts p parted queue = (left : CallerView) × HangsUp p Anything parted.queue queue parted.caller left
 
 -- A run that ended well asked all and then hung up. One that met a fault hung up, too, or that `Failed`.
 abbrev pub Converses : Pace → Type 0 → Talker → Option QueueView → Option (List ℕ) → Option (List ℕ) → Option (List ℕ)

@@ -16,7 +16,7 @@ mod why;
 
 pub use ask_run::{Route, run_ask, run_ask_by};
 pub use end::ScriptEnd;
-pub use limits::{LOOP_CLIENT, LOOP_SERVER, NOBODY};
+pub use limits::{LOOP_CLIENT, LOOP_SERVER, NOBODY, law_limits};
 pub use loop_run::run_loop;
 pub use ready::{Ready, Unasked};
 pub use why::{BadLine, Why};

@@ -1,4 +1,7 @@
 //! The numbers that the engines keep to.
+ghost use Rattle.std.specs.Prelude.{◌≡◌};
+ghost use Rattle.chaosd_file.specs.declared.limits.TheConstants.{LOOP_CLIENT, LOOP_SERVER, LOOP_TURN, SCRIPT_WINDOW};
+
 use chaos_packet::{Opcode, PktNum};
 
 /// No host's address. Of nobody no connection is asked for, so that a run ends at its first command.
@@ -21,3 +24,11 @@ pub const LOOP_TURN: u64 = 10;
 
 /// The windows of a script's client, in packets: the usual ones.
 pub const SCRIPT_WINDOW: u16 = 13;
+
+/// The numbers as numerals.
+pub fn law_limits()
+    ensures client { LOOP_CLIENT ≡ 257 }
+    ensures server { LOOP_SERVER ≡ 258 }
+    ensures turn { LOOP_TURN ≡ 10 }
+    ensures window { SCRIPT_WINDOW ≡ 13 }
+{}

@@ -58,6 +58,21 @@ struct Both<'a, A: Link, B: Link> {
     is_idle: bool,
 }
 
+impl<A: Link, B: Link> Both<'_, A, B> {
+    ghost use Rattle.std.specs.Prelude.{◌&&◌, nat_le, true};
+    ghost use Rattle.chaos_packet.specs.Outbox.{room_of};
+    ghost use Rattle.chaos_turn.specs.declared.limits.TheConstants.{TURN_ROOM};
+
+    /// Whether the client's turn waits for what is still on its way: where that is allowed, the turn before brought nothing, and nothing
+    /// is to be sent.
+    fn waits(&self, out: &Outbox, may_wait: bool) -> bool
+        ensures exact { result ≡ (may_wait && self.now.is_idle && nat_le TURN_ROOM (room_of out.now)) }
+        ensures allowed { result ≡ true → may_wait ≡ true }
+    {
+        may_wait && self.is_idle && out.room() >= TURN_ROOM
+    }
+}
+
 impl<A: Link, B: Link> Turns for Both<'_, A, B> {
     ghost use Rattle.std.specs.Prelude.{◌∷◌, ◌+◌, ◌*◌, ◌⊎◌, [], Some, min};
     ghost use Rattle.chaos_packet.specs.Count.{Rose, max_count};
@@ -85,6 +100,8 @@ impl<A: Link, B: Link> Turns for Both<'_, A, B> {
     ghost links = { λ turns. turns.near.ghost_name ∷ turns.far.ghost_name ∷ [] };
 
     ghost queue = { λ turns. A.queue turns.near.now };
+
+    ghost asked = { λ now start. A.asked now.near.now start.near.now };
 
     fn now(&self) -> Result<u64, RunFault> {
         Ok(self.turns.saturating_mul(LOOP_TURN))
@@ -114,7 +131,7 @@ impl<A: Link, B: Link> Turns for Both<'_, A, B> {
         may_wait: bool,
     ) -> Result<(), RunFault> {
         self.turns = self.turns.saturating_add(1);
-        let may_wait = may_wait && self.is_idle && out.room() >= TURN_ROOM;
+        let may_wait = self.waits(out, may_wait);
         let asked = client_turn(
             host,
             self.near,

@@ -21,7 +21,9 @@ impl<R: Clock + Eprint, L: Link> Link for NotedLink<'_, R, L> {
 
     ghost queue = { λ link. L.queue link.inner };
 
-    ghost asked = { λ link. L.asked link.inner };
+    ghost asked = { λ now start. L.asked now.inner start.inner };
+
+    ghost began = { λ link. L.began link.inner };
 
     fn send(&mut self, to_address: u16, bytes: &[u8]) -> Sent {
         self.journal.answer(to_address);

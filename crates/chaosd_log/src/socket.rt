@@ -1,5 +1,7 @@
 //! A socket of which note is taken.
-ghost use Rattle.std.specs.Prelude.{◌≡◌, ◌≤◌, None, IfOk};
+ghost use Rattle.std.specs.Prelude.{◌≡◌, ◌≤◌, [], ◌∷◌, IfOk};
+ghost use Rattle.chaos_link.specs.Link.{Asks};
+ghost use Rattle.chaos_link.specs.Udp.{ReceiveOne};
 ghost use Rattle.chaos_link.specs.declared.limits.TheConstants.{LINK_ROOM};
 ghost use Rattle.chaosd_log.specs.Source.{source_in};
 
@@ -11,7 +13,7 @@ use std::net::{SocketAddr, SocketAddrV4, UdpSocket};
 use std::time::{Clock, Duration};
 
 /// A socket that tells from where a datagram came.
-pub trait SourceSocket {
+pub trait SourceSocket: DatagramSocket {
     /// Receives a datagram into the front of the buffer, and says how many bytes it has there, and from where it came.
     ///
     /// # Errors
@@ -20,7 +22,8 @@ pub trait SourceSocket {
         &mut self,
         buffer: &mut [u8; LINK_ROOM],
     ) -> io::Result<(usize, SocketAddr)>
-        ensures { IfOk result (λ r. r.0 ≤ LINK_ROOM) };
+        ensures within { IfOk result (λ r. r.0 ≤ LINK_ROOM) }
+        ensures asked { Asks (Self.asked self.old) (Self.asked self.new) (ReceiveOne ∷ []) };
 }
 
 impl SourceSocket for UdpSocket {
@@ -44,7 +47,7 @@ pub fn source_of(bytes: &[u8]) -> Option<u16>
 }
 
 /// A socket of which note is taken: from where each host was heard. Where that is asked for, a datagram that comes from no peer's UDP
-/// address is dropped, as if none had come.
+/// address is dropped, as if none had come. It asks the inner socket exactly what it is asked.
 #[derive(Drop)]
 pub struct NotedSocket<'a, R, S> {
     inner: S,
@@ -76,8 +79,10 @@ impl<'a, R: Clock + Eprint, S> NotedSocket<'a, R, S> {
     }
 }
 
-impl<R: Clock + Eprint, S: DatagramSocket + SourceSocket> DatagramSocket for NotedSocket<'_, R, S> {
-    ghost asked = { λ _. None };
+impl<R: Clock + Eprint, S: SourceSocket> DatagramSocket for NotedSocket<'_, R, S> {
+    ghost asked = { λ now start. S.asked now.inner start.inner };
+
+    ghost began = { λ socket. S.began socket.inner };
 
     fn send_datagram(&mut self, bytes: &[u8], to: SocketAddrV4) -> io::Result<()> {
         self.inner.send_datagram(bytes, to)

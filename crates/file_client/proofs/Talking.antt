@@ -1,14 +1,16 @@
 -- What clients say and hear, step after step.
 use Rattle.std.proofs.Common.{◌≡◌, ◌≤◌, ◌⊎◌, ℕ, ◌+◌, Bool, true, false, List, [], ◌∷◌, ◌++◌, refl, sym, ap, ◌∙◌, subst, append_assoc, append-nil, add_assoc, add-zero, arith, inl, inr}
-use Rattle.std.specs.Prelude.{Option, None, Some, is_some, OnOk, Result, Ok, Err}
+use Rattle.std.specs.Prelude.{Option, None, Some, is_some, OnOk, Result}
 use Rattle.chaosd_io.specs.declared.fault.RunFault.{RunFault}
-use Rattle.chaos_link.specs.Link.{QueueView}
+use Rattle.chaos_link.specs.Link.{Ask, AskedSince, Asks, QueueView}
+use Rattle.chaos_link.proofs.Asked.{asks_both}
 use Rattle.chaos_packet.specs.Item.{ItemView}
 use Rattle.chaos_host.specs.View.{HostView}
 use Rattle.file_client.specs.Calls.{is_over}
-use Rattle.file_client.specs.Caller.{CallerView, Connects, HangsUpBy, asked, all_read}
+use Rattle.file_client.specs.Caller.{CallerView, Connects, HangsUpBy, TurnsAt, asked, asked_again, all_read}
 use Rattle.file_client.specs.Pace.{Pace}
 use Rattle.file_client.specs.Talk.{Talker, Talk, Step, Calls, Writes, Reads, Turns, Does, Goes, Talks, WritesAndTurns, Exchanges, SendsFarewell, and_later, and_then, command_item, eof_item, receiving, newly_sent, silence, talk_of, talker}
+use Rattle.file_client.proofs.Asked.{asks_of, well_by}
 use Rattle.file_client.specs.declared.limits.TheConstants.{COMMAND_TURNS, END_TURNS}
 
 pub talks_none : (p : Pace) (c : Talker) → Talks p c silence c
@@ -26,28 +28,31 @@ goes_on : (p : Pace) (first between last : Talker) (xs ys : List Step) → Goes 
 goes_on p first between last xs [] g same = subst (λ c. Goes p first xs c) (sym same) g
 goes_on p first between last xs (step ∷ ys) g (mid, before, does) = (mid, goes_on p first between mid xs ys g before, does)
 
+abbrev talk_by : List ItemView → List (List ℕ) → ℕ → List Ask → Talk
+talk_by sent received turns asks = record { sent = sent; received = received; turns = turns; asks = asks }
+
 then_later : (t u : Talk) (step : Step) → and_then (and_later t u) step ≡ and_later t (and_then u step)
 then_later t u (Calls now) = refl
 then_later t u (Writes item now true) =
-    ap (λ (l : List ItemView). record { sent = l; received = t.received ++ u.received; turns = t.turns + u.turns })
+    ap (λ (l : List ItemView). talk_by l (t.received ++ u.received) (t.turns + u.turns) (t.asks ++ u.asks))
     (append_assoc t.sent u.sent (item ∷ []))
 then_later t u (Writes item now false) = refl
 then_later t u (Reads None) = refl
 then_later t u (Reads (Some bytes)) =
-    ap (λ (l : List (List ℕ)). record { sent = t.sent ++ u.sent; received = l; turns = t.turns + u.turns })
+    ap (λ (l : List (List ℕ)). talk_by (t.sent ++ u.sent) l (t.turns + u.turns) (t.asks ++ u.asks))
     (append_assoc t.received u.received (bytes ∷ []))
-then_later t u (Turns now) =
-    ap (λ (n : ℕ). record { sent = t.sent ++ u.sent; received = t.received ++ u.received; turns = n })
+then_later t u (Turns now asks) =
+    ap (λ (n : ℕ). talk_by (t.sent ++ u.sent) (t.received ++ u.received) n ((t.asks ++ u.asks) ++ asks))
     (add_assoc t.turns u.turns 1)
-
-abbrev talk_by : List ItemView → List (List ℕ) → ℕ → Talk
-talk_by sent received turns = record { sent = sent; received = received; turns = turns }
+    ∙ ap (λ (l : List Ask). talk_by (t.sent ++ u.sent) (t.received ++ u.received) (t.turns + (u.turns + 1)) l)
+    (append_assoc t.asks u.asks asks)
 
 later_none : (t : Talk) → and_later t silence ≡ t
 later_none t =
-    ap (λ (l : List ItemView). talk_by l (t.received ++ []) (t.turns + 0)) (append-nil t.sent)
-    ∙ ap (λ (l : List (List ℕ)). talk_by t.sent l (t.turns + 0)) (append-nil t.received)
-    ∙ ap (λ (n : ℕ). talk_by t.sent t.received n) (add-zero t.turns)
+    ap (λ (l : List ItemView). talk_by l (t.received ++ []) (t.turns + 0) (t.asks ++ [])) (append-nil t.sent)
+    ∙ ap (λ (l : List (List ℕ)). talk_by t.sent l (t.turns + 0) (t.asks ++ [])) (append-nil t.received)
+    ∙ ap (λ (n : ℕ). talk_by t.sent t.received n (t.asks ++ [])) (add-zero t.turns)
+    ∙ ap (λ (l : List Ask). talk_by t.sent t.received t.turns l) (append-nil t.asks)
 
 talk_later : (xs ys : List Step) → talk_of (ys ++ xs) ≡ and_later (talk_of xs) (talk_of ys)
 talk_later xs [] = sym (later_none (talk_of xs))
@@ -71,35 +76,46 @@ pub talks_behind : (p : Pace) (first between last : Talker) (talk : Talk) → Ta
     → Talks p between talk last → Talks p first talk last
 talks_behind p first between last talk t u =
     let none : 0 + talk.turns ≡ talk.turns = omega arith in
-    talks_same p first last (and_later silence talk) talk (ap (λ (n : ℕ). talk_by talk.sent talk.received n) none)
+    talks_same p first last (and_later silence talk) talk (ap (λ (n : ℕ). talk_by talk.sent talk.received n talk.asks) none)
     (talks_on p first between last silence talk t u)
 
 -- ---- the steps of a client
 
-calls_by : (p : Pace) (now : ℕ) (id : Option ℕ) (queue queue' : Option QueueView) (c b d : CallerView) → id ≡ None
-    → c.id ≡ id → HangsUpBy id p queue queue' c b → p.Shows now → d ≡ asked (p.starts now) now b
-    → Talks p (talker c queue) silence (talker d queue')
-calls_by p now (Some id) queue queue' c b d none same hung shows is = absurd (let no : ⊥ = cc in no)
-calls_by p now None queue queue' c b d none same (left, stays) shows is =
-    let does : Does p (talker c queue) (Calls now) (talker d queue') = (shows, same, rw (is, left, stays) refl) in
-    talks_step p (talker c queue) (talker c queue) (talker d queue') silence (Calls now) (talks_none p (talker c queue))
-    does
-
--- it had no connection, and asked for one
-talks_calling : (p : Pace) (now : ℕ) (queue queue' : Option QueueView) (c d : CallerView) → c.id ≡ None → Connects p now queue queue' c d → Talks p (talker c queue) silence (talker d queue')
-talks_calling p now queue queue' c d none (b, hung, shows, is) = calls_by p now c.id queue queue' c b d none refl hung shows is
+calls_by : (p : Pace) (Asked : List Ask → Type 0) (now : ℕ) (id : Option ℕ) (queue queue' : Option QueueView)
+    (c b d : CallerView)
+    → id ≡ None → c.id ≡ id → HangsUpBy id p Asked queue queue' c b → p.Shows now → d ≡ asked (p.starts now) now b
+    → Talks p (talker c queue) silence (talker d queue') × Asked []
+calls_by p Asked now (Some id) queue queue' c b d none same hung shows is = absurd (let no : ⊥ = cc in no)
+calls_by p Asked now None queue queue' c b d none same (left, stays, nothing) shows is =
+    let does : Does p (talker c queue) (Calls now) (talker d queue') = (shows, same, rw (is, left, stays) refl) in (
+      talks_step p (talker c queue) (talker c queue) (talker d queue') silence (Calls now)
+          (talks_none p (talker c queue)) does,
+      nothing,
+    )
 
 no_id : (id : Option ℕ) → is_some id ≡ false → id ≡ None
 no_id None none = refl
 no_id (Some id) none = absurd (let no : ⊥ = cc in no)
 
-pub talks_called : (p : Pace) (now : ℕ) (queue queue' : Option QueueView) (c d : CallerView)
+-- it had no connection, and asked for one
+calling : (p : Pace) (Asked : List Ask → Type 0) (now : ℕ) (queue queue' : Option QueueView) (c d : CallerView)
+    → is_some c.id ≡ false → Connects p Asked now queue queue' c d
+    → Talks p (talker c queue) silence (talker d queue') × Asked []
+calling p Asked now queue queue' c d none (b, hung, shows, is) =
+    calls_by p Asked now c.id queue queue' c b d (no_id c.id none) refl hung shows is
+
+pub talks_called : (p : Pace) (Asked : List Ask → Type 0) (now : ℕ) (queue queue' : Option QueueView) (c d : CallerView)
     (result : Result (Unit {0}) RunFault)
-    → is_some c.id ≡ false → OnOk result (Connects p now queue queue' c d)
+    → is_some c.id ≡ false → OnOk result (Connects p Asked now queue queue' c d)
     → OnOk result (Talks p (talker c queue) silence (talker d queue'))
-talks_called p now queue queue' c d (Ok done) none connects =
-    talks_calling p now queue queue' c d (no_id c.id none) connects
-talks_called p now queue queue' c d (Err fault) none connects = tt
+talks_called p Asked now queue queue' c d result none connects =
+    well_by result _ _ (λ h. (calling p Asked now queue queue' c d none h).0) connects
+
+pub asks_called : (p : Pace) (Asked : List Ask → Type 0) (now : ℕ) (queue queue' : Option QueueView) (c d : CallerView)
+    (result : Result (Unit {0}) RunFault)
+    → is_some c.id ≡ false → OnOk result (Connects p Asked now queue queue' c d) → OnOk result (Asked [])
+asks_called p Asked now queue queue' c d result none connects =
+    well_by result _ _ (λ h. (calling p Asked now queue queue' c d none h).1) connects
 
 -- it read
 pub talks_reading : (p : Pace) (c d : Talker) (got : Option (List ℕ)) → Does p c (Reads got) d
@@ -109,77 +125,87 @@ talks_reading p c d (Some bytes) does = talks_step p c c d silence (Reads (Some 
 
 -- it tried to write
 pub talks_writing : (p : Pace) (c d : Talker) (item : ItemView) (now : ℕ) (taken : Bool)
-    → Does p c (Writes item now taken) d → WritesAndTurns p 0 c item false taken d
+    → Does p c (Writes item now taken) d → WritesAndTurns p (λ asks. asks ≡ []) 0 c item false taken d
 talks_writing p c d item now true does =
-    (λ e. refl, talks_step p c c d silence (Writes item now true) (talks_none p c) does)
+    (λ e. refl, [], refl, talks_step p c c d silence (Writes item now true) (talks_none p c) does)
 talks_writing p c d item now false does =
-    (λ e. e, talks_step p c c d silence (Writes item now false) (talks_none p c) does)
+    (λ e. e, [], refl, talks_step p c c d silence (Writes item now false) (talks_none p c) does)
 
 -- it had written before
 pub talks_written : (p : Pace) (c : Talker) (item : ItemView) (was : Bool) → was ≡ true
-    → WritesAndTurns p 0 c item was true c
-talks_written p c item true e = (λ e. e, talks_none p c)
+    → WritesAndTurns p (λ asks. asks ≡ []) 0 c item was true c
+talks_written p c item true e = (λ e. e, [], refl, talks_none p c)
 talks_written p c item false e = absurd (let no : ⊥ = cc in no)
 
--- a turn behind a write
-pub talks_turning : (p : Pace) (c d e : Talker) (item : ItemView) (was is : Bool) (now : ℕ)
-    → WritesAndTurns p 0 c item was is d → Does p d (Turns now) e → WritesAndTurns p 1 c item was is e
-talks_turning p c d e item was is now (kept, talk) does = (kept, talks_step p c d e _ (Turns now) talk does)
+-- it has written nothing yet
+pub talks_waiting : (p : Pace) (Asked : List Ask → Type 0) (c d : Talker) (item : ItemView) → Asked []
+    → Talks p c silence d → WritesAndTurns p Asked 0 c item false false d
+talks_waiting p Asked c d item none talk = (λ e. e, [], none, talk)
 
--- what was written at some time
-pub talks_again : (p : Pace) (c d e : Talker) (item : ItemView) (was is : Bool) (turns : ℕ)
-    → WritesAndTurns p turns c item false was d → WritesAndTurns p 1 d item was is e
-    → WritesAndTurns p (turns + 1) c item false is e
-talks_again p c d e item true true turns first later =
-    (λ same. refl, talks_same p c e _ _ refl (talks_on p c d e _ _ first.1 later.1))
-talks_again p c d e item true false turns first later =
-    absurd (let no : false ≡ true = later.0 refl in let none : ⊥ = cc in none)
-talks_again p c d e item false is turns first later =
-    (λ same. absurd (let no : ⊥ = cc in no), talks_on p c d e _ _ first.1 later.1)
+-- a turn behind a write
+pub talks_turning : (p : Pace) (Asked : List Ask → Type 0) (c d e : Talker) (item : ItemView) (was is : Bool) (now : ℕ)
+    → WritesAndTurns p (λ asks. asks ≡ []) 0 c item was is d → p.Shows now
+    → TurnsAt Asked (p.Waits true) now d.queue e.queue (asked_again p now d.caller) e.caller
+    → WritesAndTurns p Asked 1 c item was is e
+talks_turning p Asked c d e item was is now (kept, asks, none, talk) shown turns =
+    let (more, asked, exact) = asks_of Asked (p.Waits true) now d.queue e.queue _ e.caller turns in (
+      kept,
+      asks ++ more,
+      subst Asked (ap (λ (l : List Ask). l ++ more) (sym none)) asked,
+      talks_step p c d e _ (Turns now more) talk (shown, exact),
+    )
+
+module _ {S : Type 0} where
+  -- what was written at some time
+  pub talks_again : (p : Pace) (old mid new : AskedSince S Ask) (c d e : Talker) (item : ItemView) (was is : Bool)
+      (turns : ℕ)
+      → WritesAndTurns p (Asks old mid) turns c item false was d → WritesAndTurns p (Asks mid new) 1 d item was is e
+      → WritesAndTurns p (Asks old new) (turns + 1) c item false is e
+  talks_again p old mid new c d e item true true turns (kept, xs, asked, first) (again, ys, more, later) =
+      (λ same. refl, xs ++ ys, asks_both old mid new xs ys asked more, talks_same p c e _ _ refl (talks_on p c d e _ _ first later))
+  talks_again p old mid new c d e item true false turns first (again, ys, more, later) =
+      absurd (let no : false ≡ true = again refl in let none : ⊥ = cc in none)
+  talks_again p old mid new c d e item false is turns (kept, xs, asked, first) (again, ys, more, later) =
+      (λ same. absurd (let no : ⊥ = cc in no), xs ++ ys, asks_both old mid new xs ys asked more, talks_on p c d e _ _ first later)
 
 -- nothing was received behind it
-pub talks_unreceived : (p : Pace) (c d e : Talker) (item : ItemView) (was is : Bool) (turns : ℕ)
-    → WritesAndTurns p turns c item was is d → Talks p d silence e → WritesAndTurns p turns c item was is e
-talks_unreceived p c d e item was is turns (kept, talk) later
-    = (kept, talks_same p c e _ _ (later_none _) (talks_on p c d e _ silence talk later))
-
--- nothing was sent before it
-pub talks_begun : (p : Pace) (b c d : Talker) (item : ItemView) (was is : Bool) (turns : ℕ) → Talks p b silence c
-    → WritesAndTurns p turns c item was is d → WritesAndTurns p turns b item was is d
-talks_begun p b c d item was is turns before (kept, talk) = (kept, talks_behind p b c d _ before talk)
+pub talks_unreceived : (p : Pace) (Asked : List Ask → Type 0) (c d e : Talker) (item : ItemView) (was is : Bool) (turns : ℕ)
+    → WritesAndTurns p Asked turns c item was is d → Talks p d silence e → WritesAndTurns p Asked turns c item was is e
+talks_unreceived p Asked c d e item was is turns (kept, xs, asked, talk) later =
+    (kept, xs, asked, talks_same p c e _ _ (later_none _) (talks_on p c d e _ silence talk later))
 
 -- ---- one command, and the EOF
 
 -- a reply was received behind the command
-pub exchange_done : (p : Pace) (c d e : Talker) (command reply : List ℕ) (is : Bool) (turns : ℕ) → is ≡ true
-    → WritesAndTurns p turns c (command_item command) false is d → Talks p d (receiving (Some reply)) e
-    → Exchanges p c command (Some reply) e
-exchange_done p c d e command reply true turns same (kept, talk) received
-    = (_, talks_on p c d e _ _ talk received, (refl, refl))
-exchange_done p c d e command reply false turns same first received = absurd (let no : ⊥ = cc in no)
+pub exchange_done : (p : Pace) (Asked : List Ask → Type 0) (c d e : Talker) (command reply : List ℕ) (is : Bool) (turns : ℕ)
+    → is ≡ true → WritesAndTurns p Asked turns c (command_item command) false is d
+    → Talks p d (receiving (Some reply)) e → Exchanges p Asked c command (Some reply) e
+exchange_done p Asked c d e command reply true turns same (kept, xs, asked, talk) received
+    = (_, talks_on p c d e _ _ talk received, subst Asked (sym (append-nil xs)) asked, (refl, refl))
+exchange_done p Asked c d e command reply false turns same first received = absurd (let no : ⊥ = cc in no)
 
 -- none was
-pub exchange_none : (p : Pace) (c d : Talker) (command : List ℕ) (is : Bool) (turns : ℕ)
-    → WritesAndTurns p turns c (command_item command) false is d
-    → (turns ≡ COMMAND_TURNS) ⊎ (is_over d.caller.host d.caller.id ≡ true) → Exchanges p c command None d
-exchange_none p c d command is turns (kept, talk) ends
-    = (record { sent = newly_sent false is (command_item command); received = []; turns = turns }, talk, (is, refl, refl, ends))
+pub exchange_none : (p : Pace) (Asked : List Ask → Type 0) (c d : Talker) (command : List ℕ) (is : Bool) (turns : ℕ)
+    → WritesAndTurns p Asked turns c (command_item command) false is d
+    → (turns ≡ COMMAND_TURNS) ⊎ (is_over d.caller.host d.caller.id ≡ true) → Exchanges p Asked c command None d
+exchange_none p Asked c d command is turns (kept, xs, asked, talk) ends
+    = (talk_by (newly_sent false is (command_item command)) [] turns xs, talk, asked, (is, refl, refl, ends))
 
 -- the EOF's wait has ended
-pub farewell_by : (p : Pace) (c d : Talker) (is : Bool) (turns : ℕ) → WritesAndTurns p turns c eof_item false is d
-    → turns ≤ END_TURNS
+pub farewell_by : (p : Pace) (Asked : List Ask → Type 0) (c d : Talker) (is : Bool) (turns : ℕ)
+    → WritesAndTurns p Asked turns c eof_item false is d → turns ≤ END_TURNS
     → ((turns ≡ END_TURNS) ⊎ (is_over d.caller.host d.caller.id ≡ true))
     ⊎ ((is ≡ true) × (all_read d.caller.host d.caller.id ≡ true))
-    → SendsFarewell p c d
-farewell_by p c d is turns (kept, talk) within ends =
-    (record { sent = newly_sent false is eof_item; received = []; turns = turns }, talk, record { is_written = is; sent = refl; received = refl; within = within; ends = ends })
+    → SendsFarewell p Asked c d
+farewell_by p Asked c d is turns (kept, xs, asked, talk) within ends =
+    (talk_by (newly_sent false is eof_item) [] turns xs, talk, asked, record { is_written = is; sent = refl; received = refl; within = within; ends = ends })
 
 over_none : (h : HostView) (id : Option ℕ) → is_some id ≡ false → is_over h id ≡ true
 over_none h None none = refl
 over_none h (Some id) none = absurd (let no : ⊥ = cc in no)
 
 -- there is no connection
-pub farewell_none : (p : Pace) (c : CallerView) (queue : Option QueueView) → is_some c.id ≡ false
-    → SendsFarewell p (talker c queue) (talker c queue)
-farewell_none p c queue none =
-    (silence, talks_none p (talker c queue), record { is_written = false; sent = refl; received = refl; within = omega arith; ends = inl (inr (over_none c.host c.id none)) })
+pub farewell_none : (p : Pace) (Asked : List Ask → Type 0) (c : CallerView) (queue : Option QueueView) → is_some c.id ≡ false
+    → Asked [] → SendsFarewell p Asked (talker c queue) (talker c queue)
+farewell_none p Asked c queue none nothing =
+    (silence, talks_none p (talker c queue), nothing, record { is_written = false; sent = refl; received = refl; within = omega arith; ends = inl (inr (over_none c.host c.id none)) })

@@ -3,7 +3,7 @@ use Rattle.std.specs.Prelude.{◌≡◌, ◌<◌, ◌⊎◌, ℕ, ◌-◌, Bool,
 use Rattle.std.specs.Result.{result_ok}
 use Rattle.chaos_packet.specs.Item.{ItemView}
 use Rattle.chaos_packet.specs.Outbox.{OutboxView, room_of, with_put}
-use Rattle.chaos_link.specs.Link.{QueueView}
+use Rattle.chaos_link.specs.Link.{Ask, QueueView}
 use Rattle.chaos_link.specs.declared.carriage.Carriage.{Carriage}
 use Rattle.chaos_conn.specs.Act.{Close, Read, Write}
 use Rattle.chaos_conn.specs.Calls.{is_drained}
@@ -116,26 +116,42 @@ all_read h (Some id) = has_drained (host_look h id (λ conn. is_drained conn))
 
 -- ---- turns
 
--- A client's turn was taken at this moment, between these states of the queue that its link is.
-abbrev pub TurnsAt : ℕ → Option QueueView → Option QueueView → CallerView → CallerView → Type 0
-TurnsAt now before after c d =
+-- A client's turn was taken at this moment, between these states of the queue that its link is, and may have waited so. The
+-- link was asked just what a turn asks.
+abbrev pub TurnsAt : (List Ask → Type 0) → (Bool → Type 0) → ℕ → Option QueueView → Option QueueView → CallerView
+    → CallerView → Type 0
+TurnsAt Asked Waits now before after c d =
     (d ≡ record c { host = d.host; out = record { packets = []; cap = c.out.cap } })
-    × TakesTurn c.carriage now c.host d.host before after c.out d.out
+    × TakesTurn Asked Waits c.carriage now c.host d.host before after c.out d.out
 
--- Nothing waits, and nothing was done; or what waits was sent in a turn.
-abbrev pub SendsOn : Pace → Option QueueView → Option QueueView → CallerView → CallerView → Type 0
-SendsOn p before after c d =
-    ((c.out.packets ≡ []) × (d ≡ c) × (after ≡ before)) ⊎ ((now : ℕ) × p.Shows now × TurnsAt now before after c d)
+-- Nothing was done, and the link was asked nothing.
+abbrev pub Stays : (List Ask → Type 0) → Option QueueView → Option QueueView → CallerView → CallerView → Type 0
+Stays Asked before after c d = (d ≡ c) × (after ≡ before) × Asked []
 
-abbrev pub HangsUpBy : Option ℕ → Pace → Option QueueView → Option QueueView → CallerView → CallerView → Type 0
-HangsUpBy None p before after c d = (d ≡ c) × (after ≡ before)
-HangsUpBy (Some id) p before after c d = SendsOn p before after (closed_by (Some id) c) d
+-- The client asked again at this moment, where no OPN came for long, and a turn was taken, which may wait; or its clock told
+-- none, and nothing was done.
+abbrev pub TurnsOrStops : Pace → (List Ask → Type 0) → ℕ → ℕ → Option QueueView → Option QueueView → CallerView
+    → CallerView → Type 0
+TurnsOrStops p Asked was now before after c d =
+    ((now ≡ was) × Stays Asked before after c d)
+    ⊎ (p.Shows now × TurnsAt Asked (p.Waits true) now before after (asked_again p now c) d)
+
+-- Nothing waits, and nothing was done; or what waits was sent in a turn, which doesn't wait.
+abbrev pub SendsOn : Pace → (List Ask → Type 0) → Option QueueView → Option QueueView → CallerView → CallerView → Type 0
+SendsOn p Asked before after c d =
+    ((c.out.packets ≡ []) × Stays Asked before after c d)
+    ⊎ ((now : ℕ) × p.Shows now × TurnsAt Asked (p.Waits false) now before after c d)
+
+abbrev pub HangsUpBy : Option ℕ → Pace → (List Ask → Type 0) → Option QueueView → Option QueueView → CallerView
+    → CallerView → Type 0
+HangsUpBy None p Asked before after c d = Stays Asked before after c d
+HangsUpBy (Some id) p Asked before after c d = SendsOn p Asked before after (closed_by (Some id) c) d
 
 -- The connection was closed, where there was one, and the CLS was sent.
-abbrev pub HangsUp : Pace → Option QueueView → Option QueueView → CallerView → CallerView → Type 0
-HangsUp p before after c d = HangsUpBy c.id p before after c d
+abbrev pub HangsUp : Pace → (List Ask → Type 0) → Option QueueView → Option QueueView → CallerView → CallerView → Type 0
+HangsUp p Asked before after c d = HangsUpBy c.id p Asked before after c d
 
 -- The caller hung up, and then asked at this moment for a connection that begins with the number of this moment.
-abbrev pub Connects : Pace → ℕ → Option QueueView → Option QueueView → CallerView → CallerView → Type 0
-Connects p now before after c d =
-    (b : CallerView) × HangsUp p before after c b × p.Shows now × (d ≡ asked (p.starts now) now b)
+abbrev pub Connects : Pace → (List Ask → Type 0) → ℕ → Option QueueView → Option QueueView → CallerView → CallerView → Type 0
+Connects p Asked now before after c d =
+    (b : CallerView) × HangsUp p Asked before after c b × p.Shows now × (d ≡ asked (p.starts now) now b)

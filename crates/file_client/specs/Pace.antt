@@ -1,5 +1,5 @@
 -- What a client goes by.
-use Rattle.std.specs.Prelude.{◌≡◌, ℕ, Option, Some, None, Result, Ok}
+use Rattle.std.specs.Prelude.{◌≡◌, ℕ, Bool, Option, Some, None, Result, Ok}
 use Rattle.chaosd_clock.specs.Clock.{IsMoment, number_of}
 use Rattle.chaosd_clock.specs.declared.clock.Epoch.{Epoch}
 use Rattle.file_client.specs.declared.limits.TheConstants.{OPEN_MILLIS}
@@ -11,11 +11,13 @@ pub record Pace : Type 1 where
   pub starts : ℕ → ℕ
   -- after so many milliseconds without an OPN it asks for another connection
   pub wait : ℕ
+  -- whether a turn may wait for a datagram, where its caller allows that or doesn't
+  pub Waits : Bool → Bool → Type 0
 
 -- what a client by this clock goes by
 abbrev pub clock_pace : (ℕ → Type 0) → Epoch → Pace
 clock_pace Shows epoch =
-    record { Shows = IsMoment Shows epoch; starts = number_of epoch; wait = OPEN_MILLIS }
+    record { Shows = IsMoment Shows epoch; starts = number_of epoch; wait = OPEN_MILLIS; Waits = λ allowed waits. waits ≡ allowed }
 
 -- Who counts turns tells the moment that it stands at.
 abbrev pub StoodAt : {E : Type 0} → Option ℕ → Result ℕ E → Type 0

@@ -1,14 +1,15 @@
 //! A call to a FILE server over a link, by a clock.
-ghost use Rattle.std.specs.Prelude.{◌≡◌, ◌<◌, ◌≤◌, ◌⊎◌, Err, IfErr, IfOk, None, OnOk};
+ghost use Rattle.std.specs.Prelude.{◌≡◌, ◌<◌, ◌≤◌, ◌⊎◌, Err, IfErr, IfOk, None, OnOk, refl, true};
+ghost use Rattle.chaos_link.specs.Link.{Asks};
 ghost use Rattle.chaos_packet.specs.Count.{Rose};
 ghost use Rattle.chaos_packet.specs.Opcode.{op_data};
-ghost use Rattle.chaosd_copy.specs.Talk.{Turned, after_receive, after_send, counted, taken};
+ghost use Rattle.chaosd_copy.specs.Talk.{Turned, counted, taken};
 ghost use Rattle.file_client.specs.Calls.{is_over};
-ghost use Rattle.file_client.specs.Caller.{Connects, HangsUp, Receives, Sends, TurnsAt, asked_again, new_caller};
+ghost use Rattle.file_client.specs.Caller.{Connects, HangsUp, Receives, Sends, TurnsAt, TurnsOrStops, asked_again, new_caller};
 ghost use Rattle.chaosd_clock.specs.Clock.{BeginsBy, low_bits_of};
 ghost use Rattle.file_client.specs.Fault.{IsTurnFault};
 ghost use Rattle.file_client.specs.Pace.{clock_pace};
-ghost use Rattle.file_client.specs.Talk.{SendsFarewell, talker};
+ghost use Rattle.file_client.specs.Talk.{SendsFarewell, Told, talker, told_none};
 
 use crate::client::Client;
 use crate::reply_timer::NoReply;
@@ -21,8 +22,9 @@ use chaosd_copy::Talk;
 use chaosd_io::RunFault;
 use std::alloc::Global;
 
-/// A client over a link to another process, by a clock, with the turns that it takes. It tells nothing of what was sent and received, since
-/// a network can't be known.
+/// A client over a link to another process, by a clock, with the turns that it takes. It says which steps it took: which commands its
+/// connection wrote, which replies it read, in which turns, and what its link was asked in these. What became of that in the network
+/// no clause of it says.
 #[derive(Drop)]
 pub struct Call<'a, C: Dial, L: Link> {
     client: Client,
@@ -59,7 +61,7 @@ impl<'a, C: Dial, L: Link> Call<'a, C, L> {
     /// `ClockFault` and `LinkFault`.
     pub fn connect(&mut self) -> Result<(), RunFault>
         ensures faults { IfErr result (IsTurnFault (C.fails self.old.turns.clock.now) (L.count self.new.turns.link.now)) }
-        ensures well { OnOk result (Connects (clock_pace (C.shows self.old.turns.clock.now) self.old.turns.epoch) self.new.client.now (L.queue self.old.turns.link.now) (L.queue self.new.turns.link.now) self.old.client.caller self.new.client.caller) }
+        ensures well { OnOk result (Connects (clock_pace (C.shows self.old.turns.clock.now) self.old.turns.epoch) (Asks (L.asked self.old.turns.link.now) (L.asked self.new.turns.link.now)) self.new.client.now (L.queue self.old.turns.link.now) (L.queue self.new.turns.link.now) self.old.client.caller self.new.client.caller) }
         ensures unfailed { OnOk result (L.count self.new.turns.link.now ≤ L.count self.old.turns.link.now) }
         ensures same_server { (self.new.client.caller.to ≡ self.old.client.caller.to) × (self.new.client.caller.carriage ≡ self.old.client.caller.carriage) }
         ensures same_clock { (self.new.turns.clock.now ≡ self.old.turns.clock.now) × (self.new.turns.epoch ≡ self.old.turns.epoch) }
@@ -73,7 +75,7 @@ impl<'a, C: Dial, L: Link> Call<'a, C, L> {
     /// `ClockFault` and `LinkFault`.
     pub fn end(&mut self) -> Result<(), RunFault>
         ensures faults { IfErr result (IsTurnFault (C.fails self.old.turns.clock.now) (L.count self.new.turns.link.now)) }
-        ensures talk { OnOk result (SendsFarewell (clock_pace (C.shows self.old.turns.clock.now) self.old.turns.epoch) (talker self.old.client.caller (L.queue self.old.turns.link.now)) (talker self.new.client.caller (L.queue self.new.turns.link.now))) }
+        ensures talk { OnOk result (SendsFarewell (clock_pace (C.shows self.old.turns.clock.now) self.old.turns.epoch) (Asks (L.asked self.old.turns.link.now) (L.asked self.new.turns.link.now)) (talker self.old.client.caller (L.queue self.old.turns.link.now)) (talker self.new.client.caller (L.queue self.new.turns.link.now))) }
         ensures unfailed { OnOk result (L.count self.new.turns.link.now ≤ L.count self.old.turns.link.now) }
     {
         self.client.end(&mut self.turns)
@@ -85,7 +87,7 @@ impl<'a, C: Dial, L: Link> Call<'a, C, L> {
     /// `ClockFault` and `LinkFault`. The connection is given up also then.
     pub fn hang_up(&mut self) -> Result<(), RunFault>
         ensures faults { IfErr result (IsTurnFault (C.fails self.old.turns.clock.now) (L.count self.new.turns.link.now)) }
-        ensures well { OnOk result (HangsUp (clock_pace (C.shows self.old.turns.clock.now) self.old.turns.epoch) (L.queue self.old.turns.link.now) (L.queue self.new.turns.link.now) self.old.client.caller self.new.client.caller) }
+        ensures well { OnOk result (HangsUp (clock_pace (C.shows self.old.turns.clock.now) self.old.turns.epoch) (Asks (L.asked self.old.turns.link.now) (L.asked self.new.turns.link.now)) (L.queue self.old.turns.link.now) (L.queue self.new.turns.link.now) self.old.client.caller self.new.client.caller) }
         ensures unfailed { OnOk result (L.count self.new.turns.link.now ≤ L.count self.old.turns.link.now) }
         ensures gone { self.new.client.caller.id ≡ None }
         ensures same_server { (self.new.client.caller.to ≡ self.old.client.caller.to) × (self.new.client.caller.carriage ≡ self.old.client.caller.carriage) }
@@ -103,7 +105,12 @@ impl<'a, C: Dial, L: Link> Call<'a, C, L> {
 }
 
 impl<C: Dial, L: Link> Talk for Call<'_, C, L> {
-    ghost talked = { λ _. None };
+    /// What it wrote and what it read, turn by turn, by one clock, and that its link was asked just what these turns ask.
+    ghost talked = { λ now start talk. (now.turns.clock.now ≡ start.turns.clock.now) × (now.turns.epoch ≡ start.turns.epoch)
+        × Told (clock_pace (C.shows start.turns.clock.now) start.turns.epoch) (L.asked now.turns.link.now start.turns.link.now) (talker start.client.caller (L.queue start.turns.link.now)) start.client.now talk
+        (talker now.client.caller (L.queue now.turns.link.now)) now.client.now };
+
+    ghost began = { λ call. (refl, refl, told_none (clock_pace (C.shows call.turns.clock.now) call.turns.epoch) (L.asked call.turns.link.now call.turns.link.now) (talker call.client.caller (L.queue call.turns.link.now)) call.client.now (L.began call.turns.link.now)) };
 
     ghost ready = { λ _. None };
 
@@ -114,7 +121,6 @@ impl<C: Dial, L: Link> Talk for Call<'_, C, L> {
     ghost failed_by = { λ call. IsTurnFault (C.fails call.turns.clock.now) (L.count call.turns.link.now) };
 
     fn send(&mut self, command: &[u8]) -> bool
-        ensures talk { after_send result command.now None ≡ None }
         ensures sent { Sends (record { op = op_data; body = command.now }) self.old.client.now result self.old.client.caller self.new.client.caller }
         ensures still { self.new.client.count ≡ self.old.client.count }
         ensures unfailed { L.count self.new.turns.link.now ≡ L.count self.old.turns.link.now }
@@ -124,7 +130,6 @@ impl<C: Dial, L: Link> Talk for Call<'_, C, L> {
     }
 
     fn receive(&mut self, reply: &mut Reply) -> bool
-        ensures talk { after_receive (taken result reply.new.items) None ≡ None }
         ensures received { Receives (taken result reply.new.items) self.old.client.caller self.new.client.caller }
         ensures still { self.new.client.count ≡ self.old.client.count }
         ensures unfailed { L.count self.new.turns.link.now ≡ L.count self.old.turns.link.now }
@@ -137,8 +142,9 @@ impl<C: Dial, L: Link> Talk for Call<'_, C, L> {
     fn turn(&mut self) -> Result<(), RunFault>
         ensures faults { IfErr result (IsTurnFault (C.fails self.new.turns.clock.now) (L.count self.new.turns.link.now)) }
         ensures failed { result ≡ Err RunFault.LinkFault → Rose (L.count self.old.turns.link.now) (L.count self.new.turns.link.now) }
-        ensures well { OnOk result (TurnsAt self.new.client.now (L.queue self.old.turns.link.now) (L.queue self.new.turns.link.now) (asked_again (clock_pace (C.shows self.old.turns.clock.now) self.old.turns.epoch) self.new.client.now self.old.client.caller) self.new.client.caller) }
+        ensures well { OnOk result (TurnsAt (Asks (L.asked self.old.turns.link.now) (L.asked self.new.turns.link.now)) ((clock_pace (C.shows self.old.turns.clock.now) self.old.turns.epoch).Waits true) self.new.client.now (L.queue self.old.turns.link.now) (L.queue self.new.turns.link.now) (asked_again (clock_pace (C.shows self.old.turns.clock.now) self.old.turns.epoch) self.new.client.now self.old.client.caller) self.new.client.caller) }
         ensures moment { OnOk result ((clock_pace (C.shows self.old.turns.clock.now) self.old.turns.epoch).Shows self.new.client.now) }
+        ensures went { TurnsOrStops (clock_pace (C.shows self.old.turns.clock.now) self.old.turns.epoch) (Asks (L.asked self.old.turns.link.now) (L.asked self.new.turns.link.now)) self.old.client.now self.new.client.now (L.queue self.old.turns.link.now) (L.queue self.new.turns.link.now) self.old.client.caller self.new.client.caller }
         ensures counted { Turned 1 (counted self.old.client.count) (counted self.new.client.count) }
         ensures unfailed { OnOk result (L.count self.new.turns.link.now ≤ L.count self.old.turns.link.now) }
         ensures same_server { (self.new.client.caller.to ≡ self.old.client.caller.to) × (self.new.client.caller.carriage ≡ self.old.client.caller.carriage) }

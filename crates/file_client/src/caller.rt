@@ -1,5 +1,6 @@
 //! A host that calls, by one connection after another.
 ghost use Rattle.std.specs.Prelude.{◌≡◌, ◌<◌, ◌≤◌, ◌↔◌, Err, IfErr, IfOk, OnOk, [], is_some, true};
+ghost use Rattle.chaos_link.specs.Link.{Asks};
 ghost use Rattle.chaosd_copy.specs.Talk.{taken};
 ghost use Rattle.file_client.specs.Calls.{is_over};
 ghost use Rattle.file_client.specs.Caller.{Sends, Receives, TurnsAt, all_read, asked, closed, is_asking, is_late, new_caller};
@@ -183,7 +184,7 @@ impl Caller {
         told: &mut Option<HostDelivered>,
         may_wait: bool,
     ) -> Result<(), RunFault>
-        ensures turned { OnOk result (TurnsAt now (T.queue turns.old) (T.queue turns.new) self.old self.new) }
+        ensures turned { TurnsAt (Asks (T.asked turns.old) (T.asked turns.new)) ((T.pace (T.time turns.old)).Waits may_wait) now (T.queue turns.old) (T.queue turns.new) self.old self.new }
         ensures same { (self.new.to ≡ self.old.to) × (self.new.carriage ≡ self.old.carriage) × (self.new.id ≡ self.old.id) }
         ensures same_links { T.links turns.new ≡ T.links turns.old }
         ensures same_time { T.time turns.new ≡ T.time turns.old }

@@ -1,8 +1,9 @@
 //! A client of FILE: it asks for a connection, writes to it and reads from it, turn by turn.
-ghost use Rattle.std.specs.Prelude.{◌≡◌, ◌<◌, ◌≤◌, ◌⊎◌, ◌↔◌, Err, IfErr, IfOk, None, OnOk, true};
+ghost use Rattle.std.specs.Prelude.{◌≡◌, ◌<◌, ◌≤◌, ◌⊎◌, ◌↔◌, [], Err, IfErr, IfOk, None, OnErr, OnOk, true};
+ghost use Rattle.chaos_link.specs.Link.{Asks};
 ghost use Rattle.chaosd_copy.specs.Talk.{Turned, counted, taken};
 ghost use Rattle.file_client.specs.Calls.{is_over};
-ghost use Rattle.file_client.specs.Caller.{Connects, HangsUp, Receives, Sends, TurnsAt, all_read, asked_again, new_caller};
+ghost use Rattle.file_client.specs.Caller.{Connects, HangsUp, Receives, Sends, TurnsAt, TurnsOrStops, all_read, asked_again, new_caller};
 ghost use Rattle.file_client.specs.Talk.{Exchanges, SendsFarewell, Talks, WritesAndTurns, receiving, silence, talker};
 ghost use Rattle.file_client.specs.Fault.{IsTurnFault};
 
@@ -67,7 +68,7 @@ impl Client {
     /// `ClockFault`, and what `hang_up` gives.
     pub fn connect<T: Turns>(&mut self, turns: &mut T) -> Result<(), RunFault>
         ensures faults { IfErr result (IsTurnFault (T.stops (T.time turns.old)) (T.failures turns.new)) }
-        ensures well { OnOk result (Connects (T.pace (T.time turns.old)) self.new.now (T.queue turns.old) (T.queue turns.new) self.old.caller self.new.caller) }
+        ensures well { OnOk result (Connects (T.pace (T.time turns.old)) (Asks (T.asked turns.old) (T.asked turns.new)) self.new.now (T.queue turns.old) (T.queue turns.new) self.old.caller self.new.caller) }
         ensures unfailed { OnOk result (T.failures turns.new ≤ T.failures turns.old) }
         ensures same_server { (self.new.caller.to ≡ self.old.caller.to) × (self.new.caller.carriage ≡ self.old.caller.carriage) }
         ensures same_turns { (T.links turns.new ≡ T.links turns.old) × (T.time turns.new ≡ T.time turns.old) }
@@ -88,7 +89,7 @@ impl Client {
     /// `LinkFault` and `ClockFault`. The connection is given up also then.
     pub fn hang_up<T: Turns>(&mut self, turns: &mut T) -> Result<(), RunFault>
         ensures faults { IfErr result (IsTurnFault (T.stops (T.time turns.old)) (T.failures turns.new)) }
-        ensures well { OnOk result (HangsUp (T.pace (T.time turns.old)) (T.queue turns.old) (T.queue turns.new) self.old.caller self.new.caller) }
+        ensures well { OnOk result (HangsUp (T.pace (T.time turns.old)) (Asks (T.asked turns.old) (T.asked turns.new)) (T.queue turns.old) (T.queue turns.new) self.old.caller self.new.caller) }
         ensures unfailed { OnOk result (T.failures turns.new ≤ T.failures turns.old) }
         ensures gone { self.new.caller.id ≡ None }
         ensures same_server { (self.new.caller.to ≡ self.old.caller.to) × (self.new.caller.carriage ≡ self.old.caller.carriage) }
@@ -149,8 +150,9 @@ impl Client {
     pub fn turn<T: Turns>(&mut self, turns: &mut T) -> Result<(), RunFault>
         ensures faults { IfErr result (IsTurnFault (T.stops (T.time turns.old)) (T.failures turns.new)) }
         ensures failed { result ≡ Err RunFault.LinkFault → T.failed turns.old turns.new }
-        ensures well { OnOk result (TurnsAt self.new.now (T.queue turns.old) (T.queue turns.new) (asked_again (T.pace (T.time turns.old)) self.new.now self.old.caller) self.new.caller) }
+        ensures well { OnOk result (TurnsAt (Asks (T.asked turns.old) (T.asked turns.new)) ((T.pace (T.time turns.old)).Waits true) self.new.now (T.queue turns.old) (T.queue turns.new) (asked_again (T.pace (T.time turns.old)) self.new.now self.old.caller) self.new.caller) }
         ensures moment { OnOk result ((T.pace (T.time turns.old)).Shows self.new.now) }
+        ensures went { TurnsOrStops (T.pace (T.time turns.old)) (Asks (T.asked turns.old) (T.asked turns.new)) self.old.now self.new.now (T.queue turns.old) (T.queue turns.new) self.old.caller self.new.caller }
         ensures counted { Turned 1 (counted self.old.count) (counted self.new.count) }
         ensures unfailed { OnOk result (T.failures turns.new ≤ T.failures turns.old) }
         ensures same_server { (self.new.caller.to ≡ self.old.caller.to) × (self.new.caller.carriage ≡ self.old.caller.carriage) }
@@ -182,7 +184,7 @@ impl Client {
         reply: &mut Reply,
     ) -> Result<bool, RunFault>
         ensures faults { IfErr result (IsTurnFault (T.stops (T.time turns.old)) (T.failures turns.new)) }
-        ensures talk { IfOk result (λ came. Exchanges (T.pace (T.time turns.old)) (talker self.old.caller (T.queue turns.old)) command.now (taken came reply.new.items) (talker self.new.caller (T.queue turns.new))) }
+        ensures talk { IfOk result (λ came. Exchanges (T.pace (T.time turns.old)) (Asks (T.asked turns.old) (T.asked turns.new)) (talker self.old.caller (T.queue turns.old)) command.now (taken came reply.new.items) (talker self.new.caller (T.queue turns.new))) }
         ensures unfailed { OnOk result (T.failures turns.new ≤ T.failures turns.old) }
         ensures same_turns { (T.links turns.new ≡ T.links turns.old) × (T.time turns.new ≡ T.time turns.old) }
     {
@@ -208,7 +210,7 @@ impl Client {
     /// `LinkFault` and `ClockFault`.
     pub fn end<T: Turns>(&mut self, turns: &mut T) -> Result<(), RunFault>
         ensures faults { IfErr result (IsTurnFault (T.stops (T.time turns.old)) (T.failures turns.new)) }
-        ensures talk { OnOk result (SendsFarewell (T.pace (T.time turns.old)) (talker self.old.caller (T.queue turns.old)) (talker self.new.caller (T.queue turns.new))) }
+        ensures talk { OnOk result (SendsFarewell (T.pace (T.time turns.old)) (Asks (T.asked turns.old) (T.asked turns.new)) (talker self.old.caller (T.queue turns.old)) (talker self.new.caller (T.queue turns.new))) }
         ensures unfailed { OnOk result (T.failures turns.new ≤ T.failures turns.old) }
         ensures same_turns { (T.links turns.new ≡ T.links turns.old) × (T.time turns.new ≡ T.time turns.old) }
     {
@@ -230,6 +232,7 @@ impl Client {
     fn call<T: Turns>(&mut self, turns: &mut T) -> Result<(), RunFault>
         ensures faults { IfErr result (IsTurnFault (T.stops (T.time turns.old)) (T.failures turns.new)) }
         ensures talk { OnOk result (Talks (T.pace (T.time turns.old)) (talker self.old.caller (T.queue turns.old)) silence (talker self.new.caller (T.queue turns.new))) }
+        ensures asked { OnOk result (Asks (T.asked turns.old) (T.asked turns.new) []) }
         ensures unfailed { OnOk result (T.failures turns.new ≤ T.failures turns.old) }
         ensures same_turns { (T.links turns.new ≡ T.links turns.old) × (T.time turns.new ≡ T.time turns.old) }
     {
@@ -268,7 +271,7 @@ impl Client {
     ) -> Result<bool, RunFault>
         requires moment { (T.pace (T.time turns.old)).Shows self.old.now }
         ensures faults { IfErr result (IsTurnFault (T.stops (T.time turns.old)) (T.failures turns.new)) }
-        ensures talk { IfOk result (λ is. WritesAndTurns (T.pace (T.time turns.old)) 1 (talker self.old.caller (T.queue turns.old)) (record { op = op; body = bytes.now }) is_written is (talker self.new.caller (T.queue turns.new))) }
+        ensures talk { IfOk result (λ is. WritesAndTurns (T.pace (T.time turns.old)) (Asks (T.asked turns.old) (T.asked turns.new)) 1 (talker self.old.caller (T.queue turns.old)) (record { op = op; body = bytes.now }) is_written is (talker self.new.caller (T.queue turns.new))) }
         ensures moment { OnOk result ((T.pace (T.time turns.old)).Shows self.new.now) }
         ensures unfailed { OnOk result (T.failures turns.new ≤ T.failures turns.old) }
         ensures same_turns { (T.links turns.new ≡ T.links turns.old) × (T.time turns.new ≡ T.time turns.old) }
@@ -287,7 +290,7 @@ impl Client {
         is_written: bool,
     ) -> bool
         requires moment { (T.pace (T.time turns.now)).Shows self.old.now }
-        ensures talk { WritesAndTurns (T.pace (T.time turns.now)) 0 (talker self.old.caller (T.queue turns.now)) (record { op = op; body = bytes.now }) is_written result (talker self.new.caller (T.queue turns.now)) }
+        ensures talk { WritesAndTurns (T.pace (T.time turns.now)) (λ asks. asks ≡ []) 0 (talker self.old.caller (T.queue turns.now)) (record { op = op; body = bytes.now }) is_written result (talker self.new.caller (T.queue turns.now)) }
         ensures same { self.new.now ≡ self.old.now }
     {
         if is_written {
@@ -308,6 +311,7 @@ impl Client {
     pub(crate) fn look<T: Turns>(&mut self, turns: &T) -> Result<(), RunFault>
         ensures faults { IfErr result (λ fault. (fault ≡ RunFault.ClockFault) × T.stops (T.time turns.now)) }
         ensures moment { OnOk result ((T.pace (T.time turns.now)).Shows self.new.now) }
+        ensures still { OnErr result (self.new.now ≡ self.old.now) }
         ensures same { (self.new.caller ≡ self.old.caller) × (self.new.count ≡ self.old.count) }
     {
         self.now = turns.now()?;
@@ -329,7 +333,7 @@ impl Client {
     pub(crate) fn pass<T: Turns>(&mut self, turns: &mut T, may_wait: bool) -> Result<(), RunFault>
         ensures faults { IfErr result (IsTurnFault (T.stops (T.time turns.old)) (T.failures turns.new)) }
         ensures failed { result ≡ Err RunFault.LinkFault → T.failed turns.old turns.new }
-        ensures well { OnOk result (TurnsAt self.old.now (T.queue turns.old) (T.queue turns.new) self.old.caller self.new.caller) }
+        ensures well { TurnsAt (Asks (T.asked turns.old) (T.asked turns.new)) ((T.pace (T.time turns.old)).Waits may_wait) self.old.now (T.queue turns.old) (T.queue turns.new) self.old.caller self.new.caller }
         ensures unfailed { OnOk result (T.failures turns.new ≤ T.failures turns.old) }
         ensures same { (self.new.caller.to ≡ self.old.caller.to) × (self.new.caller.carriage ≡ self.old.caller.carriage) × (self.new.caller.id ≡ self.old.caller.id) }
         ensures same_now { (self.new.now ≡ self.old.now) × (self.new.count ≡ self.old.count) }

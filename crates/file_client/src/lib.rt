@@ -20,6 +20,7 @@ mod turns;
 
 pub use call::Call;
 pub use client::Client;
+pub use limits::law_limits;
 pub use reply_timer::NoReply;
 pub use text::Shown;
 pub use timed::Timed;

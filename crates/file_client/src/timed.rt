@@ -70,6 +70,8 @@ impl<C: Dial, L: Link> Turns for Timed<'_, C, L> {
 
     ghost queue = { λ turns. L.queue turns.link.now };
 
+    ghost asked = { λ now start. L.asked now.link.now start.link.now };
+
     fn now(&self) -> Result<u64, RunFault> {
         self.epoch.moment(self.clock)
     }

@@ -1,7 +1,7 @@
 //! What a client takes turns with.
 ghost use Rattle.std.specs.Prelude.{◌≡◌, ◌≤◌, ℕ, List, [], Err, Option, IfErr, IfOk, OnOk, option_map};
 ghost use Rattle.std.specs.Borrow.{GName};
-ghost use Rattle.chaos_link.specs.Link.{QueueView};
+ghost use Rattle.chaos_link.specs.Link.{Ask, Asks, QueueView};
 ghost use Rattle.file_client.specs.Fault.{IsTurnFault};
 ghost use Rattle.file_client.specs.Pace.{Pace, StoodAt};
 ghost use Rattle.file_client.specs.Turn.{TakesTurn};
@@ -46,6 +46,9 @@ pub trait Turns: Drop {
     /// The queue that the client's link is. `None` for a link that is none.
     ghost queue: { Self → Option QueueView };
 
+    /// What the client's link may have been asked up to this state, since that one, in order.
+    ghost asked: { Self → Self → List Ask → Type 0 };
+
     /// The moment, in milliseconds, of the next turn and of the calls before it.
     ///
     /// # Errors
@@ -68,7 +71,8 @@ pub trait Turns: Drop {
         ensures { result ≡ passed (time self.now) };
 
     /// One turn, of the client's host and of all that takes part. What waits in the outbox is sent by this carriage, and what became
-    /// of the last packet that came is left in `told`. The client's own turn may wait for a datagram where `may_wait` allows it.
+    /// of the last packet that came is left in `told`. The client's own turn may wait for a datagram where `may_wait` allows it, as the
+    /// pace says. Its link is asked to send what waits, once to receive, and to send what the turn puts out, and nothing else.
     ///
     /// # Errors
     /// `LinkFault` where a link failed in the turn, which went on to its end.
@@ -82,7 +86,7 @@ pub trait Turns: Drop {
         may_wait: bool,
     ) -> Result<(), RunFault>
         requires { TURN_ROOM ≤ out.old.cap }
-        ensures turned { TakesTurn carriage now host.old host.new (queue self.old) (queue self.new) out.old out.new }
+        ensures turned { TakesTurn (Asks (asked self.old) (asked self.new)) ((pace (time self.old)).Waits may_wait) carriage now host.old host.new (queue self.old) (queue self.new) out.old out.new }
         ensures sent { out.new ≡ record { packets = []; cap = out.old.cap } }
         ensures same_links { links self.new ≡ links self.old }
         ensures same_time { time self.new ≡ time self.old }

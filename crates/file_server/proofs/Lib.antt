@@ -2,3 +2,4 @@ pub mod Passed
 pub mod Relation
 pub mod Whole
 pub mod Calls
+pub mod Served

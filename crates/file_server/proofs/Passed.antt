@@ -10,7 +10,7 @@ use Rattle.chaos_host.specs.Acted.{HostActed, HostDoes, no_effect}
 use Rattle.chaos_host.specs.Slot.{named_slot}
 use Rattle.chaos_host.specs.View.{HostView, id_at, host_look, look_slot}
 use Rattle.chaos_host.specs.declared.slot.Slot.{Slot}
-use Rattle.chaos_link.specs.Link.{QueueView}
+use Rattle.chaos_link.specs.Link.{Ask, AskedSince, Asks, QueueView}
 use Rattle.chaos_link.specs.declared.carriage.Carriage.{Carriage}
 use Rattle.chaos_link.specs.declared.carriage.Carriage.TheVariants.{One, Two}
 use Rattle.chaos_serve.specs.Calls.{DoesWorkByCalls, is_served}
@@ -19,12 +19,13 @@ use Rattle.chaos_serve.specs.Work.{Work, NotOpen, Nothing, Full, LastItem, Comma
 use Rattle.chaos_serve.specs.declared.served.Served.{Served}
 use Rattle.chaos_serve.specs.declared.served.Served.TheVariants as told
 use Rattle.chaos_serve.proofs.Slots.{serves_one}
-use Rattle.chaos_turn.specs.Link.{Sends, has_packets, sent_by}
-use Rattle.file_server.specs.Serve.{ServerDoes, ServesSlot, serving_after}
+use Rattle.chaos_turn.specs.Link.{SendsLots, has_packets}
+use Rattle.file_server.specs.Serve.{ServerDoes, ServesPlace, ServesSlot, serving_after}
 use Rattle.file_server.specs.Sessions.{Serving, eof_after, serving_at, serving_of}
-use Rattle.chaos_turn.specs.Station.{station}
-use Rattle.file_server.specs.Server.{server}
-use Rattle.chaos_turn.proofs.Queue.{sends_nothing}
+use Rattle.chaos_turn.specs.Station.{Station, station}
+use Rattle.file_server.specs.Server.{Server, server}
+use Rattle.chaos_link.proofs.Asked.{asks_none}
+use Rattle.chaos_turn.proofs.Queue.{lots_nothing, sends_nothing}
 use Rattle.file_server.proofs.Relation.{kept_so, slot_so}
 
 -- what serving would tell, where it serves nothing
@@ -71,17 +72,34 @@ looked_at : (found : Option Slot) (conn : ConnView) → look_slot (λ c. c) foun
 looked_at None conn e = absurd (cc)
 looked_at (Some slot) conn e = (slot, refl, cc)
 
-nothing_sent : (carriage : Carriage) (queue : Option QueueView) (packets : List PacketView) → packets ≡ []
-    → Sends queue (sent_by carriage (packets ∷ [])) queue
-nothing_sent One queue packets e = rw e (sends_nothing queue)
-nothing_sent Two queue packets e = rw e (sends_nothing queue)
+nothing_sent : {L : Type 0} {asked : AskedSince L Ask} (carriage : Carriage) (queue : Option QueueView)
+    (packets : List PacketView)
+    → packets ≡ [] → SendsLots (Asks asked asked) carriage queue (packets ∷ []) queue
+nothing_sent {L} {asked} One queue packets e =
+    rw e (record { sends = sends_nothing queue; asks = asks_none asked; read = refl })
+nothing_sent {L} {asked} Two queue packets e =
+    rw e (record { sends = sends_nothing queue; asks = asks_none asked; read = refl })
 
 module _ {S : Type 0} (changes : S → S → StoreChange) where
+  -- where no connection is there, nothing is served
+  pub none_there : {L : Type 0} {asked : AskedSince L Ask} (carriage : Carriage) (a : Station (Server S)) (place now : ℕ)
+      → id_at a.node.host place ≡ None → ServerDoes (Asks asked asked) carriage (ServesSlot changes now place) a a false
+  none_there carriage a place now e = record {
+    lots = [];
+    done = subst (λ (o : Option ℕ). ServesPlace changes now place o a.node a.node []) (sym e) (refl, refl);
+    sends = lots_nothing carriage a.queue;
+    outbox = refl;
+    told = refl;
+    config = refl;
+    size = refl;
+    count = refl;
+  }
+
   -- where it has nothing to serve, and its session is there, serving its slot changes nothing
-  pub passed_so : (carriage : Carriage) (here : Serving) (sessions kept : List Serving) (store : S) (place id now : ℕ) (host : HostView) (conn : ConnView) (out : OutboxView) (queue : Option QueueView)
+  pub passed_so : {L : Type 0} {asked : AskedSince L Ask} (carriage : Carriage) (here : Serving) (sessions kept : List Serving) (store : S) (place id now : ℕ) (host : HostView) (conn : ConnView) (out : OutboxView) (queue : Option QueueView)
       → id_at host place ≡ Some id → here ≡ serving_at sessions place → kept ≡ slice_set sessions place here → serving_of id here ≡ here → host_look host id (λ c. c) ≡ Ok conn → is_served (Some (work_of conn)) ≡ false
       → (changes store store).same → out.packets ≡ []
-      → ServerDoes carriage (ServesSlot changes now place) (station (server host sessions store) queue out) (station (server host kept store) queue out) false
+      → ServerDoes (Asks asked asked) carriage (ServesSlot changes now place) (station (server host sessions store) queue out) (station (server host kept store) queue out) false
   passed_so carriage here sessions kept store place id now host conn out queue e e' set serves shows none same empty =
       let found = looked_at (named_slot host.slots id) conn shows in
       let slot = found.0 in

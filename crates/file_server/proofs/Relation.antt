@@ -3,7 +3,7 @@ use Rattle.std.proofs.Common.{◌≡◌, ℕ, suc, Bool, true, false, if◌then�
 use Rattle.std.proofs.lemmas.List.{length-set}
 use Rattle.chaos_packet.specs.Packet.{PacketView}
 use Rattle.chaos_packet.specs.Outbox.{OutboxView}
-use Rattle.chaos_link.specs.Link.{QueueView}
+use Rattle.chaos_link.specs.Link.{Ask, AskedSince, Asks, QueueView}
 use Rattle.chaos_conn.specs.View.{ConnView}
 use Rattle.chaos_conn.specs.Acted.{Acted}
 use Rattle.chaos_file.specs.Session.{SessionView}
@@ -17,13 +17,13 @@ use Rattle.chaos_serve.specs.Serve.{DoesWork}
 use Rattle.chaos_serve.specs.Work.{Work, NotOpen, Nothing, Full, LastItem, Command, work_of}
 use Rattle.chaos_serve.specs.declared.served.Served.{Served}
 use Rattle.chaos_link.specs.declared.carriage.Carriage.{Carriage}
-use Rattle.chaos_turn.specs.Link.{Sends, has_packets, sent_by}
+use Rattle.chaos_turn.specs.Link.{SendsLots, has_packets}
 use Rattle.file_server.specs.Serve.{DoesKept, IsServedAt, ServerDoes, ServesPlace, ServesSlot, ServesSlots, SessionServes, serving_after}
 use Rattle.file_server.specs.Sessions.{Serving, serving_at, serving_of}
 use Rattle.chaos_turn.specs.Station.{Station, station}
 use Rattle.file_server.specs.Server.{Server, server}
 use Rattle.chaos_turn.proofs.Phase.{put_into_empty}
-use Rattle.chaos_turn.proofs.Queue.{sends_both, sends_nothing, has_both}
+use Rattle.chaos_turn.proofs.Queue.{lots_nothing, sends_both, has_both}
 
 module _ (store : StoreChange) (s t : SessionView) where
   by_work : (P Q : Acted Served → Type 0) (v : ConnView) (now : ℕ) (work : Work)
@@ -105,16 +105,16 @@ become_so store now id serving P Q h f done = (
 
 module _ {S : Type 0} (changes : S → S → StoreChange) where
   -- a slot was served by its session, and what was put out went into the link
-  pub slot_so : (carriage : Carriage) (here left : Serving) (sessions kept : List Serving) (store store' : S)
+  pub slot_so : {asked : List Ask → Type 0} (carriage : Carriage) (here left : Serving) (sessions kept : List Serving) (store store' : S)
       (place id now : ℕ) (old new : HostView) (before mid rest : OutboxView) (queue after : Option QueueView)
       (sent : Bool)
       → id_at old place ≡ Some id → here ≡ serving_at sessions place → kept ≡ slice_set sessions place left
       → before.packets ≡ []
-      → Sends queue (sent_by carriage (mid.packets ∷ [])) after → rest ≡ record { packets = []; cap = mid.cap }
+      → SendsLots asked carriage queue (mid.packets ∷ []) after → rest ≡ record { packets = []; cap = mid.cap }
       → sent ≡ has_packets (mid.packets ∷ [])
       → SessionServes (changes store store') now id (serving_of id here)
       (λ s acted. DoesKept s left old acted new before mid) old
-      → ServerDoes carriage (ServesSlot changes now place) (station (server old sessions store) queue before)
+      → ServerDoes asked carriage (ServesSlot changes now place) (station (server old sessions store) queue before)
       (station (server new kept store') after rest) sent
   slot_so carriage here left sessions kept store store' place id now old new before mid rest queue after sent e e' set
       empty sends over told done =
@@ -155,10 +155,10 @@ module _ {S : Type 0} (changes : S → S → StoreChange) where
       }
 
   -- the first slots were served, and then the next
-  pub slots_so : (carriage : Carriage) (a b c : Station (Server S)) (place now : ℕ) (sent more all : Bool)
-      → ServerDoes carriage (ServesSlots changes now place) a b sent
-      → ServerDoes carriage (ServesSlot changes now place) b c more
-      → all ≡ (if more then true else sent) → ServerDoes carriage (ServesSlots changes now (suc place)) a c all
+  pub slots_so : {L : Type 0} {aa ab ac : AskedSince L Ask} (carriage : Carriage) (a b c : Station (Server S)) (place now : ℕ) (sent more all : Bool)
+      → ServerDoes (Asks aa ab) carriage (ServesSlots changes now place) a b sent
+      → ServerDoes (Asks ab ac) carriage (ServesSlot changes now place) b c more
+      → all ≡ (if more then true else sent) → ServerDoes (Asks aa ac) carriage (ServesSlots changes now (suc place)) a c all
   slots_so carriage a b c place now sent more all one two e =
       record {
         lots = one.lots ++ two.lots;
@@ -176,7 +176,7 @@ module _ {S : Type 0} (changes : S → S → StoreChange) where
       }
 
   -- no slot was served yet
-  pub slots_none : (carriage : Carriage) (a : Station (Server S)) (now : ℕ)
-      → ServerDoes carriage (ServesSlots changes now 0) a a false
+  pub slots_none : {L : Type 0} {asked : AskedSince L Ask} (carriage : Carriage) (a : Station (Server S)) (now : ℕ)
+      → ServerDoes (Asks asked asked) carriage (ServesSlots changes now 0) a a false
   slots_none carriage a now =
-      record { lots = []; done = (refl, refl); sends = sends_nothing a.queue; outbox = refl; told = refl; config = refl; size = refl; count = refl }
+      record { lots = []; done = (refl, refl); sends = lots_nothing carriage a.queue; outbox = refl; told = refl; config = refl; size = refl; count = refl }

@@ -2,6 +2,7 @@
 use Rattle.std.proofs.Common.{◌≡◌, zero, suc, ℕ, Bool, true, if◌then◌else◌, List, ◌++◌, length, Option, Some, None, refl, ap, sym, ◌∙◌, subst}
 use Rattle.std.proofs.lemmas.List.{length-set}
 use Rattle.chaos_host.specs.View.{HostView, id_at}
+use Rattle.chaos_link.specs.Link.{Ask, AskedSince, Asks}
 use Rattle.chaos_link.specs.declared.carriage.Carriage.{Carriage}
 use Rattle.chaos_file.specs.Store.{StoreChange}
 use Rattle.chaos_turn.specs.Arrive.{Arrival}
@@ -33,13 +34,13 @@ as_many h (suc n) sessions = as_many_at (id_at h n) n (given_back h n sessions) 
 
 module _ {S : Type 0} (changes : S → S → StoreChange) where
   -- what came, then each slot served, then the last phases, and the files of those without a connection given back
-  pub turn_so : (carriage : Carriage) (came : Arrival) (start now : ℕ) (a b c d : Station (Server S)) (x y z all : Bool)
+  pub turn_so : {L : Type 0} {aa ab ac ad : AskedSince L Ask} (carriage : Carriage) (came : Arrival) (start now : ℕ) (a b c d : Station (Server S)) (x y z all : Bool)
       → b.node ≡ with_host a.node b.node.host → d.node ≡ after_giving_back (with_host c.node d.node.host)
-      → DoesPhase carriage (arrive_at_server came start now a.node.host) (host_at a) (host_at b) x
-      → ServerDoes carriage (ServesSlots changes now (length b.node.host.slots)) b c y
-      → DoesPhase carriage (end_phases c.node.sessions now c.node.host) (host_at c) (host_at d) z
+      → DoesPhase (Asks aa ab) carriage (arrive_at_server came start now a.node.host) (host_at a) (host_at b) x
+      → ServerDoes (Asks ab ac) carriage (ServesSlots changes now (length b.node.host.slots)) b c y
+      → DoesPhase (Asks ac ad) carriage (end_phases c.node.sessions now c.node.host) (host_at c) (host_at d) z
       → all ≡ (if x then true else (if y then true else z))
-      → ServerDoes carriage (IsTurn changes came start now) a d all
+      → ServerDoes (Asks aa ad) carriage (IsTurn changes came start now) a d all
   turn_so carriage came start now a b c d x y z all same same' one two three e =
       let first = arrive_at_server came start now a.node.host in
       let last = end_phases c.node.sessions now c.node.host in

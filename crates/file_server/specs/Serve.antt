@@ -9,8 +9,9 @@ use Rattle.chaos_file.specs.Session.{SessionView}
 use Rattle.chaos_file.specs.Store.{StoreChange}
 use Rattle.chaos_serve.specs.Host.{DoesWorkInSlot}
 use Rattle.chaos_serve.specs.declared.served.Served.{Served}
+use Rattle.chaos_link.specs.Link.{Ask}
 use Rattle.chaos_link.specs.declared.carriage.Carriage.{Carriage}
-use Rattle.chaos_turn.specs.Link.{Sends, has_packets, sent_by}
+use Rattle.chaos_turn.specs.Link.{SendsLots, has_packets}
 use Rattle.file_server.specs.Sessions.{Serving, eof_after, serving_at, serving_of}
 use Rattle.chaos_turn.specs.Station.{Station}
 use Rattle.file_server.specs.Server.{Server}
@@ -40,13 +41,14 @@ module _ {S : Type 0} where
     pub sessions : t.sessions ≡ slice_set s.sessions place serving
     pub out : lots ≡ acted.packets ∷ []
 
-  -- A server at its link did this, and the packets went into the link by this carriage, and whether there were any was
-  -- told. The outbox is as it was; so are the configuration and the numbers of slots and of sessions.
-  pub record ServerDoes (carriage : Carriage) (does : Server S → Server S → List (List PacketView) → Type 0)
+  -- A server at its link did this: the link was asked to send the packets by this carriage, and nothing else, and whether
+  -- there were any was told. The outbox is as it was; so are the configuration and the numbers of slots and of sessions.
+  pub record ServerDoes (asked : List Ask → Type 0) (carriage : Carriage)
+      (does : Server S → Server S → List (List PacketView) → Type 0)
       (before after : Station (Server S)) (sent : Bool) : Type 0 where
     pub lots : List (List PacketView)
     pub done : does before.node after.node lots
-    pub sends : Sends before.queue (sent_by carriage lots) after.queue
+    pub sends : SendsLots asked carriage before.queue lots after.queue
     pub outbox : after.outbox ≡ before.outbox
     pub told : sent ≡ has_packets lots
     pub config : after.node.host.config ≡ before.node.host.config

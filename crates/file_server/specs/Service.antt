@@ -1,6 +1,6 @@
 -- A service, turn after turn.
-use Rattle.std.specs.Prelude.{◌≡◌, zero, suc, ℕ, [], codes, replicate, Option}
-use Rattle.chaos_link.specs.Link.{QueueView}
+use Rattle.std.specs.Prelude.{◌≡◌, ◌≤◌, ℕ, true, List, [], ◌∷◌, ◌++◌, length, All, codes, replicate, Option, Result, Ok, Err}
+use Rattle.chaos_link.specs.Link.{Ask, QueueView}
 use Rattle.chaos_link.specs.declared.carriage.Carriage.{Carriage}
 use Rattle.chaos_file.specs.Store.{StoreChange}
 use Rattle.chaos_conn.specs.Config.{ConfigView, usual_config}
@@ -11,9 +11,11 @@ use Rattle.chaos_turn.specs.declared.end.TurnEnd.{TurnEnd}
 use Rattle.chaos_turn.specs.declared.limits.TheConstants.{TURN_ROOM}
 use Rattle.chaosd_clock.specs.Clock.{BeginsBy, IsMoment, number_of}
 use Rattle.chaosd_clock.specs.declared.clock.Epoch.{Epoch}
+use Rattle.chaosd_io.specs.declared.fault.RunFault.{RunFault}
 use Rattle.file_server.specs.Server.{Server, server}
 use Rattle.file_server.specs.Sessions.{new_serving}
 use Rattle.file_server.specs.Turn.{RunsTurn}
+use Rattle.file_server.specs.Waiting.{waits}
 use Rattle.file_server.specs.declared.limits.TheConstants.{SERVER_CONNS}
 use Rattle.file_server.specs.declared.server.Server.{Server as FileServer}
 
@@ -21,6 +23,11 @@ use Rattle.file_server.specs.declared.server.Server.{Server as FileServer}
 abbrev pub listening_host : ConfigView → ℕ → HostView
 listening_host config address =
     after_listen (listen_fault [] (codes "FILE")) (new_host address SERVER_CONNS config) (codes "FILE")
+
+-- A run that ended well made all its turns; a run that a fault ended made at most so many.
+abbrev pub MadeTurns : {A : Type 0} → Result A RunFault → ℕ → ℕ → Type 0
+MadeTurns (Ok end) turns made = made ≡ turns
+MadeTurns (Err fault) turns made = made ≤ turns
 
 module _ {S : Type 0} where
   -- a server with its store, at its link
@@ -34,26 +41,40 @@ module _ {S : Type 0} where
       (record { packets = []; cap = TURN_ROOM })
 
 module _ {S : Type 0} (changes : S → S → StoreChange) (carriage : Carriage) where
-  -- One turn, at a moment that the clock shows; a connection of this turn begins with the number of the moment.
-  pub record ServesTurn (Shows : ℕ → Type 0) (epoch : Epoch) (before after : Station (Server S)) : Type 0 where
-    pub now : ℕ
-    pub shown : IsMoment Shows epoch now
-    pub end : TurnEnd
-    pub turn : RunsTurn changes carriage (number_of epoch now) now before after end
+  -- One turn, at this moment, in which the link was asked just this. The turn waits for a datagram exactly where nothing
+  -- in front can be served. A connection of this turn begins with the number of the moment.
+  pub record ServesTurn (starts : ℕ → ℕ) (now : ℕ) (asks : List Ask) (before after : Station (Server S)) : Type 0
+    where
+      pub end : TurnEnd
+      pub turn : RunsTurn changes (λ asked. asked ≡ asks) (waits true before.node.host) carriage (starts now) now before
+          after end
 
-  -- So many turns, one after another.
-  abbrev pub ServesTurns : (ℕ → Type 0) → Epoch → ℕ → Station (Server S) → Station (Server S) → Type 0
-  ServesTurns Shows epoch zero first last = last ≡ first
-  ServesTurns Shows epoch (suc turns) first last = (between : Station (Server S))
-      × ServesTurns Shows epoch turns first between × ServesTurn Shows epoch between last
+  -- One turn at each of these moments, one after another, in which the link was asked just this.
+  abbrev pub ServesTurns : (ℕ → ℕ) → List ℕ → List Ask → Station (Server S) → Station (Server S) → Type 0
+  ServesTurns starts [] asks first last = (asks ≡ []) × (last ≡ first)
+  ServesTurns starts (now ∷ moments) asks first last = (between : Station (Server S)) × (front behind : List Ask)
+      × (asks ≡ front ++ behind) × ServesTurn starts now front first between
+      × ServesTurns starts moments behind between last
 
-  -- A new service of this configuration and address made so many turns on a store and over a link, by this clock.
-  abbrev pub ServesBy : (ℕ → Type 0) → (ℕ → Type 0) → ConfigView → ℕ → ℕ → S → S → Option QueueView → Option QueueView
+  -- A new service of this configuration and address made these turns on a store and over a link.
+  abbrev pub ServesAt : (ℕ → ℕ) → List ℕ → List Ask → ConfigView → ℕ → S → S → Option QueueView → Option QueueView
       → Type 0
-  ServesBy Shows Dates config turns address store store' queue queue' = (epoch : Epoch) × (last : Station (Server S))
-      × BeginsBy Shows Dates epoch × ServesTurns Shows epoch turns (new_service config address store queue) last
+  ServesAt starts moments asks config address store store' queue queue' = (last : Station (Server S))
+      × ServesTurns starts moments asks (new_service config address store queue) last
       × (last.node.store ≡ store') × (last.queue ≡ queue')
 
-  -- one of the usual configuration
-  abbrev pub Serves : (ℕ → Type 0) → (ℕ → Type 0) → ℕ → ℕ → S → S → Option QueueView → Option QueueView → Type 0
-  Serves Shows Dates = ServesBy Shows Dates usual_config
+  -- However the run ended, as many turns were made as moments were read since it began: each turn at the moment that was
+  -- read for it, in the order in which they were read. The link was asked what these turns asked, and nothing else.
+  abbrev pub ServesBy : {A : Type 0} → (List ℕ → Type 0) → (List Ask → Type 0) → (ℕ → ℕ) → ConfigView → ℕ → ℕ → S → S
+      → Option QueueView → Option QueueView → Result A RunFault → Type 0
+  ServesBy read asked starts config turns address store store' queue queue' end = (moments : List ℕ) × (asks : List Ask)
+      × read moments × asked asks × MadeTurns end turns (length moments)
+      × ServesAt starts moments asks config address store store' queue queue'
+
+  -- So many turns of a service of the usual configuration, each at a moment of this clock.
+  abbrev pub Serves : (List Ask → Type 0) → (ℕ → Type 0) → (ℕ → Type 0) → ℕ → ℕ → S → S → Option QueueView
+      → Option QueueView → Type 0
+  Serves asked Shows Dates turns address store store' queue queue' = (epoch : Epoch) × (moments : List ℕ)
+      × (asks : List Ask) × BeginsBy Shows Dates epoch × All (IsMoment Shows epoch) moments × asked asks
+      × (length moments ≡ turns)
+      × ServesAt (number_of epoch) moments asks usual_config address store store' queue queue'

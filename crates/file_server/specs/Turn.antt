@@ -1,8 +1,9 @@
 -- One turn of a server: what came is taken, then each slot is served, closed, released and ticked, and the files of
 -- sessions whose connection has ended are given back.
-use Rattle.std.specs.Prelude.{◌≡◌, ℕ, List, ◌++◌, length}
+use Rattle.std.specs.Prelude.{◌≡◌, ℕ, Bool, List, ◌++◌, length}
 use Rattle.chaos_packet.specs.Packet.{PacketView}
 use Rattle.chaos_file.specs.Store.{StoreChange}
+use Rattle.chaos_link.specs.Link.{Ask}
 use Rattle.chaos_link.specs.declared.carriage.Carriage.{Carriage}
 use Rattle.chaos_turn.specs.Arrive.{Arrival}
 use Rattle.chaos_turn.specs.Station.{Station}
@@ -26,10 +27,10 @@ module _ {S : Type 0} (changes : S → S → StoreChange) where
         ≡ (arrive_at_server came start now s.host).lots
         ++ (replies ++ (end_phases served.sessions now served.host).lots)
 
-  -- A whole turn of a server at its link, by this carriage.
-  pub record RunsTurn (carriage : Carriage) (start now : ℕ) (before after : Station (Server S))
-      (result : TurnEnd) : Type 0 where
+  -- A whole turn of a server at its link, by this carriage; its one receive waits for a datagram or doesn't.
+  pub record RunsTurn (asked : List Ask → Type 0) (waits : Bool) (carriage : Carriage) (start now : ℕ)
+      (before after : Station (Server S)) (result : TurnEnd) : Type 0 where
     pub came : Arrival
     pub lots : List (List PacketView)
     pub turn : IsTurn came start now before.node after.node lots
-    pub link : GoesOver carriage came lots before after result
+    pub link : GoesOver asked waits carriage came lots before after result

@@ -1,5 +1,5 @@
 -- Whether a turn has something to serve, so that it isn't to wait for a datagram.
-use Rattle.std.specs.Prelude.{zero, suc, ℕ, Bool, true, false, if◌then◌else◌, length, Option, Some, None}
+use Rattle.std.specs.Prelude.{zero, suc, ℕ, Bool, true, false, not, ◌&&◌, if◌then◌else◌, length, Option, Some, None}
 use Rattle.chaos_host.specs.View.{HostView, id_at}
 use Rattle.chaos_serve.specs.Calls.{can_serve}
 
@@ -16,3 +16,7 @@ serves_within (suc n) h = if serves_within n h then true else serves_by h (id_at
 -- that in any slot has
 abbrev pub can_serve_any : HostView → Bool
 can_serve_any h = serves_within (length h.slots) h
+
+-- Whether a turn of this host waits for a datagram: where its caller lets it, and nothing in front can be served.
+abbrev pub waits : Bool → HostView → Bool
+waits may_wait h = may_wait && not (can_serve_any h)

@@ -1,6 +1,7 @@
 //! What the datagram that came makes of a server's host: requests for FILE are accepted.
 ghost use Rattle.std.specs.Prelude.{◌≡◌, ◌≤◌, [], Some};
 ghost use Rattle.chaos_host.specs.Disposition.{host_with_packet};
+ghost use Rattle.chaos_link.specs.Link.{Asks};
 ghost use Rattle.chaos_turn.specs.Phase.{DoesPhase, over_packets};
 ghost use Rattle.chaos_turn.specs.Station.{station};
 ghost use Rattle.file_server.specs.Arrive.{accept_by, arrive_at_server, greet, request_in};
@@ -33,7 +34,7 @@ fn accept<L: Link>(
 ) -> bool
     requires room { TURN_ROOM ≤ out.old.cap }
     requires empty { out.old.packets ≡ [] }
-    ensures { DoesPhase terms.now.carriage (accept_by host.old terms.now.start terms.now.moment request) (station host.old (L.queue link.old) out.old) (station host.new (L.queue link.new) out.new) result }
+    ensures { DoesPhase (Asks (L.asked link.old) (L.asked link.new)) terms.now.carriage (accept_by host.old terms.now.start terms.now.moment request) (station host.old (L.queue link.old) out.old) (station host.new (L.queue link.new) out.new) result }
 {
     let Some(id) = request else {
         return false;
@@ -52,7 +53,7 @@ fn greet<L: Link>(
 ) -> bool
     requires room { TURN_ROOM ≤ out.old.cap }
     requires empty { out.old.packets ≡ [] }
-    ensures { DoesPhase terms.now.carriage (greet terms.now.start terms.now.moment packet.now host.old) (station host.old (L.queue link.old) out.old) (station host.new (L.queue link.new) out.new) result }
+    ensures { DoesPhase (Asks (L.asked link.old) (L.asked link.new)) terms.now.carriage (greet terms.now.start terms.now.moment packet.now host.old) (station host.old (L.queue link.old) out.old) (station host.new (L.queue link.new) out.new) result }
 {
     let became = host.take(packet, terms.moment, out);
     let sent = send_all(link, out, terms.carriage);
@@ -69,7 +70,7 @@ fn greet_all<L: Link>(
 ) -> bool
     requires room { TURN_ROOM ≤ out.old.cap }
     requires empty { out.old.packets ≡ [] }
-    ensures { DoesPhase terms.now.carriage (over_packets (greet terms.now.start terms.now.moment) packets.entry host.old) (station host.old (L.queue link.old) out.old) (station host.new (L.queue link.new) out.new) result }
+    ensures { DoesPhase (Asks (L.asked link.old) (L.asked link.new)) terms.now.carriage (over_packets (greet terms.now.start terms.now.moment) packets.entry host.old) (station host.old (L.queue link.old) out.old) (station host.new (L.queue link.new) out.new) result }
 {
     let mut sent = false;
     let mut packet = Packet::default();
@@ -89,7 +90,7 @@ pub fn arrive_at_server<L: Link>(
 ) -> bool
     requires room { TURN_ROOM ≤ out.old.cap }
     requires empty { out.old.packets ≡ [] }
-    ensures { DoesPhase terms.now.carriage (arrive_at_server came.entry terms.now.start terms.now.moment host.old) (station host.old (L.queue link.old) out.old) (station host.new (L.queue link.new) out.new) result }
+    ensures { DoesPhase (Asks (L.asked link.old) (L.asked link.new)) terms.now.carriage (arrive_at_server came.entry terms.now.start terms.now.moment host.old) (station host.old (L.queue link.old) out.old) (station host.new (L.queue link.new) out.new) result }
 {
     match came {
         Some(Ok(packets)) => greet_all(host, packets, link, out, terms),

@@ -1,5 +1,6 @@
 //! The ends of connections: those that were served to their EOF are closed, and those that ended are released.
 ghost use Rattle.std.specs.Prelude.{◌≡◌, ◌<◌, ◌≤◌, [], length};
+ghost use Rattle.chaos_link.specs.Link.{Asks};
 ghost use Rattle.chaos_turn.specs.Phase.{DoesPhase, over_slots};
 ghost use Rattle.chaos_turn.specs.Station.{station};
 ghost use Rattle.file_server.specs.Slots.{close_at, end_phases, release_at};
@@ -23,7 +24,7 @@ fn close_slot<L: Link>(
     requires within { place < length sessions.now }
     requires room { TURN_ROOM ≤ out.old.cap }
     requires empty { out.old.packets ≡ [] }
-    ensures { DoesPhase carriage (close_at sessions.now place host.old) (station host.old (L.queue link.old) out.old) (station host.new (L.queue link.new) out.new) result }
+    ensures { DoesPhase (Asks (L.asked link.old) (L.asked link.new)) carriage (close_at sessions.now place host.old) (station host.old (L.queue link.old) out.old) (station host.new (L.queue link.new) out.new) result }
 {
     if !sessions.eof(place) {
         return false;
@@ -50,7 +51,7 @@ pub fn close_slots<L: Link>(
     requires alike { length sessions.now ≡ length host.old.slots }
     requires room { TURN_ROOM ≤ out.old.cap }
     requires empty { out.old.packets ≡ [] }
-    ensures { DoesPhase carriage (over_slots (close_at sessions.now) (length host.old.slots) host.old) (station host.old (L.queue link.old) out.old) (station host.new (L.queue link.new) out.new) result }
+    ensures { DoesPhase (Asks (L.asked link.old) (L.asked link.new)) carriage (over_slots (close_at sessions.now) (length host.old.slots) host.old) (station host.old (L.queue link.old) out.old) (station host.new (L.queue link.new) out.new) result }
 {
     let mut sent = false;
     for place in 0..host.conns() {
@@ -70,7 +71,7 @@ fn release_slot<L: Link>(
 ) -> bool
     requires room { TURN_ROOM ≤ out.old.cap }
     requires empty { out.old.packets ≡ [] }
-    ensures { DoesPhase carriage (release_at place host.old) (station host.old (L.queue link.old) out.old) (station host.new (L.queue link.new) out.new) result }
+    ensures { DoesPhase (Asks (L.asked link.old) (L.asked link.new)) carriage (release_at place host.old) (station host.old (L.queue link.old) out.old) (station host.new (L.queue link.new) out.new) result }
 {
     let Some((id, conn)) = host.conn_at(place) else {
         return false;
@@ -92,7 +93,7 @@ pub fn release_slots<L: Link>(
 ) -> bool
     requires room { TURN_ROOM ≤ out.old.cap }
     requires empty { out.old.packets ≡ [] }
-    ensures { DoesPhase carriage (over_slots release_at (length host.old.slots) host.old) (station host.old (L.queue link.old) out.old) (station host.new (L.queue link.new) out.new) result }
+    ensures { DoesPhase (Asks (L.asked link.old) (L.asked link.new)) carriage (over_slots release_at (length host.old.slots) host.old) (station host.old (L.queue link.old) out.old) (station host.new (L.queue link.new) out.new) result }
 {
     let mut sent = false;
     for place in 0..host.conns() {
@@ -114,7 +115,7 @@ pub fn end_slots<L: Link>(
     requires alike { length sessions.now ≡ length host.old.slots }
     requires room { TURN_ROOM ≤ out.old.cap }
     requires empty { out.old.packets ≡ [] }
-    ensures { DoesPhase carriage (end_phases sessions.now now host.old) (station host.old (L.queue link.old) out.old) (station host.new (L.queue link.new) out.new) result }
+    ensures { DoesPhase (Asks (L.asked link.old) (L.asked link.new)) carriage (end_phases sessions.now now host.old) (station host.old (L.queue link.old) out.old) (station host.new (L.queue link.new) out.new) result }
 {
     let closed = close_slots(host, sessions, link, out, carriage);
     let released = release_slots(host, link, out, carriage);

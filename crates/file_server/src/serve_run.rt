@@ -1,6 +1,8 @@
 //! The engine `serve`.
 ghost use Rattle.std.specs.Prelude.{◌≡◌, ◌<◌, ◌≤◌, Err, IfErr, OnOk};
 ghost use Rattle.chaos_file.specs.Store.{change};
+ghost use Rattle.chaos_link.specs.Link.{Asks};
+ghost use Rattle.chaosd_clock.specs.Moments.{Reads};
 ghost use Rattle.file_server.specs.Fault.{IsServiceFault};
 ghost use Rattle.file_server.specs.Service.{Serves, ServesBy};
 
@@ -11,7 +13,7 @@ use chaos_conn::ConnConfig;
 use chaos_file::Store;
 use chaos_link::{Carriage, Link};
 use chaos_turn::TurnEnd;
-use chaosd_clock::{Dial, Epoch};
+use chaosd_clock::{ClockMoments, Dial, Moments};
 use chaosd_io::RunFault;
 use std::alloc::Global;
 
@@ -31,8 +33,8 @@ pub struct ServeOptions {
 /// Serves FILE on a store, as the host `me`, for so many turns: its host has 16 connections of the usual configuration, and listens to
 /// `FILE`. The address isn't 0.
 ///
-/// Moments are milliseconds since the run began, by the clock; a connection begins with the number that the low 16 bits of the
-/// clock's milliseconds since 1970 tell then. A command in which the store fails is answered so, and the service goes on. A turn
+/// Moments are milliseconds since the run began, by the clock, which is read anew for each turn; a connection begins with the number
+/// that the low 16 bits of the clock's milliseconds since 1970 tell then. A command in which the store fails is answered so, and the service goes on. A turn
 /// waits only as the link does; what it sends goes out by the carriage, and datagrams of both versions are read. The host takes its
 /// memory first, and later only files take some.
 ///
@@ -50,12 +52,13 @@ pub fn run_serve<C: Dial, L: Link, S: Store>(
 ) -> Result<(), RunFault>
     requires { 0 < me }
     ensures faults { IfErr result (IsServiceFault (C.fails clock.now)) }
-    // Where it ends well it made all its turns, each at a moment of the clock.
-    ensures turns { OnOk result (Serves (change S.contents S.may_give S.count) carriage (C.shows clock.now) (C.dates clock.now) turns me store.old store.new (L.queue link.old) (L.queue link.new)) }
+    // Where it ends well it made all its turns, each at a moment of the clock, and this is what the link was asked.
+    ensures turns { OnOk result (Serves (change S.contents S.may_give S.count) carriage (Asks (L.asked link.old) (L.asked link.new)) (C.shows clock.now) (C.dates clock.now) turns me store.old store.new (L.queue link.old) (L.queue link.new)) }
     // It ends well only where the link's count of failures didn't rise, and by LinkFault only where failures were counted.
     ensures well { OnOk result (L.count link.new ≤ L.count link.old) }
     ensures failed { result ≡ Err RunFault.LinkFault → 0 < L.count link.new }
 {
+    let mut moments = ClockMoments::new(clock)?;
     let config = ConnConfig::usual();
     let options = ServeOptions {
         me,
@@ -63,15 +66,16 @@ pub fn run_serve<C: Dial, L: Link, S: Store>(
         turns,
         carriage,
     };
-    run_serve_by(clock, alloc, link, store, options, &mut Silent)
+    run_serve_by(&mut moments, alloc, link, store, options, &mut Silent)
 }
 
-/// Serves as [`run_serve`] does, by these options. The log is told of each connection that a turn opened or ended.
+/// Serves as [`run_serve`] does, by these options. Each turn is made at the moment that is read for it, behind the turn before. The log
+/// is told of each connection that a turn opened or ended.
 ///
 /// # Errors
-/// Those of [`run_serve`].
-pub fn run_serve_by<C: Dial, L: Link, S: Store, G: Log>(
-    clock: &C,
+/// Those of [`run_serve`], where no moment can be read in place of where the clock can't.
+pub fn run_serve_by<M: Moments, L: Link, S: Store, G: Log>(
+    moments: &mut M,
     alloc: Global,
     link: &mut L,
     store: &mut S,
@@ -79,19 +83,19 @@ pub fn run_serve_by<C: Dial, L: Link, S: Store, G: Log>(
     log: &mut G,
 ) -> Result<(), RunFault>
     requires { 0 < options.me }
-    ensures faults { IfErr result (IsServiceFault (C.fails clock.now)) }
-    // Where it ends well it made all its turns, each at a moment of the clock.
-    ensures turns { OnOk result (ServesBy (change S.contents S.may_give S.count) options.carriage (C.shows clock.now) (C.dates clock.now) options.config options.turns options.me store.old store.new (L.queue link.old) (L.queue link.new)) }
+    ensures faults { IfErr result (IsServiceFault (M.stops (M.time moments.old))) }
+    // However it ends, it made as many turns as moments were read, and asked of the link what these turns ask: where it ends well,
+    // all turns.
+    ensures turns { ServesBy (change S.contents S.may_give S.count) options.carriage (Reads (M.read moments.old) (M.read moments.new)) (Asks (L.asked link.old) (L.asked link.new)) (M.starts (M.time moments.old)) options.config options.turns options.me store.old store.new (L.queue link.old) (L.queue link.new) result }
     // It ends well only where the link's count of failures didn't rise, and by LinkFault only where failures were counted.
     ensures well { OnOk result (L.count link.new ≤ L.count link.old) }
     ensures failed { result ≡ Err RunFault.LinkFault → 0 < L.count link.new }
 {
-    let epoch = Epoch::new(clock)?;
     let mut server = Server::new(alloc, options.me, options.config, options.carriage)?;
     let mut watch = Watch::new();
     for turn in 0..options.turns {
-        let now = epoch.moment(clock)?;
-        let end = server.turn(alloc, store, link, epoch.number(now), now, true);
+        let now = moments.next()?;
+        let end = server.turn(alloc, store, link, moments.start(now), now, true);
         server.watch(&mut watch, log);
         if end == TurnEnd::LinkFault {
             return Err(RunFault::LinkFault);

@@ -32,10 +32,12 @@ impl Server {
     ghost use Rattle.std.specs.Prelude.{[], min, replicate, IfOk};
     ghost use Rattle.chaos_file.specs.Store.{change};
     ghost use Rattle.chaos_packet.specs.Count.{Rose};
+    ghost use Rattle.chaos_link.specs.Link.{Asks};
     ghost use Rattle.chaos_turn.specs.declared.limits.TheConstants.{TURN_ROOM};
     ghost use Rattle.file_server.specs.Sessions.{new_serving};
     ghost use Rattle.file_server.specs.Service.{listening_host, service_of};
     ghost use Rattle.file_server.specs.Turn.{RunsTurn};
+    ghost use Rattle.file_server.specs.Waiting.{waits};
     ghost use Rattle.file_server.specs.Watch.{watched, watched_slots};
 
     /// A server with this address, whose connections have this configuration, and whose packets go out by the carriage.
@@ -69,7 +71,7 @@ impl Server {
     }
 
     /// One turn, as [`run_turn`](crate::run_turn) makes it. A new connection numbers what it writes from `start` on. Where nothing in
-    /// front is to be served it may wait for a datagram, where `may_wait` allows it.
+    /// front is to be served the turn may wait for a datagram, where `may_wait` allows it.
     pub fn turn<S: Store, L: Link>(
         &mut self,
         alloc: Global,
@@ -80,7 +82,7 @@ impl Server {
         may_wait: bool,
     ) -> TurnEnd
         ensures fault { (result ≡ TurnEnd.LinkFault) ↔ Rose (L.count link.old) (L.count link.new) }
-        ensures serves { RunsTurn (change S.contents S.may_give S.count) self.old.node.carriage start now (service_of self.old store.old (L.queue link.old)) (service_of self.new store.new (L.queue link.new)) result }
+        ensures serves { RunsTurn (change S.contents S.may_give S.count) (Asks (L.asked link.old) (L.asked link.new)) (waits may_wait self.old.node.host) self.old.node.carriage start now (service_of self.old store.old (L.queue link.old)) (service_of self.new store.new (L.queue link.new)) result }
         ensures carriage { self.new.node.carriage ≡ self.old.node.carriage }
     {
         let terms = Terms {

@@ -2,6 +2,7 @@
 ghost use Rattle.std.specs.Prelude.{◌≡◌, ◌<◌, ◌≤◌, [], length};
 ghost use Rattle.chaos_packet.specs.Outbox.{room_of};
 ghost use Rattle.chaos_file.specs.Store.{change};
+ghost use Rattle.chaos_link.specs.Link.{Asks};
 ghost use Rattle.chaos_turn.specs.Station.{station};
 ghost use Rattle.file_server.specs.Serve.{DoesKept, ServerDoes, ServesSlot, ServesSlots, SessionServes};
 ghost use Rattle.file_server.specs.Server.{server};
@@ -50,7 +51,7 @@ fn serve_slot<S: Store, L: Link>(
     requires within { place < length sessions.old }
     requires room { TURN_ROOM ≤ out.old.cap }
     requires empty { out.old.packets ≡ [] }
-    ensures { ServerDoes terms.now.carriage (ServesSlot (change S.contents S.may_give S.count) terms.now.moment place)
+    ensures { ServerDoes (Asks (L.asked link.old) (L.asked link.new)) terms.now.carriage (ServesSlot (change S.contents S.may_give S.count) terms.now.moment place)
         (station (server host.old sessions.old store.old) (L.queue link.old) out.old)
         (station (server host.new sessions.new store.new) (L.queue link.new) out.new) result }
 {
@@ -79,7 +80,7 @@ pub fn serve_slots<S: Store, L: Link>(
     requires alike { length sessions.old ≡ length host.old.slots }
     requires room { TURN_ROOM ≤ out.old.cap }
     requires empty { out.old.packets ≡ [] }
-    ensures { ServerDoes terms.now.carriage (ServesSlots (change S.contents S.may_give S.count) terms.now.moment (length host.old.slots))
+    ensures { ServerDoes (Asks (L.asked link.old) (L.asked link.new)) terms.now.carriage (ServesSlots (change S.contents S.may_give S.count) terms.now.moment (length host.old.slots))
         (station (server host.old sessions.old store.old) (L.queue link.old) out.old)
         (station (server host.new sessions.new store.new) (L.queue link.new) out.new) result }
 {

@@ -2,6 +2,7 @@
 ghost use Rattle.std.specs.Prelude.{◌≡◌, ◌≤◌, ◌↔◌, [], length};
 ghost use Rattle.chaos_packet.specs.Count.{Rose};
 ghost use Rattle.chaos_file.specs.Store.{change};
+ghost use Rattle.chaos_link.specs.Link.{Asks};
 ghost use Rattle.chaos_turn.specs.Station.{station};
 ghost use Rattle.file_server.specs.Serve.{ServerDoes};
 ghost use Rattle.file_server.specs.Server.{server};
@@ -32,7 +33,7 @@ fn take_turn<S: Store, L: Link>(
     requires alike { length sessions.old ≡ length host.old.slots }
     requires room { TURN_ROOM ≤ out.old.cap }
     requires empty { out.old.packets ≡ [] }
-    ensures { ServerDoes terms.now.carriage (IsTurn (change S.contents S.may_give S.count) came.entry terms.now.start terms.now.moment)
+    ensures { ServerDoes (Asks (L.asked link.old) (L.asked link.new)) terms.now.carriage (IsTurn (change S.contents S.may_give S.count) came.entry terms.now.start terms.now.moment)
         (station (server host.old sessions.old store.old) (L.queue link.old) out.old)
         (station (server host.new sessions.new store.new) (L.queue link.new) out.new) result }
 {
@@ -56,7 +57,7 @@ pub(crate) fn make_turn<S: Store, L: Link>(
     requires alike { length sessions.old ≡ length host.old.slots }
     requires room { TURN_ROOM ≤ out.old.cap }
     ensures fault { (result ≡ TurnEnd.LinkFault) ↔ Rose (L.count link.old) (L.count link.new) }
-    ensures turn { RunsTurn (change S.contents S.may_give S.count) terms.now.carriage terms.now.start terms.now.moment
+    ensures turn { RunsTurn (change S.contents S.may_give S.count) (Asks (L.asked link.old) (L.asked link.new)) terms.now.may_wait terms.now.carriage terms.now.start terms.now.moment
         (station (server host.old sessions.old store.old) (L.queue link.old) out.old)
         (station (server host.new sessions.new store.new) (L.queue link.new) out.new) result }
     ensures outbox { out.new ≡ record { packets = []; cap = out.old.cap } }
@@ -109,8 +110,8 @@ pub fn run_turn<S: Store, L: Link>(
     requires alike { length sessions.old ≡ length host.old.slots }
     requires room { TURN_ROOM ≤ out.old.cap }
     ensures fault { (result ≡ TurnEnd.LinkFault) ↔ Rose (L.count link.old) (L.count link.new) }
-    // The turn is the definition; over a queue its packets went out in order.
-    ensures turn { RunsTurn (change S.contents S.may_give S.count) carriage start now
+    // The turn is the definition, and this is what the link was asked; over a queue its packets went out in order.
+    ensures turn { RunsTurn (change S.contents S.may_give S.count) (Asks (L.asked link.old) (L.asked link.new)) may_wait carriage start now
         (station (server host.old sessions.old store.old) (L.queue link.old) out.old)
         (station (server host.new sessions.new store.new) (L.queue link.new) out.new) result }
     // All was sent.

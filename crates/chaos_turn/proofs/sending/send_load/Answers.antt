@@ -1,4 +1,5 @@
 use Rattle.chaos_turn.proofs.Loaded.{load_asked, load_taken}
+use Rattle.chaos_turn.proofs.Readback.{load_read_so}
 use Rattle.chaos_turn.proofs.sending.send_load.Goals as goal
 
 pub returns-clause-sends : goal.returns-clause-sends
@@ -10,3 +11,6 @@ pub returns-clause-asks : goal.returns-clause-asks
 returns-clause-asks g c =
     load_asked (g.L.Link.asked c.args.link.now) (g.L.Link.asked c.send.new.self) c.args.load.now c.destination.result _
     c.destination.ensures.all c.destination.ensures.some c.datagram.ensures.exact c.send.ensures.asked
+
+pub returns-clause-read : goal.returns-clause-read
+returns-clause-read g c = load_read_so c.args.load.now _ c.datagram.ensures.read c.datagram.ensures.exact

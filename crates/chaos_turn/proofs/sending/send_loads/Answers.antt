@@ -1,4 +1,4 @@
-use Rattle.chaos_turn.proofs.Loaded.{all_loaded, empty_then, no_load_sent, one_begun, one_joined}
+use Rattle.chaos_turn.proofs.Loaded.{all_loaded, empty_then, first_loaded, loads_read_then, no_load_read, no_load_sent, one_begun, one_joined}
 use Rattle.chaos_turn.proofs.Queue.{none_empty, told}
 use Rattle.chaos_turn.proofs.sending.send_loads.Goals as goal
 use Rattle.chaos_turn.proofs.sending.send_loads.Goals.{then-not-join, else-not-join}
@@ -16,7 +16,7 @@ packets-preserved g c =
           c.packets.out c.drop_front-in-Some-front.new.self
           c.packets.load c.join.new.self w.begin.new.self c.in-Some-front.packet.now c.packets.invariant (cc)
           c.drop_front-in-Some-front.ensures (cc) c.join.ensures.load
-          (record { sends = w.send_load.ensures.sends; asks = w.send_load.ensures.asks }) w.begin.ensures))
+          (record { sends = w.send_load.ensures.sends; asks = w.send_load.ensures.asks }) w.send_load.ensures.read w.begin.ensures))
       | else-not-join w ↦ rw w.link-is
           (rw w.load-is
           (one_joined before mid c.args.out.now c.packets.out
@@ -70,3 +70,20 @@ returns-clause-empty g c =
     (told (queue c.packets.link) (asked c.packets.link))
     (told (queue c.send_load-2.new.link) (asked c.send_load-2.new.link))
     c.args.out.now c.packets.out c.packets.load c.packets.invariant (cc)
+
+pub returns-in_default-clause-read : goal.returns-in_default-clause-read
+returns-in_default-clause-read g c = no_load_read c.args.out.now (cc)
+
+pub returns-clause-read : goal.returns-clause-read
+returns-clause-read g c =
+    let queue = g.L.Link.queue in
+    let asked = g.L.Link.asked in
+    let last = c.send_load-2 in
+    loads_read_then (told (queue c.args.link.now) (asked c.args.link.now))
+    (told (queue c.packets.link) (asked c.packets.link)) (told (queue last.new.link) (asked last.new.link))
+    c.args.out.now c.packets.out c.packets.load c.packets.invariant (cc) last.ensures.read
+
+pub packets-init : goal.packets-init
+packets-init g c =
+    first_loaded (told (g.L.Link.queue c.args.link.now) (g.L.Link.asked c.args.link.now)) c.args.out.now
+    c.drop_front.new.self c.of-load.result c.in-Some.first.now (cc) c.drop_front.ensures c.of-load.ensures

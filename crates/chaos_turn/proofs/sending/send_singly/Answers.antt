@@ -1,4 +1,4 @@
-use Rattle.chaos_turn.proofs.Queue.{all_empty, all_sent, none_sent, one_less, one_more_sent, told}
+use Rattle.chaos_turn.proofs.Queue.{all_empty, all_read, all_sent, none_sent, one_less, one_more_sent, told}
 use Rattle.chaos_turn.proofs.sending.send_singly.Goals as goal
 
 pub packets-init : goal.packets-init
@@ -12,7 +12,7 @@ packets-preserved g c =
     (told (queue c.packets.link) (asked c.packets.link)) (told (queue c.send.new.link) (asked c.send.new.link))
     c.args.out.now c.packets.out c.drop_front.new.self
     c.in-Some.packet.now c.packets.invariant (cc) c.drop_front.ensures
-    (record { sends = c.send.ensures.sends; asks = c.send.ensures.asks })
+    (record { sends = c.send.ensures.sends; asks = c.send.ensures.asks }) c.send.ensures.read
 
 pub packets-smaller : goal.packets-smaller
 packets-smaller g c = rw c.drop_front.ensures (one_less c.packets.out.packets c.in-Some.packet.now (cc))
@@ -39,3 +39,10 @@ returns-clause-empty g c =
     let asked = g.L.Link.asked in
     all_empty (told (queue c.args.link.now) (asked c.args.link.now))
     (told (queue c.packets.link) (asked c.packets.link)) c.args.out.now c.packets.out c.packets.invariant (cc)
+
+pub returns-clause-read : goal.returns-clause-read
+returns-clause-read g c =
+    let queue = g.L.Link.queue in
+    let asked = g.L.Link.asked in
+    all_read (told (queue c.args.link.now) (asked c.args.link.now)) (told (queue c.packets.link) (asked c.packets.link))
+    c.args.out.now c.packets.out c.packets.invariant (cc)

@@ -10,7 +10,7 @@ use Rattle.chaosd_copy.specs.Row.{file_handle}
 use Rattle.chaosd_copy.specs.Ends.{read_sent, read_received}
 use Rattle.chaosd_copy.proofs.Joined.{copied_then, when_copied, get_joined}
 use Rattle.chaosd_copy.proofs.Talks.{wanted_received}
-use Rattle.chaosd_copy.proofs.Begun.{get_reading, get_closing}
+use Rattle.chaosd_copy.proofs.Begun.{get_opening, get_reading, get_closing}
 use Rattle.chaosd_copy.proofs.Ended.{unless, no_length, one_length, get_not_opened, get_not_read, get_not_closed}
 use Rattle.chaosd_copy.proofs.Quiet.{unanswered_by}
 use Rattle.chaosd_copy.proofs.get.get_file.Goals as goal
@@ -145,3 +145,6 @@ pub returns-clause-waited : goal.returns-clause-waited
 returns-clause-waited g c =
     unanswered_by (taken c.in_ok-came-2.came c.ask_one-2.new.reply.items) _ _ _ c.settled-2.result _ _ c.settled-2.ensures.ended
     c.in_ok-came-2.ensures.waited (λ w. (c.read_all.new.talk, w))
+
+pub returns-in_default-settled-clause-begun : goal.returns-in_default-settled-clause-begun
+returns-in_default-settled-clause-begun g c = get_opening _ _ c.args.first c.args.path.now c.ask_one.ensures.sent

@@ -4,8 +4,8 @@ use Rattle.std.specs.Fmt.{decimal}
 use Rattle.chaos_file.specs.declared.limits.TheConstants.{MAX_CHUNK}
 use Rattle.chaos_file.specs.Answer.{AtEnd}
 use Rattle.chaosd_copy.specs.Copy.{upto, reply_of, chunk_count}
-use Rattle.chaosd_copy.specs.Talk.{Since, taken}
-use Rattle.chaosd_copy.specs.Row.{file_handle, received_in}
+use Rattle.chaosd_copy.specs.Talk.{received_in, Since, taken}
+use Rattle.chaosd_copy.specs.Row.{file_handle}
 use Rattle.chaosd_copy.specs.Ends.{IsGiven, read_sent, read_received}
 use Rattle.chaosd_copy.proofs.Talks.{wanted_asked}
 use Rattle.chaosd_copy.proofs.Joined.{from_copied}

@@ -1,5 +1,5 @@
 use Rattle.std.proofs.Common.{arith, ◌<◌, length}
-use Rattle.chaosd_copy.proofs.LocalFiles.{all_read}
+use Rattle.chaos_file.proofs.AllRead.{all_read}
 use Rattle.chaosd_copy.proofs.local.read_whole.Goals as goal
 
 -- less than the limit came: that is all

@@ -152,3 +152,7 @@ returns-clause-ended g c =
     (spelling_of (decimal c.args.first) file_handle (OpenWrite c.args.path.now) ∷ []) (x ∷ []))
     (taken c.in_ok-came.came c.ask_one.new.reply.items) _ _ c.in-Done.ensures.done c.spell_count.ensures c.in_ok-came.ensures.received)
     (when_copied _ _ c.in-Done-2.is c.in_ok-end.ensures.done) c.in_ok-came-2.ensures.all c.settled-2.ensures.ended
+
+pub returns-in_default-clause-begun : goal.returns-in_default-clause-begun
+returns-in_default-clause-begun g c =
+    put_opening _ _ c.args.first c.args.path.now c.args.bytes.now c.ask_one.ensures.sent

@@ -13,7 +13,7 @@ returns-clause-received g c =
     c.next_reply-came.result
     (ap (request_command c.args.request 0) e)
     c.next_reply-came.ensures.asked c.next_reply-came.ensures.within
-    (c.next_reply-came.ensures.talk (g.T.Talk.talked c.args.talk.now) [] (since_none _))
+    (c.next_reply-came.ensures.talk c.args.talk.now [] (since_none _))
 
 pub returns-clause-sent : goal.returns-clause-sent
 returns-clause-sent g c =
@@ -22,13 +22,13 @@ returns-clause-sent g c =
     c.next_reply-came.result
     (ap (request_command c.args.request 0) e)
     c.next_reply-came.ensures.within
-    (c.next_reply-came.ensures.talk (g.T.Talk.talked c.args.talk.now) [] (since_none _))
-    (c.next_reply-came.ensures.fault (g.T.Talk.talked c.args.talk.now) [] (since_none _))
+    (c.next_reply-came.ensures.talk c.args.talk.now [] (since_none _))
+    (c.next_reply-came.ensures.fault c.args.talk.now [] (since_none _))
 
 pub returns-clause-all : goal.returns-clause-all
 returns-clause-all g c =
     received_ok _ _ _ c.next_reply-came.new.reply.items c.next_reply-came.result
-    (c.next_reply-came.ensures.talk (g.T.Talk.talked c.args.talk.now) [] (since_none _))
+    (c.next_reply-came.ensures.talk c.args.talk.now [] (since_none _))
 
 pub returns-clause-known : goal.returns-clause-known
 returns-clause-known g c =
@@ -36,4 +36,4 @@ returns-clause-known g c =
     known _ _ _ c.next_reply-came.new.flight.sent _ (request_command c.args.request 0 c.args.tid)
     c.next_reply-came.new.reply.items c.next_reply-came.result (ap (request_command c.args.request 0) e)
     c.next_reply-came.ensures.within (λ h. grind (arith, h)) (λ h. grind (arith, h))
-    (c.next_reply-came.ensures.talk (g.T.Talk.talked c.args.talk.now) [] (since_none _))
+    (c.next_reply-came.ensures.talk c.args.talk.now [] (since_none _))

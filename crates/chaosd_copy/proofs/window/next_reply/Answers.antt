@@ -1,20 +1,20 @@
-use Rattle.std.proofs.Common.{arith, ap, sym, subst, ◌∙◌, ◌≡◌, false, inl, inr}
-use Rattle.chaosd_copy.proofs.Talks.{received_next, received_none, nothing_more, on_err}
-use Rattle.chaosd_copy.specs.Talk.{Turned, received_of}
-use Rattle.chaosd_copy.proofs.Quiet.{unreceived_is_quiet, turned_more, late, latest}
+use Rattle.std.proofs.Common.{arith, [], sym, subst, ◌∙◌, ◌≡◌, false, inl, inr}
+use Rattle.chaosd_copy.proofs.Talks.{received_next, received_none, nothing_more, on_err, since_still}
+use Rattle.chaosd_copy.specs.Talk.{Turned}
+use Rattle.chaosd_copy.proofs.Quiet.{quiet_unreceived, unheard_then, turned_more, late, latest}
 use Rattle.chaosd_copy.proofs.window.next_reply.Goals as goal
 use Rattle.chaosd_copy.proofs.window.next_reply.Goals.{then-is_over-via-then-is_over, then-is_over-via-else-is_over+then-is_late}
 
 pub returns-then-receive_asked-clause-talk : goal.returns-then-receive_asked-clause-talk
 returns-then-receive_asked-clause-talk g c = λ start replies h.
-    received_next start _ _ _ replies c.receive_asked.result c.receive_asked.new.reply.items
+    received_next _ _ _ _ replies c.receive_asked.result c.receive_asked.new.reply.items
     (c.loop-turns.invariant.talk start replies h) c.receive_asked.ensures.talk c.if-receive_asked.true
 
 pub returns-then-is_over-clause-talk : goal.returns-then-is_over-clause-talk
 returns-then-is_over-clause-talk g c = λ start replies h.
     let none : c.receive_asked.result ≡ false = c.if-receive_asked.false in
-    nothing_more start _ _ replies
-    (received_none start _ _ _ replies c.receive_asked.result c.receive_asked.new.reply.items (c.loop-turns.invariant.talk start replies h)
+    nothing_more _ _ _ replies
+    (received_none _ _ _ _ replies c.receive_asked.result c.receive_asked.new.reply.items (c.loop-turns.invariant.talk start replies h)
     c.receive_asked.ensures.talk none)
 
 pub loop-turns-preserved : goal.loop-turns-preserved
@@ -23,13 +23,13 @@ loop-turns-preserved g c =
     record {
       within = c.send_on.ensures.within;
       place = c.send_on.ensures.place ∙ c.loop-turns.invariant.place;
-      talk = λ start replies h. c.turn.ensures.silent ∙ c.send_on.ensures.talk start replies
-          (received_none start _ _ _ replies c.receive_asked.result c.receive_asked.new.reply.items
-          (c.loop-turns.invariant.talk start replies h) c.receive_asked.ensures.talk none);
+      talk = λ start replies h. since_still _ _ _ _ replies (c.send_on.ensures.talk start replies
+          (received_none _ _ _ _ replies c.receive_asked.result c.receive_asked.new.reply.items
+          (c.loop-turns.invariant.talk start replies h) c.receive_asked.ensures.talk none)) c.turn.ensures.silent;
       quiet =
-          ap received_of c.turn.ensures.silent ∙ c.send_on.ensures.quiet
-          ∙ unreceived_is_quiet c.receive_asked.result c.receive_asked.new.reply.items _ _ none c.receive_asked.ensures.talk
-          ∙ c.loop-turns.invariant.quiet;
+          unheard_then _ _ _ (unheard_then _ _ _
+          (quiet_unreceived c.receive_asked.result c.receive_asked.new.reply.items _ _ _ none c.loop-turns.invariant.quiet
+          c.receive_asked.ensures.talk) c.send_on.ensures.quiet) ([], c.turn.ensures.silent);
       unfailed =
           omega
           (arith, c.in_ok-turn.ensures.unfailed, c.send_on.ensures.unfailed, c.receive_asked.ensures.unfailed, c.loop-turns.invariant.unfailed);
@@ -41,8 +41,8 @@ loop-turns-preserved g c =
 pub returns-then-is_over-clause-waited : goal.returns-then-is_over-clause-waited
 returns-then-is_over-clause-waited g c =
     let none : c.receive_asked.result ≡ false = c.if-receive_asked.false in (
-      unreceived_is_quiet c.receive_asked.result c.receive_asked.new.reply.items _ _ none c.receive_asked.ensures.talk
-          ∙ c.loop-turns.invariant.quiet,
+      quiet_unreceived c.receive_asked.result c.receive_asked.new.reply.items _ _ _ none c.loop-turns.invariant.quiet
+          c.receive_asked.ensures.talk,
       elim c.then-is_over.branch [
         | then-is_over-via-then-is_over w ↦ inl (sym c.is_over.ensures ∙ w.if-is_over.true)
         | then-is_over-via-else-is_over+then-is_late w ↦ inr
@@ -58,11 +58,11 @@ returns-clause-waited g c =
 
 pub returns-clause-talk : goal.returns-clause-talk
 returns-clause-talk g c =
-    λ start replies h. nothing_more start _ _ replies (c.loop-turns.invariant.talk start replies h)
+    λ start replies h. nothing_more _ _ _ replies (c.loop-turns.invariant.talk start replies h)
 
 pub returns-in_err-turn-clause-fault : goal.returns-in_err-turn-clause-fault
 returns-in_err-turn-clause-fault g c = λ start replies h.
     let none : c.receive_asked.result ≡ false = c.if-receive_asked.false in
-    on_err c.from_residual.result _ (c.turn.ensures.silent ∙ c.send_on.ensures.talk start replies
-    (received_none start _ _ _ replies c.receive_asked.result c.receive_asked.new.reply.items (c.loop-turns.invariant.talk start replies h)
-    c.receive_asked.ensures.talk none))
+    on_err c.from_residual.result _ (since_still _ _ _ _ replies (c.send_on.ensures.talk start replies
+    (received_none _ _ _ _ replies c.receive_asked.result c.receive_asked.new.reply.items
+    (c.loop-turns.invariant.talk start replies h) c.receive_asked.ensures.talk none)) c.turn.ensures.silent)

@@ -9,13 +9,13 @@ use Rattle.chaosd_copy.proofs.window.send_more.Goals as goal
 pub returns-then-not-send-clause-talk : goal.returns-then-not-send-clause-talk
 returns-then-not-send-clause-talk g c = λ start replies h.
     let no : c.send.result ≡ false = search rules in
-    kept_unsent start _ _ _ _ c.send.result _ (c.loop-i.invariant.talk start replies h) c.send.ensures.sent no
+    kept_unsent _ _ _ _ _ c.send.result _ (c.loop-i.invariant.talk start replies h) c.send.ensures.sent no
 
 pub loop-i-preserved : goal.loop-i-preserved
 loop-i-preserved g c = record {
   talk = λ start replies h.
       let yes : c.send.result ≡ true = search rules in
-      sent_next start _ _ (row_command c.args.row.now) c.loop-i.i replies c.send.result _
+      sent_next _ _ _ (row_command c.args.row.now) c.loop-i.i replies c.send.result _
       (c.loop-i.invariant.talk start replies h) c.send.ensures.sent yes
       (c.as_slice.ensures.value ∙ c.command.ensures);
   quiet = quiet_send _ _ _ _ _ c.loop-i.invariant.quiet c.send.ensures.sent;
@@ -29,5 +29,5 @@ returns-then-not-send-clause-quiet g c = quiet_send _ _ _ _ _ c.loop-i.invariant
 pub returns-clause-talk : goal.returns-clause-talk
 returns-clause-talk g c = λ start replies h.
     let e : c.loop-i.i ≡ c.args.most = search rules in
-    subst (λ n. Since start (g.T.Talk.talked c.loop-i.talk) (upto (row_command c.args.row.now) n) replies) e
+    subst (λ n. Since (g.T.Talk.talked start) (g.T.Talk.talked c.loop-i.talk) (upto (row_command c.args.row.now) n) replies) e
     (c.loop-i.invariant.talk start replies h)

@@ -5,7 +5,8 @@ use Rattle.chaosd_io.specs.declared.fault.RunFault.TheVariants.{LinkFault}
 use Rattle.chaosd_io.specs.declared.limits.TheConstants.{INPUT_LIMIT, KEPT_LEN}
 use Rattle.chaosd_io.specs.Reader.{GivesMore}
 use Rattle.chaosd_io.proofs.Cutting.{none_came, told}
-use Rattle.file_client.specs.Talk.{talker}
+use Rattle.file_client.specs.Talk.{Anything, talker}
+use Rattle.file_client.proofs.Asked.{farewell_of}
 use Rattle.chaosd_file.proofs.Asking.{given_idle, nothing_asked, next_is, last_is, asked_more, last_asked, line_before, line_paced, line_runs, unread_before, unread_runs, unwritten_before, ran_in_part, ran_to_end, asks_in_part, asks_to_end}
 use Rattle.chaosd_file.proofs.Handed.{given_kept, some_came}
 use Rattle.chaosd_file.proofs.script.ask_lines.Goals.{in-Some+in_ok-ask_line-2+else-not-branch-3, in_default}
@@ -247,4 +248,4 @@ returns-clause-talk g c =
       | in_default w ↦ rw (w.client-is, w.turns-is, w.out-is, w.writer-is, w.replied-is)
           (given, asked, w.in_default.ensures _ _ _ given end.0 end.2)
     ])
-    (rw same at c.in_ok-end.ensures.talk)
+    (farewell_of _ Anything (λ asks asked. tt) _ _ _ (rw same at c.in_ok-end.ensures.talk))

@@ -1,5 +1,4 @@
-use Rattle.std.proofs.Common.{length, ◌≡◌, ◌<◌, IfSome, ℕ, ◌+◌, ◌-◌, ◌*◌, ◌≤◌}
-use Rattle.chaosd_log.specs.Ledger.{place_of}
+use Rattle.std.proofs.Common.{length}
 use Rattle.chaosd_log.proofs.place.+place_of.Given as goal
 
 -- proposed from what the function passes where it calls itself

@@ -6,6 +6,7 @@ use Rattle.chaos_host.specs.View.{host_look, id_at}
 use Rattle.file_server.specs.Sessions.{serving_at}
 use Rattle.chaos_conn.specs.Act.{Close}
 use Rattle.chaos_host.specs.Calls.{host_end}
+use Rattle.chaos_link.specs.Link.{Asks}
 use Rattle.chaos_turn.specs.Phase.{DoesPhase, Effect}
 use Rattle.chaos_turn.specs.Station.{station}
 use Rattle.file_server.proofs.Calls.{call_sent, closing}
@@ -20,7 +21,7 @@ returns g c =
     let drained : host_look c.args.host.now c.in-Some.id (λ conn. is_drained conn) ≡ Ok true = search rules in
     let over = closing _ c.args.host.now _ c.in-Some.id eof there drained in
     subst
-    (λ (e : Effect). DoesPhase c.args.carriage e (station c.args.host.now (link c.args.link.now) c.args.out.now)
+    (λ (e : Effect). DoesPhase (Asks (g.L.Link.asked c.args.link.now) (g.L.Link.asked c.send_all.new.link)) c.args.carriage e (station c.args.host.now (link c.args.link.now) c.args.out.now)
     (station c.close.new.self (link c.send_all.new.link) c.send_all.new.out) c.send_all.result)
     (sym over)
     (call_sent c.args.carriage acted c.args.host.now c.close.new.self (link c.args.link.now) (link c.send_all.new.link)

@@ -1,21 +1,19 @@
--- The configuration is the usual one.
-use Rattle.std.proofs.Common.{◌≡◌, ℕ, Option, Result, OnOk, subst}
-use Rattle.chaos_conn.specs.Config.{ConfigView}
-use Rattle.chaos_file.specs.Store.{StoreChange, change}
-use Rattle.chaos_link.specs.Link.{QueueView}
-use Rattle.chaos_link.specs.declared.carriage.Carriage.{Carriage}
-use Rattle.file_server.specs.Service.{ServesBy}
+-- The configuration is the usual one, and the moments are those that the clock shows.
+use Rattle.std.proofs.Common.{[], All, refl, subst}
+use Rattle.std.proofs.lemmas.List.Elements.{All-nil}
+use Rattle.chaos_file.specs.Store.{change}
+use Rattle.chaosd_clock.specs.Clock.{IsMoment, number_of}
+use Rattle.file_server.proofs.Served.{served_by_clock}
 use Rattle.file_server.proofs.serve_run.run_serve.Goals as goal
-
-by_same : {S A E : Type 0} (changes : S → S → StoreChange) (carriage : Carriage) (Shows Dates : ℕ → Type 0)
-    (turns me : ℕ) (s t : S) (q q' : Option QueueView) (r : Result A E) (v w : ConfigView)
-    → v ≡ w → OnOk r (ServesBy changes carriage Shows Dates v turns me s t q q')
-    → OnOk r (ServesBy changes carriage Shows Dates w turns me s t q q')
-by_same changes carriage Shows Dates turns me s t q q' r v w e h =
-    subst (λ u. OnOk r (ServesBy changes carriage Shows Dates u turns me s t q q')) e h
 
 pub returns-clause-turns : goal.returns-clause-turns
 returns-clause-turns g c =
-    by_same (change g.S.Store.contents g.S.Store.may_give g.S.Store.count) c.args.carriage
-    (g.C.Dial.shows c.args.clock.now) (g.C.Dial.dates c.args.clock.now) _ _ _ _ _ _ _ _ _ c.usual-config.ensures
+    let begun = c.in_ok-moments.moments in
+    let begins = c.in_ok-moments.ensures.begins in
+    served_by_clock (change g.S.Store.contents g.S.Store.may_give g.S.Store.count) c.args.carriage (number_of begun.epoch)
+    (g.C.Dial.shows c.args.clock.now) (g.C.Dial.dates c.args.clock.now) begun.epoch _ _ _ c.args.turns c.args.me _ _ _ _
+    c.run_serve_by.result begins.1 c.usual-config.ensures refl
+    (λ moments read.
+    subst (λ k. All (IsMoment (g.C.Dial.shows k) begun.epoch) moments) begins.0
+    (read.goes begun [] (refl, refl, All-nil (IsMoment (g.C.Dial.shows begun.clock.now) begun.epoch))).2)
     c.run_serve_by.ensures.turns

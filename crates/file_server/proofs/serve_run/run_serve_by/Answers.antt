@@ -1,49 +1,77 @@
-use Rattle.std.proofs.Common.{◌≡◌, ◌∙◌, ℕ, refl, subst, add-one, arith, rules}
-use Rattle.chaos_file.specs.Store.{StoreChange}
-use Rattle.chaos_link.specs.declared.carriage.Carriage.{Carriage}
-use Rattle.chaos_turn.specs.Station.{Station}
-use Rattle.chaosd_clock.specs.Clock.{IsMoment, number_of}
-use Rattle.chaosd_clock.specs.declared.clock.Epoch.{Epoch}
-use Rattle.chaos_turn.specs.declared.end.TurnEnd.{TurnEnd}
-use Rattle.file_server.specs.Server.{Server}
-use Rattle.file_server.specs.Service.{service_of, ServesTurn}
-use Rattle.file_server.specs.Turn.{RunsTurn}
+use Rattle.std.proofs.Common.{◌≡◌, ◌∙◌, ◌+◌, Ok, Err, refl, ap, arith, rules}
+use Rattle.chaos_link.specs.Link.{Asks}
+use Rattle.chaosd_clock.specs.Moments.{Reads}
+use Rattle.chaosd_io.specs.declared.fault.RunFault.TheVariants.{LinkFault}
+use Rattle.file_server.specs.Service.{new_service, service_of}
+use Rattle.file_server.proofs.Served.{made_to_fault, served_by, served_next, served_none, served_still}
 use Rattle.file_server.proofs.serve_run.run_serve_by.Goals as goal
 
--- a turn by the carriage of the server, at a moment of the clock
-turned : {S : Type 0} (changes : S → S → StoreChange) (carriage wanted : Carriage) (Shows : ℕ → Type 0) (epoch : Epoch)
-    (start now : ℕ) (before after : Station (Server S)) (end : TurnEnd)
-    → carriage ≡ wanted → start ≡ number_of epoch now → IsMoment Shows epoch now
-    → RunsTurn changes carriage start now before after end → ServesTurn changes wanted Shows epoch before after
-turned changes carriage wanted Shows epoch start now before after end by from shown done = record {
-  now = now;
-  shown = shown;
-  end = end;
-  turn =
-      subst (λ (c : Carriage). RunsTurn changes c (number_of epoch now) now before after end) by
-      (subst (λ (n : ℕ). RunsTurn changes carriage n now before after end) from done);
+pub loop-turn-init : goal.loop-turn-init
+loop-turn-init g c = record {
+  well = search rules;
+  carriage = search rules;
+  time = refl;
+  served = served_none _ _ _ (g.M.Moments.read c.args.moments.now) (g.L.Link.asked c.args.link.now) _ _ (search rules);
 }
+
+pub returns-in_err-server-clause-turns : goal.returns-in_err-server-clause-turns
+returns-in_err-server-clause-turns g c =
+    served_by _ _ _ (Reads (g.M.Moments.read c.args.moments.now) (g.M.Moments.read c.args.moments.now))
+    (Asks (g.L.Link.asked c.args.link.now) (g.L.Link.asked c.args.link.now)) c.args.options.config
+    c.args.options.turns c.args.options.me 0 c.args.store.now (g.L.Link.queue c.args.link.now)
+    (new_service c.args.options.config c.args.options.me c.args.store.now (g.L.Link.queue c.args.link.now))
+    c.from_residual.result (served_none _ _ _ (g.M.Moments.read c.args.moments.now) (g.L.Link.asked c.args.link.now) _ _ refl)
+    (made_to_fault c.from_residual.result c.args.options.turns 0 c.from_residual.ensures.0 (omega arith))
+
+pub returns-in_err-now-clause-turns : goal.returns-in_err-now-clause-turns
+returns-in_err-now-clause-turns g c =
+    served_by _ _ _ (Reads (g.M.Moments.read c.args.moments.now) (g.M.Moments.read c.next.new.self))
+    (Asks (g.L.Link.asked c.args.link.now) (g.L.Link.asked c.loop-turn.link)) c.args.options.config
+    c.args.options.turns c.args.options.me c.loop-turn.turn c.args.store.now (g.L.Link.queue c.args.link.now)
+    (service_of c.loop-turn.server c.loop-turn.store (g.L.Link.queue c.loop-turn.link))
+    c.from_residual-in_err-now.result
+    (served_still _ _ _ (g.M.Moments.read c.args.moments.now) (g.M.Moments.read c.loop-turn.moments)
+    (g.M.Moments.read c.next.new.self) _ c.loop-turn.turn _ _ c.loop-turn.invariant.served c.in_err-now.ensures.reads)
+    (made_to_fault c.from_residual-in_err-now.result c.args.options.turns c.loop-turn.turn
+    c.from_residual-in_err-now.ensures.0 (omega arith))
+
+pub returns-then-eq-clause-turns : goal.returns-then-eq-clause-turns
+returns-then-eq-clause-turns g c =
+    served_by _ _ _ {A = Unit {0}} (Reads (g.M.Moments.read c.args.moments.now) (g.M.Moments.read c.next.new.self))
+    (Asks (g.L.Link.asked c.args.link.now) (g.L.Link.asked c.turn-end.new.link)) c.args.options.config
+    c.args.options.turns c.args.options.me (c.loop-turn.turn + 1) c.args.store.now (g.L.Link.queue c.args.link.now)
+    (service_of c.turn-end.new.self c.turn-end.new.store (g.L.Link.queue c.turn-end.new.link)) (Err LinkFault)
+    (served_next _ _ _ (g.M.Moments.read c.args.moments.now) (g.M.Moments.read c.loop-turn.moments)
+    (g.M.Moments.read c.next.new.self) (g.L.Link.asked c.args.link.now) (g.L.Link.asked c.loop-turn.link)
+    (g.L.Link.asked c.turn-end.new.link) c.loop-turn.turn c.start.result c.in_ok-now.now
+    c.loop-turn.server.node.carriage _ _ _ c.turn-end.result c.loop-turn.invariant.served c.in_ok-now.ensures.reads
+    c.loop-turn.invariant.carriage
+    (c.start.ensures ∙ ap (λ t. g.M.Moments.starts t c.in_ok-now.now)
+    (c.next.ensures.same_time ∙ c.loop-turn.invariant.time))
+    c.turn-end.ensures.serves)
+    (omega arith)
 
 pub loop-turn-preserved : goal.loop-turn-preserved
 loop-turn-preserved g c = record {
   well = search rules;
   carriage = c.turn-end.ensures.carriage ∙ c.loop-turn.invariant.carriage;
-  made = rw (add-one c.loop-turn.turn) (
-    service_of c.loop-turn.server c.loop-turn.store (g.L.Link.queue c.loop-turn.link),
-    c.loop-turn.invariant.made,
-    turned _ _ _ _ _ _ _ _ _ _ c.loop-turn.invariant.carriage c.number.ensures c.in_ok-now.ensures.moment
-        c.turn-end.ensures.serves,
-  );
+  time = c.next.ensures.same_time ∙ c.loop-turn.invariant.time;
+  served =
+      served_next _ _ _ (g.M.Moments.read c.args.moments.now) (g.M.Moments.read c.loop-turn.moments)
+      (g.M.Moments.read c.next.new.self) (g.L.Link.asked c.args.link.now) (g.L.Link.asked c.loop-turn.link)
+      (g.L.Link.asked c.turn-end.new.link) c.loop-turn.turn c.start.result c.in_ok-now.now
+      c.loop-turn.server.node.carriage _ _ _ c.turn-end.result c.loop-turn.invariant.served c.in_ok-now.ensures.reads
+      c.loop-turn.invariant.carriage
+      (c.start.ensures ∙ ap (λ t. g.M.Moments.starts t c.in_ok-now.now)
+      (c.next.ensures.same_time ∙ c.loop-turn.invariant.time))
+      c.turn-end.ensures.serves;
 }
 
 pub returns-clause-turns : goal.returns-clause-turns
 returns-clause-turns g c =
-    let all : c.args.options.turns ≡ c.loop-turn.turn = omega arith in
-    rw all (
-      c.in_ok-epoch.epoch,
-      service_of c.loop-turn.server c.loop-turn.store (g.L.Link.queue c.loop-turn.link),
-      c.in_ok-epoch.ensures.begins,
-      c.loop-turn.invariant.made,
-      refl,
-      refl,
-    )
+    let all : c.loop-turn.turn ≡ c.args.options.turns = omega arith in
+    served_by _ _ _ (Reads (g.M.Moments.read c.args.moments.now) (g.M.Moments.read c.loop-turn.moments))
+    (Asks (g.L.Link.asked c.args.link.now) (g.L.Link.asked c.loop-turn.link)) c.args.options.config
+    c.args.options.turns c.args.options.me c.loop-turn.turn c.args.store.now (g.L.Link.queue c.args.link.now)
+    (service_of c.loop-turn.server c.loop-turn.store (g.L.Link.queue c.loop-turn.link)) (Ok (tt {0}))
+    c.loop-turn.invariant.served all

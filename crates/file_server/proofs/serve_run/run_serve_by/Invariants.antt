@@ -1,15 +1,21 @@
 use Rattle.std.proofs.Common.{◌≡◌, ◌≤◌}
 use Rattle.chaos_file.specs.Store.{change}
-use Rattle.file_server.specs.Service.{new_service, service_of, ServesTurns}
+use Rattle.chaos_link.specs.Link.{Asks}
+use Rattle.chaosd_clock.specs.Moments.{Reads}
+use Rattle.file_server.specs.Service.{new_service, service_of}
+use Rattle.file_server.proofs.Served.{HasServed}
 use Rattle.file_server.proofs.serve_run.run_serve_by.Given as goal
 
--- no turn so far met a failure, and each was made
+-- no turn so far met a failure, and each was made at the moment that was read for it; the link was asked what they asked
 abbrev pub invariant-loop-turn : goal.invariant-loop-turn
 invariant-loop-turn g l = record {
   well : g.L.Link.count l.link ≤ g.L.Link.count l.fn.link;
   carriage : l.server.node.carriage ≡ l.fn.options.carriage;
-  made : ServesTurns (change g.S.Store.contents g.S.Store.may_give g.S.Store.count) l.fn.options.carriage
-      (g.C.Dial.shows l.fn.clock) l.epoch l.turn
+  time : g.M.Moments.time l.moments ≡ g.M.Moments.time l.fn.moments;
+  served : HasServed (change g.S.Store.contents g.S.Store.may_give g.S.Store.count) l.fn.options.carriage
+      (g.M.Moments.starts (g.M.Moments.time l.fn.moments))
+      (Reads (g.M.Moments.read l.fn.moments) (g.M.Moments.read l.moments))
+      (Asks (g.L.Link.asked l.fn.link) (g.L.Link.asked l.link)) l.turn
       (new_service l.fn.options.config l.fn.options.me l.fn.store (g.L.Link.queue l.fn.link))
       (service_of l.server l.store (g.L.Link.queue l.link));
 }

@@ -1,10 +1,19 @@
 use Rattle.std.proofs.Common.{List, get_or, slice_set, refl, ap, sym, ◌∙◌}
 use Rattle.std.proofs.lemmas.List.{get_or_read}
 use Rattle.chaos_file.specs.Store.{change}
+use Rattle.chaos_turn.specs.Station.{station}
+use Rattle.file_server.specs.Server.{server}
 use Rattle.file_server.specs.Sessions.{Serving, new_serving}
-use Rattle.file_server.proofs.Passed.{passed_so}
+use Rattle.file_server.proofs.Passed.{none_there, passed_so}
 use Rattle.file_server.proofs.Relation.{slot_so}
 use Rattle.file_server.proofs.serving.serve_slot.Goals as goal
+
+pub returns-in_default : goal.returns-in_default
+returns-in_default g c =
+    none_there (change g.S.Store.contents g.S.Store.may_give g.S.Store.count) c.args.terms.now.carriage
+    (station (server c.args.host.now c.args.sessions.now c.args.store.now) (g.L.Link.queue c.args.link.now)
+    c.args.out.now)
+    c.args.place c.args.terms.now.moment (sym c.in_default.ensures.index)
 
 pub returns-then-not-can_serve_conn : goal.returns-then-not-can_serve_conn
 returns-then-not-can_serve_conn g c =

@@ -9,9 +9,9 @@ returns-then-take_behind-clause-talk g c =
     let time = c.in_ok-is_written.ensures.same_turns.1 ∙ c.loop-turn.invariant.same_time in
     let pace = g.T.Turns.pace (g.T.Turns.time c.args.turns.now) in
     let again =
-    talks_again pace _ _ _ item c.loop-turn.is_written c.in_ok-is_written.is_written c.loop-turn.turn
+    talks_again pace _ _ _ _ _ _ item c.loop-turn.is_written c.in_ok-is_written.is_written c.loop-turn.turn
     c.loop-turn.invariant.talk (rw c.loop-turn.invariant.same_time at c.in_ok-is_written.ensures.talk) in
-    exchange_done pace _ _ _ c.args.command.now c.take_behind.new.reply.items c.in_ok-is_written.is_written
+    exchange_done pace _ _ _ _ c.args.command.now c.take_behind.new.reply.items c.in_ok-is_written.is_written
     (c.loop-turn.turn + 1) (c.take_behind.ensures.written c.if-take_behind.true) again
     (rw (c.if-take_behind.true, time) at c.take_behind.ensures.talk)
 
@@ -22,12 +22,12 @@ returns-then-is_over-clause-talk g c =
     let time = c.in_ok-is_written.ensures.same_turns.1 ∙ c.loop-turn.invariant.same_time in
     let pace = g.T.Turns.pace (g.T.Turns.time c.args.turns.now) in
     let again =
-    talks_again pace _ _ _ item c.loop-turn.is_written c.in_ok-is_written.is_written c.loop-turn.turn
+    talks_again pace _ _ _ _ _ _ item c.loop-turn.is_written c.in_ok-is_written.is_written c.loop-turn.turn
     c.loop-turn.invariant.talk (rw c.loop-turn.invariant.same_time at c.in_ok-is_written.ensures.talk) in
     let unreceived =
-    talks_unreceived pace _ _ _ item false c.in_ok-is_written.is_written (c.loop-turn.turn + 1) again
+    talks_unreceived pace _ _ _ _ item false c.in_ok-is_written.is_written (c.loop-turn.turn + 1) again
     (rw (c.if-take_behind.false, time) at c.take_behind.ensures.talk) in
-    exchange_none pace _ _ c.args.command.now c.in_ok-is_written.is_written (c.loop-turn.turn + 1) unreceived
+    exchange_none pace _ _ _ c.args.command.now c.in_ok-is_written.is_written (c.loop-turn.turn + 1) unreceived
     (inr (sym c.is_over.ensures ∙ c.if-is_over.true))
 
 pub loop-turn-preserved : goal.loop-turn-preserved
@@ -36,7 +36,7 @@ loop-turn-preserved g c =
     let time = c.in_ok-is_written.ensures.same_turns.1 ∙ c.loop-turn.invariant.same_time in
     let pace = g.T.Turns.pace (g.T.Turns.time c.args.turns.now) in
     let again =
-    talks_again pace _ _ _ item c.loop-turn.is_written c.in_ok-is_written.is_written c.loop-turn.turn
+    talks_again pace _ _ _ _ _ _ item c.loop-turn.is_written c.in_ok-is_written.is_written c.loop-turn.turn
     c.loop-turn.invariant.talk (rw c.loop-turn.invariant.same_time at c.in_ok-is_written.ensures.talk) in
     record {
       shown = rw c.take_behind.ensures.same (rw c.loop-turn.invariant.same_time at c.in_ok-is_written.ensures.moment);
@@ -44,6 +44,6 @@ loop-turn-preserved g c =
       same_time = (c.in_ok-is_written.ensures.same_turns.1 ∙ c.loop-turn.invariant.same_time);
       unfailed = (omega (arith, c.loop-turn.invariant.unfailed, c.in_ok-is_written.ensures.unfailed));
       talk =
-          talks_unreceived pace _ _ _ item false c.in_ok-is_written.is_written (c.loop-turn.turn + 1) again
+          talks_unreceived pace _ _ _ _ item false c.in_ok-is_written.is_written (c.loop-turn.turn + 1) again
           (rw (c.if-take_behind.false, time) at c.take_behind.ensures.talk);
     }

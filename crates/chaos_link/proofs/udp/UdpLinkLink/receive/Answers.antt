@@ -1,0 +1,28 @@
+use Rattle.std.proofs.Common.{refl}
+use Rattle.chaos_link.proofs.Asked.{none_heard, one_heard}
+use Rattle.chaos_link.proofs.udp.UdpLinkLink.receive.Goals as goal
+use Rattle.chaos_link.proofs.udp.UdpLinkLink.receive.Goals.{in-Ok, in-Err}
+
+pub returns-then-eq-clause-asked : goal.returns-then-eq-clause-asked
+returns-then-eq-clause-asked g c =
+    let set = c.set_wait.ensures.nothing in
+    elim c.match-set_wait.branch [
+      | in-Ok w ↦ rw w.self-inside-is
+          (one_heard g.S.DatagramSocket.asked c.args.self.now _ _ c.self.view_is refl c.args.may_wait
+          c.set_wait.new.socket set.0 set.1 set.2 w.receive_from-received.ensures.asked)
+      | in-Err w ↦ rw w.self-inside-is
+          (none_heard g.S.DatagramSocket.asked c.args.self.now _ _ c.self.view_is refl c.args.may_wait set.0 set.1
+          set.2)
+    ]
+
+pub returns-else-eq-clause-asked : goal.returns-else-eq-clause-asked
+returns-else-eq-clause-asked g c =
+    let set = c.set_wait.ensures.nothing in
+    elim c.match-set_wait.branch [
+      | in-Ok w ↦ rw w.self-inside-is
+          (one_heard g.S.DatagramSocket.asked c.args.self.now _ _ c.self.view_is refl c.args.may_wait
+          c.set_wait.new.socket set.0 set.1 set.2 w.receive_from-received.ensures.asked)
+      | in-Err w ↦ rw w.self-inside-is
+          (none_heard g.S.DatagramSocket.asked c.args.self.now _ _ c.self.view_is refl c.args.may_wait set.0 set.1
+          set.2)
+    ]

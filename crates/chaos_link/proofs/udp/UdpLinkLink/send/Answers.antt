@@ -1,0 +1,19 @@
+use Rattle.std.proofs.Common.{refl}
+use Rattle.chaos_link.proofs.Asked.{none_out, one_out}
+use Rattle.chaos_link.proofs.udp.UdpLinkLink.send.Goals as goal
+
+pub returns-in_default-clause-asked : goal.returns-in_default-clause-asked
+returns-in_default-clause-asked g c =
+    none_out g.S.DatagramSocket.asked c.args.self.now (record { to = c.args.to_address; bytes = c.args.bytes.now }) (cc)
+
+pub returns-in-Ok-clause-asked : goal.returns-in-Ok-clause-asked
+returns-in-Ok-clause-asked g c =
+    one_out g.S.DatagramSocket.asked c.args.self.now _ _ c.self.view_is refl
+    (record { to = c.args.to_address; bytes = c.args.bytes.now }) c.find.result c.in-Some.peer c.find.ensures
+    c.in-Some.is c.send_to.ensures.asked
+
+pub returns-in-Err-clause-asked : goal.returns-in-Err-clause-asked
+returns-in-Err-clause-asked g c =
+    one_out g.S.DatagramSocket.asked c.args.self.now _ _ c.self.view_is refl
+    (record { to = c.args.to_address; bytes = c.args.bytes.now }) c.find.result c.in-Some.peer c.find.ensures
+    c.in-Some.is c.send_to.ensures.asked

@@ -1,0 +1,92 @@
+//! Moments, read one after another.
+ghost use Rattle.std.specs.Prelude.{◌≡◌, ℕ, List, [], All, IfErr, IfOk};
+ghost use Rattle.chaosd_clock.specs.Clock.{BeginsBy, IsMoment, number_of};
+ghost use Rattle.chaosd_clock.specs.Moments.{Reads, moments_in};
+ghost use Rattle.chaosd_io.specs.declared.fault.RunFault.{RunFault};
+
+use crate::clock::Epoch;
+use crate::dial::Dial;
+use chaos_packet::PktNum;
+use chaosd_io::RunFault;
+
+/// A source of moments. Each moment is read once, after the moment before.
+pub trait Moments {
+    /// What the moments are read from: a clock and its reading when the run began, where there is a clock.
+    ghost Time: { Type 0 };
+
+    ghost time: { Self → Time };
+
+    /// The number with which a connection of a moment begins.
+    ghost starts: { Time → ℕ → ℕ };
+
+    /// That the moment may be one that can't be read.
+    ghost stops: { Time → Type 0 };
+
+    /// The moments that may have been read up to this state since that one, in order.
+    ghost read: { Self → Self → List ℕ → Type 0 };
+
+    /// Since the state itself no moment was read.
+    ghost began: { (moments : Self) → read moments moments [] };
+
+    /// The next moment, in milliseconds.
+    ///
+    /// # Errors
+    /// `ClockFault` where it can't be read.
+    fn next(&mut self) -> Result<u64, RunFault>
+        ensures reads { Reads (read self.old) (read self.new) (moments_in result) }
+        ensures same_time { time self.new ≡ time self.old }
+        ensures faults { IfErr result (λ fault. (fault ≡ RunFault.ClockFault) × stops (time self.old)) };
+
+    /// The number with which a connection of this moment begins.
+    fn start(&self, moment: u64) -> PktNum
+        ensures { result ≡ starts (time self.now) moment };
+}
+
+/// The moments of a run by a clock.
+#[derive(Drop)]
+pub struct ClockMoments<'a, C: Dial> {
+    clock: &'a C,
+    epoch: Epoch,
+}
+
+impl<'a, C: Dial> ClockMoments<'a, C> {
+    /// The run begins now, by the clock.
+    ///
+    /// # Errors
+    /// `ClockFault`.
+    pub fn new(clock: &'a C) -> Result<Self, RunFault>
+        ensures begins { IfOk result (λ moments. (moments.clock.now ≡ clock.now) × BeginsBy (C.shows clock.now) (C.dates clock.now) moments.epoch) }
+        ensures faults { IfErr result (λ fault. (fault ≡ RunFault.ClockFault) × C.fails clock.now) }
+    {
+        Ok(ClockMoments {
+            clock,
+            epoch: Epoch::new(clock)?,
+        })
+    }
+}
+
+impl<C: Dial> Moments for ClockMoments<'_, C> {
+    ghost use Rattle.chaosd_clock.specs.declared.clock.Epoch.{Epoch};
+    ghost use Rattle.std.specs.Prelude.{refl};
+    ghost use Rattle.std.proofs.lemmas.List.Elements.{All-nil};
+
+    ghost Time = { C × Epoch };
+
+    ghost time = { λ moments. (moments.clock.now, moments.epoch) };
+
+    ghost starts = { λ time. number_of time.1 };
+
+    ghost stops = { λ time. C.fails time.0 };
+
+    ghost read = { λ now start moments. (now.clock.now ≡ start.clock.now) × (now.epoch ≡ start.epoch) × All (IsMoment (C.shows start.clock.now) start.epoch) moments };
+
+    ghost began = { λ moments. (refl, refl, All-nil (IsMoment (C.shows moments.clock.now) moments.epoch)) };
+
+    fn next(&mut self) -> Result<u64, RunFault> {
+        self.epoch.moment(self.clock)
+    }
+
+    fn start(&self, moment: u64) -> PktNum {
+        self.epoch.number(moment)
+    }
+}

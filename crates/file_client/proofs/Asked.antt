@@ -1,0 +1,154 @@
+-- What a client's turns ask of its link.
+use Rattle.std.proofs.Common.{◌≡◌, ℕ, Bool, List, [], ◌++◌, refl, sym, subst, inl, inr}
+use Rattle.std.specs.Prelude.{Option, None, Some, OnOk, Result, Ok, Err}
+use Rattle.chaos_packet.specs.Outbox.{OutboxView}
+use Rattle.chaos_link.specs.Link.{Ask, AskedSince, Asks, QueueView}
+use Rattle.chaos_link.specs.declared.carriage.Carriage.{Carriage}
+use Rattle.chaos_host.specs.View.{HostView}
+use Rattle.chaos_host.specs.declared.answers.HostDelivered.{HostDelivered}
+use Rattle.chaos_turn.specs.Link.{turn_asks}
+use Rattle.chaos_turn.specs.Station.{Station, station}
+use Rattle.chaos_turn.specs.Turn.{RunsClientTurn, client_phases}
+use Rattle.chaos_turn.specs.declared.end.TurnEnd.{TurnEnd}
+use Rattle.file_client.specs.Caller.{CallerView, Connects, HangsUpBy, HangsUp, Stays, TurnsAt, TurnsOrStops}
+use Rattle.file_client.specs.Pace.{Pace}
+use Rattle.file_client.specs.Talk.{Talker, Exchanges, SendsFarewell}
+use Rattle.file_client.specs.Turn.{TakesTurn}
+
+-- just what the turn asked was asked of its link
+pub asks_of : (Asked : List Ask → Type 0) (Waits : Bool → Type 0) (now : ℕ) (before after : Option QueueView)
+    (c d : CallerView) → TurnsAt Asked Waits now before after c d
+    → (asks : List Ask) × Asked asks × TurnsAt (λ more. more ≡ asks) Waits now before after c d
+asks_of Asked Waits now before after c d (is, (may_wait, waits, end, told, runs)) = (
+  turn_asks c.carriage may_wait c.out.packets (client_phases runs.came now c.host).lots,
+  runs.link.asks,
+  (
+    is,
+    (
+      may_wait,
+      waits,
+      end,
+      told,
+      record {
+        came = runs.came;
+        host = runs.host;
+        told = runs.told;
+        link = record { queue = runs.link.queue; asks = refl; read = runs.link.read; work = runs.link.work };
+      },
+    ),
+  ),
+)
+
+module _ (A B : List Ask → Type 0) (f : (asks : List Ask) → A asks → B asks) where
+  -- where all that may have been asked of the one may have been asked of the other
+  pub runs_by : (may_wait : Bool) (carriage : Carriage) (now : ℕ) (before after : Station HostView) (end : TurnEnd)
+      (told : Option HostDelivered) → RunsClientTurn A may_wait carriage now before after end told
+      → RunsClientTurn B may_wait carriage now before after end told
+  runs_by may_wait carriage now before after end told runs = record {
+    came = runs.came;
+    host = runs.host;
+    told = runs.told;
+    link = record { queue = runs.link.queue; asks = f _ runs.link.asks; read = runs.link.read; work = runs.link.work };
+  }
+
+  pub turns_by : (Waits : Bool → Type 0) (now : ℕ) (before after : Option QueueView) (c d : CallerView)
+      → TurnsAt A Waits now before after c d → TurnsAt B Waits now before after c d
+  turns_by Waits now before after c d (is, (may_wait, waits, end, told, runs)) =
+      (is, (may_wait, waits, end, told, runs_by may_wait c.carriage now _ _ end told runs))
+
+  stays_by : (before after : Option QueueView) (c d : CallerView) → Stays A before after c d → Stays B before after c d
+  stays_by before after c d (is, queue, none) = (is, queue, f [] none)
+
+  pub turns_or_stops_by : (p : Pace) (was now : ℕ) (before after : Option QueueView) (c d : CallerView)
+      → TurnsOrStops p A was now before after c d → TurnsOrStops p B was now before after c d
+  turns_or_stops_by p was now before after c d (inl (at, stays)) = inl (at, stays_by before after c d stays)
+  turns_or_stops_by p was now before after c d (inr (shown, turns)) = inr (shown, turns_by _ now before after _ d turns)
+
+  hangs_up_at : (p : Pace) (id : Option ℕ) (before after : Option QueueView) (c d : CallerView)
+      → HangsUpBy id p A before after c d → HangsUpBy id p B before after c d
+  hangs_up_at p None before after c d stays = stays_by before after c d stays
+  hangs_up_at p (Some id) before after c d (inl (nothing, stays)) = inl (nothing, stays_by before after _ d stays)
+  hangs_up_at p (Some id) before after c d (inr (now, shown, turns)) =
+      inr (now, shown, turns_by _ now before after _ d turns)
+
+  pub hangs_up_by : (p : Pace) (before after : Option QueueView) (c d : CallerView) → HangsUp p A before after c d
+      → HangsUp p B before after c d
+  hangs_up_by p before after c d hung = hangs_up_at p c.id before after c d hung
+
+  pub connects_by : (p : Pace) (now : ℕ) (before after : Option QueueView) (c d : CallerView)
+      → Connects p A now before after c d → Connects p B now before after c d
+  connects_by p now before after c d (b, hung, shown, is) = (b, hangs_up_by p before after c b hung, shown, is)
+
+  pub exchanges_by : (p : Pace) (first : Talker) (command : List ℕ) (reply : Option (List ℕ)) (last : Talker)
+      → Exchanges p A first command reply last → Exchanges p B first command reply last
+  exchanges_by p first command reply last (talk, talks, asked, is) = (talk, talks, f talk.asks asked, is)
+
+  pub farewell_of : (p : Pace) (first last : Talker) → SendsFarewell p A first last → SendsFarewell p B first last
+  farewell_of p first last (talk, talks, asked, is) = (talk, talks, f talk.asks asked, is)
+
+-- of what went well
+pub well_by : {T E : Type 0} (r : Result T E) (P Q : Type 0) → (P → Q) → OnOk r P → OnOk r Q
+well_by (Ok x) P Q f h = f h
+well_by (Err e) P Q f h = tt
+
+-- ---- what has a link, and the link
+
+module _ {T S : Type 0} (t : T) (link : T → S) (old new : AskedSince S Ask) where
+  -- what was asked of the link was asked of what has it
+  pub asks_through : (more : List Ask) → Asks old new more
+      → Asks (λ (first : T). old (link first)) (λ (first : T). new (link first)) more
+  asks_through more asks = record { goes = λ first before was. asks.goes (link first) before was }
+
+  pub takes_through : (Waits : Bool → Type 0) (may_wait : Bool) (carriage : Carriage) (now : ℕ) (host left : HostView)
+      (before after : Option QueueView) (waiting out : OutboxView) (end : TurnEnd) (told : Option HostDelivered)
+      → Waits may_wait
+      → RunsClientTurn (Asks old new) may_wait carriage now (station host before waiting) (station left after out) end
+      told
+      → TakesTurn (Asks (λ (first : T). old (link first)) (λ (first : T). new (link first))) Waits carriage now host left
+      before after waiting out
+  takes_through Waits may_wait carriage now host left before after waiting out end told waits runs = (
+    may_wait,
+    waits,
+    end,
+    told,
+    runs_by (Asks old new) (Asks (λ (first : T). old (link first)) (λ (first : T). new (link first))) asks_through
+        may_wait carriage now (station host before waiting) (station left after out) end told runs,
+  )
+
+-- where each state of the link is that of something that has it, what was asked of that was asked of the link
+module _ {T S : Type 0} (t : T) (s : S) (link : T → S) (put : S → T) (same : (s : S) → link (put s) ≡ s)
+    (old new : AskedSince S Ask) where
+  abbrev Within : List Ask → Type 0
+  Within more = Asks (λ (first : T). old (link first)) (λ (first : T). new (link first)) more
+
+  asks_within : (more : List Ask) → Within more → Asks old new more
+  asks_within more asks = record {
+    goes = λ first before was.
+        subst (λ (s : S). new s (before ++ more)) (same first)
+        (asks.goes (put first) before (subst (λ (s : S). old s before) (sym (same first)) was));
+  }
+
+  module _ {A E : Type 0} (r : Result A E) where
+    pub turns_within : (Waits : Bool → Type 0) (now : ℕ) (before after : Option QueueView) (c d : CallerView)
+        → OnOk r (TurnsAt Within Waits now before after c d) → OnOk r (TurnsAt (Asks old new) Waits now before after c d)
+    turns_within Waits now before after c d h =
+        well_by r _ _ (turns_by Within (Asks old new) asks_within Waits now before after c d) h
+
+    pub hangs_up_within : (p : Pace) (before after : Option QueueView) (c d : CallerView) → OnOk r (HangsUp p Within before after c d)
+        → OnOk r (HangsUp p (Asks old new) before after c d)
+    hangs_up_within p before after c d h =
+        well_by r _ _ (hangs_up_by Within (Asks old new) asks_within p before after c d) h
+
+    pub connects_within : (p : Pace) (now : ℕ) (before after : Option QueueView) (c d : CallerView)
+        → OnOk r (Connects p Within now before after c d) → OnOk r (Connects p (Asks old new) now before after c d)
+    connects_within p now before after c d h =
+        well_by r _ _ (connects_by Within (Asks old new) asks_within p now before after c d) h
+
+    pub farewell_within : (p : Pace) (first last : Talker) → OnOk r (SendsFarewell p Within first last)
+        → OnOk r (SendsFarewell p (Asks old new) first last)
+    farewell_within p first last h = well_by r _ _ (farewell_of Within (Asks old new) asks_within p first last) h
+
+  pub turns_or_stops_within : (p : Pace) (was now : ℕ) (before after : Option QueueView) (c d : CallerView)
+      → TurnsOrStops p Within was now before after c d → TurnsOrStops p (Asks old new) was now before after c d
+  turns_or_stops_within p was now before after c d h =
+      turns_or_stops_by Within (Asks old new) asks_within p was now before after c d h
