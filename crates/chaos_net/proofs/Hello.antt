@@ -4,7 +4,7 @@ use Rattle.chaos_conn.specs.Config.{IsConfig, usual_config}
 use Rattle.chaos_net.specs.Hello.{SomethingIsRead, two_hosts, hello}
 use Rattle.chaos_net.proofs.Short.{short_runs}
 
-usual : IsConfig usual_config
+pub usual : IsConfig usual_config
 usual = record {
   some_send = omega arith;
   send_fits = omega arith;

@@ -31,9 +31,9 @@ use Rattle.chaos_net.specs.Short.{IsAnyAge, ShortLaw}
 use Rattle.chaos_net.proofs.Network.{steps_are_played, start_is_played}
 
 -- no slot of a station had more than k connections, and no story has more than k items
-record IsWithin (k : ℕ) (st : Station) : Type 0 where
-  turns : (place : ℕ) → st.turn place ≤ k
-  lengths : (name : Name) → length_of (st.story name) ≤ k
+pub record IsWithin (k : ℕ) (st : Station) : Type 0 where
+  pub turns : (place : ℕ) → st.turn place ≤ k
+  pub lengths : (name : Name) → length_of (st.story name) ≤ k
 
 -- ---- a story grows by at most one item
 
@@ -102,7 +102,7 @@ grown (Some s) conn call from k h =
 
 -- ---- an event
 
-more_within : (k : ℕ) (st : Station) → IsWithin k st → IsWithin (k + 1) st
+pub more_within : (k : ℕ) (st : Station) → IsWithin k st → IsWithin (k + 1) st
 more_within k st h = record {
   turns = λ place. let t = h.turns place in omega (arith, t);
   lengths = λ name. let l = h.lengths name in omega (arith, l);
@@ -131,7 +131,7 @@ deed_within : (k : ℕ) (st : Station) (d : Deed) (from : Option Name) → IsWit
 deed_within k st Nothing from h = more_within k st h
 deed_within k st (Does place call) from h = slot_within k st place call from (slice_get st.host.slots place) h
 
-abbrev AreWithin : ℕ → Net → Type 0
+abbrev pub AreWithin : ℕ → Net → Type 0
 AreWithin k n = (x : Side) → IsWithin k (n x)
 
 event_within : (k : ℕ) (n : Net) (x : Side) (event : HostEvent) (from : Option Name) → AreWithin k n
@@ -156,7 +156,7 @@ arrives_within : (k : ℕ) (n : Net) (x : Side) (now : ℕ) (o : Option Sent) �
 arrives_within k n x now None h = λ y. more_within k (n y) (h y)
 arrives_within k n x now (Some q) h = event_within k n x (Comes q.packet now) q.by h
 
-step_within : (k : ℕ) (n : Net) (event : NetEvent) → AreWithin k n → AreWithin (k + 1) (happens n event)
+pub step_within : (k : ℕ) (n : Net) (event : NetEvent) → AreWithin k n → AreWithin (k + 1) (happens n event)
 step_within k n (At x event) h = event_within k n x event None h
 step_within k n (Arrives x number now) h = arrives_within k n x now (slice_get (n (other x)).sent number) h
 
@@ -205,7 +205,7 @@ all_fresh n x k q h w few ack c d s t by from now at index =
       receiver = omega (arith, wrote_d, few);
     }
 
-can_happen : (n : Net) (k : ℕ) (event : NetEvent) → ArePlayed n → AreWithin k n → k < 256 → IsAnyAge event
+pub can_happen : (n : Net) (k : ℕ) (event : NetEvent) → ArePlayed n → AreWithin k n → k < 256 → IsAnyAge event
     → CanHappen n event
 can_happen n k (At x event) h w few own = own
 can_happen n k (Arrives x number now) h w few own = λ q there. all_fresh n x k q h w few
@@ -219,7 +219,7 @@ runs_short (event ∷ events) k n h w few all =
     let can = can_happen n k event h w (omega (arith, few)) all.0 in
     (can, runs_short events (k + 1) (happens n event) (steps_are_played n event h can) (step_within k n event w) (omega (arith, few)) all.1)
 
-new_within : (st : Station) → IsNew st → IsWithin 0 st
+pub new_within : (st : Station) → IsNew st → IsWithin 0 st
 new_within st new =
     subst (IsWithin 0) (sym new.is) (record { turns = λ place. omega arith; lengths = λ name. omega arith })
 
