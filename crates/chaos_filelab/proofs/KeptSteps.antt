@@ -81,7 +81,7 @@ gives_open v item (Some other) is =
 pub read_open_is : (v : ConnView) → HasFront v → act_read v ≡ read_at_open v (front_of v)
 read_open_is v h = cond-false _ _ _ (ap is_opening h.is_open) ∙ cond-true _ _ _ (ap is_open h.is_open)
 
-read_gives : (v : ConnView) (h : HasFront v) → (act_read v).answer ≡ gave.Item h.item
+pub read_gives : (v : ConnView) (h : HasFront v) → (act_read v).answer ≡ gave.Item h.item
 read_gives v h = ap (λ a. a.answer) (read_open_is v h) ∙ gives_open v h.item (front_of v) h.front
 
 pub reads_one : (l : LabView) (h : HasFront l.b.conn) → (after_call l B Read).b.read ≡ l.b.read ++ h.item ∷ []
@@ -109,14 +109,14 @@ pub some_is : {X : Type 0} → {x y : X} → Some x ≡ Some y → x ≡ y
 some_is h = cc
 
 -- the last of a beginning stands where it stood
-at_last : (xs ys : List ItemView) (x : ItemView) → Begins (xs ++ x ∷ []) ys → slice_get ys (length xs) ≡ Some x
+pub at_last : (xs ys : List ItemView) (x : ItemView) → Begins (xs ++ x ∷ []) ys → slice_get ys (length xs) ≡ Some x
 at_last xs ys x h =
     let one = length-append xs (x ∷ []) in
     ap (λ zs. slice_get zs (length xs)) (begins_split (xs ++ x ∷ []) ys h)
     ∙ sym (front_same (xs ++ x ∷ []) (drop (length (xs ++ x ∷ [])) ys) (length xs) (omega (arith, one)))
     ∙ last_item xs x
 
-users_later : (ys : List ItemView) (n : ℕ) (x : ItemView) → 1 ≤ n
+pub users_later : (ys : List ItemView) (n : ℕ) (x : ItemView) → 1 ≤ n
     → ((i : ℕ) (item : ItemView) → slice_get ys (suc i) ≡ Some item → IsUsers item) → slice_get ys n ≡ Some x
     → IsUsers x
 users_later ys zero x some users at = absurd (omega arith)
