@@ -1,0 +1,46 @@
+-- The proofs, in the order in which to read them.
+--
+--   Serving   each slot is served once: events of the network
+--   Phases    the other phases of a server's turn
+--   Server    a server's turn: law_file_turns
+--   Programs  a program's turn: law_programs
+--   Turning   what events make of the turns of B's slots, and of what a server keeps for them
+--   Led       runs of events at one side: what came, and the end of a turn
+--   Steady    what stays while no connection ends, and what is kept while some do
+--   Slots     a server's list of sessions
+--   Serve     each slot is served once: events of the file net
+--   Turn      a server's turn: law_server_turns
+--   Client    a client's turn
+--   Systems   both, and the datagrams between them: law_file_systems
+--   Saying    what a user says and hears: in events, in a call and in a step of its engine
+--   Idle      a client that is idle is ready for a copy, and idle again behind it
+--   Worlds    moves of an engine and a server: law_world
+--   Begun     a new engine and a new server: law_world
+--   Asking    an engine that closes its connection, or asks for one: law_world
+--   Opened    a connection that the host shows open: law_world
+--   Computed  a turn of the server, computed
+--   Compared  hosts, compared part by part
+--   TwoClients  two clients, by computation: law_two_clients
+--   Overs     a get and a put over a call
+pub mod Serving
+pub mod Phases
+pub mod Server
+pub mod Programs
+pub mod Turning
+pub mod Led
+pub mod Steady
+pub mod Slots
+pub mod Serve
+pub mod Turn
+pub mod Client
+pub mod Systems
+pub mod Saying
+pub mod Idle
+pub mod Worlds
+pub mod Begun
+pub mod Asking
+pub mod Opened
+pub mod Computed
+pub mod Compared
+pub mod TwoClients
+pub mod Overs
