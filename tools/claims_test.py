@@ -5,6 +5,7 @@ import io
 import pathlib
 import tempfile
 
+from reading import HEAD, Laws, reading, with_figures
 from rows import AGAIN, ON, PAGE, SECTION, SUMS, UNNAMED, Tables, accept, on, problems_of, run, show
 
 SOURCE = """//! A `pub fn in_a_comment() ensures wrong { }`.
@@ -290,6 +291,48 @@ FRONT = [
     ("| Promise | Call | Clause |\n|---|---|---|\n| a | [`read`](crates/demo/CALLING.md) | all |", f"no clauses: all; write `name`, `name`, or {UNNAMED}"),
 ]
 
+# what to read for some calls, as it was said, and as it should be
+READ = """
+| Law | Read | Definitions | Lines |
+|---|---|---|---|
+| [`both`](../crates/demo/CALLING.md) | | | |
+| [`Queue::take`](../crates/demo/CALLING.md) | long ago | 9 of 9 | 9 of 9 |
+| [`above`](../crates/demo/CALLING.md) | | | |
+| [`whole`](../crates/demo/CALLING.md) | | | |
+| [`both`](../crates/demo/CALLING.md) | | | |
+| [`gone`](../crates/demo/CALLING.md) | a | b | c |
+| [`both`](../crates/gone/CALLING.md) | a | b | c |
+
+## Behind it
+
+| [`both`](../crates/demo/CALLING.md) | |
+"""
+TO_READ = """
+| Law | Read | Definitions | Lines |
+|---|---|---|---|
+| [`both`](../crates/demo/CALLING.md) | demo: src, Limits, Words | 3 of 3 | 5 of 5 |
+| [`Queue::take`](../crates/demo/CALLING.md) | demo: src, Limits, Words | 3 of 3 | 5 of 5 |
+| [`above`](../crates/demo/CALLING.md) | demo: Above | 1 of 4 | 2 of 7 |
+| [`whole`](../crates/demo/CALLING.md) | demo: Limits | 1 of 1 | 3 of 3 |
+| [`both`](../crates/demo/CALLING.md) | nothing more | 0 of 3 | 0 of 5 |
+| [`gone`](../crates/demo/CALLING.md) | a | b | c |
+| [`both`](../crates/gone/CALLING.md) | a | b | c |
+
+## Behind it
+
+| [`both`](../crates/demo/CALLING.md) | |
+"""
+READ_SAID = """both of demo: 3 definitions, 5 lines; of them new here 3, 5
+    1     1  crates/demo/src/hidden.rt
+    1     2  crates/demo/specs/Limits.antt
+    1     2  crates/demo/specs/Words.antt
+above of demo: 4 definitions, 7 lines; of them new here 1, 2
+    1     2  crates/demo/specs/Above.antt
+whole of demo: 1 definitions, 3 lines; of them new here 1, 3
+    1     3  crates/demo/specs/Limits.antt
+there is no public call gone
+"""
+
 
 class Checks:
     """Counts checks and says each."""
@@ -391,6 +434,25 @@ def check_list(checks):
         checks.same("the list of crates is written anew", (ended, file.read_text()), (0, SAID))
 
 
+def check_reading(checks, top):
+    """What is to be read for a call is each definition below it that no call before it rests on, a file behind those that it cites."""
+    (top / "crates/demo/specs/Above.antt").write_text("use Rattle.demo.specs.Words.{few}\n\nabbrev pub Few : Type 0\nFew = few 1\n")
+    with (top / "crates/demo/src/lib.rt").open("a") as source:
+        source.write("ghost use Rattle.demo.specs.Above.{Few};\npub fn above() ensures { Few } {}\n")
+    seen = with_figures(Tables(top), f"a\n\n{HEAD}{READ}")
+    checks.same("what to read is written anew", seen, f"a\n\n{HEAD}{TO_READ}")
+    with contextlib.redirect_stdout(io.StringIO()) as said:
+        ended = reading(Tables(top), ["both", "above", "whole", "gone"])
+    checks.same("and said by files", (ended, said.getvalue()), (1, READ_SAID))
+    order = Laws(Tables(top)).next("demo", "above").names()
+    checks.same("a file stands behind those that it cites", order, "demo: src, Limits, Words, Above")
+    (top / "docs/PROVED.md").write_text(f"{SAID}\n{HEAD}{READ}")
+    seen = [problem for _, _, problem in Tables(top).unlisted()]
+    checks.same("an old table of what to read is refused", seen, ["the table of what to read is an old one: tools/claims --accept"])
+    (top / "docs/PROVED.md").write_text(f"{SAID}\n{HEAD}{TO_READ}")
+    checks.same("and one that is right is passed", [*Tables(top).unlisted()], [])
+
+
 def check_front(checks, top):
     """Each wrong line of README.md is refused for what is wrong with it."""
     (top / "Makefile").write_text("all: it\n")
@@ -408,6 +470,7 @@ def self_test():
         check_lines(checks, top, page)
         check_calls(checks, top, page)
         check_front(checks, top)
+        check_reading(checks, top)
     check_changes(checks, CHANGES + DEFINED)
     check_list(checks)
     print(f"{checks.all} checks of tools/claims, {checks.failed} failed")

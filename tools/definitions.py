@@ -22,10 +22,11 @@ def sum_of(words):
 
 
 class Definition:
-    """A definition: where it stands, its words, and the definitions that it cites."""
+    """A definition: where it stands, its words, how many lines they take, and the definitions that it cites."""
 
     def __init__(self, place, text, cites):
         self.place, self.words, self.cites = place, text.split(), cites
+        self.lines = sum(bool(line.strip()) and not WITHIN.match(line) for line in text.split("\n"))
 
     def sum(self):
         return sum_of(self.words)

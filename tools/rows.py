@@ -7,6 +7,7 @@ import re
 import textwrap
 from collections import Counter
 
+import reading
 from definitions import Definitions, sum_of
 from sources import Sources
 
@@ -238,26 +239,34 @@ class Tables:
         """The rows whose clauses rest on one of these definitions."""
         return [row for row in self.all_rows() if not keys.isdisjoint(self.read.below(row.cites(self.sources, self.read)))]
 
-    def listed(self):
-        """The list of crates that a document has, and that it should have: those with rows, with the first words of their pages."""
-        name, heading = LIST
-        text = (self.top / name).read_text() if (self.top / name).is_file() else ""
-        before, found, after = text.partition(heading)
+    def proved(self):
+        """The document that has the list of crates, and what to read for which law."""
+        file = self.top / LIST[0]
+        return file.read_text() if file.is_file() else ""
+
+    def listed(self, text):
+        """That document, with the list as it should be: the crates with rows, with the first words of their pages."""
+        before, found, after = text.partition(LIST[1])
         told = {row.crate for row in self.rows}
         lines = [f"- [{crate}](../crates/{crate}/{PAGE}): {first_words(self.page_of(crate))}\n" for crate in self.known if crate in told]
         end = after.find("\n## ")
         rest = after[end:] if end >= 0 else ""
-        return text, f"{before}{found}{''.join(lines)}{rest}" if found else text
+        return f"{before}{found}{''.join(lines)}{rest}" if found else text
 
     def unlisted(self):
-        """Whether that list is another than it should be."""
-        has, should = self.listed()
-        if has != should:
-            yield self.top / LIST[0], has[: has.find(LIST[1])].count("\n") + 1, "the list of crates is an old one: tools/claims --accept"
+        """Whether the list, or what is to be read, is another than it should be."""
+        has = self.proved()
+        for should, heading, what in (
+            (self.listed(has), LIST[1], "the list of crates"),
+            (reading.with_figures(self, has), reading.HEAD, "the table of what to read"),
+        ):
+            if should != has:
+                yield self.top / LIST[0], has[: has.find(heading)].count("\n") + 1, f"{what} is an old one: tools/claims --accept"
 
     def note(self):
-        """Writes the sums of clauses and of definitions, and the list of crates, and gives how many of the first two there are."""
-        has, should = self.listed()
+        """Writes the sums of clauses and of definitions, the list of crates and what to read, and gives how many of the first two there are."""
+        has = self.proved()
+        should = reading.with_figures(self, self.listed(has))
         if has != should:
             (self.top / LIST[0]).write_text(should)
         lines = sorted(" ".join((*key, value)) + "\n" for key, value in self.sums().items())
