@@ -4,7 +4,7 @@ use Rattle.std.specs.Prelude.{⊤, Err, slice_index_or}
 use Rattle.chaos_packet.specs.Opcode.{op_data}
 use Rattle.chaos_packet.specs.Packet.{PacketView}
 use Rattle.chaos_conn.specs.Act.Call.{Accept, Write, Read}
-use Rattle.chaos_conn.specs.Config.{IsConfig, usual_config}
+use Rattle.chaos_conn.specs.Config.{usual_config}
 use Rattle.chaos_file.specs.declared.error.FileError.{FileError}
 use Rattle.chaos_file.specs.declared.error.FileError.TheVariants as e
 use Rattle.chaos_file.specs.Answer.{reply_to}
@@ -21,6 +21,7 @@ use Rattle.chaos_link.specs.declared.carriage.Carriage.TheVariants.{One}
 use Rattle.chaos_link.specs.Loads.{packets_of}
 use Rattle.chaos_net.specs.Net.{Name, Story, IsNew, IsOwn, index_of}
 use Rattle.chaos_net.specs.Net.NetEvent.{At, Arrives}
+use Rattle.chaos_net.proofs.Hello.{usual}
 use Rattle.chaos_serve.specs.Work.{Command}
 use Rattle.chaos_system.specs.Made.{packets_sent}
 use Rattle.chaos_system.specs.System.{IsFreshStep, IsNewSeat, Seat, Step, Steps, System, Turn, Calls, handed}
@@ -63,6 +64,10 @@ error_begins e.FileExists = refl
 error_begins e.StoreFault = refl
 error_begins e.NoMemory = refl
 
+-- the first byte of the echo, behind the transaction id, is the L of LOGIN
+is_no_error : (error : FileError) → 76 ≡ slice_index_or (error_text error) 0 0 → ⊥
+is_no_error error is = let one : 76 ≡ 69 = is ∙ error_begins error in omega (arith, one)
+
 -- by a new session
 abbrev IsDone : Files → List ℕ → Type 0
 IsDone m command = IsToldWork m new_session (Command command)
@@ -75,9 +80,7 @@ ann_done m = record {
   where
     kept : (error : FileError) → codes "1  LOGIN ANN" ≡ reply_to (parse_of (codes "1  LOGIN ANN")) (Err error)
         → with_name new_session (codes "ANN") ≡ new_session
-    kept error is =
-        let one : 76 ≡ 69 = ap (λ (bs : List ℕ). slice_index_or bs 3 0) is ∙ error_begins error in
-        absurd (omega (arith, one))
+    kept error is = absurd (is_no_error error (ap (λ (bs : List ℕ). slice_index_or bs 3 0) is))
 
 bob_done : (m : Files) → IsDone m (codes "1  LOGIN BOB")
 bob_done m = record {
@@ -87,9 +90,7 @@ bob_done m = record {
   where
     kept : (error : FileError) → codes "1  LOGIN BOB" ≡ reply_to (parse_of (codes "1  LOGIN BOB")) (Err error)
         → with_name new_session (codes "BOB") ≡ new_session
-    kept error is =
-        let one : 76 ≡ 69 = ap (λ (bs : List ℕ). slice_index_or bs 3 0) is ∙ error_begins error in
-        absurd (omega (arith, one))
+    kept error is = absurd (is_no_error error (ap (λ (bs : List ℕ). slice_index_or bs 3 0) is))
 
 -- ---- both programs, and what a step makes of them
 
@@ -372,17 +373,6 @@ runs =
 
 abbrev last_net : Files → FileNet
 last_net m = after_file_events (new_file_net two_hosts m) (one_by_one runs)
-
-usual : IsConfig usual_config
-usual = record {
-  some_send = omega arith;
-  send_fits = omega arith;
-  some_recv = omega arith;
-  recv_fits = omega arith;
-  some_retransmit = omega arith;
-  some_probe = omega arith;
-  some_down = omega arith;
-}
 
 new_a : IsNew (two_hosts A)
 new_a = record { address = 257; conns = 2; config = usual_config; right = refl; sound = usual; is = refl }
