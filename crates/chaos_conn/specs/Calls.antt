@@ -1,7 +1,7 @@
 -- The user's calls on a connection: writing, reading and closing.
-use Rattle.std.specs.Prelude.{ℕ, ◌+◌, ◌*◌, Bool, ◌&&◌, ◌==◌, nat_lt, nat_le, if◌then◌else◌, List, [], ◌∷◌, length, Option, Some, None, Result, Ok, Err}
+use Rattle.std.specs.Prelude.{ℕ, ◌+◌, ◌*◌, Bool, ◌&&◌, ◌==◌, nat_lt, nat_le, if◌then◌else◌, List, [], ◌∷◌, length, Option, Some, None, Result, Ok, Err, false, slice_get}
 use Rattle.chaos_packet.specs.Item.{ItemView}
-use Rattle.chaos_packet.specs.Opcode.{op_cls, op_unc, kind_of}
+use Rattle.chaos_packet.specs.Opcode.{op_cls, op_opn, op_unc, kind_of}
 use Rattle.chaos_packet.specs.Packet.{PacketView}
 use Rattle.chaos_packet.specs.declared.limits.TheConstants.{MAX_DATA}
 use Rattle.chaos_packet.specs.declared.opcode.Kind.{Kind}
@@ -131,6 +131,15 @@ can_write v = has_window v.send && is_open v.state
 -- the peer's user read all that was sent, as far as is known
 abbrev pub is_drained : ConnView → Bool
 is_drained v = outstanding_of v.send == 0
+
+-- an OPN
+abbrev pub is_opn_item : Option ItemView → Bool
+is_opn_item None = false
+is_opn_item (Some item) = item.op == op_opn
+
+-- the OPN, which is item 0, is still kept: the peer has receipted and acknowledged nothing that this end sent
+abbrev pub keeps_opn : ConnView → Bool
+keeps_opn v = is_opn_item (slice_get v.send.kept 0)
 
 -- the peer's address, and its index where that is known; an inactive end has no peer
 abbrev pub peer_of : ConnView → Option (ℕ × Option ℕ)

@@ -22,7 +22,7 @@ use std::marker::Model;
 /// - Packets from the network: [`Conn::deliver`].
 /// - The tick: [`Conn::tick`], called now and then, sends what is due; [`Conn::next_due`] says when something is.
 /// - Looks, which change nothing: [`Conn::state`], [`Conn::config`], [`Conn::peer`], [`Conn::heard`], [`Conn::asked`],
-///   [`Conn::announced`], [`Conn::can_write`], [`Conn::drained`] and [`Conn::stored`].
+///   [`Conn::announced`], [`Conn::can_write`], [`Conn::drained`], [`Conn::keeps_opn`] and [`Conn::stored`].
 ///
 /// The order: `new`; then `request`, or `take_request` and a reply; then packets, ticks, writes and reads as they come;
 /// then `close`. A call in the wrong state is refused, and changes nothing.

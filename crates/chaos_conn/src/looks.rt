@@ -2,12 +2,12 @@
 ghost use Rattle.std.specs.Prelude.{◌≡◌, ◌≤◌, length};
 ghost use Rattle.std.specs.Option.{option_copied};
 ghost use Rattle.chaos_conn.specs.View.{IsConn};
-ghost use Rattle.chaos_conn.specs.Calls.{can_write, front_of, has_window, is_drained, peer_of};
+ghost use Rattle.chaos_conn.specs.Calls.{can_write, front_of, has_window, is_drained, keeps_opn, peer_of};
 
 use crate::config::ConnConfig;
 use crate::conn::Conn;
 use crate::state::State;
-use chaos_packet::Item;
+use chaos_packet::{Item, Opcode};
 
 impl Conn {
     /// The state.
@@ -81,6 +81,17 @@ impl Conn {
         ensures { result ≡ is_drained self.now }
     {
         self.send.outstanding() == 0
+    }
+
+    /// Whether the OPN by which this end accepted a request is still kept: the peer has receipted and acknowledged nothing that
+    /// this end sent. So it is with a peer that never asked, whose address a forger wrote into a request.
+    pub fn keeps_opn(&self) -> bool
+        ensures { result ≡ keeps_opn self.now }
+    {
+        match self.send.kept(0) {
+            Some(item) => item.op == Opcode::OPN,
+            None => false,
+        }
     }
 
     /// Lends the next item, where it is held.

@@ -6,6 +6,7 @@ ghost use Rattle.chaos_file.specs.Store.{Gives, failures_after_get, failures_aft
 
 mod answers;
 mod folder;
+mod held;
 
 use crate::names::is_path;
 use crate::store::{Got, Removed, Renamed, Store, Stored};
@@ -32,6 +33,11 @@ use std::rt::Files;
 ///
 /// A folder has one store at a time: its store holds the system's lock on the folder, and a second one isn't opened. The lock
 /// keeps other stores out and no other program.
+///
+/// The store holds the folder that it opened, whatever comes to have the folder's name. Each call asks first whether the name still
+/// leads to that folder, and fails where it doesn't: the folder was renamed or removed, a disk was mounted over it, or its disk was
+/// unmounted. Once the name leads there again, the calls go on. What a call does, it does in the folder that is held; where the system
+/// has no `/proc/self/fd`, it does so by the folder's name, right after that question.
 ///
 /// A `put` waits for two flushes, which is what it costs: some milliseconds each, as the disk is. The other calls flush
 /// nothing, so that a loss of power may undo a `remove` or a `rename`. Each call takes memory for the joined paths, and `get`

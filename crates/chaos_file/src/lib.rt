@@ -19,6 +19,7 @@ mod limits;
 mod mem_store;
 mod names;
 mod parse;
+mod printed;
 mod session;
 mod store;
 mod want;
@@ -37,6 +38,7 @@ pub use limits::{
 };
 pub use mem_store::MemStore;
 pub use parse::parse_command;
+pub use printed::PrintedName;
 pub use session::Session;
 pub use store::{Got, Removed, Renamed, Store, Stored};
 pub use want::is_want;

@@ -7,8 +7,6 @@ use Rattle.chaos_link.specs.declared.link.Sent.TheVariants as sending
 use Rattle.chaos_link.specs.declared.link.Received.{Received}
 use Rattle.chaos_link.specs.declared.link.Received.TheVariants as receiving
 use Rattle.chaos_link.specs.declared.peers.Peer.{Peer}
-use Rattle.std.specs.declared.io.ErrorKind.{ErrorKind}
-use Rattle.std.specs.declared.io.ErrorKind.TheVariants as kind
 use Rattle.chaos_link.specs.declared.limits.TheConstants.{MAX_WAIT}
 use Rattle.chaos_link.specs.Link.{Ask, Send, Receive}
 use Rattle.chaos_link.specs.Peers.{socket_of}
@@ -33,27 +31,6 @@ abbrev pub datagrams_in : List SocketAsk → List Outgoing
 datagrams_in [] = []
 datagrams_in (SendTo datagram ∷ asks) = datagram ∷ datagrams_in asks
 datagrams_in (_ ∷ asks) = datagrams_in asks
-
--- ---- What the system says of a call
-
--- Nothing came or went: there was nothing or no room yet, a signal came, or a socket that was sent to before is gone.
-abbrev pub means_nothing : ErrorKind → Bool
-means_nothing kind.WouldBlock = true
-means_nothing kind.TimedOut = true
-means_nothing kind.Interrupted = true
-means_nothing kind.ConnectionRefused = true
-means_nothing _ = false
-
--- The datagram is lost: its address can't be reached or isn't allowed, there was no room for it, or nothing went.
-abbrev pub means_loss : ErrorKind → Bool
-means_loss kind.HostUnreachable = true
-means_loss kind.NetworkUnreachable = true
-means_loss kind.NetworkDown = true
-means_loss kind.AddrNotAvailable = true
-means_loss kind.PermissionDenied = true
-means_loss kind.InvalidInput = true
-means_loss kind.OutOfMemory = true
-means_loss other = means_nothing other
 
 -- ---- The link
 

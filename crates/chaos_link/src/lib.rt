@@ -11,6 +11,7 @@ mod datagram;
 mod encode;
 mod fault;
 mod fuse;
+mod gone;
 mod limits;
 mod link;
 mod loads;
@@ -28,6 +29,7 @@ pub use datagram::{from_datagram, law_carries};
 pub use encode::{to_datagram, write_datagram};
 pub use fault::{LinkFault, PeerFault};
 pub use fuse::FuseLink;
+pub use gone::is_gone;
 pub use limits::{
     LINK_ROOM, MARK_BYTES, MAX_BUNDLE, MAX_DATAGRAM, MAX_PACKETS, MAX_PEERS, MAX_WAIT, law_limits,
 };

@@ -1,6 +1,8 @@
 //! What a link asks of a socket.
-ghost use Rattle.std.specs.Prelude.{◌≤◌, [], ◌∷◌, List, IfOk};
+ghost use Rattle.std.specs.Prelude.{◌≤◌, [], ◌∷◌, List, Option, IfOk};
 ghost use Rattle.std.specs.Duration.{as_nanos};
+ghost use Rattle.std.specs.declared.io.Error.{Error};
+ghost use Rattle.chaos_link.specs.Gone.{error_of};
 ghost use Rattle.chaos_link.specs.Link.{AnyAsks, Asks};
 ghost use Rattle.chaos_link.specs.Udp.{SocketAsk, SendTo, ReceiveOne, WaitAtMost, Wait};
 
@@ -20,12 +22,17 @@ pub trait DatagramSocket {
     /// Nothing was asked since the present state.
     ghost began: { (socket : Self) → asked socket socket [] };
 
+    /// What the socket may have answered to its last call: an error, or none. A socket that claims nothing, as the system's, allows
+    /// any.
+    ghost answered: { Self → Option Error → Type 0 } = { λ _ _. Unit {0} };
+
     /// Sends a datagram to this UDP address.
     ///
     /// # Errors
     /// The socket's. It was asked all the same.
     fn send_datagram(&mut self, bytes: &[u8], to: SocketAddrV4) -> io::Result<()>
-        ensures { Asks (asked self.old) (asked self.new) (SendTo (record { to = to; bytes = bytes.now }) ∷ []) };
+        ensures asked { Asks (asked self.old) (asked self.new) (SendTo (record { to = to; bytes = bytes.now }) ∷ []) }
+        ensures answered { answered self.new (error_of result) };
 
     /// Receives a datagram into the front of the buffer, and says how many bytes it has there.
     ///
@@ -33,21 +40,24 @@ pub trait DatagramSocket {
     /// The socket's, also where nothing came.
     fn receive_datagram(&mut self, buffer: &mut [u8; LINK_ROOM]) -> io::Result<usize>
         ensures within { IfOk result (λ count. count ≤ LINK_ROOM) }
-        ensures asked { Asks (asked self.old) (asked self.new) (ReceiveOne ∷ []) };
+        ensures asked { Asks (asked self.old) (asked self.new) (ReceiveOne ∷ []) }
+        ensures answered { answered self.new (error_of result) };
 
     /// How long a send or a receive waits at most, where they wait.
     ///
     /// # Errors
     /// The socket's.
     fn set_wait(&mut self, wait: Duration) -> io::Result<()>
-        ensures { Asks (asked self.old) (asked self.new) (WaitAtMost (as_nanos wait) ∷ []) };
+        ensures asked { Asks (asked self.old) (asked self.new) (WaitAtMost (as_nanos wait) ∷ []) }
+        ensures answered { answered self.new (error_of result) };
 
     /// Whether they wait.
     ///
     /// # Errors
     /// The socket's.
     fn set_waits(&mut self, waits: bool) -> io::Result<()>
-        ensures { Asks (asked self.old) (asked self.new) (Wait waits ∷ []) };
+        ensures asked { Asks (asked self.old) (asked self.new) (Wait waits ∷ []) }
+        ensures answered { answered self.new (error_of result) };
 }
 
 impl DatagramSocket for UdpSocket {

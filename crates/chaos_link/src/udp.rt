@@ -1,17 +1,18 @@
 //! A link over a UDP socket.
-ghost use Rattle.std.specs.Prelude.{◌≡◌, ◌≢◌, ◌↔◌, ◌≤◌, ◌++◌, ◌∷◌, [], List, length, map, Some, None, IfErr, OnOk, OnErr, false, refl};
-ghost use Rattle.std.specs.IoError.{error_kind};
+ghost use Rattle.std.specs.Prelude.{◌≡◌, ◌≢◌, ◌↔◌, ◌≤◌, ◌++◌, ◌∷◌, [], List, length, map, Option, Some, None, OnOk, OnErr, refl};
+ghost use Rattle.std.specs.declared.io.Error.{Error};
 ghost use Rattle.chaos_packet.specs.Count.{Rose, with_failure};
+ghost use Rattle.chaos_link.specs.Gone.{HearsAfter, sent_after};
 ghost use Rattle.chaos_link.specs.Link.{Asks, IsWithin, Receive, Send};
 ghost use Rattle.chaos_link.specs.Peers.{socket_of};
-ghost use Rattle.chaos_link.specs.Udp.{AsksSocket, ReceiveOne, SendTo, SocketAsk, after_send, datagrams_in, failures_after, means_loss, means_nothing, outgoing_to, setting};
+ghost use Rattle.chaos_link.specs.Udp.{AsksSocket, ReceiveOne, SendTo, SocketAsk, after_send, datagrams_in, failures_after, outgoing_to, setting};
 
+use crate::gone::is_gone;
 use crate::limits::{LINK_ROOM, MAX_WAIT};
 use crate::link::{Link, Received, Sent};
 use crate::peers::Peers;
 use crate::socket::DatagramSocket;
 use std::io;
-use std::io::ErrorKind;
 use std::marker::Model;
 use std::net::{SocketAddrV4, UdpSocket};
 use std::time::Duration;
@@ -23,9 +24,11 @@ use std::time::Duration;
 /// A receive that may wait does so for at most 10 milliseconds (the system may round that up), where no datagram is there;
 /// any other polls. To change from one to the other is a call of the system, so who always waits, or never, makes none.
 ///
-/// The socket is to be bound and not connected. A datagram is lost, and no failure, where the system has no room to send
-/// it, can't reach its address or doesn't allow it, or tells that a socket is gone: a network may lose any, and one peer
-/// that can't be reached stops nobody's service of the others. What fails is the socket itself.
+/// The socket is to be bound and not connected. A datagram that the system doesn't send is lost, and no failure: the system may have
+/// no room for it, find it too long, not reach its address, not allow it, or report a fault of an earlier datagram. A datagram that
+/// the system can't hand over is lost likewise. A network may lose any datagram, and one peer that can't be reached stops nobody's
+/// service of the others. A link fails where its socket is gone ([`is_gone`](crate::is_gone)), or where the socket can't be set to
+/// wait or to poll: receives of such a socket would never end, or take all of a processor's time.
 #[derive(Drop)]
 pub struct UdpLink<S = UdpSocket> {
     socket: S,
@@ -80,17 +83,17 @@ impl<S: DatagramSocket> Link for UdpLink<S> {
         ensures asked { Asks (AsksSocket S.asked self.old) (AsksSocket S.asked self.new) (Send (record { to = to_address; bytes = bytes.now }) ∷ []) }
         // A failure is counted; nothing else changes.
         ensures link { self.new ≡ after_send result self.new.socket self.old }
+        // A send to a peer fails exactly where the socket's answer says that the socket is gone; after any other answer it was sent.
+        ensures answered { result ≢ Sent.Unknown → (error : Option Error) × S.answered self.new.socket error × (result ≡ sent_after error) }
     {
         let Some(peer) = self.peers.find(to_address) else {
             return Sent::Unknown;
         };
-        match send_to(&mut self.socket, bytes, peer) {
-            Ok(()) => Sent::Sent,
-            Err(_) => {
-                count_failure(&mut self.failures);
-                Sent::Failed
-            }
+        let sent = send_to(&mut self.socket, bytes, peer);
+        if sent == Sent::Failed {
+            count_failure(&mut self.failures);
         }
+        sent
     }
 
     /// Receives a datagram, from whomever it comes. One of more than 2,048 bytes is cut to its first 2,048, which are too
@@ -107,6 +110,9 @@ impl<S: DatagramSocket> Link for UdpLink<S> {
         // The receive waits exactly if it may: the socket is set so, if it was set otherwise, and then asked for one datagram.
         ensures waits { result ≢ Received.Failed → self.new.waits ≡ Some may_wait }
         ensures socket { result ≢ Received.Failed → Asks (S.asked self.old.socket) (S.asked self.new.socket) (setting self.old.waits may_wait ++ ReceiveOne ∷ []) }
+        // A socket that is set so was asked for a datagram: the receive fails exactly where the answer says that the socket is gone, and
+        // nothing came after any other error. A receive whose socket can't be set so fails.
+        ensures answered { self.new.waits ≡ Some may_wait → (error : Option Error) × S.answered self.new.socket error × HearsAfter error result }
     {
         let received = match set_wait(&mut self.socket, &mut self.waits, may_wait) {
             Ok(()) => receive_from(&mut self.socket, buffer),
@@ -130,60 +136,28 @@ fn count_failure(failures: &mut u64)
     *failures = failures.saturating_add(1);
 }
 
-/// Sends a datagram, which may be lost at once.
-fn send_to<S: DatagramSocket>(socket: &mut S, bytes: &[u8], peer: SocketAddrV4) -> io::Result<()>
+/// Sends a datagram, which is lost where the system doesn't send it.
+fn send_to<S: DatagramSocket>(socket: &mut S, bytes: &[u8], peer: SocketAddrV4) -> Sent
     ensures asked { Asks (S.asked socket.old) (S.asked socket.new) (SendTo (record { to = peer; bytes = bytes.now }) ∷ []) }
-    // A fault is more than the loss of the datagram.
-    ensures fault { IfErr result (λ fault. means_loss (error_kind fault) ≡ false) }
+    ensures answered { (error : Option Error) × S.answered socket.new error × (result ≡ sent_after error) }
 {
     match socket.send_datagram(bytes, peer) {
-        Ok(()) => Ok(()),
-        Err(e) if is_loss(e.kind()) => Ok(()),
-        Err(e) => Err(e),
+        Ok(()) => Sent::Sent,
+        Err(e) if is_gone(&e) => Sent::Failed,
+        Err(_) => Sent::Sent,
     }
 }
 
-/// Whether the system says of a send no more than that its datagram is lost: it can't reach the address or doesn't allow it,
-/// it had no room, or what [`is_nothing`] says. An address that can't be reached from where the socket is bound, as another
-/// network from a socket of this machine alone, is told as an argument that isn't valid, and so is port 0.
-fn is_loss(kind: ErrorKind) -> bool
-    ensures { result ≡ means_loss kind }
-{
-    match kind {
-        ErrorKind::HostUnreachable
-        | ErrorKind::NetworkUnreachable
-        | ErrorKind::NetworkDown
-        | ErrorKind::AddrNotAvailable
-        | ErrorKind::PermissionDenied
-        | ErrorKind::InvalidInput
-        | ErrorKind::OutOfMemory => true,
-        _ => is_nothing(kind),
-    }
-}
-
-/// Receives a datagram, or nothing where none came in time.
+/// Receives a datagram, or nothing where none came in time or the system couldn't hand it over.
 fn receive_from<S: DatagramSocket>(socket: &mut S, buffer: &mut [u8; LINK_ROOM]) -> Received
     ensures within { IsWithin LINK_ROOM result }
     ensures asked { Asks (S.asked socket.old) (S.asked socket.new) (ReceiveOne ∷ []) }
+    ensures answered { (error : Option Error) × S.answered socket.new error × HearsAfter error result }
 {
     match socket.receive_datagram(buffer) {
         Ok(count) => Received::Got(count),
-        Err(e) if is_nothing(e.kind()) => Received::Nothing,
-        Err(_) => Received::Failed,
-    }
-}
-
-/// Whether the system says no more than that nothing came or went: it had nothing or no room yet, a signal came, or a
-/// socket that was sent to before is gone.
-fn is_nothing(kind: ErrorKind) -> bool
-    ensures { result ≡ means_nothing kind }
-{
-    match kind {
-        ErrorKind::WouldBlock
-        | ErrorKind::TimedOut
-        | ErrorKind::Interrupted
-        | ErrorKind::ConnectionRefused => true,
-        _ => false,
+        Err(e) if is_gone(&e) => Received::Failed,
+        Err(_) => Received::Nothing,
     }
 }
 
@@ -195,6 +169,8 @@ fn set_wait<S: DatagramSocket>(
 ) -> io::Result<()>
     ensures ok { OnOk result (set.new ≡ Some waits) }
     ensures err { OnErr result (set.new ≡ set.old) }
+    // A socket that is set so already is asked nothing, and so doesn't fail.
+    ensures other { OnErr result (set.old ≢ Some waits) }
     ensures asked { OnOk result (Asks (S.asked socket.old) (S.asked socket.new) (setting set.old waits)) }
     // After a fault the socket may have been asked only a part of that; it was asked to send nothing.
     ensures nothing { (asks : List SocketAsk) × (datagrams_in asks ≡ []) × Asks (S.asked socket.old) (S.asked socket.new) asks }

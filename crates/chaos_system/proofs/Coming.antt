@@ -1,18 +1,21 @@
 -- Packets that come, and phases over packets and slots.
-use Rattle.std.proofs.Common.{◌≡◌, ℕ, zero, suc, List, [], ◌∷◌, Some, sym, subst}
+use Rattle.std.proofs.Common.{◌≡◌, ℕ, zero, suc, List, [], ◌∷◌, Some, sym, ◌∙◌, subst, append-nil}
 use Rattle.std.specs.Prelude.{slice_get}
 use Rattle.chaos_packet.specs.Packet.{PacketView}
 use Rattle.chaos_host.specs.View.{HostView}
 use Rattle.chaos_host.specs.Deeds.HostEvent.{Ticks}
+use Rattle.chaos_host.specs.Tick.{host_tick}
 use Rattle.chaos_lab.specs.declared.side.Side.{Side}
 use Rattle.chaos_lab.specs.Machine.{other}
 use Rattle.chaos_net.specs.Net.{Sent, Net, CanHappen, after_events, happens}
 use Rattle.chaos_net.specs.Net.NetEvent.{At, Arrives}
+use Rattle.chaos_turn.specs.Link.{singly}
 use Rattle.chaos_turn.specs.Phase.{Effect, over_packets, over_slots}
 use Rattle.chaos_turn.specs.Slots.{tick_at}
 use Rattle.chaos_system.specs.Come.{Upon, AreFresh, AreSent, coming}
 use Rattle.chaos_system.specs.Made.{IsMade, Makes}
-use Rattle.chaos_system.proofs.Made.{both_made, none_made, own_made, then_made}
+use Rattle.chaos_turn.proofs.Queue.{packets_of_each}
+use Rattle.chaos_system.proofs.Made.{both_made, effect_at, made_in, none_made, own_made, then_made}
 
 -- What a phase makes of each packet that comes is a run.
 abbrev pub MadeOfEach : Upon → (PacketView → HostView → Effect) → Side → ℕ → Type 0
@@ -45,7 +48,14 @@ module _ (x : Side) (phase : ℕ → HostView → Effect) (each : (place : ℕ) 
     slots_made (suc size) n =
         then_made n x (over_slots phase size (n x).host) (phase size) (slots_made size n) (λ m still. each size m)
 
+-- a tick, which sends each packet alone
+pub tick_made : (x : Side) (now place : ℕ) (n : Net)
+    → IsMade n (happens n (At x (Ticks place now))) x (tick_at now place (n x).host)
+tick_made x now place n =
+    let packets = (host_tick (n x).host place now).packets in
+    made_in n (happens n (At x (Ticks place now))) x (effect_at (n x).host (Ticks place now)) (singly packets)
+    (packets_of_each packets ∙ sym (append-nil packets)) (own_made n x (Ticks place now) tt)
+
 pub ticks_made : (x : Side) (now size : ℕ) (n : Net) → Makes n x (over_slots (tick_at now) size (n x).host)
 ticks_made x now size n =
-    slots_made x (tick_at now)
-    (λ place m. (happens m (At x (Ticks place now)), own_made m x (Ticks place now) tt)) size n
+    slots_made x (tick_at now) (λ place m. (happens m (At x (Ticks place now)), tick_made x now place m)) size n

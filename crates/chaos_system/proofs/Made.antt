@@ -54,6 +54,17 @@ then_made n x first next one two =
     subst (λ h. IsMade m last.0 x (next h)) one.1.host last.1 in
     (last.0, both_made n m last.0 x first (next first.host) one.1 there)
 
+-- the same packets in other lots
+pub made_in : (n m : Net) (x : Side) (e : Effect) (lots : List (List PacketView)) → packets_of lots ≡ packets_of e.lots → IsMade n m x e
+    → IsMade n m x (record { host = e.host; lots = lots })
+made_in n m x e lots same made = record {
+  events = made.events;
+  run = made.run;
+  host = made.host;
+  sent = made.sent ∙ ap (λ (ps : List PacketView). packets_sent (n x) ++ ps) (sym same);
+  far = made.far;
+}
+
 -- ---- one event
 
 sent_packets : (by : Option Name) (lengths : Side → Name → ℕ) (ps : List PacketView)

@@ -9,7 +9,7 @@ use Rattle.chaos_link.specs.declared.carriage.Carriage.TheVariants.{One, Two}
 use Rattle.chaos_link.specs.Datagram.{datagram_of}
 use Rattle.chaos_link.specs.Link.{Addressed, Ask, AskedSince, Asks, QueueView, Receive, Send, SendsInto, to_send, with_datagram}
 use Rattle.chaos_link.specs.declared.link.Sent.{Sent}
-use Rattle.chaos_turn.specs.Link.{Sends, SendsLots, datagram_for, datagrams_of, has_packets, read_all, sent_by, sent_into, turn_asks}
+use Rattle.chaos_turn.specs.Link.{Sends, SendsLots, datagram_for, datagrams_of, has_packets, read_all, sent_by, sent_into, singly, turn_asks}
 use Rattle.chaos_link.specs.Loads.{packets_of}
 use Rattle.chaos_link.proofs.Asked.{asks_both, asks_none}
 use Rattle.chaos_turn.proofs.Readback.{both_read}
@@ -186,18 +186,40 @@ takes_after before mid after xs ys first others = record {
   asks = asks_after before.asked mid.asked after.asked xs ys first.asks others.asks;
 }
 
+-- ---- packets of which each goes in a datagram of its own
+
+-- by carriage 1 packets go so in any case
+pub each_by_one : (ps : List PacketView) → sent_by One (singly ps) ≡ datagrams_of One ps
+each_by_one [] = refl
+each_by_one (p ∷ ps) = ap (λ (ds : List Addressed). datagram_for p ∷ ds) (each_by_one ps)
+
+pub each_is_lot : (ps : List PacketView) → sent_by One (singly ps) ≡ sent_by One (ps ∷ [])
+each_is_lot ps = each_by_one ps ∙ sym (one_lot One ps)
+
+-- one packet more
+each_more : (carriage : Carriage) (ps : List PacketView) (p : PacketView)
+    → sent_by carriage (singly ps) ++ datagrams_of carriage (p ∷ []) ≡ sent_by carriage (singly (ps ++ p ∷ []))
+each_more carriage [] p = sym (one_lot carriage (p ∷ []))
+each_more carriage (x ∷ ps) p =
+    append_assoc (datagrams_of carriage (x ∷ [])) (sent_by carriage (singly ps)) (datagrams_of carriage (p ∷ []))
+    ∙ ap (λ (ds : List Addressed). datagrams_of carriage (x ∷ []) ++ ds) (each_more carriage ps p)
+
+pub packets_of_each : (ps : List PacketView) → packets_of (singly ps) ≡ ps
+packets_of_each [] = refl
+packets_of_each (p ∷ ps) = ap (λ (qs : List PacketView). p ∷ qs) (packets_of_each ps)
+
 -- ---- an outbox that is emptied packet by packet
 
--- Of the packets that waited these were sent, and the others wait still.
-pub record SentSoFar {L : Type 0} (before after : Told L) (old out : OutboxView) : Type 0 where
+-- Of the packets that waited these were sent, each alone, and the others wait still.
+pub record SentSoFar {L : Type 0} (carriage : Carriage) (before after : Told L) (old out : OutboxView) : Type 0 where
   pub done : List PacketView
   pub all : done ++ out.packets ≡ old.packets
   pub cap : out.cap ≡ old.cap
-  pub takes : Takes before (datagrams_of One done) after
-  pub read : read_all (datagrams_of One done) ≡ done
+  pub takes : Takes before (sent_by carriage (singly done)) after
+  pub read : read_all (sent_by carriage (singly done)) ≡ done
 
-pub none_sent : {L : Type 0} (link : Told L) (out : OutboxView) → SentSoFar link link out out
-none_sent link out = record { done = []; all = refl; cap = refl; takes = takes_nothing link; read = refl }
+pub none_sent : {L : Type 0} (carriage : Carriage) (link : Told L) (out : OutboxView) → SentSoFar carriage link link out out
+none_sent carriage link out = record { done = []; all = refl; cap = refl; takes = takes_nothing link; read = refl }
 
 pub first_and_rest : (ps : List PacketView) (p : PacketView) → slice_get ps 0 ≡ Some p → p ∷ drop 1 ps ≡ ps
 first_and_rest [] p e = absurd (cc)
@@ -207,12 +229,13 @@ pub one_less : (ps : List PacketView) (p : PacketView) → slice_get ps 0 ≡ So
 one_less [] p e = absurd (cc)
 one_less (x ∷ ps) p e = omega arith
 
-pub one_more_sent : {L : Type 0} (before mid after : Told L) (old out rest : OutboxView) (p : PacketView)
-    → SentSoFar before mid old out → slice_get out.packets 0 ≡ Some p → rest ≡ without_oldest out
-    → Takes mid (datagrams_of One (p ∷ [])) after → read_all (datagrams_of One (p ∷ [])) ≡ p ∷ []
-    → SentSoFar before after old rest
-one_more_sent before mid after old out rest p so first e takes read =
-    let here : SentSoFar before after old (without_oldest out)
+pub one_more_sent : {L : Type 0} (carriage : Carriage) (before mid after : Told L) (old out rest : OutboxView) (p : PacketView)
+    → SentSoFar carriage before mid old out → slice_get out.packets 0 ≡ Some p → rest ≡ without_oldest out
+    → Takes mid (datagrams_of carriage (p ∷ [])) after → read_all (datagrams_of carriage (p ∷ [])) ≡ p ∷ []
+    → SentSoFar carriage before after old rest
+one_more_sent carriage before mid after old out rest p so first e takes read =
+    let more = each_more carriage so.done p in
+    let here : SentSoFar carriage before after old (without_oldest out)
     = record {
       done = so.done ++ p ∷ [];
       all =
@@ -220,33 +243,33 @@ one_more_sent before mid after old out rest p so first e takes read =
           ∙ (ap (λ (ps : List PacketView). so.done ++ ps) (first_and_rest out.packets p first) ∙ so.all);
       cap = so.cap;
       takes =
-          subst (λ (ds : List Addressed). Takes before ds after) (singly_both so.done (p ∷ []))
-          (takes_after before mid after (datagrams_of One so.done) (datagrams_of One (p ∷ [])) so.takes takes);
+          subst (λ (ds : List Addressed). Takes before ds after) more
+          (takes_after before mid after (sent_by carriage (singly so.done)) (datagrams_of carriage (p ∷ [])) so.takes takes);
       read =
-          ap read_all (sym (singly_both so.done (p ∷ [])))
-          ∙ both_read (datagrams_of One so.done) (datagrams_of One (p ∷ []))
-          ∙ ap (λ (ps : List PacketView). ps ++ read_all (datagrams_of One (p ∷ []))) so.read
+          ap read_all (sym more)
+          ∙ both_read (sent_by carriage (singly so.done)) (datagrams_of carriage (p ∷ []))
+          ∙ ap (λ (ps : List PacketView). ps ++ read_all (datagrams_of carriage (p ∷ []))) so.read
           ∙ ap (λ (ps : List PacketView). so.done ++ ps) read;
     } in
-    subst (λ (o : OutboxView). SentSoFar before after old o) (sym e) here
+    subst (λ (o : OutboxView). SentSoFar carriage before after old o) (sym e) here
 
 pub none_left : (ps : List PacketView) → slice_get ps 0 ≡ None → ps ≡ []
 none_left [] e = refl
 none_left (x ∷ ps) e = absurd (cc)
 
 -- where none waits any more, all were sent
-module _ {L : Type 0} (before after : Told L) (old out : OutboxView) (so : SentSoFar before after old out)
-    (none : slice_get out.packets 0 ≡ None) where
+module _ {L : Type 0} (carriage : Carriage) (before after : Told L) (old out : OutboxView)
+    (so : SentSoFar carriage before after old out) (none : slice_get out.packets 0 ≡ None) where
   all_done : so.done ≡ old.packets
   all_done =
       sym (append-nil so.done)
       ∙ (ap (λ (ps : List PacketView). so.done ++ ps) (sym (none_left out.packets none)) ∙ so.all)
 
-  pub all_sent : Takes before (datagrams_of One old.packets) after
-  all_sent = subst (λ (ps : List PacketView). Takes before (datagrams_of One ps) after) all_done so.takes
+  pub all_sent : Takes before (sent_by carriage (singly old.packets)) after
+  all_sent = subst (λ (ps : List PacketView). Takes before (sent_by carriage (singly ps)) after) all_done so.takes
 
-  pub all_read : read_all (datagrams_of One old.packets) ≡ old.packets
-  all_read = subst (λ (ps : List PacketView). read_all (datagrams_of One ps) ≡ ps) all_done so.read
+  pub all_read : read_all (sent_by carriage (singly old.packets)) ≡ old.packets
+  all_read = subst (λ (ps : List PacketView). read_all (sent_by carriage (singly ps)) ≡ ps) all_done so.read
 
   pub all_empty : out ≡ record { packets = []; cap = old.cap }
   all_empty =
@@ -279,6 +302,20 @@ module _ (out : OutboxView) (none : slice_get out.packets 0 ≡ None) where
       subst (λ (ps : List PacketView). Takes link (sent_by carriage (ps ∷ [])) link)
       (sym (none_left out.packets none)) (nothing_by carriage link)
 
+  -- likewise where each goes alone
+  pub none_read_each : (carriage : Carriage) → read_all (sent_by carriage (singly out.packets)) ≡ packets_of (singly out.packets)
+  none_read_each carriage =
+      subst (λ (ps : List PacketView). read_all (sent_by carriage (singly ps)) ≡ packets_of (singly ps))
+      (sym (none_left out.packets none)) refl
+
+  pub none_goes_each : {L : Type 0} (carriage : Carriage) (link : Told L) → Takes link (sent_by carriage (singly out.packets)) link
+  none_goes_each carriage link =
+      subst (λ (ps : List PacketView). Takes link (sent_by carriage (singly ps)) link)
+      (sym (none_left out.packets none)) (takes_nothing link)
+
+  pub none_told_each : false ≡ has_packets (singly out.packets)
+  none_told_each = ap (λ (ps : List PacketView). has_packets (singly ps)) (sym (none_left out.packets none))
+
   pub none_empty : out ≡ record { packets = []; cap = out.cap }
   none_empty = ap (λ (ps : List PacketView). record { packets = ps; cap = out.cap }) (none_left out.packets none)
 
@@ -289,3 +326,9 @@ module _ (out : OutboxView) (none : slice_get out.packets 0 ≡ None) where
 pub some_told : (ps : List PacketView) (p : PacketView) → slice_get ps 0 ≡ Some p → true ≡ has_packets (ps ∷ [])
 some_told [] p e = absurd (cc)
 some_told (x ∷ ps) p e = refl
+
+pub some_told_each : (ps : List PacketView) (lent : Option (Bor PacketView)) (told : Bool) → is_some lent ≡ not told → told ≡ false
+    → option_copied lent ≡ slice_get ps 0 → true ≡ has_packets (singly ps)
+some_told_each (p ∷ ps) lent told e false-told first = refl
+some_told_each [] None told e false-told first = absurd (cc)
+some_told_each [] (Some p) told e false-told first = absurd (cc)

@@ -33,6 +33,10 @@ abbrev pub sent_by : Carriage → List (List PacketView) → List Addressed
 sent_by carriage [] = []
 sent_by carriage (lot ∷ lots) = datagrams_of carriage lot ++ sent_by carriage lots
 
+-- packets of which each is a lot of its own, and so goes in a datagram of its own
+abbrev pub singly : List PacketView → List (List PacketView)
+singly packets = map (λ p. p ∷ []) packets
+
 -- datagrams sent in order; one that finds the queue full is lost
 abbrev pub sent_into : QueueView → List Addressed → QueueView
 sent_into queue [] = queue

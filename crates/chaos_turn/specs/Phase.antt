@@ -5,7 +5,7 @@ use Rattle.chaos_host.specs.View.{HostView}
 use Rattle.chaos_host.specs.Acted.{HostActed}
 use Rattle.chaos_link.specs.declared.carriage.Carriage.{Carriage}
 use Rattle.chaos_link.specs.Link.{Ask}
-use Rattle.chaos_turn.specs.Link.{SendsLots, has_packets}
+use Rattle.chaos_turn.specs.Link.{SendsLots, has_packets, singly}
 use Rattle.chaos_turn.specs.Station.{Station}
 
 -- what a phase makes of a host, and the packets that go out, lot by lot
@@ -20,6 +20,10 @@ module _ {A : Type 0} where
   -- of a call on the host: what it puts out is sent at once
   abbrev pub effect_of : HostActed A → Effect
   effect_of acted = record { host = acted.view; lots = acted.packets ∷ [] }
+
+  -- of a call on the host: what it puts out is sent at once, each packet as a lot of its own
+  abbrev pub effect_singly_of : HostActed A → Effect
+  effect_singly_of acted = record { host = acted.view; lots = singly acted.packets }
 
 -- one phase, and another after it
 abbrev pub and_then : Effect → (HostView → Effect) → Effect

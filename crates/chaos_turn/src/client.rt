@@ -47,7 +47,8 @@ fn take_client_turn<L: Link>(
 /// datagram came or it carried no packet. So a client learns with which text its request was refused.
 ///
 /// By `carriage` packets that are sent at once go each in a datagram of version 1, or several to one host in a datagram of
-/// version 2. The datagram is received into `buffer`, whatever that holds: a caller keeps it from turn to turn. Where none is
+/// version 2. What a tick puts out goes one packet to a datagram by either carriage, so that what is sent again comes through where
+/// a datagram of several packets is too long for the way. The datagram is received into `buffer`, whatever that holds: a caller keeps it from turn to turn. Where none is
 /// there the turn waits for one as the link does, where `may_wait` allows it.
 ///
 /// `LinkFault` exactly where the link's count of failures rose in the turn, or stands at its greatest; a packet whose send

@@ -1,7 +1,7 @@
 //! What a host put out goes into a link.
 ghost use Rattle.std.specs.Prelude.{◌≡◌, [], ◌∷◌};
 ghost use Rattle.chaos_packet.specs.Outbox.{OutboxView};
-ghost use Rattle.chaos_turn.specs.Link.{IsReadBack, Sends, SendsLots, SendsOneByOne, datagram_for_all, datagrams_of, has_packets, read_all, sent_by};
+ghost use Rattle.chaos_turn.specs.Link.{IsReadBack, Sends, SendsLots, SendsOneByOne, datagram_for_all, datagrams_of, has_packets, read_all, sent_by, singly};
 ghost use Rattle.chaos_link.specs.Link.{Asks, to_send};
 ghost use Rattle.chaos_link.specs.Loads.{packets_of};
 
@@ -12,7 +12,7 @@ use chaos_packet::{Outbox, Packet};
 /// A packet whose send fails is lost, and with it those in its datagram; the link's count of failures tells it, and the others
 /// are sent all the same.
 ///
-/// A turn does so after each call of its host. A service of one's own does so after its own calls, so that what they put out
+/// A turn does so after each call of its host but a tick, after which it calls [`send_singly`]. A service of one's own does so after its own calls, so that what they put out
 /// doesn't wait for the next turn. It takes no memory, and costs a look where nothing waits, as after most calls of a turn.
 #[inline(always)]
 pub fn send_all<L: Link>(link: &mut L, out: &mut Outbox, carriage: Carriage) -> bool
@@ -29,8 +29,28 @@ pub fn send_all<L: Link>(link: &mut L, out: &mut Outbox, carriage: Carriage) -> 
     true
 }
 
+/// Sends all that waits by the carriage, the oldest first, each packet in a datagram of its own, and says whether anything did.
+/// A packet whose send fails is lost, and the others are sent all the same, as by [`send_all`].
+///
+/// A turn does so after it ticked a connection. A datagram of one packet has at most 508 bytes, and so comes through where a
+/// datagram of several packets is too long for the way.
+#[inline(always)]
+pub fn send_singly<L: Link>(link: &mut L, out: &mut Outbox, carriage: Carriage) -> bool
+    // Whatever the link answers, it is asked to send each packet as a lot of its own, once and in order, and nothing else.
+    // Of what it posts the packets are read that waited.
+    ensures sends { SendsLots (Asks (L.asked link.old) (L.asked link.new)) carriage (L.queue link.old) (singly out.old.packets) (L.queue link.new) }
+    ensures empty { out.new ≡ record { packets = []; cap = out.old.cap } }
+    ensures told { result ≡ has_packets (singly out.old.packets) }
+{
+    if out.front().is_none() {
+        return false;
+    }
+    send_each(link, out, carriage);
+    true
+}
+
 /// Sends all that waits by the carriage, the oldest first.
-#[tactic(auto, using(crate::proofs::Queue::lot_read_so))]
+#[tactic(auto, using(crate::proofs::Queue::lot_read_so, crate::proofs::Queue::each_by_one))]
 fn send_waiting<L: Link>(link: &mut L, out: &mut Outbox, carriage: Carriage)
     ensures sends { Sends (L.queue link.old) (sent_by carriage (out.old.packets ∷ [])) (L.queue link.new) }
     ensures read { read_all (sent_by carriage (out.old.packets ∷ [])) ≡ packets_of (out.old.packets ∷ []) }
@@ -38,27 +58,44 @@ fn send_waiting<L: Link>(link: &mut L, out: &mut Outbox, carriage: Carriage)
     ensures empty { out.new ≡ record { packets = []; cap = out.old.cap } }
 {
     match carriage {
-        Carriage::One => send_singly(link, out),
+        Carriage::One => send_each(link, out, Carriage::One),
         Carriage::Two => send_loads(link, out),
     }
 }
 
-/// Sends all that waits, each packet as its canonical datagram to its destination, which is written from the packet where it lies.
-fn send_singly<L: Link>(link: &mut L, out: &mut Outbox)
-    ensures sends { Sends (L.queue link.old) (datagrams_of Carriage.One out.old.packets) (L.queue link.new) }
-    ensures asks { Asks (L.asked link.old) (L.asked link.new) (to_send (datagrams_of Carriage.One out.old.packets)) }
-    ensures read { read_all (datagrams_of Carriage.One out.old.packets) ≡ out.old.packets }
+/// Sends all that waits, each packet in a datagram of its own by the carriage.
+fn send_each<L: Link>(link: &mut L, out: &mut Outbox, carriage: Carriage)
+    ensures sends { Sends (L.queue link.old) (sent_by carriage (singly out.old.packets)) (L.queue link.new) }
+    ensures asks { Asks (L.asked link.old) (L.asked link.new) (to_send (sent_by carriage (singly out.old.packets))) }
+    ensures read { read_all (sent_by carriage (singly out.old.packets)) ≡ out.old.packets }
     ensures empty { out.new ≡ record { packets = []; cap = out.old.cap } }
 {
     // One buffer for all: it is filled once.
     let mut buffer = [0; MAX_DATAGRAM];
     'packets: while let Some(packet) = out.front() {
-        send(link, packet, &mut buffer);
+        send_alone(link, packet, carriage, &mut buffer);
         out.drop_front();
     }
 }
 
-/// Sends a packet as its canonical datagram, which is written into the buffer.
+/// Sends a packet alone: as its canonical datagram, or as a load of one packet.
+fn send_alone<L: Link>(
+    link: &mut L,
+    packet: &Packet,
+    carriage: Carriage,
+    buffer: &mut [u8; MAX_DATAGRAM],
+)
+    ensures sends { Sends (L.queue link.old) (datagrams_of carriage (packet.now ∷ [])) (L.queue link.new) }
+    ensures asks { Asks (L.asked link.old) (L.asked link.new) (to_send (datagrams_of carriage (packet.now ∷ []))) }
+    ensures read { read_all (datagrams_of carriage (packet.now ∷ [])) ≡ packet.now ∷ [] }
+{
+    match carriage {
+        Carriage::One => send(link, packet, buffer),
+        Carriage::Two => send_load(link, &Load::of(packet)),
+    }
+}
+
+/// Sends a packet as its canonical datagram, which is written into the buffer from the packet where it lies.
 fn send<L: Link>(link: &mut L, packet: &Packet, buffer: &mut [u8; MAX_DATAGRAM])
     ensures sends { Sends (L.queue link.old) (datagrams_of Carriage.One (packet.now ∷ [])) (L.queue link.new) }
     ensures asks { Asks (L.asked link.old) (L.asked link.new) (to_send (datagrams_of Carriage.One (packet.now ∷ []))) }

@@ -6,12 +6,12 @@ ghost use Rattle.chaos_turn.specs.Slots.{tick_at};
 ghost use Rattle.chaos_turn.specs.Station.{station};
 
 use crate::limits::TURN_ROOM;
-use crate::sending::send_all;
+use crate::sending::send_singly;
 use chaos_host::Host;
 use chaos_link::{Carriage, Link};
 use chaos_packet::Outbox;
 
-/// Ticks the connection in a slot, and says whether packets went out.
+/// Ticks the connection in a slot, sends each packet that it puts out in a datagram of its own, and says whether packets went out.
 #[tactic(auto, using(crate::proofs::Phase::put_into_empty))]
 fn tick_slot<L: Link>(
     host: &mut Host,
@@ -27,7 +27,7 @@ fn tick_slot<L: Link>(
     ensures { DoesPhase (Asks (L.asked link.old) (L.asked link.new)) carriage (tick_at now place host.old) (station host.old (L.queue link.old) out.old) (station host.new (L.queue link.new) out.new) result }
 {
     let _ = host.tick(place, now, out);
-    send_all(link, out, carriage)
+    send_singly(link, out, carriage)
 }
 
 /// Ticks the connection in each slot, in rising order, and says whether packets went out.

@@ -1,4 +1,5 @@
+pub mod Config
 pub mod Over
 pub mod Paths
-pub mod Patient
+pub mod Routes
 pub mod Status

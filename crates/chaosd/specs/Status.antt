@@ -14,7 +14,7 @@ line_status line.NoMemory = 4
 
 -- words that cannot be had end the program as the line's own faults do
 abbrev pub words_status : WordsFault → ℕ
-words_status NotText = line_status line.BadLine
+words_status (NotText place) = line_status line.BadLine
 words_status NoMemory = line_status line.NoMemory
 
 -- help that cannot be written is a fault, and every other refusal ends by its own status

@@ -1,26 +1,31 @@
 //! The run of `ask`.
-ghost use Rattle.std.specs.Prelude.{◌<◌};
+ghost use Rattle.std.specs.Prelude.{◌<◌, ◌≡◌};
 
-use crate::network::{end_script, has_input};
-use crate::patient::Patient;
+use crate::client::patience_of;
+use crate::config::config_of;
+use crate::network::{end_script, has_input, heard_alone};
+use crate::peer_socket::PeerSocket;
 use crate::run_ends::tell_unopened;
 use crate::terminals::Terminals;
 use crate::typed::{ByLook, Typed, Typing};
 use crate::unanswered::Unanswered;
 use crate::waiting::{Waiting, WaitingSocket};
-use chaos_link::{Carriage, Link, Peer, Peers, UdpLink};
+use chaos_link::{Link, Peer, Peers, UdpLink};
+use chaosd_clock::Epoch;
 use chaosd_copies::ExitStatus;
-use chaosd_file::{NOBODY, Route, ScriptEnd, Why, run_ask_by};
+use chaosd_file::{NOBODY, ScriptEnd, Why, run_ask_by};
 use chaosd_io::RunFault;
 use chaosd_line::Ask;
 use chaosd_told::{Name, Notes, Replies};
-use file_client::Shown;
-use std::cell::Cell;
+use file_client::{Patience, Route, Shown, Timing};
 use std::fs::{File, Files};
 use std::io;
 use std::io::{Read, Write};
 use std::net::{Net, SocketAddr, SocketAddrV4, UdpSocket};
 use std::time::Clock;
+
+/// The packets of the windows of `ask`.
+const USUAL_WINDOW: u16 = 13;
 
 /// The host that is asked: this one where it is a peer. Of one that is none nothing can be asked, which is told.
 fn asked_host<R: Eprint>(rt: &R, to: u16, peers: &Peers) -> u16 {
@@ -34,12 +39,12 @@ fn asked_host<R: Eprint>(rt: &R, to: u16, peers: &Peers) -> u16 {
 /// Who asks whom, and how.
 #[derive(Drop)]
 struct Asked {
-    carriage: Carriage,
+    route: Route,
+    patience: Patience,
     is_strict: bool,
-    address: u16,
     socket: SocketAddrV4,
     server: Peer,
-    ghost named: { 0 < address },
+    ghost named: { 0 < route.me },
 }
 
 /// How a script ended, and why.
@@ -66,7 +71,7 @@ fn ask_over<R: AllocGlobal + Clock + Eprint + Input + Print, L: Link>(
     rt: &R,
     link: &mut L,
     asked: &Asked,
-    typing: Typing<'_>,
+    typing: Typing,
 ) -> Answered {
     let notes = Notes::new();
     let mut reader = rt.reader();
@@ -74,12 +79,18 @@ fn ask_over<R: AllocGlobal + Clock + Eprint + Input + Print, L: Link>(
     ask_through(rt, link, asked, typing, &notes, &mut reader, &mut writer)
 }
 
+/// A run that begins now, by the clock, with this patience.
+fn timing_of<R: Clock>(rt: &R, patience: Patience) -> Result<Timing, RunFault> {
+    let epoch = Epoch::new(rt)?;
+    Ok(Timing { epoch, patience })
+}
+
 /// Puts the reader's script over the link, and its replies into the writer.
 fn ask_through<'a, R: AllocGlobal + Clock + Eprint, L: Link, I: Read, W: Write>(
     rt: &'a R,
     link: &mut L,
     asked: &Asked,
-    typing: Typing<'a>,
+    typing: Typing,
     notes: &'a Notes,
     reader: &'a mut I,
     writer: &'a mut W,
@@ -87,20 +98,19 @@ fn ask_through<'a, R: AllocGlobal + Clock + Eprint, L: Link, I: Read, W: Write>(
     let mut typed = Typed::new(rt, reader, typing, notes, asked.is_strict);
     let mut replies = Replies::new(writer, notes);
     let mut why = None;
-    let route = Route {
-        me: asked.address,
-        to: asked.server.address,
-        carriage: asked.carriage,
+    let end = match timing_of(rt, asked.patience) {
+        Ok(timing) => run_ask_by::<ByLook, R, Typed<'a, R, I>, Replies<'a, W>, L>(
+            rt,
+            rt.alloc(),
+            &mut typed,
+            &mut replies,
+            link,
+            &mut why,
+            &asked.route,
+            timing,
+        ),
+        Err(fault) => Err(fault),
     };
-    let end = run_ask_by::<ByLook, R, Typed<'a, R, I>, Replies<'a, W>, L>(
-        rt,
-        rt.alloc(),
-        &mut typed,
-        &mut replies,
-        link,
-        &mut why,
-        route,
-    );
     if end.is_ok() {
         tell_written(rt, replies.written());
     }
@@ -128,7 +138,7 @@ fn end_asked<R: Clock + Eprint + Print>(
         Some(Why::NoReply(_)) if asked.server.address == NOBODY => end_script(rt, &end, &None),
         Some(Why::NoReply(why)) => {
             let client = Peer {
-                address: asked.address,
+                address: asked.route.me,
                 socket: asked.socket,
             };
             end_unanswered(rt, &end, Unanswered::new(why, asked.server, client))
@@ -151,9 +161,14 @@ fn strict_status(status: ExitStatus, was_error: bool) -> ExitStatus {
 fn asked_of<R: Eprint>(rt: &R, line: &Ask) -> Asked {
     let to = asked_host(rt, line.to, &line.peers);
     Asked {
-        carriage: line.carriage,
+        route: Route {
+            me: line.address,
+            to,
+            config: config_of(USUAL_WINDOW, line.retransmit),
+            carriage: line.carriage,
+        },
+        patience: patience_of(line.timeout),
         is_strict: line.is_strict,
-        address: line.address,
         socket: line.socket,
         server: Peer {
             address: to,
@@ -162,10 +177,10 @@ fn asked_of<R: Eprint>(rt: &R, line: &Ask) -> Asked {
     }
 }
 
-/// Puts the script over a link that is as patient as the line wants it, and tells how that ended.
-fn ask_patiently<'r, R, L: Link + Drop>(
+/// Puts the script over a link, and tells how that ended.
+fn ask_by_link<'r, R, L: Link + Drop>(
     rt: &'r R,
-    link: Patient<'r, R, L>,
+    mut link: L,
     asked: &Asked,
     waiting: &Waiting<'r, R>,
     terminals: Terminals,
@@ -173,13 +188,10 @@ fn ask_patiently<'r, R, L: Link + Drop>(
 where
     R: AllocGlobal + Clock + Eprint + Files<File = File> + Input + Print,
 {
-    let is_awaited = Cell::new(false);
     let typing = Typing {
         terminals,
         terminal: terminals.open_input(rt),
-        is_awaited: &is_awaited,
     };
-    let mut link = link.while_awaited(&is_awaited);
     let answered = ask_over(rt, &mut link, asked, typing);
     end_asked(rt, asked, waiting, answered)
 }
@@ -197,9 +209,10 @@ where
     let waiting = Waiting::new(rt, asked.server, terminals.errors);
     match UdpSocket::bind(rt, SocketAddr::V4(asked.socket)) {
         Ok(bound) => {
-            let link = UdpLink::new(WaitingSocket::new(bound, &waiting), line.peers);
-            let link = Patient::new(rt, link, line.timeout);
-            ask_patiently(rt, link, &asked, &waiting, terminals)
+            let heard = heard_alone(asked.server, line.hears_anybody);
+            let socket = WaitingSocket::new(PeerSocket::new(rt, bound, heard), &waiting);
+            let link = UdpLink::new(socket, line.peers);
+            ask_by_link(rt, link, &asked, &waiting, terminals)
         }
         Err(error) => tell_unopened(rt, &asked.socket, &error),
     }

@@ -9,6 +9,7 @@ use chaosd_copies::{
 };
 use chaosd_line::{Delete, Rename};
 use std::fmt::Display;
+use std::fs::{File, Files};
 use std::net::Net;
 
 /// Whoever tells of changes: of one that was made nothing.
@@ -44,7 +45,7 @@ impl<R: AllocGlobal + Eprint> Work<R> for Delete<'_> {
 #[inline(never)]
 pub(crate) fn run_delete_line<R>(rt: &R, line: &Delete<'_>, is_terminal: bool) -> ExitStatus
 where
-    R: AllocGlobal + Dial + Eprint + Net,
+    R: AllocGlobal + Dial + Eprint + Files<File = File> + Net,
 {
     run_work(rt, &line.calling, is_terminal, line)
 }
@@ -77,7 +78,7 @@ impl<R: AllocGlobal + Eprint> Work<R> for Rename<'_> {
 #[inline(never)]
 pub(crate) fn run_rename_line<R>(rt: &R, line: &Rename<'_>, is_terminal: bool) -> ExitStatus
 where
-    R: AllocGlobal + Dial + Eprint + Net,
+    R: AllocGlobal + Dial + Eprint + Files<File = File> + Net,
 {
     run_work(rt, &line.calling, is_terminal, line)
 }

@@ -16,6 +16,7 @@ fn words_of(ending: Ending) -> &'static str {
     match ending {
         Ending::Done => "done",
         Ending::HostDown => "its host is down",
+        Ending::Unacknowledged => "its host acknowledged nothing",
         Ending::Closed => "closed by its host",
     }
 }
@@ -27,7 +28,7 @@ impl<R: Clock + Eprint> Log for Connections<'_, R> {
         let End { address, index } = peer;
         if self.0.is_peer(address) {
             self.0.tell(
-                Matter::Service,
+                Matter::Connection,
                 &format_args!("host {address:06o} opens connection {index:06o}"),
             );
         }
@@ -42,7 +43,7 @@ impl<R: Clock + Eprint> Log for Connections<'_, R> {
         let plural = if commands == 1 { "" } else { "s" };
         let why = words_of(ending);
         self.0.tell(
-            Matter::Service,
+            Matter::Connection,
             &format_args!(
                 "connection {index:06o} of host {address:06o} ends: {name}, {commands} command{plural}, {why}"
             ),

@@ -1,7 +1,7 @@
 //! A dialog over a call.
+ghost use Rattle.std.specs.Prelude.{◌<◌};
 ghost use Rattle.chaosd.specs.Over.{over_where};
 
-use crate::patient::Hurried;
 use crate::unanswered::Unanswered;
 use crate::waiting::Waiting;
 use chaos_file::Reply;
@@ -11,12 +11,13 @@ use chaosd_copies::Dialog;
 use chaosd_copy::Talk;
 use chaosd_io::RunFault;
 use chaosd_line::Calling;
-use file_client::Call;
+use file_client::{Call, Route, Timing};
 
-/// A dialog with a server over a call, which claims what the call does. It is over too where nobody listens where the server is to be.
+/// A dialog with a server over a talk, a call in a dialog of files. It claims what the talk does, and is over too where nobody listens
+/// where the server is to be.
 #[derive(Drop)]
-pub(crate) struct CallDialog<'a, 'r, C: Dial, L: Link> {
-    call: Hurried<Call<'a, C, L>>,
+pub(crate) struct CallDialog<'a, 'r, C, T: Talk> {
+    call: T,
     waiting: &'a Waiting<'r, C>,
     /// Whether nobody listens there, as the last turn found.
     is_refused: bool,
@@ -25,29 +26,24 @@ pub(crate) struct CallDialog<'a, 'r, C: Dial, L: Link> {
     client: Peer,
 }
 
-impl<'a, 'r, C: AllocGlobal + Dial + Eprint, L: Link> CallDialog<'a, 'r, C, L> {
+impl<'a, 'r, C: AllocGlobal + Dial + Eprint, L: Link> CallDialog<'a, 'r, C, Call<'a, C, L>> {
     /// Nothing is sent yet.
     pub(crate) fn new(
         rt: &'a C,
         link: &'a mut L,
         calling: &Calling<'_>,
         waiting: &'a Waiting<'r, C>,
-    ) -> Result<Self, RunFault> {
+        route: &Route,
+        timing: Timing,
+    ) -> Result<Self, RunFault>
+        requires { 0 < route.now.me }
+    {
         let client = Peer {
             address: calling.address,
             socket: calling.socket,
         };
-        let call = Call::new(
-            rt,
-            rt.alloc(),
-            link,
-            calling.address,
-            calling.server.address,
-            calling.window,
-            calling.carriage,
-        )?;
         Ok(CallDialog {
-            call: Hurried::new(call, calling.timeout),
+            call: Call::new(rt, rt.alloc(), link, route, timing)?,
             waiting,
             is_refused: false,
             unreceived: 0,
@@ -56,16 +52,16 @@ impl<'a, 'r, C: AllocGlobal + Dial + Eprint, L: Link> CallDialog<'a, 'r, C, L> {
     }
 }
 
-impl<C: Dial + Eprint, L: Link> Talk for CallDialog<'_, '_, C, L> {
-    ghost talked = { λ now start. ⟦<Hurried<Call<'static, C, L>> as Talk>⟧.talked now.call start.call };
+impl<C: Dial + Eprint, T: Talk> Talk for CallDialog<'_, '_, C, T> {
+    ghost talked = { λ now start. T.talked now.call start.call };
 
-    ghost began = { λ dialog. ⟦<Hurried<Call<'static, C, L>> as Talk>⟧.began dialog.call };
+    ghost began = { λ dialog. T.began dialog.call };
 
-    ghost ready = { λ dialog. ⟦<Hurried<Call<'static, C, L>> as Talk>⟧.ready dialog.call };
+    ghost ready = { λ dialog. T.ready dialog.call };
 
-    ghost course = { λ dialog. over_where dialog.is_refused (⟦<Hurried<Call<'static, C, L>> as Talk>⟧.course dialog.call) };
+    ghost course = { λ dialog. over_where dialog.is_refused (T.course dialog.call) };
 
-    ghost failed_by = { λ dialog. ⟦<Hurried<Call<'static, C, L>> as Talk>⟧.failed_by dialog.call };
+    ghost failed_by = { λ dialog. T.failed_by dialog.call };
 
     fn send(&mut self, command: &[u8]) -> bool {
         let is_sent = self.call.send(command);
@@ -93,31 +89,34 @@ impl<C: Dial + Eprint, L: Link> Talk for CallDialog<'_, '_, C, L> {
         self.call.moment()
     }
 
+    fn patience(&self) -> Option<u64> {
+        self.call.patience()
+    }
+
     fn is_over(&self) -> bool {
         self.call.is_over() || self.is_refused
     }
 }
 
-impl<C: Dial + Eprint, L: Link> Dialog for CallDialog<'_, '_, C, L> {
+impl<'a, C: Dial + Eprint, L: Link> Dialog for CallDialog<'_, '_, C, Call<'a, C, L>> {
     type Why = Unanswered;
 
     fn begin(&mut self) -> Result<(), RunFault> {
         self.unreceived = 0;
-        self.call.begin();
-        self.call.inner.connect()
+        self.call.connect()
     }
 
     /// Says farewell first, where every reply was received: so no connection is left at the server where a CLS is lost.
     fn end(&mut self) {
         if self.unreceived == 0 && !self.is_refused {
-            let _ = self.call.inner.end();
+            let _ = self.call.end();
         }
-        let _ = self.call.inner.hang_up();
+        let _ = self.call.hang_up();
     }
 
     fn why(&mut self) -> Unanswered {
         Unanswered {
-            why: self.call.inner.no_reply(),
+            why: self.call.no_reply(),
             is_refused: self.is_refused,
             server: self.waiting.server(),
             client: self.client,

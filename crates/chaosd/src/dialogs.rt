@@ -1,4 +1,5 @@
 //! What `get`, `put`, `delete` and `rename` have in common: a dialog with a server over a socket.
+use crate::client::{route_of, timing_of};
 use crate::dialog::CallDialog;
 use crate::network::link_to_server;
 use crate::run_ends::{tell_unbegun, tell_unopened};
@@ -6,8 +7,11 @@ use crate::waiting::Waiting;
 use chaos_link::Link;
 use chaosd_clock::Dial;
 use chaosd_copies::{Dialog, ExitStatus};
+use chaosd_io::RunFault;
 use chaosd_line::Calling;
+use file_client::Call;
 use std::fmt::Display;
+use std::fs::{File, Files};
 use std::net::Net;
 
 /// What a line asks of a server's files.
@@ -26,7 +30,7 @@ pub(crate) fn run_work<R, W: Work<R>>(
     work: &W,
 ) -> ExitStatus
 where
-    R: AllocGlobal + Dial + Eprint + Net,
+    R: AllocGlobal + Dial + Eprint + Files<File = File> + Net,
 {
     let waiting = Waiting::new(rt, calling.server, is_told);
     match link_to_server(rt, calling) {
@@ -44,10 +48,25 @@ fn work_over<'a, 'r, R, L: Link, W: Work<R>>(
     work: &W,
 ) -> ExitStatus
 where
-    R: AllocGlobal + Dial + Eprint + Net,
+    R: AllocGlobal + Dial + Eprint + Files<File = File> + Net,
 {
-    match CallDialog::new(rt, link, calling, waiting) {
+    match dialog_over(rt, link, calling, waiting) {
         Ok(dialog) => work.run(rt, dialog),
         Err(fault) => tell_unbegun(rt, fault),
     }
+}
+
+/// A dialog over a link, by the round trip, which is measured first.
+fn dialog_over<'a, 'r, R, L: Link>(
+    rt: &'a R,
+    link: &'a mut L,
+    calling: &Calling<'_>,
+    waiting: &'a Waiting<'r, R>,
+) -> Result<CallDialog<'a, 'r, R, Call<'a, R, L>>, RunFault>
+where
+    R: AllocGlobal + Dial + Eprint + Files<File = File> + Net,
+{
+    let timing = timing_of(rt, calling)?;
+    let route = route_of(rt, &mut *link, calling, timing)?;
+    CallDialog::new(rt, link, calling, waiting, &route, timing)
 }

@@ -1,7 +1,7 @@
 //! What a user is told of each file.
 ghost use Rattle.std.specs.Prelude.{None};
 
-use chaos_file::{MAX_FILE, MAX_PATH, Reply};
+use chaos_file::{MAX_FILE, MAX_PATH, PrintedName, Reply};
 use chaosd_copies::{Contents, Lost, Outcome, Target, Teller};
 use file_client::Shown;
 use std::fmt::{Display, Formatter};
@@ -39,7 +39,7 @@ impl Display for Hexadecimal {
 }
 
 /// Tells that a file was copied whole.
-fn told_copied<R: Eprint>(rt: &R, name: &str, contents: &Contents) -> io::Result<()> {
+fn told_copied<R: Eprint>(rt: &R, name: PrintedName<'_>, contents: &Contents) -> io::Result<()> {
     let size = contents.size;
     match contents.digest {
         Some(digest) => eprintln!(rt; "{name} {size} bytes, SHA-256 {}", Hexadecimal(digest)),
@@ -48,7 +48,7 @@ fn told_copied<R: Eprint>(rt: &R, name: &str, contents: &Contents) -> io::Result
 }
 
 /// Tells that a text has a byte that would not come back, and where the first stands.
-fn told_lost<R: Eprint>(rt: &R, name: &str, lost: &Lost) -> io::Result<()> {
+fn told_lost<R: Eprint>(rt: &R, name: PrintedName<'_>, lost: &Lost) -> io::Result<()> {
     let Lost { byte, line, place } = *lost;
     eprintln!(rt;
         "chaosd: {name} has a byte {byte:02X} at line {line}, byte {place}, which --text would not give back; leave --text out"
@@ -56,35 +56,35 @@ fn told_lost<R: Eprint>(rt: &R, name: &str, lost: &Lost) -> io::Result<()> {
 }
 
 /// Tells that FILE doesn't take a local file's name.
-fn told_unnamed<R: Eprint>(rt: &R, name: &str) -> io::Result<()> {
+fn told_unnamed<R: Eprint>(rt: &R, name: PrintedName<'_>) -> io::Result<()> {
     eprintln!(rt;
         "chaosd: {name}: skipped, since its name is no path of FILE (1 to {MAX_PATH} letters, digits, dots, hyphens and underscores, no dot in front); --as or --rename gives it one"
     )
 }
 
 /// Tells what became of a file that was not done, in words behind its name.
-fn told_missed<R: Eprint, D: Display>(rt: &R, name: &str, what: &D) -> io::Result<()> {
+fn told_missed<R: Eprint, D: Display>(rt: &R, name: PrintedName<'_>, what: &D) -> io::Result<()> {
     eprintln!(rt; "chaosd: {name}: {what}")
 }
 
 /// Tells that the server sent what is no answer.
-fn told_strange<R: Eprint>(rt: &R, name: &str, reply: &Reply) -> io::Result<()> {
+fn told_strange<R: Eprint>(rt: &R, name: PrintedName<'_>, reply: &Reply) -> io::Result<()> {
     let text = Shown(reply.as_slice());
     eprintln!(rt; "chaosd: {name}: not an answer of FILE: {text}")
 }
 
 /// Tells that a file, here or there, is longer than FILE allows.
-fn told_big<R: Eprint>(rt: &R, name: &str) -> io::Result<()> {
+fn told_big<R: Eprint>(rt: &R, name: PrintedName<'_>) -> io::Result<()> {
     eprintln!(rt; "chaosd: {name} has more than {MAX_FILE} bytes")
 }
 
 /// Tells that the path of a file is longer than FILE allows.
-fn told_long<R: Eprint>(rt: &R, name: &str) -> io::Result<()> {
+fn told_long<R: Eprint>(rt: &R, name: PrintedName<'_>) -> io::Result<()> {
     eprintln!(rt; "chaosd: {name}: a path of FILE has at most {MAX_PATH} bytes")
 }
 
 /// Tells that a local file could not be opened.
-fn told_unread<R: Eprint>(rt: &R, name: &str, fault: &io::Error) -> io::Result<()> {
+fn told_unread<R: Eprint>(rt: &R, name: PrintedName<'_>, fault: &io::Error) -> io::Result<()> {
     eprintln!(rt; "chaosd: can't open {name}: {fault}")
 }
 
@@ -92,15 +92,18 @@ fn told_unread<R: Eprint>(rt: &R, name: &str, fault: &io::Error) -> io::Result<(
 fn told_unwritten<R: Eprint>(
     rt: &R,
     target: Target<'_>,
-    name: &str,
+    name: PrintedName<'_>,
     fault: &io::Error,
 ) -> io::Result<()> {
     let (folder, local) = match target {
         Target::Own => ("", name),
-        Target::Named(local) => ("", local),
+        Target::Named(local) => ("", PrintedName(local)),
         Target::Inside(folder) => (folder, name),
     };
-    eprintln!(rt; "chaosd: can't write {folder}{local}: {fault}")
+    eprintln!(rt;
+        "chaosd: can't write {}{local}: {fault}",
+        PrintedName(folder)
+    )
 }
 
 /// What the server says of an error: its code and text.
@@ -118,6 +121,7 @@ impl<W: Display, R: Eprint> Teller<W> for FileWords<'_, '_, R> {
 
     fn tell(&mut self, name: &str, outcome: &Outcome<W>) {
         let rt = self.rt;
+        let name = PrintedName(name);
         let _ = match outcome {
             Outcome::Copied(contents) if self.is_told => told_copied(rt, name, contents),
             Outcome::Copied(_) | Outcome::Changed => Ok(()),

@@ -6,6 +6,8 @@
 
 mod asking;
 mod changes;
+mod client;
+mod config;
 mod connections;
 mod copies;
 mod descriptors;
@@ -13,11 +15,12 @@ mod dialog;
 mod dialogs;
 mod file_words;
 mod network;
-mod patient;
+mod peer_socket;
 mod progress;
 mod run_ends;
 mod runs;
 mod serving;
+mod skipped;
 mod status;
 mod terminals;
 mod typed;
@@ -32,9 +35,10 @@ use crate::descriptors::fill_descriptors;
 use crate::network::run_loop_line;
 use crate::runs::{run_filelab_line, run_lab_line, run_show_line};
 use crate::serving::run_serve_line;
+use crate::skipped::skip_marked;
 use crate::status::refused_status;
 use crate::terminals::Terminals;
-use crate::words::words_of;
+use crate::words::{Mark, WordsFault, words_of};
 use chaosd_copies::ExitStatus;
 use chaosd_io::RunFault;
 use chaosd_line::{Line, LineFault, parse_line};
@@ -77,6 +81,33 @@ fn refuse<R: Print + Eprint>(rt: &R, error: &Error) -> ExitStatus {
     refused_status(LineFault::from(error.kind()), is_shown)
 }
 
+/// Tells why the line can't be had. The answer is the status.
+fn tell_unread<R: Eprint>(rt: &R, fault: WordsFault) -> ExitStatus {
+    let _ = eprintln!(rt; "chaosd: {fault}");
+    fault.status()
+}
+
+/// Does what the line asks for, but for the files that are named by words which are no text: each is told. The answer is the exit status.
+fn run_readable<R>(rt: &R, line: Line<'_>, marks: &[Mark], terminals: Terminals) -> ExitStatus
+where
+    R: AllocGlobal + Clock + Eprint + Files<File = File> + Input + Net + Print,
+{
+    let mut line = line;
+    let is_left = match skip_marked(&mut line, marks) {
+        Ok(is_left) => is_left,
+        Err(fault) => return tell_unread(rt, fault),
+    };
+    let mut status = ExitStatus::Done;
+    for mark in marks {
+        let _ = eprintln!(rt; "chaosd: argument {} is not UTF-8: skipped", mark.place);
+        status = ExitStatus::Refused;
+    }
+    if is_left {
+        status = status.worse(run_line(rt, line, terminals));
+    }
+    status
+}
+
 /// Reads the command line and does what it asks for. The answer is the exit status.
 fn run<R>(rt: &R, terminals: Terminals) -> ExitStatus
 where
@@ -84,14 +115,16 @@ where
 {
     let words = match words_of(rt) {
         Ok(words) => words,
-        Err(fault) => {
-            let _ = eprintln!(rt; "chaosd: {fault}");
-            return fault.status();
-        }
+        Err(fault) => return tell_unread(rt, fault),
     };
-    match parse_line(rt.alloc(), words.as_slice()) {
-        Ok(line) => run_line(rt, line, terminals),
-        Err(error) => refuse(rt, &error),
+    let marks = words.marks.as_slice();
+    match (
+        parse_line(rt.alloc(), words.texts.as_slice()),
+        marks.first(),
+    ) {
+        (Ok(line), _) => run_readable(rt, line, marks, terminals),
+        (Err(_), Some(mark)) => tell_unread(rt, WordsFault::NotText(mark.place)),
+        (Err(error), None) => refuse(rt, &error),
     }
 }
 

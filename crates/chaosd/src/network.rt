@@ -1,8 +1,7 @@
 //! The links of clients over sockets, and the run of `loop`.
-use crate::patient::Patient;
+use crate::peer_socket::PeerSocket;
 use crate::run_ends::{tell_script, tell_unopened};
 use chaos_link::{Carriage, Peer, Peers, UdpLink};
-use chaosd_clock::Dial;
 use chaosd_copies::ExitStatus;
 use chaosd_file::{LOOP_CLIENT, LOOP_SERVER, ScriptEnd, Why, run_loop};
 use chaosd_io::RunFault;
@@ -12,12 +11,22 @@ use std::io::Read;
 use std::net::{Ipv4Addr, Net, SocketAddr, SocketAddrV4, UdpSocket};
 
 /// A link over a socket at the UDP address of a caller, to its server.
-pub(crate) fn link_to_server<'a, R: Dial + Net>(
+pub(crate) fn link_to_server<'a, R: Eprint + Net>(
     rt: &'a R,
     calling: &Calling<'_>,
-) -> io::Result<Patient<'a, R, UdpLink>> {
-    let socket = UdpSocket::bind(rt, SocketAddr::V4(calling.socket))?;
-    Ok(Patient::new(rt, link_to(socket, calling.server), calling.timeout))
+) -> io::Result<UdpLink<PeerSocket<'a, R>>> {
+    let bound = UdpSocket::bind(rt, SocketAddr::V4(calling.socket))?;
+    let heard = heard_alone(calling.server, calling.hears_anybody);
+    Ok(link_to(PeerSocket::new(rt, bound, heard), calling.server))
+}
+
+/// The UDP address that a client hears alone: its server's, but where anybody is to be heard.
+pub(crate) fn heard_alone(server: Peer, hears_anybody: bool) -> Option<SocketAddrV4> {
+    if hears_anybody {
+        None
+    } else {
+        Some(server.socket)
+    }
 }
 
 /// A socket of this machine alone, at a port that the system chooses, and its UDP address.
@@ -31,7 +40,7 @@ fn own_socket<R: Net>(rt: &R) -> io::Result<(UdpSocket, SocketAddrV4)> {
 }
 
 /// A link over this socket, to one peer.
-fn link_to(socket: UdpSocket, peer: Peer) -> UdpLink {
+fn link_to<S>(socket: S, peer: Peer) -> UdpLink<S> {
     let mut peers = Peers::new();
     let _ = peers.add(peer);
     UdpLink::new(socket, peers)

@@ -1,4 +1,5 @@
 //! How far a file has come, on a terminal.
+use chaos_file::PrintedName;
 use chaosd_copies::{Share, Viewer};
 use std::alloc::Global;
 
@@ -43,7 +44,7 @@ impl<R: Eprint> Viewer for ProgressLine<'_, R> {
             hundredths,
             rate,
         } = share;
-        let name = self.name.as_str();
+        let name = PrintedName(self.name.as_str());
         let _ = eprint!(self.rt;
             "\r{name} {part} of {whole} bytes, {hundredths}%, {rate} kB/s\x1b[K"
         );
@@ -57,6 +58,7 @@ impl<R: Eprint> Viewer for ProgressLine<'_, R> {
 
     fn tell_returns(&mut self, name: &str) {
         if !self.is_quiet {
+            let name = PrintedName(name);
             let _ = eprintln!(self.rt;
                 "chaosd: {name} has lines that end in CR LF, whose CRs are kept by --text as they are"
             );

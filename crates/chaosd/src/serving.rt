@@ -1,11 +1,12 @@
 //! The run of `serve`.
 ghost use Rattle.std.specs.Prelude.{◌<◌, ◌≡◌};
+ghost use Rattle.chaosd.specs.Config.{config_by};
 
+use crate::config::config_of;
 use crate::connections::Connections;
 use crate::run_ends::tell_unopened;
 use arrayvec::ArrayVec;
-use chaos_conn::ConnConfig;
-use chaos_file::{DirStore, Store};
+use chaos_file::{DirStore, PrintedName, Store};
 use chaos_link::{Link, MAX_PEERS, Peer, Peers, UdpLink};
 use chaosd_clock::ClockMoments;
 use chaosd_copies::ExitStatus;
@@ -88,8 +89,8 @@ fn tell_served<R: Clock + Eprint>(
     turns: u64,
 ) {
     match end {
-        Ok(()) => journal.tell(Matter::Service, &format_args!("{turns} turns are over")),
-        Err(fault) => journal.tell(Matter::Fault, fault),
+        Ok(()) => journal.end(Matter::Service, &format_args!("{turns} turns are over")),
+        Err(fault) => journal.end(Matter::Fault, fault),
     }
 }
 
@@ -105,7 +106,8 @@ fn serve_store<R: AllocGlobal + Clock + Eprint, L: Link, S: Store + Drop>(
     requires { 0 < options.me }
 {
     if is_read_only {
-        serve(rt, options, journal, link, &mut ReadOnly::new(store))
+        let mut store = ReadOnly::new(store, Pages(journal));
+        serve(rt, options, journal, link, &mut store)
     } else {
         serve(rt, options, journal, link, &mut store)
     }
@@ -113,11 +115,14 @@ fn serve_store<R: AllocGlobal + Clock + Eprint, L: Link, S: Store + Drop>(
 
 /// What a server is asked for.
 fn options_of(line: &Serve<'_>) -> ServeOptions
-    ensures { result.me ≡ line.now.address }
+    ensures me { result.me ≡ line.now.address }
+    ensures config { result.config ≡ config_by line.now.window line.now.retransmit }
+    ensures turns { result.turns ≡ line.now.turns }
+    ensures carriage { result.carriage ≡ line.now.carriage }
 {
     ServeOptions {
         me: line.address,
-        config: ConnConfig::with_window(line.window),
+        config: config_of(line.window, line.retransmit),
         turns: u64::from(line.turns),
         carriage: line.carriage,
     }
@@ -148,7 +153,7 @@ pub(crate) fn run_serve_line<R: AllocGlobal + Clock + Eprint + Files<File = File
 ) -> ExitStatus {
     let folder = match store_at(rt, line.folder) {
         Ok(folder) => folder,
-        Err(error) => return tell_unopened(rt, &line.folder, &error),
+        Err(error) => return tell_unopened(rt, &PrintedName(line.folder), &error),
     };
     match UdpSocket::bind(rt, SocketAddr::V4(line.socket)) {
         Ok(bound) => serve_folder(rt, line, folder, bound),

@@ -5,7 +5,6 @@ ghost use Rattle.std.specs.Counts.{IsPrefixLen};
 use crate::terminals::Terminals;
 use chaosd_file::Ready;
 use chaosd_told::{Notes, why_text};
-use std::cell::Cell;
 use std::fs::File;
 use std::io;
 use std::io::{ErrorKind, Read};
@@ -15,12 +14,10 @@ const CHUNK: usize = 4_096;
 
 /// Where somebody types.
 #[derive(Drop)]
-pub(crate) struct Typing<'a> {
+pub(crate) struct Typing {
     pub(crate) terminals: Terminals,
     /// The terminal, where it can be read without waiting.
     pub(crate) terminal: Option<File>,
-    /// Whether a line is waited for while turns go on.
-    pub(crate) is_awaited: &'a Cell<bool>,
 }
 
 /// A script that is read from standard input. On a terminal it asks for each line by a prompt, and leaves out one that stands for no
@@ -30,7 +27,7 @@ pub(crate) struct Typing<'a> {
 pub(crate) struct Typed<'a, R: Eprint, I: Read> {
     rt: &'a R,
     inner: &'a mut I,
-    typing: Typing<'a>,
+    typing: Typing,
     notes: &'a Notes,
     is_strict: bool,
     /// Whether somebody types, and is told more.
@@ -69,7 +66,7 @@ impl<'a, R: Eprint, I: Read> Typed<'a, R, I> {
     pub(crate) fn new(
         rt: &'a R,
         inner: &'a mut I,
-        typing: Typing<'a>,
+        typing: Typing,
         notes: &'a Notes,
         is_strict: bool,
     ) -> Self {
@@ -206,8 +203,6 @@ pub(crate) struct ByLook;
 
 impl<R: Eprint, I: Read> Ready<Typed<'_, R, I>> for ByLook {
     fn is_ready(reader: &mut Typed<'_, R, I>) -> bool {
-        let is_ready = reader.typing.terminal.is_none() || reader.is_there();
-        reader.typing.is_awaited.set(!is_ready);
-        is_ready
+        reader.typing.terminal.is_none() || reader.is_there()
     }
 }

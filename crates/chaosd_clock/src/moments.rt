@@ -1,5 +1,5 @@
 //! Moments, read one after another.
-ghost use Rattle.std.specs.Prelude.{◌≡◌, ℕ, List, [], All, IfErr, IfOk};
+ghost use Rattle.std.specs.Prelude.{◌≡◌, ℕ, List, [], IfErr, IfOk};
 ghost use Rattle.chaosd_clock.specs.Clock.{BeginsBy, IsMoment, number_of};
 ghost use Rattle.chaosd_clock.specs.Moments.{Reads, moments_in};
 ghost use Rattle.chaosd_io.specs.declared.fault.RunFault.{RunFault};
@@ -8,6 +8,9 @@ use crate::clock::Epoch;
 use crate::dial::Dial;
 use chaos_packet::PktNum;
 use chaosd_io::RunFault;
+
+/// So many readings of a clock in a row may fail.
+const MOST_FAILURES: u32 = 1_000;
 
 /// A source of moments. Each moment is read once, after the moment before.
 pub trait Moments {
@@ -42,11 +45,16 @@ pub trait Moments {
         ensures { result ≡ starts (time self.now) moment };
 }
 
-/// The moments of a run by a clock.
+/// The moments of a run by a clock. Where the clock can't be read, the moment that it showed last counts once more; after 1,000
+/// such readings in a row the next one fails.
 #[derive(Drop)]
 pub struct ClockMoments<'a, C: Dial> {
     clock: &'a C,
     epoch: Epoch,
+    /// The moment that the clock showed last: 0 when the run begins.
+    last: u64,
+    /// How many readings failed since then.
+    failures: u32,
 }
 
 impl<'a, C: Dial> ClockMoments<'a, C> {
@@ -55,12 +63,14 @@ impl<'a, C: Dial> ClockMoments<'a, C> {
     /// # Errors
     /// `ClockFault`.
     pub fn new(clock: &'a C) -> Result<Self, RunFault>
-        ensures begins { IfOk result (λ moments. (moments.clock.now ≡ clock.now) × BeginsBy (C.shows clock.now) (C.dates clock.now) moments.epoch) }
+        ensures begins { IfOk result (λ moments. (moments.clock.now ≡ clock.now) × BeginsBy (C.shows clock.now) (C.dates clock.now) moments.epoch × (moments.last ≡ 0)) }
         ensures faults { IfErr result (λ fault. (fault ≡ RunFault.ClockFault) × C.fails clock.now) }
     {
         Ok(ClockMoments {
             clock,
             epoch: Epoch::new(clock)?,
+            last: 0,
+            failures: 0,
         })
     }
 }
@@ -69,6 +79,7 @@ impl<C: Dial> Moments for ClockMoments<'_, C> {
     ghost use Rattle.chaosd_clock.specs.declared.clock.Epoch.{Epoch};
     ghost use Rattle.std.specs.Prelude.{refl};
     ghost use Rattle.std.proofs.lemmas.List.Elements.{All-nil};
+    ghost use Rattle.chaosd_clock.specs.Clock.{ShownSince};
 
     ghost Time = { C × Epoch };
 
@@ -78,12 +89,23 @@ impl<C: Dial> Moments for ClockMoments<'_, C> {
 
     ghost stops = { λ time. C.fails time.0 };
 
-    ghost read = { λ now start moments. (now.clock.now ≡ start.clock.now) × (now.epoch ≡ start.epoch) × All (IsMoment (C.shows start.clock.now) start.epoch) moments };
+    ghost read = { λ now start moments. (now.clock.now ≡ start.clock.now) × (now.epoch ≡ start.epoch) × ShownSince (C.shows start.clock.now) start.epoch start.last now.last moments };
 
-    ghost began = { λ moments. (refl, refl, All-nil (IsMoment (C.shows moments.clock.now) moments.epoch)) };
+    ghost began = { λ moments. (refl, refl, λ shown. (All-nil (IsMoment (C.shows moments.clock.now) moments.epoch), shown)) };
 
     fn next(&mut self) -> Result<u64, RunFault> {
-        self.epoch.moment(self.clock)
+        match self.epoch.moment(self.clock) {
+            Ok(moment) => {
+                self.last = moment;
+                self.failures = 0;
+                Ok(moment)
+            }
+            Err(_) if self.failures < MOST_FAILURES => {
+                self.failures += 1;
+                Ok(self.last)
+            }
+            Err(fault) => Err(fault),
+        }
     }
 
     fn start(&self, moment: u64) -> PktNum {

@@ -2,12 +2,13 @@
 ghost use Rattle.std.specs.Prelude.{None};
 
 use crate::local::Locals;
+use crate::source::open_source;
 use crate::stream::{STDOUT, check_stream, write_stream};
 use crate::whole::{check_whole, write_at};
 use chaosd_copy::read_whole;
 use std::fs::File;
+use std::io;
 use std::rt::Files;
-use std::{fs, io};
 
 /// The name of standard input and output.
 const STREAM: &str = "-";
@@ -36,7 +37,8 @@ fn place_of(name: &str) -> Place {
     }
 }
 
-/// The files of the system. `-` is standard input, or standard output, as is `/dev/stdout`; what is written to `/dev/null` is gone.
+/// The files of the system. `-` is standard input, or standard output, as is `/dev/stdout`; what is written to `/dev/null` is gone, and
+/// nothing is read from there. A fifo, a socket and a device are read by no other name.
 ///
 /// No clause says what a disk has, so it tells nothing of what it wrote and has.
 #[derive(Drop)]
@@ -74,9 +76,13 @@ impl<R: AllocGlobal + Files<File = File> + Input + Print> Locals for Disk<'_, R>
     }
 
     fn read(&mut self, name: &str) -> io::Result<Option<Vec<u8>>> {
+        let alloc = self.rt.alloc();
         if name == STREAM {
-            return read_whole(self.rt.alloc(), self.rt.reader());
+            return read_whole(alloc, self.rt.reader());
         }
-        read_whole(self.rt.alloc(), fs::open(self.rt, name)?)
+        if name == NOWHERE {
+            return Ok(Some(Vec::new(alloc)));
+        }
+        read_whole(alloc, open_source(self.rt, alloc, name)?)
     }
 }

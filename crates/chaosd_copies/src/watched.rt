@@ -126,6 +126,10 @@ impl<V: Viewer, T: Talk> Talk for Watched<V, T> {
         self.inner.moment()
     }
 
+    fn patience(&self) -> Option<u64> {
+        self.inner.patience()
+    }
+
     fn is_over(&self) -> bool {
         self.inner.is_over()
     }

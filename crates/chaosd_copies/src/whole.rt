@@ -1,10 +1,10 @@
 //! Local files that are written whole.
+use crate::kind::kind_of;
 use chaos_file::write_whole;
 use chaosd_copy::last_name;
 use std::alloc::Global;
 use std::fs::{File, Metadata, OpenFile};
 use std::io::ErrorKind;
-use std::os::unix::fs::FileTypeExt;
 use std::rt::Files;
 use std::{fs, io};
 
@@ -22,22 +22,6 @@ fn part_of(alloc: Global, path: &str, mark: u16) -> io::Result<String> {
     let folder = folder_of(path);
     let name = last_name(path);
     Ok(format!(in alloc; "{folder}/.{name}.{mark}.part")?)
-}
-
-/// What something is that is no file.
-fn kind_of(info: &Metadata) -> &'static str {
-    let kind = info.file_type();
-    if kind.is_dir() {
-        "it is a folder"
-    } else if kind.is_symlink() {
-        "it is a link"
-    } else if kind.is_fifo() {
-        "it is a fifo"
-    } else if kind.is_socket() {
-        "it is a socket"
-    } else {
-        "it is a device"
-    }
 }
 
 /// The file that has a name, where one has it. A folder, a link, a fifo, a socket and a device are refused, since a rename would take

@@ -1,9 +1,9 @@
 -- Turns in which nothing is received.
 use Rattle.std.proofs.Common.{◌≡◌, ℕ, ◌+◌, ◌-◌, ◌<◌, ◌≤◌, Bool, true, false, List, [], ◌∷◌, ◌++◌, Option, Some, None, refl, ap, ◌∙◌, sym, subst, arith, inl, inr}
 use Rattle.std.specs.Prelude.{Result, Ok, Err, IfOk, MatchOption}
-use Rattle.chaosd_copy.specs.declared.limits.TheConstants.{REPLY_TURNS, REPLY_MILLIS, MOST_TURNS}
+use Rattle.chaosd_copy.specs.declared.limits.TheConstants.{MOST_TURNS}
 use Rattle.chaosd_copy.specs.Copy.{upto}
-use Rattle.chaosd_copy.specs.Talk.{History, Since, Unheard, Turned, IsLong, received_in, sent_if, taken}
+use Rattle.chaosd_copy.specs.Talk.{History, Since, Unheard, Turned, IsLate, IsLong, received_in, sent_if, taken}
 use Rattle.chaosd_copy.specs.declared.end.CopyEnd.{CopyEnd}
 use Rattle.chaosd_copy.specs.declared.end.CopyEnd.TheVariants as e
 use Rattle.chaosd_copy.specs.Ends.{EndedBy, UnlessCopied, UnlessAnswered, unanswered}
@@ -79,12 +79,12 @@ unanswered_waited came reply end false P Q same e w f =
     subst (λ x. UnlessAnswered x Q) (sym same) (f (where_none came reply P e w))
 
 -- it was waited for long enough
-pub late : (a b c : Option ℕ) (n since s m : ℕ) → Turned n a b → c ≡ b → since ≡ s
-    → (REPLY_TURNS ≤ n) × (since + REPLY_MILLIS ≤ m)
-    → (turns : ℕ) × Turned turns a c × IsLong turns s m
-late a b c n since s m t e f long =
-    (n, subst (Turned n a) (sym e) t, (long.0, inl (subst (λ x. x + REPLY_MILLIS ≤ m) f long.1)))
+pub late : (patience a b c : Option ℕ) (n since s m : ℕ) → Turned n a b → c ≡ b → since ≡ s
+    → IsLate patience n (m - since)
+    → (turns : ℕ) × Turned turns a c × IsLong patience turns s m
+late patience a b c n since s m t e f long =
+    (n, subst (Turned n a) (sym e) t, inl (subst (λ x. IsLate patience n (m - x)) f long))
 
-pub latest : (a b : Option ℕ) (n s m : ℕ) → Turned n a b → n ≡ MOST_TURNS
-    → (turns : ℕ) × Turned turns a b × IsLong turns s m
-latest a b n s m t e = (n, t, (omega (arith, e), inr e))
+pub latest : (patience a b : Option ℕ) (n s m : ℕ) → Turned n a b → n ≡ MOST_TURNS
+    → (turns : ℕ) × Turned turns a b × IsLong patience turns s m
+latest patience a b n s m t e = (n, t, inr e)

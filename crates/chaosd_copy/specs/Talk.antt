@@ -1,5 +1,5 @@
 -- What was sent and received in a talk with a FILE server.
-use Rattle.std.specs.Prelude.{◌≡◌, ◌≤◌, ◌⊎◌, ℕ, ◌+◌, ◌-◌, Bool, true, false, List, [], ◌∷◌, ◌++◌, Option, Some, None, option_map, nat_lt, if◌then◌else◌}
+use Rattle.std.specs.Prelude.{◌≡◌, ◌≤◌, ◌⊎◌, ℕ, ◌-◌, Bool, true, false, List, [], ◌∷◌, ◌++◌, Option, Some, None, nat_lt, if◌then◌else◌}
 use Rattle.chaos_packet.specs.Count.{max_count}
 use Rattle.chaosd_copy.specs.declared.limits.TheConstants.{REPLY_TURNS, REPLY_MILLIS, MOST_TURNS}
 use Rattle.chaosd_copy.specs.Copy.{upto}
@@ -89,6 +89,8 @@ pub record Course : Type 0 where
   pub is_over : Bool
   -- the failures that were counted
   pub failures : ℕ
+  -- the milliseconds for which a reply is waited for, where the talk has a patience of its own
+  pub patience : Option ℕ
 
 -- what a count tells that stays at the greatest u64: nothing there
 abbrev pub counted : ℕ → Option ℕ
@@ -99,13 +101,19 @@ abbrev pub Turned : ℕ → Option ℕ → Option ℕ → Type 0
 Turned n before None = Unit {0}
 Turned n before (Some k) = (n ≤ k) × (before ≡ Some (k - n))
 
--- That many turns, from the one moment to the other, are long enough to wait for a reply: 1,000, and 10 seconds; where
--- the clock stands still, 4,294,967,295.
-abbrev pub IsLong : ℕ → ℕ → ℕ → Type 0
-IsLong turns since moment = (REPLY_TURNS ≤ turns) × ((since + REPLY_MILLIS ≤ moment) ⊎ (turns ≡ MOST_TURNS))
+-- A reply is late after that many turns and milliseconds: after the talk's patience by the clock alone; where the talk
+-- has none, after 1,000 turns and 10 seconds.
+abbrev pub IsLate : Option ℕ → ℕ → ℕ → Type 0
+IsLate None turns millis = (REPLY_TURNS ≤ turns) × (REPLY_MILLIS ≤ millis)
+IsLate (Some patience) turns millis = patience ≤ millis
+
+-- That many turns, from the one moment to the other, are long enough to wait for a reply: the reply is late; or, where
+-- the clock stands still, 4,294,967,295 turns were made.
+abbrev pub IsLong : Option ℕ → ℕ → ℕ → ℕ → Type 0
+IsLong patience turns since moment = IsLate patience turns (moment - since) ⊎ (turns ≡ MOST_TURNS)
 
 -- Since then nothing was received, and the talk is over or has gone on for long enough.
 abbrev pub InVain : {T : Type 0} → History T → Course → History T → Course → Type 0
 InVain start since now course = Unheard start now
     × ((course.is_over ≡ true)
-    ⊎ ((turns : ℕ) × Turned turns since.turns course.turns × IsLong turns since.moment course.moment))
+    ⊎ ((turns : ℕ) × Turned turns since.turns course.turns × IsLong course.patience turns since.moment course.moment))

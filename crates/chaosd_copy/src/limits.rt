@@ -2,10 +2,10 @@
 ghost use Rattle.std.specs.Prelude.{◌≡◌};
 ghost use Rattle.chaosd_copy.specs.declared.limits.TheConstants.{MAX_FIRST, MOST_TURNS, REPLY_MILLIS, REPLY_TURNS};
 
-/// The turns that a reply is waited for at least.
+/// The turns that a reply is waited for at least, where a talk has no patience of its own.
 pub const REPLY_TURNS: u32 = 1_000;
 
-/// The milliseconds that a reply is waited for at least.
+/// The milliseconds that a reply is waited for at least, where a talk has no patience of its own.
 pub const REPLY_MILLIS: u64 = 10_000;
 
 /// The turns that a reply is waited for at most, where the clock stands still.

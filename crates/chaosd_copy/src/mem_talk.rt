@@ -1,5 +1,5 @@
 //! A talk with a FILE server in memory.
-ghost use Rattle.std.specs.Prelude.{◌≡◌, ◌≤◌, [], ◌*◌, false, length, take, drop, map, min, option_map, Some, Err};
+ghost use Rattle.std.specs.Prelude.{◌≡◌, ◌≤◌, [], ◌*◌, false, length, take, drop, map, min, option_map, None, Some, Err};
 ghost use Rattle.chaos_packet.specs.Count.{max_count};
 ghost use Rattle.std.specs.FinMap as fin;
 ghost use Rattle.chaos_file.specs.declared.error.FileError.TheVariants.{NoMemory};
@@ -97,7 +97,7 @@ impl Talk for MemTalk {
     ghost ready = { λ t. Some (drop t.received (map (λ v. v.items) t.replies.items)) };
 
     /// It never ends. It counts turns as far as they can be.
-    ghost course = { λ t. record { turns = counted t.turns; moment = min (t.turns * 10) max_count; is_over = false; failures = 0 } };
+    ghost course = { λ t. record { turns = counted t.turns; moment = min (t.turns * 10) max_count; is_over = false; failures = 0; patience = None } };
 
     /// No turn fails.
     ghost failed_by = { λ _ _. ⊥ };
@@ -131,6 +131,10 @@ impl Talk for MemTalk {
     /// A turn counts ten milliseconds.
     fn moment(&self) -> u64 {
         self.turns.saturating_mul(10)
+    }
+
+    fn patience(&self) -> Option<u64> {
+        None
     }
 
     fn is_over(&self) -> bool {

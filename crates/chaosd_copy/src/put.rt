@@ -35,6 +35,7 @@ fn write_all<T: Talk>(talk: &mut T, first: u32, bytes: &[u8]) -> Result<CopyEnd,
     ensures ended { UnlessDone result (WritesEnded (T.talked talk.old) (T.talked talk.new) first bytes.now) }
     ensures waited { IfUnanswered result ((t : T) × InVain (T.talked t) (T.course t) (T.talked talk.new) (T.course talk.new)) }
     ensures unfailed { OnOk result ((T.course talk.new).failures ≤ (T.course talk.old).failures) }
+    ensures patient { (T.course talk.new).patience ≡ (T.course talk.old).patience }
     ensures faults { IfErr result (T.failed_by talk.new) }
 {
     let count = chunk_count(bytes.len());
@@ -94,6 +95,8 @@ pub fn put_file<T: Talk>(
     ensures waited { IfUnanswered result ((t : T) × InVain (T.talked t) (T.course t) (T.talked talk.new) (T.course talk.new)) }
     // It ends well only where no failure was counted.
     ensures unfailed { OnOk result ((T.course talk.new).failures ≤ (T.course talk.old).failures) }
+    // The talk stays as patient as it was.
+    ensures patient { (T.course talk.new).patience ≡ (T.course talk.old).patience }
     // It fails only by a turn that did, by the same fault.
     ensures faults { IfErr result (T.failed_by talk.new) }
 {

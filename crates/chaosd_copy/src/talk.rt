@@ -19,7 +19,7 @@ pub trait Talk {
     ghost ready: { Self → Option (List (List ℕ)) };
 
     /// How far it has come: the turns that were made, where the talk counts them, the moment of the last, whether no more replies
-    /// come than are there, and the failures that were counted.
+    /// come than are there, the failures that were counted, and its patience.
     ghost course: { Self → Course };
 
     /// The faults that may have ended the last turn.
@@ -31,14 +31,16 @@ pub trait Talk {
         ensures sent { Since (talked self.old) (talked self.new) (sent_if result command.now) [] }
         ensures kept { More (ready self.old) (ready self.new) }
         ensures still { (course self.new).turns ≡ (course self.old).turns }
-        ensures unfailed { (course self.new).failures ≡ (course self.old).failures };
+        ensures unfailed { (course self.new).failures ≡ (course self.old).failures }
+        ensures patient { (course self.new).patience ≡ (course self.old).patience };
 
     /// Leaves the next reply in the caller's place, where it is there, and says so. Where it isn't, no clause says what the place holds.
     fn receive(&mut self, reply: &mut Reply) -> bool
         ensures received { Since (talked self.old) (talked self.new) [] (received_in (taken result reply.new.items)) }
         ensures next { Next (ready self.old) (taken result reply.new.items) (ready self.new) }
         ensures still { (course self.new).turns ≡ (course self.old).turns }
-        ensures unfailed { (course self.new).failures ≡ (course self.old).failures };
+        ensures unfailed { (course self.new).failures ≡ (course self.old).failures }
+        ensures patient { (course self.new).patience ≡ (course self.old).patience };
 
     /// Goes on: what was sent is sent, and one that comes is taken, for which it may wait a moment.
     ///
@@ -49,11 +51,17 @@ pub trait Talk {
         ensures kept { More (ready self.old) (ready self.new) }
         ensures unfailed { OnOk result ((course self.new).failures ≤ (course self.old).failures) }
         ensures counted { Turned 1 (course self.old).turns (course self.new).turns }
+        ensures patient { (course self.new).patience ≡ (course self.old).patience }
         ensures faults { IfErr result (failed_by self.new) };
 
     /// The moment of the last turn, in milliseconds since some beginning.
     fn moment(&self) -> u64
         ensures { result ≡ (course self.now).moment };
+
+    /// The milliseconds for which a reply is waited for, by the clock alone, however many turns that takes. None where the talk has no
+    /// patience of its own: a reply is then waited for in 1,000 turns and 10 seconds at least.
+    fn patience(&self) -> Option<u64>
+        ensures { result ≡ (course self.now).patience };
 
     /// Whether no more replies come than are there.
     fn is_over(&self) -> bool

@@ -1,10 +1,10 @@
 //! Commands that are sent before the replies to those before them came.
-ghost use Rattle.std.specs.Prelude.{◌≡◌, ◌≤◌, ◌<◌, ◌+◌, ◌++◌, ◌∷◌, [], ℕ, true, List, Some, length, Decides, IfOk, IfErr, OnErr, OnOk, IfSome, MatchOption};
+ghost use Rattle.std.specs.Prelude.{◌≡◌, ◌≤◌, ◌<◌, ◌+◌, ◌-◌, ◌++◌, ◌∷◌, [], ℕ, true, List, Some, length, Decides, IfOk, IfErr, OnErr, OnOk, IfSome, MatchOption};
 ghost use Rattle.std.specs.Fmt.{decimal};
 ghost use Rattle.chaosd_copy.specs.Copy.{upto};
-ghost use Rattle.chaosd_copy.specs.Talk.{Since, Received, SentOrNot, InVain, Unheard, received_in, sent_if, taken};
+ghost use Rattle.chaosd_copy.specs.Talk.{Since, Received, SentOrNot, InVain, IsLate, Unheard, received_in, sent_if, taken};
 ghost use Rattle.chaosd_copy.specs.Row.{RequestFits, request_command, row_command};
-ghost use Rattle.chaosd_copy.specs.declared.limits.TheConstants.{MAX_FIRST, REPLY_TURNS, REPLY_MILLIS};
+ghost use Rattle.chaosd_copy.specs.declared.limits.TheConstants.{MAX_FIRST};
 ghost use Rattle.chaos_file.specs.declared.limits.TheConstants.{MAX_NAME};
 ghost use Rattle.chaosd_copy.specs.Ends.{IfCopied, IfDone, IfUnanswered, UnlessCopied, UnlessDone, IsErrorTo, EndedBy, EndedAt, login_command, login_reply};
 
@@ -95,6 +95,7 @@ fn send_on<T: Talk>(talk: &mut T, row: &Row<'_>, flight: &mut Flight)
     ensures quiet { Unheard (T.talked talk.old) (T.talked talk.new) }
     ensures still { (T.course talk.new).turns ≡ (T.course talk.old).turns }
     ensures unfailed { (T.course talk.new).failures ≡ (T.course talk.old).failures }
+    ensures patient { (T.course talk.new).patience ≡ (T.course talk.old).patience }
 {
     let most = flight.most_sent(row.count);
     let sent = send_more(talk, row, flight.sent, most, &mut flight.command);
@@ -121,6 +122,7 @@ fn send_more<T: Talk>(
     ensures quiet { Unheard (T.talked talk.old) (T.talked talk.new) }
     ensures still { (T.course talk.new).turns ≡ (T.course talk.old).turns }
     ensures unfailed { (T.course talk.new).failures ≡ (T.course talk.old).failures }
+    ensures patient { (T.course talk.new).patience ≡ (T.course talk.old).patience }
 {
     for i in sent..most {
         row.request.command(i, row.first + i as u32, command);
@@ -137,18 +139,25 @@ fn receive_asked<T: Talk>(talk: &mut T, is_asked: bool, reply: &mut Reply) -> bo
     ensures talk { Since (T.talked talk.old) (T.talked talk.new) [] (received_in (taken result reply.new.items)) }
     ensures still { (T.course talk.new).turns ≡ (T.course talk.old).turns }
     ensures unfailed { (T.course talk.new).failures ≡ (T.course talk.old).failures }
+    ensures patient { (T.course talk.new).patience ≡ (T.course talk.old).patience }
 {
     is_asked && talk.receive(reply)
 }
 
-/// Whether a reply has been waited for long enough: by turns and by the clock, since a turn that gets a stranger's datagram doesn't wait.
+/// Whether a reply has been waited for long enough: for the talk's patience by the clock alone; where the talk has none, by turns and by
+/// the clock, since a turn that gets a stranger's datagram doesn't wait.
 fn is_late<T: Talk>(talk: &T, turns: u32, since: u64) -> bool
-    ensures { result ≡ true → (REPLY_TURNS ≤ turns) × (since + REPLY_MILLIS ≤ (T.course talk.now).moment) }
+    ensures { Decides result (IsLate (T.course talk.now).patience turns ((T.course talk.now).moment - since)) }
 {
-    turns >= REPLY_TURNS && talk.moment().saturating_sub(since) >= REPLY_MILLIS
+    let millis = talk.moment().saturating_sub(since);
+    match talk.patience() {
+        Some(patience) => millis >= patience,
+        None => turns >= REPLY_TURNS && millis >= REPLY_MILLIS,
+    }
 }
 
-/// The next reply, waited for at least 1,000 turns and 10 seconds. It is left in the caller's place, and it is said whether one came.
+/// The next reply, waited for as long as the talk's patience; where the talk has none, for at least 1,000 turns and 10 seconds. It is
+/// left in the caller's place, and it is said whether one came.
 ///
 /// The first commands are sent at once, as many as there is room for, and from then on never more are without a reply, even where the
 /// server told that it has read some of them. A command tells which replies were read: so what comes to the server last leaves it room for
@@ -174,6 +183,7 @@ pub fn next_reply<T: Talk>(
     // It gives up only where it was waited for long enough, or no more replies come.
     ensures waited { IfOk result (λ came. MatchOption (taken came reply.new.items) (InVain (T.talked talk.old) (T.course talk.old) (T.talked talk.new) (T.course talk.new)) (λ _. Unit {0})) }
     ensures unfailed { OnOk result ((T.course talk.new).failures ≤ (T.course talk.old).failures) }
+    ensures patient { (T.course talk.new).patience ≡ (T.course talk.old).patience }
     ensures faults { IfErr result (T.failed_by talk.new) }
 {
     let since = talk.moment();
@@ -210,6 +220,7 @@ pub fn ask_telling<T: Talk>(
     ensures known { IfOk result (λ came. MatchOption (taken came reply.new.items) (Since (T.talked talk.old) (T.talked talk.new) (sent_if is_sent.new (request_command request.entry 0 tid)) []) (λ _. Unit {0})) }
     ensures waited { IfOk result (λ came. MatchOption (taken came reply.new.items) (InVain (T.talked talk.old) (T.course talk.old) (T.talked talk.new) (T.course talk.new)) (λ _. Unit {0})) }
     ensures unfailed { OnOk result ((T.course talk.new).failures ≤ (T.course talk.old).failures) }
+    ensures patient { (T.course talk.new).patience ≡ (T.course talk.old).patience }
     ensures faults { IfErr result (T.failed_by talk.new) }
 {
     let row = Row {
@@ -243,6 +254,7 @@ pub fn ask_one<T: Talk>(
     ensures all { IfOk result (λ came. Received (T.talked talk.old) (T.talked talk.new) (received_in (taken came reply.new.items))) }
     ensures waited { IfOk result (λ came. MatchOption (taken came reply.new.items) (InVain (T.talked talk.old) (T.course talk.old) (T.talked talk.new) (T.course talk.new)) (λ _. Unit {0})) }
     ensures unfailed { OnOk result ((T.course talk.new).failures ≤ (T.course talk.old).failures) }
+    ensures patient { (T.course talk.new).patience ≡ (T.course talk.old).patience }
     ensures faults { IfErr result (T.failed_by talk.new) }
 {
     let mut is_sent = false;
@@ -313,6 +325,8 @@ pub fn log_in<T: Talk>(talk: &mut T, name: &[u8]) -> Result<CopyEnd, RunFault>
     ensures waited { IfUnanswered result ((t : T) × InVain (T.talked t) (T.course t) (T.talked talk.new) (T.course talk.new)) }
     // It ends well only where no failure was counted.
     ensures unfailed { OnOk result ((T.course talk.new).failures ≤ (T.course talk.old).failures) }
+    // The talk stays as patient as it was.
+    ensures patient { (T.course talk.new).patience ≡ (T.course talk.old).patience }
     // It fails only by a turn that did, by the same fault.
     ensures faults { IfErr result (T.failed_by talk.new) }
 {

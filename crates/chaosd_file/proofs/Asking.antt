@@ -639,12 +639,23 @@ failed_there p Failed first queue input rest before after (Err fault) (parted, a
       (no_other (Parts p parted queue) Failed) parts,
 )
 
+-- what follows of a run in which all was asked
+pub if_asked_by : (result : Result ScriptEnd RunFault) (P Q : Type 0) → (P → Q) → IfAsked result P → IfAsked result Q
+if_asked_by (Ok end) P Q f h = f h
+if_asked_by (Err (BadScript number)) P Q f h = f h
+if_asked_by (Err ReadFault) P Q f h = f h
+if_asked_by (Err InputTooLong) P Q f h = f h
+if_asked_by (Err WriteFault) P Q f h = f h
+if_asked_by (Err NoMemory) P Q f h = tt
+if_asked_by (Err LinkFault) P Q f h = tt
+if_asked_by (Err ClockFault) P Q f h = tt
+
 -- a run by a clock that began then
 pub by_clock : (Begins Speaks : Epoch → Type 0) (result : Result ScriptEnd RunFault) (epoch : Epoch)
-    → Begins epoch → Speaks epoch → IfAsked result ((x : Epoch) × Begins x × Speaks x)
+    → Begins epoch → IfAsked result (Speaks epoch) → IfAsked result ((x : Epoch) × Begins x × Speaks x)
 by_clock Begins Speaks result epoch begins speaks =
-    let run : (x : Epoch) × Begins x × Speaks x = (epoch, begins, speaks) in
-    if_asked result ((x : Epoch) × Begins x × Speaks x) run
+    let run : Speaks epoch → (x : Epoch) × Begins x × Speaks x = λ h. (epoch, begins, h) in
+    if_asked_by result (Speaks epoch) ((x : Epoch) × Begins x × Speaks x) run speaks
 
 -- of the same queue, and of as many failures
 pub same_link : (p : Pace) (Stops : Type 0) (was count : ℕ) (first : Talker) (before after : Option QueueView)

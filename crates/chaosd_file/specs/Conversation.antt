@@ -16,15 +16,17 @@ use Rattle.chaosd_file.specs.Printed.{PrintsReplies, ending_of, replies_text}
 use Rattle.chaosd_file.specs.Script.{IsCommand, lines_within}
 use Rattle.file_client.specs.Caller.{CallerView, HangsUp}
 use Rattle.file_client.specs.Pace.{Pace}
+use Rattle.file_client.specs.Patience.{usual_patience}
 use Rattle.file_client.specs.Talk.{Talker, Talk, Talks, Anything, Exchanges, SendsFarewell, command_item}
 
--- what the client of `loop` goes by: turns times 10 milliseconds, always the same first number, it asks but once, and a turn
--- waits only where it may
+-- what the client of `loop` goes by: turns times 10 milliseconds, always the same first number, it asks but once, a
+-- command waits for its reply for 1,000 turns, and a turn waits only where it may
 abbrev pub loop_pace : Pace
 loop_pace = record {
   Shows = λ moment. (turns : ℕ) × (moment ≡ min (turns * LOOP_TURN) max_count);
   starts = λ moment. 65534;
   wait = max_count;
+  patience = usual_patience;
   Waits = λ allowed waits. waits ≡ true → allowed ≡ true;
 }
 

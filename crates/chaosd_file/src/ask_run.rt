@@ -1,23 +1,23 @@
 //! The engine `ask`.
 ghost use Rattle.std.specs.Prelude.{◌≡◌, ◌<◌, ◌≤◌, ◌⊎◌, Err, OnOk};
-ghost use Rattle.chaosd_file.specs.declared.limits.TheConstants.{SCRIPT_WINDOW};
+ghost use Rattle.chaos_conn.specs.Config.{usual_config};
 ghost use Rattle.chaosd_file.specs.Conversation.{Converses, IfAsked};
 ghost use Rattle.chaosd_file.specs.Script.{Runs};
 ghost use Rattle.file_client.specs.Caller.{new_caller};
-ghost use Rattle.chaosd_clock.specs.Clock.{BeginsBy, low_bits_of};
-ghost use Rattle.file_client.specs.Pace.{clock_pace};
+ghost use Rattle.chaosd_clock.specs.Clock.{BeginsBy};
+ghost use Rattle.file_client.specs.Pace.{clock_pace, usual_timing};
 ghost use Rattle.file_client.specs.Talk.{talker};
 ghost use Rattle.chaosd_clock.specs.declared.clock.Epoch.{Epoch};
 
 use crate::end::ScriptEnd;
-use crate::limits::SCRIPT_WINDOW;
 use crate::ready::{Ready, Unasked};
 use crate::script::run_script;
 use crate::why::Why;
+use chaos_conn::ConnConfig;
 use chaos_link::{Carriage, Link};
-use chaosd_clock::Dial;
+use chaosd_clock::{Dial, Epoch};
 use chaosd_io::RunFault;
-use file_client::{Client, Timed};
+use file_client::{Client, Route, Timed, Timing};
 use std::alloc::Global;
 use std::io::{Read, Write};
 
@@ -49,26 +49,25 @@ pub fn run_ask<C: Dial, R: Read, W: Write, L: Link>(
     // What its connection wrote are the commands of these lines, in order, and, where it ended well, then an EOF, and what was printed
     // are the data that it read, in order. It is closed however that ends, but where the clock can't be read or the link failed.
     ensures talk { IfAsked result ((epoch : Epoch) × BeginsBy (C.shows clock.now) (C.dates clock.now) epoch
-        × Converses (clock_pace (C.shows clock.now) epoch) (C.fails clock.now ⊎ (0 < L.count link.new)) (talker (new_caller me to SCRIPT_WINDOW carriage (low_bits_of epoch)) (L.queue link.old)) (L.queue link.new) (R.remaining reader.old) (R.remaining reader.new) (W.contents writer.old) (W.contents writer.new) result) }
+        × Converses (clock_pace (C.shows clock.now) (usual_timing epoch)) (C.fails clock.now ⊎ (0 < L.count link.new)) (talker (new_caller me to usual_config carriage epoch.passed) (L.queue link.old)) (L.queue link.new) (R.remaining reader.old) (R.remaining reader.new) (W.contents writer.old) (W.contents writer.new) result) }
     // It ends well only where the link's count of failures didn't rise.
     ensures well { OnOk result (L.count link.new ≤ L.count link.old) }
     // It ends by a LinkFault only where the link counted failures.
     ensures failed { result ≡ Err RunFault.LinkFault → 0 < L.count link.new }
 {
-    let route = Route { me, to, carriage };
-    run_ask_by::<Unasked, C, R, W, L>(clock, alloc, reader, writer, link, why, route)
+    let epoch = Epoch::new(clock)?;
+    let timing = Timing::usual(epoch);
+    let route = Route {
+        me,
+        to,
+        config: ConnConfig::usual(),
+        carriage,
+    };
+    run_ask_by::<Unasked, C, R, W, L>(clock, alloc, reader, writer, link, why, &route, timing)
 }
 
-/// Who asks whom, and how its packets are carried.
-#[derive(Clone, Copy)]
-pub struct Route {
-    pub me: u16,
-    pub to: u16,
-    pub carriage: Carriage,
-}
-
-/// The same, of a reader that is asked whether it has something to give before each read: while it hasn't, and there is a connection,
-/// the client takes turns. So it answers the server's probes while somebody types.
+/// The same, by a route and a timing of the caller's, and of a reader that is asked whether it has something to give before each read:
+/// while it hasn't, and there is a connection, the client takes turns. So it answers the server's probes while somebody types.
 ///
 /// # Errors
 /// As [`run_ask`].
@@ -79,28 +78,21 @@ pub fn run_ask_by<P: Ready<R>, C: Dial, R: Read, W: Write, L: Link>(
     writer: &mut W,
     link: &mut L,
     why: &mut Option<Why>,
-    route: Route,
+    route: &Route,
+    timing: Timing,
 ) -> Result<ScriptEnd, RunFault>
-    requires { 0 < route.me }
+    requires { 0 < route.now.me }
     // Which lines were commands, what was printed, and how it ended.
     ensures runs { Runs (R.remaining reader.old) (R.remaining reader.new) (W.contents writer.old) (W.contents writer.new) result }
     // What its connection wrote are the commands of these lines, in order, and, where it ended well, then an EOF, and what was printed
     // are the data that it read, in order. It is closed however that ends, but where the clock can't be read or the link failed.
-    ensures talk { IfAsked result ((epoch : Epoch) × BeginsBy (C.shows clock.now) (C.dates clock.now) epoch
-        × Converses (clock_pace (C.shows clock.now) epoch) (C.fails clock.now ⊎ (0 < L.count link.new)) (talker (new_caller route.me route.to SCRIPT_WINDOW route.carriage (low_bits_of epoch)) (L.queue link.old)) (L.queue link.new) (R.remaining reader.old) (R.remaining reader.new) (W.contents writer.old) (W.contents writer.new) result) }
+    ensures talk { IfAsked result (Converses (clock_pace (C.shows clock.now) timing) (C.fails clock.now ⊎ (0 < L.count link.new)) (talker (new_caller route.now.me route.now.to route.now.config route.now.carriage timing.epoch.passed) (L.queue link.old)) (L.queue link.new) (R.remaining reader.old) (R.remaining reader.new) (W.contents writer.old) (W.contents writer.new) result) }
     // It ends well only where the link's count of failures didn't rise.
     ensures well { OnOk result (L.count link.new ≤ L.count link.old) }
     // It ends by a LinkFault only where the link counted failures.
     ensures failed { result ≡ Err RunFault.LinkFault → 0 < L.count link.new }
 {
-    let mut turns = Timed::new(clock, link)?;
-    let mut client = Client::new(
-        alloc,
-        &turns,
-        route.me,
-        route.to,
-        SCRIPT_WINDOW,
-        route.carriage,
-    )?;
+    let mut turns = Timed::new(clock, link, timing);
+    let mut client = Client::new(alloc, &turns, route)?;
     run_script::<P, Timed<'_, C, L>, R, W>(&mut client, &mut turns, reader, writer, why)
 }

@@ -14,7 +14,7 @@ mod replies;
 mod script;
 mod why;
 
-pub use ask_run::{Route, run_ask, run_ask_by};
+pub use ask_run::{run_ask, run_ask_by};
 pub use end::ScriptEnd;
 pub use limits::{LOOP_CLIENT, LOOP_SERVER, NOBODY, law_limits};
 pub use loop_run::run_loop;

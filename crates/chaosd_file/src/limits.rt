@@ -1,6 +1,6 @@
 //! The numbers that the engines keep to.
 ghost use Rattle.std.specs.Prelude.{◌≡◌};
-ghost use Rattle.chaosd_file.specs.declared.limits.TheConstants.{LOOP_CLIENT, LOOP_SERVER, LOOP_TURN, SCRIPT_WINDOW};
+ghost use Rattle.chaosd_file.specs.declared.limits.TheConstants.{LOOP_CLIENT, LOOP_SERVER, LOOP_TURN};
 
 use chaos_packet::{Opcode, PktNum};
 
@@ -22,13 +22,9 @@ pub const LOOP_SERVER_START: PktNum = PktNum(65_530);
 /// The milliseconds of a turn in `loop`.
 pub const LOOP_TURN: u64 = 10;
 
-/// The windows of a script's client, in packets: the usual ones.
-pub const SCRIPT_WINDOW: u16 = 13;
-
 /// The numbers as numerals.
 pub fn law_limits()
     ensures client { LOOP_CLIENT ≡ 257 }
     ensures server { LOOP_SERVER ≡ 258 }
     ensures turn { LOOP_TURN ≡ 10 }
-    ensures window { SCRIPT_WINDOW ≡ 13 }
 {}

@@ -4,14 +4,13 @@ ghost use Rattle.chaos_packet.specs.Count.{Rose};
 ghost use Rattle.chaos_turn.specs.declared.end.TurnEnd.{TurnEnd};
 ghost use Rattle.chaosd_file.specs.Conversation.{Converses, IfAsked, loop_pace};
 ghost use Rattle.chaosd_file.specs.Script.{Runs};
-ghost use Rattle.chaosd_file.specs.declared.limits.TheConstants.{LOOP_CLIENT, LOOP_SERVER, SCRIPT_WINDOW};
+ghost use Rattle.chaosd_file.specs.declared.limits.TheConstants.{LOOP_CLIENT, LOOP_SERVER};
+ghost use Rattle.chaos_conn.specs.Config.{usual_config};
 ghost use Rattle.file_client.specs.Caller.{new_caller};
 ghost use Rattle.file_client.specs.Talk.{talker};
 
 use crate::end::ScriptEnd;
-use crate::limits::{
-    LOOP_CLIENT, LOOP_CLIENT_START, LOOP_SERVER, LOOP_SERVER_START, LOOP_TURN, SCRIPT_WINDOW,
-};
+use crate::limits::{LOOP_CLIENT, LOOP_CLIENT_START, LOOP_SERVER, LOOP_SERVER_START, LOOP_TURN};
 use crate::ready::Unasked;
 use crate::script::run_script;
 use crate::why::Why;
@@ -22,7 +21,7 @@ use chaos_link::{Carriage, LINK_ROOM, Link};
 use chaos_packet::{Outbox, PktNum};
 use chaos_turn::{TURN_ROOM, TurnEnd, client_turn};
 use chaosd_io::RunFault;
-use file_client::{Client, Turns};
+use file_client::{Client, Patience, Route, Turns};
 use file_server::Server;
 use std::alloc::Global;
 use std::io::{Read, Write};
@@ -115,6 +114,10 @@ impl<A: Link, B: Link> Turns for Both<'_, A, B> {
         u64::MAX
     }
 
+    fn patience(&self) -> Patience {
+        Patience::usual()
+    }
+
     fn passed(&self) -> u8 {
         0
     }
@@ -185,7 +188,7 @@ pub fn run_loop<R: Read, W: Write, A: Link, B: Link>(
     ensures runs { Runs (R.remaining reader.old) (R.remaining reader.new) (W.contents writer.old) (W.contents writer.new) result }
     // What its connection wrote are the commands of these lines, in order, and, where it ended well, then an EOF, and what was printed
     // are the data that it read, in order. It is closed however that ends, but where a link failed.
-    ensures talk { IfAsked result (Converses loop_pace (0 < A.count link_a.new + B.count link_b.new) (talker (new_caller LOOP_CLIENT LOOP_SERVER SCRIPT_WINDOW carriage 0) (A.queue link_a.old)) (A.queue link_a.new) (R.remaining reader.old) (R.remaining reader.new) (W.contents writer.old) (W.contents writer.new) result) }
+    ensures talk { IfAsked result (Converses loop_pace (0 < A.count link_a.new + B.count link_b.new) (talker (new_caller LOOP_CLIENT LOOP_SERVER usual_config carriage 0) (A.queue link_a.old)) (A.queue link_a.new) (R.remaining reader.old) (R.remaining reader.new) (W.contents writer.old) (W.contents writer.new) result) }
     // It ends well only where the links' counts of failures, together, didn't rise.
     ensures well { OnOk result (A.count link_a.new + B.count link_b.new ≤ A.count link_a.old + B.count link_b.old) }
     // It ends by a LinkFault only where a link counted failures.
@@ -210,7 +213,7 @@ fn run_between<R: Read, W: Write, A: Link, B: Link>(
     carriage: Carriage,
 ) -> Result<ScriptEnd, RunFault>
     ensures runs { Runs (R.remaining reader.old) (R.remaining reader.new) (W.contents writer.old) (W.contents writer.new) result }
-    ensures talk { IfAsked result (Converses loop_pace (0 < A.count near.new + B.count far.new) (talker (new_caller LOOP_CLIENT LOOP_SERVER SCRIPT_WINDOW carriage 0) (A.queue near.old)) (A.queue near.new) (R.remaining reader.old) (R.remaining reader.new) (W.contents writer.old) (W.contents writer.new) result) }
+    ensures talk { IfAsked result (Converses loop_pace (0 < A.count near.new + B.count far.new) (talker (new_caller LOOP_CLIENT LOOP_SERVER usual_config carriage 0) (A.queue near.old)) (A.queue near.new) (R.remaining reader.old) (R.remaining reader.new) (W.contents writer.old) (W.contents writer.new) result) }
     ensures well { OnOk result (A.count near.new + B.count far.new ≤ A.count near.old + B.count far.old) }
     ensures failed { result ≡ Err RunFault.LinkFault → 0 < A.count near.new + B.count far.new }
 {
@@ -223,13 +226,12 @@ fn run_between<R: Read, W: Write, A: Link, B: Link>(
         buffer: [0; LINK_ROOM],
         is_idle: false,
     };
-    let mut client = Client::new(
-        alloc,
-        &turns,
-        LOOP_CLIENT,
-        LOOP_SERVER,
-        SCRIPT_WINDOW,
+    let route = Route {
+        me: LOOP_CLIENT,
+        to: LOOP_SERVER,
+        config: ConnConfig::usual(),
         carriage,
-    )?;
+    };
+    let mut client = Client::new(alloc, &turns, &route)?;
     run_script::<Unasked, Both<'_, A, B>, R, W>(&mut client, &mut turns, reader, writer, why)
 }

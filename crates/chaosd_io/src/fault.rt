@@ -23,7 +23,7 @@ pub enum RunFault {
     #[error("line {0}: bad")]
     BadScript(u64),
     /// 6: a link failed.
-    #[error("sending or receiving failed")]
+    #[error("the socket failed")]
     LinkFault,
     /// 7: the clock could not be read.
     #[error("the clock could not be read")]

@@ -8,7 +8,7 @@ use Rattle.chaos_link.specs.declared.carriage.Carriage.TheVariants.{One, Two}
 use Rattle.chaos_link.specs.declared.peers.Peer.{Peer}
 use Rattle.chaosd_line.specs.Lines.{AsksFor, IsAsk, IsLine, IsSame, IsSameAsk, IsSameCalling, IsSameCopying, IsSameDelete, IsSameGet, IsSamePut, IsSameRename, IsSameServe, IsServe}
 use Rattle.chaosd_line.specs.Files.{IsCalling, IsCopying, IsDelete, IsGet, IsPathOf, IsPut, IsRename}
-use Rattle.chaosd_line.specs.Values.{IsAddress, IsCarriage, IsFlag, IsLog, IsLogin, IsPeer, IsSocket, IsTurns, IsWindow}
+use Rattle.chaosd_line.specs.Values.{IsAddress, IsCarriage, IsFlag, IsLog, IsLogin, IsPeer, IsRetransmit, IsSocket, IsTurns, IsWindow}
 use Rattle.chaosd_line.proofs.Unique.{one_address, one_flag, one_peer, one_socket, one_timeout, one_turns, one_value}
 use Rattle.std.specs.Borrow.{Bor}
 use Rattle.chaosd_line.specs.declared.line.Ask.{Ask}
@@ -50,6 +50,9 @@ same_some s t e = cc
 one_window : (t : Text) (m n : ℕ) → IsWindow t m → IsWindow t n → m ≡ n
 one_window t m n h k = h.2 ∙ sym k.2
 
+one_retransmit : (t : Text) (m n : ℕ) → IsRetransmit t m → IsRetransmit t n → m ≡ n
+one_retransmit t m n h k = h.2 ∙ sym k.2
+
 -- two texts that begin otherwise are not one
 other_first : (t u v : Text) → t ≡ u → t ≡ v → slice_index u 0 ≡ slice_index v 0
 other_first t u v h k = ap (λ w. slice_index w 0) (sym h ∙ k)
@@ -87,6 +90,7 @@ same_serve : (rows : List Row) (s t : Serve) → IsServe rows s → IsServe rows
 same_serve rows s t h k = record {
   carriage = one_value IsCarriage one_carriage _ _ _ h.carriage k.carriage;
   window = one_value IsWindow one_window _ _ _ h.window k.window;
+  retransmit = one_value IsRetransmit one_retransmit _ _ _ h.retransmit k.retransmit;
   is_quiet = one_value IsFlag one_flag _ _ _ h.is_quiet k.is_quiet;
   log = one_value IsLog one_log _ _ _ h.log k.log;
   is_timed = one_value IsFlag one_flag _ _ _ h.is_timed k.is_timed;
@@ -103,6 +107,8 @@ same_ask : (rows : List Row) (s t : Ask) → IsAsk rows s → IsAsk rows t → I
 same_ask rows s t h k = record {
   carriage = one_value IsCarriage one_carriage _ _ _ h.carriage k.carriage;
   timeout = one_timeout _ _ _ h.timeout k.timeout;
+  retransmit = one_value IsRetransmit one_retransmit _ _ _ h.retransmit k.retransmit;
+  hears_anybody = one_value IsFlag one_flag _ _ _ h.hears_anybody k.hears_anybody;
   is_strict = one_value IsFlag one_flag _ _ _ h.is_strict k.is_strict;
   address = one_value IsAddress one_address _ _ _ h.address k.address;
   socket = one_value IsSocket one_socket _ _ _ h.socket k.socket;
@@ -121,6 +127,7 @@ same_calling rows s t h k = record {
   login = one_login _ s.login t.login h.login k.login;
   window = one_value IsWindow one_window _ _ _ h.window k.window;
   timeout = one_timeout _ _ _ h.timeout k.timeout;
+  hears_anybody = one_value IsFlag one_flag _ _ _ h.hears_anybody k.hears_anybody;
   address = one_value IsAddress one_address _ _ _ h.address k.address;
   socket = one_value IsSocket one_socket _ _ _ h.socket k.socket;
   server = one_value IsPeer one_peer _ _ _ h.server k.server;

@@ -28,6 +28,10 @@ carriage_option = with_default (codes "carriage") (codes "1")
 abbrev pub window_option : Rule
 window_option = with_default (codes "window") (codes "13")
 
+-- `--retransmit MS`, of `serve` and `ask`
+abbrev pub retransmit_option : Rule
+retransmit_option = with_default (codes "retransmit") (codes "500")
+
 -- the peers, of which any number may be given
 abbrev pub peer_words : Rule
 peer_words = record (new_rule (codes "PEER")) {
@@ -56,10 +60,17 @@ flag id = record (new_rule id) {
 abbrev pub show_command : App
 show_command = with_rule (new_app (codes "show")) (flag (codes "file"))
 
--- ask [--carriage N] [--timeout SECONDS] [--strict] ADDRESS UDP TO PEER...
+-- `--any-source`, of `ask` and the callers of a server
+abbrev pub any_source_flag : Rule
+any_source_flag = flag (codes "any-source")
+
+-- ask [--carriage N] [--timeout SECONDS] [--retransmit MS] [--any-source] [--strict] ADDRESS UDP TO PEER...
 abbrev pub ask_options : App → App
-ask_options app =
-    with_rule (with_rule (with_rule app carriage_option) (optional (codes "timeout"))) (flag (codes "strict"))
+ask_options app = with_rule
+    (with_rule
+    (with_rule (with_rule (with_rule app carriage_option) (optional (codes "timeout"))) retransmit_option)
+    any_source_flag)
+    (flag (codes "strict"))
 
 abbrev pub ask_command : App
 ask_command = with_rule
@@ -69,9 +80,10 @@ ask_command = with_rule
     (needed (codes "TO")))
     peer_words
 
--- [--turns N] [--carriage N] [--window N] [--quiet] [--log LEVEL] [--log-time] [--only-peers] [--read-only]
+-- [--turns N] [--carriage N] [--window N] [--retransmit MS] [--quiet] [--log LEVEL] [--log-time] [--only-peers] [--read-only]
 abbrev pub turn_options : App → App
-turn_options app = with_rule (with_rule (with_rule app turns_option) carriage_option) window_option
+turn_options app =
+    with_rule (with_rule (with_rule (with_rule app turns_option) carriage_option) window_option) retransmit_option
 
 abbrev pub log_options : App → App
 log_options app =
@@ -97,13 +109,15 @@ file_words id = record (new_rule id) {
   required = true;
 }
 
--- [--carriage N] [--login NAME] [--window N] [--timeout SECONDS]
+-- [--carriage N] [--login NAME] [--window N] [--timeout SECONDS] [--any-source]
 abbrev pub call_options : App → App
 call_options app = with_rule
     (with_rule
+    (with_rule
     (with_rule (with_rule app carriage_option) (with_default (codes "login") (codes "CHAOSD")))
     (with_default (codes "window") (codes "64")))
-    (optional (codes "timeout"))
+    (optional (codes "timeout")))
+    any_source_flag
 
 -- with these [--text] [--quiet] [--verbose]
 abbrev pub copy_options : App → App

@@ -133,6 +133,7 @@ pub record IsCalling (rows : List Row) (c : Calling) : Type 0 where
   pub login : IsSomeAnd (first_of (codes "login") rows) (λ text. IsLogin text c.login)
   pub window : IsSomeAnd (first_of (codes "window") rows) (λ text. IsWindow text c.window)
   pub timeout : IsTimeout (first_of (codes "timeout") rows) c.timeout
+  pub hears_anybody : IsSomeAnd (first_of (codes "any-source") rows) (λ text. IsFlag text c.hears_anybody)
   pub address : IsSomeAnd (first_of (codes "ADDRESS") rows) (λ text. IsAddress text c.address)
   pub socket : IsSomeAnd (first_of (codes "UDP") rows) (λ text. IsSocket text c.socket)
   pub server : IsSomeAnd (first_of (codes "SERVER") rows) (λ text. IsPeer text c.server)

@@ -4,7 +4,7 @@ use Rattle.std.specs.Option.{IsSomeAnd}
 use Rattle.clap.specs.Words.{Row, Text, all_of, first_of, subcommand_of}
 use Rattle.chaosd_line.specs.CommandLine.{chaosd}
 use Rattle.chaosd_line.specs.Files.{IsDelete, IsGet, IsPut, IsRename}
-use Rattle.chaosd_line.specs.Values.{ArePeers, IsAddress, IsCarriage, IsFlag, IsLog, IsSocket, IsTimeout, IsTurns, IsWindow}
+use Rattle.chaosd_line.specs.Values.{ArePeers, IsAddress, IsCarriage, IsFlag, IsLog, IsRetransmit, IsSocket, IsTimeout, IsTurns, IsWindow}
 use Rattle.chaosd_line.specs.declared.line.Line.{Line}
 use Rattle.chaosd_line.specs.declared.line.Line.TheVariants as line
 use Rattle.chaosd_line.specs.declared.line.Serve.{Serve}
@@ -21,6 +21,7 @@ pub record IsServe (rows : List Row) (serve : Serve) : Type 0 where
   pub turns : IsSomeAnd (first_of (codes "turns") rows) (λ text. IsTurns text serve.turns)
   pub carriage : IsSomeAnd (first_of (codes "carriage") rows) (λ text. IsCarriage text serve.carriage)
   pub window : IsSomeAnd (first_of (codes "window") rows) (λ text. IsWindow text serve.window)
+  pub retransmit : IsSomeAnd (first_of (codes "retransmit") rows) (λ text. IsRetransmit text serve.retransmit)
   pub is_quiet : IsSomeAnd (first_of (codes "quiet") rows) (λ text. IsFlag text serve.is_quiet)
   pub log : IsSomeAnd (first_of (codes "log") rows) (λ text. IsLog text serve.log)
   pub is_timed : IsSomeAnd (first_of (codes "log-time") rows) (λ text. IsFlag text serve.is_timed)
@@ -35,6 +36,8 @@ pub record IsServe (rows : List Row) (serve : Serve) : Type 0 where
 pub record IsAsk (rows : List Row) (ask : Ask) : Type 0 where
   pub carriage : IsSomeAnd (first_of (codes "carriage") rows) (λ text. IsCarriage text ask.carriage)
   pub timeout : IsTimeout (first_of (codes "timeout") rows) ask.timeout
+  pub retransmit : IsSomeAnd (first_of (codes "retransmit") rows) (λ text. IsRetransmit text ask.retransmit)
+  pub hears_anybody : IsSomeAnd (first_of (codes "any-source") rows) (λ text. IsFlag text ask.hears_anybody)
   pub is_strict : IsSomeAnd (first_of (codes "strict") rows) (λ text. IsFlag text ask.is_strict)
   pub address : IsSomeAnd (first_of (codes "ADDRESS") rows) (λ text. IsAddress text ask.address)
   pub socket : IsSomeAnd (first_of (codes "UDP") rows) (λ text. IsSocket text ask.socket)
@@ -69,6 +72,7 @@ pub record IsSameServe (s t : Serve) : Type 0 where
   pub turns : s.turns ≡ t.turns
   pub carriage : s.carriage ≡ t.carriage
   pub window : s.window ≡ t.window
+  pub retransmit : s.retransmit ≡ t.retransmit
   pub is_quiet : s.is_quiet ≡ t.is_quiet
   pub log : s.log ≡ t.log
   pub is_timed : s.is_timed ≡ t.is_timed
@@ -83,6 +87,8 @@ pub record IsSameServe (s t : Serve) : Type 0 where
 pub record IsSameAsk (s t : Ask) : Type 0 where
   pub carriage : s.carriage ≡ t.carriage
   pub timeout : s.timeout ≡ t.timeout
+  pub retransmit : s.retransmit ≡ t.retransmit
+  pub hears_anybody : s.hears_anybody ≡ t.hears_anybody
   pub is_strict : s.is_strict ≡ t.is_strict
   pub address : s.address ≡ t.address
   pub socket : s.socket ≡ t.socket
@@ -95,6 +101,7 @@ pub record IsSameCalling (s t : Calling) : Type 0 where
   pub login : s.login.now ≡ t.login.now
   pub window : s.window ≡ t.window
   pub timeout : s.timeout ≡ t.timeout
+  pub hears_anybody : s.hears_anybody ≡ t.hears_anybody
   pub address : s.address ≡ t.address
   pub socket : s.socket ≡ t.socket
   pub server : s.server ≡ t.server

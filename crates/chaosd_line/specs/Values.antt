@@ -44,6 +44,11 @@ abbrev pub IsWindow : Text → ℕ → Type 0
 IsWindow text n =
     IsNumeral 10 text × ¬ (IsPadded text) × (n ≡ digits_value 10 text) × (1 ≤ n) × (n ≤ 64)
 
+-- decimal digits without leading zeros that write a number from 20 to 60000
+abbrev pub IsRetransmit : Text → ℕ → Type 0
+IsRetransmit text n =
+    IsNumeral 10 text × ¬ (IsPadded text) × (n ≡ digits_value 10 text) × (20 ≤ n) × (n ≤ 60000)
+
 -- decimal digits without leading zeros that write a number from 1 to 3600
 abbrev pub IsSeconds : Text → ℕ → Type 0
 IsSeconds text n =

@@ -1,5 +1,6 @@
 //! A word that is not of the form that its place wants.
 
+use chaos_file::PrintedName;
 use std::alloc::{AllocError, Global};
 
 /// What is wanted of an address.
@@ -32,6 +33,10 @@ pub(crate) const LOGIN_FORM: &str = "1 to 16 letters and digits";
 
 /// What is wanted of a window.
 pub(crate) const WINDOW_FORM: &str = "a decimal number without leading zeros, from 1 to 64";
+
+/// What is wanted of a number of milliseconds after which packets are sent again.
+pub(crate) const RETRANSMIT_FORM: &str =
+    "a decimal number of milliseconds without leading zeros, from 20 to 60000";
 
 /// What is wanted of a flag, which no words can fail.
 pub(crate) const FLAG_FORM: &str = "no value";
@@ -72,7 +77,8 @@ pub(crate) struct Clash<'a> {
 impl Clash<'_> {
     /// What the user is told of it.
     pub(crate) fn message(&self, alloc: Global) -> Result<String, AllocError> {
-        let Clash { first, second } = *self;
+        let first = PrintedName(self.first);
+        let second = PrintedName(self.second);
         format!(in alloc;
             "invalid value '{second}' for 'LOCAL': wanted a path for each file, but '{first}' goes under the same; name one by --as"
         )
@@ -93,7 +99,8 @@ pub(crate) struct BadWord<'a> {
 impl BadWord<'_> {
     /// What the user is told of it: all three.
     pub(crate) fn message(&self, alloc: Global) -> Result<String, AllocError> {
-        let BadWord { text, place, form } = *self;
+        let BadWord { place, form, .. } = *self;
+        let text = PrintedName(self.text);
         format!(in alloc; "invalid value '{text}' for '{place}': wanted {form}")
     }
 }

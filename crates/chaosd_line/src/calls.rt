@@ -9,7 +9,7 @@ use crate::bad_word::{
     BadWord, LOGIN_FORM, OTHER_FORM, PATH_FORM, PATHS_FORM, PEER_FORM, TIMEOUT_FORM,
 };
 use crate::files::{are_paths, bad_path};
-use crate::given::{given, given_address, given_carriage, given_socket, given_window};
+use crate::given::{given, given_address, given_carriage, given_flag, given_socket, given_window};
 use crate::line::{Calling, Delete, Rename};
 use crate::names::{is_path, is_user};
 use crate::unread::Unread;
@@ -90,6 +90,7 @@ pub(crate) fn calling_of<'a>(matches: &ArgMatches<'a>) -> Result<Calling<'a>, Ba
     let login = given_login(matches)?;
     let window = given_window(matches)?;
     let timeout = given_timeout(matches)?;
+    let hears_anybody = given_flag(matches, "any-source")?;
     let address = given_address(matches, "ADDRESS")?;
     let socket = given_socket(matches)?;
     let server = given_server(matches)?;
@@ -101,6 +102,7 @@ pub(crate) fn calling_of<'a>(matches: &ArgMatches<'a>) -> Result<Calling<'a>, Ba
         login,
         window,
         timeout,
+        hears_anybody,
         address,
         socket,
         server,

@@ -4,17 +4,20 @@ ghost use Rattle.std.specs.Option.{IsSomeAnd};
 ghost use Rattle.clap.specs.Words.{all_of, first_of, found_of, rows_of, subcommand_rows_of};
 ghost use Rattle.chaosd_line.specs.Files.{GivesFiles};
 ghost use Rattle.chaosd_line.specs.Lines.{AsksFor, IsAsk, IsLine, IsServe};
-ghost use Rattle.chaosd_line.specs.Values.{ArePeers, IsAddress, IsCarriage, IsFlag, IsLog, IsSocket, IsTurns, IsWindow, Reads};
+ghost use Rattle.chaosd_line.specs.Values.{ArePeers, IsAddress, IsCarriage, IsFlag, IsLog, IsRetransmit, IsSocket, IsTurns, IsWindow, Reads};
 
 use crate::bad_word::{
-    ADDRESS_FORM, BadWord, CARRIAGE_FORM, FLAG_FORM, LOG_FORM, SOCKET_FORM, TURNS_FORM, WINDOW_FORM,
+    ADDRESS_FORM, BadWord, CARRIAGE_FORM, FLAG_FORM, LOG_FORM, RETRANSMIT_FORM, SOCKET_FORM,
+    TURNS_FORM, WINDOW_FORM,
 };
 use crate::calls::{delete_of, given_timeout, own_host, rename_of};
 use crate::copies::{get_of, put_of};
 use crate::line::{Ask, Line, LogLevel, Serve};
 use crate::peers::peers_of;
 use crate::unread::Unread;
-use crate::values::{address_of, carriage_of, flag_of, log_of, socket_of, turns_of, window_of};
+use crate::values::{
+    address_of, carriage_of, flag_of, log_of, retransmit_of, socket_of, turns_of, window_of,
+};
 use chaos_link::{Carriage, Peers};
 use clap::ArgMatches;
 use std::alloc::Global;
@@ -128,6 +131,21 @@ pub(crate) fn given_window<'a>(matches: &ArgMatches<'a>) -> Result<u16, BadWord<
     }
 }
 
+/// The milliseconds after which packets are sent again.
+fn given_retransmit<'a>(matches: &ArgMatches<'a>) -> Result<u64, BadWord<'a>>
+    ensures { Reads (λ n. IsSomeAnd (first_of (codes "retransmit") (rows_of (found_of matches.now))) (λ t. IsRetransmit t n)) result }
+{
+    let text = given(matches, "retransmit")?;
+    match retransmit_of(text) {
+        Some(millis) => Ok(millis),
+        None => Err(BadWord {
+            text,
+            place: "--retransmit",
+            form: RETRANSMIT_FORM,
+        }),
+    }
+}
+
 /// Whether a flag stands among the words.
 pub(crate) fn given_flag<'a>(matches: &ArgMatches<'a>, place: &'a str) -> Result<bool, BadWord<'a>>
     ensures { Reads (λ b. IsSomeAnd (first_of place.entry.now (rows_of (found_of matches.now))) (λ t. IsFlag t b)) result }
@@ -160,6 +178,7 @@ fn serve_of<'a>(matches: &ArgMatches<'a>) -> Result<Serve<'a>, BadWord<'a>>
     let turns = given_turns(matches)?;
     let carriage = given_carriage(matches)?;
     let window = given_window(matches)?;
+    let retransmit = given_retransmit(matches)?;
     let is_quiet = given_flag(matches, "quiet")?;
     let log = given_log(matches)?;
     let is_timed = given_flag(matches, "log-time")?;
@@ -173,6 +192,7 @@ fn serve_of<'a>(matches: &ArgMatches<'a>) -> Result<Serve<'a>, BadWord<'a>>
         turns,
         carriage,
         window,
+        retransmit,
         is_quiet,
         log,
         is_timed,
@@ -191,6 +211,8 @@ fn ask_of<'a>(matches: &ArgMatches<'a>) -> Result<Ask, BadWord<'a>>
 {
     let carriage = given_carriage(matches)?;
     let timeout = given_timeout(matches)?;
+    let retransmit = given_retransmit(matches)?;
+    let hears_anybody = given_flag(matches, "any-source")?;
     let is_strict = given_flag(matches, "strict")?;
     let address = given_address(matches, "ADDRESS")?;
     let socket = given_socket(matches)?;
@@ -202,6 +224,8 @@ fn ask_of<'a>(matches: &ArgMatches<'a>) -> Result<Ask, BadWord<'a>>
     Ok(Ask {
         carriage,
         timeout,
+        retransmit,
+        hears_anybody,
         is_strict,
         address,
         socket,

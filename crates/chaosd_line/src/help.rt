@@ -1,7 +1,8 @@
 //! The words of help.
 
-/// What the program's version is.
-pub(crate) const VERSION: &str = "0.1.0";
+/// What the program's version is, and where its stamp stands: the program can't have the sum of its own sources.
+pub(crate) const VERSION: &str = "0.1.0
+Built as chaosd.stamp says, beside the program or in ../share/chaosd. Without a stamp take it for not proved.";
 
 /// What the program's help begins with.
 pub(crate) const ABOUT: &str = "A Chaosnet host, after MIT AI Memo 628";
@@ -17,99 +18,111 @@ Exit status:
 
 /// What the help says of `show`.
 pub(crate) const SHOW: &str =
-    "Hexadecimal lines from standard input, one datagram a line, to reports";
+    "Decode datagrams, given as lines of hexadecimal digits on standard input";
 
 /// What a FILE command or reply says.
 pub(crate) const SHOW_FILE: &str =
-    "Also what the data say as text, and in a packet of FILE the command or reply";
+    "Also print what the data say as text, and in a packet of FILE the command or reply";
 
 /// What the help says of `lab`.
 pub(crate) const LAB: &str =
-    "A script of two connections from standard input, to what each line did";
+    "Simulate the two ends of a connection, from a script on standard input";
 
 /// What the help says of `filelab`.
 pub(crate) const FILELAB: &str =
-    "A script of a FILE client and its server from standard input, to what each line did";
+    "Simulate a FILE client and its server, from a script on standard input";
 
 /// What the help says of `loop`.
 pub(crate) const LOOP: &str =
-    "A FILE script from standard input, put by one host to another in this process, to its replies";
+    "Run a FILE script from standard input between two hosts in this process, and print the replies";
 
 /// What the help says of `serve`.
-pub(crate) const SERVE: &str = "The files of a folder, served to other hosts";
+pub(crate) const SERVE: &str = "Serve the files of a folder to other hosts";
 
 /// What the help says of `ask`.
 pub(crate) const ASK: &str =
-    "A FILE script from standard input, put to another host, to its replies";
+    "Send a FILE script from standard input to another host, and print the replies";
 
 /// What the help says of `get`.
-pub(crate) const GET: &str = "Files of another host, into local files of their names";
+pub(crate) const GET: &str = "Copy files of another host into local files of their names";
 
 /// What the help says of `put`.
-pub(crate) const PUT: &str = "Local files, to another host under their names";
+pub(crate) const PUT: &str = "Copy local files to another host under their names";
 
 /// What the help says of `delete`.
-pub(crate) const DELETE: &str = "Files of another host, deleted";
+pub(crate) const DELETE: &str = "Delete files of another host";
 
 /// What the help says of `rename`.
-pub(crate) const RENAME: &str = "A file of another host, renamed";
+pub(crate) const RENAME: &str = "Rename a file of another host";
 
 /// The user's name.
-pub(crate) const LOGIN: &str = "User's name: 1 to 16 letters and digits";
+pub(crate) const LOGIN: &str = "Log in as NAME, 1 to 16 letters and digits";
 
 /// The packets of the windows.
 pub(crate) const WINDOW: &str =
-    "Commands in flight, 1 to 64, as far as the server's own window allows";
+    "Send up to N commands ahead of their replies, 1 to 64, as far as the server's own window allows";
 
 /// The packets of a server's windows.
 pub(crate) const SERVE_WINDOW: &str =
-    "Packets of each window of a connection, 1 to 64: so many commands may be in flight";
+    "Keep N packets in each window of a connection, 1 to 64: so many commands may be in flight";
 
-/// Nothing told by a server.
-pub(crate) const SERVE_QUIET: &str = "Nothing is told but what fails";
+/// What the help says of a server that logs only what fails.
+pub(crate) const SERVE_QUIET: &str = "Log only what fails";
 
-/// The seconds that a reply is waited for.
+/// The seconds that each reply is waited for by `get`, `put`, `delete` and `rename`.
 pub(crate) const TIMEOUT: &str =
-    "Seconds that a reply is waited for, 1 to 3600, in place of 10 to 17";
+    "Wait for each reply SECONDS by the clock, 1 to 3600; without it 1000 turns and 10 seconds at least";
+
+/// The seconds that each reply is waited for by `ask`.
+pub(crate) const ASK_TIMEOUT: &str =
+    "Wait for each reply SECONDS by the clock, 1 to 3600; without it 1000 turns (10 to 17 seconds)";
+
+/// The milliseconds after which packets are sent again.
+pub(crate) const RETRANSMIT: &str =
+    "Send packets that aren't acknowledged again after MS milliseconds, 20 to 60000";
+
+/// Datagrams from anywhere.
+pub(crate) const ANY_SOURCE: &str =
+    "Take datagrams from any UDP address, for a server with several interfaces";
 
 /// The first error ends a run.
-pub(crate) const STRICT: &str = "The first reply that is an ERROR ends the run, with status 3";
+pub(crate) const STRICT: &str = "End the run at the first reply that is an ERROR, with status 3";
 
-/// How much a server tells.
+/// What the help says of how much a server logs.
 pub(crate) const LOG: &str =
-    "What is told: quiet is what fails, normal also connections and changes of files, all also files that are read";
+    "Log what fails (quiet), also connections and changes of files (normal), or also files that are read (all)";
 
-/// The time in front of what a server tells.
-pub(crate) const LOG_TIME: &str = "Each line begins with the time, in UTC";
+/// What the help says of the time in front of what a server logs.
+pub(crate) const LOG_TIME: &str = "Begin each line with the time, in UTC";
 
 /// A server that hears its peers alone.
-pub(crate) const ONLY_PEERS: &str = "Datagrams that come from no PEER's UDP address are dropped";
+pub(crate) const ONLY_PEERS: &str = "Drop datagrams that come from no PEER's UDP address";
 
 /// A server whose files don't change.
-pub(crate) const READ_ONLY: &str = "No file changes: what would write one is a store fault";
+pub(crate) const READ_ONLY: &str = "Change no file: what would write one is a store fault";
 
 /// Texts.
 pub(crate) const TEXT: &str = "\
-A text of ASCII or the Lisp machine's set: newline, tab, backspace and page are 8D, 89, 88 and 8C at the server; \
-one that has those bytes on the way there, or 0A, 09, 08 and 0C on the way back, is refused";
+Translate a text of ASCII or the Lisp machine's set: newline, tab, backspace and page are 8D, 89, 88 and 8C at the server; \
+a text that has those bytes on the way there, or 0A, 09, 08 and 0C on the way back, is refused";
 
-/// Nothing told.
-pub(crate) const QUIET: &str = "Nothing is told but of files that were not copied";
+/// What the help says of a copy that prints little.
+pub(crate) const QUIET: &str = "Report only files that were not copied";
 
-/// More told.
+/// What the help says of a copy that prints more.
 pub(crate) const VERBOSE: &str =
-    "Tells of each file, also where standard error is no terminal, and how the server is called";
+    "Print a line for each file with its SHA-256, also where standard error is no terminal, and the server's address";
 
 /// The local file of `get`.
 pub(crate) const OUTPUT: &str =
-    "Local file of the one path, or a folder that ends with / for all; - is standard output";
+    "Write the one file to LOCAL, or all files into a folder that ends with /; - is standard output";
 
 /// The server's file of `put`.
-pub(crate) const AS: &str = "Path of the one local file at the server";
+pub(crate) const AS: &str = "Put the one local file under PATH";
 
 /// Names that FILE doesn't take.
 pub(crate) const RENAMING: &str =
-    "A name that is no PATH is put with _ for each byte that none has, and for a dot in front";
+    "Rename a file whose name is no PATH: _ stands for each byte that no PATH has, and for a dot in front";
 
 /// The server's file of `rename`.
 pub(crate) const OLD: &str = "Server's file, in the form of a PATH of get";
@@ -127,15 +140,15 @@ pub(crate) const PATH: &str =
 
 /// The local files.
 pub(crate) const LOCAL: &str = "\
-Local files, each put under its last name where that is a PATH of get, else skipped and told; - is standard input, and wants --as";
+Local files, each put under its last name where that is a PATH of get, else skipped and reported; - is standard input, and needs --as";
 
 /// The turns to serve.
 pub(crate) const TURNS: &str =
-    "Turns after which the server ends, 0 to 1000000000; one that waits takes some 10 ms";
+    "End the server after N turns, 0 to 1000000000; one that waits takes some 10 ms";
 
 /// The version of the datagrams.
 pub(crate) const CARRIAGE: &str =
-    "Version of the datagrams that packets are sent in: 1 has one packet, 2 has several";
+    "Send packets in datagrams of version N: 1 has one packet, 2 has several";
 
 /// The host's own address.
 pub(crate) const ADDRESS: &str =

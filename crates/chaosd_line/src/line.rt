@@ -51,6 +51,8 @@ pub struct Serve<'a> {
     pub carriage: Carriage,
     /// The packets that each of the two windows of its connections has, 1 to 64.
     pub window: u16,
+    /// The milliseconds after which packets that its connections keep are sent again, 20 to 60,000.
+    pub retransmit: u64,
     /// Whether nothing but what fails is told, whatever the log's level.
     pub is_quiet: bool,
     /// How much is told.
@@ -77,8 +79,12 @@ pub struct Serve<'a> {
 pub struct Ask {
     /// How it sends packets.
     pub carriage: Carriage,
-    /// The seconds that a reply is waited for, 1 to 3600, where they aren't the usual ones.
+    /// The seconds that each reply is waited for, 1 to 3600, where they are given.
     pub timeout: Option<u16>,
+    /// The milliseconds after which packets that its connection keeps are sent again, 20 to 60,000.
+    pub retransmit: u64,
+    /// Whether datagrams from any UDP address are taken, and not from its peers' alone.
+    pub hears_anybody: bool,
     /// Whether the first reply that is an error ends the run.
     pub is_strict: bool,
     /// The client's own Chaosnet address, which is not 0.
@@ -101,8 +107,10 @@ pub struct Calling<'a> {
     pub login: &'a str,
     /// The packets that each of its two windows has, 1 to 64.
     pub window: u16,
-    /// The seconds that a reply is waited for, 1 to 3600, where they aren't the usual ones.
+    /// The seconds that each reply is waited for, 1 to 3600, where they are given.
     pub timeout: Option<u16>,
+    /// Whether datagrams from any UDP address are taken, and not from the server's alone.
+    pub hears_anybody: bool,
     /// Its own Chaosnet address, which is not 0.
     pub address: u16,
     /// The UDP address that it receives at, whose port is not 0.

@@ -58,6 +58,14 @@ const WINDOW: Word<'static> = Word("window", Wanted::Default("N", "64"), help::W
 
 const TIMEOUT: Word<'static> = Word("timeout", Wanted::Optional("SECONDS"), help::TIMEOUT);
 
+const RETRANSMIT: Word<'static> = Word(
+    "retransmit",
+    Wanted::Default("MS", "500"),
+    help::RETRANSMIT,
+);
+
+const ANY_SOURCE: Word<'static> = Word("any-source", Wanted::Flag, help::ANY_SOURCE);
+
 const TEXT: Word<'static> = Word("text", Wanted::Flag, help::TEXT);
 
 const QUIET: Word<'static> = Word("quiet", Wanted::Flag, help::QUIET);
@@ -107,6 +115,7 @@ static SERVE: Sub = Sub {
         Word("turns", Wanted::Default("N", "1000000000"), help::TURNS),
         CARRIAGE,
         Word("window", Wanted::Default("N", "13"), help::SERVE_WINDOW),
+        RETRANSMIT,
         Word("quiet", Wanted::Flag, help::SERVE_QUIET),
         Word("log", Wanted::Default("LEVEL", "normal"), help::LOG),
         Word("log-time", Wanted::Flag, help::LOG_TIME),
@@ -126,7 +135,9 @@ static ASK: Sub = Sub {
     example: Some(help::ASK_EXAMPLE),
     words: &[
         CARRIAGE,
-        TIMEOUT,
+        Word("timeout", Wanted::Optional("SECONDS"), help::ASK_TIMEOUT),
+        RETRANSMIT,
+        ANY_SOURCE,
         Word("strict", Wanted::Flag, help::STRICT),
         ADDRESS,
         UDP,
@@ -145,6 +156,7 @@ static GET: Sub = Sub {
         LOGIN,
         WINDOW,
         TIMEOUT,
+        ANY_SOURCE,
         TEXT,
         QUIET,
         VERBOSE,
@@ -166,6 +178,7 @@ static PUT: Sub = Sub {
         LOGIN,
         WINDOW,
         TIMEOUT,
+        ANY_SOURCE,
         TEXT,
         QUIET,
         VERBOSE,
@@ -188,6 +201,7 @@ static DELETE: Sub = Sub {
         LOGIN,
         WINDOW,
         TIMEOUT,
+        ANY_SOURCE,
         ADDRESS,
         UDP,
         SERVER,
@@ -205,6 +219,7 @@ static RENAME: Sub = Sub {
         LOGIN,
         WINDOW,
         TIMEOUT,
+        ANY_SOURCE,
         ADDRESS,
         UDP,
         SERVER,

@@ -1,6 +1,6 @@
 //! The forms of words, and the values that they stand for.
 ghost use Rattle.std.specs.Prelude.{◌≡◌, ◌↔◌, IsTrue, MatchOption};
-ghost use Rattle.chaosd_line.specs.Values.{Finds, HasSides, IsAddress, IsCarriage, IsFlag, IsLog, IsPadded, IsPeer, IsSeconds, IsSocket, IsTurns, IsWindow, left_of, port_of, right_of};
+ghost use Rattle.chaosd_line.specs.Values.{Finds, HasSides, IsAddress, IsCarriage, IsFlag, IsLog, IsPadded, IsPeer, IsRetransmit, IsSeconds, IsSocket, IsTurns, IsWindow, left_of, port_of, right_of};
 
 use crate::line::LogLevel;
 use chaos_link::{Carriage, Peer};
@@ -14,6 +14,12 @@ const MAX_TURNS: u32 = 1_000_000_000;
 
 /// The most packets of a window.
 const MAX_WINDOW: u16 = 64;
+
+/// The fewest milliseconds after which packets may be sent again.
+const MIN_RETRANSMIT: u64 = 20;
+
+/// The most milliseconds after which packets may be sent again.
+const MAX_RETRANSMIT: u64 = 60_000;
 
 /// The most seconds that may be waited for.
 const MAX_SECONDS: u16 = 3_600;
@@ -64,6 +70,20 @@ pub(crate) fn window_of(text: &str) -> Option<u16>
     }
     match text.parse::<u16>() {
         Ok(window) if window >= 1 && window <= MAX_WINDOW => Some(window),
+        _ => None,
+    }
+}
+
+/// The number of milliseconds after which packets are sent again that decimal digits without leading zeros write.
+pub(crate) fn retransmit_of(text: &str) -> Option<u64>
+    ensures { Finds (IsRetransmit text.now) result }
+{
+    let bytes = text.as_bytes();
+    if bytes.is_empty() || bytes[0] == b'+' || is_padded(text) {
+        return None;
+    }
+    match text.parse::<u64>() {
+        Ok(millis) if millis >= MIN_RETRANSMIT && millis <= MAX_RETRANSMIT => Some(millis),
         _ => None,
     }
 }

@@ -10,7 +10,10 @@ use Rattle.chaos_file.specs.declared.store.Removed.TheVariants as removed
 use Rattle.chaos_file.specs.declared.store.Renamed.{Renamed}
 use Rattle.chaos_file.specs.declared.store.Renamed.TheVariants as renamed
 use Rattle.chaosd_log.specs.declared.deed.Deed.{Deed}
-use Rattle.chaosd_log.specs.declared.deed.Deed.TheVariants.{Wrote, Replaced, Deleted, Renamed as Moved, Read}
+use Rattle.chaosd_log.specs.declared.deed.Attempt.{Attempt}
+use Rattle.chaosd_log.specs.declared.deed.Attempt.TheVariants as attempt
+use Rattle.chaosd_log.specs.declared.deed.Deed.TheVariants.{Wrote, Replaced, Deleted, Renamed as Moved, Read, Refused}
+use Rattle.chaosd_log.specs.declared.deed.Refusal.TheVariants.{Absent, Taken, TooBig, NoMemory}
 use Rattle.chaosd_log.specs.declared.deed.Path.{Path}
 use Rattle.chaosd_log.specs.declared.level.Matter.{Matter}
 use Rattle.chaosd_log.specs.declared.level.Matter.TheVariants as matter
@@ -23,26 +26,39 @@ noted_with deed noted = option_map (λ deeds. deeds ++ deed ∷ []) noted
 abbrev pub path_of : List ℕ → Path
 path_of text = record { bytes = record { items = take (min (length text) MAX_PATH) text } }
 
--- a line of it is about a change or a file that was read
+-- a line of it is about a change, a file that was read, or a request that failed
 abbrev pub matter_of : Deed → Matter
 matter_of (Read path bytes) = matter.Read
+matter_of (Refused attempt why) = matter.Refusal
 matter_of _ = matter.Change
 
--- ---- what is noted of a call by its answer: what was done, and nothing of a call that did nothing
+-- ---- what is noted of a call by its answer: what was done, or why the request failed. A failure of the system is no deed.
 
 abbrev pub NotesGet : List ℕ → Got → Option (List Deed) → Option (List Deed) → Type 0
 NotesGet path (got.Bytes bytes) old new = new ≡ noted_with (Read (path_of path) (length bytes)) old
-NotesGet path answer old new = new ≡ old
+NotesGet path got.Absent old new = new ≡ noted_with (Refused (attempt.Read (path_of path)) Absent) old
+NotesGet path got.TooBig old new = new ≡ noted_with (Refused (attempt.Read (path_of path)) TooBig) old
+NotesGet path got.NoMemory old new = new ≡ noted_with (Refused (attempt.Read (path_of path)) NoMemory) old
+NotesGet path got.Failed old new = new ≡ old
 
 abbrev pub NotesPut : List ℕ → ℕ → Stored → Option (List Deed) → Option (List Deed) → Type 0
 NotesPut path bytes stored.Done old new =
     (new ≡ noted_with (Wrote (path_of path) bytes) old) ⊎ (new ≡ noted_with (Replaced (path_of path) bytes) old)
-NotesPut path bytes answer old new = new ≡ old
+NotesPut path bytes stored.NoMemory old new = new ≡ noted_with (Refused (attempt.Write (path_of path)) NoMemory) old
+NotesPut path bytes stored.Failed old new = new ≡ old
 
 abbrev pub NotesRemove : List ℕ → Removed → Option (List Deed) → Option (List Deed) → Type 0
 NotesRemove path removed.Done old new = new ≡ noted_with (Deleted (path_of path)) old
-NotesRemove path answer old new = new ≡ old
+NotesRemove path removed.Absent old new = new ≡ noted_with (Refused (attempt.Delete (path_of path)) Absent) old
+NotesRemove path removed.NoMemory old new = new ≡ noted_with (Refused (attempt.Delete (path_of path)) NoMemory) old
+NotesRemove path removed.Failed old new = new ≡ old
+
+abbrev pub move_of : List ℕ → List ℕ → Attempt
+move_of from to = attempt.Rename (path_of from) (path_of to)
 
 abbrev pub NotesRename : List ℕ → List ℕ → Renamed → Option (List Deed) → Option (List Deed) → Type 0
 NotesRename from to renamed.Done old new = new ≡ noted_with (Moved (path_of from) (path_of to)) old
-NotesRename from to answer old new = new ≡ old
+NotesRename from to renamed.Absent old new = new ≡ noted_with (Refused (move_of from to) Absent) old
+NotesRename from to renamed.Exists old new = new ≡ noted_with (Refused (move_of from to) Taken) old
+NotesRename from to renamed.NoMemory old new = new ≡ noted_with (Refused (move_of from to) NoMemory) old
+NotesRename from to renamed.Failed old new = new ≡ old

@@ -47,6 +47,10 @@ abbrev pub told_of : ℕ → Asking → LedgerView → LedgerView
 told_of address AsKnown ledger = ledger
 told_of address asking ledger = record ledger { told = slice_set ledger.told address true }
 
+-- nothing was told of where it asks from
+abbrev pub untold_of : ℕ → LedgerView → LedgerView
+untold_of address ledger = record ledger { told = slice_set ledger.told address false }
+
 abbrev pub with_asked : ℕ → SocketAddrV4 → Asking → LedgerView → LedgerView
 with_asked address from asking ledger =
     told_of address asking

@@ -1,12 +1,13 @@
 //! What was done to a file.
 ghost use Rattle.std.specs.Prelude.{◌≡◌};
-ghost use Rattle.chaosd_log.specs.Deed.{matter_of, path_of};
+ghost use Rattle.chaosd_log.specs.Deed.{matter_of, move_of, path_of};
 
 use crate::level::Matter;
 use arrayvec::ArrayVec;
 use chaos_file::MAX_PATH;
 use std::fmt;
 use std::fmt::{Display, Formatter};
+use thiserror::Error;
 
 /// The bytes of a path that FILE takes.
 #[derive(Debug, PartialEq, Eq, Drop)]
@@ -39,7 +40,54 @@ impl Display for Path {
     }
 }
 
-/// What was done to a file of a store, with its bytes where it has some.
+/// What a request asks of a file.
+#[derive(Debug, PartialEq, Eq, Drop)]
+pub enum Attempt {
+    Read(Path),
+    Write(Path),
+    Delete(Path),
+    Rename(Path, Path),
+}
+
+/// A request to move a file.
+pub(crate) fn move_of(old: &[u8], new: &[u8]) -> Attempt
+    ensures { result ≡ move_of old.now new.now }
+{
+    Attempt::Rename(Path::new(old), Path::new(new))
+}
+
+impl Display for Attempt {
+    fn fmt<W: fmt::Write>(&self, f: &mut Formatter<W>) -> fmt::Result {
+        match self {
+            Attempt::Read(path) => write!(f, "read {path}"),
+            Attempt::Write(path) => write!(f, "write {path}"),
+            Attempt::Delete(path) => write!(f, "delete {path}"),
+            Attempt::Rename(old, new) => write!(f, "rename {old} to {new}"),
+        }
+    }
+}
+
+/// Why a request failed, where the system refused nothing.
+#[derive(Clone, Copy, Debug, PartialEq, Eq, Error)]
+pub enum Refusal {
+    /// The file isn't there.
+    #[error("no such file")]
+    Absent,
+    /// The new path of a file has a file.
+    #[error("the new path is taken")]
+    Taken,
+    /// The file has more bytes than FILE takes.
+    #[error("too many bytes")]
+    TooBig,
+    /// Memory ran out.
+    #[error("out of memory")]
+    NoMemory,
+    /// The store is only read.
+    #[error("the server is read-only")]
+    ReadOnly,
+}
+
+/// What a request did to a file of a store, with the number of the file's bytes where it has some.
 #[derive(Debug, PartialEq, Eq, Drop)]
 pub enum Deed {
     /// A new file was written.
@@ -52,6 +100,8 @@ pub enum Deed {
     Renamed(Path, Path),
     /// A file was read.
     Read(Path, usize),
+    /// Nothing was done, since the request failed.
+    Refused(Attempt, Refusal),
 }
 
 impl Deed {
@@ -61,6 +111,7 @@ impl Deed {
     {
         match self {
             Deed::Read(..) => Matter::Read,
+            Deed::Refused(..) => Matter::Refusal,
             _ => Matter::Change,
         }
     }
@@ -74,26 +125,7 @@ impl Display for Deed {
             Deed::Deleted(path) => write!(f, "deleted {path}"),
             Deed::Renamed(old, new) => write!(f, "renamed {old} to {new}"),
             Deed::Read(path, bytes) => write!(f, "read {path}, {bytes} bytes"),
-        }
-    }
-}
-
-/// What could not be done to a file.
-#[derive(Debug, PartialEq, Eq, Drop)]
-pub enum Attempt {
-    Read(Path),
-    Write(Path),
-    Delete(Path),
-    Rename(Path, Path),
-}
-
-impl Display for Attempt {
-    fn fmt<W: fmt::Write>(&self, f: &mut Formatter<W>) -> fmt::Result {
-        match self {
-            Attempt::Read(path) => write!(f, "can't read {path}"),
-            Attempt::Write(path) => write!(f, "can't write {path}"),
-            Attempt::Delete(path) => write!(f, "can't delete {path}"),
-            Attempt::Rename(old, new) => write!(f, "can't rename {old} to {new}"),
+            Deed::Refused(attempt, why) => write!(f, "could not {attempt}: {why}"),
         }
     }
 }

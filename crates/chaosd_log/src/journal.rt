@@ -2,11 +2,13 @@
 use crate::deed::{Attempt, Deed};
 use crate::ledger::{Asking, Ledger};
 use crate::level::{Level, Matter};
+use crate::limiter::Limiter;
 use crate::notes::Notes;
 use crate::warning::{Named, Warning, warning_of};
+use chaos_file::PrintedName;
 use chaos_link::Peer;
 use jiff::Timestamp;
-use std::cell::RefCell;
+use std::cell::{Cell, RefCell};
 use std::fmt::Display;
 use std::io;
 use std::net::SocketAddrV4;
@@ -14,6 +16,10 @@ use std::time::Clock;
 
 /// Writes the lines of a log to standard error, each with a time in front where that is asked for: UTC, as RFC 3339 has it. A line that
 /// can't be written is dropped.
+///
+/// A [`Limiter`] says which lines are left out, so that nobody fills a disk by requests. How many lines about a matter were left out is
+/// reported with the first line about the matter in a later second, at the end of a turn in a later second, or at the end of the run.
+/// Where the clock can't be read, all lines count as lines of the last second that was read; the first such fault is logged.
 ///
 /// The link, the socket and the store of a server share it, so a clause knows nothing of what it holds. What was done to a file is kept
 /// until the next datagram is sent: the turn of a server sends the reply to a command right behind it, so that datagram goes to the host
@@ -24,6 +30,11 @@ pub struct Journal<'a, R> {
     level: Level,
     is_timed: bool,
     ledger: RefCell<Ledger>,
+    limiter: RefCell<Limiter>,
+    /// The second of the clock that was read last.
+    second: Cell<u64>,
+    /// Whether the log has a line that the clock can't be read.
+    is_clock_missed: Cell<bool>,
     /// What was done since a datagram was sent.
     deed: RefCell<Option<Deed>>,
 }
@@ -36,6 +47,9 @@ impl<'a, R: Clock + Eprint> Journal<'a, R> {
             level,
             is_timed,
             ledger: RefCell::new(ledger),
+            limiter: RefCell::new(Limiter::new()),
+            second: Cell::new(0),
+            is_clock_missed: Cell::new(false),
             deed: RefCell::new(None),
         }
     }
@@ -50,11 +64,91 @@ impl<'a, R: Clock + Eprint> Journal<'a, R> {
         Timestamp::from_second(seconds).ok()
     }
 
-    /// Tells a line, where the level has such ones.
-    pub fn tell<D: Display>(&self, matter: Matter, line: &D) {
-        if !self.level.is_told(matter) {
-            return;
+    /// The second of the clock; where the clock can't be read, the second that was read last.
+    fn second(&self) -> u64 {
+        match self.rt.monotonic() {
+            Ok(now) => self.second.set(now.as_secs()),
+            Err(fault) => self.miss_clock(&fault),
         }
+        self.second.get()
+    }
+
+    /// Logs once that the clock can't be read.
+    fn miss_clock(&self, fault: &io::Error) {
+        if !self.is_clock_missed.replace(true) {
+            self.write(&format_args!(
+                "can't read the clock, so all lines count as lines of one second: {fault}"
+            ));
+        }
+    }
+
+    /// Logs a line, where the level has such lines and the limit of the second has room.
+    pub fn tell<D: Display>(&self, matter: Matter, line: &D) {
+        let _ = self.is_logged(matter, line);
+    }
+
+    /// Logs a line as [`Journal::tell`] does, and says whether the line was written.
+    fn is_logged<D: Display>(&self, matter: Matter, line: &D) -> bool {
+        if !self.level.is_told(matter) {
+            return false;
+        }
+        let now = self.second();
+        self.report_due(matter, now);
+        let is_written = self.takes_line(matter, now);
+        if is_written {
+            self.write(line);
+        }
+        is_written
+    }
+
+    /// Whether the limit has room for a line about this matter, which is counted as left out otherwise.
+    fn takes_line(&self, matter: Matter, now: u64) -> bool {
+        match self.limiter.try_borrow_mut() {
+            Ok(mut limiter) => limiter.take_line(matter, now),
+            Err(_) => true,
+        }
+    }
+
+    /// Whether lines about this matter were left out in a second that is over.
+    fn is_due(&self, matter: Matter, now: u64) -> bool {
+        match self.limiter.try_borrow() {
+            Ok(limiter) => limiter.is_due(matter, now),
+            Err(_) => false,
+        }
+    }
+
+    /// Whether any line was left out that wasn't reported yet.
+    fn has_left_out(&self) -> bool {
+        match self.limiter.try_borrow() {
+            Ok(limiter) => limiter.has_left_out(),
+            Err(_) => false,
+        }
+    }
+
+    /// How many lines about this matter were left out since the last report.
+    fn take_left_out(&self, matter: Matter) -> u64 {
+        match self.limiter.try_borrow_mut() {
+            Ok(mut limiter) => limiter.take_left_out(matter),
+            Err(_) => 0,
+        }
+    }
+
+    /// Reports how many lines about this matter were left out, where any was.
+    fn report(&self, matter: Matter) {
+        let count = self.take_left_out(matter);
+        if count > 0 {
+            self.write(&format_args!("{count} more like this, about {matter}"));
+        }
+    }
+
+    /// Reports how many lines about this matter were left out in a second that is over.
+    fn report_due(&self, matter: Matter, now: u64) {
+        if self.is_due(matter, now) {
+            self.report(matter);
+        }
+    }
+
+    fn write<D: Display>(&self, line: &D) {
         let _ = match self.time() {
             Some(time) => eprintln!(self.rt; "{time} chaosd: {line}"),
             None => eprintln!(self.rt; "chaosd: {line}"),
@@ -68,6 +162,7 @@ impl<'a, R: Clock + Eprint> Journal<'a, R> {
         };
         let peers = ledger.peers();
         let named = Named(peers);
+        let folder = PrintedName(folder);
         self.tell(
             Matter::Service,
             &format_args!("host {address:06o} serves {folder} at {socket}{named}"),
@@ -86,23 +181,27 @@ impl<'a, R: Clock + Eprint> Journal<'a, R> {
         }
     }
 
-    /// A datagram of this host came from this UDP address. What is wrong with that is told once.
+    /// A datagram of this host came from this UDP address. What is wrong with that is logged once. Where the line was left out, the next
+    /// datagram from there is logged in its place.
     pub fn hear(&self, address: u16, from: SocketAddrV4) {
         let Ok(mut ledger) = self.ledger.try_borrow_mut() else {
             return;
         };
-        match ledger.hear(address, from) {
-            Asking::AsKnown => {}
-            Asking::Stranger => self.tell(
-                Matter::Fault,
+        let is_logged = match ledger.hear(address, from) {
+            Asking::AsKnown => true,
+            Asking::Stranger => self.is_logged(
+                Matter::Stranger,
                 &format_args!("host {address:06o} asks from {from} and is no PEER"),
             ),
-            Asking::Elsewhere(known) => self.tell(
-                Matter::Fault,
+            Asking::Elsewhere(known) => self.is_logged(
+                Matter::Stranger,
                 &format_args!(
                     "host {address:06o} asks from {from}, and is answered at {known}, where its PEER is"
                 ),
             ),
+        };
+        if !is_logged {
+            ledger.forget_told(address);
         }
     }
 
@@ -138,8 +237,32 @@ impl<'a, R: Clock + Eprint> Journal<'a, R> {
         }
     }
 
-    /// The turn is over: what was done and not answered is told as nobody's.
-    pub fn expire(&self) {
+    /// The turn is over: what was done and not answered is logged as the doing of `a host`, and what was left out in a second that is
+    /// over is reported.
+    pub fn end_turn(&self) {
+        self.expire();
+        if !self.has_left_out() {
+            return;
+        }
+        let now = self.second();
+        for matter in &Matter::EACH {
+            self.report_due(*matter, now);
+        }
+    }
+
+    /// The run is over, as this line says: what was done and not answered is logged as the doing of `a host`, and what was left out is
+    /// reported. The line itself is never left out where the level has such lines.
+    pub fn end<D: Display>(&self, matter: Matter, line: &D) {
+        self.expire();
+        for matter in &Matter::EACH {
+            self.report(*matter);
+        }
+        if self.level.is_told(matter) {
+            self.write(line);
+        }
+    }
+
+    fn expire(&self) {
         let Ok(Some(deed)) = self.deed.try_replace(None) else {
             return;
         };
@@ -167,6 +290,6 @@ impl<R: Clock + Eprint> Notes for Pages<'_, R> {
 
     fn fail(&mut self, attempt: Attempt, fault: &io::Error) {
         self.0
-            .tell(Matter::Fault, &format_args!("{attempt}: {fault}"));
+            .tell(Matter::Fault, &format_args!("can't {attempt}: {fault}"));
     }
 }

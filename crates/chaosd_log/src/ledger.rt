@@ -1,7 +1,7 @@
 //! What a server's log knows of hosts.
 ghost use Rattle.std.specs.Prelude.{◌≡◌, ◌≤◌, length};
 ghost use Rattle.chaos_link.specs.declared.limits.TheConstants.{MAX_PEERS};
-ghost use Rattle.chaosd_log.specs.Ledger.{AsksAs, IsAskingOf, heard_at, known_at, place_of, source_at, with_asked};
+ghost use Rattle.chaosd_log.specs.Ledger.{AsksAs, IsAskingOf, heard_at, known_at, place_of, source_at, untold_of, with_asked};
 
 use crate::place::place_of;
 use arrayvec::ArrayVec;
@@ -108,6 +108,13 @@ impl Ledger {
         }
         self.told[usize::from(address)] = true;
         asking
+    }
+
+    /// The line about where this host asks from was left out: the next datagram from there is to be told of again.
+    pub fn forget_told(&mut self, address: u16)
+        ensures { self.new ≡ untold_of address self.old }
+    {
+        self.told[usize::from(address)] = false;
     }
 
     /// Keeps from where the host was heard.

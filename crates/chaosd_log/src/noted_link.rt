@@ -31,7 +31,7 @@ impl<R: Clock + Eprint, L: Link> Link for NotedLink<'_, R, L> {
     }
 
     fn receive(&mut self, buffer: &mut [u8; LINK_ROOM], may_wait: bool) -> Received {
-        self.journal.expire();
+        self.journal.end_turn();
         self.inner.receive(buffer, may_wait)
     }
 

@@ -2,16 +2,17 @@
 ghost use Rattle.std.specs.Prelude.{◌≡◌, ◌⊎◌, ◌≤◌, length, None};
 ghost use Rattle.chaos_packet.specs.Count.{Rose, with_failure};
 ghost use Rattle.chaos_file.specs.Store.{Gives};
-ghost use Rattle.chaosd_log.specs.Deed.{NotesGet, NotesPut, NotesRemove, NotesRename};
+ghost use Rattle.chaosd_log.specs.Deed.{NotesGet, NotesPut, NotesRemove, NotesRename, noted_with};
+ghost use Rattle.chaosd_log.specs.declared.deed.Deed.TheVariants.{Refused};
 
-use crate::deed::{Attempt, Deed, Path};
+use crate::deed::{Attempt, Deed, Path, Refusal, move_of};
 use crate::notes::Notes;
 use chaos_file::{DirStore, Got, Removed, Renamed, Store, Stored};
 use std::alloc::Global;
 use std::fs::{File, Files};
 
-/// The store of a folder, of which note is taken: what each call did, and what the system said where one failed, which the reply
-/// to a command can't tell.
+/// The store of a folder, of which note is taken: what each call did, why a request failed, and what the system said where the system
+/// refused a call, which the reply to a command can't tell.
 #[derive(Drop)]
 pub struct NotedStore<'a, R: Files<File = File>, N> {
     inner: DirStore<&'a R>,
@@ -24,6 +25,14 @@ impl<'a, R: Files<File = File>, N: Notes> NotedStore<'a, R, N> {
         ensures { N.noted result.notes ≡ N.noted notes }
     {
         NotedStore { inner, notes }
+    }
+
+    /// Notes a request that failed.
+    fn refuse(&mut self, attempt: Attempt, why: Refusal)
+        ensures inner { self.new.inner ≡ self.old.inner }
+        ensures noted { N.noted self.new.notes ≡ noted_with (Refused attempt why) (N.noted self.old.notes) }
+    {
+        self.notes.note(Deed::Refused(attempt, why));
     }
 
     /// Tells what the system said of this.
@@ -70,7 +79,9 @@ impl<R: Files<File = File>, N: Notes> Store for NotedStore<'_, R, N> {
                 .notes
                 .note(Deed::Read(Path::new(path), bytes.as_slice().len())),
             Got::Failed => self.fail(Attempt::Read(Path::new(path))),
-            Got::Absent | Got::TooBig | Got::NoMemory => {}
+            Got::Absent => self.refuse(Attempt::Read(Path::new(path)), Refusal::Absent),
+            Got::TooBig => self.refuse(Attempt::Read(Path::new(path)), Refusal::TooBig),
+            Got::NoMemory => self.refuse(Attempt::Read(Path::new(path)), Refusal::NoMemory),
         }
         got
     }
@@ -88,7 +99,7 @@ impl<R: Files<File = File>, N: Notes> Store for NotedStore<'_, R, N> {
                 .note(Deed::Replaced(Path::new(path), bytes.len())),
             Stored::Done => self.notes.note(Deed::Wrote(Path::new(path), bytes.len())),
             Stored::Failed => self.fail(Attempt::Write(Path::new(path))),
-            Stored::NoMemory => {}
+            Stored::NoMemory => self.refuse(Attempt::Write(Path::new(path)), Refusal::NoMemory),
         }
         stored
     }
@@ -102,7 +113,8 @@ impl<R: Files<File = File>, N: Notes> Store for NotedStore<'_, R, N> {
         match removed {
             Removed::Done => self.notes.note(Deed::Deleted(Path::new(path))),
             Removed::Failed => self.fail(Attempt::Delete(Path::new(path))),
-            Removed::Absent | Removed::NoMemory => {}
+            Removed::Absent => self.refuse(Attempt::Delete(Path::new(path)), Refusal::Absent),
+            Removed::NoMemory => self.refuse(Attempt::Delete(Path::new(path)), Refusal::NoMemory),
         }
         removed
     }
@@ -117,8 +129,10 @@ impl<R: Files<File = File>, N: Notes> Store for NotedStore<'_, R, N> {
             Renamed::Done => self
                 .notes
                 .note(Deed::Renamed(Path::new(old), Path::new(new))),
-            Renamed::Failed => self.fail(Attempt::Rename(Path::new(old), Path::new(new))),
-            Renamed::Absent | Renamed::Exists | Renamed::NoMemory => {}
+            Renamed::Failed => self.fail(move_of(old, new)),
+            Renamed::Absent => self.refuse(move_of(old, new), Refusal::Absent),
+            Renamed::Exists => self.refuse(move_of(old, new), Refusal::Taken),
+            Renamed::NoMemory => self.refuse(move_of(old, new), Refusal::NoMemory),
         }
         renamed
     }

@@ -2,44 +2,55 @@
 ghost use Rattle.std.specs.Prelude.{◌≡◌, ◌≤◌, length, IfSome};
 ghost use Rattle.chaos_packet.specs.Count.{Rose};
 ghost use Rattle.chaos_file.specs.Store.{Gives, Gets, Puts, Removes, Renames};
-ghost use Rattle.chaosd_log.specs.ReadOnly.{count_both, new_read_only, with_refused};
+ghost use Rattle.chaosd_log.specs.declared.deed.Attempt.TheVariants.{Write, Delete};
+ghost use Rattle.chaosd_log.specs.Deed.{move_of, path_of};
+ghost use Rattle.chaosd_log.specs.ReadOnly.{NotesRefusal, count_both, new_read_only, with_refused};
 
+use crate::deed::{Attempt, Deed, Path, Refusal, move_of};
+use crate::notes::Notes;
 use chaos_file::{Got, Removed, Renamed, Store, Stored};
 use std::alloc::Global;
 use std::marker::Model;
 
 /// A store that is read alone, where that is asked for: what would change a file is answered `Failed`, and the store behind isn't
-/// asked. A contract sees that store, and how many calls were refused.
+/// asked. Each call that is refused is noted. A contract sees that store, the notes, and how many calls were refused.
 #[derive(Drop)]
-pub struct ReadOnly<S> {
+pub struct ReadOnly<S, N> {
     inner: S,
+    notes: N,
     refused: u64,
 }
 
-impl<S> Model for ReadOnly<S> {
+impl<S, N> Model for ReadOnly<S, N> {
     ghost use Rattle.chaosd_log.specs.ReadOnly.{ReadOnlyView};
 
-    ghost Value = { ReadOnlyView S };
+    ghost Value = { ReadOnlyView S N };
 
-    ghost view = { λ s. record { inner = s.inner; refused = s.refused } };
+    ghost view = { λ s. record { inner = s.inner; notes = s.notes; refused = s.refused } };
 }
 
-impl<S> ReadOnly<S> {
+impl<S, N: Notes> ReadOnly<S, N> {
     /// This store, to be read alone.
-    pub fn new(inner: S) -> Self
-        ensures { result ≡ new_read_only inner }
+    pub fn new(inner: S, notes: N) -> Self
+        ensures { result ≡ new_read_only inner notes }
     {
-        ReadOnly { inner, refused: 0 }
+        ReadOnly {
+            inner,
+            notes,
+            refused: 0,
+        }
     }
 
-    fn refuse(&mut self)
-        ensures { self.new ≡ with_refused self.old }
+    fn refuse(&mut self, attempt: Attempt)
+        ensures refused { self.new ≡ with_refused self.new.notes self.old }
+        ensures noted { NotesRefusal attempt (N.noted self.old.notes) (N.noted self.new.notes) }
     {
         self.refused = self.refused.saturating_add(1);
+        self.notes.note(Deed::Refused(attempt, Refusal::ReadOnly));
     }
 }
 
-impl<S: Store> Store for ReadOnly<S> {
+impl<S: Store, N: Notes> Store for ReadOnly<S, N> {
     ghost contents = { λ s. S.contents s.inner };
 
     ghost may_give = { λ s. S.may_give s.inner };
@@ -51,7 +62,7 @@ impl<S: Store> Store for ReadOnly<S> {
         ensures limit { Gives (λ bytes. length bytes ≤ limit) result }
         ensures gives { Gives (S.may_give self.old.inner path.now limit) result }
         ensures files { IfSome (S.contents self.old.inner) (Gets path.now limit result (S.contents self.new.inner)) }
-        ensures refused { self.new.refused ≡ self.old.refused }
+        ensures refused { self.new ≡ record self.old { inner = self.new.inner } }
     {
         self.inner.get(alloc, path, limit)
     }
@@ -59,27 +70,30 @@ impl<S: Store> Store for ReadOnly<S> {
     fn put(&mut self, alloc: Global, path: &[u8], bytes: &[u8]) -> Stored
         ensures failed { result ≡ Stored.Failed → Rose (count_both S.count self.old) (count_both S.count self.new) }
         ensures files { IfSome (S.contents self.old.inner) (Puts path.now bytes.now result (S.contents self.new.inner)) }
-        ensures refused { (result ≡ Stored.Failed) × (self.new ≡ with_refused self.old) }
+        ensures refused { (result ≡ Stored.Failed) × (self.new ≡ with_refused self.new.notes self.old) }
+        ensures noted { NotesRefusal (Write (path_of path.now)) (N.noted self.old.notes) (N.noted self.new.notes) }
     {
-        self.refuse();
+        self.refuse(Attempt::Write(Path::new(path)));
         Stored::Failed
     }
 
     fn remove(&mut self, alloc: Global, path: &[u8]) -> Removed
         ensures failed { result ≡ Removed.Failed → Rose (count_both S.count self.old) (count_both S.count self.new) }
         ensures files { IfSome (S.contents self.old.inner) (Removes path.now result (S.contents self.new.inner)) }
-        ensures refused { (result ≡ Removed.Failed) × (self.new ≡ with_refused self.old) }
+        ensures refused { (result ≡ Removed.Failed) × (self.new ≡ with_refused self.new.notes self.old) }
+        ensures noted { NotesRefusal (Delete (path_of path.now)) (N.noted self.old.notes) (N.noted self.new.notes) }
     {
-        self.refuse();
+        self.refuse(Attempt::Delete(Path::new(path)));
         Removed::Failed
     }
 
     fn rename(&mut self, alloc: Global, old: &[u8], new: &[u8]) -> Renamed
         ensures failed { result ≡ Renamed.Failed → Rose (count_both S.count self.old) (count_both S.count self.new) }
         ensures files { IfSome (S.contents self.old.inner) (Renames old.now new.now result (S.contents self.new.inner)) }
-        ensures refused { (result ≡ Renamed.Failed) × (self.new ≡ with_refused self.old) }
+        ensures refused { (result ≡ Renamed.Failed) × (self.new ≡ with_refused self.new.notes self.old) }
+        ensures noted { NotesRefusal (move_of old.now new.now) (N.noted self.old.notes) (N.noted self.new.notes) }
     {
-        self.refuse();
+        self.refuse(move_of(old, new));
         Renamed::Failed
     }
 

@@ -4,9 +4,12 @@ ghost use Rattle.chaos_link.specs.Link.{Asks};
 ghost use Rattle.chaos_link.specs.Udp.{ReceiveOne};
 ghost use Rattle.chaos_link.specs.declared.limits.TheConstants.{LINK_ROOM};
 ghost use Rattle.chaosd_log.specs.Source.{source_in};
+ghost use Rattle.chaosd_log.specs.SocketFault.{is_fault};
 
 use crate::journal::Journal;
+use crate::level::Matter;
 use chaos_link::{DatagramSocket, LINK_ROOM, open_datagram};
+use std::fmt::Display;
 use std::io;
 use std::io::ErrorKind;
 use std::net::{SocketAddr, SocketAddrV4, UdpSocket};
@@ -46,7 +49,20 @@ pub fn source_of(bytes: &[u8]) -> Option<u16>
     Some(packet.src)
 }
 
-/// A socket of which note is taken: from where each host was heard. Where that is asked for, a datagram that comes from no peer's UDP
+/// Whether an error of a socket says more than that nothing came, or that a socket that was sent to before is gone.
+fn is_fault(kind: ErrorKind) -> bool
+    ensures { result ≡ is_fault kind }
+{
+    match kind {
+        ErrorKind::WouldBlock
+        | ErrorKind::TimedOut
+        | ErrorKind::Interrupted
+        | ErrorKind::ConnectionRefused => false,
+        _ => true,
+    }
+}
+
+/// A socket of which note is taken: from where each host was heard, and why the system refused a call. Where that is asked for, a datagram that comes from no peer's UDP
 /// address is dropped, as if none had come. It asks the inner socket exactly what it is asked.
 #[derive(Drop)]
 pub struct NotedSocket<'a, R, S> {
@@ -70,6 +86,16 @@ impl<'a, R: Clock + Eprint, S> NotedSocket<'a, R, S> {
         self.is_closed && !self.journal.is_known_at(from)
     }
 
+    /// Logs why this call failed, where it did.
+    fn note_fault<D: Display, T>(&self, call: &D, answer: &io::Result<T>) {
+        match answer {
+            Err(fault) if is_fault(fault.kind()) => self
+                .journal
+                .tell(Matter::Socket, &format_args!("{call} failed: {fault}")),
+            _ => {}
+        }
+    }
+
     /// Takes note of a datagram from there.
     fn note(&self, bytes: &[u8], from: SocketAddrV4) {
         match source_of(bytes) {
@@ -85,11 +111,15 @@ impl<R: Clock + Eprint, S: SourceSocket> DatagramSocket for NotedSocket<'_, R, S
     ghost began = { λ socket. S.began socket.inner };
 
     fn send_datagram(&mut self, bytes: &[u8], to: SocketAddrV4) -> io::Result<()> {
-        self.inner.send_datagram(bytes, to)
+        let sent = self.inner.send_datagram(bytes, to);
+        self.note_fault(&format_args!("sending to {to}"), &sent);
+        sent
     }
 
     fn receive_datagram(&mut self, buffer: &mut [u8; LINK_ROOM]) -> io::Result<usize> {
-        let (count, from) = self.inner.receive_with_source(buffer)?;
+        let received = self.inner.receive_with_source(buffer);
+        self.note_fault(&"receiving", &received);
+        let (count, from) = received?;
         if let SocketAddr::V4(from) = from {
             if self.drops(from) {
                 return Err(io::Error::from(ErrorKind::WouldBlock));
@@ -100,10 +130,14 @@ impl<R: Clock + Eprint, S: SourceSocket> DatagramSocket for NotedSocket<'_, R, S
     }
 
     fn set_wait(&mut self, wait: Duration) -> io::Result<()> {
-        self.inner.set_wait(wait)
+        let set = self.inner.set_wait(wait);
+        self.note_fault(&"setting how long to wait for a datagram", &set);
+        set
     }
 
     fn set_waits(&mut self, waits: bool) -> io::Result<()> {
-        self.inner.set_waits(waits)
+        let set = self.inner.set_waits(waits);
+        self.note_fault(&"setting whether to wait for a datagram", &set);
+        set
     }
 }

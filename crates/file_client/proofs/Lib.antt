@@ -1,3 +1,4 @@
 pub mod Asked
+pub mod Spent
 pub mod Talking
 pub mod Telling

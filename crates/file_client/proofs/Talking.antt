@@ -9,9 +9,10 @@ use Rattle.chaos_host.specs.View.{HostView}
 use Rattle.file_client.specs.Calls.{is_over}
 use Rattle.file_client.specs.Caller.{CallerView, Connects, HangsUpBy, TurnsAt, asked, asked_again, all_read}
 use Rattle.file_client.specs.Pace.{Pace}
+use Rattle.file_client.specs.Patience.{IsSpent}
 use Rattle.file_client.specs.Talk.{Talker, Talk, Step, Calls, Writes, Reads, Turns, Does, Goes, Talks, WritesAndTurns, Exchanges, SendsFarewell, and_later, and_then, command_item, eof_item, receiving, newly_sent, silence, talk_of, talker}
 use Rattle.file_client.proofs.Asked.{asks_of, well_by}
-use Rattle.file_client.specs.declared.limits.TheConstants.{COMMAND_TURNS, END_TURNS}
+use Rattle.file_client.specs.declared.limits.TheConstants.{END_TURNS}
 
 pub talks_none : (p : Pace) (c : Talker) → Talks p c silence c
 talks_none p c = record { steps = []; goes = refl; same = refl }
@@ -83,7 +84,7 @@ talks_behind p first between last talk t u =
 
 calls_by : (p : Pace) (Asked : List Ask → Type 0) (now : ℕ) (id : Option ℕ) (queue queue' : Option QueueView)
     (c b d : CallerView)
-    → id ≡ None → c.id ≡ id → HangsUpBy id p Asked queue queue' c b → p.Shows now → d ≡ asked (p.starts now) now b
+    → id ≡ None → c.id ≡ id → HangsUpBy id p Asked queue queue' c b → p.Shows now → d ≡ asked (p.starts now) now p.wait b
     → Talks p (talker c queue) silence (talker d queue') × Asked []
 calls_by p Asked now (Some id) queue queue' c b d none same hung shows is = absurd (let no : ⊥ = cc in no)
 calls_by p Asked now None queue queue' c b d none same (left, stays, nothing) shows is =
@@ -187,7 +188,7 @@ exchange_done p Asked c d e command reply false turns same first received = absu
 -- none was
 pub exchange_none : (p : Pace) (Asked : List Ask → Type 0) (c d : Talker) (command : List ℕ) (is : Bool) (turns : ℕ)
     → WritesAndTurns p Asked turns c (command_item command) false is d
-    → (turns ≡ COMMAND_TURNS) ⊎ (is_over d.caller.host d.caller.id ≡ true) → Exchanges p Asked c command None d
+    → IsSpent p.Shows p.patience turns ⊎ (is_over d.caller.host d.caller.id ≡ true) → Exchanges p Asked c command None d
 exchange_none p Asked c d command is turns (kept, xs, asked, talk) ends
     = (talk_by (newly_sent false is (command_item command)) [] turns xs, talk, asked, (is, refl, refl, ends))
 

@@ -1,13 +1,14 @@
 -- A host that calls a FILE server, by one connection after another.
-use Rattle.std.specs.Prelude.{◌≡◌, ◌<◌, ◌⊎◌, ℕ, ◌-◌, Bool, true, false, if◌then◌else◌, nat_le, nat_lt, List, [], codes, Option, Some, None, Result, Ok, Err}
+use Rattle.std.specs.Prelude.{◌≡◌, ◌<◌, ◌⊎◌, ℕ, ◌+◌, ◌-◌, min, Bool, true, false, if◌then◌else◌, nat_le, nat_lt, List, [], codes, Option, Some, None, Result, Ok, Err}
 use Rattle.std.specs.Result.{result_ok}
+use Rattle.chaos_packet.specs.Count.{max_count}
 use Rattle.chaos_packet.specs.Item.{ItemView}
 use Rattle.chaos_packet.specs.Outbox.{OutboxView, room_of, with_put}
 use Rattle.chaos_link.specs.Link.{Ask, QueueView}
 use Rattle.chaos_link.specs.declared.carriage.Carriage.{Carriage}
 use Rattle.chaos_conn.specs.Act.{Close, Read, Write}
 use Rattle.chaos_conn.specs.Calls.{is_drained}
-use Rattle.chaos_conn.specs.Config.{config_with}
+use Rattle.chaos_conn.specs.Config.{ConfigView}
 use Rattle.chaos_conn.specs.declared.state.State.{State}
 use Rattle.chaos_conn.specs.declared.state.State.TheVariants as state
 use Rattle.chaos_host.specs.Acted.{HostActed}
@@ -20,24 +21,26 @@ use Rattle.file_client.specs.Calls.{after_passing, call_by, data_read, is_wrote}
 use Rattle.file_client.specs.Pace.{Pace}
 use Rattle.file_client.specs.Turn.{TakesTurn}
 
--- Its host, whom it calls, how its packets are carried, its connection, if any, the moment at which it asked last, and
--- what waits to be sent.
+-- Its host, whom it calls, how its packets are carried, its connection, if any, the moment at which it asked last, for how
+-- many milliseconds it waits for that one's OPN, and what waits to be sent.
 pub record CallerView : Type 0 where
   pub host : HostView
   pub to : ℕ
   pub carriage : Carriage
   pub id : Option ℕ
   pub since : ℕ
+  pub wait : ℕ
   pub out : OutboxView
 
 -- a host without a connection, which has used up so many indices
-abbrev pub new_caller : ℕ → ℕ → ℕ → Carriage → ℕ → CallerView
-new_caller me to window carriage count = record {
-  host = after_passing to count (new_host me 1 (config_with window));
+abbrev pub new_caller : ℕ → ℕ → ConfigView → Carriage → ℕ → CallerView
+new_caller me to config carriage count = record {
+  host = after_passing to count (new_host me 1 config);
   to = to;
   carriage = carriage;
   id = None;
   since = 0;
+  wait = 0;
   out = record { packets = []; cap = TURN_ROOM };
 }
 
@@ -71,11 +74,11 @@ Receives got c d = Acts 1 None (data_read (read_of c).answer) got (read_of c) c 
 abbrev pub connect_of : ℕ → ℕ → CallerView → HostActed ConnectAnswer
 connect_of start now c = host_connect c.host c.to (codes "FILE") start now
 
--- a connection for the contact FILE is asked for, where there is room for its RFC
-abbrev pub asked : ℕ → ℕ → CallerView → CallerView
-asked start now c = if nat_lt 0 (room_of c.out)
-    then record (after_call c (connect_of start now c)) { id = result_ok (connect_of start now c).answer; since = now }
-    else record c { id = None; since = now }
+-- a connection for the contact FILE is asked for, where there is room for its RFC; so many milliseconds are waited for its OPN
+abbrev pub asked : ℕ → ℕ → ℕ → CallerView → CallerView
+asked start now wait c = if nat_lt 0 (room_of c.out)
+    then record (after_call c (connect_of start now c)) { id = result_ok (connect_of start now c).answer; since = now; wait = wait }
+    else record c { id = None; since = now; wait = wait }
 
 abbrev pub closed_by : Option ℕ → CallerView → CallerView
 closed_by None c = c
@@ -97,13 +100,17 @@ abbrev pub is_asking : HostView → Option ℕ → Bool
 is_asking h None = false
 is_asking h (Some id) = has_asked (host_look h id (λ conn. conn.state))
 
--- so many milliseconds went by, or more, since a connection was asked for, and no OPN came
-abbrev pub is_late : ℕ → ℕ → CallerView → Bool
-is_late wait now c = if is_asking c.host c.id then nat_le wait (now - c.since) else false
+-- a connection was asked for, and its OPN was waited for long enough
+abbrev pub is_late : ℕ → CallerView → Bool
+is_late now c = if is_asking c.host c.id then nat_le c.wait (now - c.since) else false
 
--- where no OPN came for so long, the connection is closed and another is asked for
+-- twice as long, up to the greatest u64
+abbrev pub doubled : ℕ → ℕ
+doubled wait = min (wait + wait) max_count
+
+-- where no OPN came for so long, the connection is closed and another is asked for, whose OPN is waited for twice as long
 abbrev pub asked_again : Pace → ℕ → CallerView → CallerView
-asked_again p now c = if is_late p.wait now c then asked (p.starts now) now (closed c) else c
+asked_again p now c = if is_late now c then asked (p.starts now) now (doubled c.wait) (closed c) else c
 
 abbrev pub has_drained : Result Bool CallFault → Bool
 has_drained (Ok drained) = drained
@@ -154,4 +161,4 @@ HangsUp p Asked before after c d = HangsUpBy c.id p Asked before after c d
 -- The caller hung up, and then asked at this moment for a connection that begins with the number of this moment.
 abbrev pub Connects : Pace → (List Ask → Type 0) → ℕ → Option QueueView → Option QueueView → CallerView → CallerView → Type 0
 Connects p Asked now before after c d =
-    (b : CallerView) × HangsUp p Asked before after c b × p.Shows now × (d ≡ asked (p.starts now) now b)
+    (b : CallerView) × HangsUp p Asked before after c b × p.Shows now × (d ≡ asked (p.starts now) now p.wait b)

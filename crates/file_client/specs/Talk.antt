@@ -7,7 +7,8 @@ use Rattle.chaos_link.specs.Link.{Ask, QueueView}
 use Rattle.file_client.specs.Calls.{is_over}
 use Rattle.file_client.specs.Caller.{CallerView, Receives, Sends, TurnsAt, all_read, asked, asked_again}
 use Rattle.file_client.specs.Pace.{Pace}
-use Rattle.file_client.specs.declared.limits.TheConstants.{COMMAND_TURNS, END_TURNS}
+use Rattle.file_client.specs.Patience.{IsSpent}
+use Rattle.file_client.specs.declared.limits.TheConstants.{END_TURNS}
 
 -- A client's host, and the queue that its link is.
 pub record Talker : Type 0 where
@@ -74,7 +75,8 @@ module _ (p : Pace) where
   -- What a step makes of a client: it asks for a connection; it tries to write an item; it reads; it takes a turn,
   -- before which it asks again where no OPN came for long, and which asks this of its link.
   abbrev pub Does : Talker → Step → Talker → Type 0
-  Does c (Calls now) d = p.Shows now × (c.caller.id ≡ None) × (d ≡ talker (asked (p.starts now) now c.caller) c.queue)
+  Does c (Calls now) d =
+      p.Shows now × (c.caller.id ≡ None) × (d ≡ talker (asked (p.starts now) now p.wait c.caller) c.queue)
   Does c (Writes item now taken) d = p.Shows now × Sends item now taken c.caller d.caller × (d.queue ≡ c.queue)
   Does c (Reads got) d = Receives got c.caller d.caller × (d.queue ≡ c.queue)
   Does c (Turns now asks) d =
@@ -112,17 +114,20 @@ abbrev pub receiving : Option (List ℕ) → Talk
 receiving None = silence
 receiving (Some bytes) = record silence { received = bytes ∷ [] }
 
--- The command was written, and this was read in answer; or nothing came within 1,000 turns, or the connection has
--- ended.
-abbrev pub IsExchange : List ℕ → Option (List ℕ) → Talk → Talker → Type 0
-IsExchange command (Some reply) talk last = (talk.sent ≡ command_item command ∷ []) × (talk.received ≡ reply ∷ [])
-IsExchange command None talk last =
+-- A reply was waited for as long as the pace says, or the connection has ended, or there is none.
+abbrev pub GivesUpBy : Pace → Talk → Talker → Type 0
+GivesUpBy p talk last = IsSpent p.Shows p.patience talk.turns ⊎ (is_over last.caller.host last.caller.id ≡ true)
+
+-- The command was written, and this was read in answer; or nothing came, and the client gave up.
+abbrev pub IsExchange : Pace → List ℕ → Option (List ℕ) → Talk → Talker → Type 0
+IsExchange p command (Some reply) talk last = (talk.sent ≡ command_item command ∷ []) × (talk.received ≡ reply ∷ [])
+IsExchange p command None talk last =
     (is_written : Bool) × (talk.sent ≡ newly_sent false is_written (command_item command)) × (talk.received ≡ [])
-    × GivesUp COMMAND_TURNS talk last
+    × GivesUpBy p talk last
 
 abbrev pub Exchanges : Pace → (List Ask → Type 0) → Talker → List ℕ → Option (List ℕ) → Talker → Type 0
 Exchanges p Asked first command reply last =
-    (talk : Talk) × Talks p first talk last × Asked talk.asks × IsExchange command reply talk last
+    (talk : Talk) × Talks p first talk last × Asked talk.asks × IsExchange p command reply talk last
 
 -- ---- a farewell
 

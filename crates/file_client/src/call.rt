@@ -1,21 +1,23 @@
 //! A call to a FILE server over a link, by a clock.
-ghost use Rattle.std.specs.Prelude.{◌≡◌, ◌<◌, ◌≤◌, ◌⊎◌, Err, IfErr, IfOk, None, OnOk, refl, true};
+ghost use Rattle.std.specs.Prelude.{◌≡◌, ◌<◌, ◌≤◌, Err, IfErr, IfOk, None, OnOk, refl, true};
 ghost use Rattle.chaos_link.specs.Link.{Asks};
 ghost use Rattle.chaos_packet.specs.Count.{Rose};
 ghost use Rattle.chaos_packet.specs.Opcode.{op_data};
 ghost use Rattle.chaosd_copy.specs.Talk.{Turned, counted, taken};
 ghost use Rattle.file_client.specs.Calls.{is_over};
 ghost use Rattle.file_client.specs.Caller.{Connects, HangsUp, Receives, Sends, TurnsAt, TurnsOrStops, asked_again, new_caller};
-ghost use Rattle.chaosd_clock.specs.Clock.{BeginsBy, low_bits_of};
 ghost use Rattle.file_client.specs.Fault.{IsTurnFault};
 ghost use Rattle.file_client.specs.Pace.{clock_pace};
+ghost use Rattle.file_client.specs.Patience.{millis_waited};
 ghost use Rattle.file_client.specs.Talk.{SendsFarewell, Told, talker, told_none};
 
 use crate::client::Client;
 use crate::reply_timer::NoReply;
+use crate::route::Route;
 use crate::timed::Timed;
+use crate::timing::Timing;
 use chaos_file::Reply;
-use chaos_link::{Carriage, Link};
+use chaos_link::Link;
 use chaos_packet::Opcode;
 use chaosd_clock::Dial;
 use chaosd_copy::Talk;
@@ -32,26 +34,24 @@ pub struct Call<'a, C: Dial, L: Link> {
 }
 
 impl<'a, C: Dial, L: Link> Call<'a, C, L> {
-    /// The host `me`, which will ask the host `to` for connections, as [`Client::new`] says. Nothing is sent yet.
+    /// The host of the route, which will ask the route's server for connections, as [`Client::new`] says. Nothing is sent yet.
     ///
     /// # Errors
-    /// `ClockFault` and `NoMemory`.
+    /// `NoMemory`.
     pub fn new(
         clock: &'a C,
         alloc: Global,
         link: &'a mut L,
-        me: u16,
-        to: u16,
-        window: u16,
-        carriage: Carriage,
+        route: &Route,
+        timing: Timing,
     ) -> Result<Self, RunFault>
-        requires { 0 < me }
-        ensures faults { IfErr result (λ fault. ((fault ≡ RunFault.ClockFault) × C.fails clock.now) ⊎ (fault ≡ RunFault.NoMemory)) }
-        ensures begins { IfOk result (λ call. (call.turns.clock.now ≡ clock.now) × BeginsBy (C.shows clock.now) (C.dates clock.now) call.turns.epoch) }
-        ensures made { IfOk result (λ call. call.client.caller ≡ new_caller me to window carriage (low_bits_of call.turns.epoch)) }
+        requires { 0 < route.now.me }
+        ensures faults { IfErr result (λ fault. fault ≡ RunFault.NoMemory) }
+        ensures timing { IfOk result (λ call. (call.turns.clock.now ≡ clock.now) × (call.turns.timing ≡ timing)) }
+        ensures made { IfOk result (λ call. call.client.caller ≡ new_caller route.now.me route.now.to route.now.config route.now.carriage timing.epoch.passed) }
     {
-        let turns = Timed::new(clock, link)?;
-        let client = Client::new(alloc, &turns, me, to, window, carriage)?;
+        let turns = Timed::new(clock, link, timing);
+        let client = Client::new(alloc, &turns, route)?;
         Ok(Call { client, turns })
     }
 
@@ -61,10 +61,10 @@ impl<'a, C: Dial, L: Link> Call<'a, C, L> {
     /// `ClockFault` and `LinkFault`.
     pub fn connect(&mut self) -> Result<(), RunFault>
         ensures faults { IfErr result (IsTurnFault (C.fails self.old.turns.clock.now) (L.count self.new.turns.link.now)) }
-        ensures well { OnOk result (Connects (clock_pace (C.shows self.old.turns.clock.now) self.old.turns.epoch) (Asks (L.asked self.old.turns.link.now) (L.asked self.new.turns.link.now)) self.new.client.now (L.queue self.old.turns.link.now) (L.queue self.new.turns.link.now) self.old.client.caller self.new.client.caller) }
+        ensures well { OnOk result (Connects (clock_pace (C.shows self.old.turns.clock.now) self.old.turns.timing) (Asks (L.asked self.old.turns.link.now) (L.asked self.new.turns.link.now)) self.new.client.now (L.queue self.old.turns.link.now) (L.queue self.new.turns.link.now) self.old.client.caller self.new.client.caller) }
         ensures unfailed { OnOk result (L.count self.new.turns.link.now ≤ L.count self.old.turns.link.now) }
         ensures same_server { (self.new.client.caller.to ≡ self.old.client.caller.to) × (self.new.client.caller.carriage ≡ self.old.client.caller.carriage) }
-        ensures same_clock { (self.new.turns.clock.now ≡ self.old.turns.clock.now) × (self.new.turns.epoch ≡ self.old.turns.epoch) }
+        ensures same_clock { (self.new.turns.clock.now ≡ self.old.turns.clock.now) × (self.new.turns.timing ≡ self.old.turns.timing) }
     {
         self.client.connect(&mut self.turns)
     }
@@ -75,7 +75,7 @@ impl<'a, C: Dial, L: Link> Call<'a, C, L> {
     /// `ClockFault` and `LinkFault`.
     pub fn end(&mut self) -> Result<(), RunFault>
         ensures faults { IfErr result (IsTurnFault (C.fails self.old.turns.clock.now) (L.count self.new.turns.link.now)) }
-        ensures talk { OnOk result (SendsFarewell (clock_pace (C.shows self.old.turns.clock.now) self.old.turns.epoch) (Asks (L.asked self.old.turns.link.now) (L.asked self.new.turns.link.now)) (talker self.old.client.caller (L.queue self.old.turns.link.now)) (talker self.new.client.caller (L.queue self.new.turns.link.now))) }
+        ensures talk { OnOk result (SendsFarewell (clock_pace (C.shows self.old.turns.clock.now) self.old.turns.timing) (Asks (L.asked self.old.turns.link.now) (L.asked self.new.turns.link.now)) (talker self.old.client.caller (L.queue self.old.turns.link.now)) (talker self.new.client.caller (L.queue self.new.turns.link.now))) }
         ensures unfailed { OnOk result (L.count self.new.turns.link.now ≤ L.count self.old.turns.link.now) }
     {
         self.client.end(&mut self.turns)
@@ -87,11 +87,11 @@ impl<'a, C: Dial, L: Link> Call<'a, C, L> {
     /// `ClockFault` and `LinkFault`. The connection is given up also then.
     pub fn hang_up(&mut self) -> Result<(), RunFault>
         ensures faults { IfErr result (IsTurnFault (C.fails self.old.turns.clock.now) (L.count self.new.turns.link.now)) }
-        ensures well { OnOk result (HangsUp (clock_pace (C.shows self.old.turns.clock.now) self.old.turns.epoch) (Asks (L.asked self.old.turns.link.now) (L.asked self.new.turns.link.now)) (L.queue self.old.turns.link.now) (L.queue self.new.turns.link.now) self.old.client.caller self.new.client.caller) }
+        ensures well { OnOk result (HangsUp (clock_pace (C.shows self.old.turns.clock.now) self.old.turns.timing) (Asks (L.asked self.old.turns.link.now) (L.asked self.new.turns.link.now)) (L.queue self.old.turns.link.now) (L.queue self.new.turns.link.now) self.old.client.caller self.new.client.caller) }
         ensures unfailed { OnOk result (L.count self.new.turns.link.now ≤ L.count self.old.turns.link.now) }
         ensures gone { self.new.client.caller.id ≡ None }
         ensures same_server { (self.new.client.caller.to ≡ self.old.client.caller.to) × (self.new.client.caller.carriage ≡ self.old.client.caller.carriage) }
-        ensures same_clock { (self.new.turns.clock.now ≡ self.old.turns.clock.now) × (self.new.turns.epoch ≡ self.old.turns.epoch) }
+        ensures same_clock { (self.new.turns.clock.now ≡ self.old.turns.clock.now) × (self.new.turns.timing ≡ self.old.turns.timing) }
     {
         self.client.hang_up(&mut self.turns)
     }
@@ -106,16 +106,16 @@ impl<'a, C: Dial, L: Link> Call<'a, C, L> {
 
 impl<C: Dial, L: Link> Talk for Call<'_, C, L> {
     /// What it wrote and what it read, turn by turn, by one clock, and that its link was asked just what these turns ask.
-    ghost talked = { λ now start talk. (now.turns.clock.now ≡ start.turns.clock.now) × (now.turns.epoch ≡ start.turns.epoch)
-        × Told (clock_pace (C.shows start.turns.clock.now) start.turns.epoch) (L.asked now.turns.link.now start.turns.link.now) (talker start.client.caller (L.queue start.turns.link.now)) start.client.now talk
+    ghost talked = { λ now start talk. (now.turns.clock.now ≡ start.turns.clock.now) × (now.turns.timing ≡ start.turns.timing)
+        × Told (clock_pace (C.shows start.turns.clock.now) start.turns.timing) (L.asked now.turns.link.now start.turns.link.now) (talker start.client.caller (L.queue start.turns.link.now)) start.client.now talk
         (talker now.client.caller (L.queue now.turns.link.now)) now.client.now };
 
-    ghost began = { λ call. (refl, refl, told_none (clock_pace (C.shows call.turns.clock.now) call.turns.epoch) (L.asked call.turns.link.now call.turns.link.now) (talker call.client.caller (L.queue call.turns.link.now)) call.client.now (L.began call.turns.link.now)) };
+    ghost began = { λ call. (refl, refl, told_none (clock_pace (C.shows call.turns.clock.now) call.turns.timing) (L.asked call.turns.link.now call.turns.link.now) (talker call.client.caller (L.queue call.turns.link.now)) call.client.now (L.began call.turns.link.now)) };
 
     ghost ready = { λ _. None };
 
     /// It counts turns as far as they can be.
-    ghost course = { λ call. record { turns = counted call.client.count; moment = call.client.now; is_over = is_over call.client.caller.host call.client.caller.id; failures = L.count call.turns.link.now } };
+    ghost course = { λ call. record { turns = counted call.client.count; moment = call.client.now; is_over = is_over call.client.caller.host call.client.caller.id; patience = millis_waited call.turns.timing.patience; failures = L.count call.turns.link.now } };
 
     /// A fault of the clock, where that may fail, or of the link, where it counts a failure.
     ghost failed_by = { λ call. IsTurnFault (C.fails call.turns.clock.now) (L.count call.turns.link.now) };
@@ -138,23 +138,27 @@ impl<C: Dial, L: Link> Talk for Call<'_, C, L> {
         self.client.take(reply)
     }
 
-    /// As [`Client::turn`]: where no OPN came for 2 seconds another connection is asked for first.
+    /// As [`Client::turn`]: where no OPN came for as long as it is waited for, another connection is asked for first.
     fn turn(&mut self) -> Result<(), RunFault>
         ensures faults { IfErr result (IsTurnFault (C.fails self.new.turns.clock.now) (L.count self.new.turns.link.now)) }
         ensures failed { result ≡ Err RunFault.LinkFault → Rose (L.count self.old.turns.link.now) (L.count self.new.turns.link.now) }
-        ensures well { OnOk result (TurnsAt (Asks (L.asked self.old.turns.link.now) (L.asked self.new.turns.link.now)) ((clock_pace (C.shows self.old.turns.clock.now) self.old.turns.epoch).Waits true) self.new.client.now (L.queue self.old.turns.link.now) (L.queue self.new.turns.link.now) (asked_again (clock_pace (C.shows self.old.turns.clock.now) self.old.turns.epoch) self.new.client.now self.old.client.caller) self.new.client.caller) }
-        ensures moment { OnOk result ((clock_pace (C.shows self.old.turns.clock.now) self.old.turns.epoch).Shows self.new.client.now) }
-        ensures went { TurnsOrStops (clock_pace (C.shows self.old.turns.clock.now) self.old.turns.epoch) (Asks (L.asked self.old.turns.link.now) (L.asked self.new.turns.link.now)) self.old.client.now self.new.client.now (L.queue self.old.turns.link.now) (L.queue self.new.turns.link.now) self.old.client.caller self.new.client.caller }
+        ensures well { OnOk result (TurnsAt (Asks (L.asked self.old.turns.link.now) (L.asked self.new.turns.link.now)) ((clock_pace (C.shows self.old.turns.clock.now) self.old.turns.timing).Waits true) self.new.client.now (L.queue self.old.turns.link.now) (L.queue self.new.turns.link.now) (asked_again (clock_pace (C.shows self.old.turns.clock.now) self.old.turns.timing) self.new.client.now self.old.client.caller) self.new.client.caller) }
+        ensures moment { OnOk result ((clock_pace (C.shows self.old.turns.clock.now) self.old.turns.timing).Shows self.new.client.now) }
+        ensures went { TurnsOrStops (clock_pace (C.shows self.old.turns.clock.now) self.old.turns.timing) (Asks (L.asked self.old.turns.link.now) (L.asked self.new.turns.link.now)) self.old.client.now self.new.client.now (L.queue self.old.turns.link.now) (L.queue self.new.turns.link.now) self.old.client.caller self.new.client.caller }
         ensures counted { Turned 1 (counted self.old.client.count) (counted self.new.client.count) }
         ensures unfailed { OnOk result (L.count self.new.turns.link.now ≤ L.count self.old.turns.link.now) }
         ensures same_server { (self.new.client.caller.to ≡ self.old.client.caller.to) × (self.new.client.caller.carriage ≡ self.old.client.caller.carriage) }
-        ensures same_clock { (self.new.turns.clock.now ≡ self.old.turns.clock.now) × (self.new.turns.epoch ≡ self.old.turns.epoch) }
+        ensures same_clock { (self.new.turns.clock.now ≡ self.old.turns.clock.now) × (self.new.turns.timing ≡ self.old.turns.timing) }
     {
         self.client.turn(&mut self.turns)
     }
 
     fn moment(&self) -> u64 {
         self.client.now
+    }
+
+    fn patience(&self) -> Option<u64> {
+        self.turns.timing.patience.millis()
     }
 
     fn is_over(&self) -> bool

@@ -3,13 +3,14 @@ ghost use Rattle.std.specs.Prelude.{◌≡◌, ◌<◌, ◌≤◌, ◌↔◌, Er
 ghost use Rattle.chaos_link.specs.Link.{Asks};
 ghost use Rattle.chaosd_copy.specs.Talk.{taken};
 ghost use Rattle.file_client.specs.Calls.{is_over};
-ghost use Rattle.file_client.specs.Caller.{Sends, Receives, TurnsAt, all_read, asked, closed, is_asking, is_late, new_caller};
+ghost use Rattle.file_client.specs.Caller.{Sends, Receives, TurnsAt, all_read, asked, closed, doubled, is_asking, is_late, new_caller};
 ghost use Rattle.file_client.specs.Fault.{IsTurnFault};
 
 use crate::calls::{is_over, take_reply, write_item};
 use crate::indices::pass_indices;
+use crate::route::Route;
 use crate::turns::Turns;
-use chaos_conn::{ConnConfig, State};
+use chaos_conn::State;
 use chaos_file::Reply;
 use chaos_host::{ConnId, Host, HostDelivered};
 use chaos_link::Carriage;
@@ -32,6 +33,8 @@ pub(crate) struct Caller {
     id: Option<ConnId>,
     /// The moment at which a connection was asked for last.
     since: u64,
+    /// For how many milliseconds its OPN is waited for.
+    wait: u64,
 }
 
 impl Model for Caller {
@@ -41,47 +44,42 @@ impl Model for Caller {
 
     ghost Value = { CallerView };
 
-    ghost view = { λ c. record { host = c.host; to = c.to; carriage = c.carriage; id = c.id; since = c.since; out = c.out } };
+    ghost view = { λ c. record { host = c.host; to = c.to; carriage = c.carriage; id = c.id; since = c.since; wait = c.wait; out = c.out } };
 
     ghost invariant = { λ c. c.out.cap ≡ TURN_ROOM };
 }
 
 impl Caller {
-    /// The host `me`, which will ask the host `to` for connections and has none yet.
-    pub(crate) fn new(
-        alloc: Global,
-        me: u16,
-        to: u16,
-        window: u16,
-        carriage: Carriage,
-        passed: u8,
-    ) -> Result<Self, RunFault>
-        requires { 0 < me }
+    /// The host of the route, which will ask the route's server for connections and has none yet.
+    pub(crate) fn new(alloc: Global, route: &Route, passed: u8) -> Result<Self, RunFault>
+        requires { 0 < route.now.me }
         ensures faults { IfErr result (λ fault. fault ≡ RunFault.NoMemory) }
-        ensures made { IfOk result (λ caller. caller ≡ new_caller me to window carriage passed) }
+        ensures made { IfOk result (λ caller. caller ≡ new_caller route.now.me route.now.to route.now.config route.now.carriage passed) }
     {
-        let Ok(mut host) = Host::new(alloc, me, 1, ConnConfig::with_window(window)) else {
+        let Ok(mut host) = Host::new(alloc, route.me, 1, route.config) else {
             return Err(RunFault::NoMemory);
         };
         let Ok(mut out) = Outbox::new(alloc, TURN_ROOM) else {
             return Err(RunFault::NoMemory);
         };
-        pass_indices(&mut host, to, passed, &mut out);
+        pass_indices(&mut host, route.to, passed, &mut out);
         Ok(Caller {
             host,
             out,
-            to,
-            carriage,
+            to: route.to,
+            carriage: route.carriage,
             id: None,
             since: 0,
+            wait: 0,
         })
     }
 
-    /// Asks for a connection, where there is room for its RFC.
-    pub(crate) fn ask(&mut self, start: PktNum, now: u64)
-        ensures { self.new ≡ asked start now self.old }
+    /// Asks for a connection, where there is room for its RFC. For so many milliseconds its OPN is waited for.
+    pub(crate) fn ask(&mut self, start: PktNum, now: u64, wait: u64)
+        ensures { self.new ≡ asked start now wait self.old }
     {
         self.since = now;
+        self.wait = wait;
         self.id = None;
         if self.out.room() > 0 {
             self.id = self
@@ -114,11 +112,18 @@ impl Caller {
         }
     }
 
-    /// Whether a connection was asked for so many milliseconds ago, or more, and no OPN came.
-    pub(crate) fn is_late(&self, wait: u64, now: u64) -> bool
-        ensures { result ≡ is_late wait now self.now }
+    /// Whether a connection was asked for, and its OPN was waited for long enough.
+    pub(crate) fn is_late(&self, now: u64) -> bool
+        ensures { result ≡ is_late now self.now }
     {
-        self.is_asking() && now.saturating_sub(self.since) >= wait
+        self.is_asking() && now.saturating_sub(self.since) >= self.wait
+    }
+
+    /// Twice as long as the last OPN was waited for.
+    pub(crate) fn next_wait(&self) -> u64
+        ensures { result ≡ doubled self.now.wait }
+    {
+        self.wait.saturating_add(self.wait)
     }
 
     /// Whether there is a connection.

@@ -8,11 +8,11 @@ ghost use Rattle.file_client.specs.Talk.{Exchanges, SendsFarewell, Talks, Writes
 ghost use Rattle.file_client.specs.Fault.{IsTurnFault};
 
 use crate::caller::Caller;
-use crate::limits::{COMMAND_TURNS, END_TURNS};
+use crate::limits::{END_TURNS, MOST_TURNS};
 use crate::reply_timer::{NoReply, ReplyTimer};
+use crate::route::Route;
 use crate::turns::Turns;
 use chaos_file::Reply;
-use chaos_link::Carriage;
 use chaos_packet::Opcode;
 use chaosd_io::RunFault;
 use std::alloc::Global;
@@ -31,29 +31,19 @@ pub struct Client {
 }
 
 impl Client {
-    /// The host `me`, which will ask the host `to` for connections, one at a time, and has none yet. Both windows have `window` packets,
-    /// from 1 to 64; any other number stands for the usual 13. So as many commands are in flight as the lesser of this and the server's
-    /// window allows. What it sends goes out by the carriage; datagrams of both versions are read.
+    /// The host of the route, which will ask the route's server for connections, one at a time, and has none yet.
     ///
     /// A client that hears all that is there before it says more tells with each command what was read: so a server never has more to
     /// answer than it has room for replies, whatever the two windows are.
     ///
     /// # Errors
     /// `NoMemory`.
-    pub fn new<T: Turns>(
-        alloc: Global,
-        turns: &T,
-        me: u16,
-        to: u16,
-        window: u16,
-        carriage: Carriage,
-    ) -> Result<Self, RunFault>
-        requires { 0 < me }
+    pub fn new<T: Turns>(alloc: Global, turns: &T, route: &Route) -> Result<Self, RunFault>
+        requires { 0 < route.now.me }
         ensures faults { IfErr result (λ fault. fault ≡ RunFault.NoMemory) }
-        ensures made { IfOk result (λ client. client.caller ≡ new_caller me to window carriage (T.passed (T.time turns.now))) }
+        ensures made { IfOk result (λ client. client.caller ≡ new_caller route.now.me route.now.to route.now.config route.now.carriage (T.passed (T.time turns.now))) }
     {
-        let passed = turns.passed();
-        let caller = Caller::new(alloc, me, to, window, carriage, passed)?;
+        let caller = Caller::new(alloc, route, turns.passed())?;
         Ok(Client {
             caller,
             now: 0,
@@ -78,7 +68,7 @@ impl Client {
         self.reply_timer = ReplyTimer::new();
         self.reply_timer.begin(self.now);
         let start = turns.start(self.now);
-        self.caller.ask(start, self.now);
+        self.caller.ask(start, self.now, turns.wait());
         Ok(())
     }
 
@@ -143,7 +133,7 @@ impl Client {
     }
 
     /// One turn at this moment: what was written is sent, and a datagram that comes is taken, for which it may wait a moment. Where no
-    /// OPN came for 2 seconds, as the turns tell, another connection is asked for first.
+    /// OPN came for as long as it is waited for, another connection is asked for first, whose OPN is waited for twice as long.
     ///
     /// # Errors
     /// `LinkFault` and `ClockFault`.
@@ -171,12 +161,13 @@ impl Client {
         self.caller.is_over()
     }
 
-    /// Writes a command as soon as there is room, and takes turns until its reply comes, 1,000 at most. Says whether one came, which is
-    /// then left in the caller's place. None comes any more where the connection ended. Where there is no connection one is asked for
-    /// first.
+    /// Writes a command as soon as there is room, and takes turns until its reply comes, as many as the turns' patience allows. Says
+    /// whether one came, which is then left in the caller's place. None comes any more where the connection ended. Where there is no
+    /// connection one is asked for first.
     ///
     /// # Errors
     /// `LinkFault` and `ClockFault`.
+    #[tactic(auto, using(crate::proofs::Spent::within_none))]
     pub fn ask<T: Turns>(
         &mut self,
         turns: &mut T,
@@ -190,8 +181,13 @@ impl Client {
     {
         self.call(turns)?;
         self.begin(turns)?;
+        let patience = turns.patience();
+        let since = self.now;
         let mut is_written = false;
-        for turn in 0..COMMAND_TURNS {
+        for turn in 0..MOST_TURNS {
+            if patience.is_spent(turn, self.now.saturating_sub(since)) {
+                return Ok(false);
+            }
             is_written = self.turn_with(turns, Opcode::DATA, command, is_written)?;
             if self.take_behind(turns, is_written, reply) {
                 return Ok(true);
@@ -323,9 +319,10 @@ impl Client {
         ensures again { self.new.caller ≡ asked_again (T.pace (T.time turns.now)) self.old.now self.old.caller }
         ensures same { (self.new.now ≡ self.old.now) × (self.new.count ≡ self.old.count) }
     {
-        if self.caller.is_late(turns.wait(), self.now) {
+        if self.caller.is_late(self.now) {
+            let wait = self.caller.next_wait();
             self.caller.close();
-            self.caller.ask(turns.start(self.now), self.now);
+            self.caller.ask(turns.start(self.now), self.now, wait);
         }
     }
 

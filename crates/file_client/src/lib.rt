@@ -4,7 +4,8 @@
 //! No sockets and no clock of its own, and no allocation but the host's. `client` is the client, and `call` one with turns over a link
 //! by a clock: a talk with a FILE server. `caller` has a client's host and connection, and `calls` what is done with that; `turns` is what
 //! it takes turns with, `timed` turns over a link by a clock. `indices` passes over indices that an older process may have had;
-//! `reply_timer` has the wait, and `text` bytes in words for a user.
+//! `patience` says how long a reply is waited for, `reply_timer` why none came, and `text` has bytes in words for a user. `trip`
+//! measures how long a packet and its answer take.
 #![tactic(auto)]
 
 mod call;
@@ -13,15 +14,23 @@ mod calls;
 mod client;
 mod indices;
 mod limits;
+mod patience;
 mod reply_timer;
+mod route;
 mod text;
 mod timed;
+mod timing;
+mod trip;
 mod turns;
 
 pub use call::Call;
 pub use client::Client;
 pub use limits::law_limits;
+pub use patience::Patience;
 pub use reply_timer::NoReply;
+pub use route::Route;
 pub use text::Shown;
 pub use timed::Timed;
+pub use timing::Timing;
+pub use trip::{RoundTrip, retransmit_for, round_trip};
 pub use turns::Turns;

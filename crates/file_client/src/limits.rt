@@ -1,20 +1,48 @@
 //! The times that a client keeps to.
 ghost use Rattle.std.specs.Prelude.{◌≡◌};
-ghost use Rattle.file_client.specs.declared.limits.TheConstants.{COMMAND_TURNS, END_TURNS, OPEN_MILLIS};
+ghost use Rattle.file_client.specs.declared.limits.TheConstants.{COMMAND_TURNS, END_TURNS, LEAST_RETRANSMIT, MOST_RETRANSMIT, MOST_TURNS, OPEN_MILLIS, OPEN_SHARE, TRAIN, TRAINS_OF_A_WINDOW, TRIP_MILLIS};
 
-/// The milliseconds without an OPN after which a client asks for another connection: its server may still have one of this address and
-/// index, of a client that was killed, and drops a request for it that has another number.
+/// The most milliseconds for which a client waits for the OPN of the first connection that it asks for, before it asks for another: its
+/// server may still have a connection of this address and index, of a client that was killed, and drops a request for that with
+/// another number. Each further wait is twice as long, so that a connection opens over a network of any delay.
 pub const OPEN_MILLIS: u64 = 2_000;
 
-/// The turns that a command waits for its reply, those before the connection is open and has room among them.
+/// The first OPN is waited for at most this part of the time for which a reply is waited for: a fourth.
+pub const OPEN_SHARE: u64 = 4;
+
+/// The turns that a command usually waits for its reply, those before the connection is open and has room among them.
 pub const COMMAND_TURNS: u32 = 1_000;
+
+/// The turns that a command waits for its reply at most, where the clock counts and stands still.
+pub const MOST_TURNS: u32 = u32::MAX;
 
 /// The turns that an EOF behind the last command waits to be read.
 pub const END_TURNS: u32 = 100;
 
+/// How many requests are sent at once to measure a round trip.
+pub const TRAIN: u32 = 16;
+
+/// So many such trains are as many packets as the greatest window has.
+pub const TRAINS_OF_A_WINDOW: u64 = 4;
+
+/// For how many milliseconds the first answer to them is waited for.
+pub const TRIP_MILLIS: u64 = 1_000;
+
+/// A client that measured the round trip sends again what it keeps after so many milliseconds at least, and at most.
+pub const LEAST_RETRANSMIT: u64 = 20;
+
+pub const MOST_RETRANSMIT: u64 = 500;
+
 /// The times as numerals.
 pub fn law_limits()
     ensures open { OPEN_MILLIS ≡ 2000 }
+    ensures share { OPEN_SHARE ≡ 4 }
     ensures command { COMMAND_TURNS ≡ 1000 }
+    ensures most { MOST_TURNS ≡ 4294967295 }
     ensures end { END_TURNS ≡ 100 }
+    ensures train { TRAIN ≡ 16 }
+    ensures trains { TRAINS_OF_A_WINDOW ≡ 4 }
+    ensures trip { TRIP_MILLIS ≡ 1000 }
+    ensures least { LEAST_RETRANSMIT ≡ 20 }
+    ensures greatest { MOST_RETRANSMIT ≡ 500 }
 {}

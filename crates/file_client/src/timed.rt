@@ -1,14 +1,14 @@
 //! Turns over a link to another process, by a clock.
-ghost use Rattle.std.specs.Prelude.{◌≡◌, IfErr, IfOk, None};
-ghost use Rattle.chaosd_clock.specs.Clock.{BeginsBy};
+ghost use Rattle.std.specs.Prelude.{◌≡◌, None};
 
-use crate::limits::OPEN_MILLIS;
+use crate::patience::Patience;
+use crate::timing::Timing;
 use crate::turns::Turns;
 use chaos_host::{Host, HostDelivered};
 use chaos_link::{Carriage, LINK_ROOM, Link};
 use chaos_packet::{Outbox, PktNum};
 use chaos_turn::{TurnEnd, client_turn};
-use chaosd_clock::{Dial, Epoch};
+use chaosd_clock::Dial;
 use chaosd_io::RunFault;
 
 /// A client's turns over a link to another process, by a clock.
@@ -16,41 +16,35 @@ use chaosd_io::RunFault;
 pub struct Timed<'a, C: Dial, L: Link> {
     clock: &'a C,
     link: &'a mut L,
-    epoch: Epoch,
+    pub(crate) timing: Timing,
     /// Where datagrams are received.
     buffer: [u8; LINK_ROOM],
 }
 
 impl<'a, C: Dial, L: Link> Timed<'a, C, L> {
-    /// They begin now, by the clock, and go over the link.
-    ///
-    /// # Errors
-    /// `ClockFault`.
-    pub fn new(clock: &'a C, link: &'a mut L) -> Result<Self, RunFault>
-        ensures faults { IfErr result (λ fault. (fault ≡ RunFault.ClockFault) × C.fails clock.now) }
-        ensures begins { IfOk result (λ turns. (turns.clock.now ≡ clock.now) × BeginsBy (C.shows clock.now) (C.dates clock.now) turns.epoch) }
-        ensures link { IfOk result (λ turns. (turns.link.ghost_name ≡ link.entry.ghost_name) × (turns.link.now ≡ link.old)) }
+    /// Turns of a run with this timing, by the clock, over the link. Nothing is read or sent.
+    pub fn new(clock: &'a C, link: &'a mut L, timing: Timing) -> Self
+        ensures timing { (result.clock.now ≡ clock.now) × (result.timing ≡ timing) }
+        ensures link { (result.link.ghost_name ≡ link.entry.ghost_name) × (result.link.now ≡ link.old) }
     {
-        let epoch = Epoch::new(clock)?;
-        Ok(Timed {
+        Timed {
             clock,
             link,
-            epoch,
+            timing,
             buffer: [0; LINK_ROOM],
-        })
+        }
     }
 }
 
 impl<C: Dial, L: Link> Turns for Timed<'_, C, L> {
     ghost use Rattle.std.specs.Prelude.{◌∷◌, []};
     ghost use Rattle.chaos_packet.specs.Count.{Rose};
-    ghost use Rattle.chaosd_clock.specs.Clock.{low_bits_of};
     ghost use Rattle.file_client.specs.Pace.{clock_pace};
-    ghost use Rattle.chaosd_clock.specs.declared.clock.Epoch.{Epoch};
+    ghost use Rattle.file_client.specs.declared.timing.Timing.{Timing};
 
-    ghost Time = { C × Epoch };
+    ghost Time = { C × Timing };
 
-    ghost time = { λ turns. (turns.clock.now, turns.epoch) };
+    ghost time = { λ turns. (turns.clock.now, turns.timing) };
 
     ghost pace = { λ time. clock_pace (C.shows time.0) time.1 };
 
@@ -60,7 +54,7 @@ impl<C: Dial, L: Link> Turns for Timed<'_, C, L> {
 
     ghost stops = { λ time. C.fails time.0 };
 
-    ghost passed = { λ time. low_bits_of time.1 };
+    ghost passed = { λ time. time.1.epoch.passed };
 
     ghost failures = { λ turns. L.count turns.link.now };
 
@@ -73,19 +67,23 @@ impl<C: Dial, L: Link> Turns for Timed<'_, C, L> {
     ghost asked = { λ now start. L.asked now.link.now start.link.now };
 
     fn now(&self) -> Result<u64, RunFault> {
-        self.epoch.moment(self.clock)
+        self.timing.epoch.moment(self.clock)
     }
 
     fn start(&self, now: u64) -> PktNum {
-        self.epoch.number(now)
+        self.timing.epoch.number(now)
     }
 
     fn wait(&self) -> u64 {
-        OPEN_MILLIS
+        self.timing.patience.first_wait()
+    }
+
+    fn patience(&self) -> Patience {
+        self.timing.patience
     }
 
     fn passed(&self) -> u8 {
-        self.epoch.low_bits()
+        self.timing.epoch.passed()
     }
 
     fn turn(

@@ -6,6 +6,7 @@ ghost use Rattle.file_client.specs.Fault.{IsTurnFault};
 ghost use Rattle.file_client.specs.Pace.{Pace, StoodAt};
 ghost use Rattle.file_client.specs.Turn.{TakesTurn};
 
+use crate::patience::Patience;
 use chaos_host::{Host, HostDelivered};
 use chaos_link::Carriage;
 use chaos_packet::{Outbox, PktNum};
@@ -19,7 +20,7 @@ pub trait Turns: Drop {
 
     ghost time: { Self → Time };
 
-    /// The moments that it may tell, the numbers that connections begin with, and how long an OPN is waited for.
+    /// The moments that it may tell, the numbers that connections begin with, and how long an OPN and a reply are waited for.
     ghost pace: { Time → Pace };
 
     /// The moment that it stands at, where it counts its turns and asks no clock.
@@ -62,9 +63,13 @@ pub trait Turns: Drop {
     fn start(&self, now: u64) -> PktNum
         ensures { result ≡ (pace (time self.now)).starts now };
 
-    /// The milliseconds without an OPN after which another connection is asked for.
+    /// The milliseconds without an OPN after which another connection is asked for, the first time. Each next wait is twice as long.
     fn wait(&self) -> u64
         ensures { result ≡ (pace (time self.now)).wait };
+
+    /// How long a reply is waited for.
+    fn patience(&self) -> Patience
+        ensures { result ≡ (pace (time self.now)).patience };
 
     /// How many indices a new client passes over, which an older process may have had.
     fn passed(&self) -> u8

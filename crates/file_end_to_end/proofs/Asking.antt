@@ -59,22 +59,22 @@ module _ {S : Type 0} (contents : S → Option Files) (may_give : S → List ℕ
           (Ends id (Close [])) stands refl refl refl
       by false = kept f (record w.client.caller { id = None }) stands refl refl
 
-  asks : (f : FileNet) (start now : ℕ) → start < 65536 → FileStandsFor contents m (system_of w) f
-      → Reaches f (asked start now w.client.caller)
-  asks f start now small stands = by (nat_lt 0 (room_of w.client.caller.out))
+  asks : (f : FileNet) (start now wait : ℕ) → start < 65536 → FileStandsFor contents m (system_of w) f
+      → Reaches f (asked start now wait w.client.caller)
+  asks f start now wait small stands = by (nat_lt 0 (room_of w.client.caller.out))
     where
       by : (b : Bool)
-          → Reaches f (if b then record (after_call w.client.caller (connect_of start now w.client.caller)) { id = result_ok (connect_of start now w.client.caller).answer; since = now } else record w.client.caller { id = None; since = now })
+          → Reaches f (if b then record (after_call w.client.caller (connect_of start now w.client.caller)) { id = result_ok (connect_of start now w.client.caller).answer; since = now; wait = wait } else record w.client.caller { id = None; since = now; wait = wait })
       by true =
           called f
-          (record (after_call w.client.caller (connect_of start now w.client.caller)) { id = result_ok (connect_of start now w.client.caller).answer; since = now })
+          (record (after_call w.client.caller (connect_of start now w.client.caller)) { id = result_ok (connect_of start now w.client.caller).answer; since = now; wait = wait })
           (Connects w.client.caller.to (codes "FILE") start now) stands small refl refl
-      by false = kept f (record w.client.caller { id = None; since = now }) stands refl refl
+      by false = kept f (record w.client.caller { id = None; since = now; wait = wait }) stands refl refl
 
 pub connections_are_asked : {S : Type 0} (contents : S → Option Files) (may_give : S → List ℕ → ℕ → List ℕ → Type 0)
     (count : S → ℕ) (m : Files) → ConnectionsAreAsked contents m
 connections_are_asked contents may_give count m w f caller stands (inl is) =
     subst (Reaches contents may_give count m w f) (sym is)
     (closes contents may_give count m w f w.client.caller.id refl stands)
-connections_are_asked contents may_give count m w f caller stands (inr (start, now, small, is)) =
-    subst (Reaches contents may_give count m w f) (sym is) (asks contents may_give count m w f start now small stands)
+connections_are_asked contents may_give count m w f caller stands (inr (start, now, wait, small, is)) =
+    subst (Reaches contents may_give count m w f) (sym is) (asks contents may_give count m w f start now wait small stands)

@@ -10,7 +10,6 @@ use Rattle.chaos_packet.proofs.Packing.{spelling_spells}
 use Rattle.chaos_conn.specs.Acted.{Acted}
 use Rattle.chaos_conn.specs.Act.Call.{Close}
 use Rattle.chaos_conn.specs.Calls.{act_close, cls_of}
-use Rattle.chaos_conn.specs.Config.{config_with}
 use Rattle.chaos_conn.specs.Opening.{act_request, after_asking, closed_conn, refusal, request_between, rfc_item}
 use Rattle.chaos_conn.specs.Sending.{item_packet, untelling_packet, with_item}
 use Rattle.chaos_conn.specs.State.{is_inactive, tells_close}
@@ -128,7 +127,7 @@ end_spelled v id = by_slot (named_slot v.slots id)
 -- an engine of a host, with these packets waiting
 abbrev engine_with : HostView → List PacketView → CallerView
 engine_with h packets =
-    record { host = h; to = 0; carriage = One; id = None; since = 0; out = record { packets = packets; cap = 0 } }
+    record { host = h; to = 0; carriage = One; id = None; since = 0; wait = 0; out = record { packets = packets; cap = 0 } }
 
 module _ {S : Type 0} (contents : S → Option Files) (may_give : S → List ℕ → ℕ → List ℕ → Type 0) (count : S → ℕ)
     (m : Files) (seat : Seat (Server S)) where
@@ -234,15 +233,15 @@ module _ {S : Type 0} (contents : S → Option Files) (may_give : S → List ℕ
   -- a new server that listens, beside a new host
   both_new : (w : World S) (new : IsNewWorld contents m w)
       → Rests contents may_give count m (seat_with (listening_host new.server_config new.server_address) new.store)
-      (new_host new.me 1 (config_with new.window))
+      (new_host new.me 1 new.config)
   both_new w new =
-      let mine : HostView = new_host new.me 1 (config_with new.window) in
+      let mine : HostView = new_host new.me 1 new.config in
       let other : HostView = new_host new.server_address SERVER_CONNS new.server_config in
       let deaf : System (Program S) = system_by (engine_with mine []) [] (seat_with other new.store) in
       let listening : System (Program S) =
       system_by (engine_with mine []) [] (seat_with (listening_host new.server_config new.server_address) new.store) in
       let seats : (x : Side) → IsNewSeat program_host (deaf x) = at_both (λ x. IsNewSeat program_host (deaf x)) A
-      (record { address = new.me; conns = 1; config = config_with new.window; right = new.address_is; sound = new.config_is; host = refl; waiting = refl; posts = refl })
+      (record { address = new.me; conns = 1; config = new.config; right = new.address_is; sound = new.config_is; host = refl; waiting = refl; posts = refl })
       (record { address = new.server_address; conns = SERVER_CONNS; config = new.server_config; right = new.served_address_is; sound = new.served_config_is; host = refl; waiting = refl; posts = refl }) in
       let start = new_file_systems_stand contents may_give count m deaf seats tt
       (record {
@@ -261,9 +260,9 @@ worlds_begin {S} contents may_give count m w new =
     let seat : Seat (Server S) = seat_with contents may_give count m listening new.store in
     let same : w.server ≡ seat =
     λ j. record { program = new.server j; waiting = new.waiting j; posts = new.server_posts j } in
-    let (lost, f, st) = passed contents may_give count m seat new.indices new.to (new_host new.me 1 (config_with new.window))
+    let (lost, f, st) = passed contents may_give count m seat new.indices new.to (new_host new.me 1 new.config)
     (both_new contents may_give count m w new) in
-    let engine : CallerView = new_caller new.me new.to new.window new.carriage new.indices in
+    let engine : CallerView = new_caller new.me new.to new.config new.carriage new.indices in
     let there : FileStandsFor contents m (system_by engine lost seat) f =
     same_host contents may_give count m seat engine lost f refl st in (
       lost,

@@ -12,7 +12,7 @@ use Rattle.chaos_turn.specs.Slots.{tick_at}
 use Rattle.chaos_turn.specs.Turn.{client_phases}
 use Rattle.chaos_system.specs.Come.{AreFresh, AreSent, ComeFrom, ComeFresh, nothing_upon}
 use Rattle.file_net.specs.FileNet.{FileNet, FileEvent, Nets, Serves, FileRun, file_happens}
-use Rattle.file_end_to_end.proofs.Led.{IsLed, Leads, none_led, own_led, copy_led, both_led, then_led, slots_led}
+use Rattle.file_end_to_end.proofs.Led.{IsLed, Leads, none_led, tick_led, copy_led, both_led, then_led, slots_led}
 
 -- an event of the net
 abbrev pub IsOfNet : FileEvent → Type 0
@@ -52,7 +52,7 @@ client_led f numbers came now from fresh =
     then_led IsTurning A f (arrive_at_client came now (f.net A).host) (over_slots (tick_at now) (length (f.net A).host.slots))
     (client_arrived f numbers came now from fresh)
     (λ g. slots_led IsTurning A (tick_at now)
-    (λ place k. (file_happens k (Nets (At A (Ticks place now))), own_led IsTurning A k (Ticks place now) tt refl tt))
+    (λ place k. (file_happens k (Nets (At A (Ticks place now))), tick_led IsTurning A k now place refl tt))
     (length (f.net A).host.slots) g)
 
 -- nothing is served

@@ -23,7 +23,8 @@ use Rattle.file_server.specs.Serve.{IsServedAt, ServesPlace, ServesSlots, servin
 use Rattle.file_server.specs.Server.{Server, after_giving_back, server, with_host}
 use Rattle.file_server.specs.Sessions.{Serving, serving_at, serving_of}
 use Rattle.file_server.specs.Slots.{end_phases}
-use Rattle.file_server.specs.Turn.{IsTurn}
+use Rattle.file_server.specs.declared.limits.TheConstants.{SILENT_MILLIS}
+use Rattle.file_end_to_end.specs.Turns.{server_turns}
 use Rattle.file_end_to_end.specs.TwoClients.{contents, count, may_give}
 
 -- ---- a turn of the server, by FILE's definition
@@ -67,7 +68,7 @@ by_slot s now place serving at (Some slot) = by_work s now place serving at slot
 abbrev by_index : Server Files → ℕ → ℕ → Option ℕ → Left
 by_index s now place None = record { server = s; lots = [] }
 by_index s now place (Some id) =
-    by_slot s now place (serving_of id (serving_at s.sessions place)) (place_of id) (named_slot s.host.slots id)
+    by_slot s now place (serving_of id now (serving_at s.sessions place)) (place_of id) (named_slot s.host.slots id)
 
 abbrev both_left : Left → Left → Left
 both_left first last = record { server = last.server; lots = first.lots ++ last.lots }
@@ -86,7 +87,7 @@ ended lots served last = record {
 }
 
 abbrev ending : ℕ → List (List PacketView) → Left → Left
-ending now lots served = ended lots served (end_phases served.server.sessions now served.server.host)
+ending now lots served = ended lots served (end_phases (Some SILENT_MILLIS) served.server.sessions now served.server.host)
 
 abbrev served : ℕ → Server Files → Effect → Left
 served now s came = ending now came.lots (serve_slots now (length s.host.slots) (with_host s came.host))
@@ -106,17 +107,17 @@ abbrev IsToldSlot : Files → SessionView → Option Slot → Type 0
 IsToldSlot m session None = ⊤
 IsToldSlot m session (Some slot) = IsToldWork m session (work_of slot.conn)
 
-abbrev IsToldAt : Server Files → ℕ → Option ℕ → Type 0
-IsToldAt s place None = ⊤
-IsToldAt s place (Some id) =
-    IsToldSlot s.store (serving_of id (serving_at s.sessions place)).session (named_slot s.host.slots id)
+abbrev IsToldAt : ℕ → Server Files → ℕ → Option ℕ → Type 0
+IsToldAt now s place None = ⊤
+IsToldAt now s place (Some id) =
+    IsToldSlot s.store (serving_of id now (serving_at s.sessions place)).session (named_slot s.host.slots id)
 
-abbrev IsToldNext : ℕ → Server Files → Type 0
-IsToldNext place s = IsToldAt s place (id_at s.host place)
+abbrev IsToldNext : ℕ → ℕ → Server Files → Type 0
+IsToldNext now place s = IsToldAt now s place (id_at s.host place)
 
 abbrev pub AreTold : ℕ → ℕ → Server Files → Type 0
 AreTold now zero s = ⊤
-AreTold now (suc n) s = AreTold now n s × IsToldNext n (serve_slots now n s).server
+AreTold now (suc n) s = AreTold now n s × IsToldNext now n (serve_slots now n s).server
 
 -- what serving one slot is to do
 abbrev SlotServes : Server Files → ℕ → Serving → ℕ → ℕ → Option Slot → Left → SessionView → Type 0
@@ -153,11 +154,11 @@ slot_serves s now place serving at None is =
     (serving.session, ((refl, refl), record { host = refl; sessions = refl; out = refl }))
 slot_serves s now place serving at (Some slot) is = work_serves s now place serving at slot (work_of slot.conn) is
 
-place_serves : (s : Server Files) (now place : ℕ) (o : Option ℕ) → IsToldAt s place o
+place_serves : (s : Server Files) (now place : ℕ) (o : Option ℕ) → IsToldAt now s place o
     → ServesPlace (change contents may_give count) now place o s (by_index s now place o).server (by_index s now place o).lots
 place_serves s now place None is = (refl, refl)
 place_serves s now place (Some id) is =
-    slot_serves s now place (serving_of id (serving_at s.sessions place)) (place_of id) (named_slot s.host.slots id) is
+    slot_serves s now place (serving_of id now (serving_at s.sessions place)) (place_of id) (named_slot s.host.slots id) is
 
 slots_serve : (now n : ℕ) (s : Server Files) → AreTold now n s
     → ServesSlots (change contents may_give count) now n s (serve_slots now n s).server (serve_slots now n s).lots
@@ -169,14 +170,16 @@ slots_serve now (suc n) s are =
 
 pub server_turn : (came : Arrival) (start now : ℕ) (s : Server Files)
     → AreTold now (length s.host.slots) (with_host s (arrive_at_server came start now s.host).host)
-    → IsTurn (change contents may_give count) came start now s (server_left came start now s).server
+    → server_turns (change contents may_give count) came start now s (server_left came start now s).server
     (server_left came start now s).lots
 server_turn came start now s are =
-    let first = serve_slots now (length s.host.slots) (with_host s (arrive_at_server came start now s.host).host) in
-    record {
-      served = first.server;
-      replies = first.lots;
-      serves = slots_serve now (length s.host.slots) (with_host s (arrive_at_server came start now s.host).host) are;
-      ended = refl;
-      out = refl;
-    }
+    let first = serve_slots now (length s.host.slots) (with_host s (arrive_at_server came start now s.host).host) in (
+      Some SILENT_MILLIS,
+      record {
+        served = first.server;
+        replies = first.lots;
+        serves = slots_serve now (length s.host.slots) (with_host s (arrive_at_server came start now s.host).host) are;
+        ended = refl;
+        out = refl;
+      },
+    )

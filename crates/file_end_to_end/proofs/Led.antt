@@ -23,10 +23,11 @@ use Rattle.chaos_turn.specs.Phase.{Effect, and_then, effect_of, no_effect_on, ov
 use Rattle.chaos_turn.specs.Slots.{tick_at}
 use Rattle.chaos_system.specs.Come.{Upon, AreFresh, AreSent, ComeFrom, ComeFresh, coming}
 use Rattle.chaos_system.specs.Made.{packets_sent}
+use Rattle.chaos_system.proofs.Coming.{tick_made}
 use Rattle.chaos_system.proofs.Made.{copy_made, effect_at, own_made, packets_both}
 use Rattle.file_server.specs.Arrive.{accept_by, arrive_at_server, greet, request_in}
 use Rattle.file_server.specs.Sessions.{Serving, serving_at}
-use Rattle.file_server.specs.Slots.{close_at, close_by, end_phases, is_over, release_at, release_by}
+use Rattle.file_server.specs.Slots.{close_at, close_by, close_for, end_phases, is_late, is_over_in, release_at, release_by}
 use Rattle.file_end_to_end.specs.Turns.{accepts, accepts_upon}
 use Rattle.file_net.specs.FileNet.{FileNet, FileEvent, Nets, FileRun, file_happens, is_by_server}
 
@@ -90,6 +91,21 @@ module _ (P : FileEvent → Type 0) (x : Side) where
       record {
         events = Nets (At x event) ∷ [];
         run = ((own, not_server), refl);
+        kinds = (kind, tt);
+        host = r.host;
+        sent = r.sent;
+        far = r.far;
+      }
+
+  -- a tick
+  pub tick_led : (f : FileNet) (now place : ℕ) → is_by_server (At x (Ticks place now)) ≡ false
+      → P (Nets (At x (Ticks place now)))
+      → IsLed P x f (file_happens f (Nets (At x (Ticks place now)))) (tick_at now place (f.net x).host)
+  tick_led f now place not_server kind =
+      let r = tick_made x now place f.net in
+      record {
+        events = Nets (At x (Ticks place now)) ∷ [];
+        run = ((tt, not_server), refl);
         kinds = (kind, tt);
         host = r.host;
         sent = r.sent;
@@ -184,24 +200,28 @@ closed_if : (f : FileNet) (id : ℕ) (over : Bool)
 closed_if f id true = (file_happens f (Nets (At B (Ends id (Close [])))), own_led IsEnding B f (Ends id (Close [])) refl refl tt)
 closed_if f id false = (f, none_led IsEnding B f)
 
-closed : (f : FileNet) (eof : Bool) (o : Option ℕ) → Leads IsEnding B f (close_by eof (f.net B).host o)
-closed f eof None = (f, none_led IsEnding B f)
-closed f eof (Some id) = closed_if f id (is_over eof (named_slot (f.net B).host.slots id))
+closed_by : (f : FileNet) (eof late : Bool) (o : Option ℕ) → Leads IsEnding B f (close_by eof late (f.net B).host o)
+closed_by f eof late None = (f, none_led IsEnding B f)
+closed_by f eof late (Some id) = closed_if f id (is_over_in eof late (named_slot (f.net B).host.slots id))
+
+closed : (f : FileNet) (silence : Option ℕ) (now : ℕ) (serving : Serving) (o : Option ℕ)
+    → Leads IsEnding B f (close_for silence now serving (f.net B).host o)
+closed f silence now serving o = closed_by f serving.eof (is_late silence serving.since now) o
 
 released : (f : FileNet) (o : Option ℕ) → Leads IsEnding B f (release_by (f.net B).host o)
 released f None = (f, none_led IsEnding B f)
 released f (Some id) = (file_happens f (Nets (At B (Releases id))), own_led IsEnding B f (Releases id) tt refl tt)
 
-pub ended : (f : FileNet) (sessions : List Serving) (now : ℕ)
-    → Leads IsEnding B f (end_phases sessions now (f.net B).host)
-ended f sessions now =
+pub ended : (f : FileNet) (silence : Option ℕ) (sessions : List Serving) (now : ℕ)
+    → Leads IsEnding B f (end_phases silence sessions now (f.net B).host)
+ended f silence sessions now =
     let h = (f.net B).host in
     let size = length h.slots in
-    then_led IsEnding B f (and_then (over_slots (close_at sessions) size h) (over_slots release_at size))
+    then_led IsEnding B f (and_then (over_slots (close_at silence now sessions) size h) (over_slots release_at size))
     (over_slots (tick_at now) size)
-    (then_led IsEnding B f (over_slots (close_at sessions) size h) (over_slots release_at size)
-    (slots_led IsEnding B (close_at sessions)
-    (λ place g. closed g (serving_at sessions place).eof (id_at (g.net B).host place)) size f)
+    (then_led IsEnding B f (over_slots (close_at silence now sessions) size h) (over_slots release_at size)
+    (slots_led IsEnding B (close_at silence now sessions)
+    (λ place g. closed g silence now (serving_at sessions place) (id_at (g.net B).host place)) size f)
     (λ g. slots_led IsEnding B release_at (λ place k. released k (id_at (k.net B).host place)) size g))
     (λ g. slots_led IsEnding B (tick_at now)
-    (λ place k. (file_happens k (Nets (At B (Ticks place now))), own_led IsEnding B k (Ticks place now) tt refl tt)) size g)
+    (λ place k. (file_happens k (Nets (At B (Ticks place now))), tick_led IsEnding B k now place refl tt)) size g)

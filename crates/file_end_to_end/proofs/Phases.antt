@@ -18,7 +18,7 @@ use Rattle.chaos_system.proofs.Made.{both_made, copy_made, none_made, own_made, 
 use Rattle.chaos_system.proofs.Coming.{MadeOfEach, packets_made, slots_made, ticks_made}
 use Rattle.file_server.specs.Arrive.{accept_by, arrive_at_server, greet, request_in}
 use Rattle.file_server.specs.Sessions.{Serving, serving_at}
-use Rattle.file_server.specs.Slots.{close_at, close_by, end_phases, is_over, release_at, release_by}
+use Rattle.file_server.specs.Slots.{close_at, close_by, close_for, end_phases, is_late, is_over_in, release_at, release_by}
 use Rattle.file_end_to_end.specs.Turns.{accepts, accepts_upon}
 
 -- ---- what came
@@ -54,22 +54,27 @@ closed_if : (n : Net) (x : Side) (id : ℕ) (over : Bool)
 closed_if n x id true = (happens n (At x (Ends id (Close []))), own_made n x (Ends id (Close [])) refl)
 closed_if n x id false = (n, none_made n x)
 
-closed : (n : Net) (x : Side) (eof : Bool) (o : Option ℕ) → Makes n x (close_by eof (n x).host o)
-closed n x eof None = (n, none_made n x)
-closed n x eof (Some id) = closed_if n x id (is_over eof (named_slot (n x).host.slots id))
+closed_by : (n : Net) (x : Side) (eof late : Bool) (o : Option ℕ) → Makes n x (close_by eof late (n x).host o)
+closed_by n x eof late None = (n, none_made n x)
+closed_by n x eof late (Some id) = closed_if n x id (is_over_in eof late (named_slot (n x).host.slots id))
+
+closed : (n : Net) (x : Side) (silence : Option ℕ) (now : ℕ) (serving : Serving) (o : Option ℕ)
+    → Makes n x (close_for silence now serving (n x).host o)
+closed n x silence now serving o = closed_by n x serving.eof (is_late silence serving.since now) o
 
 released : (n : Net) (x : Side) (o : Option ℕ) → Makes n x (release_by (n x).host o)
 released n x None = (n, none_made n x)
 released n x (Some id) = (happens n (At x (Releases id)), own_made n x (Releases id) tt)
 
-pub ended : (n : Net) (x : Side) (sessions : List Serving) (now : ℕ) → Makes n x (end_phases sessions now (n x).host)
-ended n x sessions now =
+pub ended : (n : Net) (x : Side) (silence : Option ℕ) (sessions : List Serving) (now : ℕ)
+    → Makes n x (end_phases silence sessions now (n x).host)
+ended n x silence sessions now =
     let h = (n x).host in
     let size = length h.slots in
-    then_made n x (and_then (over_slots (close_at sessions) size h) (over_slots release_at size))
+    then_made n x (and_then (over_slots (close_at silence now sessions) size h) (over_slots release_at size))
     (over_slots (tick_at now) size)
-    (then_made n x (over_slots (close_at sessions) size h) (over_slots release_at size)
-    (slots_made x (close_at sessions)
-    (λ place m. closed m x (serving_at sessions place).eof (id_at (m x).host place)) size n)
+    (then_made n x (over_slots (close_at silence now sessions) size h) (over_slots release_at size)
+    (slots_made x (close_at silence now sessions)
+    (λ place m. closed m x silence now (serving_at sessions place) (id_at (m x).host place)) size n)
     (λ m still. slots_made x release_at (λ place k. released k x (id_at (k x).host place)) size m))
     (λ m still. ticks_made x now size m)

@@ -54,28 +54,28 @@ module _ {S : Type 0} (changes : S → S → StoreChange) (asked : List Ask → 
   )
 
   -- a datagram that carries no packet is as none
-  same_turn : (others : List Addressed) (number : Option ℕ) (came : Arrival) (start now : ℕ) (s t : Server S)
-      (lots : List (List PacketView)) → Hands others number came → IsTurn changes came start now s t lots
-      → IsTurn changes (handed others number) start now s t lots
-  same_turn others None None start now s t lots hands turn = turn
-  same_turn others None (Some (Err fault)) start now s t lots hands turn = record {
+  same_turn : (silence : Option ℕ) (others : List Addressed) (number : Option ℕ) (came : Arrival) (start now : ℕ) (s t : Server S)
+      (lots : List (List PacketView)) → Hands others number came → IsTurn changes silence came start now s t lots
+      → IsTurn changes silence (handed others number) start now s t lots
+  same_turn silence others None None start now s t lots hands turn = turn
+  same_turn silence others None (Some (Err fault)) start now s t lots hands turn = record {
     served = turn.served;
     replies = turn.replies;
     serves = turn.serves;
     ended = turn.ended;
     out = turn.out;
   }
-  same_turn others None (Some (Ok packets)) start now s t lots hands turn =
-      subst (λ (o : Arrival). IsTurn changes o start now s t lots) hands turn
-  same_turn others (Some k) came start now s t lots hands turn =
-      subst (λ (o : Arrival). IsTurn changes o start now s t lots) hands turn
+  same_turn silence others None (Some (Ok packets)) start now s t lots hands turn =
+      subst (λ (o : Arrival). IsTurn changes silence o start now s t lots) hands turn
+  same_turn silence others (Some k) came start now s t lots hands turn =
+      subst (λ (o : Arrival). IsTurn changes silence o start now s t lots) hands turn
 
   pub server_turns_are_steps : ServerTurnsAreSteps changes asked
-  server_turns_are_steps waits carriage start now before after result posts others number runs is none = (
+  server_turns_are_steps silence waits carriage start now before after result posts others number runs is none = (
     record {
       carriage = carriage;
       lots = runs.lots;
-      turn = same_turn others number runs.came start now before.node after.node runs.lots is runs.turn;
+      turn = (silence, same_turn silence others number runs.came start now before.node after.node runs.lots is runs.turn);
       read = runs.link.read;
       waiting = none;
       posts = refl;

@@ -35,10 +35,10 @@ use Rattle.file_end_to_end.proofs.Steady.{IsSteady, serves_steady, serves_kept, 
 
 -- ---- ready to be served
 
--- the session that serves a slot's connection, present or next, is that of the file net
+-- the session that serves a slot's connection, present or next, from any moment on, is that of the file net
 pub record IsReady (turns : ℕ → ℕ) (stories : Name → Option Story) (sessions : Name → SessionView) (place : ℕ)
     (serving : Serving) : Type 0 where
-  pub tie : (serving_of (index_of (name_at turns place)) serving).session ≡ sessions (name_at turns place)
+  pub tie : (now : ℕ) → (serving_of (index_of (name_at turns place)) now serving).session ≡ sessions (name_at turns place)
   pub free : stories (name_at turns place) ≡ None → IsOld turns place serving.id
 
 pub kept_ready : (m : Files) (f : FileNet) → IsSound m f → (place : ℕ) (serving : Serving)
@@ -51,11 +51,11 @@ kept_ready m f h place serving k = by ((f.net B).story (name_at (f.net B).turn p
     by (Some s) is =
         let u = k.used s is in
         record {
-          tie = ap (λ (z : Serving). z.session) (serving_same (index_of (name_at (f.net B).turn place)) serving u.0) ∙ u.1;
+          tie = λ now. ap (λ (z : Serving). z.session) (serving_same (index_of (name_at (f.net B).turn place)) now serving u.0) ∙ u.1;
           free = k.free;
         }
     by None is = record {
-      tie = serving_new (f.net B).turn place serving (k.free is) ∙ sym (unserved m f h (name_at (f.net B).turn place) is);
+      tie = λ now. serving_new (f.net B).turn place now serving (k.free is) ∙ sym (unserved m f h (name_at (f.net B).turn place) is);
       free = k.free;
     }
 
@@ -71,7 +71,7 @@ steady_ready n k s sessions others place serving same r =
     let name : name_at (k B).turn place ≡ name_at (n B).turn place = (λ j. record { place = place; turn = turn j }) in
     record {
       tie =
-          ap (λ c. (serving_of (index_of c) serving).session) name ∙ r.tie ∙ sym same ∙ ap others (sym name);
+          λ now. ap (λ c. (serving_of (index_of c) now serving).session) name ∙ r.tie now ∙ sym same ∙ ap others (sym name);
       free = λ none. old_stays (n B).turn (k B).turn place serving.id turn (r.free (before ((n B).story (name_at (n B).turn place)) refl (ap (k B).story (sym name) ∙ none)));
     }
   where
@@ -165,7 +165,7 @@ module _ {S : Type 0} (contents : S → Option Files) (may_give : S → List ℕ
   acted_led : (f : FileNet) (s t : Server S) (lots : List (List PacketView)) (k id : ℕ) (session : SessionView)
       (st : Story) (way : Way) (acted : HostActed Served) → IsSound m f → k < length s.host.slots → IsAt contents s f k
       → (f.net B).story (present (f.net B) k) ≡ Some st → id ≡ index_of (present (f.net B) k)
-      → IsServedAt k s t lots (serving_after (serving_of id (serving_at s.sessions k)) session acted.answer) acted
+      → IsServedAt k s t lots (serving_after (serving_of id now (serving_at s.sessions k)) session acted.answer) acted
       → CanHappen f (Serves id now way)
       → event.Leads f (file_happens f (Serves id now way)) id acted (contents t.store) session
       → PlaceLed f s t lots k
@@ -179,7 +179,7 @@ module _ {S : Type 0} (contents : S → Option Files) (may_give : S → List ℕ
       ap place_of is ∙ place_back c (place_few (f.net B) (f.net A) station k inside) in
       let own : named (f.net B) id ≡ c = (λ j. present (f.net B) (place j)) in
       let steady = serves_steady f id now way h.reached in
-      let serving : Serving = serving_of id (serving_at s.sessions k) in
+      let serving : Serving = serving_of id now (serving_at s.sessions k) in
       let left : Serving = serving_after serving session acted.answer in
       let size : length t.host.slots ≡ length s.host.slots =
       ap (λ (v : HostView). length v.slots) (done.host ∙ sym leads.host) ∙ steady.size
@@ -187,7 +187,7 @@ module _ {S : Type 0} (contents : S → Option Files) (may_give : S → List ℕ
       let turn = steady.turns k in
       let name : name_at (g.net B).turn k ≡ c = (λ j. record { place = k; turn = turn j }) in
       let left_id : left.id ≡ Some (index_of (name_at (g.net B).turn k)) =
-      serving_id id (serving_at s.sessions k) ∙ ap Some is ∙ ap (λ z. Some (index_of z)) (sym name) in
+      serving_id id now (serving_at s.sessions k) ∙ ap Some is ∙ ap (λ z. Some (index_of z)) (sym name) in
       let left_session : left.session ≡ g.service.session (name_at (g.net B).turn k) =
       sym leads.own ∙ ap g.service.session (own ∙ sym name) in
       let new_at : serving_at t.sessions k ≡ left =
@@ -221,9 +221,9 @@ module _ {S : Type 0} (contents : S → Option Files) (may_give : S → List ℕ
               let e : p ≡ k = eqb-true p k same in
               subst (λ q. IsReady (g.net B).turn (g.net B).story g.service.session q (serving_at t.sessions q)) (sym e)
               (subst (λ z. IsReady (g.net B).turn (g.net B).story g.service.session k z) (sym new_at) (record {
-                tie =
+                tie = λ moment.
                     ap (λ (z : Serving). z.session)
-                    (serving_same (index_of (name_at (g.net B).turn k)) left left_id)
+                    (serving_same (index_of (name_at (g.net B).turn k)) moment left left_id)
                     ∙ left_session;
                 free = λ none. absurd (not_free none);
               })))
@@ -273,7 +273,7 @@ module _ {S : Type 0} (contents : S → Option Files) (may_give : S → List ℕ
 
   some_led : (f : FileNet) (s t : Server S) (lots : List (List PacketView)) (k id : ℕ) → IsSound m f
       → k < length s.host.slots → IsAt contents s f k → id_at s.host k ≡ Some id
-      → SessionServes (change contents may_give count s.store t.store) now id (serving_of id (serving_at s.sessions k))
+      → SessionServes (change contents may_give count s.store t.store) now id (serving_of id now (serving_at s.sessions k))
       (IsServedAt k s t lots) s.host
       → PlaceLed f s t lots k
   some_led f s t lots k id h within at is one = by ((f.net B).story (present (f.net B) k)) refl
@@ -295,9 +295,9 @@ module _ {S : Type 0} (contents : S → Option Files) (may_give : S → List ℕ
           let place : place_of id ≡ k =
           ap place_of index ∙ place_back c (place_few (f.net B) (f.net A) station k inside) in
           let own : named (f.net B) id ≡ c = (λ j. present (f.net B) (place j)) in
-          let serving : Serving = serving_of id (serving_at s.sessions k) in
+          let serving : Serving = serving_of id now (serving_at s.sessions k) in
           let tie : serving.session ≡ f.service.session (named (f.net B) id) =
-          ap (λ i. (serving_of i (serving_at s.sessions k)).session) index ∙ (at.ready k within).tie
+          ap (λ i. (serving_of i now (serving_at s.sessions k)).session) index ∙ (at.ready k within).tie now
           ∙ ap f.service.session (sym own) in
           let store : StoreChange = change contents may_give count s.store t.store in
           let does : HostActed Served → Type 0 =

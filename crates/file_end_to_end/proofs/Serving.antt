@@ -150,7 +150,7 @@ module _ {S : Type 0} (changes : S → S → StoreChange) (x : Side) (now : ℕ)
   place_made n place None s t lots is one =
       nothing_so n x t.host lots (ap (λ (v : Server S). v.host) one.0 ∙ sym is) (ap packets_of one.1)
   place_made n place (Some id) s t lots is one =
-      let serving = serving_of id (serving_at s.sessions place) in
+      let serving = serving_of id now (serving_at s.sessions place) in
       let here : SessionServes (changes s.store t.store) now id serving (IsServedAt place s t lots) (n x).host =
       subst (SessionServes (changes s.store t.store) now id serving (IsServedAt place s t lots)) (sym is) one in
       in_slot_made n x (changes s.store t.store) now place id serving s t lots here.0

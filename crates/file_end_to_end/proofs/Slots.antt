@@ -72,14 +72,14 @@ module _ (own far : Station) (h : IsStation own far) (place : ℕ) (within : pla
 
 -- ---- the session for a connection
 
-pub serving_same : (id : ℕ) (serving : Serving) → serving.id ≡ Some id → serving_of id serving ≡ serving
-serving_same id serving is =
-    ap (serving_by id serving) is ∙ cond-true (id == id) serving _ (eq-eqb id id refl)
+pub serving_same : (id now : ℕ) (serving : Serving) → serving.id ≡ Some id → serving_of id now serving ≡ serving
+serving_same id now serving is =
+    ap (serving_by id now serving) is ∙ cond-true (id == id) serving _ (eq-eqb id id refl)
 
-pub serving_id : (id : ℕ) (serving : Serving) → (serving_of id serving).id ≡ Some id
-serving_id id serving = by serving.id refl
+pub serving_id : (id now : ℕ) (serving : Serving) → (serving_of id now serving).id ≡ Some id
+serving_id id now serving = by serving.id refl
   where
-    by : (o : Option ℕ) → serving.id ≡ o → (serving_by id serving o).id ≡ Some id
+    by : (o : Option ℕ) → serving.id ≡ o → (serving_by id now serving o).id ≡ Some id
     by None is = refl
     by (Some kept) is =
         ⊎_elim
@@ -98,15 +98,15 @@ next_index place last =
     (λ (apart : (index_of (record { place = place; turn = last }) == index_of (record { place = place; turn = suc last })) ≡ false). apart)
     (cases_Bool (index_of (record { place = place; turn = last }) == index_of (record { place = place; turn = suc last })))
 
-pub serving_new : (turns : ℕ → ℕ) (place : ℕ) (serving : Serving) → IsOld turns place serving.id
-    → (serving_of (index_of (name_at turns place)) serving).session ≡ new_session
-serving_new turns place serving old = by serving.id old
+pub serving_new : (turns : ℕ → ℕ) (place now : ℕ) (serving : Serving) → IsOld turns place serving.id
+    → (serving_of (index_of (name_at turns place)) now serving).session ≡ new_session
+serving_new turns place now serving old = by serving.id old
   where
     id : ℕ
     id = index_of (name_at turns place)
 
     by : (o : Option ℕ) → IsOld turns place o
-        → (serving_by (index_of (name_at turns place)) serving o).session ≡ new_session
+        → (serving_by (index_of (name_at turns place)) now serving o).session ≡ new_session
     by None old = refl
     by (Some kept) old =
         let apart : (kept == index_of (name_at turns place)) ≡ false =

@@ -42,12 +42,12 @@ any_led P f g e led = record {
 }
 
 module _ {S : Type 0} (contents : S → Option Files) (may_give : S → List ℕ → ℕ → List ℕ → Type 0) (count : S → ℕ) where
-  pub turn_is_run : (m : Files) (f : FileNet) (numbers : List ℕ) (came : Arrival) (start now : ℕ) (s t : Server S)
+  pub turn_is_run : (silence : Option ℕ) (m : Files) (f : FileNet) (numbers : List ℕ) (came : Arrival) (start now : ℕ) (s t : Server S)
       (lots : List (List PacketView)) → IsSound m f → IsServer contents s f → ComeFrom f.net B numbers came
       → ComeFresh (accepts_upon start now) f.net B now numbers came
-      → IsTurn (change contents may_give count) came start now s t lots
+      → IsTurn (change contents may_give count) silence came start now s t lots
       → (g : FileNet) × TurnIsRun contents f g t lots
-  turn_is_run m f numbers came start now s t lots h server from fresh turn =
+  turn_is_run silence m f numbers came start now s t lots h server from fresh turn =
       -- what came
       let arrival : Effect = arrive_at_server came start now s.host in
       let first : Leads IsArriving B f arrival =
@@ -80,9 +80,9 @@ module _ {S : Type 0} (contents : S → Option Files) (may_give : S → List ℕ
       let h2 = run_keeps m two.led.events f1 f2 two.led.run h1 in
       let size2 : length served.host.slots ≡ length s.host.slots = two.size ∙ size1 in
       -- the end
-      let end : Effect = end_phases served.sessions now served.host in
+      let end : Effect = end_phases silence served.sessions now served.host in
       let last : Leads IsEnding B f2 end =
-      subst (λ v. Leads IsEnding B f2 (end_phases served.sessions now v)) two.at.host (ended f2 served.sessions now) in
+      subst (λ v. Leads IsEnding B f2 (end_phases silence served.sessions now v)) two.at.host (ended f2 silence served.sessions now) in
       let g : FileNet = last.0 in
       let h3 = run_keeps m last.1.events f2 g last.1.run h2 in
       let keeps = endings_keep m last.1.events f2 g h2 last.1.run last.1.kinds in
@@ -134,4 +134,4 @@ module _ {S : Type 0} (contents : S → Option Files) (may_give : S → List ℕ
 
   pub server_turns_are_file_runs : ServerTurnsAreFileRuns contents may_give count
   server_turns_are_file_runs m f numbers came start now s t lots reached server from fresh turn =
-      turn_is_run m f numbers came start now s t lots (reached_is_sound m f reached) server from fresh turn
+      turn_is_run turn.0 m f numbers came start now s t lots (reached_is_sound m f reached) server from fresh turn.1

@@ -99,7 +99,7 @@ module _ (n : Net) (reached : Reached n) (id : ℕ) (s : Story) (c : Name)
 -- so its engine asks for no other
 not_again : (p : Pace) (now : ℕ) (c : CallerView) → is_asking c.host c.id ≡ false → asked_again p now c ≡ c
 not_again p now c quiet =
-    let late : (if is_asking c.host c.id then nat_le p.wait (now - c.since) else false) ≡ false =
+    let late : (if is_asking c.host c.id then nat_le c.wait (now - c.since) else false) ≡ false =
     cond-false (is_asking c.host c.id) _ false quiet in
     cond-false _ _ c late
 

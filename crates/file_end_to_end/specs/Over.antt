@@ -21,7 +21,7 @@ module _ {C L : Type 0} where
   engine_of queue call = talker call.client.caller (queue call.turns.link.now)
 
   abbrev pub pace_of : (C → ℕ → Type 0) → Call C L → Pace
-  pace_of shows call = clock_pace (shows call.turns.clock.now) call.turns.epoch
+  pace_of shows call = clock_pace (shows call.turns.clock.now) call.turns.timing
 
 -- If the engine took exactly these steps since a file net f, in which the engine's user was idle, then the copy is made, and the
 -- user is idle again.

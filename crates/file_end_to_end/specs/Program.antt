@@ -17,8 +17,8 @@ use Rattle.chaos_turn.specs.Station.{Station}
 use Rattle.chaos_turn.specs.Turn.{RunsClientTurn, client_phases}
 use Rattle.chaos_turn.specs.declared.end.TurnEnd.{TurnEnd}
 use Rattle.file_server.specs.Server.{Server}
-use Rattle.file_server.specs.Turn.{IsTurn, RunsTurn}
-use Rattle.file_end_to_end.specs.Turns.{accepts_upon}
+use Rattle.file_server.specs.Turn.{RunsTurn}
+use Rattle.file_end_to_end.specs.Turns.{accepts_upon, server_turns}
 
 pub data Program (S : Type 0) : Type 0 where
   Client : (host : HostView) → Program S
@@ -36,7 +36,7 @@ module _ {S : Type 0} where
 -- the turns of a client, or the turns of a server; a client stays a client, and a server stays a server
 abbrev pub program_turns : {S : Type 0} → (S → S → StoreChange) → Turns (Program S)
 program_turns changes came start now (Client h) (Client g) lots = client_turns came start now h g lots
-program_turns changes came start now (Serves s) (Serves t) lots = IsTurn changes came start now s t lots
+program_turns changes came start now (Serves s) (Serves t) lots = server_turns changes came start now s t lots
 program_turns changes came start now _ _ lots = ⊥
 
 -- ---- turns over links, by the contracts of the programs
@@ -62,9 +62,9 @@ module _ {S : Type 0} (changes : S → S → StoreChange) (asked : List Ask → 
 
   -- Each turn that a server runs is also a step.
   abbrev pub ServerTurnsAreSteps : Type 0
-  ServerTurnsAreSteps = (waits : Bool) (carriage : Carriage) (start now : ℕ) (before after : Station (Server S))
-      (result : TurnEnd) (posts others : List Addressed) (number : Option ℕ)
-      → (runs : RunsTurn changes asked waits carriage start now before after result) → Hands others number runs.came
+  ServerTurnsAreSteps = (silence : Option ℕ) (waits : Bool) (carriage : Carriage) (start now : ℕ)
+      (before after : Station (Server S)) (result : TurnEnd) (posts others : List Addressed) (number : Option ℕ)
+      → (runs : RunsTurn changes silence asked waits carriage start now before after result) → Hands others number runs.came
       → after.outbox.packets ≡ []
       → TakesTurn program_host (program_turns changes) (handed others number) start now (seat_at Serves before posts)
       (seat_at Serves after (posts ++ sent_by carriage (before.outbox.packets ∷ runs.lots)))

@@ -15,8 +15,7 @@ use Rattle.chaos_system.specs.Come.{ComeFrom, ComeFresh}
 use Rattle.chaos_system.specs.Made.{packets_sent}
 use Rattle.file_server.specs.Server.{Server}
 use Rattle.file_server.specs.Sessions.{Serving, serving_at}
-use Rattle.file_server.specs.Turn.{IsTurn}
-use Rattle.file_end_to_end.specs.Turns.{accepts_upon}
+use Rattle.file_end_to_end.specs.Turns.{accepts_upon, server_turns}
 use Rattle.file_net.specs.FileNet.{FileNet, FileEvent, FileRun, FileReached}
 
 -- the present connection of the slot at a place, or the next connection if the slot is free, by the turns of the slots
@@ -65,5 +64,5 @@ ServerTurnsAreFileRuns {S} contents may_give count =
     (lots : List (List PacketView))
     → FileReached m f → IsServer contents s f → ComeFrom f.net B numbers came
     → ComeFresh (accepts_upon start now) f.net B now numbers came
-    → IsTurn (change contents may_give count) came start now s t lots
+    → server_turns (change contents may_give count) came start now s t lots
     → (g : FileNet) × TurnIsRun contents f g t lots

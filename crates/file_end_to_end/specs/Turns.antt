@@ -38,17 +38,20 @@ module _ {S : Type 0} where
   server_upon s = accepts_upon
 
 module _ {S : Type 0} (changes : S → S → StoreChange) where
+  -- for however long the server serves a peer that acknowledges nothing
   abbrev pub server_turns : Turns (Server S)
-  server_turns = IsTurn changes
+  server_turns came start now s t lots = (silence : Option ℕ) × IsTurn changes silence came start now s t lots
 
   -- each turn of the server
   abbrev pub ServerTurnsAreRuns : Type 0
   ServerTurnsAreRuns = TurnsAreRuns server_host server_upon server_turns
 
-  -- The same holds for each turn that a server runs over a link, as the contract of `run_turn` describes the turn.
+  -- The same holds for each turn that a server runs over a link, as the contracts of `run_turn` and `Server::turn` describe
+  -- the turn.
   abbrev pub ServerRunsAreRuns : (List Ask → Type 0) → Type 0
-  ServerRunsAreRuns asked = (n : Net) (x : Side) (numbers : List ℕ) (waits : Bool) (carriage : Carriage) (start now : ℕ)
-      (before after : Station (Server S)) (result : TurnEnd) → (n x).host ≡ before.node.host
-      → (runs : RunsTurn changes asked waits carriage start now before after result) → ComeFrom n x numbers runs.came
+  ServerRunsAreRuns asked = (silence : Option ℕ) (n : Net) (x : Side) (numbers : List ℕ) (waits : Bool)
+      (carriage : Carriage) (start now : ℕ) (before after : Station (Server S)) (result : TurnEnd)
+      → (n x).host ≡ before.node.host
+      → (runs : RunsTurn changes silence asked waits carriage start now before after result) → ComeFrom n x numbers runs.came
       → ComeFresh (accepts_upon start now) n x now numbers runs.came
       → Makes n x (record { host = after.node.host; lots = runs.lots })

@@ -11,7 +11,7 @@
 -- In a turn of either end the network hands over any datagram that the other end ever posted, or none. The law says what a copy
 -- is worth, whatever the moves are, while each packet that comes is fresh.
 use Rattle.std.specs.Prelude.{◌≡◌, ◌<◌, ◌⊎◌, ℕ, zero, suc, true, List, [], ◌∷◌, ◌++◌, length, map, replicate, Option, Some, None, ⊤}
-use Rattle.chaos_conn.specs.Config.{ConfigView, IsConfig, config_with}
+use Rattle.chaos_conn.specs.Config.{ConfigView, IsConfig}
 use Rattle.chaos_conn.specs.declared.state.State.TheVariants.{Open}
 use Rattle.chaos_file.specs.declared.limits.TheConstants.{MAX_NAME}
 use Rattle.chaos_file.specs.Names.{is_name}
@@ -173,12 +173,12 @@ module _ {S : Type 0} (contents : S → Option Files) (m : Files) where
   pub record IsNewWorld (w : World S) : Type 0 where
     pub me : ℕ
     pub to : ℕ
-    pub window : ℕ
+    pub config : ConfigView
     pub indices : ℕ
     pub carriage : Carriage
     pub address_is : make_fault me 1 ≡ None
-    pub config_is : IsConfig (config_with window)
-    pub engine : w.client.caller ≡ new_caller me to window carriage indices
+    pub config_is : IsConfig config
+    pub engine : w.client.caller ≡ new_caller me to config carriage indices
     pub posts : w.posts ≡ []
     pub server_address : ℕ
     pub server_config : ConfigView
@@ -201,7 +201,7 @@ module _ {S : Type 0} (contents : S → Option Files) (m : Files) where
   abbrev pub ConnectionsAreAsked : Type 0
   ConnectionsAreAsked = (w : World S) (f : FileNet) (caller : CallerView) → FileStandsFor contents m (system_of w) f
       → ((caller ≡ closed w.client.caller)
-      ⊎ ((start now : ℕ) × (start < 65536) × (caller ≡ asked start now w.client.caller)))
+      ⊎ ((start now wait : ℕ) × (start < 65536) × (caller ≡ asked start now wait w.client.caller)))
       → (g : FileNet) × (events : List FileEvent) × FileRun f events g
       × FileStandsFor contents m (system_by caller w.posts w.server) g
 

@@ -3,7 +3,7 @@
 ghost use Rattle.chaos_file.specs.Store.{Files, change};
 ghost use Rattle.chaos_link.specs.Link.{Asks};
 ghost use Rattle.chaos_system.specs.System.{NewSystemsStand, SystemsHold, SystemsStay};
-ghost use Rattle.chaosd_clock.specs.declared.clock.Epoch.{Epoch};
+ghost use Rattle.file_client.specs.declared.timing.Timing.{Timing};
 ghost use Rattle.file_client.specs.Pace.{clock_pace};
 ghost use Rattle.file_end_to_end.specs.Program.{ClientTurnsAreSteps, Program, ServerTurnsAreSteps, program_host, program_turns, program_upon};
 ghost use Rattle.file_end_to_end.specs.Server.{ServerTurnsAreFileRuns};
@@ -21,7 +21,7 @@ use chaosd_clock::Dial;
 /// fresh. Then the run leads to a net in which the host is the one after the turn, and the host has sent what went out, in order.
 pub fn law_file_turns<L: Link, S: Store>()
     ensures turns { ServerTurnsAreRuns (change S.contents S.may_give S.count) }
-    // the same for a turn as the contract of `run_turn` describes a turn
+    // the same for a turn as the contracts of `run_turn` and `Server::turn` describe a turn
     ensures runs { (old new : L) → ServerRunsAreRuns (change S.contents S.may_give S.count) (Asks (L.asked old) (L.asked new)) }
 {}
 
@@ -35,8 +35,8 @@ pub fn law_programs<L: Link, S: Store>()
     ensures stay { SystemsStay program_host program_upon (program_turns (change S.contents S.may_give S.count)) }
     // the law of the network holds for that net
     ensures law { SystemsHold {P = Program S} program_host }
-    // the turns of both programs over any link, as the contracts of `client_turn`, `Node::turn` and `run_turn` describe the turns,
-    // are such steps; what a step posts is what the link was asked to send
+    // the turns of both programs over any link, as the contracts of `client_turn`, `Node::turn`, `run_turn` and `Server::turn`
+    // describe the turns, are such steps; what a step posts is what the link was asked to send
     ensures clients { (old new : L) → ClientTurnsAreSteps (change S.contents S.may_give S.count) (Asks (L.asked old) (L.asked new)) }
     ensures servers { (old new : L) → ServerTurnsAreSteps (change S.contents S.may_give S.count) (Asks (L.asked old) (L.asked new)) }
 {
@@ -76,7 +76,7 @@ pub fn law_world<C: Dial, S: Store>()
     // from there on, whatever both ends and the network do while each packet that comes is fresh: a `get` that is done has the
     // bytes that the store had at its path when its OPEN was served, and a `put` that is done put exactly its bytes there when
     // its CLOSE was served
-    ensures last { (m : Files) (clock : C) (epoch : Epoch) → WorldsLast S.contents S.may_give S.count m (clock_pace (C.shows clock) epoch) }
+    ensures last { (m : Files) (clock : C) (timing : Timing) → WorldsLast S.contents S.may_give S.count m (clock_pace (C.shows clock) timing) }
 {}
 
 /// The laws aren't empty. Over any files, sixteen steps serve two clients, over datagrams of which some come late, repeated or out of

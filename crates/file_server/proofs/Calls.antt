@@ -1,26 +1,20 @@
 -- A call of a host, whose packets are sent at once.
 use Rattle.std.proofs.Common.{◌≡◌, ℕ, subst, Bool, true, if◌then◌else◌, List, [], ◌∷◌, ap, sym, ◌∙◌}
-use Rattle.std.specs.Prelude.{Option, Some, None, Ok}
-use Rattle.chaos_conn.specs.Act.{Close}
-use Rattle.chaos_conn.specs.Calls.{is_drained}
-use Rattle.chaos_host.specs.declared.slot.Slot.{Slot}
-use Rattle.chaos_host.specs.Slot.{named_slot}
-use Rattle.chaos_host.specs.Calls.{host_end}
+use Rattle.std.specs.Prelude.{Option}
 use Rattle.chaos_packet.specs.Packet.{PacketView}
 use Rattle.chaos_packet.specs.Outbox.{OutboxView}
 use Rattle.chaos_host.specs.declared.answers.HostDelivered.{HostDelivered}
 use Rattle.chaos_host.specs.Acted.{HostActed, HostDoes}
 use Rattle.chaos_host.specs.Deliver.{host_deliver}
-use Rattle.chaos_host.specs.View.{HostView, host_look, look_slot}
+use Rattle.chaos_host.specs.View.{HostView}
 use Rattle.chaos_link.specs.declared.carriage.Carriage.{Carriage}
 use Rattle.chaos_link.specs.Link.{Ask, AskedSince, Asks, QueueView}
 use Rattle.chaos_turn.specs.Arrive.{deliver_effect}
 use Rattle.chaos_turn.specs.Link.{SendsLots, has_packets}
-use Rattle.chaos_turn.specs.Phase.{DoesPhase, effect_of, no_effect_on}
+use Rattle.chaos_turn.specs.Phase.{DoesPhase, effect_of}
 use Rattle.chaos_turn.specs.Station.{Station, station}
 use Rattle.chaos_turn.proofs.Phase.{one_after, put_into_empty}
 use Rattle.file_server.specs.Arrive.{accept_by, greet, request_in}
-use Rattle.file_server.specs.Slots.{close_by, is_over}
 
 -- such a call is a phase
 pub call_sent : {A : Type 0} {asked : List Ask → Type 0} (carriage : Carriage) (acted : HostActed A) (h m : HostView)
@@ -58,16 +52,3 @@ greeted {L} {aa} {ab} {ac} carriage start now p a b c became request sent more a
     delivered
     (subst (λ (r : Option ℕ). DoesPhase (Asks ab ac) carriage (accept_by b.node start now r) b c more) found accepted)
     told
-
-over_when : (slot : Option Slot) → look_slot (λ conn. is_drained conn) slot ≡ Ok true → is_over true slot ≡ true
-over_when None is = absurd (cc)
-over_when (Some slot) is = cc
-
--- a connection whose EOF was served and that is drained is closed
-pub closing : (eof : Bool) (h : HostView) (there : Option ℕ) (id : ℕ) → eof ≡ true → there ≡ Some id
-    → host_look h id (λ conn. is_drained conn) ≡ Ok true
-    → close_by eof h there ≡ effect_of (host_end h id (Close []))
-closing eof h there id so is drained =
-    ap (λ (e : Bool). close_by e h there) so ∙ ap (close_by true h) is
-    ∙ ap (λ (b : Bool). if b then effect_of (host_end h id (Close [])) else no_effect_on h)
-    (over_when (named_slot h.slots id) drained)

@@ -97,7 +97,7 @@ module _ {S : Type 0} (changes : S → S → StoreChange) where
 
   -- where it has nothing to serve, and its session is there, serving its slot changes nothing
   pub passed_so : {L : Type 0} {asked : AskedSince L Ask} (carriage : Carriage) (here : Serving) (sessions kept : List Serving) (store : S) (place id now : ℕ) (host : HostView) (conn : ConnView) (out : OutboxView) (queue : Option QueueView)
-      → id_at host place ≡ Some id → here ≡ serving_at sessions place → kept ≡ slice_set sessions place here → serving_of id here ≡ here → host_look host id (λ c. c) ≡ Ok conn → is_served (Some (work_of conn)) ≡ false
+      → id_at host place ≡ Some id → here ≡ serving_at sessions place → kept ≡ slice_set sessions place here → serving_of id now here ≡ here → host_look host id (λ c. c) ≡ Ok conn → is_served (Some (work_of conn)) ≡ false
       → (changes store store).same → out.packets ≡ []
       → ServerDoes (Asks asked asked) carriage (ServesSlot changes now place) (station (server host sessions store) queue out) (station (server host kept store) queue out) false
   passed_so carriage here sessions kept store place id now host conn out queue e e' set serves shows none same empty =
@@ -105,9 +105,9 @@ module _ {S : Type 0} (changes : S → S → StoreChange) where
       let slot = found.0 in
       let idle : is_served (Some (work_of slot.conn)) ≡ false = ap (λ (c : ConnView). is_served (Some (work_of c))) found.2 ∙ none in
       let answer = told_without (work_of slot.conn) in
-      let left : here ≡ serving_after (serving_of id here) (serving_of id here).session answer =
+      let left : here ≡ serving_after (serving_of id now here) (serving_of id now here).session answer =
       ap (λ (b : Bool). record here { eof = b }) (sym (stays (work_of slot.conn) here.eof)) ∙ ap (λ (s : Serving). serving_after s s.session answer) (sym serves) in
       let over : out ≡ record { packets = []; cap = out.cap } = ap (λ (ps : List PacketView). record { packets = ps; cap = out.cap }) empty in
       slot_so changes carriage here here sessions kept store store place id now host host out out out queue queue false e e' set empty
       (nothing_sent carriage queue out.packets empty) over (sym (ap (λ (ps : List PacketView). has_packets (ps ∷ [])) empty))
-      (kept_so (changes store store) (serving_of id here) here (serving_of id here).session host id now host out out answer left (serves_none (changes store store) (serving_of id here).session host id now out same slot found.1 idle))
+      (kept_so (changes store store) (serving_of id now here) here (serving_of id now here).session host id now host out out answer left (serves_none (changes store store) (serving_of id now here).session host id now out same slot found.1 idle))

@@ -112,7 +112,7 @@ module _ {S : Type 0} (changes : S → S → StoreChange) where
       → before.packets ≡ []
       → SendsLots asked carriage queue (mid.packets ∷ []) after → rest ≡ record { packets = []; cap = mid.cap }
       → sent ≡ has_packets (mid.packets ∷ [])
-      → SessionServes (changes store store') now id (serving_of id here)
+      → SessionServes (changes store store') now id (serving_of id now here)
       (λ s acted. DoesKept s left old acted new before mid) old
       → ServerDoes asked carriage (ServesSlot changes now place) (station (server old sessions store) queue before)
       (station (server new kept store') after rest) sent
@@ -120,22 +120,22 @@ module _ {S : Type 0} (changes : S → S → StoreChange) where
       empty sends over told done =
       let change = changes store store' in
       let found =
-      found_so change now id (serving_of id here) (λ s acted. DoesKept s left old acted new before mid) old done in
+      found_so change now id (serving_of id now here) (λ s acted. DoesKept s left old acted new before mid) old done in
       let d = found.3 in
       let acted = found.1 in
       let packets : mid.packets ≡ acted.packets =
       ap (λ (o : OutboxView). o.packets) d.does.packets ∙ put_into_empty before acted.packets empty in
       let is : Serving → HostActed Served → Type 0 =
       IsServedAt place (server old sessions store) (server new kept store') (mid.packets ∷ []) in
-      let one : SessionServes change now id (serving_of id here) is old
-      = become_so change now id (serving_of id here) (λ l a. (found.0 ≡ l) × (acted ≡ a)) is old
+      let one : SessionServes change now id (serving_of id now here) is old
+      = become_so change now id (serving_of id now here) (λ l a. (found.0 ≡ l) × (acted ≡ a)) is old
       (λ l a same. record {
         host = d.does.view ∙ ap (λ (x : HostActed Served). x.view) same.1;
         sessions = set ∙ ap (slice_set sessions place) (d.kept ∙ same.0);
         out = ap (λ (ps : List PacketView). ps ∷ []) (packets ∙ ap (λ (x : HostActed Served). x.packets) same.1);
       }) found.2 in
-      let there : SessionServes change now id (serving_of id (serving_at sessions place)) is old =
-      subst (λ (x : Serving). SessionServes change now id (serving_of id x) is old) e' one in
+      let there : SessionServes change now id (serving_of id now (serving_at sessions place)) is old =
+      subst (λ (x : Serving). SessionServes change now id (serving_of id now x) is old) e' one in
       record {
         lots = mid.packets ∷ [];
         done =

@@ -1,6 +1,6 @@
 -- Turns of a service, one after another, each at the moment that was read for it.
 use Rattle.std.proofs.Common.{true, ◌≡◌, ◌∙◌, ◌≤◌, ℕ, ◌+◌, List, [], ◌∷◌, ◌++◌, length, refl, ap, subst, sym}
-use Rattle.std.specs.Prelude.{All, Option, Result, Ok, Err, OnOk}
+use Rattle.std.specs.Prelude.{All, Option, Some, Result, Ok, Err, OnOk}
 use Rattle.std.specs.Result.{IsErr}
 use Rattle.std.proofs.lemmas.List.{append_assoc, append-nil, length-append}
 use Rattle.chaos_conn.specs.Config.{ConfigView, usual_config}
@@ -19,6 +19,7 @@ use Rattle.chaosd_io.specs.declared.fault.RunFault.{RunFault}
 use Rattle.file_server.specs.Server.{Server}
 use Rattle.file_server.specs.Service.{MadeTurns, Serves, ServesAt, ServesBy, ServesTurn, ServesTurns, new_service}
 use Rattle.file_server.specs.Turn.{RunsTurn}
+use Rattle.file_server.specs.declared.limits.TheConstants.{SILENT_MILLIS}
 use Rattle.file_server.specs.Waiting.{waits}
 
 -- a run that ends by a fault
@@ -75,7 +76,7 @@ module _ {S : Type 0} (changes : S → S → StoreChange) (carriage : Carriage) 
 
   -- a turn told without its link: what it asked
   pub serves_turn : {asked : List Ask → Type 0} (now : ℕ) (before after : Station (Server S)) (end : TurnEnd)
-      → RunsTurn changes asked (waits true before.node.host) carriage (starts now) now before after end
+      → RunsTurn changes (Some SILENT_MILLIS) asked (waits true before.node.host) carriage (starts now) now before after end
       → (asks : List Ask) × asked asks × ServesTurn changes carriage starts now asks before after
   serves_turn now before after end done = (
     turn_asks carriage (waits true before.node.host) before.outbox.packets done.lots,
@@ -96,14 +97,14 @@ module _ {S : Type 0} (changes : S → S → StoreChange) (carriage : Carriage) 
       (by : Carriage) (first before after : Station (Server S)) (end : TurnEnd)
       → HasServed (Reads ra rb) (Asks aa ab) turns first before → Reads rb rc (now ∷ []) → by ≡ carriage
       → start ≡ starts now
-      → RunsTurn changes (Asks ab ac) (waits true before.node.host) by start now before after end
+      → RunsTurn changes (Some SILENT_MILLIS) (Asks ab ac) (waits true before.node.host) by start now before after end
       → HasServed (Reads ra rc) (Asks aa ac) (turns + 1) first after
   served_next ra rb rc aa ab ac turns start now by first before after end (moments, asks, read, were, count, turned) more
       same from done =
       let wait = waits true before.node.host in
       let made = serves_turn {asked = Asks ab ac} now before after end
-      (subst (λ (k : Carriage). RunsTurn changes (Asks ab ac) wait k (starts now) now before after end) same
-      (subst (λ (n : ℕ). RunsTurn changes (Asks ab ac) wait by n now before after end) from done)) in (
+      (subst (λ (k : Carriage). RunsTurn changes (Some SILENT_MILLIS) (Asks ab ac) wait k (starts now) now before after end) same
+      (subst (λ (n : ℕ). RunsTurn changes (Some SILENT_MILLIS) (Asks ab ac) wait by n now before after end) from done)) in (
         moments ++ now ∷ [],
         asks ++ made.0,
         reads_then ra rb rc moments (now ∷ []) read more,

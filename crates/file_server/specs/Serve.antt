@@ -60,7 +60,7 @@ module _ {S : Type 0} (changes : S → S → StoreChange) where
   abbrev pub ServesPlace : ℕ → ℕ → Option ℕ → Server S → Server S → List (List PacketView) → Type 0
   ServesPlace now place None s t lots = (t ≡ s) × (lots ≡ [])
   ServesPlace now place (Some id) s t lots =
-      SessionServes (changes s.store t.store) now id (serving_of id (serving_at s.sessions place))
+      SessionServes (changes s.store t.store) now id (serving_of id now (serving_at s.sessions place))
       (IsServedAt place s t lots) s.host
 
   -- The slot at a place is served once.

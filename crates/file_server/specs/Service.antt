@@ -1,5 +1,5 @@
 -- A service, turn after turn.
-use Rattle.std.specs.Prelude.{◌≡◌, ◌≤◌, ℕ, true, List, [], ◌∷◌, ◌++◌, length, All, codes, replicate, Option, Result, Ok, Err}
+use Rattle.std.specs.Prelude.{◌≡◌, ◌≤◌, ℕ, true, List, [], ◌∷◌, ◌++◌, length, All, codes, replicate, Option, Some, Result, Ok, Err}
 use Rattle.chaos_link.specs.Link.{Ask, QueueView}
 use Rattle.chaos_link.specs.declared.carriage.Carriage.{Carriage}
 use Rattle.chaos_file.specs.Store.{StoreChange}
@@ -16,7 +16,7 @@ use Rattle.file_server.specs.Server.{Server, server}
 use Rattle.file_server.specs.Sessions.{new_serving}
 use Rattle.file_server.specs.Turn.{RunsTurn}
 use Rattle.file_server.specs.Waiting.{waits}
-use Rattle.file_server.specs.declared.limits.TheConstants.{SERVER_CONNS}
+use Rattle.file_server.specs.declared.limits.TheConstants.{SERVER_CONNS, SILENT_MILLIS}
 use Rattle.file_server.specs.declared.server.Server.{Server as FileServer}
 
 -- a host that listens to FILE, whose connections have this configuration
@@ -42,11 +42,11 @@ module _ {S : Type 0} where
 
 module _ {S : Type 0} (changes : S → S → StoreChange) (carriage : Carriage) where
   -- One turn, at this moment, in which the link was asked just this. The turn waits for a datagram exactly where nothing
-  -- in front can be served. A connection of this turn begins with the number of the moment.
+  -- in front can be served, and closes a connection whose peer acknowledged nothing for `SILENT_MILLIS`. A connection of this turn begins with the number of the moment.
   pub record ServesTurn (starts : ℕ → ℕ) (now : ℕ) (asks : List Ask) (before after : Station (Server S)) : Type 0
     where
       pub end : TurnEnd
-      pub turn : RunsTurn changes (λ asked. asked ≡ asks) (waits true before.node.host) carriage (starts now) now before
+      pub turn : RunsTurn changes (Some SILENT_MILLIS) (λ asked. asked ≡ asks) (waits true before.node.host) carriage (starts now) now before
           after end
 
   -- One turn at each of these moments, one after another, in which the link was asked just this.

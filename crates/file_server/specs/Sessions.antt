@@ -4,22 +4,28 @@ use Rattle.chaos_file.specs.Session.{SessionView, new_session}
 use Rattle.chaos_serve.specs.declared.served.Served.{Served}
 use Rattle.chaos_serve.specs.declared.served.Served.TheVariants as told
 
--- a slot's session: the connection that it serves, and whether that one's EOF was served
+-- a slot's session: the connection that it serves, whether that one's EOF was served, and the moment at which it was
+-- served first
 pub record Serving : Type 0 where
   pub id : Option ℕ
   pub session : SessionView
   pub eof : Bool
+  pub since : ℕ
 
 abbrev pub new_serving : Serving
-new_serving = record { id = None; session = new_session; eof = false }
+new_serving = record { id = None; session = new_session; eof = false; since = 0 }
+
+-- a new session for a connection, from a moment on
+abbrev pub first_serving : ℕ → ℕ → Serving
+first_serving id now = record new_serving { id = Some id; since = now }
 
 -- the session for a connection: the one kept for it, else a new one
-abbrev pub serving_by : ℕ → Serving → Option ℕ → Serving
-serving_by id serving None = record new_serving { id = Some id }
-serving_by id serving (Some kept) = if kept == id then serving else record new_serving { id = Some id }
+abbrev pub serving_by : ℕ → ℕ → Serving → Option ℕ → Serving
+serving_by id now serving None = first_serving id now
+serving_by id now serving (Some kept) = if kept == id then serving else first_serving id now
 
-abbrev pub serving_of : ℕ → Serving → Serving
-serving_of id serving = serving_by id serving serving.id
+abbrev pub serving_of : ℕ → ℕ → Serving → Serving
+serving_of id now serving = serving_by id now serving serving.id
 
 -- an EOF was served, now or before
 abbrev pub eof_after : Bool → Served → Bool

@@ -1,7 +1,8 @@
 -- What a server's turn does in one slot, beside serving it.
-use Rattle.std.specs.Prelude.{zero, suc, ℕ, Bool, false, ◌&&◌, if◌then◌else◌, List, [], length, Option, Some, None, slice_set}
+use Rattle.std.specs.Prelude.{zero, suc, ℕ, ◌-◌, nat_le, Bool, false, ◌&&◌, ◌||◌, if◌then◌else◌, List, [], length, Option, Some, None, slice_set}
 use Rattle.chaos_conn.specs.Act.{Close}
-use Rattle.chaos_conn.specs.Calls.{is_drained}
+use Rattle.chaos_conn.specs.Calls.{is_drained, keeps_opn}
+use Rattle.chaos_conn.specs.View.{ConnView}
 use Rattle.chaos_host.specs.declared.slot.Slot.{Slot}
 use Rattle.chaos_host.specs.Slot.{named_slot}
 use Rattle.chaos_host.specs.Calls.{host_end, host_release}
@@ -10,19 +11,30 @@ use Rattle.chaos_turn.specs.Phase.{Effect, no_effect_on, effect_of, and_then, ov
 use Rattle.chaos_turn.specs.Slots.{tick_at}
 use Rattle.file_server.specs.Sessions.{Serving, serving_at, without_files}
 
--- the EOF was served, and the peer read all
-abbrev pub is_over : Bool → Option Slot → Bool
-is_over eof None = false
-is_over eof (Some slot) = eof && is_drained slot.conn
+-- A peer that stays silent has so many milliseconds since a moment to acknowledge something, or all the time. They are over.
+abbrev pub is_late : Option ℕ → ℕ → ℕ → Bool
+is_late None since now = false
+is_late (Some millis) since now = nat_le millis (now - since)
+
+-- the EOF was served and the peer read all, or it is late, and the peer has acknowledged nothing that was sent to it
+abbrev pub is_over : Bool → Bool → ConnView → Bool
+is_over eof late conn = eof && is_drained conn || late && keeps_opn conn
+
+abbrev pub is_over_in : Bool → Bool → Option Slot → Bool
+is_over_in eof late None = false
+is_over_in eof late (Some slot) = is_over eof late slot.conn
 
 -- such a connection is closed with an empty text
-abbrev pub close_by : Bool → HostView → Option ℕ → Effect
-close_by eof h None = no_effect_on h
-close_by eof h (Some id) =
-    if is_over eof (named_slot h.slots id) then effect_of (host_end h id (Close [])) else no_effect_on h
+abbrev pub close_by : Bool → Bool → HostView → Option ℕ → Effect
+close_by eof late h None = no_effect_on h
+close_by eof late h (Some id) =
+    if is_over_in eof late (named_slot h.slots id) then effect_of (host_end h id (Close [])) else no_effect_on h
 
-abbrev pub close_at : List Serving → ℕ → HostView → Effect
-close_at sessions place h = close_by (serving_at sessions place).eof h (id_at h place)
+abbrev pub close_for : Option ℕ → ℕ → Serving → HostView → Option ℕ → Effect
+close_for silence now serving h there = close_by serving.eof (is_late silence serving.since now) h there
+
+abbrev pub close_at : Option ℕ → ℕ → List Serving → ℕ → HostView → Effect
+close_at silence now sessions place h = close_for silence now (serving_at sessions place) h (id_at h place)
 
 -- an ended connection is released
 abbrev pub release_by : HostView → Option ℕ → Effect
@@ -44,7 +56,8 @@ given_back h (suc n) sessions = given_back_at (id_at h n) n (given_back h n sess
 
 -- ---- the last phases of a turn, each over all slots
 
-abbrev pub end_phases : List Serving → ℕ → HostView → Effect
-end_phases sessions now h =
-    and_then (and_then (over_slots (close_at sessions) (length h.slots) h) (over_slots release_at (length h.slots)))
+abbrev pub end_phases : Option ℕ → List Serving → ℕ → HostView → Effect
+end_phases silence sessions now h =
+    and_then
+    (and_then (over_slots (close_at silence now sessions) (length h.slots) h) (over_slots release_at (length h.slots)))
     (over_slots (tick_at now) (length h.slots))

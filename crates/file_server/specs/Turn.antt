@@ -1,6 +1,6 @@
 -- One turn of a server: what came is taken, then each slot is served, closed, released and ticked, and the files of
 -- sessions whose connection has ended are given back.
-use Rattle.std.specs.Prelude.{◌≡◌, ℕ, Bool, List, ◌++◌, length}
+use Rattle.std.specs.Prelude.{◌≡◌, ℕ, Bool, List, ◌++◌, length, Option}
 use Rattle.chaos_packet.specs.Packet.{PacketView}
 use Rattle.chaos_file.specs.Store.{StoreChange}
 use Rattle.chaos_link.specs.Link.{Ask}
@@ -15,22 +15,23 @@ use Rattle.file_server.specs.Server.{Server, after_giving_back, with_host}
 use Rattle.file_server.specs.Slots.{end_phases}
 
 module _ {S : Type 0} (changes : S → S → StoreChange) where
-  -- A turn of a server to which this came: what it became, and the packets that went out, lot by lot.
-  pub record IsTurn (came : Arrival) (start now : ℕ) (s t : Server S) (lots : List (List PacketView)) : Type 0 where
+  -- A turn of a server to which this came: what it became, and the packets that went out, lot by lot. A peer that
+  -- acknowledges nothing is served for so many milliseconds, or as long as it is heard.
+  pub record IsTurn (silence : Option ℕ) (came : Arrival) (start now : ℕ) (s t : Server S) (lots : List (List PacketView)) : Type 0 where
     -- the server after each slot was served, and the replies
     pub served : Server S
     pub replies : List (List PacketView)
     pub serves : ServesSlots changes now (length s.host.slots)
         (with_host s (arrive_at_server came start now s.host).host) served replies
-    pub ended : t ≡ after_giving_back (with_host served (end_phases served.sessions now served.host).host)
+    pub ended : t ≡ after_giving_back (with_host served (end_phases silence served.sessions now served.host).host)
     pub out : lots
         ≡ (arrive_at_server came start now s.host).lots
-        ++ (replies ++ (end_phases served.sessions now served.host).lots)
+        ++ (replies ++ (end_phases silence served.sessions now served.host).lots)
 
   -- A whole turn of a server at its link, by this carriage; its one receive waits for a datagram or doesn't.
-  pub record RunsTurn (asked : List Ask → Type 0) (waits : Bool) (carriage : Carriage) (start now : ℕ)
+  pub record RunsTurn (silence : Option ℕ) (asked : List Ask → Type 0) (waits : Bool) (carriage : Carriage) (start now : ℕ)
       (before after : Station (Server S)) (result : TurnEnd) : Type 0 where
     pub came : Arrival
     pub lots : List (List PacketView)
-    pub turn : IsTurn came start now before.node after.node lots
+    pub turn : IsTurn silence came start now before.node after.node lots
     pub link : GoesOver asked waits carriage came lots before after result

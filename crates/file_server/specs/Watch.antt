@@ -1,6 +1,7 @@
 -- Which connections opened and ended between the looks at a server.
 use Rattle.std.specs.Prelude.{ℕ, zero, suc, ◌==◌, Bool, true, false, if◌then◌else◌, List, [], ◌∷◌, ◌++◌, Option, Some, None, option_map, Result, Ok, Err, slice_index_or, slice_set}
-use Rattle.chaos_conn.specs.Calls.{peer_of}
+use Rattle.chaos_conn.specs.Calls.{keeps_opn, peer_of}
+use Rattle.chaos_conn.specs.View.{ConnView}
 use Rattle.chaos_conn.specs.declared.state.End.{End}
 use Rattle.chaos_conn.specs.declared.state.State.{State}
 use Rattle.chaos_conn.specs.declared.state.State.TheVariants as state
@@ -8,7 +9,7 @@ use Rattle.chaos_host.specs.declared.fault.CallFault.{CallFault}
 use Rattle.chaos_host.specs.View.{HostView, host_look, id_at}
 use Rattle.file_server.specs.Sessions.{Serving, serving_at}
 use Rattle.file_server.specs.declared.log.Ending.{Ending}
-use Rattle.file_server.specs.declared.log.Ending.TheVariants.{Done, HostDown, Closed}
+use Rattle.file_server.specs.declared.log.Ending.TheVariants.{Done, HostDown, Unacknowledged, Closed}
 use Rattle.file_server.specs.declared.watch.Seen.{Seen}
 
 -- what a log is told: the peer of a connection that opened; and of one that ended, the name that its user gave, and why
@@ -40,25 +41,38 @@ abbrev pub is_down : Result State CallFault → Bool
 is_down (Ok state.HostDown) = true
 is_down _ = false
 
+abbrev pub is_unacknowledged : Result ConnView CallFault → Bool
+is_unacknowledged (Ok conn) = keeps_opn conn
+is_unacknowledged (Err _) = false
+
 -- the connection with an own index
 abbrev pub seen_of : HostView → ℕ → Seen
-seen_of h id =
-    record { id = id; peer = end_told (host_look h id (λ conn. peer_of conn)); is_down = is_down (host_look h id (λ conn. conn.state)) }
+seen_of h id = record {
+  id = id;
+  peer = end_told (host_look h id (λ conn. peer_of conn));
+  is_down = is_down (host_look h id (λ conn. conn.state));
+  is_unacknowledged = is_unacknowledged (host_look h id (λ conn. conn));
+}
 
 abbrev pub seen_at : HostView → ℕ → Option Seen
 seen_at h place = option_map (seen_of h) (id_at h place)
 
 -- ---- what a look tells beside the look before
 
--- its host down in the look before, an EOF that was served, or else its peer's doing
-abbrev pub ending_of : Bool → Bool → Ending
-ending_of true eof = HostDown
-ending_of false true = Done
-ending_of false false = Closed
+-- its host down in the look before, an EOF that was served, a peer that had acknowledged nothing by the look before, or else
+-- its peer's doing
+abbrev pub ending_of : Bool → Bool → Bool → Ending
+ending_of true eof unacknowledged = HostDown
+ending_of false true unacknowledged = Done
+ending_of false false true = Unacknowledged
+ending_of false false false = Closed
+
+abbrev pub ending_in : Seen → Serving → Ending
+ending_in was serving = ending_of was.is_down serving.eof was.is_unacknowledged
 
 abbrev pub after_end : Option Seen → Serving → Option (List Event) → Option (List Event)
 after_end None serving told = told
-after_end (Some was) serving told = told_ended was.peer serving.session.name (ending_of was.is_down serving.eof) told
+after_end (Some was) serving told = told_ended was.peer serving.session.name (ending_in was serving) told
 
 abbrev pub after_opening : Option Seen → Option (List Event) → Option (List Event)
 after_opening None told = told

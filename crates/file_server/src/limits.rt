@@ -1,11 +1,16 @@
 //! The numbers that a service keeps to.
 ghost use Rattle.std.specs.Prelude.{◌≡◌};
-ghost use Rattle.file_server.specs.declared.limits.TheConstants.{SERVER_CONNS};
+ghost use Rattle.file_server.specs.declared.limits.TheConstants.{SERVER_CONNS, SILENT_MILLIS};
 
 /// The connections of a server's host.
 pub const SERVER_CONNS: usize = 16;
 
-/// The number of connections as a numeral.
+/// For how many milliseconds a server serves a peer that acknowledges nothing. Such a peer may never have asked: a forger wrote its
+/// address into a request. A peer on a road of 10 seconds each way acknowledges the OPN 20 seconds after it was sent.
+pub const SILENT_MILLIS: u64 = 30_000;
+
+/// These as numerals.
 pub fn law_limits()
-    ensures { SERVER_CONNS ≡ 16 }
+    ensures conns { SERVER_CONNS ≡ 16 }
+    ensures silent { SILENT_MILLIS ≡ 30000 }
 {}

@@ -11,6 +11,8 @@ pub enum Ending {
     Done,
     /// Its peer's host was heard no more.
     HostDown,
+    /// Its peer had acknowledged nothing that was sent to it, and may never have asked: the server closed it, or the peer did.
+    Unacknowledged,
     /// Its peer closed it, or doesn't know it any more.
     Closed,
 }

@@ -1,7 +1,7 @@
 //! The host that serves FILE.
 ghost use Rattle.std.specs.Prelude.{◌≡◌, ◌<◌, ◌↔◌, length, IfErr};
 
-use crate::limits::SERVER_CONNS;
+use crate::limits::{SERVER_CONNS, SILENT_MILLIS};
 use crate::log::Log;
 use crate::sessions::Sessions;
 use crate::terms::Terms;
@@ -29,12 +29,13 @@ pub struct Server {
 }
 
 impl Server {
-    ghost use Rattle.std.specs.Prelude.{[], min, replicate, IfOk};
+    ghost use Rattle.std.specs.Prelude.{[], min, replicate, IfOk, Some};
     ghost use Rattle.chaos_file.specs.Store.{change};
     ghost use Rattle.chaos_packet.specs.Count.{Rose};
     ghost use Rattle.chaos_link.specs.Link.{Asks};
     ghost use Rattle.chaos_turn.specs.declared.limits.TheConstants.{TURN_ROOM};
     ghost use Rattle.file_server.specs.Sessions.{new_serving};
+    ghost use Rattle.file_server.specs.declared.limits.TheConstants.{SILENT_MILLIS};
     ghost use Rattle.file_server.specs.Service.{listening_host, service_of};
     ghost use Rattle.file_server.specs.Turn.{RunsTurn};
     ghost use Rattle.file_server.specs.Waiting.{waits};
@@ -70,8 +71,9 @@ impl Server {
         }
     }
 
-    /// One turn, as [`run_turn`](crate::run_turn) makes it. A new connection numbers what it writes from `start` on. Where nothing in
-    /// front is to be served the turn may wait for a datagram, where `may_wait` allows it.
+    /// One turn, as [`run_turn`](crate::run_turn) makes it, but that it also closes each connection whose peer acknowledged nothing
+    /// in the first 30 seconds. A new connection numbers what it writes from `start` on. Where nothing in front is to be served the
+    /// turn may wait for a datagram, where `may_wait` allows it.
     pub fn turn<S: Store, L: Link>(
         &mut self,
         alloc: Global,
@@ -82,7 +84,7 @@ impl Server {
         may_wait: bool,
     ) -> TurnEnd
         ensures fault { (result ≡ TurnEnd.LinkFault) ↔ Rose (L.count link.old) (L.count link.new) }
-        ensures serves { RunsTurn (change S.contents S.may_give S.count) (Asks (L.asked link.old) (L.asked link.new)) (waits may_wait self.old.node.host) self.old.node.carriage start now (service_of self.old store.old (L.queue link.old)) (service_of self.new store.new (L.queue link.new)) result }
+        ensures serves { RunsTurn (change S.contents S.may_give S.count) (Some SILENT_MILLIS) (Asks (L.asked link.old) (L.asked link.new)) (waits may_wait self.old.node.host) self.old.node.carriage start now (service_of self.old store.old (L.queue link.old)) (service_of self.new store.new (L.queue link.new)) result }
         ensures carriage { self.new.node.carriage ≡ self.old.node.carriage }
     {
         let terms = Terms {
@@ -90,6 +92,7 @@ impl Server {
             start,
             moment: now,
             carriage: self.node.carriage,
+            silence: Some(SILENT_MILLIS),
             may_wait: may_wait && !can_serve_any(&self.node.host),
         };
         let node = &mut self.node;

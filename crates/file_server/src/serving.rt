@@ -27,10 +27,10 @@ fn serve_kept<S: Store>(
     terms: &Terms,
 )
     requires { 2 ≤ room_of out.old }
-    ensures { SessionServes (change S.contents S.may_give S.count store.old store.new) terms.now.moment id (serving_of id kept.old)
+    ensures { SessionServes (change S.contents S.may_give S.count store.old store.new) terms.now.moment id (serving_of id terms.now.moment kept.old)
         (λ serving acted. DoesKept serving kept.new host.old acted host.new out.old out.new) host.old }
 {
-    kept.turn_to(id);
+    kept.turn_to(id, terms.moment);
     kept.may_hold = true;
     let session = &mut *kept.session;
     let served = serve_one(terms.alloc, host, id, session, store, terms.moment, out);

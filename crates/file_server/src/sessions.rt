@@ -1,5 +1,5 @@
 //! A session for each slot of a host.
-ghost use Rattle.std.specs.Prelude.{◌≡◌, ◌<◌, [], IfOk, false, length, option_map, replicate, true};
+ghost use Rattle.std.specs.Prelude.{◌≡◌, ◌<◌, ℕ, [], IfOk, false, length, option_map, replicate, true};
 ghost use Rattle.chaos_host.specs.View.{id_at};
 ghost use Rattle.file_server.specs.Sessions.{Serving, new_serving, serving_at, serving_of, eof_after, without_files};
 ghost use Rattle.file_server.specs.Slots.{given_back, given_back_at};
@@ -10,11 +10,13 @@ use chaos_serve::Served;
 use std::alloc::{AllocError, Global};
 use std::marker::Model;
 
-/// A slot's session, the connection that it serves, and whether that connection's EOF was served.
+/// A slot's session, the connection that it serves, whether that connection's EOF was served, and since when it is served.
 #[derive(Drop)]
 pub(crate) struct Kept {
     pub(crate) id: Option<ConnId>,
     pub(crate) eof: bool,
+    /// The moment at which the connection was served first.
+    since: u64,
     /// How many commands were replied to; no contract sees it.
     commands: u64,
     /// Whether its session may have files open: it was served since they were given back.
@@ -29,7 +31,7 @@ impl Model for Kept {
 
     ghost Value = { Serving };
 
-    ghost view = { λ k. record { id = k.id; session = k.session.value; eof = k.eof } };
+    ghost view = { λ k. record { id = k.id; session = k.session.value; eof = k.eof; since = k.since } };
 }
 
 /// A session for each slot of a host, with the connection that it serves. A contract sees the sessions in the order of the
@@ -90,6 +92,14 @@ impl Sessions {
         self.kept[place].eof
     }
 
+    /// The moment at which the connection in a slot was served first, or the last one that was served there. It is 0 where none was.
+    pub(crate) fn since(&self, place: usize) -> u64
+        requires { place < length self.now }
+        ensures { result ≡ (serving_at self.now place).since }
+    {
+        self.kept[place].since
+    }
+
     /// How many files the session of a slot has open: none where no connection is there behind a turn.
     pub fn open_files(&self, place: usize) -> usize
         requires { place < length self.now }
@@ -136,6 +146,7 @@ impl Kept {
         Ok(Kept {
             id: None,
             eof: false,
+            since: 0,
             commands: 0,
             may_hold: false,
             session: Box::new(alloc, Session::new())?,
@@ -144,18 +155,19 @@ impl Kept {
 
     /// Whether it serves this connection already.
     pub(crate) fn serves(&self, id: ConnId) -> bool
-        ensures { result ≡ true → serving_of id self.now ≡ self.now }
+        ensures { (now : ℕ) → result ≡ true → serving_of id now self.now ≡ self.now }
     {
         self.id == Some(id)
     }
 
-    /// Turns to this connection: with a new session, unless it is the one that was served so far.
-    pub(crate) fn turn_to(&mut self, id: ConnId)
-        ensures { self.new ≡ serving_of id self.old }
+    /// Turns to this connection at a moment: with a new session, unless it is the one that was served so far.
+    pub(crate) fn turn_to(&mut self, id: ConnId, now: u64)
+        ensures { self.new ≡ serving_of id now self.old }
     {
         if self.id != Some(id) {
             self.id = Some(id);
             self.eof = false;
+            self.since = now;
             self.commands = 0;
             *self.session = Session::new();
         }

@@ -1,5 +1,5 @@
 //! One turn of a server.
-ghost use Rattle.std.specs.Prelude.{◌≡◌, ◌≤◌, ◌↔◌, [], length};
+ghost use Rattle.std.specs.Prelude.{◌≡◌, ◌≤◌, ◌↔◌, [], length, None};
 ghost use Rattle.chaos_packet.specs.Count.{Rose};
 ghost use Rattle.chaos_file.specs.Store.{change};
 ghost use Rattle.chaos_link.specs.Link.{Asks};
@@ -33,13 +33,13 @@ fn take_turn<S: Store, L: Link>(
     requires alike { length sessions.old ≡ length host.old.slots }
     requires room { TURN_ROOM ≤ out.old.cap }
     requires empty { out.old.packets ≡ [] }
-    ensures { ServerDoes (Asks (L.asked link.old) (L.asked link.new)) terms.now.carriage (IsTurn (change S.contents S.may_give S.count) came.entry terms.now.start terms.now.moment)
+    ensures { ServerDoes (Asks (L.asked link.old) (L.asked link.new)) terms.now.carriage (IsTurn (change S.contents S.may_give S.count) terms.now.silence came.entry terms.now.start terms.now.moment)
         (station (server host.old sessions.old store.old) (L.queue link.old) out.old)
         (station (server host.new sessions.new store.new) (L.queue link.new) out.new) result }
 {
     let arrived = arrive_at_server(host, came, link, out, terms);
     let served = serve_slots(host, sessions, store, link, out, terms);
-    let ended = end_slots(host, sessions, link, terms.moment, out, terms.carriage);
+    let ended = end_slots(host, sessions, link, out, terms);
     sessions.give_back(host);
     any_of(arrived, served, ended)
 }
@@ -57,7 +57,7 @@ pub(crate) fn make_turn<S: Store, L: Link>(
     requires alike { length sessions.old ≡ length host.old.slots }
     requires room { TURN_ROOM ≤ out.old.cap }
     ensures fault { (result ≡ TurnEnd.LinkFault) ↔ Rose (L.count link.old) (L.count link.new) }
-    ensures turn { RunsTurn (change S.contents S.may_give S.count) (Asks (L.asked link.old) (L.asked link.new)) terms.now.may_wait terms.now.carriage terms.now.start terms.now.moment
+    ensures turn { RunsTurn (change S.contents S.may_give S.count) terms.now.silence (Asks (L.asked link.old) (L.asked link.new)) terms.now.may_wait terms.now.carriage terms.now.start terms.now.moment
         (station (server host.old sessions.old store.old) (L.queue link.old) out.old)
         (station (server host.new sessions.new store.new) (L.queue link.new) out.new) result }
     ensures outbox { out.new ≡ record { packets = []; cap = out.old.cap } }
@@ -111,7 +111,7 @@ pub fn run_turn<S: Store, L: Link>(
     requires room { TURN_ROOM ≤ out.old.cap }
     ensures fault { (result ≡ TurnEnd.LinkFault) ↔ Rose (L.count link.old) (L.count link.new) }
     // The turn is the definition, and this is what the link was asked; over a queue its packets went out in order.
-    ensures turn { RunsTurn (change S.contents S.may_give S.count) (Asks (L.asked link.old) (L.asked link.new)) may_wait carriage start now
+    ensures turn { RunsTurn (change S.contents S.may_give S.count) None (Asks (L.asked link.old) (L.asked link.new)) may_wait carriage start now
         (station (server host.old sessions.old store.old) (L.queue link.old) out.old)
         (station (server host.new sessions.new store.new) (L.queue link.new) out.new) result }
     // All was sent.
@@ -124,6 +124,7 @@ pub fn run_turn<S: Store, L: Link>(
         start,
         moment: now,
         carriage,
+        silence: None,
         may_wait,
     };
     make_turn(host, sessions, store, link, out, buffer, &terms)

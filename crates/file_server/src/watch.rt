@@ -3,7 +3,7 @@ ghost use Rattle.std.specs.Prelude.{◌≡◌, ◌<◌, length};
 ghost use Rattle.chaos_conn.specs.Calls.{peer_of};
 ghost use Rattle.chaos_host.specs.View.{host_look};
 ghost use Rattle.file_server.specs.Sessions.{serving_at};
-ghost use Rattle.file_server.specs.Watch.{after_change, end_told, ending_of, is_down, is_same, seen_at, watched, watched_at};
+ghost use Rattle.file_server.specs.Watch.{after_change, end_told, ending_of, is_down, is_same, is_unacknowledged, seen_at, watched, watched_at};
 
 use crate::limits::SERVER_CONNS;
 use crate::log::{Ending, Log};
@@ -18,6 +18,8 @@ pub struct Seen {
     peer: End,
     /// Whether its peer's host was heard no more: the next turn releases it.
     is_down: bool,
+    /// Whether its peer has acknowledged nothing that was sent to it.
+    is_unacknowledged: bool,
 }
 
 /// What was seen in each slot of a server behind its last turn.
@@ -56,6 +58,7 @@ fn seen_at(host: &Host, place: usize) -> Option<Seen>
         id,
         peer: peer_of(host, id),
         is_down: is_down(host, id),
+        is_unacknowledged: is_unacknowledged(host, id),
     })
 }
 
@@ -82,6 +85,16 @@ fn is_down(host: &Host, id: ConnId) -> bool
     matches!(host.state(id), Ok(State::HostDown))
 }
 
+/// Whether the peer has acknowledged nothing that was sent to it.
+fn is_unacknowledged(host: &Host, id: ConnId) -> bool
+    ensures { result ≡ is_unacknowledged (host_look host.now id (λ conn. conn)) }
+{
+    match host.conn(id) {
+        Ok(conn) => conn.keeps_opn(),
+        Err(_) => false,
+    }
+}
+
 /// Whether two looks saw the same connection, or none.
 fn is_same(was: &Option<Seen>, there: &Option<Seen>) -> bool
     ensures { result ≡ is_same was.now there.now }
@@ -94,13 +107,15 @@ fn is_same(was: &Option<Seen>, there: &Option<Seen>) -> bool
 }
 
 /// Why a connection ended.
-fn ending_of(is_down: bool, eof: bool) -> Ending
-    ensures { result ≡ ending_of is_down eof }
+fn ending_of(is_down: bool, eof: bool, is_unacknowledged: bool) -> Ending
+    ensures { result ≡ ending_of is_down eof is_unacknowledged }
 {
     if is_down {
         Ending::HostDown
     } else if eof {
         Ending::Done
+    } else if is_unacknowledged {
+        Ending::Unacknowledged
     } else {
         Ending::Closed
     }
@@ -121,7 +136,7 @@ fn tell_change<G: Log>(
         return;
     }
     if let Some(was) = was {
-        let ending = ending_of(was.is_down, sessions.eof(place));
+        let ending = ending_of(was.is_down, sessions.eof(place), was.is_unacknowledged);
         log.ended(
             was.peer,
             sessions.name(place),

@@ -2,9 +2,10 @@
 ghost use Rattle.std.specs.Prelude.{◌≡◌, ◌<◌, ◌≤◌, None, true, length, IfOk, IfSome};
 ghost use Rattle.chaos_file.specs.Names.{is_path};
 
+use super::held::Held;
 use crate::whole::write_whole;
 use std::alloc::Global;
-use std::fs::{File, Metadata, OpenFile, TryLockError};
+use std::fs::{File, Metadata, OpenFile};
 use std::io::{ErrorKind, Read};
 use std::rt::Files;
 use std::{fs, io};
@@ -16,31 +17,10 @@ const NEW: &str = ".new";
 #[derive(Drop)]
 pub(crate) struct Folder<R> {
     rt: R,
-    path: String,
+    /// The folder itself, locked.
+    held: Held,
     /// Where a file is written before it has its path.
     fresh: String,
-    /// The folder itself, locked.
-    locked: File,
-}
-
-/// Locks a folder that is open, where nobody else has locked it.
-fn lock(folder: &File) -> io::Result<()> {
-    folder.try_lock().map_err(|fault| match fault {
-        TryLockError::WouldBlock => io::Error::new(
-            ErrorKind::ResourceBusy,
-            "it is in use by another server",
-        ),
-        TryLockError::Error(fault) => fault,
-    })
-}
-
-/// What is named is to be a folder.
-fn require_folder(info: &Metadata) -> io::Result<()> {
-    if info.is_dir() {
-        Ok(())
-    } else {
-        Err(io::Error::from(ErrorKind::NotADirectory))
-    }
 }
 
 /// Reads what a file has, or None where that is more than the limit: one byte more than it is read at most.
@@ -72,19 +52,12 @@ fn require_file(info: &Metadata) -> io::Result<()> {
 impl<R: Drop + Files<File = File>> Folder<R> {
     /// The folder of this path, where there is one and nobody else has locked it. What was left of a file that was never
     /// put is taken away.
-    pub(crate) fn open(rt: R, path: String) -> io::Result<Folder<R>> {
-        require_folder(&rt.metadata(path.as_str())?)?;
-        let locked = fs::open(&rt, path.as_str())?;
-        lock(&locked)?;
-        let mut fresh = path.clone()?;
+    pub(crate) fn open(rt: R, name: String) -> io::Result<Folder<R>> {
+        let held = Held::open(&rt, name)?;
+        let mut fresh = held.way.clone()?;
         fresh.push_str("/")?;
         fresh.push_str(NEW)?;
-        let folder = Folder {
-            rt,
-            path,
-            fresh,
-            locked,
-        };
+        let folder = Folder { rt, held, fresh };
         // what can't be taken away is told by each put
         let _ = folder.clear_fresh();
         Ok(folder)
@@ -96,9 +69,9 @@ impl<R: Files> Folder<R> {
     fn place(&self, alloc: Global, path: &[u8]) -> io::Result<String>
         requires { is_path path.now ≡ true }
     {
-        let folder = self.path.as_str();
+        let way = self.held.way.as_str();
         match str::from_utf8(path) {
-            Ok(name) => Ok(format!(in alloc; "{folder}/{name}")?),
+            Ok(name) => Ok(format!(in alloc; "{way}/{name}")?),
             Err(_) => Err(io::Error::from(ErrorKind::InvalidInput)),
         }
     }
@@ -113,6 +86,7 @@ impl<R: Files> Folder<R> {
         requires { is_path path.now ≡ true }
         ensures { IfOk result (λ o. IfSome o (λ v. length v.items ≤ limit)) }
     {
+        self.held.require_name(&self.rt, alloc)?;
         let file = self.open_file(self.place(alloc, path)?.as_str())?;
         read_within(alloc, file, limit)
     }
@@ -144,6 +118,7 @@ impl<R: Files> Folder<R> {
     pub(crate) fn put(&self, alloc: Global, path: &[u8], bytes: &[u8]) -> io::Result<()>
         requires { is_path path.now ≡ true }
     {
+        self.held.require_name(&self.rt, alloc)?;
         let place = self.place(alloc, path)?;
         let replaced = self.file_at(place.as_str())?;
         self.clear_fresh()?;
@@ -154,7 +129,7 @@ impl<R: Files> Folder<R> {
             replaced.map(|info| info.permissions()),
             bytes,
         )?;
-        self.locked.sync_all()
+        self.held.flush()
     }
 
     /// Takes away what was left of a put, where there is such: a link itself, and never what it leads to.
@@ -169,6 +144,7 @@ impl<R: Files> Folder<R> {
     pub(crate) fn remove(&self, alloc: Global, path: &[u8]) -> io::Result<()>
         requires { is_path path.now ≡ true }
     {
+        self.held.require_name(&self.rt, alloc)?;
         let place = self.place(alloc, path)?;
         require_file(&self.rt.symlink_metadata(place.as_str())?)?;
         fs::remove_file(&self.rt, place.as_str())
@@ -179,6 +155,7 @@ impl<R: Files> Folder<R> {
         requires old { is_path old.now ≡ true }
         requires new { is_path new.now ≡ true }
     {
+        self.held.require_name(&self.rt, alloc)?;
         let from = self.place(alloc, old)?;
         let to = self.place(alloc, new)?;
         require_file(&self.rt.symlink_metadata(from.as_str())?)?;

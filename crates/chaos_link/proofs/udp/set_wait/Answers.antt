@@ -10,9 +10,9 @@ returns-in_err-set_waits-clause-nothing g c =
       | then-is_none+in_ok-set_wait w ↦ (
         WaitAtMost _ ∷ Wait c.args.waits ∷ [],
         refl,
-        asks_both _ _ _ _ _ w.set_wait.ensures (rw w.socket-is at c.set_waits.ensures),
+        asks_both _ _ _ _ _ w.set_wait.ensures.asked (rw w.socket-is at c.set_waits.ensures.asked),
       )
-      | else-is_none w ↦ (Wait c.args.waits ∷ [], refl, rw w.socket-is at c.set_waits.ensures)
+      | else-is_none w ↦ (Wait c.args.waits ∷ [], refl, rw w.socket-is at c.set_waits.ensures.asked)
     ]
 
 pub returns-clause-nothing : goal.returns-clause-nothing
@@ -21,7 +21,7 @@ returns-clause-nothing g c =
       | then-is_none+in_ok-set_wait w ↦ (
         WaitAtMost _ ∷ Wait c.args.waits ∷ [],
         refl,
-        asks_both _ _ _ _ _ w.set_wait.ensures (rw w.socket-is at c.set_waits.ensures),
+        asks_both _ _ _ _ _ w.set_wait.ensures.asked (rw w.socket-is at c.set_waits.ensures.asked),
       )
-      | else-is_none w ↦ (Wait c.args.waits ∷ [], refl, rw w.socket-is at c.set_waits.ensures)
+      | else-is_none w ↦ (Wait c.args.waits ∷ [], refl, rw w.socket-is at c.set_waits.ensures.asked)
     ]

@@ -1,48 +1,40 @@
-use Rattle.chaos_turn.proofs.Queue.{all_empty, all_read, all_sent, none_sent, one_less, one_more_sent, told}
+use Rattle.std.proofs.Common.{sym, ◌∙◌}
+use Rattle.chaos_turn.proofs.Queue.{none_empty, none_goes_each, none_lent, none_read_each, none_told_each, packets_of_each, some_told_each, told}
 use Rattle.chaos_turn.proofs.sending.send_singly.Goals as goal
 
-pub packets-init : goal.packets-init
-packets-init g c = none_sent (told (g.L.Link.queue c.args.link.now) (g.L.Link.asked c.args.link.now)) c.args.out.now
+pub returns-then-is_none-clause-sends : goal.returns-then-is_none-clause-sends
+returns-then-is_none-clause-sends g c =
+    let none = none_goes_each c.args.out.now
+    (sym c.front.ensures ∙ none_lent c.front.result c.is_none.result c.is_none.ensures c.if-is_none.true)
+    c.args.carriage (told (g.L.Link.queue c.args.link.now) (g.L.Link.asked c.args.link.now)) in
+    record {
+      sends = none.sends;
+      asks = none.asks;
+      read =
+          none_read_each c.args.out.now
+          (sym c.front.ensures ∙ none_lent c.front.result c.is_none.result c.is_none.ensures c.if-is_none.true)
+          c.args.carriage;
+    }
 
-pub packets-preserved : goal.packets-preserved
-packets-preserved g c =
-    let queue = g.L.Link.queue in
-    let asked = g.L.Link.asked in
-    one_more_sent (told (queue c.args.link.now) (asked c.args.link.now))
-    (told (queue c.packets.link) (asked c.packets.link)) (told (queue c.send.new.link) (asked c.send.new.link))
-    c.args.out.now c.packets.out c.drop_front.new.self
-    c.in-Some.packet.now c.packets.invariant (cc) c.drop_front.ensures
-    (record { sends = c.send.ensures.sends; asks = c.send.ensures.asks }) c.send.ensures.read
-
-pub packets-smaller : goal.packets-smaller
-packets-smaller g c = rw c.drop_front.ensures (one_less c.packets.out.packets c.in-Some.packet.now (cc))
+pub returns-then-is_none-clause-empty : goal.returns-then-is_none-clause-empty
+returns-then-is_none-clause-empty g c =
+    none_empty c.args.out.now
+    (sym c.front.ensures ∙ none_lent c.front.result c.is_none.result c.is_none.ensures c.if-is_none.true)
 
 pub returns-clause-sends : goal.returns-clause-sends
 returns-clause-sends g c =
-    let queue = g.L.Link.queue in
-    let asked = g.L.Link.asked in
-    let all = all_sent (told (queue c.args.link.now) (asked c.args.link.now))
-    (told (queue c.packets.link) (asked c.packets.link)) c.args.out.now c.packets.out c.packets.invariant (cc) in
-    all.sends
+    record {
+      sends = c.send_each.ensures.sends;
+      asks = c.send_each.ensures.asks;
+      read = c.send_each.ensures.read ∙ sym (packets_of_each c.args.out.now.packets);
+    }
 
-pub returns-clause-asks : goal.returns-clause-asks
-returns-clause-asks g c =
-    let queue = g.L.Link.queue in
-    let asked = g.L.Link.asked in
-    let all = all_sent (told (queue c.args.link.now) (asked c.args.link.now))
-    (told (queue c.packets.link) (asked c.packets.link)) c.args.out.now c.packets.out c.packets.invariant (cc) in
-    all.asks
+pub returns-then-is_none-clause-told : goal.returns-then-is_none-clause-told
+returns-then-is_none-clause-told g c =
+    none_told_each c.args.out.now
+    (sym c.front.ensures ∙ none_lent c.front.result c.is_none.result c.is_none.ensures c.if-is_none.true)
 
-pub returns-clause-empty : goal.returns-clause-empty
-returns-clause-empty g c =
-    let queue = g.L.Link.queue in
-    let asked = g.L.Link.asked in
-    all_empty (told (queue c.args.link.now) (asked c.args.link.now))
-    (told (queue c.packets.link) (asked c.packets.link)) c.args.out.now c.packets.out c.packets.invariant (cc)
-
-pub returns-clause-read : goal.returns-clause-read
-returns-clause-read g c =
-    let queue = g.L.Link.queue in
-    let asked = g.L.Link.asked in
-    all_read (told (queue c.args.link.now) (asked c.args.link.now)) (told (queue c.packets.link) (asked c.packets.link))
-    c.args.out.now c.packets.out c.packets.invariant (cc)
+pub returns-clause-told : goal.returns-clause-told
+returns-clause-told g c =
+    some_told_each c.args.out.now.packets c.front.result c.is_none.result c.is_none.ensures c.if-is_none.false
+    c.front.ensures

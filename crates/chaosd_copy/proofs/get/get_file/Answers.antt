@@ -69,6 +69,7 @@ returns-in_default-2 g c =
           c.in_ok-end.ensures.ended;
       waited = c.in_ok-end.ensures.waited;
       unfailed = omega (arith, c.in_ok-end.ensures.unfailed, c.in_ok-came.ensures.unfailed);
+      patient = c.read_all.ensures.patient ∙ c.ask_one.ensures.patient;
       faults = tt;
       begun = get_reading _ _ _ c.args.first c.in-Some.len c.args.path.now _ fits
           (wanted_received

@@ -33,6 +33,7 @@ loop-i-preserved g c =
       sent = c.in_ok-came.ensures.within;
       asked = omega (arith, h.0, c.loop-i.invariant.place);
       unfailed = omega (arith, c.in_ok-came.ensures.unfailed, c.loop-i.invariant.unfailed);
+      patient = c.next_reply.ensures.patient ∙ c.loop-i.invariant.patient;
       place = h.1 ∙ ap (λ n. n + 1) c.loop-i.invariant.place;
       size = ap length p.2 ∙ length-append c.loop-i.bytes.items p.0 ∙ omega arith;
       talk =

@@ -1,4 +1,4 @@
-use Rattle.std.proofs.Common.{rules, arith, subst, true, false, ◌≡◌, ◌+◌, length, [], ◌∷◌}
+use Rattle.std.proofs.Common.{◌∙◌, rules, arith, subst, true, false, ◌≡◌, ◌+◌, length, [], ◌∷◌}
 use Rattle.std.specs.Fmt.{decimal}
 use Rattle.chaos_file.specs.Answer.{Closed}
 use Rattle.chaos_file.specs.Command.{OpenWrite, Close}
@@ -57,6 +57,7 @@ returns-in_default-2 g c = record {
       c.in_ok-end.ensures.ended;
   waited = c.in_ok-end.ensures.waited;
   unfailed = omega (arith, c.in_ok-end.ensures.unfailed, c.in_ok-came.ensures.unfailed);
+  patient = c.write_all.ensures.patient ∙ c.ask_one.ensures.patient;
   faults = tt;
   begun = put_writing _ _ _ c.args.first c.args.path.now c.args.bytes.now _
       (wanted_received

@@ -25,6 +25,7 @@ loop-i-preserved g c =
       sent = c.in_ok-came.ensures.within;
       asked = omega (arith, h.0, c.loop-i.invariant.place);
       unfailed = omega (arith, c.in_ok-came.ensures.unfailed, c.loop-i.invariant.unfailed);
+      patient = c.next_reply.ensures.patient ∙ c.loop-i.invariant.patient;
       place = h.1 ∙ ap (λ n. n + 1) c.loop-i.invariant.place;
       talk = received_at _ _ _ (write_received c.args.first c.args.bytes.now) c.loop-i.i _ _ is
           (c.spell_count.ensures

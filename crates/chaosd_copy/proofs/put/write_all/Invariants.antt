@@ -11,6 +11,7 @@ invariant-loop-i g l = record {
   asked : l.i ≤ l.flight.sent;
   place : l.flight.received ≡ l.i;
   unfailed : (g.T.Talk.course l.talk).failures ≤ (g.T.Talk.course l.fn.talk).failures;
+  patient : (g.T.Talk.course l.talk).patience ≡ (g.T.Talk.course l.fn.talk).patience;
   talk : Since (g.T.Talk.talked l.fn.talk) (g.T.Talk.talked l.talk) (upto (row_command l.row) l.flight.sent)
       (upto (write_received l.first l.bytes) l.i);
 }

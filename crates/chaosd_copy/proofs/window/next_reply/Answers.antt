@@ -33,6 +33,8 @@ loop-turns-preserved g c =
       unfailed =
           omega
           (arith, c.in_ok-turn.ensures.unfailed, c.send_on.ensures.unfailed, c.receive_asked.ensures.unfailed, c.loop-turns.invariant.unfailed);
+      patient =
+          c.turn.ensures.patient ∙ c.send_on.ensures.patient ∙ c.receive_asked.ensures.patient ∙ c.loop-turns.invariant.patient;
       turned = turned_more _ _ _ _ c.loop-turns.invariant.turned
           (subst (λ b. Turned 1 b (g.T.Talk.course c.turn.new.self).turns)
           (c.send_on.ensures.still ∙ c.receive_asked.ensures.still) c.turn.ensures.counted);
@@ -46,15 +48,15 @@ returns-then-is_over-clause-waited g c =
       elim c.then-is_over.branch [
         | then-is_over-via-then-is_over w ↦ inl (sym c.is_over.ensures ∙ w.if-is_over.true)
         | then-is_over-via-else-is_over+then-is_late w ↦ inr
-            (late _ _ _ _ _ _ _ c.loop-turns.invariant.turned c.receive_asked.ensures.still c.moment-since.ensures
-            (w.is_late.ensures w.if-is_late.true))
+            (late _ _ _ _ _ _ _ _ c.loop-turns.invariant.turned c.receive_asked.ensures.still c.moment-since.ensures
+            (w.is_late.ensures.0 w.if-is_late.true))
       ],
     )
 
 pub returns-clause-waited : goal.returns-clause-waited
 returns-clause-waited g c =
     let all : c.loop-turns.turns ≡ 4294967295 = omega (arith, c.loop-turns-test.false, c.loop-turns.auto.turns-end) in
-    (c.loop-turns.invariant.quiet, inr (latest _ _ _ _ _ c.loop-turns.invariant.turned all))
+    (c.loop-turns.invariant.quiet, inr (latest _ _ _ _ _ _ c.loop-turns.invariant.turned all))
 
 pub returns-clause-talk : goal.returns-clause-talk
 returns-clause-talk g c =

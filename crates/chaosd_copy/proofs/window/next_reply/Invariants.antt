@@ -1,4 +1,4 @@
-use Rattle.std.proofs.Common.{◌≤◌, ◌≡◌, ℕ, List, Option}
+use Rattle.std.proofs.Common.{◌≤◌, ◌≡◌}
 use Rattle.chaosd_copy.specs.Copy.{upto}
 use Rattle.chaosd_copy.specs.Talk.{SendsOn, Turned, Unheard}
 use Rattle.chaosd_copy.specs.Row.{row_command}
@@ -12,5 +12,6 @@ invariant-loop-turns g l = record {
       (upto (row_command l.row) l.flight.sent);
   quiet : Unheard (g.T.Talk.talked l.fn.talk) (g.T.Talk.talked l.talk);
   unfailed : (g.T.Talk.course l.talk).failures ≤ (g.T.Talk.course l.fn.talk).failures;
+  patient : (g.T.Talk.course l.talk).patience ≡ (g.T.Talk.course l.fn.talk).patience;
   turned : Turned l.turns (g.T.Talk.course l.fn.talk).turns (g.T.Talk.course l.talk).turns;
 }

@@ -21,6 +21,7 @@ loop-i-preserved g c = record {
   quiet = quiet_send _ _ _ _ _ c.loop-i.invariant.quiet c.send.ensures.sent;
   still = c.send.ensures.still ∙ c.loop-i.invariant.still;
   unfailed = c.send.ensures.unfailed ∙ c.loop-i.invariant.unfailed;
+  patient = c.send.ensures.patient ∙ c.loop-i.invariant.patient;
 }
 
 pub returns-then-not-send-clause-quiet : goal.returns-then-not-send-clause-quiet

@@ -1,4 +1,4 @@
-use Rattle.std.proofs.Common.{◌≡◌, ℕ, List, Option}
+use Rattle.std.proofs.Common.{◌≡◌}
 use Rattle.chaosd_copy.specs.Copy.{upto}
 use Rattle.chaosd_copy.specs.Talk.{SendsOn, Unheard}
 use Rattle.chaosd_copy.specs.Row.{row_command}
@@ -10,4 +10,5 @@ invariant-loop-i g l = record {
   quiet : Unheard (g.T.Talk.talked l.fn.talk) (g.T.Talk.talked l.talk);
   still : (g.T.Talk.course l.talk).turns ≡ (g.T.Talk.course l.fn.talk).turns;
   unfailed : (g.T.Talk.course l.talk).failures ≡ (g.T.Talk.course l.fn.talk).failures;
+  patient : (g.T.Talk.course l.talk).patience ≡ (g.T.Talk.course l.fn.talk).patience;
 }

@@ -22,6 +22,11 @@ returns-in_err-timeout c =
     let p = err_from_is_err_and c.from_residual-in_err-timeout.result c.from_residual-in_err-timeout.ensures.1 in
     rw p.1 (λ calling h. c.in_err-timeout.ensures calling.timeout h.timeout)
 
+pub returns-in_err-hears_anybody : goal.returns-in_err-hears_anybody
+returns-in_err-hears_anybody c =
+    let p = err_from_is_err_and c.from_residual-in_err-hears_anybody.result c.from_residual-in_err-hears_anybody.ensures.1 in
+    rw p.1 (λ calling h. c.in_err-hears_anybody.ensures calling.hears_anybody h.hears_anybody)
+
 pub returns-in_err-address : goal.returns-in_err-address
 returns-in_err-address c =
     let p = err_from_is_err_and c.from_residual-in_err-address.result c.from_residual-in_err-address.ensures.1 in

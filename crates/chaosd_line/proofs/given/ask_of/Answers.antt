@@ -12,6 +12,16 @@ returns-in_err-timeout c =
     let p = err_from_is_err_and c.from_residual-in_err-timeout.result c.from_residual-in_err-timeout.ensures.1 in
     rw p.1 (λ ask h. c.in_err-timeout.ensures ask.timeout h.timeout)
 
+pub returns-in_err-retransmit : goal.returns-in_err-retransmit
+returns-in_err-retransmit c =
+    let p = err_from_is_err_and c.from_residual-in_err-retransmit.result c.from_residual-in_err-retransmit.ensures.1 in
+    rw p.1 (λ ask h. c.in_err-retransmit.ensures ask.retransmit h.retransmit)
+
+pub returns-in_err-hears_anybody : goal.returns-in_err-hears_anybody
+returns-in_err-hears_anybody c =
+    let p = err_from_is_err_and c.from_residual-in_err-hears_anybody.result c.from_residual-in_err-hears_anybody.ensures.1 in
+    rw p.1 (λ ask h. c.in_err-hears_anybody.ensures ask.hears_anybody h.hears_anybody)
+
 pub returns-in_err-is_strict : goal.returns-in_err-is_strict
 returns-in_err-is_strict c =
     let p = err_from_is_err_and c.from_residual-in_err-is_strict.result c.from_residual-in_err-is_strict.ensures.1 in

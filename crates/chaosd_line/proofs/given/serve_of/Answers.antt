@@ -17,6 +17,11 @@ returns-in_err-window c =
     let p = err_from_is_err_and c.from_residual-in_err-window.result c.from_residual-in_err-window.ensures.1 in
     rw p.1 (λ serve h. c.in_err-window.ensures serve.window h.window)
 
+pub returns-in_err-retransmit : goal.returns-in_err-retransmit
+returns-in_err-retransmit c =
+    let p = err_from_is_err_and c.from_residual-in_err-retransmit.result c.from_residual-in_err-retransmit.ensures.1 in
+    rw p.1 (λ serve h. c.in_err-retransmit.ensures serve.retransmit h.retransmit)
+
 pub returns-in_err-is_quiet : goal.returns-in_err-is_quiet
 returns-in_err-is_quiet c =
     let p = err_from_is_err_and c.from_residual-in_err-is_quiet.result c.from_residual-in_err-is_quiet.ensures.1 in
@@ -65,6 +70,7 @@ returns c = record {
   turns = c.in_ok-turns.ensures;
   carriage = c.in_ok-carriage.ensures;
   window = c.in_ok-window.ensures;
+  retransmit = c.in_ok-retransmit.ensures;
   is_quiet = c.in_ok-is_quiet.ensures;
   log = c.in_ok-log.ensures;
   is_timed = c.in_ok-is_timed.ensures;

@@ -10,11 +10,11 @@ pub loop-place-preserved : goal.loop-place-preserved
 loop-place-preserved g c =
     let link = g.L.Link.queue in
     rw (add-one c.loop-place.place)
-    (one_after c.args.carriage (station c.args.host.now (link c.args.link.now) c.args.out.now)
+    (one_after c.args.terms.now.carriage (station c.args.host.now (link c.args.link.now) c.args.out.now)
     (station c.loop-place.host (link c.loop-place.link) c.loop-place.out)
     (station c.close_slot.new.host (link c.close_slot.new.link) c.close_slot.new.out)
-    (over_slots (close_at c.args.sessions.now) c.loop-place.place c.args.host.now)
-    (close_at c.args.sessions.now c.loop-place.place)
+    (over_slots (close_at c.args.terms.now.silence c.args.terms.now.moment c.args.sessions.now) c.loop-place.place c.args.host.now)
+    (close_at c.args.terms.now.silence c.args.terms.now.moment c.args.sessions.now c.loop-place.place)
     c.loop-place.sent c.close_slot.result c.if-close_slot.sent c.loop-place.invariant c.close_slot.ensures
     (elim c.if-close_slot.branch
     [ then-close_slot w ↦ rw w.if-close_slot.true (w.sent-is ∙ w.if-close_slot.true) | else-close_slot w ↦ rw w.if-close_slot.false w.sent-is ]))

@@ -6,5 +6,5 @@ use Rattle.file_server.proofs.ending.close_slots.Given as goal
 
 abbrev pub invariant-loop-place : goal.invariant-loop-place
 invariant-loop-place g l =
-    DoesPhase (Asks (g.L.Link.asked l.fn.link) (g.L.Link.asked l.link)) l.fn.carriage (over_slots (close_at l.fn.sessions) l.place l.fn.host)
+    DoesPhase (Asks (g.L.Link.asked l.fn.link) (g.L.Link.asked l.link)) l.fn.terms.carriage (over_slots (close_at l.fn.terms.silence l.fn.terms.moment l.fn.sessions) l.place l.fn.host)
     (station l.fn.host (g.L.Link.queue l.fn.link) l.fn.out) (station l.host (g.L.Link.queue l.link) l.out) l.sent

@@ -1,8 +1,9 @@
 -- The configuration is the usual one, and the moments are those that the clock shows.
-use Rattle.std.proofs.Common.{[], All, refl, subst}
+use Rattle.std.proofs.Common.{[], refl, subst}
 use Rattle.std.proofs.lemmas.List.Elements.{All-nil}
 use Rattle.chaos_file.specs.Store.{change}
-use Rattle.chaosd_clock.specs.Clock.{IsMoment, number_of}
+use Rattle.chaosd_clock.specs.Clock.{IsMoment, ShownSince, number_of}
+use Rattle.chaosd_clock.proofs.Reading.{shown_first}
 use Rattle.file_server.proofs.Served.{served_by_clock}
 use Rattle.file_server.proofs.serve_run.run_serve.Goals as goal
 
@@ -14,6 +15,8 @@ returns-clause-turns g c =
     (g.C.Dial.shows c.args.clock.now) (g.C.Dial.dates c.args.clock.now) begun.epoch _ _ _ c.args.turns c.args.me _ _ _ _
     c.run_serve_by.result begins.1 c.usual-config.ensures refl
     (λ moments read.
-    subst (λ k. All (IsMoment (g.C.Dial.shows k) begun.epoch) moments) begins.0
-    (read.goes begun [] (refl, refl, All-nil (IsMoment (g.C.Dial.shows begun.clock.now) begun.epoch))).2)
+    let behind = (read.goes begun [] (refl, refl, λ shown. (All-nil (IsMoment (g.C.Dial.shows begun.clock.now) begun.epoch), shown))).2 in
+    (subst (λ k. ShownSince (g.C.Dial.shows k) begun.epoch begun.last c.run_serve_by.new.moments.last moments) begins.0 behind
+    (shown_first (g.C.Dial.shows c.args.clock.now) (g.C.Dial.dates c.args.clock.now) begun.epoch begun.last begins.1
+    begins.2)).0)
     c.run_serve_by.ensures.turns

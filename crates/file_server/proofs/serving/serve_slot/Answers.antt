@@ -24,7 +24,7 @@ returns-then-not-can_serve_conn g c =
     c.args.sessions.now _ c.args.store.now c.args.place _ c.args.terms.now.moment c.args.host.now c.in-Some.at.1.now
     c.args.out.now (g.L.Link.queue c.args.link.now)
     (sym c.in-Some.ensures.index) (get_or_read c.args.sessions.now c.args.place here c.requires.within read new_serving)
-    (ap (λ (xs : List Serving). slice_set xs c.args.place here) c.sessions.view_is) (c.serves.ensures c.if-serves.true)
+    (ap (λ (xs : List Serving). slice_set xs c.args.place here) c.sessions.view_is) (c.serves.ensures c.args.terms.now.moment c.if-serves.true)
     c.in-Some.ensures.named
     (sym c.can_serve_conn.ensures ∙ c.if-not-can_serve_conn.true) refl c.requires.empty
 

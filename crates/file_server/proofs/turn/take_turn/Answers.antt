@@ -12,7 +12,7 @@ returns g c =
     let arrived = c.arrive_at_server-arrived in
     let served = c.serve_slots-served in
     let ended = c.end_slots-ended in
-    turn_so (change g.S.Store.contents g.S.Store.may_give g.S.Store.count) c.args.terms.now.carriage c.args.came
+    turn_so (change g.S.Store.contents g.S.Store.may_give g.S.Store.count) c.args.terms.now.carriage c.args.terms.now.silence c.args.came
     c.args.terms.now.start c.args.terms.now.moment
     (station (server c.args.host.now c.args.sessions.now c.args.store.now) (link c.args.link.now) c.args.out.now)
     (station (server arrived.new.host c.args.sessions.now c.args.store.now) (link arrived.new.link) arrived.new.out)

@@ -1,4 +1,4 @@
-use Rattle.std.proofs.Common.{refl}
+use Rattle.std.proofs.Common.{sym, ◌∙◌, refl}
 use Rattle.chaos_link.proofs.Asked.{none_heard, one_heard}
 use Rattle.chaos_link.proofs.udp.UdpLinkLink.receive.Goals as goal
 use Rattle.chaos_link.proofs.udp.UdpLinkLink.receive.Goals.{in-Ok, in-Err}
@@ -25,4 +25,11 @@ returns-else-eq-clause-asked g c =
       | in-Err w ↦ rw w.self-inside-is
           (none_heard g.S.DatagramSocket.asked c.args.self.now _ _ c.self.view_is refl c.args.may_wait set.0 set.1
           set.2)
+    ]
+
+pub returns-then-eq-clause-answered : goal.returns-then-eq-clause-answered
+returns-then-eq-clause-answered g c =
+    elim c.match-set_wait.branch [
+      | in-Ok w ↦ rw w.self-inside-is (rw w.received-is (λ set. w.receive_from-received.ensures.answered))
+      | in-Err w ↦ rw w.self-inside-is (λ set. absurd (w.in-Err.ensures.other (sym w.in-Err.ensures.err ∙ set)))
     ]

@@ -6,14 +6,14 @@ pub returns-in_default-clause-asked : goal.returns-in_default-clause-asked
 returns-in_default-clause-asked g c =
     none_out g.S.DatagramSocket.asked c.args.self.now (record { to = c.args.to_address; bytes = c.args.bytes.now }) (cc)
 
-pub returns-in-Ok-clause-asked : goal.returns-in-Ok-clause-asked
-returns-in-Ok-clause-asked g c =
+pub returns-then-eq-clause-asked : goal.returns-then-eq-clause-asked
+returns-then-eq-clause-asked g c =
     one_out g.S.DatagramSocket.asked c.args.self.now _ _ c.self.view_is refl
     (record { to = c.args.to_address; bytes = c.args.bytes.now }) c.find.result c.in-Some.peer c.find.ensures
-    c.in-Some.is c.send_to.ensures.asked
+    c.in-Some.is c.send_to-sent.ensures.asked
 
-pub returns-in-Err-clause-asked : goal.returns-in-Err-clause-asked
-returns-in-Err-clause-asked g c =
+pub returns-else-eq-clause-asked : goal.returns-else-eq-clause-asked
+returns-else-eq-clause-asked g c =
     one_out g.S.DatagramSocket.asked c.args.self.now _ _ c.self.view_is refl
     (record { to = c.args.to_address; bytes = c.args.bytes.now }) c.find.result c.in-Some.peer c.find.ensures
-    c.in-Some.is c.send_to.ensures.asked
+    c.in-Some.is c.send_to-sent.ensures.asked

@@ -8,4 +8,4 @@ returns-clause-talk g c =
     farewell_within c.args.self.now.turns c.args.self.now.turns.link.now (λ t. t.link.now)
     (λ s. record c.args.self.now.turns { link = record c.args.self.now.turns.link { now = s } }) (λ s. refl)
     (g.L.Link.asked c.args.self.now.turns.link.now) (g.L.Link.asked c.end.new.turns.link.now)
-    c.end.result (clock_pace (g.C.Dial.shows c.args.self.now.turns.clock.now) c.args.self.now.turns.epoch) _ _ c.end.ensures.talk
+    c.end.result (clock_pace (g.C.Dial.shows c.args.self.now.turns.clock.now) c.args.self.now.turns.timing) _ _ c.end.ensures.talk

@@ -12,4 +12,4 @@ returns-clause-well g c =
     hangs_up_within c.args.self.now.turns c.args.self.now.turns.link.now (λ t. t.link.now)
     (λ s. record c.args.self.now.turns { link = record c.args.self.now.turns.link { now = s } }) (λ s. refl)
     (g.L.Link.asked c.args.self.now.turns.link.now) (g.L.Link.asked c.hang_up.new.turns.link.now)
-    c.hang_up.result (clock_pace (g.C.Dial.shows c.args.self.now.turns.clock.now) c.args.self.now.turns.epoch) _ _ _ _ c.hang_up.ensures.well
+    c.hang_up.result (clock_pace (g.C.Dial.shows c.args.self.now.turns.clock.now) c.args.self.now.turns.timing) _ _ _ _ c.hang_up.ensures.well

@@ -27,4 +27,4 @@ returns-clause-went g c =
     turns_or_stops_within c.args.self.now.turns c.args.self.now.turns.link.now (λ t. t.link.now)
     (λ s. record c.args.self.now.turns { link = record c.args.self.now.turns.link { now = s } }) (λ s. refl)
     (g.L.Link.asked c.args.self.now.turns.link.now) (g.L.Link.asked c.turn.new.turns.link.now)
-    (clock_pace (g.C.Dial.shows c.args.self.now.turns.clock.now) c.args.self.now.turns.epoch) _ _ _ _ _ _ c.turn.ensures.went
+    (clock_pace (g.C.Dial.shows c.args.self.now.turns.clock.now) c.args.self.now.turns.timing) _ _ _ _ _ _ c.turn.ensures.went

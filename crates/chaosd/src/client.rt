@@ -1,0 +1,76 @@
+//! How a client calls: its numbers, its times, and how long it waits.
+ghost use Rattle.std.specs.Prelude.{◌≡◌, ◌<◌, IfOk};
+ghost use Rattle.chaosd.specs.Routes.{IsRouteOf};
+
+use crate::config::config_of;
+use chaos_conn::ConnConfig;
+use chaos_link::Link;
+use chaosd_clock::{Dial, Epoch};
+use chaosd_io::RunFault;
+use chaosd_line::Calling;
+use file_client::{Patience, Route, Timed, Timing, retransmit_for, round_trip};
+use std::fs::{File, Files};
+use std::io;
+use std::io::Read;
+
+/// Where the system gives random bytes.
+const RANDOM: &str = "/dev/urandom";
+
+/// How long a client waits for a reply: so many seconds by the clock, or as long as usual.
+pub(crate) fn patience_of(seconds: Option<u16>) -> Patience {
+    match seconds {
+        Some(seconds) => Patience::Millis(u64::from(seconds) * 1_000),
+        None => Patience::usual(),
+    }
+}
+
+/// A first number and a count of indices that nobody can guess.
+fn drawn<R: Files<File = File>>(rt: &R) -> io::Result<(u16, u8)> {
+    let mut bytes = [0; 3];
+    File::open(rt, RANDOM)?.read_exact(&mut bytes)?;
+    let [low, high, passed] = bytes;
+    Ok((u16::from_le_bytes([low, high]), passed))
+}
+
+/// A run that begins now, with first numbers and indices that nobody can guess. Where the system gives no random bytes, they come from
+/// the clock.
+fn epoch_of<R: Dial + Files<File = File>>(rt: &R) -> Result<Epoch, RunFault> {
+    match drawn(rt) {
+        Ok((first, passed)) => Epoch::drawn(rt, first, passed),
+        Err(_) => Epoch::new(rt),
+    }
+}
+
+/// The numbers and the patience of a copy.
+pub(crate) fn timing_of<R: Dial + Files<File = File>>(
+    rt: &R,
+    calling: &Calling<'_>,
+) -> Result<Timing, RunFault> {
+    Ok(Timing {
+        epoch: epoch_of(rt)?,
+        patience: patience_of(calling.timeout),
+    })
+}
+
+/// From whom to whom a line calls, by windows of the line's. What is kept is sent again after a time that goes by the round trip, which
+/// is measured first.
+pub(crate) fn route_of<R: AllocGlobal + Dial, L: Link>(
+    rt: &R,
+    link: &mut L,
+    calling: &Calling<'_>,
+    timing: Timing,
+) -> Result<Route, RunFault>
+    ensures { IfOk result (IsRouteOf calling.now) }
+{
+    let usual = Route {
+        me: calling.address,
+        to: calling.server.address,
+        config: ConnConfig::with_window(calling.window),
+        carriage: calling.carriage,
+    };
+    let trip = round_trip(rt.alloc(), &mut Timed::new(rt, link, timing), &usual)?;
+    Ok(Route {
+        config: config_of(calling.window, retransmit_for(trip)),
+        ..usual
+    })
+}

@@ -1,0 +1,73 @@
+//! A client's socket, which hears its server alone.
+use chaos_link::{DatagramSocket, LINK_ROOM, is_gone};
+use chaosd_log::SourceSocket;
+use std::io;
+use std::io::ErrorKind;
+use std::net::{SocketAddr, SocketAddrV4, UdpSocket};
+use std::time::Duration;
+
+/// A client's socket. It drops a datagram that comes from another UDP address than its server's, as if none had come; so who can
+/// only guess what a client expects, and can't send from the server's address, gets nothing into it. It reports why the system's
+/// socket is no longer one. It asks the inner socket exactly what it is asked.
+#[derive(Drop)]
+pub(crate) struct PeerSocket<'a, R, S = UdpSocket> {
+    rt: &'a R,
+    inner: S,
+    /// The UDP address that is heard alone; where there is none, anybody is heard.
+    heard: Option<SocketAddrV4>,
+}
+
+impl<'a, R: Eprint, S> PeerSocket<'a, R, S> {
+    pub(crate) fn new(rt: &'a R, inner: S, heard: Option<SocketAddrV4>) -> Self {
+        PeerSocket { rt, inner, heard }
+    }
+
+    /// Whether a datagram from there is dropped.
+    fn drops(&self, from: SocketAddr) -> bool {
+        match (self.heard, from) {
+            (Some(heard), SocketAddr::V4(from)) => from != heard,
+            (Some(_), SocketAddr::V6(_)) => true,
+            (None, _) => false,
+        }
+    }
+
+    /// Reports a call that failed since the socket is no longer one.
+    fn report(&self, call: &str, error: &io::Error) {
+        if is_gone(error) {
+            let _ = eprintln!(self.rt; "chaosd: {call} failed: {error}");
+        }
+    }
+}
+
+impl<R: Eprint, S: SourceSocket> DatagramSocket for PeerSocket<'_, R, S> {
+    ghost asked = { λ now start. S.asked now.inner start.inner };
+
+    ghost began = { λ socket. S.began socket.inner };
+
+    fn send_datagram(&mut self, bytes: &[u8], to: SocketAddrV4) -> io::Result<()> {
+        let sent = self.inner.send_datagram(bytes, to);
+        if let Err(error) = &sent {
+            self.report("sending", error);
+        }
+        sent
+    }
+
+    fn receive_datagram(&mut self, buffer: &mut [u8; LINK_ROOM]) -> io::Result<usize> {
+        match self.inner.receive_with_source(buffer) {
+            Ok((_, from)) if self.drops(from) => Err(io::Error::from(ErrorKind::WouldBlock)),
+            Ok((count, _)) => Ok(count),
+            Err(error) => {
+                self.report("receiving", &error);
+                Err(error)
+            }
+        }
+    }
+
+    fn set_wait(&mut self, wait: Duration) -> io::Result<()> {
+        self.inner.set_wait(wait)
+    }
+
+    fn set_waits(&mut self, waits: bool) -> io::Result<()> {
+        self.inner.set_waits(waits)
+    }
+}

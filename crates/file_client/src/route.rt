@@ -1,0 +1,17 @@
+//! Who calls whom.
+use chaos_conn::ConnConfig;
+use chaos_link::Carriage;
+
+/// Who calls whom, and how.
+#[derive(Clone, Copy)]
+pub struct Route {
+    /// The client's own Chaosnet address, which isn't 0.
+    pub me: u16,
+    /// The server's.
+    pub to: u16,
+    /// The windows and times of the client's connections. As many commands are in flight as the lesser of its send window and the
+    /// server's window allows.
+    pub config: ConnConfig,
+    /// As which datagrams packets go out. Datagrams of both versions are read.
+    pub carriage: Carriage,
+}

@@ -1,0 +1,199 @@
+//! How long a packet and its answer take.
+ghost use Rattle.std.specs.Prelude.{◌≡◌, ◌<◌, ◌≤◌, ◌-◌, ◌⊎◌, [], IfErr, IfOk, IfSome, OnOk};
+ghost use Rattle.file_client.specs.Fault.{IsTurnFault};
+ghost use Rattle.file_client.specs.RoundTrip.{IsTripBetween, IsUnderWay, retransmit_of};
+
+use crate::indices::pass_indices;
+use crate::limits::{
+    LEAST_RETRANSMIT, MOST_RETRANSMIT, MOST_TURNS, TRAIN, TRAINS_OF_A_WINDOW, TRIP_MILLIS,
+};
+use crate::route::Route;
+use crate::turns::Turns;
+use chaos_conn::{ConnConfig, Delivered};
+use chaos_host::{Host, HostDelivered};
+use chaos_packet::Outbox;
+use chaos_turn::TURN_ROOM;
+use chaosd_io::RunFault;
+use std::alloc::Global;
+
+/// The bytes of a request of the train: about those of a WRITE, so that the train takes as long on its way as packets of data.
+const REQUEST_BYTES: usize = 448;
+
+/// A contact that nobody serves: a host refuses a request for it by a CLS at once, and keeps nothing of the request. What follows is
+/// its arguments.
+const NOBODY: &[u8] = b"RTT ";
+
+/// So many indices lie between those of a measurement and those of the client's connections, so that a late answer to a request isn't
+/// taken for an answer to a connection's.
+const APART: u8 = 128;
+
+/// How long a train of requests took, in milliseconds: until the answer to the first of them came, and until the last answer came.
+#[derive(Clone, Copy, Debug, PartialEq, Eq)]
+pub struct RoundTrip {
+    pub first: u64,
+    pub last: u64,
+}
+
+/// A train of requests that is under way.
+#[derive(Drop)]
+pub struct Train {
+    /// The moment at which the train left, and the moment of the last turn.
+    since: u64,
+    latest: u64,
+    /// What was measured, where an answer came.
+    trip: Option<RoundTrip>,
+    /// How many answers came.
+    answers: u32,
+}
+
+impl Train {
+    ghost use Rattle.std.specs.Prelude.{None};
+
+    /// It leaves at this moment.
+    fn new(since: u64) -> Self
+        ensures { result ≡ record { since = since; latest = since; trip = None; answers = 0 } }
+    {
+        Train {
+            since,
+            latest: since,
+            trip: None,
+            answers: 0,
+        }
+    }
+
+    /// The milliseconds since the train left.
+    fn millis(&self) -> u64
+        ensures { result ≡ self.now.latest - self.now.since }
+    {
+        self.latest.saturating_sub(self.since)
+    }
+
+    /// Whether no more answers are waited for: all came, or none came for a while behind the last one, or for a second.
+    fn is_over(&self) -> bool {
+        let millis = self.millis();
+        match self.trip {
+            Some(trip) => {
+                let pause = trip.first.saturating_mul(2).max(LEAST_RETRANSMIT);
+                self.answers >= TRAIN || millis.saturating_sub(trip.last) >= pause
+            }
+            None => millis >= TRIP_MILLIS,
+        }
+    }
+
+    /// Takes a turn, and note of an answer that came in it.
+    fn turn<T: Turns>(
+        &mut self,
+        turns: &mut T,
+        host: &mut Host,
+        out: &mut Outbox,
+        route: &Route,
+        may_wait: bool,
+    ) -> Result<(), RunFault>
+        requires room { TURN_ROOM ≤ out.old.cap }
+        requires under_way { IsUnderWay (T.pace (T.time turns.old)) self.old }
+        ensures under_way { OnOk result (IsUnderWay (T.pace (T.time turns.old)) self.new) }
+        ensures unfailed { OnOk result (T.failures turns.new ≤ T.failures turns.old) }
+        ensures faults { IfErr result (IsTurnFault (T.stops (T.time turns.old)) (T.failures turns.new)) }
+        ensures same_turns { (T.links turns.new ≡ T.links turns.old) × (T.time turns.new ≡ T.time turns.old) }
+        ensures empty { OnOk result (out.new.packets ≡ []) }
+        ensures room { out.new.cap ≡ out.old.cap }
+    {
+        let mut told = None;
+        turns.turn(host, self.latest, out, &mut told, route.carriage, may_wait)?;
+        self.latest = turns.now()?;
+        if is_answer(&told) {
+            let millis = self.millis();
+            let first = match self.trip {
+                Some(trip) => trip.first,
+                None => millis,
+            };
+            self.trip = Some(RoundTrip {
+                first,
+                last: millis,
+            });
+            self.answers = self.answers.saturating_add(1);
+        }
+        Ok(())
+    }
+}
+
+/// Measures the round trip to the route's server: 16 requests for a contact that nobody serves leave at once, and each is refused. What
+/// the answers of a train spread tells how fast packets go one behind the other. `None` where no answer comes within a second.
+///
+/// # Errors
+/// `NoMemory`, `LinkFault` and `ClockFault`.
+pub fn round_trip<T: Turns>(
+    alloc: Global,
+    turns: &mut T,
+    route: &Route,
+) -> Result<Option<RoundTrip>, RunFault>
+    requires { 0 < route.now.me }
+    // What is measured lies between moments that the turns told.
+    ensures trip { IfOk result (λ trip. IfSome trip (IsTripBetween (T.pace (T.time turns.old)))) }
+    ensures unfailed { OnOk result (T.failures turns.new ≤ T.failures turns.old) }
+    ensures faults { IfErr result (λ fault. (fault ≡ RunFault.NoMemory) ⊎ IsTurnFault (T.stops (T.time turns.old)) (T.failures turns.new) fault) }
+    ensures same_turns { (T.links turns.new ≡ T.links turns.old) × (T.time turns.new ≡ T.time turns.old) }
+{
+    let config = ConnConfig::with_window(1);
+    let Ok(mut host) = Host::new(alloc, route.me, TRAIN as usize, config) else {
+        return Err(RunFault::NoMemory);
+    };
+    let Ok(mut out) = Outbox::new(alloc, TURN_ROOM) else {
+        return Err(RunFault::NoMemory);
+    };
+    let passed = turns.passed().wrapping_add(APART);
+    pass_indices(&mut host, route.to, passed, &mut out);
+    let since = turns.now()?;
+    let mut train = Train::new(since);
+    let mut request = [b' '; REQUEST_BYTES];
+    request[..NOBODY.len()].copy_from_slice(NOBODY);
+    for sent in 0..TRAIN {
+        let start = turns.start(since);
+        let _ = host.connect(route.to, &request, start, since, &mut out);
+        train.turn(turns, &mut host, &mut out, route, false)?;
+    }
+    for turn in 0..MOST_TURNS {
+        if train.is_over() {
+            break;
+        }
+        train.turn(turns, &mut host, &mut out, route, true)?;
+    }
+    Ok(train.trip)
+}
+
+/// Whether the server answered a request, whatever it says.
+fn is_answer(told: &Option<HostDelivered>) -> bool {
+    matches!(
+        told,
+        Some(HostDelivered::At(
+            _,
+            Delivered::Closed(_)
+                | Delivered::Answered(_)
+                | Delivered::Forwarded(_)
+                | Delivered::Lost(_)
+                | Delivered::Opened
+        ))
+    )
+}
+
+/// After how many milliseconds a client sends again what it keeps, by the round trip, where that was measured: after two round trips and
+/// as long as a window of 64 packets takes one behind the other, but not before 20 and not later than the usual 500, which is also
+/// what holds where nothing was measured.
+///
+/// So a wrong measurement costs at most a window of packets every 20 milliseconds, where it is too short, and half a second for each
+/// packet that is lost, where it is too long.
+pub fn retransmit_for(trip: Option<RoundTrip>) -> u64
+    ensures { result ≡ retransmit_of trip }
+{
+    let Some(RoundTrip { first, last }) = trip else {
+        return MOST_RETRANSMIT;
+    };
+    let window = last
+        .saturating_sub(first)
+        .saturating_mul(TRAINS_OF_A_WINDOW);
+    first
+        .saturating_add(first)
+        .saturating_add(window)
+        .min(MOST_RETRANSMIT)
+        .max(LEAST_RETRANSMIT)
+}
