@@ -69,6 +69,27 @@ def typed(top, words, printed):
     return [] if ended.returncode == 0 and is_shown else [f"{words} ends with {ended.returncode}, and prints {seen!r}"]
 
 
+def tried(command, folder):
+    """The words of a unit's command, for a server of this folder at a port of its own that takes no turn."""
+    _, serve, *words = shlex.split(command)
+    places = {"0.0.0.0:9001": at(free_ports(1)[0]), "/var/lib/chaosd": str(folder)}
+    return [serve, "--turns", "0", *(places.get(word, word) for word in words)]
+
+
+def unproved(program):
+    """Why a program isn't called proved, or an empty text where its stamp says that it was proved from these sources."""
+    asked = subprocess.run([ROOT / "tools/stamp", "check", program], capture_output=True, text=True, timeout=PATIENCE)
+    return asked.stderr.strip() if asked.returncode else ""
+
+
+def what_is_said(packed):
+    """The line of a packed README that says whether its program is proved, and the files of the tar file by name."""
+    with tarfile.open(packed) as tar:
+        names = {it.name.partition("/")[2] for it in tar.getmembers()}
+        readme = tar.extractfile(f"{packed.name.removesuffix('.tar.gz')}/README.md").read().decode()
+    return readme.partition("## What is here\n\n")[2].partition("\n")[0], names
+
+
 class Dist(Case):
     """What is packed, and unpacked elsewhere."""
 
@@ -174,16 +195,39 @@ class Dist(Case):
         set_to = dict(re.findall(r"^(\w+)=(.*)$", text, re.M))
         wanted = {"Restart": "always", "StartLimitIntervalSec": "0"}
         self.check("the unit starts it again, for ever", [name for name, word in wanted.items() if set_to.get(name) != word])
-        _, serve, address, _, _, *peers = shlex.split(set_to["ExecStart"])
         (served := self.top / "served").mkdir()
-        words = [self.top / "bin/chaosd", serve, "--turns", "0", address, at(free_ports(1)[0]), served, *peers]
+        words = [self.top / "bin/chaosd", *tried(set_to["ExecStart"], served)]
         ended = subprocess.run(words, capture_output=True, text=True, timeout=PATIENCE)
         self.check("in words that it understands, and its turns end well", [] if ended.returncode == 0 else [ended.stderr])
 
     def test_the_program_tells_the_version_that_the_tar_file_bears(self):
         told = subprocess.run([self.top / "bin/chaosd", "--version"], capture_output=True, text=True, timeout=PATIENCE)
-        version = re.fullmatch(r"poltxegun-(\d+\.\d+\.\d+)-x86_64-linux\.tar\.gz", self.packed.name)
-        self.assertEqual((0, f"chaosd {version[1]}\n"), (told.returncode, told.stdout))
+        version = re.fullmatch(r"poltxegun-(\d+\.\d+\.\d+)-x86_64-linux(-not-proved)?\.tar\.gz", self.packed.name)
+        self.assertEqual((0, f"chaosd {version[1]}"), (told.returncode, told.stdout.splitlines()[0]))
+
+    def test_only_a_program_that_was_proved_from_these_sources_is_called_proved(self):
+        why = unproved(PROGRAM)
+        said, names = what_is_said(self.packed)
+        label = "-not-proved.tar.gz" if why else "-linux.tar.gz"
+        self.check("the tested program is packed as what it is", [] if self.packed.name.endswith(label) else [self.packed.name])
+        is_said = "`bin/chaosd` **isn't proved**: " in said if why else "`bin/chaosd` is proved." in said and "bin/chaosd.stamp" in names
+        self.check("and so says its README", [] if is_said else [said])
+
+        (other := self.room / "other").mkdir()
+        program = other / "chaosd"
+        program.write_bytes(PROGRAM.read_bytes())
+        program.chmod(0o755)
+        cases = [("no stamp", "chaosd.stamp isn't there"), ("the stamp of another program", "chaosd.stamp is of another program")]
+        for what, reason in cases:
+            ended = dist(program, other / "out")
+            problems = [ended.stderr] if ended.returncode or reason not in ended.stderr else []
+            packed = pathlib.Path(ended.stdout.strip())
+            said, names = what_is_said(packed)
+            if not packed.name.endswith("-not-proved.tar.gz") or f"**isn't proved**: {reason}" not in said or "bin/chaosd.stamp" in names:
+                problems.append(f"{packed.name} {said} {sorted(names)}")
+            self.check(f"a program with {what} isn't called proved", problems)
+            sums = f"how: proved\nsources: {'0' * 64}\nlogic: 0\nprogram: {'0' * 64}\n"
+            program.with_name("chaosd.stamp").write_text(sums)
 
     def test_what_can_not_be_packed_is_told_and_nothing_is_left(self):
         empty = self.room / "empty"

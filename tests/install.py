@@ -2,21 +2,24 @@
 
 import pathlib
 import re
-import shlex
 import shutil
 import subprocess
 import tempfile
 import textwrap
 import unittest
 
-from tests.support import DONE, LONG, PROGRAM, ROOT, Case, at, free_ports, run
+from tests.dist import tried
+from tests.support import DONE, LONG, PROGRAM, ROOT, Case, run
 
-# What is put below PREFIX: where it comes from, and its mode.
+# What is put below PREFIX: where it comes from, and its mode. A program without a stamp of its own has none there either.
+STAMP = PROGRAM.with_name(f"{PROGRAM.name}.stamp")
+IS_STAMPED = not subprocess.run([ROOT / "tools/stamp", "print", PROGRAM], capture_output=True).returncode
 PLACES = {
     "bin/chaosd": (PROGRAM, 0o755),
     "share/man/man1/chaosd.1": (ROOT / "docs/chaosd.1", 0o644),
     "share/chaosd/chaosnet.lua": (ROOT / "tools/wireshark/chaosnet.lua", 0o644),
     "lib/systemd/system/chaosd.service": (ROOT / "examples/chaosd.service", 0o644),
+    **({"share/chaosd/chaosd.stamp": (STAMP, 0o644)} if IS_STAMPED else {}),
 }
 UNIT = "lib/systemd/system/chaosd.service"
 # The greatest exposure that `systemd-analyze security` may find, in tenths.
@@ -118,6 +121,4 @@ class Install(Case):
         (self.room / "chaosd.service.d/override.conf").write_text("\n".join([here(added), *wishes, ""]))
         self.check("it verifies the unit with that", verified(unit))
         *_, command = re.findall(r"^ExecStart=(.+)$", here(added), re.M)
-        _, serve, address, _, _, *peers = shlex.split(command)
-        words = [serve, "--turns", "0", address, at(free_ports(1)[0]), str(self.room), *peers]
-        self.check("and the program understands its words", run(words).problems(DONE))
+        self.check("and the program understands its words", run(tried(command, self.room)).problems(DONE))
