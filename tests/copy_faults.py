@@ -6,13 +6,14 @@ import pathlib
 import resource
 import shutil
 import signal
-import time
+import threading
 from unittest import mock
 
 from tests import support
 from tests.copying import NO_FILE, changing, copied, copying, left_problems, told_problems
 from tests.support import (
-    DONE, FAULT, FILE_LIMIT, LONG, REFUSED, Case, Serving, finished, folder, mixed_content, serving, stored_problems,
+    DONE, FAULT, FILE_LIMIT, LONG, REFUSED,
+    Case, Relay, Serving, finished, folder, mixed_content, network_before, serving, stored_problems,
 )  # fmt: skip
 
 NOBODY = 65534
@@ -132,6 +133,25 @@ class Forbidden(Case):
             self.check("put into a folder without permission: the server's code and text, status 3, and what the system said", problems)
 
 
+class Counting(Relay):
+    """A network that counts what it hands on."""
+
+    def __init__(self, port, ends):
+        super().__init__(port, ends)
+        self.enough, self.count = threading.Condition(), 0
+
+    def passed(self, datagram, port):
+        with self.enough:
+            self.count += 1
+            self.enough.notify_all()
+        return [(datagram, port)]
+
+    def wait_for(self, count):
+        """Waits until it handed so many on."""
+        with self.enough:
+            self.enough.wait_for(lambda: self.count >= count, LONG)
+
+
 class Middle(Case):
     """What happens while a file travels."""
 
@@ -166,10 +186,11 @@ class Middle(Case):
             source, target = (here, server.folder) if subcommand == "put" else (server.folder, here)
             (source / "F").write_bytes(content)
             (target / "F").write_bytes(b"old")
-            client = copying(server, subcommand, "F", options=["--window", "1"], cwd=here)
-            time.sleep(0.02)
-            (client if victim == "client" else server.process).kill()
-            ended = finished(client, patience=LONG)
+            with network_before(server, Counting) as network:
+                client = copying(network, subcommand, "F", options=["--window", "1"], cwd=here)
+                network.wait_for(40)
+                (client if victim == "client" else server.process).kill()
+                ended = finished(client, patience=LONG)
             is_told = victim == "server" and ended.status != DONE
             problems = told_problems(ended, rb"chaosd: F: .*\n") if is_told else []
             server.end()
@@ -185,10 +206,11 @@ class Middle(Case):
         content = mixed_content(FILE_LIMIT)
         with serving() as server, folder() as here:
             (server.folder / "F").write_bytes(content)
-            client = copying(server, "get", "F", options=["--window", "1"], cwd=here)
-            time.sleep(0.02)
-            client.send_signal(signal.SIGINT)
-            finished(client, patience=LONG)
+            with network_before(server, Counting) as network:
+                client = copying(network, "get", "F", options=["--window", "1"], cwd=here)
+                network.wait_for(40)
+                client.send_signal(signal.SIGINT)
+                finished(client, patience=LONG)
             seen = here / "F"
             problems = [] if not seen.exists() or seen.read_bytes() == content else ["half a file has the name"]
             problems += [f"{each.name} isn't hidden" for each in here.iterdir() if each.name != "F" and not each.name.startswith(".")]

@@ -1,5 +1,5 @@
-/* Notes the flushes and renames of a program on standard error, and refuses one flush: a library to be loaded before the C
- * library.
+/* Notes the flushes and renames of a program on standard error, the latter by the last names of their paths, and refuses one flush: a
+ * library to be loaded before the C library.
  *
  * FAIL_AT=N refuses the Nth flush (none without it), as a disk that fails does. What is refused is not done, and not noted.
  */
@@ -8,6 +8,7 @@
 #include <errno.h>
 #include <stdio.h>
 #include <stdlib.h>
+#include <string.h>
 #include <sys/stat.h>
 #include <unistd.h>
 
@@ -25,8 +26,13 @@ int fsync(int fd) {
     return real(fd);
 }
 
+static const char *last(const char *path) {
+    const char *slash = strrchr(path, '/');
+    return slash ? slash + 1 : path;
+}
+
 int rename(const char *from, const char *to) {
     int (*real)(const char *, const char *) = dlsym(RTLD_NEXT, "rename");
-    dprintf(STDERR_FILENO, "rename %s %s\n", from, to);
+    dprintf(STDERR_FILENO, "rename %s %s\n", last(from), last(to));
     return real(from, to);
 }

@@ -3,12 +3,11 @@
 import os
 import socket
 import subprocess
-import time
 
 from tests.packets import RFC, datagram
 from tests.scripts import EMPTY_REPLY, FILE_REPLIES, FILE_SCRIPT, HELLO_REPLIES, NO_REPLY
 from tests.support import (
-    BAD_LINE, DATA_LIMIT, DONE, FAULT, FILE_DATA, INPUT_LIMIT, LINE_LIMIT, LONG, REFUSED, ROOT, SERVER, SOON,
+    BAD_LINE, DATA_LIMIT, DONE, FAULT, FILE_DATA, FOR_LONG, INPUT_LIMIT, LINE_LIMIT, LONG, REFUSED, ROOT, SERVER,
     Case, Ended, at, folder, free_ports, line_of, run, serving, started,
 )  # fmt: skip
 
@@ -206,10 +205,8 @@ class Strangers(Case):
 
     def test_ask_of_a_host_that_is_no_peer_ends_at_once(self):
         own, other = free_ports(2)
-        start = time.monotonic()
-        ended = run(["ask", "402", at(own), "401", f"403={at(other)}"], FILE_SCRIPT)
+        ended = run(["ask", *FOR_LONG, "402", at(own), "401", f"403={at(other)}"], FILE_SCRIPT)
         problems = ended.problems(REFUSED, NO_REPLY, b"chaosd: host 000401 is no PEER\n")
-        problems += ["it took long"] if time.monotonic() - start > SOON else []
         self.check("ask of a host that is no peer: told, `no reply`, status 3, at once", problems)
 
     def test_serve_tells_once_of_a_host_that_asks_and_is_no_peer(self):

@@ -19,6 +19,8 @@ FLOODER, BROADCAST, UNREACHABLE, STRANGER = CLIENT + 1, 0o404, 0o405, 0o500
 FLOOD = 65_536
 # Datagrams that may wait at the server's socket: fewer than the system has room for.
 BURST = 100
+# Datagrams of a flood that a server takes in much less than 90 seconds.
+PART = 2_048
 # Packets that a datagram of version 2 may have.
 BUNDLE = 8
 # The growth of the server's memory that is still flat, in KiB: less than 4 bytes for each datagram. A program that was compiled with
@@ -77,6 +79,8 @@ class Service(Serving):
         others = [f"{BROADCAST:o}=255.255.255.255:9", f"{UNREACHABLE:o}=192.0.2.1:9"]
         super().__init__(here, peers=2, options=["--quiet"], others=others)
         self.asked = 0
+        # The number of the last packet that the flooder's own connection brought: what it sends acknowledges that.
+        self.read = 0
         self.flooder = socket.socket(socket.AF_INET, socket.SOCK_DGRAM)
         self.flooder.bind(("127.0.0.1", self.peers[FLOODER - CLIENT]))
         self.flooder.settimeout(PATIENCE)
@@ -138,19 +142,22 @@ class Service(Serving):
         while True:
             seen = self.received()
             if (seen.op, seen.for_index) == (OPN, 7):
+                self.read = seen.num
                 told = struct.pack("<2H", seen.num, USUAL_WINDOW)
                 self.flooder.send(datagram(STS, (SERVER, seen.index), (FLOODER, 7), 0, seen.num, told))
                 return seen.index
 
     def is_replied(self, index, num, command):
-        """Whether a command over that connection is replied to by the same text."""
-        for _ in range(20):
-            self.flooder.send(datagram(DATA, (SERVER, index), (FLOODER, 7), num, 0, command))
+        """Whether a command over that connection is replied to by the same text. It is sent again where that takes long."""
+        end = time.monotonic() + PATIENCE
+        while time.monotonic() < end:
+            self.flooder.send(datagram(DATA, (SERVER, index), (FLOODER, 7), num, self.read, command))
             self.flooder.settimeout(0.5)
             try:
                 for _ in range(1_000):
                     seen = self.received()
                     if (seen.op, seen.for_index, seen.index, seen.data) == (DATA, 7, index, command):
+                        self.read = seen.num
                         return True
             except TimeoutError:
                 pass
@@ -240,11 +247,11 @@ class Rubbish(Flooded):
 class Slots(Case):
     """Floods that take slots, or go to peers that can't be sent to."""
 
-    seconds = 10
+    seconds = 60
 
     def test_a_connection_is_served_where_requests_take_all_other_slots(self):
         name = "65,536 requests of strangers for FILE"
-        made, quarter = requests(b"FILE", STRANGER), FLOOD // 4
+        made = requests(b"FILE", STRANGER)
         with service() as server:
             self.check(f"{name}: a client is answered before", server.answered())
             index = server.open_connection()
@@ -252,11 +259,11 @@ class Slots(Case):
             self.check(f"{name}: a connection is there", [] if is_replied else ["no reply to the first LOGIN"])
             problems, _ = server.flood(made[: 4 * CONNECTIONS])
             before, unserved = server.memory(), []
-            # A peer that says nothing for 90 seconds is given up: this one asks behind each quarter of the flood.
-            for n in range(4):
-                problems += server.flood(made[n * quarter : (n + 1) * quarter])[0]
+            # A peer that says nothing for 90 seconds is given up: this one asks behind each part of the flood.
+            for n in range(FLOOD // PART):
+                problems += server.flood(made[n * PART : (n + 1) * PART])[0]
                 is_replied = server.is_replied(index, 12 + n, b"T%d  LOGIN LISPM" % (2 + n))
-                unserved += [] if is_replied else [f"no reply to the LOGIN behind quarter {n + 1}"]
+                unserved += [] if is_replied else [f"no reply to the LOGIN behind part {n + 1}"]
             self.check(f"{name}: the server takes all", problems)
             self.check(f"{name}: the connection is served", unserved)
             self.check(f"{name}: the memory stays flat", server.growth_problems(before))

@@ -1,8 +1,10 @@
 """Tests what a folder's store makes of what std can't make: entries that are no file, what may not be read or written, a disk that takes
-no more and is full, one that fails, and a folder that is another's. A test of crates/world_tests plays the rows that it is given.
+no more and is full, one that fails, and a folder that is another's. A test of crates/world_tests plays the rows that it is given. And
+what a server does whose folder is no longer at its name.
 """
 
 import contextlib
+import ctypes
 import errno
 import fcntl
 import os
@@ -15,10 +17,11 @@ import subprocess
 import tempfile
 import unittest
 
-from tests.support import Checking, checked, preloaded
+from tests.copying import copied
+from tests.support import DONE, REFUSED, Case, Checking, Serving, checked, folder, preloaded, serving, stored_problems
 
 TEST = "tests::folders::dialogue_over_a_folder_made_outside"
-PATIENCE = 10
+PATIENCE = 600
 NOBODY = 65534
 NULL = os.makedev(1, 3)
 
@@ -26,7 +29,7 @@ NULL = os.makedev(1, 3)
 LOGIN = "T1  LOGIN X => T1  LOGIN X\n"
 
 # X is no file: no command opens, replaces, moves or takes it away
-REFUSED = LOGIN + """\
+REFUSES = LOGIN + """\
 T2 R OPEN READ^X => T2 R ERROR STF Store fault.
 T3 W OPEN WRITE^X => T3 W OPEN 0
 T3 W WRITE^(X) => T3 W WRITE 3
@@ -69,7 +72,7 @@ T2 W OPEN WRITE^A => T2 W OPEN 0
 T2 W WRITE^new => T2 W WRITE 3
 T2 W CLOSE => T2 W CLOSE 3
 """
-FLUSHED_FILE = "flush file\nrename folder/.new folder/A\n"
+FLUSHED_FILE = "flush file\nrename .new A\n"
 FLUSHED = FLUSHED_FILE + "flush folder\n"
 FAILED = PUT.replace("T2 W CLOSE 3", "T2 W ERROR STF Store fault.")
 AGAIN = "T3 W CLOSE => T3 W CLOSE 3\n"
@@ -231,7 +234,7 @@ class Entries(Store):
             if at_new:
                 make(self.folder / ".new")
         before = shown(entry)
-        self.play(REFUSED + GOES_ON)
+        self.play(REFUSES + GOES_ON)
         self.assertEqual(before, shown(entry), "the entry isn't what it was")
         for outside in self.room.glob("outside*"):
             self.assertTrue(not outside.is_file() or outside.read_bytes() == b"outside", f"{outside.name} was written to")
@@ -353,3 +356,125 @@ class Disk(Store):
         self.play(rows, env={**os.environ, "LD_PRELOAD": str(library), "FAIL_AT": str(fail_at)})
         self.assertEqual(noted, self.said)
         self.assertEqual(left, self.file.read_bytes())
+
+
+# What every command is answered while the folder isn't at its name.
+STORE_FAULT = b"chaosd: %s: STF Store fault.\n"
+CHANGES = [["put", "A"], ["get", "A"], ["delete", "A"], ["rename", "A", "B"]]
+VERBS = {"put": b"write A", "get": b"read A", "delete": b"delete A", "rename": b"rename A to B"}
+
+# Of unshare and mount.
+CLONE_NEWNS = 0x00020000
+MS_REC_PRIVATE = 0x00004000 | 0x00040000
+
+
+def hide_proc():
+    """From here on this process has no /proc, and no other process loses its own."""
+    system = ctypes.CDLL(None, use_errno=True)
+    for done in [
+        system.unshare(CLONE_NEWNS),
+        system.mount(b"none", b"/", None, MS_REC_PRIVATE, None),
+        system.mount(b"tmpfs", b"/proc", b"tmpfs", 0, None),
+    ]:
+        if done:
+            raise OSError(ctypes.get_errno(), "no namespace of mounts")
+
+
+def mounted(place, *words):
+    """Whether this mount could be made."""
+    return subprocess.run(["mount", *words, place], capture_output=True).returncode == 0
+
+
+def unmount(place, *words):
+    subprocess.run(["umount", *words, place], check=True)
+
+
+@contextlib.contextmanager
+def disk_at(place):
+    """A disk in memory at a place, which is away at the end. Where none may be mounted, the test is skipped."""
+    if not mounted(place, "-t", "tmpfs", "tmpfs"):
+        raise unittest.SkipTest("this user may mount no disk in memory")
+    try:
+        yield
+    finally:
+        if os.path.ismount(place):
+            unmount(place, "-l")
+
+
+class Held(Case):
+    """A server whose folder is no longer at its name: nothing is read or changed, neither there nor in what has its name."""
+
+    seconds = 6
+
+    def gone_problems(self, server, here):
+        """What differs from a store fault of each command, told in the log, with nothing left in what has the folder's name."""
+        (here / "A").write_bytes(b"new")
+        gone = f": the folder is no longer at {server.folder}\n".encode()
+        before = sorted(os.listdir(server.folder)) if server.folder.is_dir() else None
+        problems = []
+        for subcommand, *names in CHANGES:
+            ended = copied(server, subcommand, *names, cwd=here)
+            found = ended.problems(REFUSED, b"", STORE_FAULT % b"A")
+            seen, wanted = server.fault(), b"chaosd: can't " + VERBS[subcommand] + gone
+            found += [] if seen == wanted else [f"the server said {seen!r} and not {wanted!r}"]
+            problems += [f"{subcommand}: {problem}" for problem in found]
+        after = sorted(os.listdir(server.folder)) if server.folder.is_dir() else None
+        return problems + ([] if after == before else [f"{after} is there, and {before} was"])
+
+    def served_problems(self, server, here):
+        """What differs from a file that is put and got."""
+        (here / "A").write_bytes(b"new")
+        problems = copied(server, "put", "A", cwd=here).problems(DONE, b"", b"") + stored_problems(server.folder / "A", b"new")
+        return problems + copied(server, "get", "A", cwd=here).problems(DONE, b"", b"")
+
+    def test_a_folder_that_is_moved_away_is_a_store_fault_until_it_is_back(self):
+        with serving() as server, folder() as here:
+            self.check("before", self.served_problems(server, here))
+            away = server.folder.with_name(server.folder.name + ".away")
+            server.folder.rename(away)
+            self.check("moved away", self.gone_problems(server, here))
+            server.folder.mkdir()
+            (server.folder / "A").write_bytes(b"another's")
+            self.check("another folder has its name", self.gone_problems(server, here))
+            shutil.rmtree(server.folder)
+            away.rename(server.folder)
+            self.check("back at its name", self.served_problems(server, here))
+
+    def test_a_folder_that_is_removed_and_made_anew_is_not_served_and_another_server_may_serve_the_new_one(self):
+        with serving() as server, folder() as here:
+            shutil.rmtree(server.folder)
+            self.check("removed", self.gone_problems(server, here))
+            server.folder.mkdir()
+            self.check("made anew", self.gone_problems(server, here))
+            second = Serving(server.folder)
+            try:
+                self.check("another server serves the new one", self.served_problems(second, here))
+                self.check("and the first doesn't", self.gone_problems(server, here))
+            finally:
+                second.end()
+
+    def test_without_proc_a_folder_that_is_made_anew_is_not_served(self):
+        if subprocess.run(["unshare", "-m", "mount", "-t", "tmpfs", "tmpfs", "/proc"], capture_output=True).returncode:
+            self.skipTest("this user may make no namespace of mounts")
+        with serving(prepare=hide_proc) as server, folder() as here:
+            self.check("served without /proc", self.served_problems(server, here))
+            shutil.rmtree(server.folder)
+            server.folder.mkdir()
+            self.check("made anew", self.gone_problems(server, here))
+
+    def test_a_folder_over_which_a_disk_is_mounted_is_a_store_fault_until_the_disk_is_away(self):
+        with serving() as server, folder() as here:
+            self.check("before", self.served_problems(server, here))
+            with disk_at(server.folder):
+                self.check("a disk over it", self.gone_problems(server, here))
+            self.check("the disk is away", self.served_problems(server, here))
+
+    def test_nothing_is_put_below_a_disk_that_was_unmounted(self):
+        with folder() as place, folder() as here, disk_at(place):
+            server = Serving(place)
+            try:
+                self.check("on the disk", self.served_problems(server, here))
+                unmount(place, "-l")
+                self.check("unmounted", self.gone_problems(server, here))
+            finally:
+                server.end()

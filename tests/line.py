@@ -1,6 +1,6 @@
 """Tests the command line of `chaosd`: what help says, and what is told of words that are not of their form."""
 
-from tests.support import BAD_LINE, DONE, Case, run
+from tests.support import BAD_LINE, DONE, Case, at, folder, free_ports, run
 
 ADDRESS_FORM = "1 to 6 octal digits, from 1 to 177777"
 SOCKET_FORM = "a.b.c.d:port in decimal without leading zeros, the port from 1 to 65535"
@@ -31,35 +31,37 @@ AS_FORM = f"a path of FILE {PATH_FORM}, and one LOCAL alone"
 LOCALS_FORM = "a name for standard input, by --as"
 CLASH_FORM = "a path for each file, but '%s' goes under the same; name one by --as"
 OTHER_FORM = "another Chaosnet address than this host's own"
+RETRANSMIT_FORM = "a decimal number of milliseconds without leading zeros, from 20 to 60000"
 TIMEOUT_FORM = "a decimal number without leading zeros, from 1 to 3600"
 OUTPUT_FORM = "one PATH alone, or a folder that ends with /"
 
 BAD_CARRIAGES = ["", "0", "3", "01", "02", "+1", "1 ", " 2", "one", "12"]
 BAD_WINDOWS = ["", "0", "00", "01", "65", "+1", "x", "1x", " 1", "1.5", "0x1", "65536", "65600"]
 BAD_TIMEOUTS = ["", "0", "01", "3601", "+1", "x", "1.5", "65536", "65546"]
+BAD_RETRANSMITS = ["", "0", "19", "020", "60001", "+20", "x", "20ms", " 20", "20.5", "0x20", "65556", "4294967316", "18446744073709551636"]
 BAD_LOGINS = ["", "A.B", "A B", "ABCDEFGHIJKLMNOPQ", "č"]
 BAD_PATHS = ["", ".", ".A", "..", "A/B", "/A", "A B", "A*", "č", "A" * 65]
 
 HELP = {
     "--help": [
         "Usage: chaosd <COMMAND>\n",
-        "  show     Hexadecimal lines from standard input, one datagram a line, to reports\n",
-        "  lab      A script of two connections from standard input, to what each line did\n",
-        "  filelab  A script of a FILE client and its server from standard input, to what each line did\n",
-        "  loop     A FILE script from standard input, put by one host to another in this process, to its replies\n",
-        "  serve    The files of a folder, served to other hosts\n",
-        "  ask      A FILE script from standard input, put to another host, to its replies\n",
-        "  get      Files of another host, into local files of their names\n",
-        "  put      Local files, to another host under their names\n",
-        "  delete   Files of another host, deleted\n",
-        "  rename   A file of another host, renamed\n",
+        "  show     Decode datagrams, given as lines of hexadecimal digits on standard input\n",
+        "  lab      Simulate the two ends of a connection, from a script on standard input\n",
+        "  filelab  Simulate a FILE client and its server, from a script on standard input\n",
+        "  loop     Run a FILE script from standard input between two hosts in this process, and print the replies\n",
+        "  serve    Serve the files of a folder to other hosts\n",
+        "  ask      Send a FILE script from standard input to another host, and print the replies\n",
+        "  get      Copy files of another host into local files of their names\n",
+        "  put      Copy local files to another host under their names\n",
+        "  delete   Delete files of another host\n",
+        "  rename   Rename a file of another host\n",
         "  0  done, or help or the version was shown\n",
         "  3  something was refused, or no reply came\n",
         "  -V, --version  Print version\n",
     ],
     "help show": [
         "Usage: chaosd show [OPTIONS]\n",
-        "--file  Also what the data say as text, and in a packet of FILE the command or reply\n",
+        "--file  Also print what the data say as text, and in a packet of FILE the command or reply\n",
     ],
     "help lab": ["Usage: chaosd lab\n"],
     "help filelab": ["Usage: chaosd filelab\n"],
@@ -73,41 +75,52 @@ HELP = {
         "  <UDP>      UDP address that this host receives at: a.b.c.d:port in decimal, the port from 1 to 65535\n",
         "  <FOLDER>   Folder whose files are served\n",
         "  [PEER]...  Another host, as ADDRESS=UDP in the forms above: at most 32, each Chaosnet address once\n",
-        "--turns <N>     Turns after which the server ends, 0 to 1000000000; one that waits takes some 10 ms [default: 1000000000]\n",
-        "--window <N>    Packets of each window of a connection, 1 to 64: so many commands may be in flight [default: 13]\n",
-        "--quiet         Nothing is told but what fails\n",
-        "--log-time      Each line begins with the time, in UTC\n",
-        "--only-peers    Datagrams that come from no PEER's UDP address are dropped\n",
-        "--read-only     No file changes: what would write one is a store fault\n",
+        "--turns <N>        End the server after N turns, 0 to 1000000000; one that waits takes some 10 ms [default: 1000000000]\n",
+        "--window <N>       Keep N packets in each window of a connection, 1 to 64: so many commands may be in flight [default: 13]\n",
+        "--retransmit <MS>  Send packets that aren't acknowledged again after MS milliseconds, 20 to 60000 [default: 500]\n",
+        "--quiet            Log only what fails\n",
+        "--log-time         Begin each line with the time, in UTC\n",
+        "--only-peers       Drop datagrams that come from no PEER's UDP address\n",
+        "--read-only        Change no file: what would write one is a store fault\n",
         "  chaosd serve 401 127.0.0.1:9001 files 402=127.0.0.1:9002\n",
     ],
     "ask --help": [
-        "--timeout <SECONDS>  Seconds that a reply is waited for, 1 to 3600, in place of 10 to 17\n",
-        "--strict             The first reply that is an ERROR ends the run, with status 3\n",
+        "--timeout <SECONDS>  Wait for each reply SECONDS by the clock, 1 to 3600; without it 1000 turns (10 to 17 seconds)\n",
+        "--retransmit <MS>    Send packets that aren't acknowledged again after MS milliseconds, 20 to 60000 [default: 500]\n",
+        "--any-source         Take datagrams from any UDP address, for a server with several interfaces\n",
+        "--strict             End the run at the first reply that is an ERROR, with status 3\n",
         "  <TO>       Chaosnet address of the host to ask, in the form of ADDRESS\n",
     ],
     "loop --help": [
-        "--carriage <N>  Version of the datagrams that packets are sent in: 1 has one packet, 2 has several [default: 1]\n",
+        "--carriage <N>  Send packets in datagrams of version N: 1 has one packet, 2 has several [default: 1]\n",
     ],
     "get --help": [
         "  <SERVER>   Host that has or takes the files, as ADDRESS=UDP in the forms above\n",
         "  <PATH>...  Server's files: 1 to 64 letters, digits, dots, hyphens and underscores, no dot in front\n",
-        "--login <NAME>       User's name: 1 to 16 letters and digits [default: CHAOSD]\n",
-        "--window <N>         Commands in flight, 1 to 64, as far as the server's own window allows [default: 64]\n",
-        "--output <LOCAL>     Local file of the one path, or a folder that ends with / for all; - is standard output\n",
-        "--text               A text of ASCII or the Lisp machine's set: newline, tab, backspace and page are 8D, 89, 88 and 8C ",
-        "--verbose            Tells of each file, also where standard error is no terminal, and how the server is called\n",
+        "--login <NAME>       Log in as NAME, 1 to 16 letters and digits [default: CHAOSD]\n",
+        "--window <N>         Send up to N commands ahead of their replies, 1 to 64, as far as the server's own window allows [default: 64]\n",
+        "--timeout <SECONDS>  Wait for each reply SECONDS by the clock, 1 to 3600; without it 1000 turns and 10 seconds at least\n",
+        "--any-source         Take datagrams from any UDP address, for a server with several interfaces\n",
+        "--output <LOCAL>     Write the one file to LOCAL, or all files into a folder that ends with /; - is standard output\n",
+        "--text               Translate a text of ASCII or the Lisp machine's set: newline, tab, backspace and page are 8D, 89, 88 and 8C ",
+        "--verbose            Print a line for each file with its SHA-256, also where standard error is no terminal, and the server's address\n",
     ],
     "put --help": [
-        "  <LOCAL>...  Local files, each put under its last name where that is a PATH of get, else skipped and told; ",
-        "- is standard input, and wants --as\n",
-        "--rename             A name that is no PATH is put with _ for each byte that none has, and for a dot in front\n",
-        "--as <PATH>          Path of the one local file at the server\n",
+        "  <LOCAL>...  Local files, each put under its last name where that is a PATH of get, else skipped and reported; ",
+        "- is standard input, and needs --as\n",
+        "--rename             Rename a file whose name is no PATH: _ stands for each byte that no PATH has, and for a dot in front\n",
+        "--as <PATH>          Put the one local file under PATH\n",
     ],
-    "delete --help": ["  chaosd delete 402 127.0.0.1:9002 401=127.0.0.1:9001 A.LISP B.LISP\n"],
-    "rename --help": ["Usage: chaosd rename [OPTIONS] <ADDRESS> <UDP> <SERVER> <OLD> <NEW>\n"],
+    "delete --help": [
+        "--any-source         Take datagrams from any UDP address, for a server with several interfaces\n",
+        "  chaosd delete 402 127.0.0.1:9002 401=127.0.0.1:9001 A.LISP B.LISP\n",
+    ],
+    "rename --help": [
+        "Usage: chaosd rename [OPTIONS] <ADDRESS> <UDP> <SERVER> <OLD> <NEW>\n",
+        "--any-source         Take datagrams from any UDP address, for a server with several interfaces\n",
+    ],
     "ask nonsense -h": ["Usage: chaosd ask"],
-    "--version": ["chaosd 0.1.0\n"],
+    "--version": ["chaosd 0.1.0\n", "\nBuilt as chaosd.stamp says, beside the program or in ../share/chaosd. "],
     "-V": ["chaosd 0.1.0\n"],
 }
 
@@ -197,6 +210,26 @@ class Line(Case):
         for text in BAD_TIMEOUTS:
             for words in [["get", *ADDRESSES, "A"], ["put", *ADDRESSES, "A"], ["ask", "402", "127.0.0.1:1", "401"]]:
                 is_told(self, [words[0], "--timeout", text, *words[1:]], text, "--timeout", TIMEOUT_FORM)
+
+    def test_a_retransmission_comes_after_so_many_milliseconds(self):
+        for text in BAD_RETRANSMITS:
+            for words in [["serve", "401", "127.0.0.1:1", "d"], ["ask", "402", "127.0.0.1:1", "401"]]:
+                is_told(self, [words[0], "--retransmit", text, *words[1:]], text, "--retransmit", RETRANSMIT_FORM)
+        for words in [["get", *ADDRESSES, "A"], ["put", *ADDRESSES, "A"], ["delete", *ADDRESSES, "A"], ["rename", *ADDRESSES, "A", "B"]]:
+            ended = run([words[0], "--retransmit", "20", *words[1:]])
+            self.check(f"{words[0]} chooses it by itself", ended.problems(BAD_LINE, b"", [b"unexpected argument '--retransmit' found"]))
+        with folder() as served:
+            for millis in ["20", "60000"]:
+                ended = run(["serve", "--turns", "0", "--retransmit", millis, "401", at(free_ports(1)[0]), served])
+                self.check(f"serve takes {millis} milliseconds", ended.problems(DONE))
+
+    def test_only_clients_have_any_source(self):
+        for words in [["serve", "401", "127.0.0.1:1", "d"], ["loop"]]:
+            ended = run([words[0], "--any-source", *words[1:]])
+            self.check(f"{words[0]} has no --any-source", ended.problems(BAD_LINE, b"", [b"unexpected argument '--any-source' found"]))
+        for words in [["ask", "402", "127.0.0.1:1"], ["get", *ADDRESSES], ["put", *ADDRESSES], ["delete", *ADDRESSES], ["rename", *ADDRESSES]]:
+            ended = run([words[0], "--any-source", *words[1:]])
+            self.check(f"{words[0]} has it", ended.problems(BAD_LINE, b"", [b"required arguments were not provided"]))
 
     def test_paths_of_delete_and_rename_are_paths_of_file(self):
         for text in BAD_PATHS:

@@ -7,11 +7,10 @@ import resource
 import socket
 import stat
 import subprocess
-import time
 
 from tests.copying import copied, left_problems, told_problems
 from tests.support import (
-    DONE, FAULT, REFUSED, SOON, Case, at, finished, folder, free_ports, mixed_content, serving, started, stored_problems,
+    DONE, FAULT, FOR_LONG, REFUSED, Case, at, finished, folder, free_ports, mixed_content, serving, started, stored_problems,
 )  # fmt: skip
 
 SMALL = 10_000
@@ -103,6 +102,45 @@ class Targets(Case):
             self.check("get of a new file takes the umask's", ended.problems(DONE, b"", b"") + mode_problems(here / "A", 0o640))
 
 
+class Sources(Case):
+    """What is put of local files that are none."""
+
+    seconds = 3
+
+    def test_what_is_no_file_is_refused_by_name_and_the_next_is_put(self):
+        with serving() as server, folder() as here:
+            (here / "G").write_bytes(b"g")
+            for kind, hint in [("folder", ""), ("fifo", "; - reads standard input"), ("socket", "; - reads standard input")]:
+                made(here / kind, kind)
+                ended = copied(server, "put", kind, "G", cwd=here)
+                told = f"chaosd: can't open {kind}: it is a {kind}{hint}\n".encode()
+                problems = ended.problems(FAULT, b"", told) + stored_problems(server.folder / "G", b"g")
+                problems += ["it was put"] if (server.folder / kind).exists() else []
+                self.check(f"put of a {kind}: told, status 1, and the next is put", problems)
+            (here / "LINK").symlink_to("fifo")
+            ended = copied(server, "put", "LINK", cwd=here)
+            told = b"chaosd: can't open LINK: it is a fifo; - reads standard input\n"
+            self.check("put of a link to a fifo", ended.problems(FAULT, b"", told))
+            told = b"chaosd: can't open /dev/zero: it is a device; - reads standard input\n"
+            self.check("put of a device", copied(server, "put", "/dev/zero").problems(FAULT, b"", told))
+
+    def test_a_pipe_of_this_process_is_put_by_its_name(self):
+        content = mixed_content(5_000)
+        with serving() as server:
+            for folder_of in ["/dev/fd", "/proc/self/fd"]:
+                reader, writer = os.pipe()
+                os.write(writer, content)
+                os.close(writer)
+                ended = copied(server, "put", f"{folder_of}/{reader}", options=["--as", "P"], pass_fds=[reader])
+                os.close(reader)
+                self.check(f"put {folder_of}/N", ended.problems(DONE, b"", b"") + stored_problems(server.folder / "P", content))
+                (server.folder / "P").unlink(missing_ok=True)
+            ended = copied(server, "put", "/dev/stdin", options=["--as", "P"], given=content)
+            self.check("put /dev/stdin", ended.problems(DONE, b"", b"") + stored_problems(server.folder / "P", content))
+            ended = copied(server, "put", "/dev/null", options=["--as", "E"])
+            self.check("put /dev/null", ended.problems(DONE, b"", b"") + stored_problems(server.folder / "E", b""))
+
+
 class Before(Case):
     """What is made sure before anything is asked of a server."""
 
@@ -111,11 +149,9 @@ class Before(Case):
         with folder() as here:
             (here / "A").mkdir()
             for output, said in [("no/such/place", b"No such file or directory"), ("A", b"it is a folder")]:
-                begun = time.monotonic()
-                line = ["get", "--output", output, "402", at(own), f"401={at(other)}", "F"]
+                line = ["get", *FOR_LONG, "--output", output, "402", at(own), f"401={at(other)}", "F"]
                 ended = finished(started(line, stdin=subprocess.DEVNULL, stdout=subprocess.PIPE, stderr=subprocess.PIPE, cwd=here))
                 problems = told_problems(ended, rb"chaosd: can't write " + output.encode() + b": " + said + rb".*\n", FAULT)
-                problems += ["it took long"] if time.monotonic() - begun > SOON else []
                 self.check(f"get --output {output} where no server is", problems)
             self.check("nothing is left", left_problems(here))
 

@@ -10,7 +10,7 @@ import time
 
 from tests.scripts import FILE_SCRIPT, NO_REPLY
 from tests.support import (
-    BAD_LINE, DONE, LONG, PROGRAM, REFUSED, SOON, Case, at, finished, folder, free_ports, run, serving, started,
+    BAD_LINE, DONE, FOR_LONG, LONG, PROGRAM, REFUSED, Case, at, finished, folder, free_ports, line_of, run, serving, started,
 )  # fmt: skip
 
 PIPES = {"stdin": subprocess.PIPE, "stdout": subprocess.PIPE, "stderr": subprocess.PIPE}
@@ -26,41 +26,43 @@ class Nobody(Case):
 
     seconds = 12
 
-    def test_each_command_tells_it_within_seconds(self):
+    def test_each_command_tells_it_and_does_not_wait(self):
         own, nobody = free_ports(2)
         server = f"401={at(nobody)}"
         wanted = b"no server listens at %s\n" % at(nobody).encode()
         with folder() as here:
             (here / "A").write_bytes(b"(A)")
             for name, words in [
-                ("get", ["get", "402", at(own), server, "--output", here / "B", "B"]),
-                ("put", ["put", "402", at(own), server, here / "A"]),
-                ("delete", ["delete", "402", at(own), server, "A"]),
-                ("rename", ["rename", "402", at(own), server, "A", "B"]),
+                ("get", ["402", at(own), server, "--output", here / "B", "B"]),
+                ("put", ["402", at(own), server, here / "A"]),
+                ("delete", ["402", at(own), server, "A"]),
+                ("rename", ["402", at(own), server, "A", "B"]),
             ]:
-                start = time.monotonic()
-                problems = run(words).problems(REFUSED, b"", [wanted])
-                spent = time.monotonic() - start
-                self.check(f"{name} tells it, status 3", problems + ([] if spent < SOON else [f"after {spent} s"]))
+                problems = run([name, *FOR_LONG, *words]).problems(REFUSED, b"", [wanted])
+                self.check(f"{name} tells it, status 3", problems)
             left = sorted(path.name for path in here.iterdir())
             self.check("nothing is left", [] if left == ["A"] else [f"there are {left}"])
-        start = time.monotonic()
-        problems = run(["ask", "402", at(own), "401", server], FILE_SCRIPT).problems(REFUSED, NO_REPLY, b"chaosd: " + wanted)
-        spent = time.monotonic() - start
-        self.check("ask tells it once, `no reply`, status 3", problems + ([] if spent < SOON else [f"after {spent} s"]))
+        problems = run(["ask", *FOR_LONG, "402", at(own), "401", server], FILE_SCRIPT).problems(REFUSED, NO_REPLY, b"chaosd: " + wanted)
+        self.check("ask tells it once, `no reply`, status 3", problems)
 
     def test_a_server_that_begins_within_a_second_is_reached(self):
-        """A server that is started behind its client."""
-        own, port = free_ports(2)
-        with folder() as here:
-            client = started(["ask", "402", at(own), "401", f"401={at(port)}"], **PIPES)
-            client.stdin.write(b"T  LOGIN M\n")
-            client.stdin.flush()
-            time.sleep(0.6)
-            server = started(["serve", "401", at(port), here, f"402={at(own)}"], **PIPES)
-            problems = finished(client, b"", LONG).problems(DONE, b"T  LOGIN M\n", b"")
-            server.kill()
-            server.communicate()
+        """A server that is started behind its client. Where the machine lets it begin later than that, all is tried again."""
+        spent = 2
+        while spent > 1:
+            own, port = free_ports(2)
+            with folder() as here:
+                begun = time.monotonic()
+                client = started(["ask", "402", at(own), "401", f"401={at(port)}"], **PIPES)
+                client.stdin.write(b"T  LOGIN M\n")
+                client.stdin.flush()
+                time.sleep(0.6)
+                server = started(["serve", "401", at(port), here, f"402={at(own)}"], **PIPES)
+                line_of(server.stderr)
+                spent = time.monotonic() - begun
+                problems = finished(client, b"", LONG).problems(DONE, b"T  LOGIN M\n", b"")
+                server.kill()
+                server.communicate()
+            spent = spent if problems else 0
         self.check("it is asked again", problems)
 
 

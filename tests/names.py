@@ -1,7 +1,13 @@
 """Tests which files `chaosd put` puts under which names, and what `chaosd delete` and `chaosd rename` do with them."""
 
+import os
+import pty
+import subprocess
+
 from tests.copying import NO_FILE, copied
-from tests.support import DONE, FAULT, REFUSED, Case, folder, serving, stored_problems
+from tests.support import (
+    BAD_LINE, CLIENT, DONE, FAULT, REFUSED, Case, Serving, at, finished, folder, free_ports, run, serving, started, stored_problems,
+)  # fmt: skip
 
 SKIPPED = (
     b"chaosd: %s: skipped, since its name is no path of FILE (1 to 64 letters, digits, dots, hyphens and underscores, no dot in front); "
@@ -69,6 +75,100 @@ class Names(Case):
             self.check("put --text of CR LF: told, and kept", problems)
             ended = copied(server, "put", "DOS", options=["--text", "--quiet"], cwd=here)
             self.check("put --text --quiet of CR LF: not told", ended.problems(DONE, b"", b""))
+
+
+# A name by which a terminal would do something, and how it is printed; and one of letters that stays.
+WILD = "w\x1b[31m\r\n\x7f\u009b\u202e\\č"
+PRINTED = "w\\x1b[31m\\x0d\\x0a\\x7f\\u{9b}\\u{202e}\\\\č".encode()
+
+
+class Printed(Case):
+    """Local names as they are printed."""
+
+    seconds = 3
+
+    def test_no_name_that_is_told_makes_a_terminal_do_anything(self):
+        with serving() as server, folder() as here:
+            ended = copied(server, "put", WILD, options=["--as", "A"], cwd=here)
+            self.check("can't open", ended.problems(FAULT, b"", [b"chaosd: can't open " + PRINTED + b": No such file"]))
+            (here / WILD).write_bytes(b"a\r\n")
+            ended = copied(server, "put", WILD, cwd=here)
+            self.check("skipped", ended.problems(FAULT, b"", SKIPPED % PRINTED))
+            ended = copied(server, "put", WILD, options=["--as", "A", "--verbose", "--text"], cwd=here)
+            told = b"chaosd: " + PRINTED + b" has lines that end in CR LF, whose CRs are kept by --text as they are\n"
+            self.check("--verbose and --text", ended.problems(DONE, b"", [told, b"\n" + PRINTED + b" 3 bytes, SHA-256 "]))
+            (here / "sub").mkdir()
+            (here / "sub" / WILD).write_bytes(b"b")
+            ended = copied(server, "put", WILD, f"sub/{WILD}", options=["--rename"], cwd=here)
+            self.check("two of one path", ended.problems(BAD_LINE, b"", [b"invalid value 'sub/" + PRINTED + b"'", b"but '" + PRINTED + b"' goes"]))
+            for output, path in [(f"no/{WILD}", "A"), (f"{WILD}/", "A")]:
+                ended = copied(server, "get", path, options=["--output", output], cwd=here)
+                told = b"chaosd: can't write " + output.encode().replace(WILD.encode(), PRINTED) + (b"A" if output.endswith("/") else b"")
+                self.check(f"can't write {output!r}", ended.problems(FAULT, b"", [told + b": "]))
+
+    def test_no_folder_that_is_told_makes_a_terminal_do_anything(self):
+        (port,) = free_ports(1)
+        with folder() as here:
+            ended = run(["serve", "401", at(port), here / WILD])
+            self.check("can't open", ended.problems(FAULT, b"", [b"chaosd: can't open " + str(here).encode() + b"/" + PRINTED + b": "]))
+            (here / WILD).mkdir()
+            process = started(["serve", "--turns", "1", "401", at(port), here / WILD], stdout=subprocess.PIPE, stderr=subprocess.PIPE)
+            ended = finished(process)
+            self.check("serves", ended.problems(DONE, b"", [b"serves " + str(here).encode() + b"/" + PRINTED + b" at "]))
+
+    def test_the_line_of_a_terminal_that_shows_how_far_a_file_has_come_has_the_name_as_printed(self):
+        with serving() as server, folder() as here:
+            (here / WILD).write_bytes(b"x" * 1_000)
+            terminal, end = pty.openpty()
+            ended = copied(server, "put", WILD, options=["--as", "A"], cwd=here, stderr=end)
+            os.close(end)
+            seen = os.read(terminal, 65_536)
+            os.close(terminal)
+            problems = ended.problems(DONE) + ([] if PRINTED in seen and b"\x1b[31m" not in seen else [f"the terminal saw {seen!r}"])
+            self.check("put on a terminal", problems)
+
+
+BAD = b"a\xff"
+SKIPPED_WORD = b"chaosd: argument %d is not UTF-8: skipped\n"
+BAD_WORD = b"chaosd: argument %d is not UTF-8; try --help\n"
+
+
+class Words(Case):
+    """Words that are no text."""
+
+    seconds = 3
+
+    def test_a_file_whose_name_is_no_text_is_skipped_by_its_place_and_the_others_are_done(self):
+        with serving() as server, folder() as here:
+            for name in ["B", "C"]:
+                (here / name).write_bytes(name.encode())
+            ended = copied(server, "put", BAD, "B", b"\xfe", "C", cwd=here)
+            problems = ended.problems(REFUSED, b"", SKIPPED_WORD % 5 + SKIPPED_WORD % 7)
+            for name in ["B", "C"]:
+                problems += stored_problems(server.folder / name, name.encode())
+                (here / name).unlink()
+            self.check("put: told, the others are put, status 3", problems)
+            ended = copied(server, "get", "B", BAD, "C", options=["--verbose"], cwd=here)
+            problems = ended.problems(REFUSED, b"", [SKIPPED_WORD % 7]) + stored_problems(here / "C", b"C")
+            self.check("get: told, the others are got, status 3", problems)
+            ended = copied(server, "delete", BAD, "C", cwd=here)
+            problems = ended.problems(REFUSED, b"", SKIPPED_WORD % 5)
+            problems += [] if [each.name for each in server.folder.iterdir()] == ["B"] else ["not only B is left"]
+            self.check("delete: told, the other is deleted, status 3", problems)
+            ended = copied(server, "put", BAD, options=["--as", "D"], cwd=here)
+            problems = ended.problems(REFUSED, b"", SKIPPED_WORD % 7) + (["it is there"] if (server.folder / "D").exists() else [])
+            self.check("put of such a file alone: told, nothing is put, status 3", problems)
+
+    def test_elsewhere_such_a_word_is_a_bad_line_by_its_place(self):
+        own, other = free_ports(2)
+        calling = ["402", at(own), f"401={at(other)}"]
+        rows = [
+            ([BAD], 1), (["serve", "401", at(own), BAD], 4), (["get", "--output", BAD, *calling, "A"], 3), (["put", "--as", BAD, *calling, "A"], 3),
+            (["put", "--login", BAD, *calling, "A", b"\xfe"], 3), (["get", *calling, "A", "--output", BAD], 7), (["rename", *calling, "A", BAD], 6),
+            (["get", "402", BAD, f"401={at(other)}", "A"], 3), (["get", *calling, b"-\xff"], 5),
+        ]  # fmt: skip
+        for words, place in rows:
+            self.check(f"{words}: status 2", run(words).problems(BAD_LINE, b"", BAD_WORD % place))
 
 
 class Changes(Case):

@@ -1,14 +1,18 @@
 """Tests what `chaosd serve` tells who runs it: who asks from where, which files change, and what is wrong with its peers."""
 
+import collections
 import contextlib
 import re
+import select
 import socket
 import subprocess
 
-from tests.packets import DATA, RFC, datagram
+from tests.flood import Packet
+from tests.packets import CLS, DATA, OPN, RFC, Peer, datagram
 from tests.scripts import FILE_SCRIPT
 from tests.support import (
-    BAD_LINE, CLIENT, DONE, LONG, REFUSED, SERVER, Case, at, folder, free_ports, line_of, run, serving, started,
+    BAD_LINE, CLIENT, DONE, LONG, REFUSED, SERVER,
+    Case, Serving, at, finished, folder, free_ports, line_of, run, serving, started,
 )  # fmt: skip
 
 # A script of an `ask` that writes, replaces, renames, reads and deletes a file, and fails to delete it again.
@@ -25,8 +29,14 @@ T  DELETE^NEW
 """
 
 
-def ended(server):
-    """All lines that a server tells, once it was ended."""
+def ended(server, connections=0, last=None):
+    """All lines that a server tells, once it told of the end of so many connections and with this last line, and was ended."""
+    lines = []
+    while len([line for line in lines if b" ends: " in line]) < connections or last and last.encode() + b"\n" not in lines:
+        lines.append(line_of(server.process.stderr))
+        if not lines[-1]:
+            break
+    server.said += b"".join(lines)
     server.process.terminate()
     _, err = server.process.communicate(timeout=LONG)
     return (server.said + err).decode().splitlines()
@@ -41,13 +51,13 @@ def without_connections(lines):
 def changes(server):
     """What is told of a client that does `CHANGES`."""
     problems = [] if run(server.words(), CHANGES).status == DONE else ["the script did not end well"]
-    return problems, without_connections(ended(server))
+    return problems, without_connections(ended(server, connections=1))
 
 
 def told_of(server):
     """What is wanted of `CHANGES`, beside the file that is read."""
     front = f"host 000402 at {at(server.peers[0])}"
-    return [f"{front} wrote OLD, 3 bytes", f"{front} replaced OLD, 0 bytes", f"{front} renamed OLD to NEW", f"{front} deleted NEW"]
+    return [f"{front} wrote OLD, 3 bytes", f"{front} replaced OLD, 0 bytes", f"{front} renamed OLD to NEW", f"{front} deleted NEW", f"{front} could not delete NEW: no such file"]
 
 
 class Changes(Case):
@@ -88,7 +98,7 @@ class Changes(Case):
                 process.stdin.flush()
             for process in running:
                 process.communicate(timeout=LONG)
-            told = without_connections(ended(server))
+            told = without_connections(ended(server, connections=4))
             seen = [re.fullmatch(r"host 00040(\d) at (\S+) wrote F(\d)\.\d+, 0 bytes", line) for line in told]
             right = [found and int(found[1]) == int(found[3]) + 2 and found[2] == at(server.peers[int(found[3])]) for found in seen]
             problems = [] if len(seen) == 160 and all(right) else [f"it said {told}"]
@@ -98,8 +108,121 @@ class Changes(Case):
         with serving(options=["--log-time"]) as server:
             run(server.words(), CHANGES)
             form = re.compile(r"20\d\d-\d\d-\d\dT\d\d:\d\d:\d\dZ chaosd: .+")
-            wrong = [line for line in ended(server) if not form.fullmatch(line)]
+            wrong = [line for line in ended(server, connections=1) if not form.fullmatch(line)]
             self.check("log-time", [f"it said {wrong}"] if wrong else [])
+
+
+    def test_a_request_that_fails_is_logged_with_the_host(self):
+        """A file that isn't there can't be got, deleted or renamed, and no file is renamed to the path of another."""
+        script = b"T  LOGIN M\nT A OPEN READ^NONE\nT  DELETE^NONE\nT  RENAME^NONE^B\nT  RENAME^A^B\n"
+        wanted = ["read NONE: no such file", "delete NONE: no such file", "rename NONE to B: no such file", "rename A to B: the new path is taken"]
+        with serving() as server:
+            for name in "AB":
+                (server.folder / name).write_bytes(b"(a)")
+            problems = [] if run(server.words(), script).status == DONE else ["the script did not end well"]
+            got = run(["get", "402", at(server.peers[0]), f"401={at(server.port)}", "NONE"])
+            problems += [] if got.status == REFUSED else [f"get ended with {got.status}"]
+            front = f"host 000402 at {at(server.peers[0])} could not"
+            self.check_told("failed", [f"{front} {line}" for line in [*wanted, wanted[0]]], without_connections(ended(server, connections=2)), problems)
+
+
+class Flooding(Case):
+    """Requests that would fill a log."""
+
+    seconds = 10
+
+    # The most lines about connections in a second of the server's clock. A second of the time in front of a line has parts of two such.
+    LIMIT = 20
+    # What a flood does: 16 connections open, and all end.
+    LINES = 32
+    LEFT_OUT = re.compile(r"\S+ chaosd: (\d+) more like this, about connections")
+
+    def open_and_close(self, server, peer, lowest):
+        """Opens each of a server's 16 connections, and closes them. Meanwhile a host asks that the server doesn't know."""
+        for index in range(lowest, lowest + 16):
+            peer.sendto(datagram(RFC, (SERVER, 0), (CLIENT, index), 5, 0, b"FILE"), ("127.0.0.1", server.port))
+        opened = {}
+        while len(opened) < 16:
+            seen = Packet(peer.recv(2_048))
+            if seen.op == OPN and seen.for_index >= lowest:
+                opened[seen.for_index] = seen.index
+        peer.sendto(datagram(RFC, (SERVER, 0), (0o500, 1), 5, 0, b"NONE"), ("127.0.0.1", server.port))
+        for index, other in opened.items():
+            peer.sendto(datagram(CLS, (SERVER, other), (CLIENT, index)), ("127.0.0.1", server.port))
+
+    def counts(self, lines):
+        """How many lines each report says were left out."""
+        return [int(found[1]) for line in lines if (found := self.LEFT_OUT.fullmatch(line))]
+
+    def accounted(self, lines):
+        """How many lines about connections there are, or were left out."""
+        return sum(" connection " in line for line in lines) + sum(self.counts(lines))
+
+    def flooded(self, server):
+        """The lines of floods, up to a flood of which lines were left out, and how many floods there were."""
+        lines, floods = [], 0
+        with socket.socket(socket.AF_INET, socket.SOCK_DGRAM) as peer:
+            peer.bind(("127.0.0.1", server.peers[0]))
+            peer.settimeout(LONG)
+            while floods < 50 and not self.counts(lines):
+                floods += 1
+                self.open_and_close(server, peer, 16 * floods)
+                while self.accounted(lines) < self.LINES * floods and (line := line_of(server.process.stderr, LONG)):
+                    lines.append(line.decode().rstrip())
+        return lines, floods
+
+    def test_of_a_flood_so_many_lines_a_second_are_logged_and_the_others_are_counted(self):
+        with serving(options=["--log-time"]) as server:
+            lines, floods = self.flooded(server)
+            seconds = collections.Counter(line.split()[0] for line in lines if " connection " in line)
+            problems = [] if self.counts(lines) else ["nothing was left out"]
+            problems += [] if all(count <= 2 * self.LIMIT for count in seconds.values()) else [f"too many lines: {seconds}"]
+            problems += [] if self.accounted(lines) == self.LINES * floods else [f"{self.accounted(lines)} lines of {floods} floods"]
+            strangers = [line for line in lines if "host 000500 asks from" in line]
+            problems += [] if len(strangers) == 1 else ["the stranger is lost in the flood"]
+            self.check("a flood of requests", problems)
+
+    def test_a_change_is_never_left_out(self):
+        script = b"T  LOGIN M\n" + b"".join(b"T A OPEN WRITE^F%d\nT A CLOSE\n" % n for n in range(100))
+        with serving() as server:
+            problems = [] if run(server.words(), script).status == DONE else ["the script did not end well"]
+            wrote = [line for line in ended(server, connections=1) if " wrote F" in line]
+            self.check("100 files", problems + ([] if len(wrote) == 100 else [f"it logged {len(wrote)}"]))
+
+
+class Sending(Case):
+    """A send that the system refuses."""
+
+    seconds = 3
+
+    def test_the_call_and_the_systems_reason_are_logged(self):
+        with folder() as here, socket.socket(socket.AF_INET, socket.SOCK_DGRAM) as peer:
+            server = Serving(here, others=["404=255.255.255.255:9"])
+            peer.sendto(datagram(RFC, (SERVER, 0), (0o404, 7), 0, 0, b"NONE"), ("127.0.0.1", server.port))
+            lines = [line_of(server.process.stderr, LONG).decode().rstrip() for _ in range(2)]
+            server.end()
+            wanted = "chaosd: sending to 255.255.255.255:9 failed: Permission denied (os error 13)"
+            self.check("a send to a broadcast address", [] if wanted in lines else [f"it logged {lines}"])
+
+
+class Again(Case):
+    """What isn't acknowledged is sent again."""
+
+    seconds = 4
+
+    def test_retransmit_is_how_soon_a_server_sends_again(self):
+        """Two servers send their OPN again and again, beside each other: one as soon as it may, and one after 500 milliseconds."""
+        with serving(options=["--retransmit", "20"]) as soon, serving() as usual:
+            with contextlib.closing(Peer(soon)) as first, contextlib.closing(Peer(usual)) as second:
+                for peer in (first, second):
+                    peer.send(RFC, (SERVER, 0), peer.me, 5, 0, b"FILE")
+                came = {first.socket: 0, second.socket: 0}
+                while came[second.socket] < 4 and (ready := select.select(list(came), [], [], LONG)[0]):
+                    for each in ready:
+                        each.recv(2_048)
+                        came[each] += 1
+                counts = list(came.values())
+        self.check("20 ms beside 500 ms", [] if counts[1] == 4 and counts[0] > 3 * counts[1] else [f"so many came: {counts}"])
 
 
 class Asking(Case):
@@ -107,28 +230,26 @@ class Asking(Case):
 
     seconds = 6
 
-    def told_to(self, words, options=()):
-        """The lines that a server of one peer tells of a client with these words."""
-        with serving(options=options) as server:
-            process = started(words(server), stdin=subprocess.PIPE, stdout=subprocess.PIPE, stderr=subprocess.PIPE)
-            with contextlib.suppress(subprocess.TimeoutExpired):
-                process.communicate(FILE_SCRIPT, timeout=3)
-            process.kill()
-            process.communicate()
-            return server, ended(server)[1:]
+    def told_to(self, address, wanted):
+        """The lines that a server of one peer tells of a client with this address, that asks several times from another socket and is
+        not answered there; and what is wanted of it, by the two UDP addresses of the client and of the server's peer."""
+        (other,) = free_ports(1)
+        with serving() as server:
+            words = ["ask", "--timeout", "3", address, at(other), "401", f"401={at(server.port)}"]
+            process = started(words, stdin=subprocess.PIPE, stdout=subprocess.PIPE, stderr=subprocess.PIPE)
+            finished(process, FILE_SCRIPT)
+            line = wanted(at(other), at(server.peers[0]))
+            return line, ended(server, last=line)[1:]
 
     def test_a_peer_that_asks_from_another_udp_address_is_told_once(self):
-        (other,) = free_ports(1)
-        server, seen = self.told_to(lambda server: ["ask", "402", at(other), "401", f"401={at(server.port)}"])
-        wanted = f"chaosd: host 000402 asks from {at(other)}, and is answered at {at(server.peers[0])}, where its PEER is"
+        line = "chaosd: host 000402 asks from {}, and is answered at {}, where its PEER is"
+        wanted, seen = self.told_to("402", line.format)
         problems = [] if seen.count(wanted) == 1 else [f"it said {seen}"]
         self.check("from where, and where it is answered", problems)
 
     def test_a_host_that_is_no_peer_is_told_once_with_its_udp_address_and_opens_nothing(self):
-        (other,) = free_ports(1)
-        _, seen = self.told_to(lambda server: ["ask", "403", at(other), "401", f"401={at(server.port)}"])
-        wanted = [f"chaosd: host 000403 asks from {at(other)} and is no PEER"]
-        self.check("a stranger", [] if seen == wanted else [f"it said {seen}"])
+        wanted, seen = self.told_to("403", "chaosd: host 000403 asks from {} and is no PEER".format)
+        self.check("a stranger", [] if seen == [wanted] else [f"it said {seen}"])
 
     def test_only_peers_drops_what_comes_from_no_peers_socket(self):
         """A datagram of another socket that says that it is the peer's opens nothing; the peer's own does."""
@@ -137,7 +258,7 @@ class Asking(Case):
                 liar.sendto(datagram(RFC, (SERVER, 0), (CLIENT, 5), 5, 0, b"FILE"), ("127.0.0.1", server.port))
                 liar.sendto(datagram(DATA, (SERVER, 1), (CLIENT, 5), 6, 0, b"T  DELETE"), ("127.0.0.1", server.port))
                 problems = [] if run(server.words(), CHANGES).status == DONE else ["its own peer is not served"]
-            lines = ended(server)
+            lines = ended(server, connections=1)
             opened = [line for line in lines if " opens connection " in line]
             problems += [] if len(opened) == 1 and "asks from" not in "".join(lines) else [f"it said {lines}"]
             self.check("only-peers", problems)
@@ -195,4 +316,8 @@ class ReadOnly(Case):
             problems += put.problems(REFUSED, b"", [b"STF Store fault."])
             left = {path.name: path.read_bytes() for path in server.folder.iterdir()}
             problems += [] if left == {"A": b"(A)", "x": b"1"} else [f"there are {left}"]
+            front = f"host 000402 at {at(server.peers[0])} could not"
+            wanted = [f"{front} {what}: the server is read-only" for what in ("write A", "rename A to B", "delete A", "write x")]
+            seen = without_connections(ended(server, connections=2))
+            problems += [] if seen == wanted else [f"it logged {seen} and not {wanted}"]
             self.check("read-only", problems)

@@ -4,7 +4,7 @@ import contextlib
 import socket
 import struct
 
-from tests.support import CLIENT, SOON
+from tests.support import CLIENT, PATIENCE
 
 RFC, OPN, CLS, SNS, STS, LOS, EOF, DATA = 0o1, 0o2, 0o3, 0o6, 0o7, 0o11, 0o14, 0o200
 FWD, ANS, LSN, UNC, NO_NAME = 0o4, 0o5, 0o12, 0o15, 0o16
@@ -21,13 +21,18 @@ def datagram(op, dst, src, num=0, ack=0, body=b""):
     return struct.pack(">10H", 0x4348, 0x0100, op << 8, len(body), *dst, *src, num, ack) + turned(body)
 
 
+def asks_for_file(datagram):
+    """Whether a datagram of version 1 is a request for FILE: a client asks for a contact that nobody has, too, to measure a round trip."""
+    return datagram[4:5] == bytes([RFC]) and turned(datagram[20:24]) == b"FILE"
+
+
 class Peer:
     """A peer of a server that speaks datagrams, and sends what a test says."""
 
     def __init__(self, server, peer=0):
         self.socket = socket.socket(socket.AF_INET, socket.SOCK_DGRAM)
         self.socket.bind(("127.0.0.1", server.peers[peer]))
-        self.socket.settimeout(SOON)
+        self.socket.settimeout(PATIENCE)
         self.server, self.me = ("127.0.0.1", server.port), (CLIENT + peer, 0o1405)
         self.seen = set()
 

@@ -22,6 +22,9 @@ SBCL = shutil.which("sbcl")
 # Seconds: a Lisp takes one to start, and more on a machine that does much else.
 LONG = 300
 
+# SO_TIMESTAMPNS of Linux, for which std's module has no name.
+TIMESTAMPS = 35
+
 # So many datagrams are no more than an input of `show` may be.
 SHOWN = 200
 
@@ -184,20 +187,25 @@ class Peer:
     def __init__(self, server, peer=0):
         self.socket = socket.socket(socket.AF_INET, socket.SOCK_DGRAM)
         self.socket.bind(("127.0.0.1", server.peers[peer]))
+        self.socket.setsockopt(socket.SOL_SOCKET, TIMESTAMPS, 1)
         self.server, self.me = ("127.0.0.1", server.port), (CLIENT + peer, 0o1405)
         self.at, self.first, self.seen = (SERVER, 0), 0, set()
+        # When the last datagram came to this machine, in seconds: a test may be late to take it.
+        self.moment = 0.0
 
     def send(self, op, num=0, ack=0, body=b"", to=None, me=None):
         self.socket.sendto(datagram(op, to or self.at, me or self.me, num, ack, body), self.server)
 
-    def receive(self, patience=10, again=False):
+    def receive(self, patience=LONG, again=False):
         """The next packet, or None where none comes in time. An item that was seen before, as it is sent again where the machine is
         slow, is left out, unless it is asked for."""
         end = time.monotonic() + patience
         with contextlib.suppress(TimeoutError):
             while (left := end - time.monotonic()) > 0:
                 self.socket.settimeout(left)
-                packet = packets_of(self.socket.recv(2_048))[0]
+                received, notes, _, _ = self.socket.recvmsg(2_048, 64)
+                self.moment = sum(part * unit for part, unit in zip(struct.unpack("2q", notes[0][2]), (1, 1e-9)))
+                packet = packets_of(received)[0]
                 item = (packet[0], packet[1][:5])
                 is_new = item not in self.seen or packet[0] not in (OPN, DATA)
                 self.seen.add(item)

@@ -5,12 +5,11 @@ import os
 import signal
 import struct
 import subprocess
-import time
 
 from tests.packets import CLS, DATA, EOF, LOS, OPN, RFC, SNS, STS, Peer, datagram
 from tests.scripts import EMPTY_REPLY, FILE_REPLIES, FILE_SCRIPT, HELLO_REPLIES, NO_REPLY, content_read, get_script, put_script
 from tests.support import (
-    BAD_LINE, CLIENT, DONE, FILE_DATA, FILE_LIMIT, LONG, REFUSED, ROOT, SERVER, SOON, USUAL_WINDOW,
+    BAD_LINE, CLIENT, DONE, FILE_DATA, FILE_LIMIT, FOR_LONG, LONG, REFUSED, ROOT, SERVER, USUAL_WINDOW,
     Case, finished, line_of, mixed_content, plain_content, run, serving, started, stored_problems,
 )  # fmt: skip
 
@@ -336,10 +335,9 @@ class Packets(Case):
                 peer.send(RFC, host, (CLIENT, n + 1), 5, 0, b"FILE")
             ops = [peer.receive()[4] for _ in range(17)]
             self.check("of 17 connections 16 are taken", [] if ops == [OPN] * 16 + [CLS] else [f"{ops}"])
-            start = time.monotonic()
-            ended = run(server.words(1), FILE_SCRIPT)
+            ended = run(server.words(1, FOR_LONG), FILE_SCRIPT)
             said = [b"refused the connection: Connection table full."]
-            problems = ended.problems(REFUSED, NO_REPLY, said) + (["it took long"] if time.monotonic() - start > SOON else [])
+            problems = ended.problems(REFUSED, NO_REPLY, said)
             self.check("ask: a request that is turned away has no reply, status 3, at once, and its text is told", problems)
 
 
@@ -356,6 +354,6 @@ class Signals(Case):
                     programs.append((words[0], asking.process))
                 for name, process in programs:
                     process.send_signal(number)
-                    status = finished(process, patience=SOON).status
+                    status = finished(process).status
                     problems = [] if status in (-number, 128 + number) else [f"status {status}"]
                     self.check(f"{signal.Signals(number).name} ends {name}", problems)

@@ -16,8 +16,9 @@ PLACES = "".join(f"<!-- {name}: written by make bench -->\nold\n<!-- end of {nam
 def told(ratio):
     """Lines of all benches, whose rows all have this ratio."""
     rows = [row.line for table in speed.TABLES.values() for rows in table.values() for row in rows]
-    lines = [f"{line}: chaosd 12.0 ns, plain Rust 10.0 ns, ratio {ratio:.2f} (wish: 1.1)" for line in rows if "20 ms" not in line]
-    late = [line for line in rows if "20 ms" in line]
+    lossy, late = [line for line in rows if "lost" in line], [line for line in rows if "in flight" in line]
+    lines = [f"{line}: chaosd 12.0 ns, plain Rust 10.0 ns, ratio {ratio:.2f} (wish: 1.1)" for line in rows if line not in [*lossy, *late]]
+    lines += [f"{line}: chaosd 3.20 s, without loss 1.60 s, ratio 2.00 (wish: 3)" for line in lossy]
     lines += [f"{line}: {program} {spent} s" for line in late for program, spent in [("chaosd", "7.63"), ("plain", "7.58")]]
     return "\n".join([*lines, "codec: the whole run: 148 million instructions, plain Rust 100 million, ratio 1.48"])
 
@@ -27,6 +28,8 @@ class Speed(Checking):
         text = speed.written(PLACES, speed.figures_of(told(1.05)))
         self.assertNotIn("old", text)
         self.assertIn("read by value|12.0/10.0 ns|1.05|1.3||`codec`\n", text)
+        self.assertIn("What|with 1% lost/without loss|ratio|aim", text)
+        self.assertIn("a put of 1 MiB, 20 ms each way|3.20/1.60 s|2.00|3||`copy`\n", text)
         self.assertIn("a put, each datagram 20 ms late, 13 commands in flight|7.63/7.58 s|1.01|||`copy`\n", text)
         self.assertIn("kept|12.0/10.0 ns|1.05|1.1|1.48|`codec`\n", text)
 

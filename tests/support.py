@@ -38,8 +38,13 @@ USUAL_WINDOW, COPYING_WINDOW = 13, 64
 
 # Whether the program is one that `tools/checked` compiled: it takes ten times as long, and reserves memory of its own.
 IS_CHECKED = PROGRAM.parent.name == "checked"
-# Seconds: no check of one process waits longer; what may wait for a thousand turns; what must not wait.
-PATIENCE, LONG, SOON = (120, 180, 15) if IS_CHECKED else (20, 60, 5)
+# Seconds, all far away, so that no verdict rests on how fast the machine is: what is waited for comes by then or never. The second is
+# for runs that wait for a thousand turns, or copy much.
+PATIENCE, LONG = 600, 1_200
+# What comes at once on a machine at rest.
+SOON = PATIENCE
+# The option of a client that waits for a reply for longer than any test. Such a run that ends within a test waited for none.
+FOR_LONG = ["--timeout", "1000"]
 
 
 class Checking(unittest.TestCase):
@@ -231,9 +236,13 @@ class Serving:
         self.folder = pathlib.Path(folder)
         self.port, *self.peers = free_ports(1 + peers)
         words = [f"{CLIENT + n:o}={at(port)}" for n, port in enumerate(self.peers)]
-        line = ["serve", *options, "401", at(self.port), folder, *words, *others]
-        self.process = started(line, prepare, stderr=subprocess.PIPE, stdout=subprocess.PIPE)
-        self.told = [] if "--quiet" in options else [b"401", at(self.port).encode(), str(folder).encode()]
+        self.line, self.prepare = ["serve", *options, "401", at(self.port), folder, *words, *others], prepare
+        self.told = [] if {"--quiet", "quiet"} & {*options} else [b"401", at(self.port).encode(), str(folder).encode()]
+        self.begin()
+
+    def begin(self):
+        """Starts it, and waits until it says that it listens."""
+        self.process = started(self.line, self.prepare, stderr=subprocess.PIPE, stdout=subprocess.PIPE)
         self.said = b""
         while self.untold() and (line := line_of(self.process.stderr)):
             self.said += line
@@ -244,8 +253,12 @@ class Serving:
 
     def fault(self):
         """The next line in which it tells what the folder's system said, or the last that came in time."""
+        return self.line_with(b"chaosd: can't ")
+
+    def line_with(self, piece):
+        """The next line that it tells with this piece, or the last that came in time."""
         line = line_of(self.process.stderr)
-        while line and not line.startswith(b"chaosd: can't "):
+        while line and piece not in line:
             line = line_of(self.process.stderr)
         return line
 
@@ -279,20 +292,31 @@ class Relay(threading.Thread):
         self.socket.bind(("127.0.0.1", port))
         self.port, self.peers = port, [ends[1]]
         self.other = {ends[0]: ends[1], ends[1]: ends[0]}
+        self.is_over = False
 
     def run(self):
+        while not self.is_over:
+            for each, to in self.taken():
+                self.hand_on(each, to)
+
+    def taken(self):
+        """What becomes of the next datagram. One of another port is nobody's."""
+        datagram, (_, port) = self.socket.recvfrom(4_096)
+        return self.passed(datagram, self.other[port]) if port in self.other else []
+
+    def hand_on(self, datagram, port):
         with contextlib.suppress(OSError):
-            while True:
-                datagram, (_, port) = self.socket.recvfrom(2_048)
-                if port in self.other:
-                    for each, to in self.passed(datagram, self.other[port]):
-                        self.socket.sendto(each, ("127.0.0.1", to))
+            self.socket.sendto(datagram, ("127.0.0.1", port))
 
     def passed(self, datagram, port):
         """The datagrams that are handed on now that this came for a port, and each one's port."""
         return [(datagram, port)]
 
     def close(self):
+        """Ends it, wakes it up by a datagram of its own, and gives its port back."""
+        self.is_over = True
+        self.hand_on(b"", self.port)
+        self.join()
         self.socket.close()
 
 

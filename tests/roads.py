@@ -1,0 +1,206 @@
+"""Tests `chaosd` over roads that are slow, lose, and refuse long datagrams, and beside others who send to its socket."""
+
+import contextlib
+import socket
+import statistics
+import subprocess
+import threading
+import time
+
+from tests.copying import copied, copying
+from tests.packets import DATA
+from tests.road import Road, road_before
+from tests.scripts import NO_REPLY
+from tests.support import (
+    DONE, FILE_LIMIT, LONG, REFUSED,
+    Case, at, finished, folder, free_ports, mixed_content, serving, started, stored_problems,
+)  # fmt: skip
+
+
+class Slow(Case):
+    """Roads on which a round trip takes longer than the two seconds after which a client asks from another index."""
+
+    seconds = 200
+
+    def test_files_are_got_and_put_where_a_datagram_takes_a_second_or_ten(self):
+        content = mixed_content(2_000)
+        with folder() as here, contextlib.ExitStack() as stack:
+            running = []
+            for delay in [1.1, 10]:
+                for subcommand in ["get", "put"]:
+                    server = stack.enter_context(serving())
+                    road = stack.enter_context(road_before(server, delay=delay))
+                    (name := here / f"{subcommand}{delay}").mkdir()
+                    source, target = (name, server.folder) if subcommand == "put" else (server.folder, name)
+                    (source / "F").write_bytes(content)
+                    running.append((f"{subcommand}, {delay} s each way", copying(road, subcommand, "F", options=["--timeout", "120"], cwd=name), target))
+            for name, process, target in running:
+                problems = finished(process, patience=LONG).problems(DONE, b"", b"")
+                self.check(name, problems or stored_problems(target / "F", content))
+
+
+class Deaf(Road):
+    """A road that falls silent towards one end once it has carried so much, until the other end has sent one item so many times. It notes
+    when each of these came."""
+
+    CARRIED, TIMES = 40, 12
+
+    def begin(self, is_clients):
+        """What the client sends again is noted, or what the server does."""
+        self.notes, self.moments = is_clients, {}
+        self.is_deaf = False
+
+    def carries(self, datagram, is_clients):
+        if max(map(len, self.moments.values()), default=0) >= self.TIMES:
+            return True
+        self.is_deaf = self.is_deaf or self.count > self.CARRIED
+        if is_clients == self.notes and datagram[4:5] >= bytes([DATA]) and self.is_deaf:
+            self.moments.setdefault(datagram[8:18], []).append(time.monotonic())
+        return not self.is_deaf or is_clients == self.notes
+
+    def wait(self):
+        """The median of the seconds between an item and the same again, or None where none was sent so often."""
+        noted = max(self.moments.values(), key=len, default=[])
+        return statistics.median(b - a for a, b in zip(noted, noted[1:])) if len(noted) >= self.TIMES else None
+
+
+# How long a machine may be too busy to measure a round trip, in seconds.
+BUSY = 600
+
+
+class Again(Case):
+    """How soon an end sends again what isn't acknowledged."""
+
+    seconds = 20
+
+    def wait_problems(self, subcommand, delay):
+        """A put's client measures how long that is, and a get's server was told so. Gives what is wrong."""
+        content, names_client = mixed_content(200_000), subcommand == "put"
+        told = ["--window", "64", "--retransmit", str(max(20, int(4_000 * delay)))]
+        with serving(options=told) as server, road_before(server, make=Deaf, delay=delay) as road, folder() as here:
+            road.begin(names_client)
+            source, target = (here, server.folder) if names_client else (server.folder, here)
+            (source / "F").write_bytes(content)
+            problems = copied(road, subcommand, "F", options=["--timeout", "600"], cwd=here).problems(DONE, b"", b"")
+            problems, wait = problems or stored_problems(target / "F", content), road.wait()
+        return problems + ([] if wait and wait < 0.3 else [f"it was sent again after {wait} s"])
+
+    def check_wait(self, subcommand, delay):
+        """Where the machine is slow for a while, a round trip is measured as longer than it is: so it is tried again then."""
+        begun, problems = time.monotonic(), ["it wasn't tried"]
+        while problems and time.monotonic() < begun + BUSY:
+            problems = self.wait_problems(subcommand, delay)
+        whose = "client" if subcommand == "put" else "server"
+        self.check(f"{delay * 1_000:.0f} ms each way: the {whose} sends again soon, and not after half a second", problems)
+
+    def test_a_client_that_puts_measures_the_round_trip(self):
+        for delay in [0.005, 0.02]:
+            self.check_wait("put", delay)
+
+    def test_a_server_that_is_told_so_sends_again_sooner(self):
+        for delay in [0.005, 0.02]:
+            self.check_wait("get", delay)
+
+
+class Losing(Case):
+    """Roads that lose one datagram in a hundred. `make bench-copy` times them."""
+
+    seconds = 60
+
+    def test_a_mebibyte_goes_both_ways_whole(self):
+        content = mixed_content(FILE_LIMIT)
+        for delay in [0.005, 0.02]:
+            told = ["--window", "64", "--retransmit", f"{4_000 * delay:.0f}"]
+            with serving(options=told) as server, folder() as here:
+                for subcommand, source, target in [("put", here, server.folder), ("get", server.folder, here)]:
+                    (source / "F").write_bytes(content)
+                    (target / "F").unlink(missing_ok=True)
+                    with road_before(server, delay=delay, lost=0.01) as road:
+                        problems = copied(road, subcommand, "F", cwd=here).problems(DONE, b"", b"")
+                    problems = problems or stored_problems(target / "F", content)
+                    problems += [] if road.lost > 10 else [f"of {road.count} datagrams {road.lost} were lost"]
+                    self.check(f"{subcommand}, {delay * 1_000:.0f} ms each way, 1% lost", problems)
+
+
+class Bundles(Case):
+    """A road that drops datagrams of more than 1,400 bytes, as a firewall does that drops fragments."""
+
+    seconds = 40
+
+    def test_files_go_by_carriage_2_where_long_datagrams_are_dropped(self):
+        content = mixed_content(40_000)
+        for subcommand in ["put", "get"]:
+            with serving(options=["--carriage", "2"]) as server, folder() as here:
+                source, target = (here, server.folder) if subcommand == "put" else (server.folder, here)
+                (source / "F").write_bytes(content)
+                with road_before(server, most=1_400, lost=0.02) as road:
+                    ended = copied(road, subcommand, "F", options=["--carriage", "2", "--timeout", "60"], cwd=here)
+                problems = ended.problems(DONE, b"", b"") or stored_problems(target / "F", content)
+                problems += [] if road.lost else ["nothing was lost"]
+                self.check(f"{subcommand} --carriage 2 where datagrams of more than 1,400 bytes are dropped", problems)
+
+
+class Junk(threading.Thread):
+    """Sends what is no packet to a port, thousands of times a second, from a server's own socket and from another."""
+
+    def __init__(self, own, port):
+        super().__init__(daemon=True)
+        self.own, self.to, self.is_over = own, ("127.0.0.1", port), threading.Event()
+
+    def run(self):
+        with socket.socket(socket.AF_INET, socket.SOCK_DGRAM) as other:
+            while not self.is_over.wait(0.002):
+                for each in [self.own, other] * 16:
+                    each.sendto(b"junk", self.to)
+
+    def end(self):
+        self.is_over.set()
+        self.join()
+
+
+class OneWay(Road):
+    """A road that loses all that the client sends for a while, once it has carried so much. What the server sends arrives."""
+
+    CARRIED, SILENT = 100, 25
+
+    since = None
+
+    def carries(self, datagram, is_clients):
+        if self.since is None and self.count > self.CARRIED:
+            self.since = time.monotonic()
+        return not is_clients or self.since is None or time.monotonic() - self.since > self.SILENT
+
+
+class Timeouts(Case):
+    """A reply is waited for as long as the option says, whatever else comes."""
+
+    seconds = 40
+
+    def check_beside_junk(self, name, words, given, out, told):
+        own, port = free_ports(2)
+        with socket.socket(socket.AF_INET, socket.SOCK_DGRAM) as silent:
+            silent.bind(("127.0.0.1", port))
+            junk = Junk(silent, own)
+            junk.start()
+            begun = time.monotonic()
+            line = [word.format(own=at(own), server=at(port)) for word in words]
+            process = started(line, stdin=subprocess.PIPE, stdout=subprocess.PIPE, stderr=subprocess.PIPE)
+            ended, took = finished(process, given), time.monotonic() - begun
+            junk.end()
+        problems = ended.problems(REFUSED, out, [told]) + ([] if took >= 5 else [f"it waited for {took:.1f} s"])
+        self.check(f"{name} --timeout 5 beside thousands of datagrams a second that are no packets", problems)
+
+    def test_junk_does_not_end_a_wait(self):
+        told = b"no connection opened in "
+        words = ["--timeout", "5", "402", "{own}"]
+        self.check_beside_junk("ask", ["ask", *words, "401", "401={server}"], b"T1  LOGIN LISPM\n", NO_REPLY, told)
+        self.check_beside_junk("get", ["get", *words, "401={server}", "A"], b"", b"", told)
+
+    def test_what_a_server_sends_again_does_not_end_a_wait(self):
+        content = mixed_content(100_000)
+        with serving(options=["--window", "64"]) as server, road_before(server, make=OneWay) as road, folder() as here:
+            (server.folder / "F").write_bytes(content)
+            problems = copied(road, "get", "F", options=["--timeout", "120"], cwd=here).problems(DONE, b"", b"")
+            problems = problems or stored_problems(here / "F", content)
+            problems += [] if road.since else ["nothing was lost"]
+        self.check("get --timeout 120, whose own datagrams are lost for 25 s while the server's arrive", problems)
