@@ -5,18 +5,20 @@
 
 PROGRAM is bin/chaosd by default. The plain program is built for the same processors (x86-64-v2). On loopback each figure is the
 least of several runs, taken in turn, with the start of the client and both flushes of the file. Then the same goes through a relay
-that hands each datagram on 20 milliseconds later, once, beside a script of `ask`, which has one command in flight. Where tftp-hpa or
-atftp is installed, its time for the same file on loopback stands beside that of `chaosd get`.
+that hands each datagram on 20 milliseconds later, once, beside a script of `ask`, which has one command in flight; and through relays
+that lose one datagram in a hundred, beside the same without loss, by the median of several runs. Where tftp-hpa or atftp is installed, its time for the same file on loopback stands beside that of `chaosd get`.
 """
 
 import contextlib
 import heapq
 import os
 import pathlib
+import random
 import select
 import shutil
 import signal
 import socket
+import statistics
 import subprocess
 import sys
 import tempfile
@@ -33,6 +35,8 @@ FILE_LIMIT = 1_048_576
 FILE_DATA = 448
 DELAY = 0.020
 WISHED_RATIO = 1.2
+# Where datagrams are lost: their share, the seconds each way, the runs, and how much longer than without loss a copy may take.
+LOST, DELAYS, LOSSY_RUNS, LOSSY_RATIO = 0.01, [0.005, 0.020], 5, 3
 # what a script of `ask` reads of the file where datagrams are late: an eighth, for patience's sake
 SHARE = 8
 
@@ -49,10 +53,11 @@ def free_ports(count):
 
 
 class Relay(threading.Thread):
-    """A network between two ports that hands each datagram on a while later."""
+    """A network between two ports that hands each datagram on a while later, and loses such a share of them by a seed."""
 
-    def __init__(self, ends):
+    def __init__(self, ends, delay=DELAY, lost=0.0, seed=1981):
         super().__init__(daemon=True)
+        self.delay, self.lost, self.chance = delay, lost, random.Random(seed)
         self.socket = socket.socket(socket.AF_INET, socket.SOCK_DGRAM)
         self.socket.bind(("127.0.0.1", 0))
         self.port = self.socket.getsockname()[1]
@@ -66,21 +71,22 @@ class Relay(threading.Thread):
                 if select.select([self.socket], [], [], wait)[0]:
                     datagram, (_, port) = self.socket.recvfrom(2_048)
                     count += 1
-                    heapq.heappush(late, (time.monotonic() + DELAY, count, datagram, self.other.get(port, 9)))
+                    if self.chance.random() >= self.lost:
+                        heapq.heappush(late, (time.monotonic() + self.delay, count, datagram, self.other.get(port, 9)))
                 while late and late[0][0] <= time.monotonic():
                     _, _, datagram, port = heapq.heappop(late)
                     self.socket.sendto(datagram, ("127.0.0.1", port))
 
 
 class Pair:
-    """A server on a folder, and the words of its client; between them a relay, where one is wished."""
+    """A server on a folder, and the words of its client; between them a relay, where one is wished, of these manners."""
 
-    def __init__(self, program, folder, relayed=False, options=()):
+    def __init__(self, program, folder, relayed=False, options=(), **manners):
         self.program = program
         self.folder = pathlib.Path(folder)
         self.folder.mkdir()
         server, client = free_ports(2)
-        self.relay = Relay((server, client)) if relayed else None
+        self.relay = Relay((server, client), **manners) if relayed else None
         seen = self.relay.port if relayed else None
         if self.relay:
             self.relay.start()
@@ -152,6 +158,32 @@ def bench_delay(programs, folder, content):
         pair.end()
 
 
+def timed(program, folder, way, content, options, **manners):
+    """The seconds that a copy takes, with a server and a relay of its own."""
+    with tempfile.TemporaryDirectory(dir=folder) as place:
+        pair, here = Pair(program, f"{place}/kept", relayed=True, options=options, **manners), pathlib.Path(place, "here")
+        here.mkdir()
+        source, target = (here, pair.folder) if way == "put" else (pair.folder, here)
+        (source / "FILE").write_bytes(content)
+        spent = pair.copied(way, here)
+        pair.end()
+        assert (target / "FILE").read_bytes() == content, f"{way}: the file differs"
+    return spent
+
+
+def bench_losses(programs, folder, content):
+    """What a loss costs where the server sends again after twice the round trip, as its operator is told to say."""
+    for delay in DELAYS:
+        options = ["--window", "64", "--retransmit", str(max(20, round(4_000 * delay)))]
+        for way in ["put", "get"]:
+            spent = {}
+            for lost in [LOST, 0]:
+                runs = [timed(programs["chaosd"], folder, way, content, options, delay=delay, lost=lost, seed=n) for n in range(LOSSY_RUNS)]
+                spent[lost] = statistics.median(runs)
+            name, ratio = f"{way}, {LOST:.0%} lost, {delay * 1000:.0f} ms each way", spent[LOST] / spent[0]
+            print(f"{name}: chaosd {spent[LOST]:.2f} s, without loss {spent[0]:.2f} s, ratio {ratio:.2f} (wish: {LOSSY_RATIO})")
+
+
 def bench_tftp(programs, folder, content):
     """The same file by other programs, as far as they are installed, in turn with `chaosd get`, which has 64 commands in flight:
     tftp-hpa with blocks of 512 bytes in lock step, atftp with a window of 32 of them. Neither flushes what it wrote to the disk."""
@@ -211,7 +243,7 @@ def main():
         plain = folder / "plain_loop"
         subprocess.run(["rustc", "--edition=2021", "-O", "-C", "target-cpu=x86-64-v2", "-o", plain, HERE / "plain_loop.rs"], check=True)
         programs = {"chaosd": program, "plain": plain}
-        for bench in [bench_loopback, bench_delay, bench_tftp]:
+        for bench in [bench_loopback, bench_delay, bench_losses, bench_tftp]:
             bench(programs, folder, content)
 
 

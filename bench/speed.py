@@ -26,9 +26,9 @@ LOG = ROOT / "out/bench.log"
 OF_PROGRAM = ["show", "lab", "loop", "copy", "calls", "stack"]
 OF_LIBRARIES = ["codec", "links", "window", "host", "file", "turn"]
 
-# what a line of a bench may compare: `NAME: OURS, plain Rust THEIRS, ratio RATIO`
+# what a line of a bench may compare: `NAME: OURS, plain Rust THEIRS, ratio RATIO`, or with loss and without
 TIME = r"(?P<{}>[\d.]+ (?:ns|us|ms|s))(?: a \w+)?(?:, [\d.]+ MB/s)?"
-TIMED = re.compile(rf"(?P<name>.+?): (?:chaosd )?{TIME.format('ours')}, plain Rust {TIME.format('theirs')}, ratio (?P<ratio>[\d.]+)")
+TIMED = re.compile(rf"(?P<name>.+?): (?:chaosd )?{TIME.format('ours')}, (?:plain Rust|without loss) {TIME.format('theirs')}, ratio (?P<ratio>[\d.]+)")
 COUNTED = re.compile(r"(?P<name>.+): (?:chaosd )?\d+ .*instructions.*, plain Rust .*, ratio (?P<ratio>[\d.]+)")
 
 
@@ -155,7 +155,17 @@ FILES = {
         Row("a get", "get, 20 ms each way, 13 commands in flight"),
     ],
 }
-TABLES = {"libraries": LIBRARIES, "program": PROGRAM, "files": FILES}
+LOSSES = {
+    "copy": [
+        Row("a put of 1 MiB, 5 ms each way", "put, 1% lost, 5 ms each way", 3),
+        Row("a get", "get, 1% lost, 5 ms each way", 3),
+        Row("a put of 1 MiB, 20 ms each way", "put, 1% lost, 20 ms each way", 3),
+        Row("a get", "get, 1% lost, 20 ms each way", 3),
+    ],
+}
+TABLES = {"libraries": LIBRARIES, "program": PROGRAM, "files": FILES, "losses": LOSSES}
+# what the times of a table are of
+PAIRS = {"losses": "with 1% lost/without loss"}
 
 
 @dataclasses.dataclass
@@ -204,9 +214,9 @@ def both(ours, theirs):
     return f"{number}/{other:.{len(number.partition('.')[2])}f} {unit}"
 
 
-def table_of(benches, figures):
+def table_of(benches, figures, pair="here/plain Rust"):
     """A table of these rows, as a document has it."""
-    lines = ["What|here/plain Rust|ratio|aim|instructions|`make bench-`", "---|---|---|---|---|---"]
+    lines = [f"What|{pair}|ratio|aim|instructions|`make bench-`", "---|---|---|---|---|---"]
     for bench, rows in benches.items():
         for row in rows:
             ours, theirs, ratio = figures.timed[row.line]
@@ -230,7 +240,8 @@ def missed(figures):
 
 def written(text, figures):
     """The document with its tables as the figures have them."""
-    parts = {name: table_of(benches, figures) for name, benches in TABLES.items()} | {"missed": missed(figures)}
+    parts = {name: table_of(benches, figures, PAIRS.get(name, "here/plain Rust")) for name, benches in TABLES.items()}
+    parts["missed"] = missed(figures)
     for name, part in parts.items():
         begin, end = f"<!-- {name}: written by make bench -->\n", f"<!-- end of {name} -->"
         if text.count(begin) != 1 or text.count(end) != 1:
