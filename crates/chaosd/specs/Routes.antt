@@ -1,6 +1,11 @@
 -- How a line's client calls its server.
-use Rattle.std.specs.Prelude.{◌≡◌, Option}
+use Rattle.std.specs.Prelude.{◌≡◌, ℕ, if◌then◌else◌, is_some, List, Option}
+use Rattle.chaos_link.specs.Peers.{socket_of}
+use Rattle.chaos_link.specs.declared.peers.Peer.{Peer}
 use Rattle.chaosd.specs.Config.{config_by}
+use Rattle.chaosd.specs.declared.asking.TheConstants.{USUAL_WINDOW}
+use Rattle.chaosd_file.specs.declared.limits.TheConstants.{NOBODY}
+use Rattle.chaosd_line.specs.declared.line.Ask.{Ask}
 use Rattle.chaosd_line.specs.declared.line.Calling.{Calling}
 use Rattle.file_client.specs.declared.route.Route.{Route}
 use Rattle.file_client.specs.declared.trip.RoundTrip.{RoundTrip}
@@ -14,3 +19,14 @@ pub record IsRouteOf (calling : Calling) (route : Route) : Type 0 where
   pub carriage : route.carriage ≡ calling.carriage
   pub trip : Option RoundTrip
   pub config : route.config ≡ config_by calling.window (retransmit_of trip)
+
+-- the host that `ask` asks: this one where it is a peer, else one that nobody has
+abbrev pub asked_host : ℕ → List Peer → ℕ
+asked_host to peers = if is_some (socket_of to peers) then to else NOBODY
+
+-- from the host of an `ask` to the host that it asks, by its carriage; what is kept is sent again after the time that the line gives
+pub record IsAskedBy (line : Ask) (route : Route) : Type 0 where
+  pub me : route.me ≡ line.address
+  pub to : route.to ≡ asked_host line.to line.peers
+  pub carriage : route.carriage ≡ line.carriage
+  pub config : route.config ≡ config_by USUAL_WINDOW line.retransmit

@@ -1,5 +1,8 @@
 //! The run of `ask`.
-ghost use Rattle.std.specs.Prelude.{◌<◌, ◌≡◌};
+ghost use Rattle.std.specs.Prelude.{◌<◌, ◌≡◌, unwrap_or};
+ghost use Rattle.chaos_link.specs.Peers.{socket_of};
+ghost use Rattle.chaosd.specs.Patience.{patience_by};
+ghost use Rattle.chaosd.specs.Routes.{IsAskedBy, asked_host};
 
 use crate::client::patience_of;
 use crate::config::config_of;
@@ -27,8 +30,10 @@ use std::time::Clock;
 /// The packets of the windows of `ask`.
 const USUAL_WINDOW: u16 = 13;
 
-/// The host that is asked: this one where it is a peer. Of one that is none nothing can be asked, which is told.
-fn asked_host<R: Eprint>(rt: &R, to: u16, peers: &Peers) -> u16 {
+/// The host that is asked: this one where it is a peer, else a host that nobody has, which is reported.
+fn asked_host<R: Eprint>(rt: &R, to: u16, peers: &Peers) -> u16
+    ensures { result ≡ asked_host to peers.now }
+{
     if peers.find(to).is_some() {
         return to;
     }
@@ -79,12 +84,6 @@ fn ask_over<R: AllocGlobal + Clock + Eprint + Input + Print, L: Link>(
     ask_through(rt, link, asked, typing, &notes, &mut reader, &mut writer)
 }
 
-/// A run that begins now, by the clock, with this patience.
-fn timing_of<R: Clock>(rt: &R, patience: Patience) -> Result<Timing, RunFault> {
-    let epoch = Epoch::new(rt)?;
-    Ok(Timing { epoch, patience })
-}
-
 /// Puts the reader's script over the link, and its replies into the writer.
 fn ask_through<'a, R: AllocGlobal + Clock + Eprint, L: Link, I: Read, W: Write>(
     rt: &'a R,
@@ -98,8 +97,9 @@ fn ask_through<'a, R: AllocGlobal + Clock + Eprint, L: Link, I: Read, W: Write>(
     let mut typed = Typed::new(rt, reader, typing, notes, asked.is_strict);
     let mut replies = Replies::new(writer, notes);
     let mut why = None;
-    let end = match timing_of(rt, asked.patience) {
-        Ok(timing) => run_ask_by::<ByLook, R, Typed<'a, R, I>, Replies<'a, W>, L>(
+    let patience = asked.patience;
+    let end = match Epoch::new(rt) {
+        Ok(epoch) => run_ask_by::<ByLook, R, Typed<'a, R, I>, Replies<'a, W>, L>(
             rt,
             rt.alloc(),
             &mut typed,
@@ -107,7 +107,7 @@ fn ask_through<'a, R: AllocGlobal + Clock + Eprint, L: Link, I: Read, W: Write>(
             link,
             &mut why,
             &asked.route,
-            timing,
+            Timing { epoch, patience },
         ),
         Err(fault) => Err(fault),
     };
@@ -157,8 +157,15 @@ fn strict_status(status: ExitStatus, was_error: bool) -> ExitStatus {
     }
 }
 
-/// Who is asked by this line. A host that can't be asked is told.
-fn asked_of<R: Eprint>(rt: &R, line: &Ask) -> Asked {
+/// Who is asked by this line. A host that can't be asked is reported.
+fn asked_of<R: Eprint>(rt: &R, line: &Ask) -> Asked
+    ensures route { IsAskedBy line.now result.route }
+    ensures patience { result.patience ≡ patience_by line.now.timeout }
+    ensures is_strict { result.is_strict ≡ line.now.is_strict }
+    ensures socket { result.socket ≡ line.now.socket }
+    ensures server { result.server.address ≡ result.route.to }
+    ensures server_socket { result.server.socket ≡ unwrap_or (socket_of result.route.to line.now.peers) line.now.socket }
+{
     let to = asked_host(rt, line.to, &line.peers);
     Asked {
         route: Route {

@@ -1,5 +1,6 @@
 //! How a client calls: its numbers, its times, and how long it waits.
 ghost use Rattle.std.specs.Prelude.{◌≡◌, ◌<◌, IfOk};
+ghost use Rattle.chaosd.specs.Patience.{patience_by};
 ghost use Rattle.chaosd.specs.Routes.{IsRouteOf};
 
 use crate::config::config_of;
@@ -17,7 +18,9 @@ use std::io::Read;
 const RANDOM: &str = "/dev/urandom";
 
 /// How long a client waits for a reply: so many seconds by the clock, or as long as usual.
-pub(crate) fn patience_of(seconds: Option<u16>) -> Patience {
+pub(crate) fn patience_of(seconds: Option<u16>) -> Patience
+    ensures { result ≡ patience_by seconds }
+{
     match seconds {
         Some(seconds) => Patience::Millis(u64::from(seconds) * 1_000),
         None => Patience::usual(),
@@ -45,7 +48,9 @@ fn epoch_of<R: Dial + Files<File = File>>(rt: &R) -> Result<Epoch, RunFault> {
 pub(crate) fn timing_of<R: Dial + Files<File = File>>(
     rt: &R,
     calling: &Calling<'_>,
-) -> Result<Timing, RunFault> {
+) -> Result<Timing, RunFault>
+    ensures { IfOk result (λ timing. timing.patience ≡ patience_by calling.now.timeout) }
+{
     Ok(Timing {
         epoch: epoch_of(rt)?,
         patience: patience_of(calling.timeout),

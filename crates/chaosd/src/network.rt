@@ -1,4 +1,7 @@
 //! The links of clients over sockets, and the run of `loop`.
+ghost use Rattle.std.specs.Prelude.{◌≡◌};
+ghost use Rattle.chaosd.specs.Hearing.{alone_heard};
+
 use crate::peer_socket::PeerSocket;
 use crate::run_ends::{tell_script, tell_unopened};
 use chaos_link::{Carriage, Peer, Peers, UdpLink};
@@ -20,8 +23,10 @@ pub(crate) fn link_to_server<'a, R: Eprint + Net>(
     Ok(link_to(PeerSocket::new(rt, bound, heard), calling.server))
 }
 
-/// The UDP address that a client hears alone: its server's, but where anybody is to be heard.
-pub(crate) fn heard_alone(server: Peer, hears_anybody: bool) -> Option<SocketAddrV4> {
+/// The UDP address that a client hears alone: its server's. Where anybody is to be heard, there is none.
+pub(crate) fn heard_alone(server: Peer, hears_anybody: bool) -> Option<SocketAddrV4>
+    ensures { result ≡ alone_heard server hears_anybody }
+{
     if hears_anybody {
         None
     } else {

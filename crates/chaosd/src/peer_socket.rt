@@ -1,4 +1,7 @@
 //! A client's socket, which hears its server alone.
+ghost use Rattle.std.specs.Prelude.{◌↔◌, IsTrue};
+ghost use Rattle.chaosd.specs.Hearing.{IsHeard};
+
 use chaos_link::{DatagramSocket, LINK_ROOM, is_gone};
 use chaosd_log::SourceSocket;
 use std::io;
@@ -6,9 +9,9 @@ use std::io::ErrorKind;
 use std::net::{SocketAddr, SocketAddrV4, UdpSocket};
 use std::time::Duration;
 
-/// A client's socket. It drops a datagram that comes from another UDP address than its server's, as if none had come; so who can
-/// only guess what a client expects, and can't send from the server's address, gets nothing into it. It reports why the system's
-/// socket is no longer one. It asks the inner socket exactly what it is asked.
+/// A client's socket. It drops a datagram that comes from another UDP address than its server's, as if none had come: an attacker who
+/// can't send from the server's address has nothing received, whatever the attacker guesses. Where the system's socket is gone, it
+/// reports why. It asks the inner socket exactly what it is asked.
 #[derive(Drop)]
 pub(crate) struct PeerSocket<'a, R, S = UdpSocket> {
     rt: &'a R,
@@ -22,12 +25,14 @@ impl<'a, R: Eprint, S> PeerSocket<'a, R, S> {
         PeerSocket { rt, inner, heard }
     }
 
-    /// Whether a datagram from there is dropped.
-    fn drops(&self, from: SocketAddr) -> bool {
+    /// Whether a datagram from there is taken.
+    fn hears(&self, from: SocketAddr) -> bool
+        ensures { IsTrue result ↔ IsHeard self.now.heard from }
+    {
         match (self.heard, from) {
-            (Some(heard), SocketAddr::V4(from)) => from != heard,
-            (Some(_), SocketAddr::V6(_)) => true,
-            (None, _) => false,
+            (None, _) => true,
+            (Some(heard), SocketAddr::V4(from)) => from == heard,
+            (Some(_), SocketAddr::V6(_)) => false,
         }
     }
 
@@ -54,8 +59,8 @@ impl<R: Eprint, S: SourceSocket> DatagramSocket for PeerSocket<'_, R, S> {
 
     fn receive_datagram(&mut self, buffer: &mut [u8; LINK_ROOM]) -> io::Result<usize> {
         match self.inner.receive_with_source(buffer) {
-            Ok((_, from)) if self.drops(from) => Err(io::Error::from(ErrorKind::WouldBlock)),
-            Ok((count, _)) => Ok(count),
+            Ok((count, from)) if self.hears(from) => Ok(count),
+            Ok(_) => Err(io::Error::from(ErrorKind::WouldBlock)),
             Err(error) => {
                 self.report("receiving", &error);
                 Err(error)

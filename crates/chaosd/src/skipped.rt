@@ -1,57 +1,79 @@
 //! Files that a line names by words that are no text.
+ghost use Rattle.std.specs.Prelude.{◌≡◌, ◌==◌, IfErr, IfOk, None, OnErr, OnOk, Some, length, not, option_map};
+ghost use Rattle.chaosd.specs.Skipped.{first_elsewhere, has_work, is_marked, is_text_of, names_of, stands_once, unmarked};
+ghost use Rattle.chaosd.specs.declared.words.WordsFault.TheVariants.{NotText};
+
 use crate::words::{Mark, WordsFault};
 use chaosd_line::Line;
 
-/// Whether a name is a mark's.
-fn is_marked(name: &str, marks: &[Mark]) -> bool {
-    marks.iter().any(|mark| mark.text.as_str() == name)
+/// Whether a name is a mark's text.
+fn is_text_of(mark: &Mark, name: &str) -> bool
+    ensures { result ≡ is_text_of mark.now name.now }
+{
+    name == mark.text.as_str()
+}
+
+/// Whether a name is the text of one of the marks.
+fn is_marked(marks: &[Mark], name: &str) -> bool
+    ensures { result ≡ is_marked marks.now name.now }
+{
+    marks.iter().any(|mark| is_text_of(mark, name))
+}
+
+/// Whether a mark is the text of one name and of no other.
+fn stands_once(names: &[&str], mark: &Mark) -> bool
+    ensures { result ≡ stands_once names.now mark.now }
+{
+    names.iter().filter(|name| is_text_of(mark, name)).count() == 1
 }
 
 /// The place of the first word that is no text and names none of these files. A name that a user gave may be like a mark: then it isn't
 /// known which of the two is meant.
-fn first_elsewhere(names: &[&str], marks: &[Mark]) -> Option<usize> {
+fn first_elsewhere(names: &[&str], marks: &[Mark]) -> Option<usize>
+    ensures { result ≡ first_elsewhere names.now marks.now }
+{
     marks
         .iter()
-        .find(|mark| names
-            .iter()
-            .filter(|name| **name == mark.text.as_str())
-            .count()
-            != 1)
+        .find(|mark| !stands_once(names, mark))
         .map(|mark| mark.place)
 }
 
-/// Takes out of these names each that is a mark.
-fn skip<'a>(names: &mut Vec<&'a str>, marks: &[Mark]) -> Result<(), WordsFault> {
+/// Takes out of these names each that is a mark. The answer is whether a name is left.
+///
+/// # Errors
+/// The place of the first mark that isn't one of these names. They then stay as they were.
+fn skip<'a>(names: &mut Vec<&'a str>, marks: &[Mark]) -> Result<bool, WordsFault>
+    ensures names { OnOk result (names.new.items ≡ unmarked marks.now names.old.items) }
+    ensures left { IfOk result (λ is_left. is_left ≡ not (length names.new.items == 0)) }
+    ensures known { OnOk result (first_elsewhere names.old.items marks.now ≡ None) }
+    ensures fault { IfErr result (λ fault. option_map NotText (first_elsewhere names.old.items marks.now) ≡ Some fault) }
+    ensures unchanged { OnErr result (names.new ≡ names.old) }
+{
     if let Some(place) = first_elsewhere(names.as_slice(), marks) {
         return Err(WordsFault::NotText(place));
     }
-    names.retain(|name| !is_marked(name, marks));
-    Ok(())
-}
-
-/// The files that a line names by words of any number.
-fn names_mut<'l, 'a>(line: &'l mut Line<'a>) -> Option<&'l mut Vec<&'a str>> {
-    match line {
-        Line::Get(get) => Some(&mut get.paths),
-        Line::Put(put) => Some(&mut put.locals),
-        Line::Delete(delete) => Some(&mut delete.paths),
-        _ => None,
-    }
+    names.retain(|name| !is_marked(marks, name));
+    Ok(!names.is_empty())
 }
 
 /// Leaves out of a line the files that words name which are no text. The answer is whether the line has something left to do.
 ///
 /// # Errors
-/// Where such a word stands elsewhere.
-pub(crate) fn skip_marked(line: &mut Line<'_>, marks: &[Mark]) -> Result<bool, WordsFault> {
-    let Some(first) = marks.first() else {
-        return Ok(true);
-    };
-    match names_mut(line) {
-        Some(names) => {
-            skip(names, marks)?;
-            Ok(!names.is_empty())
-        }
-        None => Err(WordsFault::NotText(first.place)),
+/// The place of the first such word that names none of the line's files. The line then stays as it was.
+pub(crate) fn skip_marked(line: &mut Line<'_>, marks: &[Mark]) -> Result<bool, WordsFault>
+    ensures names { OnOk result (names_of line.new ≡ unmarked marks.now (names_of line.old)) }
+    ensures left { IfOk result (λ is_left. is_left ≡ has_work line.new) }
+    ensures known { OnOk result (first_elsewhere (names_of line.old) marks.now ≡ None) }
+    ensures fault { IfErr result (λ fault. option_map NotText (first_elsewhere (names_of line.old) marks.now) ≡ Some fault) }
+    ensures unchanged { OnErr result (names_of line.new ≡ names_of line.old) }
+{
+    match line {
+        Line::Get(get) => skip(&mut get.paths, marks),
+        Line::Put(put) => skip(&mut put.locals, marks),
+        Line::Delete(delete) => skip(&mut delete.paths, marks),
+        _ => match marks.first() {
+            None => Ok(true),
+            Some(first) => Err(WordsFault::NotText(first.place)),
+        },
     }
 }
