@@ -117,7 +117,7 @@ class Guesses(Case):
             problems = [] if len(seen) == RUNS else [f"{len(seen)} requests came"]
             problems += [] if len(parts) >= 8 else [f"the numbers of {seen} are a clock's"]
             problems += [] if len(high) >= 12 else [f"the indices of {seen} are alike"]
-            self.check(f"{command}: {RUNS} runs ask from numbers and indices that no clock tells", problems)
+            self.check(f"{command}: {RUNS} runs ask from numbers and indices that no clock gives", problems)
 
 
 class Reflector(Case):
@@ -130,7 +130,7 @@ class Reflector(Case):
 
     def forge(self, server, forger):
         """Asks for 16 connections in the name of the peer, and for a file over each, as one who hears no answer: by indices that he knows,
-        since they are told here, and without any acknowledgement."""
+        since they are given here, and without any acknowledgement."""
         victim = socket.socket(socket.AF_INET, socket.SOCK_DGRAM)
         victim.bind(("127.0.0.1", server.peers[0]))
         victim.settimeout(LONG)

@@ -407,7 +407,7 @@ class Held(Case):
     seconds = 6
 
     def gone_problems(self, server, here):
-        """What differs from a store fault of each command, told in the log, with nothing left in what has the folder's name."""
+        """What differs from a store fault of each command, with a line of the log and nothing left in what has the folder's name."""
         (here / "A").write_bytes(b"new")
         gone = f": the folder is no longer at {server.folder}\n".encode()
         before = sorted(os.listdir(server.folder)) if server.folder.is_dir() else None

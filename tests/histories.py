@@ -58,7 +58,7 @@ class World:
         call = time.monotonic()
         process = copying(self.roads[client], kind, *words, options=options, peer=client, stdin=subprocess.PIPE)
         ended = finished(process, content.encode() if kind == "put" else b"", patience)
-        return Operation(call, time.monotonic(), kind, tuple(names), content, told(kind, ended))
+        return Operation(call, time.monotonic(), kind, tuple(names), content, response_of(kind, ended))
 
     def work(self, client):
         """Operations of a client, one behind another."""
@@ -87,12 +87,12 @@ class World:
         for group in self.histories:
             for letter in "AB":
                 path, now = self.server.folder / f"{group}{letter}", time.monotonic()
-                told = path.read_text() if path.is_file() else NO_FILE
-                self.note(Operation(now, time.monotonic(), "get", (path.name,), None, told))
+                response = path.read_text() if path.is_file() else NO_FILE
+                self.note(Operation(now, time.monotonic(), "get", (path.name,), None, response))
 
 
-def told(kind, ended):
-    """What an operation told that ended so."""
+def response_of(kind, ended):
+    """The response of an operation whose process ended so."""
     if ended.status == 0:
         return ended.out.decode(errors="replace") if kind == "get" else DONE
     if b": FNF " in ended.err:

@@ -1,5 +1,5 @@
 """Whether a history of files is linearizable: whether its operations could have happened one behind another, each at one moment between
-its call and its return, so that each told what it told (the search of Wing and Gong, with a memory of what was tried).
+its call and its return, with the responses that they had (the search of Wing and Gong, with a memory of what was tried).
 
 An operation of which the end isn't known may have happened at any moment behind its call, or not at all.
 """
@@ -10,23 +10,23 @@ import random
 
 from tests.support import Checking
 
-# What operations tell, beside the content that a get tells.
+# The responses of operations, beside the content that a get returns.
 DONE, NO_FILE, EXISTS, UNKNOWN = "done", "no such file", "file exists", "unknown"
 
 
 @dataclasses.dataclass(frozen=True)
 class Operation:
-    """An operation on files, with the moments of its call and its return, and what it told."""
+    """An operation on files, with the moments of its call and its return, and its response."""
 
     call: float
     back: float
     kind: str
     names: tuple
     content: str | None
-    told: str
+    response: str
 
     def is_known(self):
-        return self.told != UNKNOWN
+        return self.response != UNKNOWN
 
     def end(self):
         """The moment by which it happened."""
@@ -34,7 +34,7 @@ class Operation:
 
 
 def happen(operation, files):
-    """What an operation tells that happens now, and the files behind it. Files are pairs of a name and a content."""
+    """The response of an operation that happens now, and the files behind it. Files are pairs of a name and a content."""
     held = dict(files)
     name, content = operation.names[0], operation.content
     if operation.kind == "put":
@@ -58,8 +58,8 @@ def next_of(history, left, files):
     for place in sorted(left, key=lambda place: history[place].end(), reverse=True):
         operation = history[place]
         if operation.call <= end:
-            told, behind = happen(operation, files)
-            if told == operation.told or not operation.is_known() and behind != files:
+            response, behind = happen(operation, files)
+            if response == operation.response or not operation.is_known() and behind != files:
                 yield place, behind
 
 
@@ -85,20 +85,20 @@ def unexplained(history, files=frozenset()):
 # Histories that are typed by hand: operations of a kind, with the moments of their calls and returns.
 
 
-def put(call, back, content, name="A", told=DONE):
-    return Operation(call, back, "put", (name,), content, told)
+def put(call, back, content, name="A", response=DONE):
+    return Operation(call, back, "put", (name,), content, response)
 
 
-def get(call, back, told, name="A"):
-    return Operation(call, back, "get", (name,), None, told)
+def get(call, back, response, name="A"):
+    return Operation(call, back, "get", (name,), None, response)
 
 
-def delete(call, back, told=DONE, name="A"):
-    return Operation(call, back, "delete", (name,), None, told)
+def delete(call, back, response=DONE, name="A"):
+    return Operation(call, back, "delete", (name,), None, response)
 
 
-def rename(call, back, told=DONE, names=("A", "B")):
-    return Operation(call, back, "rename", names, None, told)
+def rename(call, back, response=DONE, names=("A", "B")):
+    return Operation(call, back, "rename", names, None, response)
 
 
 GOOD = {
@@ -107,8 +107,8 @@ GOOD = {
     "a get beside a put sees it": [put(0, 9, "1"), get(1, 2, "1"), get(3, 4, "1")],
     "a get beside a put doesn't see it yet": [put(0, 9, "1"), get(1, 2, NO_FILE), get(3, 4, "1")],
     "of two puts at once either is last": [put(0, 9, "1"), put(0, 9, "2"), get(10, 11, "1")],
-    "a put whose end isn't known is seen late": [put(0, 1, "1", told=UNKNOWN), get(2, 3, NO_FILE), get(4, 5, "1")],
-    "a put whose end isn't known never happened": [put(0, 1, "1", told=UNKNOWN), get(2, 3, NO_FILE), get(9, 10, NO_FILE)],
+    "a put whose end isn't known is seen late": [put(0, 1, "1", response=UNKNOWN), get(2, 3, NO_FILE), get(4, 5, "1")],
+    "a put whose end isn't known never happened": [put(0, 1, "1", response=UNKNOWN), get(2, 3, NO_FILE), get(9, 10, NO_FILE)],
     "a delete whose end isn't known": [put(0, 1, "1"), delete(2, 3, UNKNOWN), get(4, 5, "1"), get(6, 7, NO_FILE)],
     "a rename": [put(0, 1, "1"), rename(2, 3), get(4, 5, "1", "B"), get(4, 5, NO_FILE), rename(6, 7, NO_FILE)],
     "a rename onto a file": [put(0, 1, "1"), put(0, 1, "2", "B"), rename(2, 3, EXISTS), delete(4, 5, name="B"), rename(6, 7)],
@@ -121,7 +121,7 @@ BAD = {
     "an old content behind a new one": [put(0, 1, "1"), put(2, 3, "2"), get(4, 5, "1")],
     "a content before it was put": [get(0, 1, "1"), put(2, 3, "1")],
     "a new content and then the old one": [put(0, 1, "1"), put(2, 9, "2"), get(3, 4, "2"), get(5, 6, "1")],
-    "a put whose end isn't known is seen, and then what was before": [put(0, 1, "1"), put(2, 3, "2", told=UNKNOWN), get(4, 5, "2"), get(6, 7, "1")],
+    "a put whose end isn't known is seen, and then what was before": [put(0, 1, "1"), put(2, 3, "2", response=UNKNOWN), get(4, 5, "2"), get(6, 7, "1")],
     "one file is deleted twice": [put(0, 1, "1"), delete(2, 9), delete(2, 9)],
     "a file comes back": [put(0, 1, "1"), delete(2, 3), get(4, 5, "1")],
     "a file of two names": [put(0, 1, "1"), rename(2, 3), get(4, 5, "1"), get(4, 5, "1", "B")],
@@ -141,17 +141,17 @@ class Search(Checking):
         for name, history in BAD.items():
             self.check(name, [] if unexplained(history) else ["it was explained"])
 
-    def test_what_was_played_is_explained_and_one_get_that_tells_another_content_is_not(self):
+    def test_what_was_played_is_explained_and_one_get_that_returns_another_content_is_not(self):
         """Operations that happened at a moment each, with calls and returns around it, and some whose ends were forgotten."""
         chance, files, history = random.Random(1981), frozenset(), []
         for moment in range(160):
             kind = chance.choice(["put", "get", "delete", "rename"])
             names = ("A", "B") if chance.random() < 0.5 else ("B", "A")
             operation = Operation(moment - 5 * chance.random(), moment + 5 * chance.random(), kind, names, f"{moment}", UNKNOWN)
-            told, files = happen(operation, files)
+            response, files = happen(operation, files)
             is_forgotten = kind != "get" and moment % 20 == 0
-            history.append(operation if is_forgotten else dataclasses.replace(operation, told=told))
+            history.append(operation if is_forgotten else dataclasses.replace(operation, response=response))
         self.check("160 operations, up to 10 at a time", [str(operation) for operation in unexplained(history)])
-        place = next(place for place, it in enumerate(history) if place > 100 and it.kind == "get" and it.told != NO_FILE)
-        wrong = [*history[:place], dataclasses.replace(history[place], told="another"), *history[place + 1 :]]
-        self.check("one of them tells another content", [] if unexplained(wrong) else ["it was explained"])
+        place = next(place for place, it in enumerate(history) if place > 100 and it.kind == "get" and it.response != NO_FILE)
+        wrong = [*history[:place], dataclasses.replace(history[place], response="another"), *history[place + 1 :]]
+        self.check("one of them returns another content", [] if unexplained(wrong) else ["it was explained"])

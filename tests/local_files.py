@@ -116,7 +116,7 @@ class Sources(Case):
                 told = f"chaosd: can't open {kind}: it is a {kind}{hint}\n".encode()
                 problems = ended.problems(FAULT, b"", told) + stored_problems(server.folder / "G", b"g")
                 problems += ["it was put"] if (server.folder / kind).exists() else []
-                self.check(f"put of a {kind}: told, status 1, and the next is put", problems)
+                self.check(f"put of a {kind}: reported, status 1, and the next is put", problems)
             (here / "LINK").symlink_to("fifo")
             ended = copied(server, "put", "LINK", cwd=here)
             told = b"chaosd: can't open LINK: it is a fifo; - reads standard input\n"

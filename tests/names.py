@@ -147,17 +147,17 @@ class Words(Case):
             for name in ["B", "C"]:
                 problems += stored_problems(server.folder / name, name.encode())
                 (here / name).unlink()
-            self.check("put: told, the others are put, status 3", problems)
+            self.check("put: reported, the others are put, status 3", problems)
             ended = copied(server, "get", "B", BAD, "C", options=["--verbose"], cwd=here)
             problems = ended.problems(REFUSED, b"", [SKIPPED_WORD % 7]) + stored_problems(here / "C", b"C")
-            self.check("get: told, the others are got, status 3", problems)
+            self.check("get: reported, the others are got, status 3", problems)
             ended = copied(server, "delete", BAD, "C", cwd=here)
             problems = ended.problems(REFUSED, b"", SKIPPED_WORD % 5)
             problems += [] if [each.name for each in server.folder.iterdir()] == ["B"] else ["not only B is left"]
-            self.check("delete: told, the other is deleted, status 3", problems)
+            self.check("delete: reported, the other is deleted, status 3", problems)
             ended = copied(server, "put", BAD, options=["--as", "D"], cwd=here)
             problems = ended.problems(REFUSED, b"", SKIPPED_WORD % 7) + (["it is there"] if (server.folder / "D").exists() else [])
-            self.check("put of such a file alone: told, nothing is put, status 3", problems)
+            self.check("put of such a file alone: reported, nothing is put, status 3", problems)
 
     def test_elsewhere_such_a_word_is_a_bad_line_by_its_place(self):
         own, other = free_ports(2)
@@ -184,7 +184,7 @@ class Changes(Case):
             ended = copied(server, "delete", "NONE", "B", "A", cwd=here)
             problems = ended.problems(REFUSED, b"", NO_FILE % b"NONE" + NO_FILE % b"A")
             problems += [] if [each.name for each in server.folder.iterdir()] == ["C"] else ["not only C is left"]
-            self.check("delete of some that aren't there: told, the others are deleted, status 3", problems)
+            self.check("delete of some that aren't there: reported, the others are deleted, status 3", problems)
 
     def test_rename_moves_a_file_and_replaces_none(self):
         with serving() as server, folder() as here:

@@ -30,7 +30,7 @@ T  DELETE^NEW
 
 
 def ended(server, connections=0, last=None):
-    """All lines that a server tells, once it told of the end of so many connections and with this last line, and was ended."""
+    """All lines that a server logs, once it logged the end of so many connections and this last line, and was ended."""
     lines = []
     while len([line for line in lines if b" ends: " in line]) < connections or last and last.encode() + b"\n" not in lines:
         lines.append(line_of(server.process.stderr))
@@ -231,7 +231,7 @@ class Asking(Case):
     seconds = 6
 
     def told_to(self, address, wanted):
-        """The lines that a server of one peer tells of a client with this address, that asks several times from another socket and is
+        """The lines that a server of one peer logs of a client with this address, that asks several times from another socket and is
         not answered there; and what is wanted of it, by the two UDP addresses of the client and of the server's peer."""
         (other,) = free_ports(1)
         with serving() as server:

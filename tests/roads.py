@@ -74,7 +74,7 @@ class Again(Case):
     seconds = 20
 
     def wait_problems(self, subcommand, delay):
-        """A put's client measures how long that is, and a get's server was told so. Gives what is wrong."""
+        """A put's client measures how long that is, and a get's server has it by its option. Gives what is wrong."""
         content, names_client = mixed_content(200_000), subcommand == "put"
         told = ["--window", "64", "--retransmit", str(max(20, int(4_000 * delay)))]
         with serving(options=told) as server, road_before(server, make=Deaf, delay=delay) as road, folder() as here:

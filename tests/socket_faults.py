@@ -87,7 +87,7 @@ class Over(Failing):
         verb, reason = b"sending" if call == "sendto" else b"receiving", os.strerror(getattr(errno, name)).encode()
         told = [line for line in ended.err.splitlines() if verb in line and reason in line]
         problems = ended.problems(FAULT) + ([] if told else [f"no line says {verb} and {reason}: {ended.err!r}"])
-        self.check(f"{call} fails by {name} at {whose}: told, status 1", problems)
+        self.check(f"{call} fails by {name} at {whose}: reported, status 1", problems)
 
     def test_a_socket_that_is_none_ends_a_server(self):
         for call in ["sendto", "recvfrom"]:

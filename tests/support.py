@@ -256,7 +256,7 @@ class Serving:
         return self.line_with(b"chaosd: can't ")
 
     def line_with(self, piece):
-        """The next line that it tells with this piece, or the last that came in time."""
+        """The next line that it logs with this piece, or the last that came in time."""
         line = line_of(self.process.stderr)
         while line and piece not in line:
             line = line_of(self.process.stderr)

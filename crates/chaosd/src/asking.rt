@@ -61,7 +61,7 @@ struct Answered {
     has_error: bool,
 }
 
-/// Tells of each handle that was written and not closed: what was written to it became no file.
+/// Reports each handle that was written and not closed: what was written to it became no file.
 fn tell_written<R: Eprint>(rt: &R, handles: &[Name]) {
     for handle in handles {
         let name = Shown(handle.as_slice());
@@ -121,7 +121,7 @@ fn ask_through<'a, R: AllocGlobal + Clock + Eprint, L: Link, I: Read, W: Write>(
     }
 }
 
-/// Tells how a script ended, and gives the exit status.
+/// Reports how a script ended, and gives the exit status.
 fn end_asked<R: Clock + Eprint + Print>(
     rt: &R,
     asked: &Asked,
@@ -184,7 +184,7 @@ fn asked_of<R: Eprint>(rt: &R, line: &Ask) -> Asked
     }
 }
 
-/// Puts the script over a link, and tells how that ended.
+/// Puts the script over a link, and reports how that ended.
 fn ask_by_link<'r, R, L: Link + Drop>(
     rt: &'r R,
     mut link: L,
@@ -225,7 +225,7 @@ where
     }
 }
 
-/// Tells why a command of a script got no reply, and gives the exit status.
+/// Reports why a command of a script got no reply, and gives the exit status.
 fn end_unanswered<R: Eprint>(
     rt: &R,
     end: &Result<ScriptEnd, RunFault>,
@@ -235,7 +235,7 @@ fn end_unanswered<R: Eprint>(
     end_script(rt, end, &None)
 }
 
-/// Tells that nobody listens where the server is to be, so that the first command gets no reply, and gives the exit status.
+/// Reports that nobody listens where the server is to be, so that the first command gets no reply, and gives the exit status.
 fn end_refused<R: Eprint + Print>(rt: &R, server: Peer) -> ExitStatus {
     let _ = eprintln!(rt; "chaosd: no server listens at {}", server.socket);
     match println!(rt; "no reply") {

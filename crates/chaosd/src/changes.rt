@@ -12,7 +12,7 @@ use std::fmt::Display;
 use std::fs::{File, Files};
 use std::net::Net;
 
-/// Whoever tells of changes: of one that was made nothing.
+/// Reports changes: nothing of a change that was made.
 fn words_of<'a, R: Eprint>(rt: &'a R) -> FileWords<'a, 'static, R> {
     FileWords {
         rt,

@@ -1,4 +1,4 @@
-//! What a user is told of the connections of `serve`.
+//! Reports the connections of `serve`.
 ghost use Rattle.std.specs.Prelude.{None};
 
 use chaos_conn::End;
@@ -7,7 +7,7 @@ use file_client::Shown;
 use file_server::{Ending, Log};
 use std::time::Clock;
 
-/// Tells of each connection that opens and of each that ends, but of hosts that are no peers, since they aren't answered.
+/// Reports each connection that opens and each that ends, but no host that isn't a peer, since such a host isn't answered.
 #[derive(Drop)]
 pub(crate) struct Connections<'a, R>(pub(crate) &'a Journal<'a, R>);
 

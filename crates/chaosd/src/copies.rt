@@ -20,7 +20,7 @@ use std::rt::Files;
 /// The name of standard input.
 const STREAM: &str = "-";
 
-/// Whether a user is told of each file that was copied.
+/// Whether each file that was copied is reported.
 fn is_told(copying: &Copying<'_>, is_terminal: bool) -> bool {
     copying.is_verbose || (is_terminal && !copying.is_quiet)
 }

@@ -1,4 +1,4 @@
-//! What a user is told of each file.
+//! Reports what came of each file.
 ghost use Rattle.std.specs.Prelude.{None};
 
 use chaos_file::{MAX_FILE, MAX_PATH, PrintedName, Reply};
@@ -7,22 +7,22 @@ use file_client::Shown;
 use std::fmt::{Display, Formatter};
 use std::{fmt, io};
 
-/// Tells on standard error what came of each file.
+/// Reports on standard error what came of each file.
 #[derive(Drop)]
 pub(crate) struct FileWords<'a, 't, R: Eprint> {
     pub(crate) rt: &'a R,
-    /// Whether a file that was copied is told.
+    /// Whether a file that was copied is reported.
     pub(crate) is_told: bool,
     /// Where files go that are got.
     pub(crate) target: Target<'t>,
-    /// What is told of a file where it isn't known whether it was done with it what was asked for.
+    /// The report of a file where nobody knows whether what was asked for was done.
     pub(crate) unknown: &'static str,
 }
 
-/// What is told of a put whose end isn't known.
+/// The report of a put whose end isn't known.
 pub(crate) const PUT_UNKNOWN: &str = "whether it was put isn't known, since its CLOSE got no reply";
 
-/// What is told of a change whose end isn't known.
+/// The report of a change whose end isn't known.
 pub(crate) const CHANGE_UNKNOWN: &str = "whether that was done isn't known";
 
 /// A digest in hexadecimal.
@@ -38,7 +38,7 @@ impl Display for Hexadecimal {
     }
 }
 
-/// Tells that a file was copied whole.
+/// Reports that a file was copied whole.
 fn told_copied<R: Eprint>(rt: &R, name: PrintedName<'_>, contents: &Contents) -> io::Result<()> {
     let size = contents.size;
     match contents.digest {
@@ -47,7 +47,7 @@ fn told_copied<R: Eprint>(rt: &R, name: PrintedName<'_>, contents: &Contents) ->
     }
 }
 
-/// Tells that a text has a byte that would not come back, and where the first stands.
+/// Reports that a text has a byte that would not come back, and where the first stands.
 fn told_lost<R: Eprint>(rt: &R, name: PrintedName<'_>, lost: &Lost) -> io::Result<()> {
     let Lost { byte, line, place } = *lost;
     eprintln!(rt;
@@ -55,40 +55,40 @@ fn told_lost<R: Eprint>(rt: &R, name: PrintedName<'_>, lost: &Lost) -> io::Resul
     )
 }
 
-/// Tells that FILE doesn't take a local file's name.
+/// Reports that FILE doesn't take a local file's name.
 fn told_unnamed<R: Eprint>(rt: &R, name: PrintedName<'_>) -> io::Result<()> {
     eprintln!(rt;
         "chaosd: {name}: skipped, since its name is no path of FILE (1 to {MAX_PATH} letters, digits, dots, hyphens and underscores, no dot in front); --as or --rename gives it one"
     )
 }
 
-/// Tells what became of a file that was not done, in words behind its name.
+/// Reports what became of a file that was not done, in words behind its name.
 fn told_missed<R: Eprint, D: Display>(rt: &R, name: PrintedName<'_>, what: &D) -> io::Result<()> {
     eprintln!(rt; "chaosd: {name}: {what}")
 }
 
-/// Tells that the server sent what is no answer.
+/// Reports that the server sent what is no answer.
 fn told_strange<R: Eprint>(rt: &R, name: PrintedName<'_>, reply: &Reply) -> io::Result<()> {
     let text = Shown(reply.as_slice());
     eprintln!(rt; "chaosd: {name}: not an answer of FILE: {text}")
 }
 
-/// Tells that a file, here or there, is longer than FILE allows.
+/// Reports that a file, here or there, is longer than FILE allows.
 fn told_big<R: Eprint>(rt: &R, name: PrintedName<'_>) -> io::Result<()> {
     eprintln!(rt; "chaosd: {name} has more than {MAX_FILE} bytes")
 }
 
-/// Tells that the path of a file is longer than FILE allows.
+/// Reports that the path of a file is longer than FILE allows.
 fn told_long<R: Eprint>(rt: &R, name: PrintedName<'_>) -> io::Result<()> {
     eprintln!(rt; "chaosd: {name}: a path of FILE has at most {MAX_PATH} bytes")
 }
 
-/// Tells that a local file could not be opened.
+/// Reports that a local file could not be opened.
 fn told_unread<R: Eprint>(rt: &R, name: PrintedName<'_>, fault: &io::Error) -> io::Result<()> {
     eprintln!(rt; "chaosd: can't open {name}: {fault}")
 }
 
-/// Tells that a local file could not be written.
+/// Reports that a local file could not be written.
 fn told_unwritten<R: Eprint>(
     rt: &R,
     target: Target<'_>,

@@ -50,7 +50,7 @@ use std::process::ExitCode;
 use std::rt::Env;
 use std::time::Clock;
 
-/// Does what the line asks for. On terminals more is told. The answer is the exit status.
+/// Does what the line asks for. On terminals more is reported. The answer is the exit status.
 ///
 /// No run is inlined here, so that none takes the stack of all.
 fn run_line<R>(rt: &R, line: Line<'_>, terminals: Terminals) -> ExitStatus
@@ -72,7 +72,7 @@ where
 }
 
 /// Shows help on standard output, or the mistake in the line on standard error. That it could not
-/// be written is told on standard error.
+/// be written is reported on standard error.
 fn refuse<R: Print + Eprint>(rt: &R, error: &Error) -> ExitStatus {
     let is_shown = error.print(rt).is_ok();
     if !is_shown {
@@ -81,13 +81,13 @@ fn refuse<R: Print + Eprint>(rt: &R, error: &Error) -> ExitStatus {
     refused_status(LineFault::from(error.kind()), is_shown)
 }
 
-/// Tells why the line can't be had. The answer is the status.
+/// Reports why the line can't be had. The answer is the status.
 fn tell_unread<R: Eprint>(rt: &R, fault: WordsFault) -> ExitStatus {
     let _ = eprintln!(rt; "chaosd: {fault}");
     fault.status()
 }
 
-/// Does what the line asks for, but for the files that are named by words which are no text: each is told. The answer is the exit status.
+/// Does what the line asks for. It skips and reports the files that are named by words which are no text. The answer is the exit status.
 fn run_readable<R>(rt: &R, line: Line<'_>, marks: &[Mark], terminals: Terminals) -> ExitStatus
 where
     R: AllocGlobal + Clock + Eprint + Files<File = File> + Input + Net + Print,

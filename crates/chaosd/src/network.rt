@@ -71,7 +71,7 @@ pub(crate) fn has_input<R: Input>(rt: &R) -> bool {
     rt.reader().read(&mut []).is_ok()
 }
 
-/// Tells how a script ended, and gives the exit status.
+/// Reports how a script ended, and gives the exit status.
 pub(crate) fn end_script<R: Eprint>(
     rt: &R,
     end: &Result<ScriptEnd, RunFault>,

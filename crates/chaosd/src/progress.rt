@@ -11,7 +11,7 @@ pub(crate) struct ProgressLine<'a, R: Eprint> {
     name: String,
     /// Whether the user is shown anything: standard error is a terminal, and nobody wants quiet.
     is_shown: bool,
-    /// Whether nothing but mistakes is told.
+    /// Whether nothing but mistakes is reported.
     is_quiet: bool,
 }
 

@@ -1,4 +1,4 @@
-//! What a user is told on standard error of a run that ended, or that could not begin.
+//! Reports on standard error how a run ended, or why it could not begin.
 ghost use Rattle.std.specs.Prelude.{◌≡◌, ◌⊎◌};
 ghost use Rattle.chaosd_copies.specs.Status.{status_of_fault};
 
@@ -8,7 +8,7 @@ use chaosd_io::RunFault;
 use std::fmt::Display;
 use std::io;
 
-/// Tells the fault that a run ended by, where there was one. That a line of a script is bad is told in words of its own, without
+/// Reports the fault that a run ended by, where there was one. A bad line of a script is reported in words of its own, without
 /// the program's name.
 pub(crate) fn tell_end<R: Eprint, T>(rt: &R, end: &Result<T, RunFault>) {
     if let Err(fault) = end {
@@ -19,7 +19,7 @@ pub(crate) fn tell_end<R: Eprint, T>(rt: &R, end: &Result<T, RunFault>) {
     }
 }
 
-/// Tells how a run over a script ended: as [`tell_end`] does, and what is wrong with a bad line, and why a command got no reply.
+/// Reports how a run over a script ended: as [`tell_end`] does, and what is wrong with a bad line, and why a command got no reply.
 pub(crate) fn tell_script<R: Eprint>(rt: &R, end: &Result<ScriptEnd, RunFault>, why: &Option<Why>) {
     let _ = match (end, why) {
         (Err(fault @ RunFault::BadScript(_)), Some(Why::BadLine(bad))) => {
@@ -33,7 +33,7 @@ pub(crate) fn tell_script<R: Eprint>(rt: &R, end: &Result<ScriptEnd, RunFault>, 
     };
 }
 
-/// Tells what could not be opened, and why. The answer is the status of a program that ends by it.
+/// Reports what could not be opened, and why. The answer is the status of a program that ends by it.
 pub(crate) fn tell_unopened<R: Eprint, D: Display>(
     rt: &R,
     what: &D,
@@ -49,7 +49,7 @@ pub(crate) fn tell_unopened<R: Eprint, D: Display>(
     ExitStatus::Fault
 }
 
-/// Tells the fault by which a run over files could not begin. The answer is its status.
+/// Reports the fault by which a run over files could not begin. The answer is its status.
 pub(crate) fn tell_unbegun<R: Eprint>(rt: &R, fault: RunFault) -> ExitStatus
     ensures { result ≡ status_of_fault fault }
 {

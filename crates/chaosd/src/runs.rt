@@ -22,7 +22,7 @@ pub(crate) fn run_show_line<R: Input + Print + Eprint>(rt: &R, is_file: bool) ->
     ExitStatus::of_run(end.map(|tally| tally.refused == 0))
 }
 
-/// Tells how a run over a laboratory's script ended: as [`tell_end`] does, and what is wrong with a bad line.
+/// Reports how a run over a laboratory's script ended: as [`tell_end`] does, and what is wrong with a bad line.
 fn tell_lab<R: Eprint, I: Read, T>(
     rt: &R,
     end: &Result<T, RunFault>,

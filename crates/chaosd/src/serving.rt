@@ -41,7 +41,7 @@ fn listed(peers: &Peers) -> ArrayVec<Peer, MAX_PEERS> {
     list
 }
 
-/// How much the log tells.
+/// How much is logged.
 fn level_of(is_quiet: bool, log: LogLevel) -> Level {
     match log {
         _ if is_quiet => Level::Quiet,
@@ -66,7 +66,7 @@ fn make_turns<R: AllocGlobal + Clock + Eprint, L: Link, S: Store>(
     run_serve_by(&mut moments, rt.alloc(), link, store, options, &mut log)
 }
 
-/// Serves a store, and tells how that ended.
+/// Serves a store, and reports how that ended.
 fn serve<R: AllocGlobal + Clock + Eprint, L: Link, S: Store>(
     rt: &R,
     options: ServeOptions,
@@ -82,7 +82,7 @@ fn serve<R: AllocGlobal + Clock + Eprint, L: Link, S: Store>(
     ExitStatus::of_run(end.map(|()| true))
 }
 
-/// Tells that a service's turns are over, or the fault that it ended by.
+/// Reports that a service's turns are over, or the fault that it ended by.
 fn tell_served<R: Clock + Eprint>(
     journal: &Journal<'_, R>,
     end: &Result<(), RunFault>,

@@ -10,7 +10,7 @@ const INPUT: &str = "/dev/stdin";
 pub(crate) struct Terminals {
     /// Whether standard input is one: then somebody types.
     pub(crate) input: bool,
-    /// Whether standard error is one: then more is told on it.
+    /// Whether standard error is one: then more is reported on it.
     pub(crate) errors: bool,
 }
 

@@ -20,8 +20,8 @@ pub(crate) struct Typing {
     pub(crate) terminal: Option<File>,
 }
 
-/// A script that is read from standard input. On a terminal it asks for each line by a prompt, and leaves out one that stands for no
-/// command, which is told. Where a run is to end by its first error, it gives a line at a time, and none behind an error. It can be asked
+/// A script that is read from standard input. On a terminal it asks for each line by a prompt, and leaves out and reports a line that
+/// stands for no command. Where a run is to end by its first error, it gives a line at a time, and none behind an error. It can be asked
 /// whether a line was typed.
 #[derive(Drop)]
 pub(crate) struct Typed<'a, R: Eprint, I: Read> {
@@ -30,7 +30,7 @@ pub(crate) struct Typed<'a, R: Eprint, I: Read> {
     typing: Typing,
     notes: &'a Notes,
     is_strict: bool,
-    /// Whether somebody types, and is told more.
+    /// Whether somebody types, and more is reported.
     is_typed: bool,
     chunk: [u8; CHUNK],
     /// What of the chunk came, and was given.
@@ -99,7 +99,7 @@ impl<'a, R: Eprint, I: Read> Typed<'a, R, I> {
         let _ = eprint!(self.rt; "> ");
     }
 
-    /// Whether the line of this length that is given next is left out, which is told.
+    /// Whether the line of this length that is given next is left out, which is reported.
     fn is_left_out(&self, length: usize) -> bool
         requires { self.now.given + length ≤ self.now.came }
     {

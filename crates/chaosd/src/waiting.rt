@@ -1,4 +1,4 @@
-//! A client that waits for a server, and what it tells of that.
+//! A client that waits for a server, and what it reports of that.
 use chaos_link::{DatagramSocket, LINK_ROOM, Peer};
 use std::cell::Cell;
 use std::io;
@@ -6,7 +6,7 @@ use std::io::ErrorKind;
 use std::net::{Ipv4Addr, Net, SocketAddr, SocketAddrV4, UdpSocket};
 use std::time::{Clock, Duration};
 
-/// After so many milliseconds without an answer a user is told whom the client waits for.
+/// After so many milliseconds without an answer a client reports whom it waits for.
 const TOLD_AFTER: u64 = 1_000;
 
 /// After so many the system is asked whether anybody listens there, and then again each time that as many have passed.
@@ -41,7 +41,7 @@ impl Wait {
     };
 }
 
-/// A client's wait for a server, up to its first answer. After a second it is told, where that is wanted.
+/// A client's wait for a server, up to its first answer. After a second the wait is reported, where a user asked for more.
 ///
 /// The system says of a connected UDP socket alone that nobody listens where it sends to. A client's own socket isn't connected, since
 /// a server of several addresses may answer from another one; so a second socket, the probe, is. By it an empty datagram, which no host

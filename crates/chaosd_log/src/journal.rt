@@ -87,7 +87,7 @@ impl<'a, R: Clock + Eprint> Journal<'a, R> {
         let _ = self.is_logged(matter, line);
     }
 
-    /// Logs a line as [`Journal::tell`] does, and says whether the line was written.
+    /// Logs a line as [`Journal::tell`] does. The answer is whether the line was written.
     fn is_logged<D: Display>(&self, matter: Matter, line: &D) -> bool {
         if !self.level.is_told(matter) {
             return false;

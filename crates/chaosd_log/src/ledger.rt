@@ -110,7 +110,7 @@ impl Ledger {
         asking
     }
 
-    /// The line about where this host asks from was left out: the next datagram from there is to be told of again.
+    /// The line about where this host asks from was left out: the next datagram from there is reported again.
     pub fn forget_told(&mut self, address: u16)
         ensures { self.new ≡ untold_of address self.old }
     {

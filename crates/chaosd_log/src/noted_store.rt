@@ -12,7 +12,7 @@ use std::alloc::Global;
 use std::fs::{File, Files};
 
 /// The store of a folder, of which note is taken: what each call did, why a request failed, and what the system said where the system
-/// refused a call, which the reply to a command can't tell.
+/// refused a call, which the reply to a command does not say.
 #[derive(Drop)]
 pub struct NotedStore<'a, R: Files<File = File>, N> {
     inner: DirStore<&'a R>,

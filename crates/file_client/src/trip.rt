@@ -118,7 +118,7 @@ impl Train {
 }
 
 /// Measures the round trip to the route's server: 16 requests for a contact that nobody serves leave at once, and each is refused. What
-/// the answers of a train spread tells how fast packets go one behind the other. `None` where no answer comes within a second.
+/// the answers of a train spread shows how fast packets go one behind the other. `None` where no answer comes within a second.
 ///
 /// # Errors
 /// `NoMemory`, `LinkFault` and `ClockFault`.
@@ -128,7 +128,7 @@ pub fn round_trip<T: Turns>(
     route: &Route,
 ) -> Result<Option<RoundTrip>, RunFault>
     requires { 0 < route.now.me }
-    // What is measured lies between moments that the turns told.
+    // What is measured lies between moments that the clock showed.
     ensures trip { IfOk result (λ trip. IfSome trip (IsTripBetween (T.pace (T.time turns.old)))) }
     ensures unfailed { OnOk result (T.failures turns.new ≤ T.failures turns.old) }
     ensures faults { IfErr result (λ fault. (fault ≡ RunFault.NoMemory) ⊎ IsTurnFault (T.stops (T.time turns.old)) (T.failures turns.new) fault) }

@@ -20,7 +20,7 @@ pub trait Turns: Drop {
 
     ghost time: { Self → Time };
 
-    /// The moments that it may tell, the numbers that connections begin with, and how long an OPN and a reply are waited for.
+    /// The moments that it may show, the numbers that connections begin with, and how long an OPN and a reply are waited for.
     ghost pace: { Time → Pace };
 
     /// The moment that it stands at, where it counts its turns and asks no clock.

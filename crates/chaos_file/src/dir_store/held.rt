@@ -10,7 +10,7 @@ use std::{fs, io};
 /// The system's folder of names that lead to what this process has open, each by its descriptor's number.
 const DESCRIPTORS: &str = "/proc/self/fd";
 
-/// By which the system tells one folder from another. No other folder has the same while this folder is open.
+/// What distinguishes one folder from another. No other folder has the same while this folder is open.
 #[derive(Clone, Copy, PartialEq, Eq)]
 struct Identity {
     device: u64,
