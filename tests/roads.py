@@ -116,7 +116,8 @@ class Losing(Case):
                     (source / "F").write_bytes(content)
                     (target / "F").unlink(missing_ok=True)
                     with road_before(server, delay=delay, lost=0.01) as road:
-                        problems = copied(road, subcommand, "F", cwd=here).problems(DONE, b"", b"")
+                        # on a busy machine the road may hold packets for longer than a reply is usually waited for
+                        problems = copied(road, subcommand, "F", options=["--timeout", "600"], cwd=here).problems(DONE, b"", b"")
                     problems = problems or stored_problems(target / "F", content)
                     problems += [] if road.lost > 10 else [f"of {road.count} datagrams {road.lost} were lost"]
                     self.check(f"{subcommand}, {delay * 1_000:.0f} ms each way, 1% lost", problems)
