@@ -10,6 +10,7 @@ import shutil
 import subprocess
 import sys
 import tempfile
+import time
 import unittest
 
 from edits import Edit, Span
@@ -114,6 +115,15 @@ wrong = [number for number, line in enumerate(lines, 1) if "WRONG" in line] + [6
 for number in wrong:
     print(f"note: src/lib.rt:{number}:5: it is not proved that what the function ensures holds")
 print("logic=not-proved" if wrong else "logic=proved functions=4")
+"""
+
+
+SLOW_RT = """#!/usr/bin/env python3
+import pathlib
+import time
+
+(pathlib.Path(__file__).parent / "asked").touch()
+time.sleep(600)
 """
 
 
@@ -291,6 +301,35 @@ class Refused(Example):
         (self.top / "crates/high/wrong-bodies/one.edit").unlink()
         self.tried()
         self.assertNotIn("high one ", (self.top / "docs/wrong-bodies.sums").read_text())
+
+
+class SideBySide(Example):
+    """Wrong bodies of two crates."""
+
+    names = ("one", "two")
+
+    def setUp(self):
+        super().setUp()
+        (self.top / "crates/low/wrong-bodies").mkdir()
+        (self.top / "crates/low/wrong-bodies/lower.edit").write_text("file: src/lib.rt\nold:     n + 1\nnew:     WRONG\n")
+
+    def test_those_of_both_are_tried_and_noted(self):
+        status, lines, _ = self.tried()
+        self.assertEqual((0, "3 passed, 0 failed"), (status, lines[-1]))
+        kept = (self.top / "docs/wrong-bodies.sums").read_text()
+        self.assertEqual(["high one", "high two", "low lower"], [" ".join(it.split()[:2]) for it in kept.split("\n") if it])
+
+    def test_a_run_that_is_ended_ends_its_checks_and_removes_its_copies(self):
+        (self.top / "rt").write_text(SLOW_RT)
+        (self.top / "rooms").mkdir()
+        how = {"env": {**os.environ, "RT": str(self.top / "rt"), "TMPDIR": str(self.top / "rooms")}, "stdout": subprocess.PIPE}
+        with subprocess.Popen([sys.executable, self.top / "tools/wrong-bodies"], **how) as ran:
+            while not (self.top / "asked").exists():
+                time.sleep(0.01)
+            ran.terminate()
+            ran.communicate(timeout=60)
+        self.assertEqual(143, ran.returncode)
+        self.assertEqual([], list((self.top / "rooms").iterdir()))
 
 
 class Unread(Example):

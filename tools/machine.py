@@ -1,0 +1,34 @@
+"""What this machine has: how many proofs go on it side by side."""
+
+import os
+import pathlib
+import re
+
+# what one proof takes of memory at most, as measured of these crates
+PROOF_BYTES = 2_500_000_000
+
+
+def free_bytes():
+    """The free memory of the machine, or less by the limit of the control group."""
+    found = [1024 * int(re.search(r"MemAvailable:\s+(\d+)", pathlib.Path("/proc/meminfo").read_text())[1])]
+    try:
+        limit = int(pathlib.Path("/sys/fs/cgroup/memory.max").read_text())
+        held = re.search(r"anon (\d+)", pathlib.Path("/sys/fs/cgroup/memory.stat").read_text())
+        found.append(limit - int(held[1]))
+    except (OSError, ValueError, TypeError):
+        pass
+    return min(found)
+
+
+def proof_bytes():
+    """The memory that proofs may take."""
+    return 0.85 * free_bytes()
+
+
+def processors():
+    return len(os.sched_getaffinity(0))
+
+
+def lanes():
+    """How many proofs have a processor and memory: one at least."""
+    return max(1, min(processors(), int(proof_bytes() / PROOF_BYTES)))
