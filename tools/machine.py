@@ -4,7 +4,8 @@ import os
 import pathlib
 import re
 
-# what one proof takes of memory at most, as measured of these crates
+# What a proof takes of memory at most, as measured of these crates, but for that of chaosd, which takes 5.4 GB. Most take half as much, so
+# that there is room for it beside others.
 PROOF_BYTES = 2_500_000_000
 
 
