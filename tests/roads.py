@@ -65,7 +65,7 @@ class Deaf(Road):
 
 
 # How long a machine may be too busy to measure a round trip, in seconds.
-BUSY = 600
+BUSY = 1_800
 
 
 class Again(Case):
