@@ -78,6 +78,7 @@ class WordsOfLisp(Case):
         bad = [["get", *good], ["get", *good, "A/B"], ["get", *good, "A", "A"], ["get", *good, ".A"], ["put", *good, "a/X", "b/X"]]
         bad += [["get", "--output", "X", *good, "A", "B"], ["put", "--as", "X", *good, "A", "B"], ["get", "--window", "65", *good, "A"]]
         bad += [["get", "8", *good[1:], "A"], ["get", "402", "127.0.0.1:09002", good[2], "A"], ["get", *good[:2], "401", "A"], ["nonsense"]]
+        bad += [["get", "--timeout", "0", *good, "A"], ["put", "--timeout", "3601", *good, "A"], ["serve", "--timeout", "5", *good[:2], "F"]]
         bad += [["get", "--carriage", "3", *good, "A"], ["serve", *good[:2]], ["get", "--login", "A-B", *good, "A"], ["get", "--loud", *good, "A"]]
         problems = []
         for words in bad:
@@ -278,7 +279,7 @@ class Sixteen:
         with serving(self.server, peers=16) as (host, here):
             for n in range(16):
                 (host.folder / f"F{n}").write_bytes(content_of(30_000 + n))
-            running = [begun(self.client, ["get", *host.words(n), f"F{n}"], cwd=here) for n in range(16)]
+            running = [begun(self.client, ["get", "--timeout", "600", *host.words(n), f"F{n}"], cwd=here) for n in range(16)]
             problems = []
             for n, process in enumerate(running):
                 problems += finished(process).problems(DONE, b"", b"") + stored_problems(here / f"F{n}", content_of(30_000 + n))

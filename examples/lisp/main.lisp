@@ -6,14 +6,15 @@
 Usage: chaosd.lisp serve [OPTIONS] ADDRESS UDP FOLDER [PEER ...]
        chaosd.lisp get   [OPTIONS] ADDRESS UDP SERVER PATH ...
        chaosd.lisp put   [OPTIONS] ADDRESS UDP SERVER LOCAL ...
-Options: --carriage N, --window N, --quiet; --turns N of serve; --login NAME and --text of get and
-put; --output LOCAL of get and --as PATH of put. They mean what they mean to chaosd.
+Options: --carriage N, --window N, --quiet; --turns N of serve; --login NAME, --text and
+--timeout SECONDS of get and put, which else wait 15 seconds for a reply; --output LOCAL of get and
+--as PATH of put. They mean what they mean to chaosd.
 ")
 
 (defparameter *options*
   '(("serve" "--carriage" "--window" "--quiet" "--turns")
-    ("get" "--carriage" "--window" "--quiet" "--login" "--text" "--output")
-    ("put" "--carriage" "--window" "--quiet" "--login" "--text" "--as")))
+    ("get" "--carriage" "--window" "--quiet" "--login" "--text" "--timeout" "--output")
+    ("put" "--carriage" "--window" "--quiet" "--login" "--text" "--timeout" "--as")))
 
 (defun parse-line (subcommand words)
   "The options of a line as a list of (name . word), and its other words."
@@ -93,6 +94,10 @@ put; --output LOCAL of get and --as PATH of put. They mean what they mean to cha
     (let* ((output (option "--output" options))
            (as (option "--as" options))
            (login (option "--login" options "CHAOSD"))
+           (timeout (option "--timeout" options))
+           (*patience* (if timeout
+                           (* 1000 (number-word timeout 1 3600 "1 to 3600"))
+                           *patience*))
            (paths (cond (as (list as))
                         ((eq copy 'get-one) names)
                         (t (mapcar #'last-name (substitute "" "-" names :test #'string=))))))
