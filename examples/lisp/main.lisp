@@ -6,9 +6,8 @@
 Usage: chaosd.lisp serve [OPTIONS] ADDRESS UDP FOLDER [PEER ...]
        chaosd.lisp get   [OPTIONS] ADDRESS UDP SERVER PATH ...
        chaosd.lisp put   [OPTIONS] ADDRESS UDP SERVER LOCAL ...
-Options: --carriage N, --window N, --quiet; --turns N of serve; --login NAME, --text and
---timeout SECONDS of get and put, which else wait 15 seconds for a reply; --output LOCAL of get and
---as PATH of put. They mean what they mean to chaosd.
+Options: --carriage N, --window N, --quiet; --turns N of serve; --login NAME, --text and --timeout N
+of get and put (15 seconds); --output LOCAL of get; --as PATH of put. They mean what chaosd's mean.
 ")
 
 (defparameter *options*
@@ -91,13 +90,9 @@ Options: --carriage N, --window N, --quiet; --turns N of serve; --login NAME, --
   "GET-ONE or PUT-ONE of all files that WORDS name."
   (destructuring-bind (&optional address place server &rest names) words
     (unless names (wanted (format nil "~{~a~^ ~}" words) "ADDRESS UDP SERVER and a file"))
-    (let* ((output (option "--output" options))
-           (as (option "--as" options))
+    (let* ((output (option "--output" options)) (as (option "--as" options))
            (login (option "--login" options "CHAOSD"))
-           (timeout (option "--timeout" options))
-           (*patience* (if timeout
-                           (* 1000 (number-word timeout 1 3600 "1 to 3600"))
-                           *patience*))
+           (*patience* (* 1000 (number-word (option "--timeout" options "15") 1 3600 "1 to 3600")))
            (paths (cond (as (list as))
                         ((eq copy 'get-one) names)
                         (t (mapcar #'last-name (substitute "" "-" names :test #'string=))))))
