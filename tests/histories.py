@@ -1,7 +1,7 @@
 """Tests that `chaosd` keeps files as if every operation happened at one moment: several clients over roads that lose, repeat and reorder,
 which are killed, and a server that is killed and begins again. The history of the files is searched for an order that explains it.
 
-HISTORY_SECONDS says for how long, in place of a minute; HISTORY_SEED the seed of all chance, which is printed.
+HISTORY_SECONDS says for how long at least, in place of a minute; HISTORY_SEED the seed of all chance, which is printed.
 """
 
 import contextlib
@@ -25,7 +25,7 @@ GROUP = 40
 KILLED, KILLED_WITHIN = 8, 0.33
 # The server lives for so many seconds.
 LIVES = (2, 8)
-# Fewer operations that were done are no test.
+# Fewer operations that were done are no test: where a machine is busy it goes on until there are so many, for as long as LONG more.
 LEAST_DONE = 20
 
 
@@ -35,8 +35,12 @@ class World:
     def __init__(self, server, roads):
         self.server, self.roads = server, roads
         self.end = time.monotonic() + SECONDS
-        self.noting, self.begun, self.deaths = threading.Lock(), 0, 0
+        self.noting, self.begun, self.done, self.deaths = threading.Lock(), 0, 0, 0
         self.histories, self.faults = {}, []
+
+    def left(self):
+        """The seconds until it ends: none where time is over and enough was done."""
+        return self.end + (LONG if self.done < LEAST_DONE else 0) - time.monotonic()
 
     def names(self):
         """The two files of the operation that begins now."""
@@ -46,6 +50,7 @@ class World:
 
     def note(self, operation):
         with self.noting:
+            self.done += operation.is_known()
             self.histories.setdefault(operation.names[0][:-1], []).append(operation)
 
     def run(self, client, kind, names, content, patience):
@@ -63,7 +68,7 @@ class World:
     def work(self, client):
         """Operations of a client, one behind another."""
         chance, count = random.Random(f"{SEED} {client}"), 0
-        while time.monotonic() < self.end:
+        while self.left() > 0:
             count += 1
             kind = chance.choice(["put"] * 3 + ["get"] * 3 + ["delete", "rename"])
             first, second = chance.sample(self.names(), 2)
@@ -76,7 +81,7 @@ class World:
     def kill(self):
         """Kills the server again and again, and lets it begin again."""
         chance = random.Random(f"{SEED} server")
-        while (left := self.end - time.monotonic()) > 0:
+        while (left := self.left()) > 0:
             time.sleep(min(left, chance.uniform(*LIVES)))
             self.server.end()
             self.server.begin()
