@@ -3,10 +3,9 @@ use Rattle.std.proofs.Common.{◌≡◌, ℕ, ◌-◌, ◌==◌, Bool, true, fal
 use Rattle.std.proofs.lemmas.List.{append-nil}
 use Rattle.std.proofs.lemmas.Bool.Decides.{nat_tests}
 use Rattle.std.specs.declared.net.socket_addr.SocketAddrV4.{SocketAddrV4}
-use Rattle.chaos_link.specs.declared.peers.Peer.{Peer}
 use Rattle.chaos_link.specs.Fuse.{FuseView, after_blow, after_pass, asked_behind, left_after, without_one}
 use Rattle.chaos_link.specs.Link.{Addressed, Ask, AskedSince, Asks, Receive, Send}
-use Rattle.chaos_link.specs.Peers.{socket_of}
+use Rattle.chaos_link.specs.Peers.{PeersView, socket_of}
 use Rattle.chaos_link.specs.Udp.{AsksSocket, Outgoing, ReceiveOne, SendTo, SocketAsk, UdpView, Wait, WaitAtMost, datagrams_in, outgoing_of, outgoing_to}
 
 pub asks_none : {S A : Type 0} (a : AskedSince S A) → Asks a a []
@@ -103,7 +102,7 @@ datagrams_both (ReceiveOne ∷ xs) ys = datagrams_both xs ys
 datagrams_both (WaitAtMost nanos ∷ xs) ys = datagrams_both xs ys
 datagrams_both (Wait waits ∷ xs) ys = datagrams_both xs ys
 
-outgoing_both : (peers : List Peer) (xs ys : List Ask)
+outgoing_both : (peers : PeersView) (xs ys : List Ask)
     → outgoing_of peers (xs ++ ys) ≡ outgoing_of peers xs ++ outgoing_of peers ys
 outgoing_both peers [] ys = refl
 outgoing_both peers (Send datagram ∷ xs) ys =
@@ -127,7 +126,7 @@ module _ {S : Type 0} (asked : S → S → List SocketAsk → Type 0) (old new i
       outgoing =
           datagrams_both was.socket_asks asks ∙ ap (λ (ds : List Outgoing). ds ++ datagrams_in asks) was.outgoing
           ∙ ap (λ (ds : List Outgoing). outgoing_of first.peers before ++ ds)
-          (goes ∙ ap (λ (ps : List Peer). outgoing_of ps (ask ∷ [])) was.peers)
+          (goes ∙ ap (λ (ps : PeersView). outgoing_of ps (ask ∷ [])) was.peers)
           ∙ sym (outgoing_both first.peers before (ask ∷ []));
     };
   }

@@ -1,13 +1,23 @@
 -- What is known of peers.
 use Rattle.std.specs.Prelude.{◌≡◌, ◌==◌, ℕ, List, Option, option_map, find}
 use Rattle.std.specs.List.{Any}
+use Rattle.std.specs.Option.{option_or}
 use Rattle.std.specs.declared.net.socket_addr.SocketAddrV4.{SocketAddrV4}
 use Rattle.chaos_link.specs.declared.peers.Peer.{Peer}
 
--- A peer has this address.
-abbrev pub IsKnown : ℕ → List Peer → Type 0
-IsKnown address peers = Any (λ peer. peer.address ≡ address) peers
+-- the hosts that have an entry, and the UDP address of the bridge to all other hosts, where there is one
+pub record PeersView : Type 0 where
+  pub hosts : List Peer
+  pub bridge : Option SocketAddrV4
 
--- the socket of the peer with this address, where there is one
-abbrev pub socket_of : ℕ → List Peer → Option SocketAddrV4
-socket_of address peers = option_map (λ peer. peer.socket) (find (λ peer. peer.address == address) peers)
+-- A host with an entry has this address.
+abbrev pub IsKnown : ℕ → List Peer → Type 0
+IsKnown address hosts = Any (λ host. host.address ≡ address) hosts
+
+-- the UDP address of the entry with this address, where there is one
+abbrev pub entry_of : ℕ → List Peer → Option SocketAddrV4
+entry_of address hosts = option_map (λ host. host.socket) (find (λ host. host.address == address) hosts)
+
+-- where datagrams for this address go: to its entry's UDP address, else to the bridge
+abbrev pub socket_of : ℕ → PeersView → Option SocketAddrV4
+socket_of address peers = option_or (entry_of address peers.hosts) peers.bridge

@@ -6,10 +6,9 @@ use Rattle.chaos_link.specs.declared.link.Sent.{Sent}
 use Rattle.chaos_link.specs.declared.link.Sent.TheVariants as sending
 use Rattle.chaos_link.specs.declared.link.Received.{Received}
 use Rattle.chaos_link.specs.declared.link.Received.TheVariants as receiving
-use Rattle.chaos_link.specs.declared.peers.Peer.{Peer}
 use Rattle.chaos_link.specs.declared.limits.TheConstants.{MAX_WAIT}
 use Rattle.chaos_link.specs.Link.{Ask, Send, Receive}
-use Rattle.chaos_link.specs.Peers.{socket_of}
+use Rattle.chaos_link.specs.Peers.{PeersView, socket_of}
 
 -- ---- The socket
 
@@ -37,7 +36,7 @@ datagrams_in (_ ∷ asks) = datagrams_in asks
 -- its socket and its peers, how many calls failed, and whether the last receive waited
 pub record UdpView (S : Type 0) : Type 0 where
   pub socket : S
-  pub peers : List Peer
+  pub peers : PeersView
   pub failures : ℕ
   pub waits : Option Bool
 
@@ -53,7 +52,7 @@ outgoing_to None bytes = []
 outgoing_to (Some to) bytes = record { to = to; bytes = bytes } ∷ []
 
 -- what goes out if a link with these peers is asked this: each datagram goes to the UDP address of its peer
-abbrev pub outgoing_of : List Peer → List Ask → List Outgoing
+abbrev pub outgoing_of : PeersView → List Ask → List Outgoing
 outgoing_of peers [] = []
 outgoing_of peers (Send datagram ∷ asks) =
     outgoing_to (socket_of datagram.to peers) datagram.bytes ++ outgoing_of peers asks

@@ -1,8 +1,8 @@
 //! Where the datagrams of each host go.
-ghost use Rattle.std.specs.Prelude.{◌≡◌, ◌++◌, ◌∷◌, [], ◌↔◌, ◌≤◌, ◌<◌, List, length, IsErrOf, OnOk, OnErr};
+ghost use Rattle.std.specs.Prelude.{◌≡◌, ◌++◌, ◌∷◌, [], ◌↔◌, ◌<◌, ◌≤◌, length, IsErrOf, None, OnOk, OnErr, Some};
 ghost use Rattle.std.specs.Net.Socket.{v4_port};
-ghost use Rattle.chaos_link.specs.Peers.{socket_of, IsKnown};
-ghost use Rattle.chaos_link.specs.declared.peers.Peer.{Peer};
+ghost use Rattle.chaos_link.specs.declared.limits.TheConstants.{MAX_PEERS};
+ghost use Rattle.chaos_link.specs.Peers.{entry_of, socket_of, IsKnown};
 
 use crate::fault::PeerFault;
 use crate::limits::MAX_PEERS;
@@ -29,39 +29,65 @@ impl Default for Peer {
     }
 }
 
-/// The hosts that a link reaches, each address once, at most [`MAX_PEERS`] of them. A contract sees them in the order of their coming.
-#[derive(Drop)]
+/// The hosts that a link reaches: each has an entry, at most [`MAX_PEERS`] of them, and each address one entry. All other hosts are
+/// reached through a bridge, where there is one. A contract sees the entries in the order of their coming, and the bridge.
+#[derive(Clone, Drop)]
 pub struct Peers {
     table: ArrayVec<Peer, MAX_PEERS>,
+    bridge: Option<SocketAddrV4>,
 }
 
 impl Model for Peers {
-    ghost use Rattle.std.specs.Prelude.{◌≤◌, List, length};
+    ghost use Rattle.std.specs.Prelude.{◌≤◌, length};
     ghost use Rattle.chaos_link.specs.declared.limits.TheConstants.{MAX_PEERS};
-    ghost use Rattle.chaos_link.specs.declared.peers.Peer.{Peer};
+    ghost use Rattle.chaos_link.specs.Peers.{PeersView};
 
-    ghost Value = { List Peer };
+    ghost Value = { PeersView };
 
-    ghost view = { λ peers. peers.table.items };
+    ghost view = { λ peers. record { hosts = peers.table.items; bridge = peers.bridge } };
 
     ghost invariant = { λ peers. length peers.table.items ≤ MAX_PEERS };
 }
 
 impl Peers {
-    /// No peers.
+    /// No peers, and no bridge.
     pub fn new() -> Self
-        ensures { result ≡ [] }
+        ensures { result ≡ record { hosts = []; bridge = None } }
     {
         Peers {
             table: ArrayVec::new(),
+            bridge: None,
         }
     }
 
-    /// Where datagrams for this Chaosnet address go, if a peer has it.
+    /// The entries, in the order of their coming.
+    pub fn hosts(&self) -> &[Peer]
+        ensures hosts { result.now ≡ self.now.hosts }
+        ensures few { length result.now ≤ MAX_PEERS }
+    {
+        self.table.as_slice()
+    }
+
+    /// The UDP address of the bridge to all hosts that have no entry.
+    pub fn bridge(&self) -> Option<SocketAddrV4>
+        ensures { result ≡ self.now.bridge }
+    {
+        self.bridge
+    }
+
+    /// Where datagrams for this Chaosnet address go: to the UDP address of the entry that has it, else to the bridge. Where there is
+    /// neither, they go nowhere.
     ///
-    /// One walk over the peers.
+    /// One walk over the entries.
     pub fn find(&self, address: u16) -> Option<SocketAddrV4>
         ensures { result ≡ socket_of address self.now }
+    {
+        self.entry(address).or(self.bridge)
+    }
+
+    /// The UDP address of the entry with this Chaosnet address, where there is one.
+    fn entry(&self, address: u16) -> Option<SocketAddrV4>
+        ensures { result ≡ entry_of address self.now.hosts }
     {
         self.table
             .iter()
@@ -72,12 +98,12 @@ impl Peers {
     /// Adds a peer.
     ///
     /// # Errors
-    /// A table that is full, else an address that a peer has already. The table then stays as it was.
+    /// A table that is full, else an address that an entry has already. The table then stays as it was.
     pub fn add(&mut self, peer: Peer) -> Result<(), PeerFault>
-        ensures ok { OnOk result (self.new ≡ self.old ++ peer ∷ []) }
+        ensures ok { OnOk result (self.new ≡ record self.old { hosts = self.old.hosts ++ peer ∷ [] }) }
         ensures err { OnErr result (self.new ≡ self.old) }
-        ensures too_many { IsErrOf result PeerFault.TooMany ↔ (length self.old ≡ MAX_PEERS) }
-        ensures already { IsErrOf result PeerFault.Already ↔ ((length self.old < MAX_PEERS) × IsKnown peer.address self.old) }
+        ensures too_many { IsErrOf result PeerFault.TooMany ↔ (length self.old.hosts ≡ MAX_PEERS) }
+        ensures already { IsErrOf result PeerFault.Already ↔ ((length self.old.hosts < MAX_PEERS) × IsKnown peer.address self.old.hosts) }
     {
         if self.table.is_full() {
             return Err(PeerFault::TooMany);
@@ -87,5 +113,12 @@ impl Peers {
         }
         self.table.push(peer);
         Ok(())
+    }
+
+    /// Sets the bridge. A bridge that was set before is replaced.
+    pub fn set_bridge(&mut self, socket: SocketAddrV4)
+        ensures { self.new ≡ record self.old { bridge = Some socket } }
+    {
+        self.bridge = Some(socket);
     }
 }

@@ -7,9 +7,8 @@ use Rattle.chaos_host.specs.View.{HostView}
 use Rattle.chaos_link.specs.declared.carriage.Carriage.{Carriage}
 use Rattle.chaos_link.specs.declared.carriage.Carriage.TheVariants.{One, Two}
 use Rattle.chaos_link.specs.Link.{Addressed, Ask, QueueView, Receive, to_send, without_first}
-use Rattle.chaos_link.specs.Peers.{socket_of}
+use Rattle.chaos_link.specs.Peers.{PeersView, socket_of}
 use Rattle.chaos_link.specs.Udp.{Outgoing, SocketAsk, outgoing_of, outgoing_to}
-use Rattle.chaos_link.specs.declared.peers.Peer.{Peer}
 use Rattle.chaos_link.specs.Packets.{packets_read}
 use Rattle.chaos_turn.specs.Arrive.{Arrival, arrival_from}
 use Rattle.chaos_turn.specs.Link.{datagrams_of, sent_by, sent_into}
@@ -131,7 +130,7 @@ turns_are_steps asked may_wait carriage start now before after result answer pos
 )
 
 -- a receive is asked to send nothing
-receipt_out : (peers : List Peer) (first last : List Addressed) (may_wait : Bool)
+receipt_out : (peers : PeersView) (first last : List Addressed) (may_wait : Bool)
     → outgoing_of peers (to_send first ++ Receive may_wait ∷ to_send last) ≡ outgoing_of peers (to_send (first ++ last))
 receipt_out peers [] last may_wait = refl
 receipt_out peers (d ∷ first) last may_wait =

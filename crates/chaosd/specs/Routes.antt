@@ -1,7 +1,6 @@
 -- How a line's client calls its server.
-use Rattle.std.specs.Prelude.{◌≡◌, ℕ, if◌then◌else◌, is_some, List, Option}
-use Rattle.chaos_link.specs.Peers.{socket_of}
-use Rattle.chaos_link.specs.declared.peers.Peer.{Peer}
+use Rattle.std.specs.Prelude.{◌≡◌, ℕ, if◌then◌else◌, is_some, Option}
+use Rattle.chaos_link.specs.Peers.{PeersView, socket_of}
 use Rattle.chaosd.specs.Config.{config_by}
 use Rattle.chaosd.specs.declared.asking.TheConstants.{USUAL_WINDOW}
 use Rattle.chaosd_file.specs.declared.limits.TheConstants.{NOBODY}
@@ -20,8 +19,8 @@ pub record IsRouteOf (calling : Calling) (route : Route) : Type 0 where
   pub trip : Option RoundTrip
   pub config : route.config ≡ config_by calling.window (retransmit_of trip)
 
--- the host that `ask` asks: this one where it is a peer, else one that nobody has
-abbrev pub asked_host : ℕ → List Peer → ℕ
+-- the host that `ask` asks: this one where it is a peer or there is a bridge, else one that nobody has
+abbrev pub asked_host : ℕ → PeersView → ℕ
 asked_host to peers = if is_some (socket_of to peers) then to else NOBODY
 
 -- from the host of an `ask` to the host that it asks, by its carriage; what is kept is sent again after the time that the line gives

@@ -30,7 +30,7 @@ use std::time::Clock;
 /// The packets of the windows of `ask`.
 const USUAL_WINDOW: u16 = 13;
 
-/// The host that is asked: this one where it is a peer, else a host that nobody has, which is reported.
+/// The host that is asked: this one where it is a peer or there is a bridge, else a host that nobody has, which is reported.
 fn asked_host<R: Eprint>(rt: &R, to: u16, peers: &Peers) -> u16
     ensures { result ≡ asked_host to peers.now }
 {

@@ -5,9 +5,8 @@ ghost use Rattle.chaosd.specs.Config.{config_by};
 use crate::config::config_of;
 use crate::connections::Connections;
 use crate::run_ends::tell_unopened;
-use arrayvec::ArrayVec;
 use chaos_file::{DirStore, PrintedName, Store};
-use chaos_link::{Link, MAX_PEERS, Peer, Peers, UdpLink};
+use chaos_link::{Link, UdpLink};
 use chaosd_clock::ClockMoments;
 use chaosd_copies::ExitStatus;
 use chaosd_io::RunFault;
@@ -28,17 +27,6 @@ fn store_at<'a, R: AllocGlobal + Files<File = File>>(
 ) -> io::Result<DirStore<&'a R>> {
     let name = String::from_str(rt.alloc(), folder)?;
     DirStore::open(rt, name)
-}
-
-/// The peers in the order of their Chaosnet addresses.
-fn listed(peers: &Peers) -> ArrayVec<Peer, MAX_PEERS> {
-    let mut list = ArrayVec::new();
-    for address in 1..=u16::MAX {
-        if let Some(socket) = peers.find(address) {
-            let _ = list.try_push(Peer { address, socket });
-        }
-    }
-    list
 }
 
 /// How much is logged.
@@ -137,7 +125,7 @@ fn serve_folder<R: AllocGlobal + Clock + Eprint + Files<File = File> + Net>(
 ) -> ExitStatus {
     let options = options_of(&line);
     let level = level_of(line.is_quiet, line.log);
-    let journal = Journal::new(rt, level, line.is_timed, Ledger::new(listed(&line.peers)));
+    let journal = Journal::new(rt, level, line.is_timed, Ledger::new(line.peers.clone()));
     journal.begin(line.address, line.socket, line.folder);
     let noted = NotedSocket::new(bound, &journal, line.hears_only_peers);
     let mut link = NotedLink::new(UdpLink::new(noted, line.peers), &journal);

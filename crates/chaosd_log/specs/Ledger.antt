@@ -2,14 +2,14 @@
 use Rattle.std.specs.Prelude.{◌≡◌, ◌≢◌, ◌⊎◌, ◌==◌, ◌∷◌, [], ℕ, suc, Bool, true, false, if◌then◌else◌, List, Option, Some, None, option_map, slice_index_or, slice_set}
 use Rattle.std.specs.declared.net.socket_addr.SocketAddrV4.{SocketAddrV4}
 use Rattle.chaos_link.specs.declared.peers.Peer.{Peer}
-use Rattle.chaos_link.specs.Peers.{socket_of}
+use Rattle.chaos_link.specs.Peers.{PeersView, socket_of}
 use Rattle.chaosd_log.specs.declared.ledger.Asking.{Asking}
 use Rattle.chaosd_log.specs.declared.ledger.Asking.TheVariants.{AsKnown, Stranger, Elsewhere}
 
--- the peers, the UDP address that each was heard from last, by its place; the host that was heard last of those that
--- are none; and whether something was told of where a Chaosnet address asks from
+-- the peers and the bridge; the UDP address that each peer was heard from last, by its place; the host that was heard last of
+-- those that are none; and whether something was told of where a Chaosnet address asks from
 pub record LedgerView : Type 0 where
-  pub peers : List Peer
+  pub peers : PeersView
   pub heard : List (Option SocketAddrV4)
   pub stranger : Option Peer
   pub told : List Bool
@@ -54,7 +54,7 @@ untold_of address ledger = record ledger { told = slice_set ledger.told address 
 abbrev pub with_asked : ℕ → SocketAddrV4 → Asking → LedgerView → LedgerView
 with_asked address from asking ledger =
     told_of address asking
-    (heard_at (place_of address ledger.peers) (record { address = address; socket = from }) ledger)
+    (heard_at (place_of address ledger.peers.hosts) (record { address = address; socket = from }) ledger)
 
 -- the UDP address that a host was heard from last
 abbrev pub socket_at : ℕ → Option Peer → Option SocketAddrV4
@@ -66,4 +66,4 @@ source_in (Some place) address ledger = slice_index_or ledger.heard place None
 source_in None address ledger = socket_at address ledger.stranger
 
 abbrev pub source_at : ℕ → LedgerView → Option SocketAddrV4
-source_at address ledger = source_in (place_of address ledger.peers) address ledger
+source_at address ledger = source_in (place_of address ledger.peers.hosts) address ledger

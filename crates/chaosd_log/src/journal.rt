@@ -4,9 +4,8 @@ use crate::ledger::{Asking, Ledger};
 use crate::level::{Level, Matter};
 use crate::limiter::Limiter;
 use crate::notes::Notes;
-use crate::warning::{Named, Warning, warning_of};
+use crate::warning::{Named, Warning, bridge_warning_of, warning_of};
 use chaos_file::PrintedName;
-use chaos_link::Peer;
 use jiff::Timestamp;
 use std::cell::{Cell, RefCell};
 use std::fmt::Display;
@@ -37,6 +36,8 @@ pub struct Journal<'a, R> {
     is_clock_missed: Cell<bool>,
     /// What was done since a datagram was sent.
     deed: RefCell<Option<Deed>>,
+    /// From where the last datagram came, where nobody took note of whose it is.
+    source: Cell<Option<SocketAddrV4>>,
 }
 
 impl<'a, R: Clock + Eprint> Journal<'a, R> {
@@ -51,6 +52,7 @@ impl<'a, R: Clock + Eprint> Journal<'a, R> {
             second: Cell::new(0),
             is_clock_missed: Cell::new(false),
             deed: RefCell::new(None),
+            source: Cell::new(None),
         }
     }
 
@@ -167,18 +169,29 @@ impl<'a, R: Clock + Eprint> Journal<'a, R> {
             Matter::Service,
             &format_args!("host {address:06o} serves {folder} at {socket}{named}"),
         );
-        if peers.is_empty() {
+        if peers.hosts().is_empty() && peers.bridge().is_none() {
             self.tell(Matter::Fault, &Warning::NoPeers);
         }
-        for peer in peers {
-            self.warn(peer, address, socket);
+        for peer in peers.hosts() {
+            self.warn(warning_of(peer, address, socket));
+        }
+        self.warn(bridge_warning_of(peers.bridge(), socket));
+    }
+
+    fn warn(&self, warning: Option<Warning>) {
+        if let Some(warning) = warning {
+            self.tell(Matter::Fault, &warning);
         }
     }
 
-    fn warn(&self, peer: &Peer, address: u16, socket: SocketAddrV4) {
-        if let Some(warning) = warning_of(peer, address, socket) {
-            self.tell(Matter::Fault, &warning);
-        }
+    /// A datagram came from this UDP address. Whose it is says who reads it.
+    pub fn note_source(&self, from: SocketAddrV4) {
+        self.source.set(Some(from));
+    }
+
+    /// From where the last datagram came. It is given once.
+    pub fn take_source(&self) -> Option<SocketAddrV4> {
+        self.source.replace(None)
     }
 
     /// A datagram of this host came from this UDP address. What is wrong with that is logged once. Where the line was left out, the next
@@ -205,7 +218,7 @@ impl<'a, R: Clock + Eprint> Journal<'a, R> {
         }
     }
 
-    /// Whether a peer is at this UDP address.
+    /// Whether a peer or the bridge is at this UDP address.
     pub fn is_known_at(&self, from: SocketAddrV4) -> bool {
         match self.ledger.try_borrow() {
             Ok(ledger) => ledger.has_socket(from),
@@ -213,10 +226,10 @@ impl<'a, R: Clock + Eprint> Journal<'a, R> {
         }
     }
 
-    /// Whether a peer has this Chaosnet address.
+    /// Whether this host is answered: a peer has this Chaosnet address, or there is a bridge.
     pub fn is_peer(&self, address: u16) -> bool {
         match self.ledger.try_borrow() {
-            Ok(ledger) => ledger.socket_of(address).is_some(),
+            Ok(ledger) => ledger.peers().find(address).is_some(),
             Err(_) => false,
         }
     }

@@ -4,8 +4,7 @@ ghost use Rattle.chaos_link.specs.declared.limits.TheConstants.{MAX_PEERS};
 ghost use Rattle.chaosd_log.specs.Ledger.{AsksAs, IsAskingOf, heard_at, known_at, place_of, source_at, untold_of, with_asked};
 
 use crate::place::place_of;
-use arrayvec::ArrayVec;
-use chaos_link::{MAX_PEERS, Peer};
+use chaos_link::{MAX_PEERS, Peer, Peers};
 use std::marker::Model;
 use std::net::SocketAddrV4;
 
@@ -17,31 +16,27 @@ const ADDRESSES: usize = 65_536;
 pub enum Asking {
     /// Nothing: as its peer's, or told before.
     AsKnown,
-    /// The host is no peer.
+    /// The host is no peer, and no bridge leads to it.
     Stranger,
-    /// The host is a peer at this other UDP address, to which it is answered.
+    /// The host is answered at this other UDP address, of its peer or of the bridge.
     Elsewhere(SocketAddrV4),
 }
 
-/// What a server's log knows of hosts: its peers, from which UDP address each was heard last, and what was told.
+/// What a server's log knows of hosts: its peers and the bridge, from which UDP address each was heard last, and what was told.
 #[derive(Drop)]
 pub struct Ledger {
-    peers: ArrayVec<Peer, MAX_PEERS>,
+    peers: Peers,
     heard: [Option<SocketAddrV4>; MAX_PEERS],
     stranger: Option<Peer>,
     told: [bool; ADDRESSES],
 }
 
 impl Model for Ledger {
-    ghost use Rattle.std.specs.Prelude.{◌≤◌, length};
-    ghost use Rattle.chaos_link.specs.declared.limits.TheConstants.{MAX_PEERS};
     ghost use Rattle.chaosd_log.specs.Ledger.{LedgerView};
 
     ghost Value = { LedgerView };
 
-    ghost view = { λ s. record { peers = s.peers.items; heard = s.heard; stranger = s.stranger; told = s.told } };
-
-    ghost invariant = { λ s. length s.peers.items ≤ MAX_PEERS };
+    ghost view = { λ s. record { peers = s.peers; heard = s.heard; stranger = s.stranger; told = s.told } };
 }
 
 /// What is to be told of a host that is known at the one UDP address, where at any, and asks from the other.
@@ -56,12 +51,12 @@ fn asking_of(known: Option<SocketAddrV4>, from: SocketAddrV4) -> Asking
 }
 
 impl Ledger {
-    ghost use Rattle.std.specs.Prelude.{◌↔◌, false, IsTrue, None, replicate};
+    ghost use Rattle.std.specs.Prelude.{◌↔◌, ◌⊎◌, false, IsTrue, None, Some, replicate};
     ghost use Rattle.std.specs.List.{Any};
 
     /// Of a server that has heard nobody.
-    pub fn new(peers: ArrayVec<Peer, MAX_PEERS>) -> Self
-        ensures { result ≡ record { peers = peers.items; heard = replicate MAX_PEERS None; stranger = None; told = replicate 65536 false } }
+    pub fn new(peers: Peers) -> Self
+        ensures { result ≡ record { peers = peers; heard = replicate MAX_PEERS None; stranger = None; told = replicate 65536 false } }
     {
         Ledger {
             peers,
@@ -71,28 +66,19 @@ impl Ledger {
         }
     }
 
-    /// The peers, in their order.
-    pub fn peers(&self) -> &[Peer]
+    /// The peers.
+    pub fn peers(&self) -> &Peers
         ensures { result.now ≡ self.now.peers }
     {
-        self.peers.as_slice()
+        &self.peers
     }
 
-    /// Whether a peer is at this UDP address.
+    /// Whether a peer or the bridge is at this UDP address.
     pub fn has_socket(&self, from: SocketAddrV4) -> bool
-        ensures { IsTrue result ↔ Any (λ peer. peer.socket ≡ from) self.now.peers }
+        ensures { IsTrue result ↔ (Any (λ peer. peer.socket ≡ from) self.now.peers.hosts ⊎ (self.now.peers.bridge ≡ Some from)) }
     {
-        self.peers.iter().any(|peer| peer.socket == from)
-    }
-
-    /// The UDP address of the peer with this Chaosnet address.
-    pub fn socket_of(&self, address: u16) -> Option<SocketAddrV4>
-        ensures { result ≡ known_at address self.now }
-    {
-        self.peers
-            .iter()
-            .find(|peer| peer.address == address)
-            .map(|peer| peer.socket)
+        self.peers.hosts().iter().any(|peer| peer.socket == from)
+            || self.peers.bridge() == Some(from)
     }
 
     /// A datagram of this host came from this UDP address. The answer is what is to be told of that.
@@ -100,7 +86,7 @@ impl Ledger {
         ensures asking { AsksAs address from self.old result }
         ensures ledger { self.new ≡ with_asked address from result self.old }
     {
-        let known = self.socket_of(address);
+        let known = self.peers.find(address);
         self.note(address, from);
         let asking = asking_of(known, from);
         if asking == Asking::AsKnown || self.told[usize::from(address)] {
@@ -119,9 +105,9 @@ impl Ledger {
 
     /// Keeps from where the host was heard.
     fn note(&mut self, address: u16, from: SocketAddrV4)
-        ensures { self.new ≡ heard_at (place_of address self.old.peers) (record { address = address; socket = from }) self.old }
+        ensures { self.new ≡ heard_at (place_of address self.old.peers.hosts) (record { address = address; socket = from }) self.old }
     {
-        match place_of(self.peers.as_slice(), address) {
+        match place_of(self.peers.hosts(), address) {
             Some(place) => self.heard[place] = Some(from),
             None => {
                 self.stranger = Some(Peer {
@@ -136,7 +122,7 @@ impl Ledger {
     pub fn source_of(&self, address: u16) -> Option<SocketAddrV4>
         ensures { result ≡ source_at address self.now }
     {
-        match place_of(self.peers.as_slice(), address) {
+        match place_of(self.peers.hosts(), address) {
             Some(place) => self.heard[place],
             None => match self.stranger {
                 Some(stranger) if stranger.address == address => Some(stranger.socket),

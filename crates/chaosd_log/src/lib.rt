@@ -16,6 +16,7 @@ mod notes;
 mod place;
 mod read_only;
 mod socket;
+mod source;
 mod warning;
 
 pub use deed::{Attempt, Deed, Path, Refusal};
@@ -27,5 +28,6 @@ pub use noted_link::NotedLink;
 pub use noted_store::NotedStore;
 pub use notes::Notes;
 pub use read_only::ReadOnly;
-pub use socket::{NotedSocket, SourceSocket, source_of};
-pub use warning::{Warning, warning_of};
+pub use socket::{NotedSocket, SourceSocket};
+pub use source::source_of;
+pub use warning::{Warning, bridge_warning_of, warning_of};

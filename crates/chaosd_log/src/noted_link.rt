@@ -1,9 +1,11 @@
 //! A link of which note is taken.
 use crate::journal::Journal;
+use crate::source::source_of;
 use chaos_link::{LINK_ROOM, Link, Received, Sent};
 use std::time::Clock;
 
-/// A link that tells a journal to whom a datagram goes. It claims what the link behind it claims.
+/// A link that reports to a journal whose datagram came, and to whom a datagram goes. From where a datagram came says the journal's
+/// [`NotedSocket`](crate::NotedSocket) below. It claims what the link behind it claims.
 #[derive(Drop)]
 pub struct NotedLink<'a, R, L> {
     inner: L,
@@ -13,6 +15,16 @@ pub struct NotedLink<'a, R, L> {
 impl<'a, R: Clock + Eprint, L> NotedLink<'a, R, L> {
     pub fn new(inner: L, journal: &'a Journal<'a, R>) -> Self {
         NotedLink { inner, journal }
+    }
+
+    /// Takes note of whose datagram came, and from where.
+    fn note(&self, bytes: &[u8]) {
+        if let Some(from) = self.journal.take_source() {
+            match source_of(bytes) {
+                Some(address) if address != 0 => self.journal.hear(address, from),
+                _ => {}
+            }
+        }
     }
 }
 
@@ -32,7 +44,11 @@ impl<R: Clock + Eprint, L: Link> Link for NotedLink<'_, R, L> {
 
     fn receive(&mut self, buffer: &mut [u8; LINK_ROOM], may_wait: bool) -> Received {
         self.journal.end_turn();
-        self.inner.receive(buffer, may_wait)
+        let received = self.inner.receive(buffer, may_wait);
+        if let Received::Got(count) = received {
+            self.note(&buffer[..count]);
+        }
+        received
     }
 
     fn failures(&self) -> u64 {

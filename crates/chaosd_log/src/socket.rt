@@ -3,12 +3,11 @@ ghost use Rattle.std.specs.Prelude.{◌≡◌, ◌≤◌, [], ◌∷◌, IfOk};
 ghost use Rattle.chaos_link.specs.Link.{Asks};
 ghost use Rattle.chaos_link.specs.Udp.{ReceiveOne};
 ghost use Rattle.chaos_link.specs.declared.limits.TheConstants.{LINK_ROOM};
-ghost use Rattle.chaosd_log.specs.Source.{source_in};
 ghost use Rattle.chaosd_log.specs.SocketFault.{is_fault};
 
 use crate::journal::Journal;
 use crate::level::Matter;
-use chaos_link::{DatagramSocket, LINK_ROOM, open_datagram};
+use chaos_link::{DatagramSocket, LINK_ROOM};
 use std::fmt::Display;
 use std::io;
 use std::io::ErrorKind;
@@ -38,17 +37,6 @@ impl SourceSocket for UdpSocket {
     }
 }
 
-/// The Chaosnet address that the first packet of a datagram has as its source.
-pub fn source_of(bytes: &[u8]) -> Option<u16>
-    ensures { result ≡ source_in bytes.now }
-{
-    let Ok(mut packets) = open_datagram(bytes) else {
-        return None;
-    };
-    let packet = packets.next()?;
-    Some(packet.src)
-}
-
 /// Whether an error of a socket says more than that nothing came, or that a socket that was sent to before is gone.
 fn is_fault(kind: ErrorKind) -> bool
     ensures { result ≡ is_fault kind }
@@ -62,8 +50,8 @@ fn is_fault(kind: ErrorKind) -> bool
     }
 }
 
-/// A socket of which note is taken: from where each host was heard, and why the system refused a call. Where that is asked for, a datagram that comes from no peer's UDP
-/// address is dropped, as if none had come. It asks the inner socket exactly what it is asked.
+/// A socket of which note is taken: from where a datagram came, and why the system refused a call. Where that is asked for, a datagram
+/// that comes from no UDP address of a peer or the bridge is dropped, as if none had come. It asks the inner socket exactly what it is asked.
 #[derive(Drop)]
 pub struct NotedSocket<'a, R, S> {
     inner: S,
@@ -72,7 +60,7 @@ pub struct NotedSocket<'a, R, S> {
 }
 
 impl<'a, R: Clock + Eprint, S> NotedSocket<'a, R, S> {
-    /// This socket. Where it is closed, it hears peers' sockets alone.
+    /// This socket. Where it is closed, it hears the sockets of peers and of the bridge alone.
     pub fn new(inner: S, journal: &'a Journal<'a, R>, is_closed: bool) -> Self {
         NotedSocket {
             inner,
@@ -92,14 +80,6 @@ impl<'a, R: Clock + Eprint, S> NotedSocket<'a, R, S> {
             Err(fault) if is_fault(fault.kind()) => self
                 .journal
                 .tell(Matter::Socket, &format_args!("{call} failed: {fault}")),
-            _ => {}
-        }
-    }
-
-    /// Takes note of a datagram from there.
-    fn note(&self, bytes: &[u8], from: SocketAddrV4) {
-        match source_of(bytes) {
-            Some(address) if address != 0 => self.journal.hear(address, from),
             _ => {}
         }
     }
@@ -124,7 +104,7 @@ impl<R: Clock + Eprint, S: SourceSocket> DatagramSocket for NotedSocket<'_, R, S
             if self.drops(from) {
                 return Err(io::Error::from(ErrorKind::WouldBlock));
             }
-            self.note(&buffer[..count], from);
+            self.journal.note_source(from);
         }
         Ok(count)
     }

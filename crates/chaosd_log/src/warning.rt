@@ -1,8 +1,8 @@
 //! What is wrong with a server's peers.
 ghost use Rattle.std.specs.Prelude.{◌≡◌, Some};
-ghost use Rattle.chaosd_log.specs.Warning.{WarnsOf};
+ghost use Rattle.chaosd_log.specs.Warning.{WarnsOf, WarnsOfBridge};
 
-use chaos_link::Peer;
+use chaos_link::{Peer, Peers};
 use std::fmt;
 use std::fmt::{Display, Formatter};
 use std::net::SocketAddrV4;
@@ -20,6 +20,9 @@ pub enum Warning {
     /// A peer is at its UDP address.
     #[error("PEER {0:o} is at this host's own UDP address, so it is never answered")]
     OwnSocket(u16),
+    /// The bridge is at its UDP address.
+    #[error("PEER * is at this host's own UDP address, so no host without a PEER is answered")]
+    OwnBridge,
 }
 
 /// What is wrong with a peer of the host with this Chaosnet address at this UDP address.
@@ -35,17 +38,31 @@ pub fn warning_of(peer: &Peer, address: u16, socket: SocketAddrV4) -> Option<War
     None
 }
 
-/// The peers as a command line has them, a space in front of each.
+/// What is wrong with the bridge of a host at this UDP address.
+pub fn bridge_warning_of(bridge: Option<SocketAddrV4>, socket: SocketAddrV4) -> Option<Warning>
+    ensures { WarnsOfBridge bridge socket result }
+{
+    if bridge == Some(socket) {
+        Some(Warning::OwnBridge)
+    } else {
+        None
+    }
+}
+
+/// The peers and the bridge as a command line has them, a space in front of each.
 #[derive(Drop)]
-pub(crate) struct Named<'a>(pub(crate) &'a [Peer]);
+pub(crate) struct Named<'a>(pub(crate) &'a Peers);
 
 impl Display for Named<'_> {
     fn fmt<W: fmt::Write>(&self, f: &mut Formatter<W>) -> fmt::Result {
-        for (place, peer) in self.0.iter().enumerate() {
-            let front = if place == 0 { " to " } else { " " };
-            let Peer { address, socket } = *peer;
+        let mut front = " to ";
+        for Peer { address, socket } in self.0.hosts() {
             write!(f, "{front}{address:o}={socket}")?;
+            front = " ";
         }
-        Ok(())
+        match self.0.bridge() {
+            Some(socket) => write!(f, "{front}*={socket}"),
+            None => Ok(()),
+        }
     }
 }
