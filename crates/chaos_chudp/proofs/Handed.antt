@@ -1,0 +1,43 @@
+-- What is handed up for what came.
+use Rattle.std.proofs.Common.{◌≡◌, ℕ, List, [], ◌∷◌, length, take, drop, refl, ap, ◌∙◌, Option, Some, None, IfSome}
+use Rattle.std.proofs.lemmas.List.{take_at}
+use Rattle.chaos_link.specs.Link.{Addressed, QueueView, HandsOut, ReceivesFrom}
+use Rattle.chaos_link.specs.declared.link.Received.{Received}
+use Rattle.chaos_link.specs.declared.link.Received.TheVariants as receiving
+use Rattle.chaos_chudp.specs.Link.{HandsUp, HandsUpOldest, HandsUpSome, HandedUp, HearsFrom}
+
+oldest_handed : (ds : List Addressed) (old came new : List ℕ) (received result : Received)
+    → HandsOut ds old came received → HandedUp came received new result → HandsUpOldest ds new result
+oldest_handed [] old came new received result out handed =
+    let nothing : received ≡ receiving.Nothing = out.0 in
+    rw nothing at handed
+oldest_handed (oldest ∷ others) old came new received result out handed =
+    let got : received ≡ receiving.Got (length oldest.bytes) = out.0 in
+    let up : HandsUp (take (length oldest.bytes) came) new result = rw got at handed in
+    let bytes : take (length oldest.bytes) came ≡ oldest.bytes =
+    ap (take (length oldest.bytes)) out.1 ∙ take_at oldest.bytes (drop (length oldest.bytes) old) (length oldest.bytes) refl in
+    rw bytes at up
+
+pub heard : (before after : Option QueueView) (old came new : List ℕ) (received result : Received)
+    → IfSome before (ReceivesFrom old came received after) → HandedUp came received new result
+    → IfSome before (HearsFrom new result after)
+heard None after old came new received result queued handed = tt
+heard (Some queue) after old came new received result queued handed =
+    (oldest_handed queue.datagrams old came new received result queued.0 handed, queued.1)
+
+pub some_handed : (came new : List ℕ) (received result : Received) → HandedUp came received new result
+    → HandsUpSome new result
+some_handed came new (receiving.Got count) result handed = rw handed.0 (take count came, (refl, handed.1))
+some_handed came new receiving.Nothing result handed = rw handed tt
+some_handed came new receiving.Failed result handed = rw handed tt
+
+-- It failed where the link beneath failed, and nowhere else.
+pub failed_beneath : (came new : List ℕ) (received result : Received) → HandedUp came received new result
+    → result ≡ receiving.Failed → received ≡ receiving.Failed
+failed_beneath came new (receiving.Got count) result handed failed = let both = handed.0 in cc (both, failed)
+failed_beneath came new receiving.Nothing result handed failed = cc
+failed_beneath came new receiving.Failed result handed failed = refl
+
+pub failed_above : (came new : List ℕ) (received result : Received) → HandedUp came received new result
+    → received ≡ receiving.Failed → result ≡ receiving.Failed
+failed_above came new received result handed failed = rw failed at handed

@@ -1,0 +1,4 @@
+pub mod Chudp
+pub mod Hops
+pub mod Link
+pub mod Sum
