@@ -43,10 +43,7 @@ impl Hops {
     pub fn through(bridge: u16) -> Self
         ensures { result ≡ record { near = []; bridge = Some bridge } }
     {
-        Hops {
-            near: ArrayVec::new(),
-            bridge: Some(bridge),
-        }
+        Hops::beside(&[], bridge)
     }
 
     /// The addresses of these hosts are reached directly, and all others through the bridge with this address.
