@@ -325,6 +325,13 @@ form_canonical p to from bs t f small carried canonical =
     let zero_halves : HasZeroHalves carried.0 = rw words at canonical in
     canonical_where p to from (chudp_form to from bs) (form_carries p to from bs t f small carried) refl refl zero_halves refl
 
+-- The datagram of version 1 with the words of that form is the one that it was made of.
+pub form_plain : (p : PacketView) (to from : ℕ) (bs : List ℕ) → to < 65536 → from < 65536
+    → ((i : ℕ) → get_or bs i 0 < 256) → Carries p bs → plain_of (chudp_form to from bs) ≡ bs
+unfolding form_carries
+form_plain p to from bs t f small carried =
+    ap (λ ws. mark ++ ws) (middle_is (form_carries p to from bs t f small carried)) ∙ sym carried.2
+
 -- and no other is.
 pub canonical_only : (p : PacketView) (to from : ℕ) (bs : List ℕ) → CarriesChudp p to from bs → IsCanonical bs
     → bs ≡ chudp_of p to from

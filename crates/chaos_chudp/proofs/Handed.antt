@@ -1,10 +1,16 @@
 -- What is handed up for what came.
-use Rattle.std.proofs.Common.{◌≡◌, ℕ, List, [], ◌∷◌, length, take, drop, refl, ap, ◌∙◌, Option, Some, None, IfSome}
+use Rattle.std.proofs.Common.{◌≡◌, ℕ, List, [], ◌∷◌, length, take, drop, refl, ap, sym, Ok, ◌∙◌, Option, Some, None, IfSome}
 use Rattle.std.proofs.lemmas.List.{take_at}
+use Rattle.chaos_packet.specs.Words.{packet_at}
+use Rattle.chaos_link.specs.Datagram.{datagram_read, read_by, words_of}
+use Rattle.chaos_link.proofs.Carried as plain
+use Rattle.chaos_link.proofs.Carried.{all_below}
 use Rattle.chaos_link.specs.Link.{Addressed, QueueView, HandsOut, ReceivesFrom}
 use Rattle.chaos_link.specs.declared.link.Received.{Received}
 use Rattle.chaos_link.specs.declared.link.Received.TheVariants as receiving
-use Rattle.chaos_chudp.specs.Link.{HandsUp, HandsUpOldest, HandsUpSome, HandedUp, HearsFrom}
+use Rattle.chaos_chudp.specs.Link.{HandsUp, HandsUpOldest, HandsUpSome, HandedUp, HearsFrom, IsHandedUpAsSent, handed_by}
+use Rattle.chaos_chudp.specs.Chudp.{chudp_form}
+use Rattle.chaos_chudp.proofs.Carried.{form_carries, form_plain, no_fault}
 
 oldest_handed : (ds : List Addressed) (old came new : List ℕ) (received result : Received)
     → HandsOut ds old came received → HandedUp came received new result → HandsUpOldest ds new result
@@ -41,3 +47,12 @@ failed_beneath came new receiving.Failed result handed failed = refl
 pub failed_above : (came new : List ℕ) (received result : Received) → HandedUp came received new result
     → received ≡ receiving.Failed → result ≡ receiving.Failed
 failed_above came new received result handed failed = rw failed at handed
+
+-- What was sent is handed up.
+pub same_datagram : IsHandedUpAsSent
+same_datagram hop me bs h m small sound =
+    let bytes = all_below bs small in
+    let read : Ok (packet_at (words_of (drop 4 bs))) ≡ datagram_read bs = sym (ap (read_by bs) sound) in
+    let carried = plain.carried_read (Ok (packet_at (words_of (drop 4 bs)))) bs bytes read in
+    ap (handed_by (chudp_form hop me bs)) (no_fault (form_carries _ hop me bs h m bytes carried))
+    ∙ form_plain _ hop me bs h m bytes carried

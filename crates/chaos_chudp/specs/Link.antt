@@ -1,5 +1,5 @@
 -- A link that speaks CHUDP over another.
-use Rattle.std.specs.Prelude.{◌≡◌, ℕ, List, [], ◌∷◌, ◌++◌, length, take, Option, Some, None}
+use Rattle.std.specs.Prelude.{◌≡◌, ℕ, ◌<◌, All, List, [], ◌∷◌, ◌++◌, length, take, Option, Some, None}
 use Rattle.chaos_link.specs.Datagram.{fault_of}
 use Rattle.chaos_link.specs.Link.{Addressed, Ask, Asks, Send, Receive, QueueView, to_send, without_first}
 use Rattle.chaos_link.specs.Udp.{AsksSocket, SocketAsk, UdpView, datagrams_in, outgoing_of}
@@ -71,6 +71,11 @@ handed_by came (Some f) = []
 -- what is handed up for what came: the datagram of version 1 with the same words, or nothing where it has a fault
 abbrev pub handed_for : List ℕ → List ℕ
 handed_for came = handed_by came (chudp_fault came)
+
+-- What one link sends another hands up: the CHUDP form of a datagram of version 1 without a fault is handed up as that datagram.
+abbrev pub IsHandedUpAsSent : Type 0
+IsHandedUpAsSent = (hop me : ℕ) (bytes : List ℕ) → hop < 65536 → me < 65536 → All (λ b. b < 256) bytes → fault_of bytes ≡ None
+    → handed_for (chudp_form hop me bytes) ≡ bytes
 
 -- What was handed up stands in the front of the buffer.
 abbrev pub HandsUp : List ℕ → List ℕ → Received → Type 0

@@ -3,7 +3,7 @@ ghost use Rattle.std.specs.Prelude.{◌≡◌, ◌≢◌, ◌↔◌, ◌≤◌, 
 ghost use Rattle.chaos_packet.specs.Count.{Rose};
 ghost use Rattle.chaos_link.specs.Datagram.{fault_of};
 ghost use Rattle.chaos_link.specs.Link.{Asks, Send, Receive, SendsInto, IsWithin};
-ghost use Rattle.chaos_chudp.specs.Link.{AsksBeneath, HandedUp, HandsUpSome, HearsFrom, SocketSendsForms, form_to, handed_for};
+ghost use Rattle.chaos_chudp.specs.Link.{AsksBeneath, HandedUp, HandsUpSome, HearsFrom, IsHandedUpAsSent, SocketSendsForms, form_to, handed_for};
 
 use crate::hops::Hops;
 use crate::limits::{HEAD_BYTES, MAX_CHUDP, TRAILER_BYTES};
@@ -144,6 +144,11 @@ fn open(buffer: &mut [u8; LINK_ROOM], count: usize) -> usize
         Err(_) => 0,
     }
 }
+
+/// The law that what one such link sends another hands up: the same datagram, whatever the next hop and the own address are.
+pub fn law_same_datagram()
+    ensures { IsHandedUpAsSent }
+{}
 
 /// The law of such a link over UDP: its socket is asked to send exactly the CHUDP forms of the datagrams that the link is asked
 /// to send, in their order, each to the UDP address of its peer.
