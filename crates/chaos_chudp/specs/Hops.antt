@@ -7,7 +7,7 @@ pub record HopsView : Type 0 where
   pub near : List ℕ
   pub bridge : Option ℕ
 
--- The next hop on the way to an address: an address that is reached directly is its own hop. Any other is reached through the
--- bridge; where that isn't known, the address stands for it.
+-- the next hop on the way to an address: an address that is reached directly is its own hop, and any other address is reached
+-- through the bridge; where no bridge is known, each address is its own hop
 abbrev pub hop_of : ℕ → HopsView → ℕ
 hop_of to hops = if list_any (λ address. address == to) hops.near then to else unwrap_or hops.bridge to

@@ -8,8 +8,8 @@ use arrayvec::ArrayVec;
 use chaos_link::{MAX_PEERS, Peer};
 use std::marker::Model;
 
-/// Which Chaosnet addresses are reached directly, at most [`MAX_PEERS`] of them, and the Chaosnet address of the bridge through
-/// which all others are, where that is known.
+/// Which Chaosnet addresses a host reaches directly, at most [`MAX_PEERS`] of them, and the Chaosnet address of the bridge through
+/// which the host reaches all others, where that address is known.
 #[derive(Drop)]
 pub struct Hops {
     near: ArrayVec<u16, MAX_PEERS>,
@@ -61,8 +61,8 @@ impl Hops {
         }
     }
 
-    /// The next hop on the way to an address: the address itself where it is reached directly or no bridge is known, else the
-    /// bridge.
+    /// The next hop on the way to an address: the address itself where the host reaches the address directly or knows no bridge,
+    /// else the bridge.
     ///
     /// One walk over the addresses that are reached directly.
     pub fn next(&self, to: u16) -> u16

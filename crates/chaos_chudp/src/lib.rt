@@ -1,5 +1,5 @@
-//! CHUDP: how cbridge, klh10, usim and others put Chaosnet packets into UDP datagrams, and a link that speaks it over
-//! another link. It was never tried beside one of them.
+//! CHUDP: how cbridge, klh10, usim and others put Chaosnet packets into UDP datagrams, and a link that speaks CHUDP over
+//! another link. Nobody has tried this crate together with one of these programs.
 //!
 //! Bytes and packets alone: no socket and no clock, and nothing is allocated.
 #![tactic(auto)]

@@ -15,8 +15,9 @@ use std::marker::Model;
 /// A link over another that carries in CHUDP what is sent to it as datagrams of version 1, and hands up as these what
 /// comes in CHUDP.
 ///
-/// Anything else that is sent is lost, and answered as sent: so is each datagram of version 2. Anything else that comes is handed up
-/// as a datagram of no bytes, which carries no packet. The link takes no memory.
+/// Anything else that is sent is lost, and answered as sent; so is each datagram of version 2. Anything else that comes is handed up
+/// as a datagram of no bytes, which carries no packet. The trailer's next hop is that of the address to which the datagram is sent.
+/// The link takes no memory.
 #[derive(Drop)]
 pub struct ChudpLink<L> {
     inner: L,
