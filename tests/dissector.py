@@ -1,5 +1,5 @@
 """Tests tools/wireshark/chaosnet.lua by tshark: a FILE session between `serve` and `ask`, and 2,000 datagrams, good and bad,
-which tshark and `chaosd show` have to read alike, field by field.
+which tshark and `chaosd show` have to read alike, field by field; of CHUDP tshark and tests/chudp_reference.py.
 
 Captures are written by the test itself, from datagrams that it made or that a relay between the two programs saw, so that no right
 to capture is needed.
@@ -15,9 +15,12 @@ import subprocess
 import tempfile
 import unittest
 
+from tests.chudp_reference import encode, random_datagram, report, summed, words_of
 from tests.packets import ANS, CLS, DATA, EOF, FWD, LOS, LSN, OPN, RFC, SNS, STS, datagram
 from tests.scripts import text_of
-from tests.support import CLIENT, DATA_LIMIT, DONE, LONG, PROGRAM, ROOT, SERVER, Case, Relay, at, folder, free_ports, run, serving
+from tests.support import (
+    CLIENT, DATA_LIMIT, DONE, LONG, PROGRAM, ROOT, SERVER, Case, Checking, Relay, at, folder, free_ports, run, serving,
+)  # fmt: skip
 
 DISSECTOR = ROOT / "tools/wireshark/chaosnet.lua"
 PROTOCOL = ROOT / "docs/PROTOCOL.md"
@@ -221,13 +224,18 @@ def packets_of(values, name_list):
         yield "\n".join(lines)
 
 
+def names_in(info):
+    """The names of the opcodes of a datagram's packets, from its line in the list of packets."""
+    return re.findall(r"\d{6}:\d{6} → \d{6}:\d{6} \[(\w+)\]", info)
+
+
 def reports_of(rows):
     """What `show` would print, from what tshark prints."""
     for fault, packets, info, *values in rows:
         if fault:
             yield fault
             continue
-        reports = list(packets_of(values, re.findall(r"\d{6}:\d{6} → \d{6}:\d{6} \[(\w+)\]", info)))
+        reports = list(packets_of(values, names_in(info)))
         yield "\n\n".join(([f"carriage 2 packets {packets}"] if packets else []) + reports)
 
 
@@ -240,6 +248,47 @@ def shown(datagrams):
         for block in blocks:
             several = re.fullmatch(r"carriage 2 packets (\d)", block)
             yield "\n\n".join([block] + [next(blocks) for _ in range(int(several[1]) if several else 0)])
+
+
+# CHUDP.
+
+CHUDP_PORT, OTHER_PORT = 42_042, 9_003
+# A status, data of one byte, and a request for a contact that nobody serves: each to 000401 from 000402.
+CHUDP_STS = bytes.fromhex("01 01 00 00 07 00 00 04 01 01 02 01 01 02 03 05 00 00 00 10 00 12 00 0D 01 01 01 02 EF C0")
+CHUDP_DAT = bytes.fromhex("01 01 00 00 80 00 00 01 01 01 02 01 01 02 03 05 00 05 00 10 00 41 01 01 01 02 76 9C")
+CHUDP_RFC = bytes.fromhex("01 01 00 00 01 00 00 04 01 01 00 00 01 02 03 05 00 07 00 00 4F 4E 45 4E 01 01 01 02 63 4D")
+# The success of a binding by STUN, with an address.
+STUN = bytes.fromhex("01 01 00 0C 21 12 A4 42") + bytes(12) + bytes.fromhex("00 20 00 08 00 01 00 00 00 00 00 00")
+
+# Each fault with a datagram that has it, the opcode where a packet is read all the same, and the status of the sum where there is one.
+CHUDP_FAULTS = [
+    ("fault 1 TooLong", CHUDP_STS + bytes(2_020), "", ""),
+    ("fault 2 Short", CHUDP_STS[:3], "", ""),
+    ("fault 2 Short", CHUDP_STS[:24], "", ""),
+    ("fault 2 Short", CHUDP_STS[:-1], "", ""),
+    ("fault 3 BadVersion", b"\x02" + CHUDP_STS[1:], "", ""),
+    ("fault 4 BadFunction", b"\x01\x02" + CHUDP_STS[2:], "", ""),
+    ("fault 5 BadSum", CHUDP_STS[:-1] + b"\xc1", "7", "0"),
+    ("fault 5 BadSum", CHUDP_STS[:20] + b"\x01" + CHUDP_STS[21:], "7", "0"),
+    ("fault 6 Packet 2 BadCount", summed(CHUDP_STS[:6] + b"\x01\xe9" + CHUDP_STS[8:]), "7", "1"),
+    ("fault 6 Packet 3 Truncated", summed(CHUDP_STS[:6] + b"\x00\x05" + CHUDP_STS[8:]), "7", "1"),
+    ("fault 7 Trailing", summed(CHUDP_STS[:6] + b"\x00\x02" + CHUDP_STS[8:]), "7", "1"),
+]
+
+
+def in_chudp(payload, to, sender):
+    """A datagram of version 1 as one of CHUDP."""
+    return encode(words_of(payload[4:]), to, sender)
+
+
+def chudp_reports_of(rows):
+    """What `show --chudp` would print, from what tshark prints."""
+    for fault, to, sender, total, info, *values in rows:
+        if fault:
+            yield fault
+            continue
+        (packet,) = packets_of(values, names_in(info))
+        yield f"{packet}\ntrailer to {int(to):06o} from {int(sender):06o}\nsum {int(total, 16):04X}"
 
 
 # docs/PROTOCOL.md and docs/SCRIPTS.md.
@@ -261,10 +310,8 @@ def documented_commands():
 
 
 @unittest.skipUnless(shutil.which("tshark"), "tshark isn't there: `apt-get install tshark` gives it")
-class Dissector(Case):
-    """What tshark shows by the dissector."""
-
-    seconds = 20
+class Dissecting(Checking):
+    """Tests by a tshark that has nothing to say of the dissector."""
 
     def setUp(self):
         home = tempfile.TemporaryDirectory()
@@ -273,6 +320,94 @@ class Dissector(Case):
 
     def tearDown(self):
         self.check("tshark has nothing to say of the dissector", self.tshark.said.splitlines())
+
+
+class Chudp(Dissecting):
+    """What tshark shows of CHUDP by the dissector."""
+
+    seconds = 15
+
+    def test_the_packet_the_hops_and_the_sum_are_shown(self):
+        rows = [
+            (CHUDP_STS, ["7", "0", "18", "13", "", "", "257", "258", "0xefc0", "1", "", ""]),
+            (CHUDP_DAT, ["128", "5", "", "", "41", "", "257", "258", "0x769c", "1", "", ""]),
+            (CHUDP_RFC, ["1", "7", "", "", "4e4f4e45", "NONE", "257", "258", "0x634d", "1", "", ""]),
+        ]
+        seen = [(CLIENT_PORT, CHUDP_PORT, each) for each, _ in rows]
+        names = ["op", "num", "receipt", "window", "data", "contact", *(f"chudp.{it}" for it in ["to", "from", "sum", "sum.status"])]
+        names += ["fault", "malformed"]
+        table = self.tshark.fields(seen, [f"chaosnet.{name}" for name in names])
+        self.check("three datagrams, typed", differences(table, [row for _, row in rows]))
+        texts = [line.split(None, 1) for line in self.tshark.run(seen, "-o", 'gui.column.format:"Protocol","%p","Info","%i"').splitlines()]
+        wanted = [["Chaosnet", "000402:001405 → 000401:001001 [STS] Ack=16 Receipt=18 Window=13"]]
+        wanted += [["Chaosnet", "000402:001405 → 000401:001001 [DAT] Num=5 Ack=16 A"]]
+        wanted += [["Chaosnet", "000402:001405 → 000401:000000 [RFC] Num=7 NONE"]]
+        self.check("and their lines in the list of packets", differences(texts, wanted))
+
+    def test_each_fault_is_marked(self):
+        seen = [(CLIENT_PORT, CHUDP_PORT, each) for _, each, _, _ in CHUDP_FAULTS]
+        names = ["fault", "op", "chudp.sum.status", "chudp.fault.code", "stream"]
+        table = self.tshark.fields(seen, [f"chaosnet.{name}" for name in names])
+        wanted = [[fault, op, status, fault.split()[1], ""] for fault, _, op, status in CHUDP_FAULTS]
+        self.check("the faults of CHUDP, typed", differences(table, wanted))
+        self.check("the reference says so too", differences([report(each) for _, each, _, _ in CHUDP_FAULTS], [row[0] for row in wanted]))
+        frames = self.tshark.frames(seen, "chaosnet.malformed and _ws.expert.severity == error")
+        self.check("each is an expert information", differences(frames, list(range(1, len(seen) + 1))))
+        text = self.tshark.run(seen[6:7], "-V")
+        self.check("what a wrong sum should be is told", [] if "Sum: 0xefc1 [wrong: it should be 0xefc0]" in text else [text])
+
+    def test_chudp_is_recognized_by_its_head_by_its_port_and_by_what_went_before(self):
+        other, argued = b"\x02" + CHUDP_STS[1:], with_bytes(CHUDP_STS, 2, b"\x0a\x0b")
+        seen = [(CLIENT_PORT, OTHER_PORT, each) for each in (other, argued, CHUDP_STS[:24], STUN)]
+        seen += [(CLIENT_PORT, CHUDP_PORT, each) for each in (other, argued, CHUDP_STS[:24])]
+        seen += [(CLIENT_PORT, SERVER_PORT, CHUDP_STS), (SERVER_PORT, CLIENT_PORT, argued), (SERVER_PORT, CLIENT_PORT, other)]
+        for name, words, frames in [
+            ("at its port, by its head, and what goes between the same sockets later", [], [5, 6, 7, 8, 9, 10]),
+            ("on a port of the preference", ["-o", f"chaosnet.chudp_ports:{OTHER_PORT}"], [1, 2, 3, 4, 8, 9, 10]),
+            ("on a port that is decoded as it", ["-d", f"udp.port=={OTHER_PORT},chaosnet.chudp"], list(range(1, 11))),
+        ]:
+            self.check(f"recognized: {name}", differences(self.tshark.frames(seen, "chaosnet.chudp", *words), frames))
+        rows = self.tshark.fields(seen[5:6], ["chaosnet.chudp.args", "chaosnet.chudp.sum.status", "chaosnet.fault"])
+        self.check("arguments that aren't 0 are shown, and are no fault", differences(rows, [["0a0b", "1", ""]]))
+        own = datagram(STS, (SERVER, 1), (CLIENT, 1), 0, 0, bytes(4))
+        rows = self.tshark.fields([(CLIENT_PORT, CHUDP_PORT, own), (CLIENT_PORT, OTHER_PORT, own)], ["chaosnet.fault", "chaosnet.op"])
+        self.check("the own carriage is a fault at the port of CHUDP alone", differences(rows, [["fault 3 BadVersion", ""], ["", "7"]]))
+        for kept in (3, 25, len(CHUDP_STS) - 1):
+            cut, words = captured(seen[7:8], 28 + kept), ["-d", f"udp.port=={SERVER_PORT},chaosnet.chudp"]
+            rows = self.tshark.fields(cut, ["chaosnet.cut", "chaosnet.fault"], *words)
+            self.check(f"a datagram of CHUDP of which {kept} bytes were kept is cut, and has no fault", differences(rows, [["1", ""]]))
+
+    def test_connections_and_file_are_shown_as_of_the_own_carriage(self):
+        me, host, new = (CLIENT, 0o1405), (SERVER, 0), (SERVER, 1)
+        up = [datagram(RFC, host, me, 65_535, 0, b"FILE"), datagram(DATA, new, me, 0, 7, b"T  LOGIN M"), datagram(DATA, new, me, 1, 7, b"T  X")]
+        down = [datagram(OPN, me, new, 7, 65_535, bytes(4)), datagram(DATA, me, new, 8, 0, b"T  LOGIN M")]
+        order = [up[0], down[0], up[1], up[1], down[1], up[2]]
+        own = [(CLIENT_PORT, SERVER_PORT, each) if each in up else (SERVER_PORT, CLIENT_PORT, each) for each in order]
+        seen = [(one, other, in_chudp(each, SERVER, CLIENT)) for one, other, each in own]
+        parts = ["line", "form", "command_in", "reply_in", *LINE_PARTS]
+        names = ["op", "stream", "contact", "analysis.first_in", *(f"file.{part}" for part in parts)]
+        both = [self.tshark.fields(each, [f"chaosnet.{name}" for name in names], "-2") for each in (own, seen)]
+        self.check("a session of FILE is shown alike in both", differences(both[1], both[0]))
+        frames = self.tshark.frames(seen, 'chaosnet.chudp and chaosnet.file.user == "M"')
+        self.check("and its commands and replies are found", differences(frames, [3, 4, 5]))
+
+    def test_what_tshark_and_the_reference_read_is_alike(self):
+        dice = random.Random(SEED)
+        datagrams = [each for each in (random_datagram(dice) for _ in range(COUNT)) if each]
+        seen = [(CLIENT_PORT, CHUDP_PORT, each) for each in datagrams]
+        names = ["chaosnet.fault", *(f"chaosnet.chudp.{it}" for it in ["to", "from", "sum"]), "_ws.col.Info", *(f"chaosnet.{it}" for it in FIELDS)]
+        wanted = [report(each) for each in datagrams]
+        missing = {fault for fault, _, _, _ in CHUDP_FAULTS} - set(wanted)
+        self.check(f"among {len(datagrams)} datagrams each fault stands", sorted(missing))
+        reports = list(chudp_reports_of(self.tshark.fields(seen, names)))
+        self.check(f"{len(datagrams)} datagrams of CHUDP are read by tshark and by the reference alike", differences(reports, wanted))
+        self.check("nothing stops the dissector of CHUDP", differences(self.tshark.frames(seen, "_ws.lua.error"), []))
+
+
+class Dissector(Dissecting, Case):
+    """What tshark shows by the dissector."""
+
+    seconds = 20
 
     def test_the_session_of_the_example_is_shown_line_by_line(self):
         """The session of examples/hello.file: nothing is given but the capture."""

@@ -1,4 +1,4 @@
--- Chaosnet over UDP, for Wireshark and tshark: packets as datagrams, and the FILE language of Poltxegun.
+-- Chaosnet over UDP, for Wireshark and tshark: packets as datagrams, also those of CHUDP, and the FILE language of Poltxegun.
 --
 -- Install: copy this file into Wireshark's folder of personal Lua plugins (Help > About Wireshark > Folders), or give it with
 -- `tshark -X lua_script:chaosnet.lua`. No UDP port is registered for it. A datagram that begins with the mark `CH` and a known
@@ -9,12 +9,20 @@
 --   01 00  and the words of one packet, each high byte first, and nothing more;
 --   02 N   and N packets, from 1 to 8, one after the other, and nothing more, at most 2,020 bytes in all.
 -- The format of a packet and the FILE language are told in docs/PROTOCOL.md and docs/FILE.md. The faults are those of `chaosd show`.
+--
+-- CHUDP is the framing of cbridge and other Chaosnet programs:
+--   01 01 and two bytes that are ignored, the words of one packet, and a trailer of three words: next hop, last hop, checksum.
+-- It is recognized at UDP port 42042, and by 01 01 00 00 in front of 22 bytes at least, and so are then all datagrams between those
+-- two sockets. Other ports are named in the preference `chaosnet.chudp_ports`, or by `-d udp.port==9001,chaosnet.chudp`. The faults
+-- are those of `chaosd show --chudp`.
 
 local chaosnet = Proto("chaosnet", "Chaosnet")
 local file = Proto("chaosnet.file", "Chaosnet FILE")
+local chudp = Proto("chaosnet.chudp", "CHUDP")
 
 local HEADER_WORDS, DATA_LIMIT = 8, 488
 local FRONT, GREATEST = 4, 2020
+local TRAILER, CHUDP_LEAST, CHUDP_GREATEST, CHUDP_PORT = 6, 26, 2048, "42042"
 local HALF_CIRCLE, CIRCLE = 32768, 65536
 local MOST_SHOWN, GREATEST_LENGTH = 200, 4294967295
 
@@ -29,6 +37,8 @@ for op = DWD, 255 do OPCODES[op] = "DWD" end
 
 local FAULTS = { "Short", "BadMark", "BadVersion", "Packet", "Trailing", "BadNumber", "TooLong", "PacketAt" }
 local PACKET_FAULTS = { "Short", "BadCount", "Truncated" }
+local CHUDP_FAULTS = { "TooLong", "Short", "BadVersion", "BadFunction", "BadSum", "Packet", "Trailing" }
+local BAD_SUM = 5
 
 -- Fields.
 
@@ -83,6 +93,18 @@ local g = {
 }
 file.fields = g
 
+local h = {
+  version = ProtoField.uint8("chaosnet.chudp.version", "Version"),
+  func = ProtoField.uint8("chaosnet.chudp.function", "Function", base.DEC, { "Packet" }),
+  args = ProtoField.bytes("chaosnet.chudp.args", "Arguments", base.NONE, "Two bytes that are ignored"),
+  to = ProtoField.uint16("chaosnet.chudp.to", "Next Hop", base.OCT),
+  from = ProtoField.uint16("chaosnet.chudp.from", "Last Hop", base.OCT),
+  sum = ProtoField.uint16("chaosnet.chudp.sum", "Sum", base.HEX, nil, nil, "The Internet checksum of packet, next hop and last hop"),
+  sum_status = ProtoField.uint8("chaosnet.chudp.sum.status", "Sum Status", base.DEC, { [0] = "Wrong", [1] = "Right" }),
+  fault_code = ProtoField.uint8("chaosnet.chudp.fault.code", "Fault", base.DEC, CHUDP_FAULTS),
+}
+chudp.fields = h
+
 local e = {
   malformed = ProtoExpert.new("chaosnet.malformed", "Refused", expert.group.MALFORMED, expert.severity.ERROR),
   cut = ProtoExpert.new("chaosnet.cut", "Cut when it was captured", expert.group.UNDECODED, expert.severity.NOTE),
@@ -99,9 +121,9 @@ file.experts = g_expert
 
 -- Reading: where the packets of a datagram lie, and its fault.
 
--- The end of the packet that begins at a byte, or its fault.
-local function packet_end(tvb, at)
-  local words = math.floor((tvb:len() - at) / 2)
+-- The end of the packet that begins at a byte and ends where the datagram does or before, or its fault.
+local function packet_end(tvb, at, last)
+  local words = math.floor(((last or tvb:len()) - at) / 2)
   if words < HEADER_WORDS then return nil, 1 end
   local count = tvb(at + 2, 2):bitfield(4, 12)
   if count > DATA_LIMIT then return nil, 2 end
@@ -140,9 +162,35 @@ local function read_datagram(tvb)
   return read_one(tvb)
 end
 
+-- The Internet checksum of the words of a datagram of CHUDP, without those of its head; 0 where the sum among them is right.
+local function checksum(tvb, last)
+  local bytes, total = tvb(FRONT, last - FRONT):raw(), 0
+  for at = 1, #bytes, 2 do
+    total = total + bytes:byte(at) * 256 + bytes:byte(at + 1)
+  end
+  while total >= CIRCLE do total = total % CIRCLE + math.floor(total / CIRCLE) end
+  return CIRCLE - 1 - total
+end
+
+-- The packets of a datagram of CHUDP: a list of none or one, and the fault.
+local function read_chudp(tvb)
+  if tvb:len() > CHUDP_GREATEST then return {}, { code = 1, from = 0 } end
+  if tvb:len() < FRONT then return {}, { code = 2, from = 0 } end
+  if tvb(0, 1):uint() ~= 1 then return {}, { code = 3, from = 0 } end
+  if tvb(1, 1):uint() ~= 1 then return {}, { code = 4, from = 1 } end
+  if tvb:len() < CHUDP_LEAST or tvb:len() % 2 == 1 then return {}, { code = 2, from = 0 } end
+  local last = tvb:len() - TRAILER
+  local stop, wrong = packet_end(tvb, FRONT, last)
+  local packets, fault = { stop and { from = FRONT, stop = stop } }, nil
+  if wrong then fault = { code = 6, from = FRONT, packet = wrong } end
+  if stop and stop < last then fault = { code = 7, from = stop } end
+  if checksum(tvb, tvb:len()) ~= 0 then fault = { code = BAD_SUM, from = last + 4 } end
+  return packets, fault
+end
+
 -- A fault in the words of `chaosd show`.
-local function fault_text(fault)
-  local text = ("fault %d %s"):format(fault.code, FAULTS[fault.code])
+local function fault_text(fault, names)
+  local text = ("fault %d %s"):format(fault.code, names[fault.code])
   if fault.at then text = ("%s %d"):format(text, fault.at) end
   if fault.packet then text = ("%s %d %s"):format(text, fault.packet, PACKET_FAULTS[fault.packet]) end
   return text
@@ -431,11 +479,11 @@ local function add_front(tree, tvb)
   tree:add(tvb(2, 1):uint() == 2 and f.packets or f.zero, tvb(3, 1))
 end
 
-local function add_fault(tree, tvb, fault)
-  local text = fault_text(fault)
+local function add_fault(tree, tvb, fault, names, code)
+  local text = fault_text(fault, names)
   if fault.packet then add_header(tree, tvb, fault.from) end
   tree:add(f.fault, tvb(), text):set_generated():add_proto_expert_info(e.malformed, text)
-  tree:add(f.fault_code, tvb(), fault.code):set_generated()
+  tree:add(code, tvb(), fault.code):set_generated()
   if fault.at then tree:add(f.fault_at, tvb(), fault.at):set_generated() end
   if fault.packet then tree:add(f.fault_packet, tvb(), fault.packet):set_generated() end
   return text
@@ -456,20 +504,66 @@ local function add_packets(packets, fault, tvb, pinfo, tree, root)
   return texts, any_file
 end
 
+-- Whether all of a datagram was kept when it was captured. One that wasn't is said to be cut.
+local function is_whole(tvb, pinfo, tree)
+  if tvb:len() == tvb:reported_len() then return true end
+  tree:add_proto_expert_info(e.cut)
+  pinfo.cols.info = "Cut when it was captured"
+  return false
+end
+
+-- The columns of the list of packets: the packets of a datagram by their texts, behind its fault where it was refused by one.
+local function set_columns(pinfo, texts, any_file, refused)
+  if refused then table.insert(texts, 1, "[Refused: " .. refused .. "]") end
+  if any_file then pinfo.cols.protocol = "Chaos FILE" end
+  pinfo.cols.info = table.concat(texts, "; ")
+end
+
 function chaosnet.dissector(tvb, pinfo, root)
   pinfo.cols.protocol = "Chaosnet"
   local tree = root:add(chaosnet, tvb())
   add_front(tree, tvb)
-  if tvb:len() < tvb:reported_len() then
-    tree:add_proto_expert_info(e.cut)
-    pinfo.cols.info = "Cut when it was captured"
-    return tvb:len()
-  end
+  if not is_whole(tvb, pinfo, tree) then return tvb:len() end
   local packets, fault = read_datagram(tvb)
   local texts, any_file = add_packets(packets, fault, tvb, pinfo, tree, root)
-  if fault then table.insert(texts, 1, "[Refused: " .. add_fault(tree, tvb, fault) .. "]") end
-  if any_file then pinfo.cols.protocol = "Chaos FILE" end
-  pinfo.cols.info = table.concat(texts, "; ")
+  set_columns(pinfo, texts, any_file, fault and add_fault(tree, tvb, fault, FAULTS, f.fault_code))
+  return tvb:len()
+end
+
+-- CHUDP.
+
+local function add_head(tree, tvb)
+  if tvb:len() < FRONT then return end
+  tree:add(h.version, tvb(0, 1))
+  tree:add(h.func, tvb(1, 1))
+  tree:add(h.args, tvb(2, 2))
+end
+
+-- The hops and the sum, and what the sum should be where it is wrong. A sum of 0 is also written FFFF.
+local function add_trailer(tree, tvb)
+  local last = tvb:len() - TRAILER
+  tree:add(h.to, tvb(last, 2))
+  tree:add(h.from, tvb(last + 2, 2))
+  local is_right = checksum(tvb, tvb:len()) == 0
+  local sum = tree:add(h.sum, tvb(last + 4, 2))
+  sum:append_text(is_right and " [right]" or (" [wrong: it should be 0x%04x]"):format(checksum(tvb, last + 4)))
+  sum:add(h.sum_status, tvb(last + 4, 2), is_right and 1 or 0):set_generated()
+  tree:append_text((", To: %06o, From: %06o"):format(tvb(last, 2):uint(), tvb(last + 2, 2):uint()))
+end
+
+function chudp.dissector(tvb, pinfo, root)
+  pinfo.cols.protocol = "Chaosnet"
+  local tree = root:add(chudp, tvb())
+  add_head(tree, tvb)
+  if not is_whole(tvb, pinfo, tree) then return tvb:len() end
+  local packets, fault = read_chudp(tvb)
+  local texts, any_file = {}, false
+  if packets[1] then
+    local within = root:add(chaosnet, tvb(FRONT, packets[1].stop - FRONT))
+    texts, any_file = add_packets(packets, fault, tvb, pinfo, within, root)
+  end
+  if not fault or fault.code >= BAD_SUM then add_trailer(tree, tvb) end
+  set_columns(pinfo, texts, any_file, fault and add_fault(tree, tvb, fault, CHUDP_FAULTS, h.fault_code))
   return tvb:len()
 end
 
@@ -481,22 +575,41 @@ local function looks_like_chaosnet(tvb)
   return version == 2 or version == 1 and tvb(3, 1):uint() == 0
 end
 
-chaosnet:register_heuristic("udp", function(tvb, pinfo, root)
-  if not looks_like_chaosnet(tvb) then return false end
-  chaosnet.dissector(tvb, pinfo, root)
-  pinfo.conversation = chaosnet
-  return true
-end)
+-- The arguments of a datagram that is recognized by its head are 0, as all known programs write them: a reply of STUN begins by 01 01.
+local function looks_like_chudp(tvb)
+  return tvb:len() >= CHUDP_LEAST and tvb(0, FRONT):uint() == 0x01010000
+end
+
+-- A datagram that looks like one of a protocol is shown as such, and so are then all between those two sockets.
+local function recognize(protocol, looks)
+  protocol:register_heuristic("udp", function(tvb, pinfo, root)
+    if not looks(tvb) then return false end
+    protocol.dissector(tvb, pinfo, root)
+    pinfo.conversation = protocol
+    return true
+  end)
+end
+recognize(chaosnet, looks_like_chaosnet)
+recognize(chudp, looks_like_chudp)
 
 local udp_ports = DissectorTable.get("udp.port")
 udp_ports:add_for_decode_as(chaosnet)
+udp_ports:add_for_decode_as(chudp)
 
-chaosnet.prefs.ports = Pref.range("UDP ports", "", "UDP ports that carry Chaosnet, beside those where it is recognized", 65535)
+local prefs = chaosnet.prefs
+prefs.ports = Pref.range("UDP ports", "", "UDP ports that carry Chaosnet, beside those where it is recognized", 65535)
+prefs.chudp_ports = Pref.range("UDP ports of CHUDP", CHUDP_PORT, "UDP ports that carry CHUDP, beside those where it is recognized", 65535)
 
-local ports_now = ""
+local ports_now = { [chaosnet] = "", [chudp] = "" }
+local function listen(protocol, ports)
+  if ports_now[protocol] == ports then return end
+  if ports_now[protocol] ~= "" then udp_ports:remove(ports_now[protocol], protocol) end
+  ports_now[protocol] = ports
+  if ports ~= "" then udp_ports:add(ports, protocol) end
+end
+listen(chudp, CHUDP_PORT)
+
 function chaosnet.prefs_changed()
-  if ports_now == chaosnet.prefs.ports then return end
-  if ports_now ~= "" then udp_ports:remove(ports_now, chaosnet) end
-  ports_now = chaosnet.prefs.ports
-  if ports_now ~= "" then udp_ports:add(ports_now, chaosnet) end
+  listen(chaosnet, prefs.ports)
+  listen(chudp, prefs.chudp_ports)
 end
