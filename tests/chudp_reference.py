@@ -44,6 +44,11 @@ def encode(words, to, sender):
     return HEAD + body + octets_of([checksum(body)])
 
 
+def in_chudp(datagram, to, sender):
+    """A datagram of version 1 as one of CHUDP, which has another head, and a trailer."""
+    return encode(words_of(datagram[len(HEAD) :]), to, sender)
+
+
 def decode(datagram):
     """The delivery of a datagram, or its first fault."""
     if len(datagram) > LONGEST:

@@ -15,7 +15,7 @@ import subprocess
 import tempfile
 import unittest
 
-from tests.chudp_reference import encode, random_datagram, report, summed, words_of
+from tests.chudp_reference import in_chudp, random_datagram, report, summed
 from tests.packets import ANS, CLS, DATA, EOF, FWD, LOS, LSN, OPN, RFC, SNS, STS, datagram
 from tests.scripts import text_of
 from tests.support import (
@@ -274,11 +274,6 @@ CHUDP_FAULTS = [
     ("fault 6 Packet 3 Truncated", summed(CHUDP_STS[:6] + b"\x00\x05" + CHUDP_STS[8:]), "7", "1"),
     ("fault 7 Trailing", summed(CHUDP_STS[:6] + b"\x00\x02" + CHUDP_STS[8:]), "7", "1"),
 ]
-
-
-def in_chudp(payload, to, sender):
-    """A datagram of version 1 as one of CHUDP."""
-    return encode(words_of(payload[4:]), to, sender)
 
 
 def chudp_reports_of(rows):

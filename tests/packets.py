@@ -36,8 +36,12 @@ class Peer:
         self.server, self.me = ("127.0.0.1", server.port), (CLIENT + peer, 0o1405)
         self.seen = set()
 
+    def framed(self, *packet):
+        """A packet as the datagram that carries it between this peer and the server."""
+        return datagram(*packet)
+
     def send(self, *packet):
-        self.socket.sendto(datagram(*packet), self.server)
+        self.socket.sendto(self.framed(*packet), self.server)
 
     def receive(self):
         """The next datagram. What is numbered and was seen before, as it is where the machine is slow, is left out."""
@@ -50,7 +54,7 @@ class Peer:
 
     def problems(self, name, *packet):
         """What differs from this packet in the next datagram."""
-        wanted = datagram(*packet)
+        wanted = self.framed(*packet)
         with contextlib.suppress(TimeoutError):
             seen = self.receive()
             return [] if seen == wanted else [f"{name}: {seen.hex(' ')} and not {wanted.hex(' ')}"]

@@ -307,7 +307,7 @@ def session_problems(peer, host, new):
     peer.send(RFC, host, me, 5, 0, b"FILE and more")
     opened = peer.receive()
     first = struct.unpack(">H", opened[16:18])[0]
-    problems = [] if opened == datagram(OPN, me, new, first, 5, struct.pack("<2H", 5, window)) else [opened.hex(" ")]
+    problems = [] if opened == peer.framed(OPN, me, new, first, 5, struct.pack("<2H", 5, window)) else [opened.hex(" ")]
     peer.send(SNS, new, me, 0, first)
     problems += peer.problems("SNS", STS, me, new, 0, 5, struct.pack("<2H", 5, window))
     peer.send(DATA, new, me, 7, first, b"T  DELETE\x8dA")
