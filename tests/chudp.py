@@ -16,7 +16,7 @@ from tests.packets import CLS, DATA, RFC, Peer, datagram
 from tests.scripts import FILE_REPLIES, FILE_SCRIPT
 from tests.serving import session_problems, unconnected_problems
 from tests.support import (
-    BAD_LINE, CLIENT, DONE, FOR_LONG, INPUT_LIMIT, IS_CHECKED, LONG, PATIENCE, REFUSED, SERVER,
+    BAD_LINE, CLIENT, DONE, FOR_LONG, INPUT_LIMIT, LONG, PATIENCE, REFUSED, SERVER,
     Case, Checking, Serving, at, checked, finished, folder, free_ports, mixed_content, run, serving, started, stored_problems,
 )  # fmt: skip
 
@@ -198,13 +198,10 @@ class Bridges(Checking):
 
 
 class ChudpPeer(Peer):
-    """A peer of a server that speaks CHUDP, directly or at a bridge's address."""
+    """A peer of a server that speaks CHUDP, without a bridge."""
 
-    bridge = None
-
-    def framed(self, *packet):
-        dst, src = packet[1][0], packet[2][0]
-        return in_chudp(datagram(*packet), dst if self.bridge is None else self.bridge, src)
+    def framed(self, op, dst, src, *more):
+        return in_chudp(datagram(op, dst, src, *more), dst[0], src[0])
 
 
 def asked(peer, index):
@@ -436,8 +433,7 @@ class Lines(Case):
 
 # `chaosd show --chudp`, and many random packets beside the reference.
 
-# A program with checks takes ten times as long.
-COUNT, SEED = 10_000 if IS_CHECKED else 100_000, 1981
+COUNT, SEED = 100_000, 1981
 
 
 def shown_reports(datagrams):
