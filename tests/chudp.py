@@ -84,11 +84,13 @@ class Reference(Checking):
         self.check("the faults, typed", listed(*[(one.hex(" ")[:60], fault_of(one), name) for name, one in FAULTS]))
 
     def test_the_checksum_is_that_of_rfc_1071(self):
-        rows = [("00 01 F2 03 F4 F5 F6 F7", 0x220D), ("", 0xFFFF), ("00 00", 0xFFFF), ("FF FF", 0), ("FF FF 00 01", 0xFFFE), ("80 00 80 00", 0xFFFE)]
+        rows = [("00 01 F2 03 F4 F5 F6 F7", 0x220D), ("", 0xFFFF), ("00 00", 0xFFFF)]
+        rows += [("FF FF", 0), ("FF FF 00 01", 0xFFFE), ("80 00 80 00", 0xFFFE)]
         self.check("sums, typed", listed(*[(text, checksum(bytes.fromhex(text)), wanted) for text, wanted in rows]))
         wrapped = encode([0x0600, 0, 0, 0, 0, 0, 0xF9FF, 0], 0, 0)
-        both = [wrapped[-2:], decode(wrapped).words, decode(wrapped[:-2] + b"\xff\xff").words]
-        self.check("a sum of 0 is written 0000, and FFFF is taken", listed(("both", both, [b"\0\0", words_of(wrapped[4:-6]), words_of(wrapped[4:-6])])))
+        other, words = with_octets(wrapped, len(wrapped) - 2, b"\xff\xff"), words_of(wrapped[4:-6])
+        problems = listed(("written", wrapped[-2:], bytes(2)), ("read", decode(wrapped).words, words), ("FFFF", decode(other).words, words))
+        self.check("a sum of 0 is written 0000, and FFFF is taken", problems)
 
     def test_of_the_errors_of_one_bit_those_in_the_arguments_alone_are_taken(self):
         ones = [bytes.fromhex(text) for text, _, _, _ in VECTORS]
@@ -158,7 +160,8 @@ class Bridges(Checking):
                 near.send(encode(one, NEAR_BRIDGE, SERVER))
                 wanted = encode([one[0], one[1] + 0x1000, *one[2:]], FAR, FAR_BRIDGE)
                 self.check(f"opcode {op:o} is passed on", listed(("seen", far.receive(), wanted)))
-        self.check("the bridge's addresses", listed(("own", [own_address(subnet_of(it)) for it in (SERVER, FAR)], [NEAR_BRIDGE, FAR_BRIDGE])))
+        own = [own_address(subnet_of(it)) for it in (SERVER, FAR)]
+        self.check("the bridge's addresses", listed(("own", own, [NEAR_BRIDGE, FAR_BRIDGE])))
         self.check("the hops that came", listed(("hops", bridge.trailers, {(NEAR_BRIDGE, SERVER)})))
 
     def test_what_it_does_not_hand_on_is_counted(self):
@@ -364,7 +367,8 @@ class Subnets(Case):
             self.check(f"get of {len(contents)} files", problems + left_problems(here) + left_problems(server.folder))
         self.check("the hops of all that came", listed(("hops", bridge.trailers, {(NEAR_BRIDGE, SERVER), (FAR_BRIDGE, FAR)})))
         tally = dict(bridge.tally)
-        self.check("much was lost, and RUT packets were among it", [] if bridge.lost > 20 and tally["RUT"] > 20 else [f"{bridge.lost}, {tally}"])
+        problems = [] if bridge.lost > 20 and tally["RUT"] > 20 else [f"{bridge.lost}, {tally}"]
+        self.check("much was lost, and there were RUT packets", problems)
         odd = {name: count for name, count in tally.items() if count and name not in ("came", "handed on", "RUT")}
         self.check("no datagram that came had a fault", listed(("odd", odd, {})))
 
@@ -422,9 +426,10 @@ class Lines(Case):
         ]
         with folder() as here:
             for name, options, peers in rows:
-                lines = [["serve", *options, "401", own, here, *peers], ["ask", *options, "402", own, "401", *(peers or [f"401={other}"])]]
-                if not peers:
-                    lines += [[it, *options, "402", own, f"401={other}", "A", *"B" * (it == "rename")] for it in ("get", "put", "delete", "rename")]
+                host = f"401={other}"
+                lines = [["serve", *options, "401", own, here, *peers], ["ask", *options, "402", own, "401", *(peers or [host])]]
+                calls = [] if peers else [["get", "A"], ["put", "A"], ["delete", "A"], ["rename", "A", "B"]]
+                lines += [[call, *options, "402", own, host, *names] for call, *names in calls]
                 for line in lines:
                     ended = run(line)
                     problems = ended.problems(BAD_LINE, b"") + ([] if ended.err else ["it told nothing"])

@@ -329,11 +329,12 @@ class Chudp(Dissecting):
             (CHUDP_RFC, ["1", "7", "", "", "4e4f4e45", "NONE", "257", "258", "0x634d", "1", "", ""]),
         ]
         seen = [(CLIENT_PORT, CHUDP_PORT, each) for each, _ in rows]
-        names = ["op", "num", "receipt", "window", "data", "contact", *(f"chudp.{it}" for it in ["to", "from", "sum", "sum.status"])]
+        names = ["op", "num", "receipt", "window", "data", "contact", "chudp.to", "chudp.from", "chudp.sum", "chudp.sum.status"]
         names += ["fault", "malformed"]
         table = self.tshark.fields(seen, [f"chaosnet.{name}" for name in names])
         self.check("three datagrams, typed", differences(table, [row for _, row in rows]))
-        texts = [line.split(None, 1) for line in self.tshark.run(seen, "-o", 'gui.column.format:"Protocol","%p","Info","%i"').splitlines()]
+        columns = ["-o", 'gui.column.format:"Protocol","%p","Info","%i"']
+        texts = [line.split(None, 1) for line in self.tshark.run(seen, *columns).splitlines()]
         wanted = [["Chaosnet", "000402:001405 → 000401:001001 [STS] Ack=16 Receipt=18 Window=13"]]
         wanted += [["Chaosnet", "000402:001405 → 000401:001001 [DAT] Num=5 Ack=16 A"]]
         wanted += [["Chaosnet", "000402:001405 → 000401:000000 [RFC] Num=7 NONE"]]
@@ -345,7 +346,8 @@ class Chudp(Dissecting):
         table = self.tshark.fields(seen, [f"chaosnet.{name}" for name in names])
         wanted = [[fault, op, status, fault.split()[1], ""] for fault, _, op, status in CHUDP_FAULTS]
         self.check("the faults of CHUDP, typed", differences(table, wanted))
-        self.check("the reference says so too", differences([report(each) for _, each, _, _ in CHUDP_FAULTS], [row[0] for row in wanted]))
+        reports = [report(each) for _, each, _, _ in CHUDP_FAULTS]
+        self.check("the reference says so too", differences(reports, [row[0] for row in wanted]))
         frames = self.tshark.frames(seen, "chaosnet.malformed and _ws.expert.severity == error")
         self.check("each is an expert information", differences(frames, list(range(1, len(seen) + 1))))
         text = self.tshark.run(seen[6:7], "-V")
@@ -374,7 +376,8 @@ class Chudp(Dissecting):
 
     def test_connections_and_file_are_shown_as_of_the_own_carriage(self):
         me, host, new = (CLIENT, 0o1405), (SERVER, 0), (SERVER, 1)
-        up = [datagram(RFC, host, me, 65_535, 0, b"FILE"), datagram(DATA, new, me, 0, 7, b"T  LOGIN M"), datagram(DATA, new, me, 1, 7, b"T  X")]
+        up = [datagram(RFC, host, me, 65_535, 0, b"FILE"), datagram(DATA, new, me, 0, 7, b"T  LOGIN M")]
+        up += [datagram(DATA, new, me, 1, 7, b"T  X")]
         down = [datagram(OPN, me, new, 7, 65_535, bytes(4)), datagram(DATA, me, new, 8, 0, b"T  LOGIN M")]
         order = [up[0], down[0], up[1], up[1], down[1], up[2]]
         own = [(CLIENT_PORT, SERVER_PORT, each) if each in up else (SERVER_PORT, CLIENT_PORT, each) for each in order]
@@ -390,7 +393,8 @@ class Chudp(Dissecting):
         dice = random.Random(SEED)
         datagrams = [each for each in (random_datagram(dice) for _ in range(COUNT)) if each]
         seen = [(CLIENT_PORT, CHUDP_PORT, each) for each in datagrams]
-        names = ["chaosnet.fault", *(f"chaosnet.chudp.{it}" for it in ["to", "from", "sum"]), "_ws.col.Info", *(f"chaosnet.{it}" for it in FIELDS)]
+        names = ["chaosnet.fault", "chaosnet.chudp.to", "chaosnet.chudp.from", "chaosnet.chudp.sum", "_ws.col.Info"]
+        names += [f"chaosnet.{it}" for it in FIELDS]
         wanted = [report(each) for each in datagrams]
         missing = {fault for fault, _, _, _ in CHUDP_FAULTS} - set(wanted)
         self.check(f"among {len(datagrams)} datagrams each fault stands", sorted(missing))
