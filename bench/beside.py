@@ -24,7 +24,7 @@ RUNS = 10
 # the libraries that the program of a bench names; crates of this repository below them come along
 BENCHES = {
     "codec": ["chaos_link", "chaos_packet", "arrayvec"],
-    "links": ["chaos_link"],
+    "links": ["chaos_chudp", "chaos_link"],
     "window": ["chaos_window", "chaos_packet"],
     "host": ["chaos_host", "chaos_conn", "chaos_packet"],
     "file": ["chaos_file"],

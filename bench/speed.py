@@ -66,7 +66,10 @@ LIBRARIES = {
         ),
         Row("written and handed out by value", "codec: encode of 448 bytes"),
     ],
-    "links": [Row("a round trip of 508 bytes over two UDP links", "links: round trip of 508 bytes", 1.2, "links: the whole run")],
+    "links": [
+        Row("a round trip of 508 bytes over two UDP links", "links: round trip of 508 bytes", 1.2, "links: the whole run"),
+        Row("the same in CHUDP", "links: round trip of 508 bytes in CHUDP", 1.2),
+    ],
     "window": [
         Row(
             "an item through a receive window of 64, in order",

@@ -40,7 +40,7 @@ class Speed(Checking):
 
     def test_a_row_without_a_line_is_a_fault(self):
         short = "\n".join(line for line in told(1.05).splitlines() if not line.startswith("links"))
-        self.assertEqual(speed.faults_of(speed.figures_of(short)), ["links: round trip of 508 bytes"])
+        self.assertEqual(speed.faults_of(speed.figures_of(short)), ["links: round trip of 508 bytes", "links: round trip of 508 bytes in CHUDP"])
 
     def test_a_document_without_its_places_is_refused(self):
         with self.assertRaises(ValueError):
