@@ -24,7 +24,7 @@ from tests.support import (
 FAR = 0o1001
 NEAR_BRIDGE, FAR_BRIDGE = 0o410, 0o1010
 NO_SERVER = b"No server for this contact name."
-BOTH = ["--chudp"]
+CHUDP = ["--chudp"]
 
 # A status, data of one byte, and a request for a contact that nobody serves, each to 000401 from 000402; with what `show` reports.
 STS = "01 01 00 00 07 00 00 04 01 01 02 01 01 02 03 05 00 00 00 10 00 12 00 0D 01 01 01 02 EF C0"
@@ -215,7 +215,7 @@ def asked(peer, index):
 
 
 @contextlib.contextmanager
-def peer_of(options=BOTH, make=ChudpPeer):
+def peer_of(options=CHUDP, make=ChudpPeer):
     with serving(options=options) as server, contextlib.closing(make(server)) as peer:
         yield server, peer
 
@@ -280,7 +280,7 @@ class Hops(Case):
     seconds = 3
 
     def test_a_server_sends_to_the_bridge_what_is_for_a_host_without_an_entry(self):
-        for options, hop in [([*BOTH, "--bridge", f"{NEAR_BRIDGE:o}"], NEAR_BRIDGE), (BOTH, FAR)]:
+        for options, hop in [([*CHUDP, "--bridge", f"{NEAR_BRIDGE:o}"], NEAR_BRIDGE), (CHUDP, FAR)]:
             with contextlib.closing(End(0)) as bridge, folder() as here:
                 server = Serving(here, options=options, others=[f"*={at(bridge.port)}"])
                 bridge.to = server.port
@@ -292,15 +292,15 @@ class Hops(Case):
                 server.end()
 
     def test_a_client_sends_to_the_bridge_where_it_knows_one(self):
-        known = [*BOTH, "--bridge", f"{FAR_BRIDGE:o}"]
+        known = [*CHUDP, "--bridge", f"{FAR_BRIDGE:o}"]
         rows = [
             (["get", *known, "{me}", "{own}", "401={bridge}", "A"], FAR_BRIDGE),
-            (["get", *BOTH, "{me}", "{own}", "401={bridge}", "A"], SERVER),
+            (["get", *CHUDP, "{me}", "{own}", "401={bridge}", "A"], SERVER),
             (["delete", *known, "{me}", "{own}", "401={bridge}", "A"], FAR_BRIDGE),
             (["rename", *known, "{me}", "{own}", "401={bridge}", "A", "B"], FAR_BRIDGE),
             (["ask", *known, "{me}", "{own}", "401", "*={bridge}"], FAR_BRIDGE),
             (["ask", *known, "{me}", "{own}", "401", "401={bridge}"], SERVER),
-            (["ask", *BOTH, "{me}", "{own}", "401", "*={bridge}"], SERVER),
+            (["ask", *CHUDP, "{me}", "{own}", "401", "*={bridge}"], SERVER),
         ]
         for words, hop in rows:
             with contextlib.closing(End(0)) as bridge, folder() as here:
@@ -328,7 +328,7 @@ def through(bridge, subcommand, *names, options=(), **streams):
     """How a call of the server of one subnet ended by a host of the other, through a bridge."""
     (port,) = free_ports(1)
     bridge.add_host(FAR, port)
-    words = [subcommand, *BOTH, "--bridge", f"{FAR_BRIDGE:o}", *options, f"{FAR:o}", at(port), f"{SERVER:o}={at(bridge.port)}", *names]
+    words = [subcommand, *CHUDP, "--bridge", f"{FAR_BRIDGE:o}", *options, f"{FAR:o}", at(port), f"{SERVER:o}={at(bridge.port)}", *names]
     streams = {"stdin": subprocess.DEVNULL, "stdout": subprocess.PIPE, "stderr": subprocess.PIPE, **streams}
     return finished(started(words, **streams), patience=LONG)
 
@@ -337,7 +337,7 @@ def through(bridge, subcommand, *names, options=(), **streams):
 def bridged(**manners):
     """A server on one subnet, and the bridge to the other."""
     with bridging(**manners) as bridge, folder() as kept:
-        options = [*BOTH, "--bridge", f"{NEAR_BRIDGE:o}", "--window", "64", "--retransmit", "100"]
+        options = [*CHUDP, "--bridge", f"{NEAR_BRIDGE:o}", "--window", "64", "--retransmit", "100"]
         server = Serving(kept, peers=0, options=options, others=[f"*={at(bridge.port)}"])
         bridge.add_host(SERVER, server.port)
         try:
@@ -388,22 +388,22 @@ class Direct(Case):
 
     def test_each_client_speaks_chudp(self):
         content = mixed_content(100_000)
-        with serving(options=BOTH) as server, folder() as here:
+        with serving(options=CHUDP) as server, folder() as here:
             (here / "A").write_bytes(content)
-            problems = copied(server, "put", "A", options=BOTH, cwd=here).problems(DONE, b"", b"")
+            problems = copied(server, "put", "A", options=CHUDP, cwd=here).problems(DONE, b"", b"")
             self.check("put", problems + stored_problems(server.folder / "A", content))
             (here / "A").unlink()
-            problems = copied(server, "get", "A", options=BOTH, cwd=here).problems(DONE, b"", b"")
+            problems = copied(server, "get", "A", options=CHUDP, cwd=here).problems(DONE, b"", b"")
             self.check("get", problems + stored_problems(here / "A", content))
-            problems = copied(server, "rename", "A", "B", options=BOTH, cwd=here).problems(DONE, b"", b"")
+            problems = copied(server, "rename", "A", "B", options=CHUDP, cwd=here).problems(DONE, b"", b"")
             self.check("rename", problems + stored_problems(server.folder / "B", content))
-            problems = copied(server, "delete", "B", options=BOTH, cwd=here).problems(DONE, b"", b"")
+            problems = copied(server, "delete", "B", options=CHUDP, cwd=here).problems(DONE, b"", b"")
             self.check("delete", problems + ([] if not (server.folder / "B").exists() else ["it is there"]))
-            ended = run(server.words(options=[*BOTH, *FOR_LONG]), FILE_SCRIPT, patience=LONG)
+            ended = run(server.words(options=[*CHUDP, *FOR_LONG]), FILE_SCRIPT, patience=LONG)
             self.check("ask", ended.problems(DONE, FILE_REPLIES, b""))
 
     def test_both_ends_need_it(self):
-        for own, others in [(BOTH, []), ([], BOTH)]:
+        for own, others in [(CHUDP, []), ([], CHUDP)]:
             with serving(options=others) as server:
                 ended = run(server.words(options=[*own, "--timeout", "2"]), FILE_SCRIPT)
             name = f"ask {' '.join(own)} of serve {' '.join(others)}"
@@ -416,13 +416,13 @@ class Lines(Case):
     def test_options_that_do_not_fit_are_refused(self):
         own, other, third = (at(port) for port in free_ports(3))
         rows = [
-            ("--chudp and --carriage 2", [*BOTH, "--carriage", "2"], []),
+            ("--chudp and --carriage 2", [*CHUDP, "--carriage", "2"], []),
             ("--bridge without --chudp", ["--bridge", "410"], []),
-            ("two bridges", BOTH, [f"*={other}", f"*={third}"]),
-            ("a bridge's address of 0", [*BOTH, "--bridge", "0"], []),
-            ("a bridge's address out of form", [*BOTH, "--bridge", "8"], []),
-            ("a bridge's UDP address out of form", BOTH, ["*=127.0.0.1"]),
-            ("no `=` behind the star", BOTH, [f"*{other}"]),
+            ("two bridges", CHUDP, [f"*={other}", f"*={third}"]),
+            ("a bridge's address of 0", [*CHUDP, "--bridge", "0"], []),
+            ("a bridge's address out of form", [*CHUDP, "--bridge", "8"], []),
+            ("a bridge's UDP address out of form", CHUDP, ["*=127.0.0.1"]),
+            ("no `=` behind the star", CHUDP, [f"*{other}"]),
         ]
         with folder() as here:
             for name, options, peers in rows:
@@ -432,7 +432,7 @@ class Lines(Case):
                 lines += [[call, *options, "402", own, host, *names] for call, *names in calls]
                 for line in lines:
                     ended = run(line)
-                    problems = ended.problems(BAD_LINE, b"") + ([] if ended.err else ["it told nothing"])
+                    problems = ended.problems(BAD_LINE, b"") + ([] if ended.err else ["it reported nothing"])
                     self.check(f"{line[0]} with {name}: status 2", problems)
 
 
@@ -447,7 +447,7 @@ def shown_reports(datagrams):
     for one in [*datagrams, None]:
         line = one.hex() + "\n" if one is not None else ""
         if one is None or size + len(line) > INPUT_LIMIT:
-            ended = run(["show", *BOTH], "".join(lines).encode(), patience=LONG)
+            ended = run(["show", *CHUDP], "".join(lines).encode(), patience=LONG)
             yield from ended.out.decode().removesuffix("\n").split("\n\n") if lines else []
             lines, size = [], 0
         lines.append(line)
@@ -467,13 +467,13 @@ class Shown(Case):
     def test_the_vectors_are_reported_with_their_trailers(self):
         for text, _, lines, total in VECTORS:
             wanted = lines + f"trailer to 000401 from 000402\nsum {total}\n"
-            self.check(f"{text[:20]}..", run(["show", *BOTH], text.encode() + b"\n").problems(DONE, wanted.encode(), b""))
+            self.check(f"{text[:20]}..", run(["show", *CHUDP], text.encode() + b"\n").problems(DONE, wanted.encode(), b""))
 
     def test_each_fault_is_reported(self):
         for name, one in FAULTS:
-            ended = run(["show", *BOTH], one.hex().encode() + b"\n")
+            ended = run(["show", *CHUDP], one.hex().encode() + b"\n")
             self.check(f"{name}: {one.hex()[:40]}", ended.problems(REFUSED, f"fault {name}\n".encode(), b""))
-        ended = run(["show", *BOTH], b"nonsense\n")
+        ended = run(["show", *CHUDP], b"nonsense\n")
         self.check("a line of no digits", ended.problems(REFUSED, b"fault 0 Line\n", b""))
         ended = run(["show"], STS.encode() + b"\n")
         self.check("without --chudp it is no datagram", ended.problems(REFUSED, b"fault 2 BadMark\n", b""))

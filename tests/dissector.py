@@ -351,7 +351,7 @@ class Chudp(Dissecting):
         frames = self.tshark.frames(seen, "chaosnet.malformed and _ws.expert.severity == error")
         self.check("each is an expert information", differences(frames, list(range(1, len(seen) + 1))))
         text = self.tshark.run(seen[6:7], "-V")
-        self.check("what a wrong sum should be is told", [] if "Sum: 0xefc1 [wrong: it should be 0xefc0]" in text else [text])
+        self.check("what a wrong sum should be is shown", [] if "Sum: 0xefc1 [wrong: it should be 0xefc0]" in text else [text])
 
     def test_chudp_is_recognized_by_its_head_by_its_port_and_by_what_went_before(self):
         other, argued = b"\x02" + CHUDP_STS[1:], with_bytes(CHUDP_STS, 2, b"\x0a\x0b")
