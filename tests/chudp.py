@@ -103,11 +103,11 @@ class Reference(Checking):
 
 
 class End:
-    """A host that speaks CHUDP to a port. What comes from another, and empty datagrams, are left out."""
+    """A host that speaks CHUDP to a port. Empty datagrams that come are left out."""
 
-    def __init__(self, to, port=None):
+    def __init__(self, to):
         self.socket = socket.socket(socket.AF_INET, socket.SOCK_DGRAM)
-        self.port = port or free_ports(1)[0]
+        (self.port,) = free_ports(1)
         self.socket.bind(("127.0.0.1", self.port))
         self.socket.settimeout(PATIENCE)
         self.to = to
