@@ -11,7 +11,7 @@ from tests.support import BAD_LINE, DONE, FILE_LIMIT, REFUSED, Case, Checking, a
 
 SIZES = [0, 1, 447, 448, 449, 100_000, FILE_LIMIT]
 TEXT, LISP_TEXT = b"(A)\n\tB\x08\x0c", b"(A)\x8d\x89B\x88\x8c"
-MOST_LINES, MOST_COLUMNS = 1_200, 100
+MOST_LINES, MOST_COLUMNS = 1_400, 100
 OF_TESTS = ["tests.lisp", "memory.lisp"]
 TESTS = LISP / "tests.lisp"
 
