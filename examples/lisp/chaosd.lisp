@@ -2,7 +2,7 @@
 ;;;; Elsewhere the other files are loaded, and GET, PUT and SERVE are called.
 
 (dolist (file '("package" "packets" "datagrams" "udp" "connection" "host" "words" "files"
-                "client" "server" "main"))
+                "network" "client" "ncp" "server" "main"))
   (load (merge-pathnames (concatenate 'string file ".lisp") *load-truename*)))
 
 (let ((*standard-input* (sb-sys:make-fd-stream 0 :input t :external-format :latin-1))

@@ -53,4 +53,11 @@
   (define unfit "The file is too big, or as a text has an octet that wouldn't come back.")
   (define bad-word "A word of the command line isn't of its form."))
 
-(defun fail (condition &rest strings) (error condition :text (apply #'join strings)))
+(defvar *in-doubt* nil "Is the file put, or isn't it, where no reply comes now?")
+
+(defun fail (condition &rest strings)
+  (let ((text (apply #'join strings)))
+    (if (and *in-doubt* (member condition '(no-reply connection-ended)))
+        (error 'unknown-outcome :text (join "whether it was put isn't known, since its CLOSE got "
+                                            "no reply: " text))
+        (error condition :text text))))

@@ -8,7 +8,7 @@
   (load (merge-pathnames (concatenate 'string name ".lisp") cl-user::*here*)))
 
 (mapc #'cl-user::load-here '("package" "packets" "datagrams" "memory" "connection" "host" "words"
-                             "files" "client" "server"))
+                             "files" "network" "client" "ncp" "server"))
 
 (in-package :chaosnet)
 
@@ -255,8 +255,8 @@ of the session."
                                (setf serving t)
                                (serve-once ,server)
                                (setf serving nil)))))
-     (setf (link-other (host-link (client-host ,client))) (host-link ,server)
-           (link-other (host-link ,server)) (host-link (client-host ,client)))
+     (setf (link-other (host-link (client-network ,client))) (host-link ,server)
+           (link-other (host-link ,server)) (host-link (client-network ,client)))
      ,@body))
 
 (defun some-octets (count)
@@ -283,13 +283,13 @@ of the session."
 
 (defun test-ends ()
   (with-two-hosts (client server 13)
-    (open-connection client)
+    (open-session client)
     (setf (host-connections server) '())
     (check (handler-case (say client "" "LOGIN X")
              (connection-ended (condition) (error-text condition)))
            "it knows no such connection: No such connection."))
   (with-two-hosts (client server 13)
-    (setf (link-other (host-link (client-host client))) nil)
+    (setf (link-other (host-link (client-network client))) nil)
     (check (handler-case (say client "" "LOGIN X")
              (no-reply (condition) (subseq (error-text condition) 0 23)))
            "no connection opened in"))
