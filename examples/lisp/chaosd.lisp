@@ -1,7 +1,7 @@
 ;;;; From a shell, by SBCL:  sbcl --script examples/lisp/chaosd.lisp get ..
 ;;;; Elsewhere the other files are loaded, and GET, PUT and SERVE are called.
 
-(dolist (file '("package" "packets" "datagrams" "udp" "connection" "host" "words" "files"
+(dolist (file '("package" "packets" "datagrams" "chudp" "udp" "connection" "host" "words" "files"
                 "network" "client" "ncp" "server" "main"))
   (load (merge-pathnames (concatenate 'string file ".lisp") *load-truename*)))
 

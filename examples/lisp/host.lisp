@@ -5,7 +5,8 @@
 (defstruct host
   address
   link                                  ; of udp.lisp
-  (version 1)                           ; of the datagrams that it sends
+  (version 1)                           ; of the datagrams that it sends, 1 or 2, or :CHUDP
+  (bridge nil)                          ; the address of the next hop, where all goes to one bridge
   (window 13)                           ; of each connection, both ways
   (contacts '())                        ; what it listens to
   (most-connections 16)
@@ -15,12 +16,18 @@
 
 (defun transmit (host packet) (push packet (host-outbox host)))
 
+(defun chudp-p (host) (eq (host-version host) :chudp))
+
 (defun flush (host)
   "Sends what waits. A datagram goes where the link has the host that it is for, or nowhere."
   (let ((packets (reverse (host-outbox host))))
     (setf (host-outbox host) '())
-    (send-packets packets (host-version host)
-                  (lambda (address octets) (link-send (host-link host) address octets)))))
+    (flet ((send (address octets) (link-send (host-link host) address octets)))
+      (if (chudp-p host)
+          (dolist (packet packets)
+            (let ((to (pkt-to packet)))
+              (send to (chudp-datagram packet (or (host-bridge host) to)))))
+          (send-packets packets (host-version host) #'send)))))
 
 (defun new-index (host)
   "An index that no connection has, and none had for long: never 0."
@@ -87,6 +94,10 @@ asked doesn't know the index of its peer yet."
           ((or (item-opcode-p opcode) (member opcode (list +opn+ +sns+ +sts+)))
            (reply host packet +los+ "No such connection." (pkt-to-index packet))))))
 
+(defun packets-of (host octets size)
+  "The packets of a datagram that came, which is of CHUDP or isn't, as the host says."
+  (if (chudp-p host) (chudp-packets octets size) (datagram-packets octets size)))
+
 (defun turn (host)
   "Sends what waits, delivers what came, for which it waits a little, and lets time pass."
   (flush host)
@@ -94,6 +105,6 @@ asked doesn't know the index of its peer yet."
     (loop repeat 64                     ; no more, so that what is due is done under a flood, too
           do (multiple-value-bind (octets size) (link-receive (host-link host))
                (unless octets (return))
-               (dolist (packet (datagram-packets octets size)) (deliver host packet)))))
+               (dolist (packet (packets-of host octets size)) (deliver host packet)))))
   (mapc #'tick (host-connections host))
   (flush host))

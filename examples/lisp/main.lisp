@@ -6,14 +6,18 @@
 Usage: chaosd.lisp serve [OPTIONS] ADDRESS UDP FOLDER [PEER ...]
        chaosd.lisp get   [OPTIONS] ADDRESS UDP SERVER PATH ...
        chaosd.lisp put   [OPTIONS] ADDRESS UDP SERVER LOCAL ...
-Options: --carriage N, --window N, --quiet; --turns N of serve; --login NAME, --text and --timeout N
+Options: --carriage N or --chudp, --bridge ADDRESS (with --chudp: the next hop of all packets),
+--contact NAME (FILE), --window N, --quiet; --turns N of serve; --login NAME, --text and --timeout N
 of get and put (15 seconds); --output LOCAL of get; --as PATH of put. They mean what chaosd's mean.
+A PEER or SERVER is ADDRESS=UDP; the PEER *=UDP is the place of all other hosts.
 ")
 
+(defparameter *of-all* '("--carriage" "--chudp" "--bridge" "--contact" "--window" "--quiet"))
+
 (defparameter *options*
-  '(("serve" "--carriage" "--window" "--quiet" "--turns")
-    ("get" "--carriage" "--window" "--quiet" "--login" "--text" "--timeout" "--output")
-    ("put" "--carriage" "--window" "--quiet" "--login" "--text" "--timeout" "--as")))
+  `(("serve" "--turns" ,@*of-all*)
+    ("get" "--login" "--text" "--timeout" "--output" ,@*of-all*)
+    ("put" "--login" "--text" "--timeout" "--as" ,@*of-all*)))
 
 (defun parse-line (subcommand words)
   "The options of a line as a list of (name . word), and its other words."
@@ -24,7 +28,7 @@ of get and put (15 seconds); --output LOCAL of get; --as PATH of put. They mean 
                      ((not (begins-p "--" word)) (push word others))
                      ((not (member word (rest subcommand) :test #'string=))
                       (wanted word (join "an option of " (first subcommand))))
-                     ((member word '("--text" "--quiet") :test #'string=)
+                     ((member word '("--text" "--quiet" "--chudp") :test #'string=)
                       (push (cons word t) options))
                      (words (push (cons word (pop words)) options))
                      (t (wanted word "a word behind it")))))
@@ -34,9 +38,16 @@ of get and put (15 seconds); --output LOCAL of get; --as PATH of put. They mean 
   (or (cdr (assoc name options :test #'string=)) default))
 
 (defun host-options (options window)
-  "What the options say of the carriage and of the windows, which have WINDOW else."
-  (list :carriage (number-word (option "--carriage" options "1") 1 2 "1 or 2")
-        :window (number-word (option "--window" options (decimal window)) 1 64 "1 to 64")))
+  "What the options say of datagrams, of the contact and of the windows, which have WINDOW else."
+  (let ((carriage (option "--carriage" options))
+        (chudp (option "--chudp" options))
+        (bridge (option "--bridge" options)))
+    (when (and chudp carriage) (wanted carriage "no --carriage beside --chudp"))
+    (when (and bridge (not chudp)) (wanted bridge "--chudp beside --bridge"))
+    (list :carriage (if chudp :chudp (number-word (or carriage "1") 1 2 "1 or 2"))
+          :bridge (and bridge (address-word bridge))
+          :contact (contact-word (option "--contact" options "FILE"))
+          :window (number-word (option "--window" options (decimal window)) 1 64 "1 to 64"))))
 
 (defun last-name (name)
   (subseq name (1+ (or (position #\/ name :from-end t) -1))))

@@ -7,11 +7,13 @@
 (defparameter *openings* 3 "How often a connection is asked for.")
 (defparameter *ending-patience* 2000 "Milliseconds for what answers an EOF.")
 
-(defun open-client (&key address place server (login "LISPM") (window 64) (carriage 1))
+(defun open-client (&key address place server (login "LISPM") (window 64) (carriage 1)
+                      (contact "FILE") bridge)
   "A client of the host SERVER, as \"401=127.0.0.1:9001\". It connects when it is first used."
   (let ((peer (peer-word server)))
-    (make-client :server (first peer) :name login :contact "FILE"
+    (make-client :server (first peer) :name login :contact contact
                  :network (make-host :address address :window window :version carriage
+                                     :bridge bridge
                                      :link (open-link (place-word place) (list peer))))))
 
 (defun close-client (client)

@@ -200,12 +200,13 @@ behind an EOF is dropped."
         (:host-down (end "its host is down"))
         (t (end "closed by its host"))))))
 
-(defun serve (&key address place folder peers (window 13) (carriage 1) turns quiet)
+(defun serve (&key address place folder peers (window 13) (carriage 1) (contact "FILE") bridge
+                turns quiet)
   "Serves the files of FOLDER, a name with a slash at its end, to all PEERS, as
 \"402=127.0.0.1:9002\": for so many TURNS, or for ever."
-  (let* ((link (open-link (place-word place) (mapcar #'peer-word peers)))
+  (let* ((link (open-link (place-word place) (peer-words peers)))
          (host (make-host :address address :link link :window window :version carriage
-                          :contacts '("FILE"))))
+                          :bridge bridge :contacts (list contact))))
     (unless quiet
       (tell "host " (octal address) " serves " (string-right-trim "/" folder) " at " place))
     (loop for turn from 0

@@ -7,8 +7,8 @@
 (defun cl-user::load-here (name)
   (load (merge-pathnames (concatenate 'string name ".lisp") cl-user::*here*)))
 
-(mapc #'cl-user::load-here '("package" "packets" "datagrams" "memory" "connection" "host" "words"
-                             "files" "network" "client" "ncp" "server"))
+(mapc #'cl-user::load-here '("package" "packets" "datagrams" "chudp" "memory" "connection" "host"
+                             "words" "files" "network" "client" "ncp" "server"))
 
 (in-package :chaosnet)
 
@@ -208,6 +208,77 @@ of the session."
                               (push (length (datagram-packets octets (length octets))) counts)))
     (check (reverse counts) '(8 8 7 4 2 3))))
 
+;;; CHUDP: datagrams, the next hop of each, and what `show` would print of its packet
+
+(defparameter *chudp-vectors*
+  '(("01 01 00 00 07 00 00 04 01 01 02 01 01 02 03 05 00 00 00 10 00 12 00 0D 01 01 01 02 EF C0"
+     "op 007 STS" "fwd 0 count 4" "to 000401 001001" "from 000402 001405" "num 0 ack 16"
+     "receipt 18 window 13")
+    ("01 01 00 00 80 00 00 01 01 01 02 01 01 02 03 05 00 05 00 10 00 41 01 01 01 02 76 9C"
+     "op 200 DAT" "fwd 0 count 1" "to 000401 001001" "from 000402 001405" "num 5 ack 16"
+     "data 41")
+    ("01 01 00 00 01 00 00 04 01 01 00 00 01 02 03 05 00 07 00 00 4F 4E 45 4E 01 01 01 02 63 4D"
+     "op 001 RFC" "fwd 0 count 4" "to 000401 000000" "from 000402 001405" "num 7 ack 0"
+     "data 4E 4F 4E 45")))
+
+(defun chudp-fault (octets) (nth-value 1 (chudp-packets octets (length octets))))
+
+(defun with-sum (octets)
+  "OCTETS, whose last two are made the sum of all behind the head."
+  (let* ((end (- (length octets) 2))
+         (sum (logxor #xFFFF (ones-sum octets 4 end))))
+    (replace octets (list (ash sum -8) (ldb (byte 8 0) sum)) :start1 end)))
+
+(defun test-chudp-vectors ()
+  (loop for (digits . told) in *chudp-vectors*
+        for octets = (hex digits)
+        for packet = (first (chudp-packets octets (length octets)))
+        do (check (packet-report packet) told)
+           (check (chudp-datagram packet #o401) octets)
+           (check (chudp-fault (with-sum (copy-seq octets))) nil)
+           (dotimes (bit (* 8 (length octets)))
+             (let ((other (copy-seq octets))
+                   (at (floor bit 8)))
+               (setf (aref other at) (logxor (aref other at) (ash 1 (mod bit 8))))
+               (check (not (chudp-packets other (length other))) (not (<= 2 at 3)))))))
+
+(defun test-chudp-faults ()
+  (let ((octets (hex (first (second *chudp-vectors*)))))
+    (flet ((changed (at octet)
+             (let ((other (copy-seq octets)))
+               (setf (aref other at) octet)
+               (with-sum other)))
+           (longer (count)
+             (with-sum (concatenate '(vector octet) octets (make-octets count)))))
+      (check (chudp-fault (hex "")) "Short")
+      (check (chudp-fault (hex "010100")) "Short")
+      (check (chudp-fault (subseq octets 0 24)) "Short")
+      (check (chudp-fault (concatenate '(vector octet) octets #(0))) "Short")
+      (check (chudp-fault (changed 0 2)) "BadVersion")
+      (check (chudp-fault (changed 1 2)) "BadFunction")
+      (check (chudp-fault (hex "43480100")) "BadVersion")
+      (check (chudp-fault (concatenate '(vector octet) octets #(0 1))) "BadSum")
+      (check (chudp-fault (changed 7 3)) "3 Truncated")
+      (check (chudp-fault (changed 6 2)) "2 BadCount")
+      (check (chudp-fault (longer 2)) "5 Trailing")
+      (check (chudp-fault (longer 600)) "5 Trailing"))
+    (let ((bridged (chudp-datagram (first (chudp-packets octets (length octets))) #o3040)))
+      (check (subseq bridged 0 22) (subseq octets 0 22))
+      (check (subseq bridged 22 26) (hex "06 20 01 02"))
+      (check (chudp-fault bridged) nil))))
+
+(defun test-next-hop ()
+  "A host behind a bridge gives the bridge's address in the trailer of each datagram."
+  (let ((host (bare-host #o402 :chudp)))
+    (setf *sent* '() (host-bridge host) #o3040)
+    (request host #o401 "FILE")
+    (flush host)
+    (let* ((octets (first *sent*))
+           (at (- (length octets) +trailer-size+)))
+      (check (subseq octets at (+ at 4)) (hex "06 20 01 02"))
+      (check (datagram-packets octets (length octets)) nil)
+      (check (pkt-to (first (chudp-packets octets (length octets)))) #o401))))
+
 ;;; FILE
 
 (defun test-dialogue ()
@@ -244,11 +315,11 @@ of the session."
   (dolist (conn (host-connections server))
     (serve-connection conn *folder* t)))
 
-(defmacro with-two-hosts ((client server window) &body body)
+(defmacro with-two-hosts ((client server window &optional (version 1)) &body body)
   "CLIENT is a client, and SERVER the host that serves while it waits."
   `(let* ((,client (open-client :address #o402 :place "127.0.0.1:1" :window ,window
-                                :server "401=127.0.0.1:2"))
-          (,server (bare-host #o401 1))
+                                :server "401=127.0.0.1:2" :carriage ,version))
+          (,server (bare-host #o401 ,version))
           (serving nil)
           (*while-waiting* (lambda ()
                              (unless serving
@@ -264,9 +335,9 @@ of the session."
     (dotimes (i count octets)
       (setf (aref octets i) (random 256)))))
 
-(defun test-files (bad window sizes)
+(defun test-files (bad window sizes &optional (version 1))
   (let ((*bad* bad))
-    (with-two-hosts (client server window)
+    (with-two-hosts (client server window version)
       (dolist (size sizes)
         (let ((octets (some-octets size)))
           (put client "A" octets)
@@ -293,6 +364,23 @@ of the session."
     (check (handler-case (say client "" "LOGIN X")
              (no-reply (condition) (subseq (error-text condition) 0 23)))
            "no connection opened in"))
+  (with-two-hosts (client server 13)
+    (let* ((serve *while-waiting*)
+           (*while-waiting* (lambda ()  ; until a file is open
+                              (unless (some (lambda (conn) (session-handles (conn-user conn)))
+                                            (host-connections server))
+                                (funcall serve)
+                                (flush server)))))
+      (check (handler-case (put client "A" (make-octets 0))
+               (unknown-outcome (condition) (subseq (error-text condition) 0 80)))
+             "whether it was put isn't known, since its CLOSE got no reply: no reply came in 1")))
+  (with-two-hosts (client server 13)
+    (setf (client-contact client) "NONE")
+    (check (handler-case (say client "" "LOGIN X")
+             (connection-ended (condition) (error-text condition)))
+           "it refused the connection: No server for this contact name.")
+    (setf (host-contacts server) '("FILE" "NONE"))
+    (check (say client "" "LOGIN X") "LOGIN X"))
   (check (text (text-octets (octets (map 'string #'code-char '(40 10 9 8 12 41))) t))
          (map 'string #'code-char '(40 141 137 136 140 41)))
   (check (handler-case (text-octets (hex "8D") t)
@@ -304,13 +392,17 @@ of the session."
   (test-sessions)
   (test-windows)
   (test-bundles)
+  (test-chudp-vectors)
+  (test-chudp-faults)
+  (test-next-hop)
   (test-dialogue)
   (test-files 0 13 '(0 1 447 448 449 100000))
   (test-files 0 64 '(100000))
   (test-files 0 1 '(5000))
   (dotimes (i #+sbcl 5 #-sbcl 1)
     (test-files 20 13 '(0 1 447 448 449 20000))
-    (test-files 20 64 '(20000)))
+    (test-files 20 64 '(20000))
+    (test-files 20 13 '(448 20000) :chudp))
   (test-ends))
 
 (run-tests)

@@ -8,7 +8,7 @@
 
 (defstruct link
   socket
-  (peers '())                           ; (address octets-of-ip port) of each
+  (peers '())                           ; (address octets-of-ip port) of each; T is all others
   (buffer (make-octets +most-datagram+)))
 
 (defun moment ()
@@ -28,8 +28,8 @@ to the place that PEERS has for a Chaosnet address, wherever a datagram came fro
 (defun close-link (link) (sb-bsd-sockets:socket-close (link-socket link)))
 
 (defun link-send (link address octets)
-  "Sends OCTETS to the peer with ADDRESS, where there is one; they may be lost."
-  (let ((peer (assoc address (link-peers link))))
+  "Sends OCTETS to the peer with ADDRESS, or where all others are; they may be lost."
+  (let ((peer (or (assoc address (link-peers link)) (assoc t (link-peers link)))))
     (when peer
       (handler-case
           (sb-bsd-sockets:socket-send (link-socket link) octets (length octets)

@@ -37,11 +37,16 @@
     (list (map 'vector (lambda (part) (number-word part 0 255 what)) parts)
           (number-word (second halves) 1 65535 what))))
 
-(defun peer-word (word)
+(defun peer-word (word &optional (address #'address-word))
   "A host and its place, ADDRESS=UDP, as a list of the address, the octets and the port."
   (let ((halves (pieces #\= word)))
     (unless (= 2 (length halves)) (wanted word "ADDRESS=UDP, as 401=127.0.0.1:9001"))
-    (cons (address-word (first halves)) (place-word (second halves)))))
+    (cons (funcall address (first halves)) (place-word (second halves)))))
+
+(defun peer-words (words)
+  "The peers of a server. *=UDP is the place of all hosts that no other word names, as a bridge's."
+  (flet ((address (word) (or (string= word "*") (address-word word))))
+    (mapcar (lambda (word) (peer-word word #'address)) words)))
 
 (defun name-char-p (char)
   "Is it an ASCII letter or digit?"
@@ -50,6 +55,12 @@
 
 (defun name-p (string least most)
   (and (<= least (length string) most) (every #'name-char-p string)))
+
+(defun contact-word (word)
+  "The name of a contact."
+  (if (and (<= 1 (length word) 64) (every (lambda (char) (char< #\Space char #\Rubout)) word))
+      word
+      (wanted word "a contact: 1 to 64 characters of ASCII, none of them a space")))
 
 (defun path-p (string)
   "May a file of FILE have this path?"
