@@ -28,14 +28,17 @@ TIMESTAMPS = 35
 # So many datagrams are no more than an input of `show` may be.
 SHOWN = 200
 
-FIRST, SECOND = "chaosd", "Lisp"
+# The third is a Lisp machine as far as one can be had: its client, over a stand-in for its Chaosnet.
+FIRST, SECOND, MACHINE = "chaosd", "Lisp", "a Lisp machine"
 
 needs_lisp = unittest.skipUnless(SBCL, "sbcl isn't there: `apt-get install sbcl` gives it")
 
 
 def words_of(which):
     """The words that start a program."""
-    return [str(PROGRAM)] if which == FIRST else [SBCL, "--script", str(LISP / "chaosd.lisp")]
+    if which == FIRST:
+        return [str(PROGRAM)]
+    return [SBCL, "--script", str(LISP / ("chaosd.lisp" if which == SECOND else "stand-in.lisp"))]
 
 
 def begun(which, words, **streams):
@@ -55,16 +58,16 @@ def ran(which, words, **streams):
 
 
 class Server:
-    """A server of either kind on a folder, with peers from 000402 on."""
+    """A server of either kind on a folder, with peers from 000402 on, or one peer that is the place of all hosts."""
 
-    def __init__(self, which, kept, peers=1, options=(), ports=None):
-        self.which, self.folder = which, pathlib.Path(kept)
+    def __init__(self, which, kept, peers=1, options=(), ports=None, of_all=False):
+        self.which, self.folder, self.of_all = which, pathlib.Path(kept), of_all
         self.port, *self.peers = ports or free_ports(1 + peers)
         self.options, self.said = options, b""
         self.start()
 
     def start(self):
-        words = [f"{CLIENT + n:o}={at(port)}" for n, port in enumerate(self.peers)]
+        words = ["*=" + at(self.peers[0])] if self.of_all else [f"{CLIENT + n:o}={at(port)}" for n, port in enumerate(self.peers)]
         self.process = begun(self.which, ["serve", *self.options, "401", at(self.port), str(self.folder), *words])
         self.said = line_of(self.process.stderr, LONG)
         threading.Thread(target=self.drain, args=(self.process.stderr,), daemon=True).start()
