@@ -3,6 +3,8 @@ tests/chudp_reference.py, over the bridge of tests/bridge.py, and these two by t
 
 import contextlib
 import random
+import re
+import shlex
 import socket
 import subprocess
 
@@ -16,7 +18,7 @@ from tests.packets import CLS, DATA, RFC, Peer, datagram
 from tests.scripts import FILE_REPLIES, FILE_SCRIPT
 from tests.serving import session_problems, unconnected_problems
 from tests.support import (
-    BAD_LINE, CLIENT, DONE, FOR_LONG, INPUT_LIMIT, LONG, PATIENCE, REFUSED, SERVER,
+    BAD_LINE, CLIENT, DONE, FAULT, FOR_LONG, INPUT_LIMIT, LONG, PATIENCE, REFUSED, ROOT, SERVER,
     Case, Checking, Serving, at, checked, finished, folder, free_ports, mixed_content, run, serving, started, stored_problems,
 )  # fmt: skip
 
@@ -517,3 +519,41 @@ class Written(Checking):
         lines = ended.out.decode().splitlines()
         problems = ended.problems(DONE, None, b"") + written_problems(lines)[:3]
         self.check(f"{len(lines)} random packets", problems + ([] if len(lines) >= 10_000 else ["they are too few"]))
+
+
+# What the documents say.
+
+
+class Documents(Checking):
+    """The datagrams of the documents."""
+
+    def test_the_datagrams_of_the_documents_are_those_of_the_tests(self):
+        rows = re.findall(r"^(01 01 00 00 [0-9A-F ]+)$", (ROOT / "docs/PROTOCOL.md").read_text(), re.M)
+        self.check("docs/PROTOCOL.md has the three datagrams", listed(("datagrams", rows, [text for text, _, _, _ in VECTORS])))
+        text, _, lines, total = VECTORS[0]
+        example = f"```text\n{text}\n```\n\ngives\n\n```text\n{lines}trailer to 000401 from 000402\nsum {total}\n```\n"
+        self.check("docs/SCRIPTS.md has a report", [] if example in (ROOT / "docs/SCRIPTS.md").read_text() else ["it has another"])
+
+
+def documented_calls(place):
+    """The words of each call of `chaosd` in docs/NETWORK.md, with this UDP address in the place of each that stands there."""
+    text = re.sub(r"192\.0\.2\.\d+:\d+", place, (ROOT / "docs/NETWORK.md").read_text())
+    for line in re.findall(r"^\$ (.*)$", text, re.M):
+        for part in line.split("|"):
+            program, *words = shlex.split(part.partition("<")[0])
+            if program == "chaosd":
+                yield words
+
+
+class Networks(Case):
+    """The command lines of docs/NETWORK.md."""
+
+    def test_the_program_reads_the_lines_of_the_page(self):
+        """Each call ends where it opens its folder, which isn't there, or its socket, whose port is taken."""
+        with contextlib.closing(End(0)) as taken, folder() as here:
+            streams = {"stdin": subprocess.DEVNULL, "stdout": subprocess.PIPE, "stderr": subprocess.PIPE, "cwd": here}
+            calls = list(documented_calls(at(taken.port)))
+            self.check("the page has calls", [] if len(calls) > 5 else [f"{len(calls)}"])
+            for words in calls:
+                wanted, said = (DONE, b"") if words[0] == "show" else (FAULT, [b"can't open "])
+                self.check(" ".join(words), finished(started(words, **streams)).problems(wanted, b"", said))
