@@ -55,7 +55,7 @@ sends_in (Send datagram ∷ asks) = datagram ∷ sends_in asks
 sends_in (Receive may_wait ∷ asks) = sends_in asks
 
 -- Over a link over UDP, the socket is asked to send exactly the CHUDP forms of the datagrams that the link is asked to send, in this
--- order, each to the UDP address of its peer.
+-- order, each to the UDP address that the peers have for its address.
 abbrev pub SocketSendsForms : {S : Type 0} → (S → S → List SocketAsk → Type 0) → Type 0
 SocketSendsForms {S} asked = (old new : ChudpView (UdpView S)) (asks : List Ask)
     → Asks (AsksBeneath (AsksSocket asked) old) (AsksBeneath (AsksSocket asked) new) asks

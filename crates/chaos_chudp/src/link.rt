@@ -152,7 +152,7 @@ pub fn law_same_datagram()
 {}
 
 /// The law of such a link over UDP: its socket is asked to send exactly the CHUDP forms of the datagrams that the link is asked
-/// to send, in their order, each to the UDP address of its peer.
+/// to send, in their order, each to the UDP address that the peers have for its address.
 pub fn law_sockets<S: DatagramSocket>()
     ensures { SocketSendsForms S.asked }
 {}
