@@ -6,6 +6,7 @@ ADDRESS_FORM = "1 to 6 octal digits, from 1 to 177777"
 SOCKET_FORM = "a.b.c.d:port in decimal without leading zeros, the port from 1 to 65535"
 TURNS_FORM = "a decimal number without leading zeros, at most 1000000000"
 PEER_FORM = "an address, `=` and a socket, as 402=127.0.0.1:9002"
+ENTRY_FORM = "an address or `*`, `=` and a socket, as 402=127.0.0.1:9002"
 
 BAD_ADDRESSES = [
     "", "0", "000000", "0000401", "8", "19", "401x", "x", "+1", " 1", "1 ", "0o1", "200000", "777777", "1000000", "4.1",
@@ -19,9 +20,14 @@ BAD_TURNS = ["", "01", "00", "+1", "x", "1x", " 1", "1.5", "0x1", "1000000001", 
 BAD_PEERS = [
     "", "=", "402", "402=", "=127.0.0.1:1", "402:127.0.0.1:1", "402=127.0.0.1", "0=127.0.0.1:1", "200000=127.0.0.1:1",
     "0000402=127.0.0.1:1", "402=127.0.0.1:0", "402==127.0.0.1:1", "402 =127.0.0.1:1", "402=403=127.0.0.1:1",
+    "*", "*=", "**=127.0.0.1:1", " *=127.0.0.1:1", "*=127.0.0.1:0", "*==127.0.0.1:1", "*=*=127.0.0.1:1",
 ]
 
 CARRIAGE_FORM = "1 or 2"
+PLAIN_FORM = "1 beside --chudp, since a datagram of CHUDP has one packet"
+NEEDS_CHUDP_FORM = "--chudp beside it, since only CHUDP names a bridge"
+BRIDGE_ONCE_FORM = "one bridge at most"
+CONTACT_FORM = "1 to 64 printable characters of ASCII, none of them a space"
 WINDOW_FORM = "a decimal number without leading zeros, from 1 to 64"
 LOGIN_FORM = "1 to 16 letters and digits"
 PATH_FORM = "(1 to 64 letters, digits, dots, hyphens and underscores, no dot in front)"
@@ -39,6 +45,7 @@ BAD_CARRIAGES = ["", "0", "3", "01", "02", "+1", "1 ", " 2", "one", "12"]
 BAD_WINDOWS = ["", "0", "00", "01", "65", "+1", "x", "1x", " 1", "1.5", "0x1", "65536", "65600"]
 BAD_TIMEOUTS = ["", "0", "01", "3601", "+1", "x", "1.5", "65536", "65546"]
 BAD_RETRANSMITS = ["", "0", "19", "020", "60001", "+20", "x", "20ms", " 20", "20.5", "0x20", "65556", "4294967316", "18446744073709551636"]
+BAD_CONTACTS = ["", " ", "FILE X", "FILE ", "č", "A" * 65]
 BAD_LOGINS = ["", "A.B", "A B", "ABCDEFGHIJKLMNOPQ", "č"]
 BAD_PATHS = ["", ".", ".A", "..", "A/B", "/A", "A B", "A*", "č", "A" * 65]
 
@@ -61,7 +68,8 @@ HELP = {
     ],
     "help show": [
         "Usage: chaosd show [OPTIONS]\n",
-        "--file  Also print what the data say as text, and in a packet of FILE the command or reply\n",
+        "--file   Also print what the data say as text, and in a packet of FILE the command or reply\n",
+        "--chudp  Decode datagrams of CHUDP, the framing of cbridge and other Chaosnet programs\n",
     ],
     "help lab": ["Usage: chaosd lab\n"],
     "help filelab": ["Usage: chaosd filelab\n"],
@@ -74,17 +82,21 @@ HELP = {
         "  <ADDRESS>  Chaosnet address of this host: 1 to 6 octal digits, from 1 to 177777\n",
         "  <UDP>      UDP address that this host receives at: a.b.c.d:port in decimal, the port from 1 to 65535\n",
         "  <FOLDER>   Folder whose files are served\n",
-        "  [PEER]...  Another host, as ADDRESS=UDP in the forms above: at most 32, each Chaosnet address once\n",
-        "--turns <N>        End the server after N turns, 0 to 1000000000; one that waits takes some 10 ms [default: 1000000000]\n",
-        "--window <N>       Keep N packets in each window of a connection, 1 to 64: so many commands may be in flight [default: 13]\n",
-        "--retransmit <MS>  Send packets that aren't acknowledged again after MS milliseconds, 20 to 60000 [default: 500]\n",
-        "--quiet            Log only what fails\n",
-        "--log-time         Begin each line with the time, in UTC\n",
-        "--only-peers       Drop datagrams that come from no PEER's UDP address\n",
-        "--read-only        Change no file: what would write one is a store fault\n",
+        "  [PEER]...  Another host, as ADDRESS=UDP in the forms above: at most 32, each Chaosnet address once; *=UDP is a bridge to all others\n",
+        "--turns <N>         End the server after N turns, 0 to 1000000000; one that waits takes some 10 ms [default: 1000000000]\n",
+        "--chudp             Send and take packets in CHUDP, the framing of cbridge and other Chaosnet programs; not with --carriage 2\n",
+        "--bridge <ADDRESS>  Name ADDRESS, the bridge's own Chaosnet address, as the next hop of packets that go through it; needs --chudp\n",
+        "--window <N>        Keep N packets in each window of a connection, 1 to 64: so many commands may be in flight [default: 13]\n",
+        "--retransmit <MS>   Send packets that aren't acknowledged again after MS milliseconds, 20 to 60000 [default: 500]\n",
+        "--quiet             Log only what fails\n",
+        "--log-time          Begin each line with the time, in UTC\n",
+        "--only-peers        Drop datagrams that come from no PEER's UDP address\n",
+        "--read-only         Change no file: what would write one is a store fault\n",
         "  chaosd serve 401 127.0.0.1:9001 files 402=127.0.0.1:9002\n",
+        "  chaosd serve --chudp --bridge 3040 401 0.0.0.0:42042 files '*=192.0.2.1:42042'\n",
     ],
     "ask --help": [
+        "--contact <NAME>     Ask the server for the contact NAME, 1 to 64 printable characters of ASCII, none of them a space [default: FILE]\n",
         "--timeout <SECONDS>  Wait for each reply SECONDS by the clock, 1 to 3600; without it 1000 turns (10 to 17 seconds)\n",
         "--retransmit <MS>    Send packets that aren't acknowledged again after MS milliseconds, 20 to 60000 [default: 500]\n",
         "--any-source         Take datagrams from any UDP address, for a server with several interfaces\n",
@@ -97,6 +109,8 @@ HELP = {
     "get --help": [
         "  <SERVER>   Host that has or takes the files, as ADDRESS=UDP in the forms above\n",
         "  <PATH>...  Server's files: 1 to 64 letters, digits, dots, hyphens and underscores, no dot in front\n",
+        "--bridge <ADDRESS>   Name ADDRESS, the bridge's own Chaosnet address, as the next hop of packets that go through it; needs --chudp\n",
+        "--contact <NAME>     Ask the server for the contact NAME, 1 to 64 printable characters of ASCII, none of them a space [default: FILE]\n",
         "--login <NAME>       Log in as NAME, 1 to 16 letters and digits [default: CHAOSD]\n",
         "--window <N>         Send up to N commands ahead of their replies, 1 to 64, as far as the server's own window allows [default: 64]\n",
         "--timeout <SECONDS>  Wait for each reply SECONDS by the clock, 1 to 3600; without it 1000 turns and 10 seconds at least\n",
@@ -160,15 +174,19 @@ class Line(Case):
     def test_a_peer_out_of_form_is_named_and_so_is_one_too_many(self):
         """Likewise peers, one too many, and a second one of an address."""
         for text in BAD_PEERS:
-            is_told(self, ["serve", "401", "127.0.0.1:1", "d", text], text, "PEER", PEER_FORM)
-            is_told(self, ["ask", "402", "127.0.0.1:1", "401", "403=127.0.0.1:3", text], text, "PEER", PEER_FORM)
+            is_told(self, ["serve", "401", "127.0.0.1:1", "d", text], text, "PEER", ENTRY_FORM)
+            is_told(self, ["ask", "402", "127.0.0.1:1", "401", "403=127.0.0.1:3", "*=127.0.0.1:4", text], text, "PEER", ENTRY_FORM)
         for words in [
             ["serve", "401", "127.0.0.1:1", "d", "402=127.0.0.1:2", "000402=127.0.0.1:3"],
             ["ask", "402", "127.0.0.1:1", "401", "401=127.0.0.1:2", "401=127.0.0.1:2"],
         ]:
             is_told(self, words, words[-1], "PEER", "each Chaosnet address once")
+        words = ["serve", "401", "127.0.0.1:1", "d", "*=127.0.0.1:2", "402=127.0.0.1:3", "*=127.0.0.1:4"]
+        is_told(self, words, words[-1], "PEER", BRIDGE_ONCE_FORM)
         many = [f"{address:o}=127.0.0.1:9002" for address in range(1, 34)]
         is_told(self, ["serve", "401", "127.0.0.1:9001", "d", *many], "41=127.0.0.1:9002", "PEER", "at most 32 peers")
+        for text in ["*=127.0.0.1:1", "*"]:
+            is_told(self, ["get", *ADDRESSES[:2], text, "A"], text, "SERVER", PEER_FORM)
 
     def test_a_word_of_a_copy_out_of_form_is_named(self):
         """Likewise the words of `get` and `put`."""
@@ -249,6 +267,24 @@ class Line(Case):
                 ["put", *ADDRESSES, "A"],
             ]:
                 is_told(self, [words[0], "--carriage", text, *words[1:]], text, "--carriage", CARRIAGE_FORM)
+
+    def test_chudp_has_no_bundles_and_a_bridges_address_needs_it(self):
+        served = ["serve", "401", "127.0.0.1:1", "d"]
+        for words in [served, ["ask", "402", "127.0.0.1:1", "401"], ["get", *ADDRESSES, "A"], ["delete", *ADDRESSES, "A"]]:
+            is_told(self, [words[0], "--chudp", "--carriage", "2", *words[1:]], "2", "--carriage", PLAIN_FORM)
+            is_told(self, [words[0], "--bridge", "3040", *words[1:]], "3040", "--bridge", NEEDS_CHUDP_FORM)
+            for text in BAD_ADDRESSES:
+                is_told(self, [words[0], "--chudp", "--bridge", text, *words[1:]], text, "--bridge", ADDRESS_FORM)
+        for option in [["--chudp"], ["--bridge", "3040"]]:
+            ended = run(["loop", *option])
+            self.check(f"loop has no {option[0]}", ended.problems(BAD_LINE, b"", [f"unexpected argument '{option[0]}' found".encode()]))
+
+    def test_a_contact_is_printable_and_short(self):
+        for text in BAD_CONTACTS:
+            for words in [["ask", "402", "127.0.0.1:1", "401"], ["get", *ADDRESSES, "A"], ["rename", *ADDRESSES, "A", "B"]]:
+                is_told(self, [words[0], "--contact", text, *words[1:]], text, "--contact", CONTACT_FORM)
+        ended = run(["serve", "--contact", "FILE", "401", "127.0.0.1:1", "d"])
+        self.check("serve has no --contact", ended.problems(BAD_LINE, b"", [b"unexpected argument '--contact' found"]))
 
     def test_the_first_mistake_is_told_with_the_usage(self):
         """The first bad word is told with the usage of its subcommand; what clap finds is told in its words."""

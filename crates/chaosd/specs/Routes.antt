@@ -4,6 +4,7 @@ use Rattle.chaos_link.specs.Peers.{PeersView, socket_of}
 use Rattle.chaosd.specs.Config.{config_by}
 use Rattle.chaosd.specs.declared.asking.TheConstants.{USUAL_WINDOW}
 use Rattle.chaosd_file.specs.declared.limits.TheConstants.{NOBODY}
+use Rattle.chaosd_line.specs.Framings.{carriage_of}
 use Rattle.chaosd_line.specs.declared.line.Ask.{Ask}
 use Rattle.chaosd_line.specs.declared.line.Calling.{Calling}
 use Rattle.file_client.specs.declared.route.Route.{Route}
@@ -15,7 +16,7 @@ use Rattle.file_client.specs.RoundTrip.{retransmit_of}
 pub record IsRouteOf (calling : Calling) (route : Route) : Type 0 where
   pub me : route.me ≡ calling.address
   pub to : route.to ≡ calling.server.address
-  pub carriage : route.carriage ≡ calling.carriage
+  pub carriage : route.carriage ≡ carriage_of calling.framing
   pub trip : Option RoundTrip
   pub config : route.config ≡ config_by calling.window (retransmit_of trip)
 
@@ -27,5 +28,5 @@ asked_host to peers = if is_some (socket_of to peers) then to else NOBODY
 pub record IsAskedBy (line : Ask) (route : Route) : Type 0 where
   pub me : route.me ≡ line.address
   pub to : route.to ≡ asked_host line.to line.peers
-  pub carriage : route.carriage ≡ line.carriage
+  pub carriage : route.carriage ≡ carriage_of line.framing
   pub config : route.config ≡ config_by USUAL_WINDOW line.retransmit

@@ -158,7 +158,7 @@ fn strict_status(status: ExitStatus, was_error: bool) -> ExitStatus {
 }
 
 /// Who is asked by this line. A host that can't be asked is reported.
-fn asked_of<R: Eprint>(rt: &R, line: &Ask) -> Asked
+fn asked_of<R: Eprint>(rt: &R, line: &Ask<'_>) -> Asked
     ensures route { IsAskedBy line.now result.route }
     ensures patience { result.patience ≡ patience_by line.now.timeout }
     ensures is_strict { result.is_strict ≡ line.now.is_strict }
@@ -172,7 +172,7 @@ fn asked_of<R: Eprint>(rt: &R, line: &Ask) -> Asked
             me: line.address,
             to,
             config: config_of(USUAL_WINDOW, line.retransmit),
-            carriage: line.carriage,
+            carriage: line.framing.carriage(),
         },
         patience: patience_of(line.timeout),
         is_strict: line.is_strict,
@@ -205,7 +205,7 @@ where
 
 /// Runs `ask` from standard input to standard output.
 #[inline(never)]
-pub(crate) fn run_ask_line<R>(rt: &R, line: Ask, terminals: Terminals) -> ExitStatus
+pub(crate) fn run_ask_line<R>(rt: &R, line: Ask<'_>, terminals: Terminals) -> ExitStatus
 where
     R: AllocGlobal + Clock + Eprint + Files<File = File> + Input + Net + Print,
 {

@@ -71,7 +71,7 @@ pub(crate) fn route_of<R: AllocGlobal + Dial, L: Link>(
         me: calling.address,
         to: calling.server.address,
         config: ConnConfig::with_window(calling.window),
-        carriage: calling.carriage,
+        carriage: calling.framing.carriage(),
     };
     let trip = round_trip(rt.alloc(), &mut Timed::new(rt, link, timing), &usual)?;
     Ok(Route {

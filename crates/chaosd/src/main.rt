@@ -58,7 +58,7 @@ where
     R: AllocGlobal + Clock + Eprint + Files<File = File> + Input + Net + Print,
 {
     match line {
-        Line::Show(is_file) => run_show_line(rt, is_file),
+        Line::Show(show) => run_show_line(rt, show.is_file),
         Line::Lab => run_lab_line(rt),
         Line::FileLab => run_filelab_line(rt),
         Line::Loop(carriage) => run_loop_line(rt, carriage),

@@ -1,6 +1,7 @@
 //! The run of `serve`.
 ghost use Rattle.std.specs.Prelude.{◌<◌, ◌≡◌};
 ghost use Rattle.chaosd.specs.Config.{config_by};
+ghost use Rattle.chaosd_line.specs.Framings.{carriage_of};
 
 use crate::config::config_of;
 use crate::connections::Connections;
@@ -106,13 +107,13 @@ fn options_of(line: &Serve<'_>) -> ServeOptions
     ensures me { result.me ≡ line.now.address }
     ensures config { result.config ≡ config_by line.now.window line.now.retransmit }
     ensures turns { result.turns ≡ line.now.turns }
-    ensures carriage { result.carriage ≡ line.now.carriage }
+    ensures carriage { result.carriage ≡ carriage_of line.now.framing }
 {
     ServeOptions {
         me: line.address,
         config: config_of(line.window, line.retransmit),
         turns: u64::from(line.turns),
-        carriage: line.carriage,
+        carriage: line.framing.carriage(),
     }
 }
 

@@ -1,4 +1,5 @@
 pub mod Copied
+pub mod Framed
 pub mod Named
 pub mod NoReading
 pub mod OneLine

@@ -1,16 +1,21 @@
 -- Words ask for one line at most.
-use Rattle.std.proofs.Common.{◌≡◌, ◌∙◌, ◌+◌, ◌*◌, ℕ, Bool, codes, List, [], ◌∷◌, Option, None, Some, ap, arith, refl, slice_index, sym}
-use Rattle.std.specs.Option.{IsSomeAnd}
-use Rattle.std.specs.List.{AllZip}
-use Rattle.clap.specs.Words.{Row, Text, first_of}
+use Rattle.std.proofs.Common.{◌≡◌, ◌∙◌, ◌+◌, ◌*◌, ℕ, true, false, codes, List, [], ◌∷◌, Option, None, Some, ap, arith, refl, slice_index, sym}
+use Rattle.std.specs.Option.{IsSomeAnd, unwrap_or}
+use Rattle.std.specs.List.{AllZip, filter}
+use Rattle.std.specs.declared.net.socket_addr.SocketAddrV4.{SocketAddrV4}
+use Rattle.clap.specs.Words.{Row, Text, all_of, first_of}
 use Rattle.chaos_link.specs.declared.carriage.Carriage.{Carriage}
 use Rattle.chaos_link.specs.declared.carriage.Carriage.TheVariants.{One, Two}
+use Rattle.chaos_link.specs.Peers.{PeersView}
 use Rattle.chaos_link.specs.declared.peers.Peer.{Peer}
-use Rattle.chaosd_line.specs.Lines.{AsksFor, IsAsk, IsLine, IsSame, IsSameAsk, IsSameCalling, IsSameCopying, IsSameDelete, IsSameGet, IsSamePut, IsSameRename, IsSameServe, IsServe}
+use Rattle.chaosd_line.specs.Lines.{AsksFor, IsAsk, IsLine, IsSame, IsSameAsk, IsSameCalling, IsSameCopying, IsSameDelete, IsSameGet, IsSamePut, IsSameRename, IsSameServe, IsServe, IsShow}
 use Rattle.chaosd_line.specs.Files.{IsCalling, IsCopying, IsDelete, IsGet, IsPathOf, IsPut, IsRename}
-use Rattle.chaosd_line.specs.Values.{IsAddress, IsCarriage, IsFlag, IsLog, IsLogin, IsPeer, IsRetransmit, IsSocket, IsTurns, IsWindow}
-use Rattle.chaosd_line.proofs.Unique.{one_address, one_flag, one_peer, one_socket, one_timeout, one_turns, one_value}
+use Rattle.chaosd_line.specs.Framings.{IsFraming}
+use Rattle.chaosd_line.specs.Values.{ArePeers, AreBridges, IsAddress, IsCarriage, IsContact, IsFlag, IsLog, IsLogin, IsPeer, IsRetransmit, IsSocket, IsTurns, IsWindow, names_bridge, names_host}
+use Rattle.chaosd_line.proofs.Unique.{one_address, one_bridge, one_flag, one_peer, one_socket, one_timeout, one_turns, one_value}
 use Rattle.std.specs.Borrow.{Bor}
+use Rattle.chaosd_line.specs.declared.framing.Framing.{Framing}
+use Rattle.chaosd_line.specs.declared.framing.Framing.TheVariants.{Chudp, Own}
 use Rattle.chaosd_line.specs.declared.line.Ask.{Ask}
 use Rattle.chaosd_line.specs.declared.line.Calling.{Calling}
 use Rattle.chaosd_line.specs.declared.line.Copying.{Copying}
@@ -23,6 +28,7 @@ use Rattle.chaosd_line.specs.declared.line.Line.TheVariants as line
 use Rattle.chaosd_line.specs.declared.line.LogLevel.{LogLevel}
 use Rattle.chaosd_line.specs.declared.line.LogLevel.TheVariants as log
 use Rattle.chaosd_line.specs.declared.line.Serve.{Serve}
+use Rattle.chaosd_line.specs.declared.line.Show.{Show}
 
 one_list : (ts : List Text) (ps qs : List Peer) → AllZip IsPeer ts ps → AllZip IsPeer ts qs → ps ≡ qs
 one_list [] [] [] h k = refl
@@ -31,6 +37,22 @@ one_list [] (p ∷ ps) qs h k = absurd h
 one_list (t ∷ ts) [] qs h k = absurd h
 one_list (t ∷ ts) (p ∷ ps) [] h k = absurd k
 one_list (t ∷ ts) (p ∷ ps) (q ∷ qs) h k = λ i. one_peer t p q h.0 k.0 i ∷ one_list ts ps qs h.1 k.1 i
+
+one_bridge_peer : (ts : List Text) (a b : Option SocketAddrV4) → AreBridges ts a → AreBridges ts b → a ≡ b
+one_bridge_peer [] None None h k = λ i. None
+one_bridge_peer [] None (Some b) h k = absurd k
+one_bridge_peer [] (Some a) b h k = absurd h
+one_bridge_peer (t ∷ []) None b h k = absurd h
+one_bridge_peer (t ∷ []) (Some a) None h k = absurd k
+one_bridge_peer (t ∷ []) (Some a) (Some b) h k = ap Some (one_socket _ a b h.2 k.2)
+one_bridge_peer (t ∷ u ∷ ts) None b h k = absurd h
+one_bridge_peer (t ∷ u ∷ ts) (Some a) b h k = absurd h
+
+one_peers : (ts : List Text) (p q : PeersView) → ArePeers ts p → ArePeers ts q → p ≡ q
+one_peers ts p q h k =
+    let hosts = one_list (filter names_host ts) p.hosts q.hosts h.0.0 k.0.0 in
+    let bridge = one_bridge_peer (filter names_bridge ts) p.bridge q.bridge h.1 k.1 in
+    λ i. record { hosts = hosts i; bridge = bridge i }
 
 one_carriage : (t : Text) (a b : Carriage) → IsCarriage t a → IsCarriage t b → a ≡ b
 one_carriage t One One h k = refl
@@ -43,6 +65,22 @@ one_carriage t Two One h k =
     absurd
     (let e : slice_index (codes "2") 0
     ≡ slice_index (codes "1") 0 = ap (λ u. slice_index u 0) (sym h ∙ k) in omega (arith, e))
+
+same_carriage : (rows : List Row) (a b : Carriage)
+    → IsSomeAnd (first_of (codes "carriage") rows) (λ text. IsCarriage text a)
+    → IsSomeAnd (first_of (codes "carriage") rows) (λ text. IsCarriage text b) → a ≡ b
+same_carriage rows a b h k = one_value IsCarriage one_carriage _ a b h k
+
+-- with `--chudp` and without are two
+not_both : (rows : List Row) → IsSomeAnd (first_of (codes "chudp") rows) (λ text. IsFlag text false)
+    → IsSomeAnd (first_of (codes "chudp") rows) (λ text. IsFlag text true) → ⊥
+not_both rows h k = let same : false ≡ true = one_value IsFlag one_flag _ false true h k in cc
+
+one_framing : (rows : List Row) (a b : Framing) → IsFraming rows a → IsFraming rows b → a ≡ b
+one_framing rows (Own c) (Own d) h k = ap Own (same_carriage rows c d h.1 k.1)
+one_framing rows (Own c) (Chudp d) h k = absurd (not_both rows h.0 k.0)
+one_framing rows (Chudp c) (Own d) h k = absurd (not_both rows k.0 h.0)
+one_framing rows (Chudp c) (Chudp d) h k = ap Chudp (one_bridge (first_of (codes "bridge") rows) c d h.2 k.2)
 
 same_some : (s t : Text) → Some s ≡ Some t → s ≡ t
 same_some s t e = cc
@@ -86,9 +124,14 @@ one_log t log.All log.Normal h k =
     (let e : slice_index (codes "all") 0
     ≡ slice_index (codes "normal") 0 = other_first t _ _ h k in omega (arith, e))
 
+one_contact : (o : Option Text) (a b : Bor Text) → IsSomeAnd o (λ t. IsContact t a)
+    → IsSomeAnd o (λ t. IsContact t b) → a.now ≡ b.now
+one_contact None a b h k = absurd h
+one_contact (Some t) a b h k = h.0 ∙ sym k.0
+
 same_serve : (rows : List Row) (s t : Serve) → IsServe rows s → IsServe rows t → IsSameServe s t
 same_serve rows s t h k = record {
-  carriage = one_value IsCarriage one_carriage _ _ _ h.carriage k.carriage;
+  framing = one_framing rows _ _ h.framing k.framing;
   window = one_value IsWindow one_window _ _ _ h.window k.window;
   retransmit = one_value IsRetransmit one_retransmit _ _ _ h.retransmit k.retransmit;
   is_quiet = one_value IsFlag one_flag _ _ _ h.is_quiet k.is_quiet;
@@ -100,12 +143,13 @@ same_serve rows s t h k = record {
   address = one_value IsAddress one_address _ _ _ h.address k.address;
   socket = one_value IsSocket one_socket _ _ _ h.socket k.socket;
   folder = same_some _ _ (sym h.folder ∙ k.folder);
-  peers = one_list _ _ _ h.peers.0 k.peers.0;
+  peers = one_peers (unwrap_or (all_of (codes "PEER") rows) []) _ _ h.peers k.peers;
 }
 
 same_ask : (rows : List Row) (s t : Ask) → IsAsk rows s → IsAsk rows t → IsSameAsk s t
 same_ask rows s t h k = record {
-  carriage = one_value IsCarriage one_carriage _ _ _ h.carriage k.carriage;
+  framing = one_framing rows _ _ h.framing k.framing;
+  contact = one_contact _ s.contact t.contact h.contact k.contact;
   timeout = one_timeout _ _ _ h.timeout k.timeout;
   retransmit = one_value IsRetransmit one_retransmit _ _ _ h.retransmit k.retransmit;
   hears_anybody = one_value IsFlag one_flag _ _ _ h.hears_anybody k.hears_anybody;
@@ -113,7 +157,7 @@ same_ask rows s t h k = record {
   address = one_value IsAddress one_address _ _ _ h.address k.address;
   socket = one_value IsSocket one_socket _ _ _ h.socket k.socket;
   to = one_value IsAddress one_address _ _ _ h.to k.to;
-  peers = one_list _ _ _ h.peers.0 k.peers.0;
+  peers = one_peers (unwrap_or (all_of (codes "PEER") rows) []) _ _ h.peers k.peers;
 }
 
 one_login : (o : Option Text) (a b : Bor Text) → IsSomeAnd o (λ t. IsLogin t a) → IsSomeAnd o (λ t. IsLogin t b)
@@ -123,7 +167,8 @@ one_login (Some t) a b h k = h.0 ∙ sym k.0
 
 same_calling : (rows : List Row) (s t : Calling) → IsCalling rows s → IsCalling rows t → IsSameCalling s t
 same_calling rows s t h k = record {
-  carriage = one_value IsCarriage one_carriage _ _ _ h.carriage k.carriage;
+  framing = one_framing rows _ _ h.framing k.framing;
+  contact = one_contact _ s.contact t.contact h.contact k.contact;
   login = one_login _ s.login t.login h.login k.login;
   window = one_value IsWindow one_window _ _ _ h.window k.window;
   timeout = one_timeout _ _ _ h.timeout k.timeout;
@@ -203,17 +248,14 @@ same_letter : (name : Text) (rows : List Row) (x y : Line) → IsLine name rows 
     → letter x ≡ letter y
 same_letter name rows x y h k = sym (letter_is name rows x h) ∙ letter_is name rows y k
 
-same_show : (rows : List Row) (a b : Bool) → IsSomeAnd (first_of (codes "file") rows) (λ text. IsFlag text a)
-    → IsSomeAnd (first_of (codes "file") rows) (λ text. IsFlag text b) → a ≡ b
-same_show rows a b h k = one_value IsFlag one_flag _ a b h k
-
-same_loop : (rows : List Row) (a b : Carriage)
-    → IsSomeAnd (first_of (codes "carriage") rows) (λ text. IsCarriage text a)
-    → IsSomeAnd (first_of (codes "carriage") rows) (λ text. IsCarriage text b) → a ≡ b
-same_loop rows a b h k = one_value IsCarriage one_carriage _ a b h k
+same_show : (rows : List Row) (s t : Show) → IsShow rows s → IsShow rows t → s ≡ t
+same_show rows s t h k =
+    let is_file : s.is_file ≡ t.is_file = one_value IsFlag one_flag _ _ _ h.is_file k.is_file in
+    let is_chudp : s.is_chudp ≡ t.is_chudp = one_value IsFlag one_flag _ _ _ h.is_chudp k.is_chudp in
+    λ i. record { is_file = is_file i; is_chudp = is_chudp i }
 
 same_line : (name : Text) (rows : List Row) (x y : Line) → IsLine name rows x → IsLine name rows y → IsSame x y
-same_line name rows (line.Show s) (line.Show t) h k = ap line.Show (sym (same_show rows s t h.1 k.1))
+same_line name rows (line.Show s) (line.Show t) h k = ap line.Show (same_show rows t s k.1 h.1)
 same_line name rows (line.Show s) line.Lab h k =
     let e : ◌≡◌ {A = ℕ} 635 593 = same_letter name rows (line.Show s) line.Lab h k in absurd (omega arith)
 same_line name rows (line.Show s) line.FileLab h k =
@@ -276,7 +318,7 @@ same_line name rows (line.Loop s) line.Lab h k =
     let e : ◌≡◌ {A = ℕ} 663 593 = same_letter name rows (line.Loop s) line.Lab h k in absurd (omega arith)
 same_line name rows (line.Loop s) line.FileLab h k =
     let e : ◌≡◌ {A = ℕ} 663 627 = same_letter name rows (line.Loop s) line.FileLab h k in absurd (omega arith)
-same_line name rows (line.Loop s) (line.Loop t) h k = ap line.Loop (sym (same_loop rows s t h.1 k.1))
+same_line name rows (line.Loop s) (line.Loop t) h k = ap line.Loop (sym (same_carriage rows s t h.1 k.1))
 same_line name rows (line.Loop s) (line.Serve t) h k =
     let e : ◌≡◌ {A = ℕ} 663 620 = same_letter name rows (line.Loop s) (line.Serve t) h k in absurd (omega arith)
 same_line name rows (line.Loop s) (line.Ask t) h k =

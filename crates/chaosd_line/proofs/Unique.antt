@@ -5,7 +5,7 @@ use Rattle.std.specs.declared.net.socket_addr.SocketAddrV4.{SocketAddrV4}
 use Rattle.std.proofs.NetLemmas.Theorems.{IsSocketV4Text_unique}
 use Rattle.clap.specs.Words.{Text}
 use Rattle.chaos_link.specs.declared.peers.Peer.{Peer}
-use Rattle.chaosd_line.specs.Values.{IsAddress, IsFlag, IsPeer, IsSocket, IsTimeout, IsTurns}
+use Rattle.chaosd_line.specs.Values.{IsAddress, IsBridge, IsFlag, IsPeer, IsSocket, IsTimeout, IsTurns}
 
 pub one_value : {T : Type 0} (Q : Text → T → Type 0) → ((t : Text) (x y : T) → Q t x → Q t y → x ≡ y)
     → (o : Option Text) (x y : T) → IsSomeAnd o (λ t. Q t x) → IsSomeAnd o (λ t. Q t y) → x ≡ y
@@ -49,6 +49,17 @@ one_timeout_of (Some t) (Some m) (Some n) h k = ap Some (h.2 ∙ sym k.2)
 
 pub one_timeout : (o : Option Text) (m n : Option ℕ) → IsTimeout o m → IsTimeout o n → m ≡ n
 one_timeout o m n h k = one_timeout_of o m n h k
+
+one_bridge_of : (o : Option Text) (m n : Option ℕ) → IsBridge o m → IsBridge o n → m ≡ n
+one_bridge_of None None None h k = λ i. None
+one_bridge_of None None (Some n) h k = absurd k
+one_bridge_of None (Some m) n h k = absurd h
+one_bridge_of (Some t) None n h k = absurd h
+one_bridge_of (Some t) (Some m) None h k = absurd k
+one_bridge_of (Some t) (Some m) (Some n) h k = ap Some (one_address t m n h k)
+
+pub one_bridge : (o : Option Text) (m n : Option ℕ) → IsBridge o m → IsBridge o n → m ≡ n
+one_bridge o m n h k = one_bridge_of o m n h k
 
 -- where both sides have one address, the values that are read are the same, and so no others differ
 pub same_host : (o s : Option Text) (m n : ℕ) (p q : Peer) → IsSomeAnd o (λ t. IsAddress t m)

@@ -56,19 +56,30 @@ flag id = record (new_rule id) {
   action = Some SetTrue;
 }
 
--- show [--file]
+-- show [--file] [--chudp]
 abbrev pub show_command : App
-show_command = with_rule (new_app (codes "show")) (flag (codes "file"))
+show_command = with_rule (with_rule (new_app (codes "show")) (flag (codes "file"))) (flag (codes "chudp"))
+
+-- [--carriage N] [--chudp] [--bridge ADDRESS], of all that send packets to other hosts
+abbrev pub framing_options : App → App
+framing_options app =
+    with_rule (with_rule (with_rule app carriage_option) (flag (codes "chudp"))) (optional (codes "bridge"))
+
+-- `--contact NAME`, of `ask` and the callers of a server
+abbrev pub contact_option : Rule
+contact_option = with_default (codes "contact") (codes "FILE")
 
 -- `--any-source`, of `ask` and the callers of a server
 abbrev pub any_source_flag : Rule
 any_source_flag = flag (codes "any-source")
 
--- ask [--carriage N] [--timeout SECONDS] [--retransmit MS] [--any-source] [--strict] ADDRESS UDP TO PEER...
+-- ask with the framing, [--contact NAME] [--timeout SECONDS] [--retransmit MS] [--any-source] [--strict], and ADDRESS UDP TO PEER...
 abbrev pub ask_options : App → App
 ask_options app = with_rule
     (with_rule
-    (with_rule (with_rule (with_rule app carriage_option) (optional (codes "timeout"))) retransmit_option)
+    (with_rule
+    (with_rule (with_rule (framing_options app) contact_option) (optional (codes "timeout")))
+    retransmit_option)
     any_source_flag)
     (flag (codes "strict"))
 
@@ -80,10 +91,10 @@ ask_command = with_rule
     (needed (codes "TO")))
     peer_words
 
--- [--turns N] [--carriage N] [--window N] [--retransmit MS] [--quiet] [--log LEVEL] [--log-time] [--only-peers] [--read-only]
+-- [--turns N], the framing, [--window N] [--retransmit MS] [--quiet] [--log LEVEL] [--log-time] [--only-peers] [--read-only]
 abbrev pub turn_options : App → App
 turn_options app =
-    with_rule (with_rule (with_rule (with_rule app turns_option) carriage_option) window_option) retransmit_option
+    with_rule (with_rule (framing_options (with_rule app turns_option)) window_option) retransmit_option
 
 abbrev pub log_options : App → App
 log_options app =
@@ -109,12 +120,12 @@ file_words id = record (new_rule id) {
   required = true;
 }
 
--- [--carriage N] [--login NAME] [--window N] [--timeout SECONDS] [--any-source]
+-- the framing, [--contact NAME] [--login NAME] [--window N] [--timeout SECONDS] [--any-source]
 abbrev pub call_options : App → App
 call_options app = with_rule
     (with_rule
     (with_rule
-    (with_rule (with_rule app carriage_option) (with_default (codes "login") (codes "CHAOSD")))
+    (with_rule (with_rule (framing_options app) contact_option) (with_default (codes "login") (codes "CHAOSD")))
     (with_default (codes "window") (codes "64")))
     (optional (codes "timeout")))
     any_source_flag

@@ -5,7 +5,8 @@ use Rattle.std.specs.Option.{IsSomeAnd}
 use Rattle.std.specs.Str.{bytes_eq}
 use Rattle.clap.specs.Words.{Row, Text, all_of, first_of}
 use Rattle.chaos_file.specs.Names.{is_path, is_path_byte}
-use Rattle.chaosd_line.specs.Values.{IsAddress, IsCarriage, IsFlag, IsLogin, IsPeer, IsSocket, IsTimeout, IsWindow}
+use Rattle.chaosd_line.specs.Framings.{IsFraming}
+use Rattle.chaosd_line.specs.Values.{IsAddress, IsContact, IsFlag, IsLogin, IsPeer, IsSocket, IsTimeout, IsWindow}
 use Rattle.chaosd_line.specs.declared.line.Calling.{Calling}
 use Rattle.chaosd_line.specs.declared.line.Copying.{Copying}
 use Rattle.chaosd_line.specs.declared.line.Delete.{Delete}
@@ -129,7 +130,8 @@ IsPathOf text path = (path ≡ text) × (is_path text ≡ true)
 
 -- the values that the callers of a server have in common: the server is another host
 pub record IsCalling (rows : List Row) (c : Calling) : Type 0 where
-  pub carriage : IsSomeAnd (first_of (codes "carriage") rows) (λ text. IsCarriage text c.carriage)
+  pub framing : IsFraming rows c.framing
+  pub contact : IsSomeAnd (first_of (codes "contact") rows) (λ text. IsContact text c.contact)
   pub login : IsSomeAnd (first_of (codes "login") rows) (λ text. IsLogin text c.login)
   pub window : IsSomeAnd (first_of (codes "window") rows) (λ text. IsWindow text c.window)
   pub timeout : IsTimeout (first_of (codes "timeout") rows) c.timeout

@@ -4,10 +4,12 @@ use Rattle.std.specs.Option.{IsSomeAnd}
 use Rattle.clap.specs.Words.{Row, Text, all_of, first_of, subcommand_of}
 use Rattle.chaosd_line.specs.CommandLine.{chaosd}
 use Rattle.chaosd_line.specs.Files.{IsDelete, IsGet, IsPut, IsRename}
-use Rattle.chaosd_line.specs.Values.{ArePeers, IsAddress, IsCarriage, IsFlag, IsLog, IsRetransmit, IsSocket, IsTimeout, IsTurns, IsWindow}
+use Rattle.chaosd_line.specs.Framings.{IsFraming}
+use Rattle.chaosd_line.specs.Values.{ArePeers, IsAddress, IsCarriage, IsContact, IsFlag, IsLog, IsRetransmit, IsSocket, IsTimeout, IsTurns, IsWindow}
 use Rattle.chaosd_line.specs.declared.line.Line.{Line}
 use Rattle.chaosd_line.specs.declared.line.Line.TheVariants as line
 use Rattle.chaosd_line.specs.declared.line.Serve.{Serve}
+use Rattle.chaosd_line.specs.declared.line.Show.{Show}
 use Rattle.chaosd_line.specs.declared.line.Ask.{Ask}
 use Rattle.chaosd_line.specs.declared.line.Calling.{Calling}
 use Rattle.chaosd_line.specs.declared.line.Copying.{Copying}
@@ -16,10 +18,15 @@ use Rattle.chaosd_line.specs.declared.line.Get.{Get}
 use Rattle.chaosd_line.specs.declared.line.Put.{Put}
 use Rattle.chaosd_line.specs.declared.line.Rename.{Rename}
 
+-- the values of `show`
+pub record IsShow (rows : List Row) (show : Show) : Type 0 where
+  pub is_file : IsSomeAnd (first_of (codes "file") rows) (λ text. IsFlag text show.is_file)
+  pub is_chudp : IsSomeAnd (first_of (codes "chudp") rows) (λ text. IsFlag text show.is_chudp)
+
 -- the values of `serve`
 pub record IsServe (rows : List Row) (serve : Serve) : Type 0 where
   pub turns : IsSomeAnd (first_of (codes "turns") rows) (λ text. IsTurns text serve.turns)
-  pub carriage : IsSomeAnd (first_of (codes "carriage") rows) (λ text. IsCarriage text serve.carriage)
+  pub framing : IsFraming rows serve.framing
   pub window : IsSomeAnd (first_of (codes "window") rows) (λ text. IsWindow text serve.window)
   pub retransmit : IsSomeAnd (first_of (codes "retransmit") rows) (λ text. IsRetransmit text serve.retransmit)
   pub is_quiet : IsSomeAnd (first_of (codes "quiet") rows) (λ text. IsFlag text serve.is_quiet)
@@ -34,7 +41,8 @@ pub record IsServe (rows : List Row) (serve : Serve) : Type 0 where
 
 -- the values of `ask`, which asks another host
 pub record IsAsk (rows : List Row) (ask : Ask) : Type 0 where
-  pub carriage : IsSomeAnd (first_of (codes "carriage") rows) (λ text. IsCarriage text ask.carriage)
+  pub framing : IsFraming rows ask.framing
+  pub contact : IsSomeAnd (first_of (codes "contact") rows) (λ text. IsContact text ask.contact)
   pub timeout : IsTimeout (first_of (codes "timeout") rows) ask.timeout
   pub retransmit : IsSomeAnd (first_of (codes "retransmit") rows) (λ text. IsRetransmit text ask.retransmit)
   pub hears_anybody : IsSomeAnd (first_of (codes "any-source") rows) (λ text. IsFlag text ask.hears_anybody)
@@ -47,8 +55,7 @@ pub record IsAsk (rows : List Row) (ask : Ask) : Type 0 where
 
 -- the line that a subcommand and its values ask for
 abbrev pub IsLine : Text → List Row → Line → Type 0
-IsLine name rows (line.Show is_file) =
-    (name ≡ codes "show") × IsSomeAnd (first_of (codes "file") rows) (λ text. IsFlag text is_file)
+IsLine name rows (line.Show show) = (name ≡ codes "show") × IsShow rows show
 IsLine name rows line.Lab = name ≡ codes "lab"
 IsLine name rows line.FileLab = name ≡ codes "filelab"
 IsLine name rows (line.Loop carriage) =
@@ -70,7 +77,7 @@ IsLineOf words asked = AsksFor (subcommand_of chaosd words) asked
 -- the same values of `serve`, wherever the text of the folder lies
 pub record IsSameServe (s t : Serve) : Type 0 where
   pub turns : s.turns ≡ t.turns
-  pub carriage : s.carriage ≡ t.carriage
+  pub framing : s.framing ≡ t.framing
   pub window : s.window ≡ t.window
   pub retransmit : s.retransmit ≡ t.retransmit
   pub is_quiet : s.is_quiet ≡ t.is_quiet
@@ -83,9 +90,10 @@ pub record IsSameServe (s t : Serve) : Type 0 where
   pub folder : s.folder.now ≡ t.folder.now
   pub peers : s.peers ≡ t.peers
 
--- the same values of `ask`
+-- the same values of `ask`, wherever the text of the contact lies
 pub record IsSameAsk (s t : Ask) : Type 0 where
-  pub carriage : s.carriage ≡ t.carriage
+  pub framing : s.framing ≡ t.framing
+  pub contact : s.contact.now ≡ t.contact.now
   pub timeout : s.timeout ≡ t.timeout
   pub retransmit : s.retransmit ≡ t.retransmit
   pub hears_anybody : s.hears_anybody ≡ t.hears_anybody
@@ -97,7 +105,8 @@ pub record IsSameAsk (s t : Ask) : Type 0 where
 
 -- the same values that the callers of a server have in common
 pub record IsSameCalling (s t : Calling) : Type 0 where
-  pub carriage : s.carriage ≡ t.carriage
+  pub framing : s.framing ≡ t.framing
+  pub contact : s.contact.now ≡ t.contact.now
   pub login : s.login.now ≡ t.login.now
   pub window : s.window ≡ t.window
   pub timeout : s.timeout ≡ t.timeout

@@ -1,6 +1,7 @@
 -- The forms of the words of a line, each beside the value that it stands for.
-use Rattle.std.specs.Prelude.{◌≡◌, ◌≢◌, ◌⊎◌, ◌≤◌, ◌<◌, ◌==◌, ◌++◌, ◌∷◌, ⊤, ℕ, Bool, true, false, codes, List, [], length, slice_index, Option, None, Some, MatchOption, Result, MatchResult}
-use Rattle.std.specs.List.{AllPairs, AllZip, after_first, before_first, position_or_len}
+use Rattle.std.specs.Prelude.{◌≡◌, ◌≢◌, ◌⊎◌, ◌≤◌, ◌<◌, ◌==◌, ◌&&◌, ◌++◌, ◌∷◌, ⊤, ℕ, Bool, true, false, not, codes, List, [], length, nat_le, slice_index, Option, None, Some, MatchBool, MatchOption, Result, MatchResult}
+use Rattle.std.specs.Char.{is_ascii_graphic}
+use Rattle.std.specs.List.{AllPairs, AllZip, after_first, before_first, filter, list_all, position_or_len}
 use Rattle.std.specs.Net.Grammar.{IsSocketV4Text}
 use Rattle.std.specs.Net.Socket.{v4_port}
 use Rattle.std.specs.Str.Parse.{IsNumeral, digits_value}
@@ -10,7 +11,7 @@ use Rattle.clap.specs.Words.{Text}
 use Rattle.chaos_file.specs.Names.{is_name}
 use Rattle.chaos_file.specs.declared.limits.TheConstants.{MAX_NAME}
 use Rattle.chaos_link.specs.declared.limits.TheConstants.{MAX_PEERS}
-use Rattle.chaos_link.specs.Peers.{IsKnown}
+use Rattle.chaos_link.specs.Peers.{IsKnown, PeersView}
 use Rattle.chaos_link.specs.declared.carriage.Carriage.{Carriage}
 use Rattle.chaos_link.specs.declared.carriage.Carriage.TheVariants.{One, Two}
 use Rattle.chaos_link.specs.declared.peers.Peer.{Peer}
@@ -76,6 +77,21 @@ abbrev pub IsFlag : Text → Bool → Type 0
 IsFlag text true = text ≡ codes "true"
 IsFlag text false = text ≡ codes "false"
 
+-- the bridge's Chaosnet address where it is given, and none where it isn't
+abbrev pub IsBridge : Option Text → Option ℕ → Type 0
+IsBridge None None = ⊤
+IsBridge (Some text) (Some n) = IsAddress text n
+IsBridge _ _ = ⊥
+
+-- 1 to 64 printable characters of ASCII, none of them a space: the bytes 21 to 7E in hexadecimal
+abbrev pub is_contact : Text → Bool
+is_contact text =
+    nat_le 1 (length text) && nat_le (length text) 64 && list_all is_ascii_graphic text
+
+-- the contact name that is asked for, wherever its text lies
+abbrev pub IsContact : Text → Bor Text → Type 0
+IsContact text contact = (contact.now ≡ text) × (is_contact text ≡ true)
+
 -- a user's name, wherever its text lies
 abbrev pub IsLogin : Text → Bor Text → Type 0
 IsLogin text login = (login.now ≡ text) × (is_name 1 MAX_NAME text ≡ true)
@@ -104,19 +120,58 @@ IsPeer text peer = HasSides text × IsAddress (left_of text) peer.address
     × IsSocket (right_of text) peer.socket
 
 -- each text is the peer at its place, there are at most 32, and no two have one address
-abbrev pub ArePeers : List Text → List Peer → Type 0
-ArePeers texts peers = AllZip IsPeer texts peers × (length peers ≤ MAX_PEERS)
-    × AllPairs (λ p q. p.address ≢ q.address) peers
+abbrev pub AreHosts : List Text → List Peer → Type 0
+AreHosts texts hosts = AllZip IsPeer texts hosts × (length hosts ≤ MAX_PEERS)
+    × AllPairs (λ p q. p.address ≢ q.address) hosts
 
--- the text is a peer that comes last, for which there was room, and whose address was not known
-pub record Adds (text : Text) (old new : List Peer) : Type 0 where
-  pub peer : Peer
-  pub written : IsPeer text peer
-  pub room : length old < MAX_PEERS
-  pub fresh : ¬ (IsKnown peer.address old)
-  pub added : new ≡ old ++ peer ∷ []
+-- a text that begins with a star (42) is the bridge's
+abbrev pub names_bridge : Text → Bool
+names_bridge [] = false
+names_bridge (b ∷ bytes) = b == 42
 
--- whatever peer the text is, there is no room for it, or its address is known
-abbrev pub CannotAdd : Text → List Peer → Type 0
-CannotAdd text old = (peer : Peer) → IsPeer text peer
-    → (length old ≡ MAX_PEERS) ⊎ IsKnown peer.address old
+abbrev pub names_host : Text → Bool
+names_host text = not (names_bridge text)
+
+-- a star, `=`, and a socket: that of the bridge to all hosts that have no entry
+abbrev pub IsBridgePeer : Text → SocketAddrV4 → Type 0
+IsBridgePeer text socket = HasSides text × (left_of text ≡ codes "*") × IsSocket (right_of text) socket
+
+-- there is no bridge where there is no text, and one text is the bridge; two are none
+abbrev pub AreBridges : List Text → Option SocketAddrV4 → Type 0
+AreBridges [] None = ⊤
+AreBridges (text ∷ []) (Some socket) = IsBridgePeer text socket
+AreBridges _ _ = ⊥
+
+-- but for those of the bridge, of which there is one at most, the texts are in their order the hosts
+abbrev pub ArePeers : List Text → PeersView → Type 0
+ArePeers texts peers = AreHosts (filter names_host texts) peers.hosts × AreBridges (filter names_bridge texts) peers.bridge
+
+-- the text is a host that comes last, for which there was room, and whose address was not known
+pub record AddsHost (text : Text) (old new : PeersView) : Type 0 where
+  pub host : Peer
+  pub written : IsPeer text host
+  pub room : length old.hosts < MAX_PEERS
+  pub fresh : ¬ (IsKnown host.address old.hosts)
+  pub added : new ≡ record old { hosts = old.hosts ++ host ∷ [] }
+
+-- the text is the bridge, and there was none
+pub record AddsBridge (text : Text) (old new : PeersView) : Type 0 where
+  pub socket : SocketAddrV4
+  pub written : IsBridgePeer text socket
+  pub fresh : old.bridge ≡ None
+  pub added : new ≡ record old { bridge = Some socket }
+
+abbrev pub Adds : Text → PeersView → PeersView → Type 0
+Adds text old new = MatchBool (names_bridge text) (AddsBridge text old new) (AddsHost text old new)
+
+-- whatever host the text is, there is no room for it, or its address is known
+abbrev pub CannotAddHost : Text → List Peer → Type 0
+CannotAddHost text old = (host : Peer) → IsPeer text host
+    → (length old ≡ MAX_PEERS) ⊎ IsKnown host.address old
+
+-- whatever bridge the text is, there is one
+abbrev pub CannotAddBridge : Text → Option SocketAddrV4 → Type 0
+CannotAddBridge text old = (socket : SocketAddrV4) → IsBridgePeer text socket → old ≢ None
+
+abbrev pub CannotAdd : Text → PeersView → Type 0
+CannotAdd text old = MatchBool (names_bridge text) (CannotAddBridge text old.bridge) (CannotAddHost text old.hosts)

@@ -12,6 +12,15 @@ pub(crate) const TURNS_FORM: &str = "a decimal number without leading zeros, at 
 /// What is wanted of a carriage.
 pub(crate) const CARRIAGE_FORM: &str = "1 or 2";
 
+/// What is wanted of a carriage beside `--chudp`.
+pub(crate) const PLAIN_FORM: &str = "1 beside --chudp, since a datagram of CHUDP has one packet";
+
+/// What is wanted of a bridge's address without `--chudp`.
+pub(crate) const NEEDS_CHUDP_FORM: &str = "--chudp beside it, since only CHUDP names a bridge";
+
+/// What is wanted of a contact name.
+pub(crate) const CONTACT_FORM: &str = "1 to 64 printable characters of ASCII, none of them a space";
+
 /// What is wanted of a log's level.
 pub(crate) const LOG_FORM: &str = "quiet, normal or all";
 
@@ -19,8 +28,14 @@ pub(crate) const LOG_FORM: &str = "quiet, normal or all";
 pub(crate) const SOCKET_FORM: &str =
     "a.b.c.d:port in decimal without leading zeros, the port from 1 to 65535";
 
-/// What is wanted of a peer.
+/// What is wanted of a server.
 pub(crate) const PEER_FORM: &str = "an address, `=` and a socket, as 402=127.0.0.1:9002";
+
+/// What is wanted of a peer.
+pub(crate) const ENTRY_FORM: &str = "an address or `*`, `=` and a socket, as 402=127.0.0.1:9002";
+
+/// What is wanted of the bridge among the peers.
+pub(crate) const BRIDGE_ONCE_FORM: &str = "one bridge at most";
 
 /// What is wanted of all the peers.
 pub(crate) const PEERS_FORM: &str = "at most 32 peers";

@@ -3,15 +3,16 @@ ghost use Rattle.std.specs.Prelude.{◌≡◌, codes, false, map, option_map, If
 ghost use Rattle.std.specs.Option.{IsSomeAnd};
 ghost use Rattle.clap.specs.Words.{first_of, found_of, rows_of};
 ghost use Rattle.chaosd_line.specs.Files.{GivesFiles, IfBad, IsCalling, IsDelete, IsDeleteOf, IsPathOf, IsRename, are_paths, bad_path};
-ghost use Rattle.chaosd_line.specs.Values.{IsLogin, IsPeer, IsTimeout, Reads};
+ghost use Rattle.chaosd_line.specs.Values.{IsContact, IsLogin, IsPeer, IsTimeout, Reads};
 
 use crate::bad_word::{
-    BadWord, LOGIN_FORM, OTHER_FORM, PATH_FORM, PATHS_FORM, PEER_FORM, TIMEOUT_FORM,
+    BadWord, CONTACT_FORM, LOGIN_FORM, OTHER_FORM, PATH_FORM, PATHS_FORM, PEER_FORM, TIMEOUT_FORM,
 };
 use crate::files::{are_paths, bad_path};
-use crate::given::{given, given_address, given_carriage, given_flag, given_socket, given_window};
+use crate::framings::given_framing;
+use crate::given::{given, given_address, given_flag, given_socket, given_window};
 use crate::line::{Calling, Delete, Rename};
-use crate::names::{is_path, is_user};
+use crate::names::{is_contact, is_path, is_user};
 use crate::unread::Unread;
 use crate::values::{peer_of, seconds_of};
 use chaos_link::Peer;
@@ -30,6 +31,22 @@ fn given_login<'a>(matches: &ArgMatches<'a>) -> Result<&'a str, BadWord<'a>>
             text,
             place: "--login",
             form: LOGIN_FORM,
+        })
+    }
+}
+
+/// The contact name that is asked for.
+pub(crate) fn given_contact<'a>(matches: &ArgMatches<'a>) -> Result<&'a str, BadWord<'a>>
+    ensures { Reads (λ t. IsSomeAnd (first_of (codes "contact") (rows_of (found_of matches.now))) (λ u. IsContact u t)) result }
+{
+    let text = given(matches, "contact")?;
+    if is_contact(text.as_bytes()) {
+        Ok(text)
+    } else {
+        Err(BadWord {
+            text,
+            place: "--contact",
+            form: CONTACT_FORM,
         })
     }
 }
@@ -86,7 +103,8 @@ pub(crate) fn own_host<'a>(matches: &ArgMatches<'a>, place: &'a str) -> BadWord<
 pub(crate) fn calling_of<'a>(matches: &ArgMatches<'a>) -> Result<Calling<'a>, BadWord<'a>>
     ensures { Reads (IsCalling (rows_of (found_of matches.now))) result }
 {
-    let carriage = given_carriage(matches)?;
+    let framing = given_framing(matches)?;
+    let contact = given_contact(matches)?;
     let login = given_login(matches)?;
     let window = given_window(matches)?;
     let timeout = given_timeout(matches)?;
@@ -98,7 +116,8 @@ pub(crate) fn calling_of<'a>(matches: &ArgMatches<'a>) -> Result<Calling<'a>, Ba
         return Err(own_host(matches, "SERVER"));
     }
     Ok(Calling {
-        carriage,
+        framing,
+        contact,
         login,
         window,
         timeout,

@@ -3,16 +3,17 @@ ghost use Rattle.std.specs.Prelude.{◌≡◌, [], MatchResult, None, Some, code
 ghost use Rattle.std.specs.Option.{IsSomeAnd};
 ghost use Rattle.clap.specs.Words.{all_of, first_of, found_of, rows_of, subcommand_rows_of};
 ghost use Rattle.chaosd_line.specs.Files.{GivesFiles};
-ghost use Rattle.chaosd_line.specs.Lines.{AsksFor, IsAsk, IsLine, IsServe};
+ghost use Rattle.chaosd_line.specs.Lines.{AsksFor, IsAsk, IsLine, IsServe, IsShow};
 ghost use Rattle.chaosd_line.specs.Values.{ArePeers, IsAddress, IsCarriage, IsFlag, IsLog, IsRetransmit, IsSocket, IsTurns, IsWindow, Reads};
 
 use crate::bad_word::{
     ADDRESS_FORM, BadWord, CARRIAGE_FORM, FLAG_FORM, LOG_FORM, RETRANSMIT_FORM, SOCKET_FORM,
     TURNS_FORM, WINDOW_FORM,
 };
-use crate::calls::{delete_of, given_timeout, own_host, rename_of};
+use crate::calls::{delete_of, given_contact, given_timeout, own_host, rename_of};
 use crate::copies::{get_of, put_of};
-use crate::line::{Ask, Line, LogLevel, Serve};
+use crate::framings::given_framing;
+use crate::line::{Ask, Line, LogLevel, Serve, Show};
 use crate::peers::peers_of;
 use crate::unread::Unread;
 use crate::values::{
@@ -176,7 +177,7 @@ fn serve_of<'a>(matches: &ArgMatches<'a>) -> Result<Serve<'a>, BadWord<'a>>
     ensures { Reads (IsServe (rows_of (found_of matches.now))) result }
 {
     let turns = given_turns(matches)?;
-    let carriage = given_carriage(matches)?;
+    let framing = given_framing(matches)?;
     let window = given_window(matches)?;
     let retransmit = given_retransmit(matches)?;
     let is_quiet = given_flag(matches, "quiet")?;
@@ -190,7 +191,7 @@ fn serve_of<'a>(matches: &ArgMatches<'a>) -> Result<Serve<'a>, BadWord<'a>>
     let peers = given_peers(matches)?;
     Ok(Serve {
         turns,
-        carriage,
+        framing,
         window,
         retransmit,
         is_quiet,
@@ -206,10 +207,11 @@ fn serve_of<'a>(matches: &ArgMatches<'a>) -> Result<Serve<'a>, BadWord<'a>>
 }
 
 /// What the values of `ask` ask for.
-fn ask_of<'a>(matches: &ArgMatches<'a>) -> Result<Ask, BadWord<'a>>
+fn ask_of<'a>(matches: &ArgMatches<'a>) -> Result<Ask<'a>, BadWord<'a>>
     ensures { Reads (IsAsk (rows_of (found_of matches.now))) result }
 {
-    let carriage = given_carriage(matches)?;
+    let framing = given_framing(matches)?;
+    let contact = given_contact(matches)?;
     let timeout = given_timeout(matches)?;
     let retransmit = given_retransmit(matches)?;
     let hears_anybody = given_flag(matches, "any-source")?;
@@ -222,7 +224,8 @@ fn ask_of<'a>(matches: &ArgMatches<'a>) -> Result<Ask, BadWord<'a>>
     }
     let peers = given_peers(matches)?;
     Ok(Ask {
-        carriage,
+        framing,
+        contact,
         timeout,
         retransmit,
         hears_anybody,
@@ -234,11 +237,20 @@ fn ask_of<'a>(matches: &ArgMatches<'a>) -> Result<Ask, BadWord<'a>>
     })
 }
 
+/// What the values of `show` ask for.
+fn show_of<'a>(matches: &ArgMatches<'a>) -> Result<Show, BadWord<'a>>
+    ensures { Reads (IsShow (rows_of (found_of matches.now))) result }
+{
+    let is_file = given_flag(matches, "file")?;
+    let is_chudp = given_flag(matches, "chudp")?;
+    Ok(Show { is_file, is_chudp })
+}
+
 /// The line `show` of these values.
 fn show_line<'a>(matches: &ArgMatches<'a>) -> Result<Line<'a>, Unread<'a>>
     ensures { GivesFiles (IsLine (codes "show") (rows_of (found_of matches.now))) result }
 {
-    Ok(Line::Show(given_flag(matches, "file")?))
+    Ok(Line::Show(show_of(matches)?))
 }
 
 /// The line `loop` of these values.

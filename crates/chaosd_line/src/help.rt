@@ -150,6 +150,22 @@ pub(crate) const TURNS: &str =
 pub(crate) const CARRIAGE: &str =
     "Send packets in datagrams of version N: 1 has one packet, 2 has several";
 
+/// CHUDP in place of this program's own datagrams.
+pub(crate) const CHUDP: &str =
+    "Send and take packets in CHUDP, the framing of cbridge and other Chaosnet programs; not with --carriage 2";
+
+/// The next hop of what goes through a bridge.
+pub(crate) const BRIDGE: &str =
+    "Name ADDRESS, the bridge's own Chaosnet address, as the next hop of packets that go through it; needs --chudp";
+
+/// Datagrams of CHUDP that are decoded.
+pub(crate) const SHOW_CHUDP: &str =
+    "Decode datagrams of CHUDP, the framing of cbridge and other Chaosnet programs";
+
+/// The contact name that is asked for.
+pub(crate) const CONTACT: &str =
+    "Ask the server for the contact NAME, 1 to 64 printable characters of ASCII, none of them a space";
+
 /// The host's own address.
 pub(crate) const ADDRESS: &str =
     "Chaosnet address of this host: 1 to 6 octal digits, from 1 to 177777";
@@ -166,14 +182,18 @@ pub(crate) const TO: &str = "Chaosnet address of the host to ask, in the form of
 
 /// The hosts to send to.
 pub(crate) const PEER: &str =
-    "Another host, as ADDRESS=UDP in the forms above: at most 32, each Chaosnet address once";
+    "Another host, as ADDRESS=UDP in the forms above: at most 32, each Chaosnet address once; *=UDP is a bridge to all others";
 
 /// What the help of `serve` ends with.
 pub(crate) const SERVE_EXAMPLE: &str = "\
-Example:
+Examples:
   chaosd serve 401 127.0.0.1:9001 files 402=127.0.0.1:9002
 
-  Host 401 serves the files of the folder `files`, and knows host 402.";
+  Host 401 serves the files of the folder `files`, and knows host 402.
+
+  chaosd serve --chudp --bridge 3040 401 0.0.0.0:42042 files '*=192.0.2.1:42042'
+
+  Host 401 serves them through the bridge 3040, which is at 192.0.2.1.";
 
 /// What the help of `ask` ends with.
 pub(crate) const ASK_EXAMPLE: &str = "\

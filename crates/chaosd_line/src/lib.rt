@@ -14,6 +14,8 @@ mod command;
 mod copies;
 mod fault;
 mod files;
+mod framing;
+mod framings;
 mod given;
 mod help;
 mod law;
@@ -28,7 +30,8 @@ mod values;
 mod word;
 
 pub use fault::LineFault;
+pub use framing::Framing;
 pub use law::law_one_line;
-pub use line::{Ask, Calling, Copying, Delete, Get, Line, LogLevel, Put, Rename, Serve};
+pub use line::{Ask, Calling, Copying, Delete, Get, Line, LogLevel, Put, Rename, Serve, Show};
 pub use parse::{parse_line, read_line};
 pub use paths::{FilePath, path_for};

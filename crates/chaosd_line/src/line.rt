@@ -1,16 +1,17 @@
 //! What a command line asks for.
-ghost use Rattle.std.specs.Prelude.{◌<◌, ◌≤◌, length};
+ghost use Rattle.std.specs.Prelude.{◌<◌, ◌≡◌, ◌≤◌, length, true};
 ghost use Rattle.chaos_file.specs.declared.limits.TheConstants.{MAX_NAME};
+ghost use Rattle.chaosd_line.specs.Values.{is_contact};
 
+use crate::framing::Framing;
 use chaos_link::{Carriage, Peer, Peers};
 use std::net::SocketAddrV4;
 
 /// What a command line asks for: a subcommand, with its values. Texts are lent from the words.
 #[derive(Drop)]
 pub enum Line<'a> {
-    /// `chaosd show`: hexadecimal lines from standard input, one datagram a line, to reports; where it is true, with what a FILE
-    /// command or reply says.
-    Show(bool),
+    /// `chaosd show`: hexadecimal lines from standard input, one datagram a line, to reports.
+    Show(Show),
     /// `chaosd lab`: a script of two connections from standard input, to what each line did.
     Lab,
     /// `chaosd filelab`: a script of a client of FILE and its server from standard input, to what each line did.
@@ -20,7 +21,7 @@ pub enum Line<'a> {
     /// `chaosd serve`: the FILE service of a folder, to other hosts.
     Serve(Serve<'a>),
     /// `chaosd ask`: a FILE script from standard input, put to another host.
-    Ask(Ask),
+    Ask(Ask<'a>),
     /// `chaosd get`: files of another host, into local ones.
     Get(Get<'a>),
     /// `chaosd put`: local files, to another host.
@@ -29,6 +30,15 @@ pub enum Line<'a> {
     Delete(Delete<'a>),
     /// `chaosd rename`: another host renames a file.
     Rename(Rename<'a>),
+}
+
+/// What reports of datagrams say.
+#[derive(Clone, Copy, Debug, PartialEq, Eq)]
+pub struct Show {
+    /// Whether also what a FILE command or reply says.
+    pub is_file: bool,
+    /// Whether the datagrams are in CHUDP, and not in this program's own form.
+    pub is_chudp: bool,
 }
 
 /// How much a server tells.
@@ -47,8 +57,8 @@ pub enum LogLevel {
 pub struct Serve<'a> {
     /// The turns after which the server ends, at most 1,000,000,000.
     pub turns: u32,
-    /// How it sends packets.
-    pub carriage: Carriage,
+    /// How packets stand in datagrams.
+    pub framing: Framing,
     /// The packets that each of the two windows of its connections has, 1 to 64.
     pub window: u16,
     /// The milliseconds after which packets that its connections keep are sent again, 20 to 60,000.
@@ -76,9 +86,11 @@ pub struct Serve<'a> {
 
 /// Whom to ask, and as whom.
 #[derive(Drop)]
-pub struct Ask {
-    /// How it sends packets.
-    pub carriage: Carriage,
+pub struct Ask<'a> {
+    /// How packets stand in datagrams.
+    pub framing: Framing,
+    /// The contact name that it asks for: 1 to 64 printable characters of ASCII, none of them a space.
+    pub contact: &'a str,
     /// The seconds that each reply is waited for, 1 to 3600, where they are given.
     pub timeout: Option<u16>,
     /// The milliseconds after which packets that its connection keeps are sent again, 20 to 60,000.
@@ -96,13 +108,16 @@ pub struct Ask {
     /// Where it sends to.
     pub peers: Peers,
     ghost named: { 0 < address },
+    ghost contact_fits: { is_contact contact.now ≡ true },
 }
 
 /// As whom which server is called, and how.
 #[derive(Drop)]
 pub struct Calling<'a> {
-    /// How it sends packets.
-    pub carriage: Carriage,
+    /// How packets stand in datagrams.
+    pub framing: Framing,
+    /// The contact name that it asks for: 1 to 64 printable characters of ASCII, none of them a space.
+    pub contact: &'a str,
     /// The user's name, 1 to 16 letters and digits.
     pub login: &'a str,
     /// The packets that each of its two windows has, 1 to 64.
@@ -119,6 +134,7 @@ pub struct Calling<'a> {
     pub server: Peer,
     ghost named: { 0 < address },
     ghost login_fits: { length login.now ≤ MAX_NAME },
+    ghost contact_fits: { is_contact contact.now ≡ true },
 }
 
 /// As whom a copy is made, from or to which server, and how.

@@ -1,10 +1,10 @@
 //! The peers of a line.
-ghost use Rattle.std.specs.Prelude.{◌≤◌, OnErr, OnOk, length, map};
+ghost use Rattle.std.specs.Prelude.{◌≡◌, ◌≤◌, OnErr, OnOk, length, map};
 ghost use Rattle.chaos_link.specs.declared.limits.TheConstants.{MAX_PEERS};
-ghost use Rattle.chaosd_line.specs.Values.{Adds, ArePeers, CannotAdd, Reads};
+ghost use Rattle.chaosd_line.specs.Values.{Adds, AddsHost, AddsBridge, ArePeers, CannotAdd, CannotAddHost, CannotAddBridge, Reads, names_bridge};
 
-use crate::bad_word::{BadWord, ONCE_FORM, PEER_FORM, PEERS_FORM};
-use crate::values::peer_of;
+use crate::bad_word::{BRIDGE_ONCE_FORM, BadWord, ENTRY_FORM, ONCE_FORM, PEERS_FORM};
+use crate::values::{bridge_peer_of, peer_of};
 use chaos_link::{PeerFault, Peers};
 
 /// What a table that refuses a peer would have wanted of it.
@@ -24,25 +24,63 @@ fn bad_peer<'a>(text: &'a str, form: &'a str) -> BadWord<'a> {
     }
 }
 
-/// Adds the peer that the text writes.
-fn add_peer<'a>(peers: &mut Peers, text: &'a str) -> Result<(), BadWord<'a>>
-    requires { length peers.old ≤ MAX_PEERS }
-    ensures ok { OnOk result (Adds text.now peers.old peers.new) }
-    ensures err { OnErr result (CannotAdd text.now peers.old) }
+/// Adds the host that the text writes.
+fn add_host<'a>(peers: &mut Peers, text: &'a str) -> Result<(), BadWord<'a>>
+    requires { length peers.old.hosts ≤ MAX_PEERS }
+    ensures ok { OnOk result (AddsHost text.now peers.old peers.new) }
+    ensures err { OnErr result (CannotAddHost text.now peers.old.hosts) }
 {
     match peer_of(text) {
         Some(peer) => match peers.add(peer) {
             Ok(()) => Ok(()),
             Err(fault) => Err(bad_peer(text, form_of(fault))),
         },
-        None => Err(bad_peer(text, PEER_FORM)),
+        None => Err(bad_peer(text, ENTRY_FORM)),
     }
 }
 
-/// The peers that the texts write, in their order.
+/// Sets the bridge that the text writes.
+fn add_bridge<'a>(peers: &mut Peers, text: &'a str) -> Result<(), BadWord<'a>>
+    ensures ok { OnOk result (AddsBridge text.now peers.old peers.new) }
+    ensures err { OnErr result (CannotAddBridge text.now peers.old.bridge) }
+{
+    let Some(socket) = bridge_peer_of(text) else {
+        return Err(bad_peer(text, ENTRY_FORM));
+    };
+    if peers.bridge().is_some() {
+        return Err(bad_peer(text, BRIDGE_ONCE_FORM));
+    }
+    peers.set_bridge(socket);
+    Ok(())
+}
+
+/// Whether a text begins with a star.
+fn names_bridge(bytes: &[u8]) -> bool
+    ensures { result ≡ names_bridge bytes.now }
+{
+    match bytes {
+        [first, ..] => *first == b'*',
+        [] => false,
+    }
+}
+
+/// Adds the host or the bridge that the text writes.
+fn add_peer<'a>(peers: &mut Peers, text: &'a str) -> Result<(), BadWord<'a>>
+    requires { length peers.old.hosts ≤ MAX_PEERS }
+    ensures ok { OnOk result (Adds text.now peers.old peers.new) }
+    ensures err { OnErr result (CannotAdd text.now peers.old) }
+{
+    if names_bridge(text.as_bytes()) {
+        add_bridge(peers, text)
+    } else {
+        add_host(peers, text)
+    }
+}
+
+/// The peers that the texts write: the hosts in their order, and the bridge, where a text writes one.
 ///
 /// # Errors
-/// The first word that is no peer, or one too many, or has the address of an earlier one.
+/// The first word that is no peer, or one too many, or has the address of an earlier one, or is a second bridge.
 pub(crate) fn peers_of<'a>(texts: &[&'a str]) -> Result<Peers, BadWord<'a>>
     ensures { Reads (ArePeers (map (λ t. t.now) texts.now)) result }
 {

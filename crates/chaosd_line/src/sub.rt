@@ -46,6 +46,12 @@ pub(crate) struct Sub {
 
 const CARRIAGE: Word<'static> = Word("carriage", Wanted::Default("N", "1"), help::CARRIAGE);
 
+const CHUDP: Word<'static> = Word("chudp", Wanted::Flag, help::CHUDP);
+
+const BRIDGE: Word<'static> = Word("bridge", Wanted::Optional("ADDRESS"), help::BRIDGE);
+
+const CONTACT: Word<'static> = Word("contact", Wanted::Default("NAME", "FILE"), help::CONTACT);
+
 const ADDRESS: Word<'static> = Word("ADDRESS", Wanted::Needed, help::ADDRESS);
 
 const UDP: Word<'static> = Word("UDP", Wanted::Needed, help::UDP);
@@ -79,7 +85,10 @@ static SHOW: Sub = Sub {
     shown: "chaosd show",
     about: help::SHOW,
     example: None,
-    words: &[Word("file", Wanted::Flag, help::SHOW_FILE)],
+    words: &[
+        Word("file", Wanted::Flag, help::SHOW_FILE),
+        Word("chudp", Wanted::Flag, help::SHOW_CHUDP),
+    ],
 };
 
 static LAB: Sub = Sub {
@@ -114,6 +123,8 @@ static SERVE: Sub = Sub {
     words: &[
         Word("turns", Wanted::Default("N", "1000000000"), help::TURNS),
         CARRIAGE,
+        CHUDP,
+        BRIDGE,
         Word("window", Wanted::Default("N", "13"), help::SERVE_WINDOW),
         RETRANSMIT,
         Word("quiet", Wanted::Flag, help::SERVE_QUIET),
@@ -135,6 +146,9 @@ static ASK: Sub = Sub {
     example: Some(help::ASK_EXAMPLE),
     words: &[
         CARRIAGE,
+        CHUDP,
+        BRIDGE,
+        CONTACT,
         Word("timeout", Wanted::Optional("SECONDS"), help::ASK_TIMEOUT),
         RETRANSMIT,
         ANY_SOURCE,
@@ -153,6 +167,9 @@ static GET: Sub = Sub {
     example: Some(help::GET_EXAMPLE),
     words: &[
         CARRIAGE,
+        CHUDP,
+        BRIDGE,
+        CONTACT,
         LOGIN,
         WINDOW,
         TIMEOUT,
@@ -175,6 +192,9 @@ static PUT: Sub = Sub {
     example: Some(help::PUT_EXAMPLE),
     words: &[
         CARRIAGE,
+        CHUDP,
+        BRIDGE,
+        CONTACT,
         LOGIN,
         WINDOW,
         TIMEOUT,
@@ -198,6 +218,9 @@ static DELETE: Sub = Sub {
     example: Some(help::DELETE_EXAMPLE),
     words: &[
         CARRIAGE,
+        CHUDP,
+        BRIDGE,
+        CONTACT,
         LOGIN,
         WINDOW,
         TIMEOUT,
@@ -216,6 +239,9 @@ static RENAME: Sub = Sub {
     example: Some(help::RENAME_EXAMPLE),
     words: &[
         CARRIAGE,
+        CHUDP,
+        BRIDGE,
+        CONTACT,
         LOGIN,
         WINDOW,
         TIMEOUT,

@@ -1,6 +1,6 @@
 //! The forms of words, and the values that they stand for.
 ghost use Rattle.std.specs.Prelude.{◌≡◌, ◌↔◌, IsTrue, MatchOption};
-ghost use Rattle.chaosd_line.specs.Values.{Finds, HasSides, IsAddress, IsCarriage, IsFlag, IsLog, IsPadded, IsPeer, IsRetransmit, IsSeconds, IsSocket, IsTurns, IsWindow, left_of, port_of, right_of};
+ghost use Rattle.chaosd_line.specs.Values.{Finds, HasSides, IsAddress, IsCarriage, IsFlag, IsLog, IsPadded, IsPeer, IsRetransmit, IsSeconds, IsSocket, IsTurns, IsBridgePeer, IsWindow, left_of, port_of, right_of};
 
 use crate::line::LogLevel;
 use chaos_link::{Carriage, Peer};
@@ -175,4 +175,15 @@ pub(crate) fn peer_of(text: &str) -> Option<Peer>
     let address = address_of(left)?;
     let socket = socket_of(right)?;
     Some(Peer { address, socket })
+}
+
+/// The bridge's UDP address that a star, `=` and a socket write.
+pub(crate) fn bridge_peer_of(text: &str) -> Option<SocketAddrV4>
+    ensures { Finds (IsBridgePeer text.now) result }
+{
+    let (left, right) = sides_of(text)?;
+    if left != "*" {
+        return None;
+    }
+    socket_of(right)
 }

@@ -2,10 +2,15 @@
 use Rattle.std.proofs.lemmas.Result.{err_from_is_err_and}
 use Rattle.chaosd_line.proofs.given.ask_of.Goals as goal
 
-pub returns-in_err-carriage : goal.returns-in_err-carriage
-returns-in_err-carriage c =
+pub returns-in_err-framing : goal.returns-in_err-framing
+returns-in_err-framing c =
     let p = err_from_is_err_and c.from_residual.result c.from_residual.ensures.1 in
-    rw p.1 (λ ask h. c.in_err-carriage.ensures ask.carriage h.carriage)
+    rw p.1 (λ ask h. c.in_err-framing.ensures ask.framing h.framing)
+
+pub returns-in_err-contact : goal.returns-in_err-contact
+returns-in_err-contact c =
+    let p = err_from_is_err_and c.from_residual-in_err-contact.result c.from_residual-in_err-contact.ensures.1 in
+    rw p.1 (λ ask h. c.in_err-contact.ensures ask.contact h.contact)
 
 pub returns-in_err-timeout : goal.returns-in_err-timeout
 returns-in_err-timeout c =

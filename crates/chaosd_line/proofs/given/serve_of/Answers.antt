@@ -7,10 +7,10 @@ returns-in_err-turns c =
     let p = err_from_is_err_and c.from_residual.result c.from_residual.ensures.1 in
     rw p.1 (λ serve h. c.in_err-turns.ensures serve.turns h.turns)
 
-pub returns-in_err-carriage : goal.returns-in_err-carriage
-returns-in_err-carriage c =
-    let p = err_from_is_err_and c.from_residual-in_err-carriage.result c.from_residual-in_err-carriage.ensures.1 in
-    rw p.1 (λ serve h. c.in_err-carriage.ensures serve.carriage h.carriage)
+pub returns-in_err-framing : goal.returns-in_err-framing
+returns-in_err-framing c =
+    let p = err_from_is_err_and c.from_residual-in_err-framing.result c.from_residual-in_err-framing.ensures.1 in
+    rw p.1 (λ serve h. c.in_err-framing.ensures serve.framing h.framing)
 
 pub returns-in_err-window : goal.returns-in_err-window
 returns-in_err-window c =
@@ -68,7 +68,7 @@ returns-in_err-peers c =
 pub returns : goal.returns
 returns c = record {
   turns = c.in_ok-turns.ensures;
-  carriage = c.in_ok-carriage.ensures;
+  framing = c.in_ok-framing.ensures;
   window = c.in_ok-window.ensures;
   retransmit = c.in_ok-retransmit.ensures;
   is_quiet = c.in_ok-is_quiet.ensures;
