@@ -20,7 +20,7 @@ use chaosd_file::{NOBODY, ScriptEnd, Why, run_ask_by};
 use chaosd_io::RunFault;
 use chaosd_line::Ask;
 use chaosd_told::{Name, Notes, Replies};
-use file_client::{Patience, Route, Shown, Timing};
+use file_client::{Contact, Patience, Route, Shown, Timing};
 use std::fs::{File, Files};
 use std::io;
 use std::io::{Read, Write};
@@ -171,6 +171,7 @@ fn asked_of<R: Eprint>(rt: &R, line: &Ask<'_>) -> Asked
         route: Route {
             me: line.address,
             to,
+            contact: Contact::file(),
             config: config_of(USUAL_WINDOW, line.retransmit),
             carriage: line.framing.carriage(),
         },

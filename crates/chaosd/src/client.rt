@@ -9,7 +9,7 @@ use chaos_link::Link;
 use chaosd_clock::{Dial, Epoch};
 use chaosd_io::RunFault;
 use chaosd_line::Calling;
-use file_client::{Patience, Route, Timed, Timing, retransmit_for, round_trip};
+use file_client::{Contact, Patience, Route, Timed, Timing, retransmit_for, round_trip};
 use std::fs::{File, Files};
 use std::io;
 use std::io::Read;
@@ -70,6 +70,7 @@ pub(crate) fn route_of<R: AllocGlobal + Dial, L: Link>(
     let usual = Route {
         me: calling.address,
         to: calling.server.address,
+        contact: Contact::file(),
         config: ConnConfig::with_window(calling.window),
         carriage: calling.framing.carriage(),
     };

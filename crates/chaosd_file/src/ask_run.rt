@@ -3,7 +3,7 @@ ghost use Rattle.std.specs.Prelude.{◌≡◌, ◌<◌, ◌≤◌, ◌⊎◌, Er
 ghost use Rattle.chaos_conn.specs.Config.{usual_config};
 ghost use Rattle.chaosd_file.specs.Conversation.{Converses, IfAsked};
 ghost use Rattle.chaosd_file.specs.Script.{Runs};
-ghost use Rattle.file_client.specs.Caller.{new_caller};
+ghost use Rattle.file_client.specs.Caller.{caller_by, new_caller};
 ghost use Rattle.chaosd_clock.specs.Clock.{BeginsBy};
 ghost use Rattle.file_client.specs.Pace.{clock_pace, usual_timing};
 ghost use Rattle.file_client.specs.Talk.{talker};
@@ -17,7 +17,7 @@ use chaos_conn::ConnConfig;
 use chaos_link::{Carriage, Link};
 use chaosd_clock::{Dial, Epoch};
 use chaosd_io::RunFault;
-use file_client::{Client, Route, Timed, Timing};
+use file_client::{Client, Contact, Route, Timed, Timing};
 use std::alloc::Global;
 use std::io::{Read, Write};
 
@@ -60,6 +60,7 @@ pub fn run_ask<C: Dial, R: Read, W: Write, L: Link>(
     let route = Route {
         me,
         to,
+        contact: Contact::file(),
         config: ConnConfig::usual(),
         carriage,
     };
@@ -86,7 +87,7 @@ pub fn run_ask_by<P: Ready<R>, C: Dial, R: Read, W: Write, L: Link>(
     ensures runs { Runs (R.remaining reader.old) (R.remaining reader.new) (W.contents writer.old) (W.contents writer.new) result }
     // What its connection wrote are the commands of these lines, in order, and, where it ended well, then an EOF, and what was printed
     // are the data that it read, in order. It is closed however that ends, but where the clock can't be read or the link failed.
-    ensures talk { IfAsked result (Converses (clock_pace (C.shows clock.now) timing) (C.fails clock.now ⊎ (0 < L.count link.new)) (talker (new_caller route.now.me route.now.to route.now.config route.now.carriage timing.epoch.passed) (L.queue link.old)) (L.queue link.new) (R.remaining reader.old) (R.remaining reader.new) (W.contents writer.old) (W.contents writer.new) result) }
+    ensures talk { IfAsked result (Converses (clock_pace (C.shows clock.now) timing) (C.fails clock.now ⊎ (0 < L.count link.new)) (talker (caller_by route.now timing.epoch.passed) (L.queue link.old)) (L.queue link.new) (R.remaining reader.old) (R.remaining reader.new) (W.contents writer.old) (W.contents writer.new) result) }
     // It ends well only where the link's count of failures didn't rise.
     ensures well { OnOk result (L.count link.new ≤ L.count link.old) }
     // It ends by a LinkFault only where the link counted failures.

@@ -21,7 +21,7 @@ use chaos_link::{Carriage, LINK_ROOM, Link};
 use chaos_packet::{Outbox, PktNum};
 use chaos_turn::{TURN_ROOM, TurnEnd, client_turn};
 use chaosd_io::RunFault;
-use file_client::{Client, Patience, Route, Turns};
+use file_client::{Client, Contact, Patience, Route, Turns};
 use file_server::Server;
 use std::alloc::Global;
 use std::io::{Read, Write};
@@ -229,6 +229,7 @@ fn run_between<R: Read, W: Write, A: Link, B: Link>(
     let route = Route {
         me: LOOP_CLIENT,
         to: LOOP_SERVER,
+        contact: Contact::file(),
         config: ConnConfig::usual(),
         carriage,
     };

@@ -17,32 +17,40 @@ use Rattle.chaos_host.specs.Connect.{ConnectAnswer, host_connect}
 use Rattle.chaos_host.specs.View.{HostView, host_look, new_host}
 use Rattle.chaos_host.specs.declared.fault.CallFault.{CallFault}
 use Rattle.chaos_turn.specs.declared.limits.TheConstants.{TURN_ROOM}
+use Rattle.file_client.specs.declared.route.Route.{Route}
 use Rattle.file_client.specs.Calls.{after_passing, call_by, data_read, is_wrote}
 use Rattle.file_client.specs.Pace.{Pace}
 use Rattle.file_client.specs.Turn.{TakesTurn}
 
--- Its host, whom it calls, how its packets are carried, its connection, if any, the moment at which it asked last, for how
--- many milliseconds it waits for that one's OPN, and what waits to be sent.
+-- Its host, whom it calls, for which contact, how its packets are carried, its connection, if any, the moment at which it asked
+-- last, for how many milliseconds it waits for that one's OPN, and what waits to be sent.
 pub record CallerView : Type 0 where
   pub host : HostView
   pub to : ℕ
+  pub contact : List ℕ
   pub carriage : Carriage
   pub id : Option ℕ
   pub since : ℕ
   pub wait : ℕ
   pub out : OutboxView
 
--- a host without a connection, which has used up so many indices
+-- a host without a connection, which has used up so many indices and asks for FILE
 abbrev pub new_caller : ℕ → ℕ → ConfigView → Carriage → ℕ → CallerView
 new_caller me to config carriage count = record {
   host = after_passing to count (new_host me 1 config);
   to = to;
+  contact = codes "FILE";
   carriage = carriage;
   id = None;
   since = 0;
   wait = 0;
   out = record { packets = []; cap = TURN_ROOM };
 }
+
+-- a new caller by a route, which asks for the route's contact
+abbrev pub caller_by : Route → ℕ → CallerView
+caller_by route count =
+    record (new_caller route.me route.to route.config route.carriage count) { contact = route.contact }
 
 -- ---- calls of the connection
 
@@ -72,9 +80,9 @@ Receives got c d = Acts 1 None (data_read (read_of c).answer) got (read_of c) c 
 -- ---- a connection's beginning and end
 
 abbrev pub connect_of : ℕ → ℕ → CallerView → HostActed ConnectAnswer
-connect_of start now c = host_connect c.host c.to (codes "FILE") start now
+connect_of start now c = host_connect c.host c.to c.contact start now
 
--- a connection for the contact FILE is asked for, where there is room for its RFC; so many milliseconds are waited for its OPN
+-- a connection for the caller's contact is asked for, where there is room for its RFC; so many milliseconds are waited for its OPN
 abbrev pub asked : ℕ → ℕ → ℕ → CallerView → CallerView
 asked start now wait c = if nat_lt 0 (room_of c.out)
     then record (after_call c (connect_of start now c)) { id = result_ok (connect_of start now c).answer; since = now; wait = wait }

@@ -1,4 +1,5 @@
 pub mod Calls
+pub mod Contact
 pub mod Fault
 pub mod Pace
 pub mod Patience

@@ -5,7 +5,7 @@ ghost use Rattle.chaos_packet.specs.Count.{Rose};
 ghost use Rattle.chaos_packet.specs.Opcode.{op_data};
 ghost use Rattle.chaosd_copy.specs.Talk.{Turned, counted, taken};
 ghost use Rattle.file_client.specs.Calls.{is_over};
-ghost use Rattle.file_client.specs.Caller.{Connects, HangsUp, Receives, Sends, TurnsAt, TurnsOrStops, asked_again, new_caller};
+ghost use Rattle.file_client.specs.Caller.{Connects, HangsUp, Receives, Sends, TurnsAt, TurnsOrStops, asked_again, caller_by};
 ghost use Rattle.file_client.specs.Fault.{IsTurnFault};
 ghost use Rattle.file_client.specs.Pace.{clock_pace};
 ghost use Rattle.file_client.specs.Patience.{millis_waited};
@@ -48,7 +48,7 @@ impl<'a, C: Dial, L: Link> Call<'a, C, L> {
         requires { 0 < route.now.me }
         ensures faults { IfErr result (λ fault. fault ≡ RunFault.NoMemory) }
         ensures timing { IfOk result (λ call. (call.turns.clock.now ≡ clock.now) × (call.turns.timing ≡ timing)) }
-        ensures made { IfOk result (λ call. call.client.caller ≡ new_caller route.now.me route.now.to route.now.config route.now.carriage timing.epoch.passed) }
+        ensures made { IfOk result (λ call. call.client.caller ≡ caller_by route.now timing.epoch.passed) }
     {
         let turns = Timed::new(clock, link, timing);
         let client = Client::new(alloc, &turns, route)?;
@@ -63,7 +63,7 @@ impl<'a, C: Dial, L: Link> Call<'a, C, L> {
         ensures faults { IfErr result (IsTurnFault (C.fails self.old.turns.clock.now) (L.count self.new.turns.link.now)) }
         ensures well { OnOk result (Connects (clock_pace (C.shows self.old.turns.clock.now) self.old.turns.timing) (Asks (L.asked self.old.turns.link.now) (L.asked self.new.turns.link.now)) self.new.client.now (L.queue self.old.turns.link.now) (L.queue self.new.turns.link.now) self.old.client.caller self.new.client.caller) }
         ensures unfailed { OnOk result (L.count self.new.turns.link.now ≤ L.count self.old.turns.link.now) }
-        ensures same_server { (self.new.client.caller.to ≡ self.old.client.caller.to) × (self.new.client.caller.carriage ≡ self.old.client.caller.carriage) }
+        ensures same_server { (self.new.client.caller.to ≡ self.old.client.caller.to) × (self.new.client.caller.contact ≡ self.old.client.caller.contact) × (self.new.client.caller.carriage ≡ self.old.client.caller.carriage) }
         ensures same_clock { (self.new.turns.clock.now ≡ self.old.turns.clock.now) × (self.new.turns.timing ≡ self.old.turns.timing) }
     {
         self.client.connect(&mut self.turns)
@@ -90,7 +90,7 @@ impl<'a, C: Dial, L: Link> Call<'a, C, L> {
         ensures well { OnOk result (HangsUp (clock_pace (C.shows self.old.turns.clock.now) self.old.turns.timing) (Asks (L.asked self.old.turns.link.now) (L.asked self.new.turns.link.now)) (L.queue self.old.turns.link.now) (L.queue self.new.turns.link.now) self.old.client.caller self.new.client.caller) }
         ensures unfailed { OnOk result (L.count self.new.turns.link.now ≤ L.count self.old.turns.link.now) }
         ensures gone { self.new.client.caller.id ≡ None }
-        ensures same_server { (self.new.client.caller.to ≡ self.old.client.caller.to) × (self.new.client.caller.carriage ≡ self.old.client.caller.carriage) }
+        ensures same_server { (self.new.client.caller.to ≡ self.old.client.caller.to) × (self.new.client.caller.contact ≡ self.old.client.caller.contact) × (self.new.client.caller.carriage ≡ self.old.client.caller.carriage) }
         ensures same_clock { (self.new.turns.clock.now ≡ self.old.turns.clock.now) × (self.new.turns.timing ≡ self.old.turns.timing) }
     {
         self.client.hang_up(&mut self.turns)
@@ -147,7 +147,7 @@ impl<C: Dial, L: Link> Talk for Call<'_, C, L> {
         ensures went { TurnsOrStops (clock_pace (C.shows self.old.turns.clock.now) self.old.turns.timing) (Asks (L.asked self.old.turns.link.now) (L.asked self.new.turns.link.now)) self.old.client.now self.new.client.now (L.queue self.old.turns.link.now) (L.queue self.new.turns.link.now) self.old.client.caller self.new.client.caller }
         ensures counted { Turned 1 (counted self.old.client.count) (counted self.new.client.count) }
         ensures unfailed { OnOk result (L.count self.new.turns.link.now ≤ L.count self.old.turns.link.now) }
-        ensures same_server { (self.new.client.caller.to ≡ self.old.client.caller.to) × (self.new.client.caller.carriage ≡ self.old.client.caller.carriage) }
+        ensures same_server { (self.new.client.caller.to ≡ self.old.client.caller.to) × (self.new.client.caller.contact ≡ self.old.client.caller.contact) × (self.new.client.caller.carriage ≡ self.old.client.caller.carriage) }
         ensures same_clock { (self.new.turns.clock.now ≡ self.old.turns.clock.now) × (self.new.turns.timing ≡ self.old.turns.timing) }
     {
         self.client.turn(&mut self.turns)

@@ -3,10 +3,11 @@ ghost use Rattle.std.specs.Prelude.{◌≡◌, ◌<◌, ◌≤◌, ◌↔◌, Er
 ghost use Rattle.chaos_link.specs.Link.{Asks};
 ghost use Rattle.chaosd_copy.specs.Talk.{taken};
 ghost use Rattle.file_client.specs.Calls.{is_over};
-ghost use Rattle.file_client.specs.Caller.{Sends, Receives, TurnsAt, all_read, asked, closed, doubled, is_asking, is_late, new_caller};
+ghost use Rattle.file_client.specs.Caller.{Sends, Receives, TurnsAt, all_read, asked, caller_by, closed, doubled, is_asking, is_late};
 ghost use Rattle.file_client.specs.Fault.{IsTurnFault};
 
 use crate::calls::{is_over, take_reply, write_item};
+use crate::contact::Contact;
 use crate::indices::pass_indices;
 use crate::route::Route;
 use crate::turns::Turns;
@@ -15,7 +16,6 @@ use chaos_file::Reply;
 use chaos_host::{ConnId, Host, HostDelivered};
 use chaos_link::Carriage;
 use chaos_packet::{Opcode, Outbox, PktNum};
-use chaos_serve::CONTACT;
 use chaos_turn::TURN_ROOM;
 use chaosd_io::RunFault;
 use std::alloc::Global;
@@ -28,6 +28,8 @@ pub(crate) struct Caller {
     out: Outbox,
     /// The server's address.
     to: u16,
+    /// What the server is asked for.
+    contact: Contact,
     /// How packets are sent.
     carriage: Carriage,
     id: Option<ConnId>,
@@ -44,7 +46,7 @@ impl Model for Caller {
 
     ghost Value = { CallerView };
 
-    ghost view = { λ c. record { host = c.host; to = c.to; carriage = c.carriage; id = c.id; since = c.since; wait = c.wait; out = c.out } };
+    ghost view = { λ c. record { host = c.host; to = c.to; contact = c.contact; carriage = c.carriage; id = c.id; since = c.since; wait = c.wait; out = c.out } };
 
     ghost invariant = { λ c. c.out.cap ≡ TURN_ROOM };
 }
@@ -54,7 +56,7 @@ impl Caller {
     pub(crate) fn new(alloc: Global, route: &Route, passed: u8) -> Result<Self, RunFault>
         requires { 0 < route.now.me }
         ensures faults { IfErr result (λ fault. fault ≡ RunFault.NoMemory) }
-        ensures made { IfOk result (λ caller. caller ≡ new_caller route.now.me route.now.to route.now.config route.now.carriage passed) }
+        ensures made { IfOk result (λ caller. caller ≡ caller_by route.now passed) }
     {
         let Ok(mut host) = Host::new(alloc, route.me, 1, route.config) else {
             return Err(RunFault::NoMemory);
@@ -67,6 +69,7 @@ impl Caller {
             host,
             out,
             to: route.to,
+            contact: route.contact,
             carriage: route.carriage,
             id: None,
             since: 0,
@@ -74,7 +77,7 @@ impl Caller {
         })
     }
 
-    /// Asks for a connection, where there is room for its RFC. For so many milliseconds its OPN is waited for.
+    /// Asks for a connection to the contact, where there is room for its RFC. For so many milliseconds its OPN is waited for.
     pub(crate) fn ask(&mut self, start: PktNum, now: u64, wait: u64)
         ensures { self.new ≡ asked start now wait self.old }
     {
@@ -82,9 +85,10 @@ impl Caller {
         self.wait = wait;
         self.id = None;
         if self.out.room() > 0 {
+            let contact = self.contact.bytes();
             self.id = self
                 .host
-                .connect(self.to, CONTACT, start, now, &mut self.out)
+                .connect(self.to, contact, start, now, &mut self.out)
                 .ok();
         }
     }
@@ -190,7 +194,7 @@ impl Caller {
         may_wait: bool,
     ) -> Result<(), RunFault>
         ensures turned { TurnsAt (Asks (T.asked turns.old) (T.asked turns.new)) ((T.pace (T.time turns.old)).Waits may_wait) now (T.queue turns.old) (T.queue turns.new) self.old self.new }
-        ensures same { (self.new.to ≡ self.old.to) × (self.new.carriage ≡ self.old.carriage) × (self.new.id ≡ self.old.id) }
+        ensures same { (self.new.to ≡ self.old.to) × (self.new.contact ≡ self.old.contact) × (self.new.carriage ≡ self.old.carriage) × (self.new.id ≡ self.old.id) }
         ensures same_links { T.links turns.new ≡ T.links turns.old }
         ensures same_time { T.time turns.new ≡ T.time turns.old }
         ensures well { OnOk result (T.failures turns.new ≤ T.failures turns.old) }

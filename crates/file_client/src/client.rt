@@ -3,7 +3,7 @@ ghost use Rattle.std.specs.Prelude.{◌≡◌, ◌<◌, ◌≤◌, ◌⊎◌, �
 ghost use Rattle.chaos_link.specs.Link.{Asks};
 ghost use Rattle.chaosd_copy.specs.Talk.{Turned, counted, taken};
 ghost use Rattle.file_client.specs.Calls.{is_over};
-ghost use Rattle.file_client.specs.Caller.{Connects, HangsUp, Receives, Sends, TurnsAt, TurnsOrStops, all_read, asked_again, new_caller};
+ghost use Rattle.file_client.specs.Caller.{Connects, HangsUp, Receives, Sends, TurnsAt, TurnsOrStops, all_read, asked_again, caller_by};
 ghost use Rattle.file_client.specs.Talk.{Exchanges, SendsFarewell, Talks, WritesAndTurns, receiving, silence, talker};
 ghost use Rattle.file_client.specs.Fault.{IsTurnFault};
 
@@ -41,7 +41,7 @@ impl Client {
     pub fn new<T: Turns>(alloc: Global, turns: &T, route: &Route) -> Result<Self, RunFault>
         requires { 0 < route.now.me }
         ensures faults { IfErr result (λ fault. fault ≡ RunFault.NoMemory) }
-        ensures made { IfOk result (λ client. client.caller ≡ new_caller route.now.me route.now.to route.now.config route.now.carriage (T.passed (T.time turns.now))) }
+        ensures made { IfOk result (λ client. client.caller ≡ caller_by route.now (T.passed (T.time turns.now))) }
     {
         let caller = Caller::new(alloc, route, turns.passed())?;
         Ok(Client {
@@ -60,7 +60,7 @@ impl Client {
         ensures faults { IfErr result (IsTurnFault (T.stops (T.time turns.old)) (T.failures turns.new)) }
         ensures well { OnOk result (Connects (T.pace (T.time turns.old)) (Asks (T.asked turns.old) (T.asked turns.new)) self.new.now (T.queue turns.old) (T.queue turns.new) self.old.caller self.new.caller) }
         ensures unfailed { OnOk result (T.failures turns.new ≤ T.failures turns.old) }
-        ensures same_server { (self.new.caller.to ≡ self.old.caller.to) × (self.new.caller.carriage ≡ self.old.caller.carriage) }
+        ensures same_server { (self.new.caller.to ≡ self.old.caller.to) × (self.new.caller.contact ≡ self.old.caller.contact) × (self.new.caller.carriage ≡ self.old.caller.carriage) }
         ensures same_turns { (T.links turns.new ≡ T.links turns.old) × (T.time turns.new ≡ T.time turns.old) }
     {
         self.hang_up(turns)?;
@@ -82,7 +82,7 @@ impl Client {
         ensures well { OnOk result (HangsUp (T.pace (T.time turns.old)) (Asks (T.asked turns.old) (T.asked turns.new)) (T.queue turns.old) (T.queue turns.new) self.old.caller self.new.caller) }
         ensures unfailed { OnOk result (T.failures turns.new ≤ T.failures turns.old) }
         ensures gone { self.new.caller.id ≡ None }
-        ensures same_server { (self.new.caller.to ≡ self.old.caller.to) × (self.new.caller.carriage ≡ self.old.caller.carriage) }
+        ensures same_server { (self.new.caller.to ≡ self.old.caller.to) × (self.new.caller.contact ≡ self.old.caller.contact) × (self.new.caller.carriage ≡ self.old.caller.carriage) }
         ensures same_turns { (T.links turns.new ≡ T.links turns.old) × (T.time turns.new ≡ T.time turns.old) }
     {
         if !self.caller.has_connection() {
@@ -145,7 +145,7 @@ impl Client {
         ensures went { TurnsOrStops (T.pace (T.time turns.old)) (Asks (T.asked turns.old) (T.asked turns.new)) self.old.now self.new.now (T.queue turns.old) (T.queue turns.new) self.old.caller self.new.caller }
         ensures counted { Turned 1 (counted self.old.count) (counted self.new.count) }
         ensures unfailed { OnOk result (T.failures turns.new ≤ T.failures turns.old) }
-        ensures same_server { (self.new.caller.to ≡ self.old.caller.to) × (self.new.caller.carriage ≡ self.old.caller.carriage) }
+        ensures same_server { (self.new.caller.to ≡ self.old.caller.to) × (self.new.caller.contact ≡ self.old.caller.contact) × (self.new.caller.carriage ≡ self.old.caller.carriage) }
         ensures same_turns { (T.links turns.new ≡ T.links turns.old) × (T.time turns.new ≡ T.time turns.old) }
     {
         self.count = self.count.saturating_add(1);
@@ -332,7 +332,7 @@ impl Client {
         ensures failed { result ≡ Err RunFault.LinkFault → T.failed turns.old turns.new }
         ensures well { TurnsAt (Asks (T.asked turns.old) (T.asked turns.new)) ((T.pace (T.time turns.old)).Waits may_wait) self.old.now (T.queue turns.old) (T.queue turns.new) self.old.caller self.new.caller }
         ensures unfailed { OnOk result (T.failures turns.new ≤ T.failures turns.old) }
-        ensures same { (self.new.caller.to ≡ self.old.caller.to) × (self.new.caller.carriage ≡ self.old.caller.carriage) × (self.new.caller.id ≡ self.old.caller.id) }
+        ensures same { (self.new.caller.to ≡ self.old.caller.to) × (self.new.caller.contact ≡ self.old.caller.contact) × (self.new.caller.carriage ≡ self.old.caller.carriage) × (self.new.caller.id ≡ self.old.caller.id) }
         ensures same_now { (self.new.now ≡ self.old.now) × (self.new.count ≡ self.old.count) }
         ensures same_turns { (T.links turns.new ≡ T.links turns.old) × (T.time turns.new ≡ T.time turns.old) }
     {

@@ -2,16 +2,17 @@
 //! to, read from and hung up, turn by turn.
 //!
 //! No sockets and no clock of its own, and no allocation but the host's. `client` is the client, and `call` one with turns over a link
-//! by a clock: a talk with a FILE server. `caller` has a client's host and connection, and `calls` what is done with that; `turns` is what
-//! it takes turns with, `timed` turns over a link by a clock. `indices` passes over indices that an older process may have had;
-//! `patience` says how long a reply is waited for, `reply_timer` why none came, and `text` has bytes in words for a user. `trip`
-//! measures how long a packet and its answer take.
+//! by a clock: a talk with a FILE server. `caller` has a client's host and connection, and `calls` what is done with that; `contact` is
+//! the name that a server is asked for. `turns` is what a client takes turns with, `timed` turns over a link by a clock. `indices`
+//! passes over indices that an older process may have had; `patience` says how long a reply is waited for, `reply_timer` why none came,
+//! and `text` has bytes in words for a user. `trip` measures how long a packet and its answer take.
 #![tactic(auto)]
 
 mod call;
 mod caller;
 mod calls;
 mod client;
+mod contact;
 mod indices;
 mod limits;
 mod patience;
@@ -25,6 +26,7 @@ mod turns;
 
 pub use call::Call;
 pub use client::Client;
+pub use contact::{Contact, ContactFault};
 pub use limits::law_limits;
 pub use patience::Patience;
 pub use reply_timer::NoReply;

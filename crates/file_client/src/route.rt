@@ -1,4 +1,5 @@
 //! Who calls whom.
+use crate::contact::Contact;
 use chaos_conn::ConnConfig;
 use chaos_link::Carriage;
 
@@ -9,6 +10,8 @@ pub struct Route {
     pub me: u16,
     /// The server's.
     pub to: u16,
+    /// The contact that the server is asked for.
+    pub contact: Contact,
     /// The windows and times of the client's connections. As many commands are in flight as the lesser of its send window and the
     /// server's window allows.
     pub config: ConnConfig,

@@ -1,6 +1,6 @@
 -- An engine that closes its connection, or asks for one.
 use Rattle.std.proofs.Common.{◌≡◌, ℕ, ◌<◌, Bool, true, false, if◌then◌else◌, List, [], Option, Some, None, refl, sym, ap, subst, inl, inr}
-use Rattle.std.specs.Prelude.{codes, nat_lt}
+use Rattle.std.specs.Prelude.{nat_lt}
 use Rattle.std.specs.Result.{result_ok}
 use Rattle.chaos_packet.specs.Outbox.{room_of, with_put}
 use Rattle.chaos_conn.specs.Act.Call.{Close}
@@ -68,7 +68,7 @@ module _ {S : Type 0} (contents : S → Option Files) (may_give : S → List ℕ
       by true =
           called f
           (record (after_call w.client.caller (connect_of start now w.client.caller)) { id = result_ok (connect_of start now w.client.caller).answer; since = now; wait = wait })
-          (Connects w.client.caller.to (codes "FILE") start now) stands small refl refl
+          (Connects w.client.caller.to w.client.caller.contact start now) stands small refl refl
       by false = kept f (record w.client.caller { id = None; since = now; wait = wait }) stands refl refl
 
 pub connections_are_asked : {S : Type 0} (contents : S → Option Files) (may_give : S → List ℕ → ℕ → List ℕ → Type 0)

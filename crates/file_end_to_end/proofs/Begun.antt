@@ -127,7 +127,7 @@ end_spelled v id = by_slot (named_slot v.slots id)
 -- an engine of a host, with these packets waiting
 abbrev engine_with : HostView → List PacketView → CallerView
 engine_with h packets =
-    record { host = h; to = 0; carriage = One; id = None; since = 0; wait = 0; out = record { packets = packets; cap = 0 } }
+    record { host = h; to = 0; contact = []; carriage = One; id = None; since = 0; wait = 0; out = record { packets = packets; cap = 0 } }
 
 module _ {S : Type 0} (contents : S → Option Files) (may_give : S → List ℕ → ℕ → List ℕ → Type 0) (count : S → ℕ)
     (m : Files) (seat : Seat (Server S)) where

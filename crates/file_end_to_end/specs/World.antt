@@ -168,8 +168,8 @@ module _ {S : Type 0} (contents : S → Option Files) (may_give : S → List ℕ
 -- ---- the start
 
 module _ {S : Type 0} (contents : S → Option Files) (m : Files) where
-  -- A new engine, as `Call::new` makes it, and a new server, as `serve` makes it, over a store that keeps these files. No
-  -- datagram was posted.
+  -- A new engine, as `Call::new` makes it for the contact FILE, and a new server, as `serve` makes it, over a store that keeps these
+  -- files. No datagram was posted.
   pub record IsNewWorld (w : World S) : Type 0 where
     pub me : ℕ
     pub to : ℕ

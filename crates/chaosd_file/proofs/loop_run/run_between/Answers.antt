@@ -6,5 +6,5 @@ pub returns-clause-talk : goal.returns-clause-talk
 returns-clause-talk g c =
     if_asked c.run_script.result _
     (failed_there _ _ _ _ _ _ _ _ c.run_script.result
-    (same_link _ _ _ _ _ _ _ _ _ _ _ _ (rw (c.in_ok-client.ensures.made, c.usual.ensures) at c.run_script.ensures.talk) (search rules)
-    (search rules)))
+    (same_link _ _ _ _ _ _ _ _ _ _ _ _ (rw (c.in_ok-client.ensures.made, c.file.ensures, c.usual.ensures) at c.run_script.ensures.talk)
+    (search rules) (search rules)))
