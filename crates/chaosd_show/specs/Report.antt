@@ -1,9 +1,10 @@
--- The reports of a packet and of several, as text.
+-- The reports of a packet, of several, and of one with its trailer, as text.
 use Rattle.std.specs.Prelude.{ℕ, ◌+◌, ◌/◌, ◌%◌, List, [], ◌∷◌, ◌++◌, length, Option, Some, None, codes, nat_lt, ◌==◌, if◌then◌else◌}
 use Rattle.std.specs.Fmt.{decimal}
 use Rattle.std.specs.List.{flat_map}
 use Rattle.chaos_packet.specs.Packet.{PacketView, status_of}
 use Rattle.chaos_packet.specs.Opcode.{opcode_name}
+use Rattle.chaos_chudp.specs.Chudp.{DeliveryView}
 use Rattle.chaosd_io.specs.Texts.{line, octal_three}
 
 -- six octal digits
@@ -13,6 +14,10 @@ octal_six n = (48 + n / 32768) ∷ (48 + n / 4096 % 8) ∷ (48 + n / 512 % 8) �
 -- an upper-case hexadecimal digit
 abbrev pub hex_digit : ℕ → ℕ
 hex_digit digit = if nat_lt digit 10 then 48 + digit else 55 + digit
+
+-- the four digits of a word
+abbrev pub hex_four : ℕ → List ℕ
+hex_four n = hex_digit (n / 4096) ∷ hex_digit (n / 256 % 16) ∷ hex_digit (n / 16 % 16) ∷ hex_digit (n % 16) ∷ []
 
 -- a space and the two digits of a byte
 abbrev pub hex_byte : ℕ → List ℕ
@@ -68,3 +73,15 @@ packets_text packets = flat_map (λ p. 10 ∷ packet_text p) packets
 -- the lines of the packets of a datagram of version 2
 unfoldable pub several_text : List PacketView → List ℕ
 several_text packets = carriage_line (length packets) ++ packets_text packets
+
+-- the next hop and the hop that sent it
+unfoldable pub trailer_line : ℕ → ℕ → List ℕ
+trailer_line to from = line (codes "trailer to " ++ octal_six to ++ codes " from " ++ octal_six from)
+
+-- the sum
+unfoldable pub sum_line : ℕ → List ℕ
+sum_line sum = line (codes "sum " ++ hex_four sum)
+
+-- the lines of the packet of a CHUDP datagram, and of its trailer
+unfoldable pub delivery_text : DeliveryView → List ℕ
+delivery_text d = packet_text d.packet ++ (trailer_line d.to d.from ++ sum_line d.sum)

@@ -1,13 +1,16 @@
 //! The report of a line.
-ghost use Rattle.std.specs.Prelude.{◌≡◌, ◌≤◌, ◌++◌, length, OnOk, IfOk, Some};
+ghost use Rattle.std.specs.Prelude.{◌≡◌, ◌≤◌, ◌++◌, [], length, OnOk, IfOk, Some};
 ghost use Rattle.chaos_link.specs.Datagram.{fault_of};
 ghost use Rattle.chaosd_show.specs.Entry.{fault_text, packet_fault_text, entry_of, entry_of_datagram, entry_of_text, entry_text, is_refusal};
 ghost use Rattle.chaosd_io.specs.Texts.{line};
 ghost use Rattle.chaosd_show.specs.Show.{gap, line_report};
 
+use crate::chudp::{put_chudp, put_chudp_fault};
+use crate::format::Format;
 use crate::hex::{MOST_BYTES, read_hex};
 use crate::limits::SHOW_LINE_LIMIT;
 use crate::report::{put_packet, put_several};
+use chaos_chudp::ChudpFault;
 use chaos_link::{LinkFault, from_datagram, open_datagram};
 use chaos_packet::PacketFault;
 use chaosd_io::{NotWritten, WriteBuffer, put_decimal, put_line, without_return};
@@ -17,46 +20,60 @@ use chaosd_io::{NotWritten, WriteBuffer, put_decimal, put_line, without_return};
 pub fn put_report(
     out: &mut WriteBuffer,
     is_first: bool,
+    format: Format,
     raw: &[u8],
     datagram: &mut [u8; MOST_BYTES],
 ) -> Result<bool, NotWritten>
-    ensures text { OnOk result (out.new ≡ out.old ++ (gap is_first ++ line_report raw.now)) }
-    ensures refused { IfOk result (λ refused. refused ≡ is_refusal (entry_of raw.now)) }
+    ensures text { OnOk result (out.new ≡ out.old ++ (gap is_first ++ line_report format raw.now)) }
+    ensures refused { IfOk result (λ refused. refused ≡ is_refusal (entry_of format raw.now)) }
 {
     if !is_first {
         out.put(b"\n")?;
     }
-    put_entry(out, raw, datagram)
+    put_entry(out, format, raw, datagram)
 }
 
 /// Writes the report of a line, and says whether it is a refusal. `datagram` holds the line's bytes meanwhile.
-#[tactic(auto, using(crate::proofs::Steps::empty_text), unfolding(crate::specs::Entry::entry_of, crate::specs::Entry::entry_text))]
+#[tactic(auto, using(crate::proofs::Steps::empty_text, crate::proofs::Steps::empty_refused), unfolding(crate::specs::Entry::entry_of, crate::specs::Entry::entry_text))]
 fn put_entry(
     out: &mut WriteBuffer,
+    format: Format,
     raw: &[u8],
     datagram: &mut [u8; MOST_BYTES],
 ) -> Result<bool, NotWritten>
-    ensures text { OnOk result (out.new ≡ out.old ++ line_report raw.now) }
-    ensures refused { IfOk result (λ refused. refused ≡ is_refusal (entry_of raw.now)) }
+    ensures text { OnOk result (out.new ≡ out.old ++ line_report format raw.now) }
+    ensures refused { IfOk result (λ refused. refused ≡ is_refusal (entry_of format raw.now)) }
 {
     let line = without_return(raw);
-    // An empty line is the empty datagram: no place is made for a packet, as `from_datagram` does.
+    // An empty line is the empty datagram: no place is made for a packet, as reading a datagram does.
     if line.is_empty() {
-        put_fault(out, LinkFault::Short)?;
+        put_empty(out, format)?;
         return Ok(true);
     }
-    put_text(out, line, datagram)
+    put_text(out, format, line, datagram)
+}
+
+/// Writes the report of the empty datagram, which is refused in either format.
+#[tactic(auto, unfolding(crate::specs::Entry::entry_text))]
+fn put_empty(out: &mut WriteBuffer, format: Format) -> Result<(), NotWritten>
+    ensures { OnOk result (out.new ≡ out.old ++ entry_text (entry_of_datagram format [])) }
+{
+    match format {
+        Format::Own => put_fault(out, LinkFault::Short),
+        Format::Chudp => put_chudp_fault(out, ChudpFault::Short),
+    }
 }
 
 /// Writes the report of a line without a carriage return, and says whether it is a refusal.
 #[tactic(auto, unfolding(crate::specs::Entry::entry_text))]
 fn put_text(
     out: &mut WriteBuffer,
+    format: Format,
     text: &[u8],
     datagram: &mut [u8; MOST_BYTES],
 ) -> Result<bool, NotWritten>
-    ensures text { OnOk result (out.new ≡ out.old ++ entry_text (entry_of_text text.now)) }
-    ensures refused { IfOk result (λ refused. refused ≡ is_refusal (entry_of_text text.now)) }
+    ensures text { OnOk result (out.new ≡ out.old ++ entry_text (entry_of_text format text.now)) }
+    ensures refused { IfOk result (λ refused. refused ≡ is_refusal (entry_of_text format text.now)) }
 {
     if text.len() > SHOW_LINE_LIMIT {
         out.put(b"fault 0 Line\n")?;
@@ -66,14 +83,18 @@ fn put_text(
         out.put(b"fault 0 Line\n")?;
         return Ok(true);
     };
-    put_datagram(out, &datagram[..count])
+    let bytes = &datagram[..count];
+    match format {
+        Format::Own => put_datagram(out, bytes),
+        Format::Chudp => put_chudp(out, bytes),
+    }
 }
 
-/// Writes the report of a datagram, and says whether it is a refusal.
+/// Writes the report of a datagram in the own format, and says whether it is a refusal.
 #[tactic(auto, unfolding(crate::specs::Entry::entry_text))]
 fn put_datagram(out: &mut WriteBuffer, bytes: &[u8]) -> Result<bool, NotWritten>
-    ensures text { OnOk result (out.new ≡ out.old ++ entry_text (entry_of_datagram bytes.now)) }
-    ensures refused { IfOk result (λ refused. refused ≡ is_refusal (entry_of_datagram bytes.now)) }
+    ensures text { OnOk result (out.new ≡ out.old ++ entry_text (entry_of_datagram Format.Own bytes.now)) }
+    ensures refused { IfOk result (λ refused. refused ≡ is_refusal (entry_of_datagram Format.Own bytes.now)) }
 {
     match from_datagram(bytes) {
         Ok(packet) => {
@@ -92,8 +113,8 @@ fn put_datagram(out: &mut WriteBuffer, bytes: &[u8]) -> Result<bool, NotWritten>
 #[tactic(auto, unfolding(crate::specs::Entry::entry_text))]
 fn put_of_another_version(out: &mut WriteBuffer, bytes: &[u8]) -> Result<bool, NotWritten>
     requires { fault_of bytes.now ≡ Some LinkFault.BadVersion }
-    ensures text { OnOk result (out.new ≡ out.old ++ entry_text (entry_of_datagram bytes.now)) }
-    ensures refused { IfOk result (λ refused. refused ≡ is_refusal (entry_of_datagram bytes.now)) }
+    ensures text { OnOk result (out.new ≡ out.old ++ entry_text (entry_of_datagram Format.Own bytes.now)) }
+    ensures refused { IfOk result (λ refused. refused ≡ is_refusal (entry_of_datagram Format.Own bytes.now)) }
 {
     match open_datagram(bytes) {
         Ok(packets) => {
@@ -142,7 +163,7 @@ fn put_fault_at(out: &mut WriteBuffer, place: u8, fault: PacketFault) -> Result<
 }
 
 /// How a packet's fault is reported.
-fn packet_fault_text(fault: PacketFault) -> &'static str
+pub fn packet_fault_text(fault: PacketFault) -> &'static str
     ensures { result.now ≡ packet_fault_text fault }
 {
     match fault {

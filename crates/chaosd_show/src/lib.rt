@@ -1,10 +1,12 @@
 //! The engine `show` of the program `chaosd`: lines of hexadecimal digits in, a report of each out.
 //!
 //! `run` takes the lines of an input one after another, `reporter` reports a line and counts it, `entry` says what a line is,
-//! `hex` reads its digits, and `report` prints a packet. It allocates nothing.
+//! `chudp` what a CHUDP datagram is, `hex` reads the digits of a line, and `report` prints a packet. It allocates nothing.
 #![tactic(auto)]
 
+mod chudp;
 mod entry;
+mod format;
 mod hex;
 mod law;
 mod limits;
@@ -13,7 +15,8 @@ mod reporter;
 mod run;
 mod tally;
 
+pub use format::Format;
 pub use law::law_report;
 pub use limits::{SHOW_KEPT_LEN, SHOW_LINE_LIMIT, law_limits};
-pub use run::run_show;
+pub use run::{run_show, run_show_by};
 pub use tally::Tally;

@@ -1,8 +1,9 @@
-//! The report of a packet, and of several.
+//! The report of a packet, of several, and of one with its trailer.
 ghost use Rattle.std.specs.Prelude.{◌≡◌, ◌<◌, ◌++◌, length, OnOk};
 ghost use Rattle.chaos_packet.specs.Packet.{status_of};
-ghost use Rattle.chaosd_show.specs.Report.{octal_six, hex_digit, op_line, count_line, end_line, pair_line, data_line, body_text, packet_text, carriage_line, packets_text, several_text};
+ghost use Rattle.chaosd_show.specs.Report.{octal_six, hex_digit, op_line, count_line, end_line, pair_line, data_line, body_text, packet_text, carriage_line, packets_text, several_text, hex_four, trailer_line, sum_line, delivery_text};
 
+use chaos_chudp::Delivery;
 use chaos_link::Packets;
 use chaos_packet::{Opcode, Packet};
 use chaosd_io::{NotWritten, WriteBuffer, put_decimal, put_octal_three};
@@ -41,6 +42,39 @@ fn put_packets(out: &mut WriteBuffer, mut packets: Packets<'_>) -> Result<(), No
         put_packet(out, &packet)?;
     }
     Ok(())
+}
+
+/// Writes the lines of the packet of a CHUDP datagram, and behind them those of its trailer. The cost is that of the data bytes;
+/// nothing is allocated.
+#[tactic(auto, unfolding(crate::specs::Report::delivery_text))]
+pub fn put_delivery(out: &mut WriteBuffer, delivery: &Delivery) -> Result<(), NotWritten>
+    ensures { OnOk result (out.new ≡ out.old ++ delivery_text delivery.now) }
+{
+    put_packet(out, &delivery.packet)?;
+    put_trailer(out, delivery.to, delivery.from)?;
+    put_sum(out, delivery.sum)
+}
+
+/// The next hop, and the hop that sent the datagram.
+#[tactic(auto, unfolding(crate::specs::Report::trailer_line))]
+fn put_trailer(out: &mut WriteBuffer, to: u16, from: u16) -> Result<(), NotWritten>
+    ensures { OnOk result (out.new ≡ out.old ++ trailer_line to from) }
+{
+    out.put(b"trailer to ")?;
+    put_octal_six(out, to)?;
+    out.put(b" from ")?;
+    put_octal_six(out, from)?;
+    out.put(b"\n")
+}
+
+/// The sum, as it stands in the datagram.
+#[tactic(auto, unfolding(crate::specs::Report::sum_line))]
+fn put_sum(out: &mut WriteBuffer, sum: u16) -> Result<(), NotWritten>
+    ensures { OnOk result (out.new ≡ out.old ++ sum_line sum) }
+{
+    out.put(b"sum ")?;
+    put_hex_four(out, sum)?;
+    out.put(b"\n")
 }
 
 /// Writes the lines of a packet. The cost is that of its data bytes; nothing is allocated.
@@ -150,6 +184,18 @@ fn put_octal_six(out: &mut WriteBuffer, n: u16) -> Result<(), NotWritten>
         b'0' + (n / 512 % 8) as u8,
     ])?;
     put_octal_three(out, n % 512)
+}
+
+/// Four upper-case hexadecimal digits.
+fn put_hex_four(out: &mut WriteBuffer, n: u16) -> Result<(), NotWritten>
+    ensures { OnOk result (out.new ≡ out.old ++ hex_four n) }
+{
+    out.put(&[
+        hex_digit((n / 4096) as u8),
+        hex_digit((n / 256 % 16) as u8),
+        hex_digit((n / 16 % 16) as u8),
+        hex_digit((n % 16) as u8),
+    ])
 }
 
 /// The upper-case hexadecimal digits.

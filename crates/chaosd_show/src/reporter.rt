@@ -3,6 +3,7 @@ ghost use Rattle.std.specs.Prelude.{◌≡◌, ◌≤◌, ◌<◌, ◌==◌, ◌
 ghost use Rattle.std.specs.Io.KnownBytes.{Appends, Keeps};
 
 use crate::entry::put_report;
+use crate::format::Format;
 use crate::hex::MOST_BYTES;
 use crate::tally::Tally;
 use chaosd_io::{INPUT_LIMIT, NotWritten, WriteBuffer};
@@ -12,10 +13,10 @@ use std::io::Write;
 /// read has more than 2,020.
 const REPORT_ROOM: usize = 8_192;
 
-/// Nor has that of a short line more, which stands for 540 bytes at most: a greatest packet's has 1,554.
+/// Nor has that of a short line more, which stands for 540 bytes at most: a greatest packet's has 1,554, and with a trailer 1,593.
 const SHORT_REPORT_ROOM: usize = 2_048;
 
-/// How many bytes a short line has at most. A greatest packet takes 1,016, without blanks.
+/// How many bytes a short line has at most. A greatest packet takes 1,016, and by CHUDP 1,028, without blanks.
 const SHORT_LINE: usize = 1_080;
 
 /// The reports that wait to be written, and the count of all so far.
@@ -30,11 +31,11 @@ pub struct Reporter {
 
 impl Reporter {
     ghost use Rattle.chaosd_io.specs.Buffer.{written_of};
-    ghost use Rattle.chaosd_show.specs.Show.{line_report, tally_of, gap, counted};
+    ghost use Rattle.chaosd_show.specs.Show.{line_report, gap, counted};
 
     pub fn new() -> Self
         ensures out { result.out ≡ [] }
-        ensures tally { result.tally ≡ tally_of [] }
+        ensures tally { result.tally ≡ record { reports = 0; refused = 0 } }
     {
         Reporter {
             out: WriteBuffer::new(),
@@ -76,16 +77,22 @@ impl Reporter {
     }
 
     /// Reports one more line, and counts it.
-    pub fn report<W: Write>(&mut self, writer: &mut W, raw: &[u8]) -> Result<(), NotWritten>
+    pub fn report<W: Write>(
+        &mut self,
+        writer: &mut W,
+        format: Format,
+        raw: &[u8],
+    ) -> Result<(), NotWritten>
         requires { self.old.tally.reports ≤ INPUT_LIMIT }
         ensures text { OnOk result (Appends (written_of (W.contents writer.old) self.old.out) (written_of (W.contents writer.new) self.new.out)
-            (gap (self.old.tally.reports == 0) ++ line_report raw.now)) }
-        ensures tally { OnOk result (self.new.tally ≡ counted self.old.tally raw.now) }
+            (gap (self.old.tally.reports == 0) ++ line_report format raw.now)) }
+        ensures tally { OnOk result (self.new.tally ≡ counted format self.old.tally raw.now) }
     {
         self.make_room(writer, raw.len())?;
         let refused = put_report(
             &mut self.out,
             self.tally.reports == 0,
+            format,
             raw,
             &mut self.datagram,
         )?;

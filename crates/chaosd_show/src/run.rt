@@ -7,13 +7,37 @@ ghost use Rattle.chaosd_io.specs.Reader.{left_of};
 ghost use Rattle.chaosd_show.specs.Shown.{Shows, ShowsAll};
 ghost use Rattle.chaosd_show.specs.Show.{report_of, reports_of, ReportsRead, tally_of};
 
+use crate::format::Format;
 use crate::limits::SHOW_KEPT_LEN;
 use crate::reporter::Reporter;
 use crate::tally::Tally;
 use chaosd_io::{INPUT_LIMIT, LineReader, NotWritten, RunFault, written};
 use std::io::{Read, Write};
 
-/// Reads lines of hexadecimal digits, one datagram a line, to the end of the input, and writes a report of each.
+/// Reads lines of hexadecimal digits, one datagram a line, to the end of the input, and writes a report of each: [`run_show_by`] of
+/// the own format.
+///
+/// # Errors
+/// As those of [`run_show_by`].
+pub fn run_show<R: Read, W: Write>(reader: &mut R, writer: &mut W) -> Result<Tally, RunFault>
+    // What was written is the report of all that was read, and the tally counts it.
+    ensures report { OnOk result (IfSome (R.remaining reader.old) (λ input. Appends (W.contents writer.old) (W.contents writer.new) (report_of Format.Own input))) }
+    ensures tally { IfOk result (λ tally. IfSome (R.remaining reader.old) (λ input. tally ≡ tally_of Format.Own (lines_of input))) }
+    ensures ended { OnOk result (IsAtEnd (R.remaining reader.new)) }
+    ensures within { OnOk result (IfSome (R.remaining reader.old) (λ input. length input ≤ INPUT_LIMIT)) }
+
+    // An input is refused as too long only where it is, and the lines that ended within the limit were reported.
+    ensures too_long { result ≡ Err RunFault.InputTooLong → IfSome (R.remaining reader.old) (λ input.
+        (INPUT_LIMIT < length input) × Appends (W.contents writer.old) (W.contents writer.new) (reports_of Format.Own (ended_lines (take INPUT_LIMIT input)))) }
+
+    // Where the reader failed, the lines that ended in what it had given were reported, and no more.
+    ensures unread { result ≡ Err RunFault.ReadFault
+        → ReportsRead Format.Own (R.remaining reader.old) (R.remaining reader.new) (W.contents writer.old) (W.contents writer.new) }
+{
+    run_show_by(Format::Own, reader, writer)
+}
+
+/// Reads lines of hexadecimal digits, one datagram of the format a line, to the end of the input, and writes a report of each.
 ///
 /// Each report is handed on to the writer before the next read, so that somebody who types lines sees each at once. The
 /// first fault that is met is the answer. The cost is that of one look at each byte that comes and goes; no memory is
@@ -22,57 +46,63 @@ use std::io::{Read, Write};
 /// # Errors
 /// [`RunFault`]: 1 where the reader fails or is interrupted 2,000,000 times, 2 where the writer fails, 3 where more than
 /// 1,048,576 bytes come.
-pub fn run_show<R: Read, W: Write>(reader: &mut R, writer: &mut W) -> Result<Tally, RunFault>
+pub fn run_show_by<R: Read, W: Write>(
+    format: Format,
+    reader: &mut R,
+    writer: &mut W,
+) -> Result<Tally, RunFault>
     // What was written is the report of all that was read, and the tally counts it.
-    ensures report { OnOk result (IfSome (R.remaining reader.old) (λ input. Appends (W.contents writer.old) (W.contents writer.new) (report_of input))) }
-    ensures tally { IfOk result (λ tally. IfSome (R.remaining reader.old) (λ input. tally ≡ tally_of (lines_of input))) }
+    ensures report { OnOk result (IfSome (R.remaining reader.old) (λ input. Appends (W.contents writer.old) (W.contents writer.new) (report_of format input))) }
+    ensures tally { IfOk result (λ tally. IfSome (R.remaining reader.old) (λ input. tally ≡ tally_of format (lines_of input))) }
     ensures ended { OnOk result (IsAtEnd (R.remaining reader.new)) }
     ensures within { OnOk result (IfSome (R.remaining reader.old) (λ input. length input ≤ INPUT_LIMIT)) }
 
     // An input is refused as too long only where it is, and the lines that ended within the limit were reported.
     ensures too_long { result ≡ Err RunFault.InputTooLong → IfSome (R.remaining reader.old) (λ input.
-        (INPUT_LIMIT < length input) × Appends (W.contents writer.old) (W.contents writer.new) (reports_of (ended_lines (take INPUT_LIMIT input)))) }
+        (INPUT_LIMIT < length input) × Appends (W.contents writer.old) (W.contents writer.new) (reports_of format (ended_lines (take INPUT_LIMIT input)))) }
 
     // Where the reader failed, the lines that ended in what it had given were reported, and no more.
     ensures unread { result ≡ Err RunFault.ReadFault
-        → ReportsRead (R.remaining reader.old) (R.remaining reader.new) (W.contents writer.old) (W.contents writer.new) }
+        → ReportsRead format (R.remaining reader.old) (R.remaining reader.new) (W.contents writer.old) (W.contents writer.new) }
 {
     let mut lines: LineReader<SHOW_KEPT_LEN> = LineReader::new(INPUT_LIMIT);
     let mut reporter = Reporter::new();
     'reads: loop {
-        written(report_ended(&mut reporter, &mut lines, writer))?;
+        written(report_ended(format, &mut reporter, &mut lines, writer))?;
         written(reporter.hand_on(writer))?;
         if !lines.refill(reader)? {
             break 'reads;
         }
     }
-    written(report_last(&mut reporter, &lines, writer))?;
+    written(report_last(format, &mut reporter, &lines, writer))?;
     written(reporter.hand_on(writer))?;
     Ok(reporter.tally)
 }
 
 /// Reports the lines that end in what came.
 fn report_ended<W: Write>(
+    format: Format,
     reporter: &mut Reporter,
     lines: &mut LineReader<SHOW_KEPT_LEN>,
     writer: &mut W,
 ) -> Result<(), NotWritten>
     requires { reporter.old.tally.reports + left_of lines.old ≤ INPUT_LIMIT }
     ensures shown { OnOk result ((input rest before : Option (List ℕ))
-        → Shows input rest before (written_of (W.contents writer.old) reporter.old.out) reporter.old.tally lines.old
-        → Shows input rest before (written_of (W.contents writer.new) reporter.new.out) reporter.new.tally lines.new) }
+        → Shows format input rest before (written_of (W.contents writer.old) reporter.old.out) reporter.old.tally lines.old
+        → Shows format input rest before (written_of (W.contents writer.new) reporter.new.out) reporter.new.tally lines.new) }
     ensures none { OnOk result (lines.new.waiting ≡ []) }
     ensures room { OnOk result (lines.new.room ≡ lines.old.room) }
     ensures count { OnOk result (reporter.new.tally.reports + left_of lines.new ≤ INPUT_LIMIT) }
 {
-    while lines.cut() {
-        reporter.report(writer, lines.line())?;
+    'lines: while lines.cut() {
+        reporter.report(writer, format, lines.line())?;
     }
     Ok(())
 }
 
 /// Reports what stands after the last end of a line, where that isn't empty.
 fn report_last<W: Write>(
+    format: Format,
     reporter: &mut Reporter,
     lines: &LineReader<SHOW_KEPT_LEN>,
     writer: &mut W,
@@ -80,11 +110,11 @@ fn report_last<W: Write>(
     requires room { reporter.old.tally.reports ≤ INPUT_LIMIT }
     requires none { lines.now.waiting ≡ [] }
     ensures shown { OnOk result ((input rest before : Option (List ℕ))
-        → Shows input rest before (written_of (W.contents writer.old) reporter.old.out) reporter.old.tally lines.now → IsAtEnd rest
-        → ShowsAll input rest before (written_of (W.contents writer.new) reporter.new.out) reporter.new.tally) }
+        → Shows format input rest before (written_of (W.contents writer.old) reporter.old.out) reporter.old.tally lines.now → IsAtEnd rest
+        → ShowsAll format input rest before (written_of (W.contents writer.new) reporter.new.out) reporter.new.tally) }
 {
     let Some(line) = lines.last() else {
         return Ok(());
     };
-    reporter.report(writer, line)
+    reporter.report(writer, format, line)
 }

@@ -2,20 +2,20 @@ use Rattle.std.proofs.Common.{refl, ap, ◌∙◌, arith}
 use Rattle.chaosd_show.proofs.Runs.{shown_of, more_shown}
 use Rattle.chaosd_show.proofs.run.report_ended.Goals as goal
 
-pub loop-reporter-preserved : goal.loop-reporter-preserved
-loop-reporter-preserved g c =
-    let (few, room, shown) = c.loop-reporter.invariant in (
+pub lines-preserved : goal.lines-preserved
+lines-preserved g c =
+    let (few, room, shown) = c.lines.invariant in (
       omega
-          (arith, few, ap (λ t. t.reports) c.in_ok-report.ensures.tally, c.cut.ensures.room, c.loop-reporter-test.ensures.less refl),
+          (arith, few, ap (λ t. t.reports) c.in_ok-report.ensures.tally, c.cut.ensures.room, c.lines-test.ensures.less refl),
       c.cut.ensures.room ∙ room,
       λ input rest before s.
           let t = shown input rest before s in
-          more_shown input rest before _ _ _ _ _ _ _ t (c.loop-reporter-test.ensures.given _ input rest t.given t.gives)
+          more_shown c.args.format input rest before _ _ _ _ _ _ _ t (c.lines-test.ensures.given _ input rest t.given t.gives)
           c.line.ensures c.in_ok-report.ensures.text c.in_ok-report.ensures.tally,
     )
 
 pub returns-clause-shown : goal.returns-clause-shown
 returns-clause-shown g c input rest before s =
-    let (few, room, shown) = c.loop-reporter.invariant in
+    let (few, room, shown) = c.lines.invariant in
     let t = shown input rest before s in
-    shown_of input rest rest before _ _ _ _ t (c.loop-reporter-test.ensures.given _ input rest t.given t.gives).0
+    shown_of c.args.format input rest rest before _ _ _ _ t (c.lines-test.ensures.given _ input rest t.given t.gives).0

@@ -7,14 +7,14 @@ use Rattle.chaosd_show.specs.Shown.{Shows}
 use Rattle.chaosd_show.proofs.run.report_ended.Given as goal
 
 -- the lines that were cut off were shown
-abbrev pub invariant-loop-reporter : goal.invariant-loop-reporter
-invariant-loop-reporter g l = (l.reporter.tally.reports + left_of l.lines ≤ INPUT_LIMIT)
+abbrev pub invariant-lines : goal.invariant-lines
+invariant-lines g l = (l.reporter.tally.reports + left_of l.lines ≤ INPUT_LIMIT)
     × (l.lines.room ≡ l.fn.lines.room)
     × ((input rest before : Option (List ℕ))
-    → Shows input rest before (written_of (g.W.Write.contents l.fn.writer) l.fn.reporter.out) l.fn.reporter.tally
+    → Shows l.fn.format input rest before (written_of (g.W.Write.contents l.fn.writer) l.fn.reporter.out) l.fn.reporter.tally
     l.fn.lines
-    → Shows input rest before (written_of (g.W.Write.contents l.writer) l.reporter.out) l.reporter.tally l.lines)
+    → Shows l.fn.format input rest before (written_of (g.W.Write.contents l.writer) l.reporter.out) l.reporter.tally l.lines)
 
 -- fewer bytes wait
-abbrev pub decreases-loop-reporter : goal.decreases-loop-reporter
-decreases-loop-reporter g l = length l.lines.waiting
+abbrev pub decreases-lines : goal.decreases-lines
+decreases-lines g l = length l.lines.waiting
