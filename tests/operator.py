@@ -282,7 +282,7 @@ class Beginning(Case):
         self.check(name, [] if seen == [f"chaosd: {line}" for line in wanted] else [f"it said {seen}"])
 
     def test_its_peers_are_named(self):
-        first = "host 000401 serves HERE at OWN to 402=OTHER 403=127.0.0.1:9"
+        first = "host 000401 serves HERE at OWN to 403=127.0.0.1:9 402=OTHER"
         self.check_first("two peers", ["403=127.0.0.1:9", "402=OTHER"], first)
 
     def test_what_can_answer_nobody_is_told(self):

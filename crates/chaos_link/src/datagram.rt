@@ -28,6 +28,7 @@ pub(crate) const MARK: [u8; 4] = [0x43, 0x48, 0x01, 0x00];
 ///
 /// # Errors
 /// The first fault, in the order of [`LinkFault`]: read off the number of bytes, the first four bytes and word 1 alone.
+#[inline(always)]
 pub fn from_datagram(bytes: &[u8]) -> Result<Packet, LinkFault>
     // The bytes carry the packet that is read.
     ensures carried { IfOk result (λ p. Carries p bytes.now) }

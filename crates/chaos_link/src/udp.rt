@@ -17,7 +17,7 @@ use std::marker::Model;
 use std::net::{SocketAddrV4, UdpSocket};
 use std::time::Duration;
 
-/// A link over a UDP socket: datagrams go to the sockets of its peers, and come from anybody. A contract sees the socket,
+/// A link over a UDP socket: datagrams go to the sockets of its peers and the bridge, and come from anybody. A contract sees the socket,
 /// the peers, the failures and whether the last receive waited; it says what the socket is asked, and nothing of
 /// what the system makes of that.
 ///
@@ -69,16 +69,16 @@ impl<S: DatagramSocket> Link for UdpLink<S> {
 
     ghost began = { λ link. record { peers = refl; socket_asks = []; socket_asked = S.began link.socket; outgoing = refl } };
 
-    /// Sends a datagram to the socket of the peer with this address. What the system can't or mustn't send there is lost,
+    /// Sends a datagram to the socket of the peer with this address, else to the bridge. What the system can't or mustn't send there is lost,
     /// and answered as sent.
     fn send(&mut self, to_address: u16, bytes: &[u8]) -> Sent
         requires { length bytes.now ≤ LINK_ROOM }
         ensures failed { result ≡ Sent.Failed → Rose self.old.failures self.new.failures }
         ensures uncounted { result ≢ Sent.Failed → self.new.failures ≡ self.old.failures }
         ensures queued { Unit {0} }
-        // An address is unknown exactly where no peer has it.
+        // An address is unknown exactly where no peer has it and there is no bridge.
         ensures unknown { (result ≡ Sent.Unknown) ↔ (socket_of to_address self.old.peers ≡ None) }
-        // The socket is asked once to send these bytes, to the UDP address of that peer; of no peer, it is asked nothing.
+        // The socket is asked once to send these bytes, to the UDP address of that peer, else to the bridge; where there is neither, it is asked nothing.
         ensures socket { Asks (S.asked self.old.socket) (S.asked self.new.socket) (map SendTo (outgoing_to (socket_of to_address self.old.peers) bytes.now)) }
         ensures asked { Asks (AsksSocket S.asked self.old) (AsksSocket S.asked self.new) (Send (record { to = to_address; bytes = bytes.now }) ∷ []) }
         // A failure is counted; nothing else changes.

@@ -65,7 +65,7 @@ TurnsAreSteps asked = (may_wait : Bool) (carriage : Carriage) (start now : ℕ) 
     (sent_by carriage (before.outbox.packets ∷ (client_phases runs.came now before.node).lots))
 
 -- If the link is a link over UDP, then its socket was asked to send exactly these datagrams, in this order, each to the
--- UDP address of its peer, and nothing for an address that no peer has.
+-- UDP address of its peer, else to the bridge, and nothing for an address with neither.
 abbrev pub SocketsPost : {S : Type 0} → (S → S → List SocketAsk → Type 0) → Type 0
 SocketsPost {S} asked = (old new : UdpView S) (may_wait : Bool) (posted : List Addressed)
     → IsAskedToPost (Asks (AsksSocket asked old) (AsksSocket asked new)) may_wait posted

@@ -44,7 +44,7 @@ pub fn law_queues<L: Link>()
 {}
 
 /// If a turn posts datagrams over UDP, then the socket was asked to send exactly these datagrams, in order, each to the UDP address
-/// of its peer.
+/// of its peer, else to the bridge.
 pub fn law_sockets<S: DatagramSocket>()
     ensures { SocketsPost S.asked }
 {}
