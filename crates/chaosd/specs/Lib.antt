@@ -1,4 +1,5 @@
 pub mod Config
+pub mod Framed
 pub mod Hearing
 pub mod Over
 pub mod Paths

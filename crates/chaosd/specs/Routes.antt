@@ -1,5 +1,5 @@
 -- How a line's client calls its server.
-use Rattle.std.specs.Prelude.{◌≡◌, ℕ, if◌then◌else◌, is_some, codes, Option}
+use Rattle.std.specs.Prelude.{◌≡◌, ℕ, if◌then◌else◌, is_some, Option}
 use Rattle.chaos_link.specs.Peers.{PeersView, socket_of}
 use Rattle.chaosd.specs.Config.{config_by}
 use Rattle.chaosd.specs.declared.asking.TheConstants.{USUAL_WINDOW}
@@ -11,12 +11,12 @@ use Rattle.file_client.specs.declared.route.Route.{Route}
 use Rattle.file_client.specs.declared.trip.RoundTrip.{RoundTrip}
 use Rattle.file_client.specs.RoundTrip.{retransmit_of}
 
--- from the line's host to the line's server, for the contact FILE, by the line's carriage and windows; what is kept is sent again
+-- from the line's host to the line's server, for the line's contact, by the line's carriage and windows; what is kept is sent again
 -- after the time that goes by a round trip
 pub record IsRouteOf (calling : Calling) (route : Route) : Type 0 where
   pub me : route.me ≡ calling.address
   pub to : route.to ≡ calling.server.address
-  pub contact : route.contact ≡ codes "FILE"
+  pub contact : route.contact ≡ calling.contact.now
   pub carriage : route.carriage ≡ carriage_of calling.framing
   pub trip : Option RoundTrip
   pub config : route.config ≡ config_by calling.window (retransmit_of trip)
@@ -25,11 +25,11 @@ pub record IsRouteOf (calling : Calling) (route : Route) : Type 0 where
 abbrev pub asked_host : ℕ → PeersView → ℕ
 asked_host to peers = if is_some (socket_of to peers) then to else NOBODY
 
--- from the host of an `ask` to the host that it asks, for the contact FILE, by its carriage; what is kept is sent again after the
--- time that the line gives
+-- from the host of an `ask` to the host that it asks, for the line's contact, by its carriage; what is kept is sent again after
+-- the time that the line gives
 pub record IsAskedBy (line : Ask) (route : Route) : Type 0 where
   pub me : route.me ≡ line.address
   pub to : route.to ≡ asked_host line.to line.peers
-  pub contact : route.contact ≡ codes "FILE"
+  pub contact : route.contact ≡ line.contact.now
   pub carriage : route.carriage ≡ carriage_of line.framing
   pub config : route.config ≡ config_by USUAL_WINDOW line.retransmit

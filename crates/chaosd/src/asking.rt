@@ -4,8 +4,9 @@ ghost use Rattle.chaos_link.specs.Peers.{socket_of};
 ghost use Rattle.chaosd.specs.Patience.{patience_by};
 ghost use Rattle.chaosd.specs.Routes.{IsAskedBy, asked_host};
 
-use crate::client::patience_of;
+use crate::client::{contact_of, patience_of};
 use crate::config::config_of;
+use crate::framed::hops_of;
 use crate::network::{end_script, has_input, heard_alone};
 use crate::peer_socket::PeerSocket;
 use crate::run_ends::tell_unopened;
@@ -13,14 +14,15 @@ use crate::terminals::Terminals;
 use crate::typed::{ByLook, Typed, Typing};
 use crate::unanswered::Unanswered;
 use crate::waiting::{Waiting, WaitingSocket};
+use chaos_chudp::ChudpLink;
 use chaos_link::{Link, Peer, Peers, UdpLink};
 use chaosd_clock::Epoch;
 use chaosd_copies::ExitStatus;
 use chaosd_file::{NOBODY, ScriptEnd, Why, run_ask_by};
 use chaosd_io::RunFault;
-use chaosd_line::Ask;
+use chaosd_line::{Ask, Framing};
 use chaosd_told::{Name, Notes, Replies};
-use file_client::{Contact, Patience, Route, Shown, Timing};
+use file_client::{Patience, Route, Shown, Timing};
 use std::fs::{File, Files};
 use std::io;
 use std::io::{Read, Write};
@@ -171,7 +173,7 @@ fn asked_of<R: Eprint>(rt: &R, line: &Ask<'_>) -> Asked
         route: Route {
             me: line.address,
             to,
-            contact: Contact::file(),
+            contact: contact_of(line.contact),
             config: config_of(USUAL_WINDOW, line.retransmit),
             carriage: line.framing.carriage(),
         },
@@ -219,8 +221,17 @@ where
         Ok(bound) => {
             let heard = heard_alone(asked.server, line.hears_anybody);
             let socket = WaitingSocket::new(PeerSocket::new(rt, bound, heard), &waiting);
-            let link = UdpLink::new(socket, line.peers);
-            ask_by_link(rt, link, &asked, &waiting, terminals)
+            match line.framing {
+                Framing::Own(_) => {
+                    let link = UdpLink::new(socket, line.peers);
+                    ask_by_link(rt, link, &asked, &waiting, terminals)
+                }
+                Framing::Chudp(bridge) => {
+                    let hops = hops_of(line.peers.hosts(), bridge);
+                    let link = ChudpLink::new(UdpLink::new(socket, line.peers), line.address, hops);
+                    ask_by_link(rt, link, &asked, &waiting, terminals)
+                }
+            }
         }
         Err(error) => tell_unopened(rt, &asked.socket, &error),
     }

@@ -1,7 +1,8 @@
 //! How a client calls: its numbers, its times, and how long it waits.
-ghost use Rattle.std.specs.Prelude.{◌≡◌, ◌<◌, IfOk};
+ghost use Rattle.std.specs.Prelude.{◌≡◌, ◌<◌, IfOk, true};
 ghost use Rattle.chaosd.specs.Patience.{patience_by};
 ghost use Rattle.chaosd.specs.Routes.{IsRouteOf};
+ghost use Rattle.chaosd_line.specs.Values.{is_contact};
 
 use crate::config::config_of;
 use chaos_conn::ConnConfig;
@@ -24,6 +25,17 @@ pub(crate) fn patience_of(seconds: Option<u16>) -> Patience
     match seconds {
         Some(seconds) => Patience::Millis(u64::from(seconds) * 1_000),
         None => Patience::usual(),
+    }
+}
+
+/// The contact of this name.
+pub(crate) fn contact_of(name: &str) -> Contact
+    requires { is_contact name.now ≡ true }
+    ensures { result ≡ name.now }
+{
+    match Contact::new(name.as_bytes()) {
+        Ok(contact) => contact,
+        Err(_) => unreachable!(),
     }
 }
 
@@ -70,7 +82,7 @@ pub(crate) fn route_of<R: AllocGlobal + Dial, L: Link>(
     let usual = Route {
         me: calling.address,
         to: calling.server.address,
-        contact: Contact::file(),
+        contact: contact_of(calling.contact),
         config: ConnConfig::with_window(calling.window),
         carriage: calling.framing.carriage(),
     };

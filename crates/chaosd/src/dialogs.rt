@@ -1,14 +1,16 @@
 //! What `get`, `put`, `delete` and `rename` have in common: a dialog with a server over a socket.
 use crate::client::{route_of, timing_of};
 use crate::dialog::CallDialog;
+use crate::framed::hops_of;
 use crate::network::link_to_server;
 use crate::run_ends::{tell_unbegun, tell_unopened};
 use crate::waiting::Waiting;
+use chaos_chudp::ChudpLink;
 use chaos_link::Link;
 use chaosd_clock::Dial;
 use chaosd_copies::{Dialog, ExitStatus};
 use chaosd_io::RunFault;
-use chaosd_line::Calling;
+use chaosd_line::{Calling, Framing};
 use file_client::Call;
 use std::fmt::Display;
 use std::fs::{File, Files};
@@ -33,9 +35,16 @@ where
     R: AllocGlobal + Dial + Eprint + Files<File = File> + Net,
 {
     let waiting = Waiting::new(rt, calling.server, is_told);
-    match link_to_server(rt, calling) {
-        Ok(mut link) => work_over(&*rt, &mut link, calling, &waiting, work),
-        Err(error) => tell_unopened(rt, &calling.socket, &error),
+    let mut link = match link_to_server(rt, calling) {
+        Ok(link) => link,
+        Err(error) => return tell_unopened(rt, &calling.socket, &error),
+    };
+    match calling.framing {
+        Framing::Own(_) => work_over(&*rt, &mut link, calling, &waiting, work),
+        Framing::Chudp(bridge) => {
+            let mut link = ChudpLink::new(link, calling.address, hops_of(&[], bridge));
+            work_over(&*rt, &mut link, calling, &waiting, work)
+        }
     }
 }
 

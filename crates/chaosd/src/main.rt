@@ -14,6 +14,7 @@ mod descriptors;
 mod dialog;
 mod dialogs;
 mod file_words;
+mod framed;
 mod network;
 mod peer_socket;
 mod progress;
@@ -58,7 +59,7 @@ where
     R: AllocGlobal + Clock + Eprint + Files<File = File> + Input + Net + Print,
 {
     match line {
-        Line::Show(show) => run_show_line(rt, show.is_file),
+        Line::Show(show) => run_show_line(rt, show),
         Line::Lab => run_lab_line(rt),
         Line::FileLab => run_filelab_line(rt),
         Line::Loop(carriage) => run_loop_line(rt, carriage),

@@ -1,22 +1,38 @@
 //! The runs over standard input and output alone: `show`, `lab` and `filelab`.
+ghost use Rattle.std.specs.Prelude.{◌≡◌};
+ghost use Rattle.chaosd.specs.Framed.{format_by};
+
 use crate::run_ends::tell_end;
 use chaosd_copies::ExitStatus;
 use chaosd_filelab::run_filelab;
 use chaosd_io::{RunFault, without_return};
 use chaosd_lab::run_lab;
-use chaosd_show::run_show;
+use chaosd_line::Show;
+use chaosd_show::{Format, run_show_by};
 use chaosd_told::{Kept, Laboratory, Reports, why_bad};
 use std::io;
 use std::io::Read;
 
+/// The form of the datagrams that are reported.
+fn format_of(show: Show) -> Format
+    ensures { result ≡ format_by show }
+{
+    if show.is_chudp {
+        Format::Chudp
+    } else {
+        Format::Own
+    }
+}
+
 /// Runs `show` from standard input to standard output. Where it is asked for, what data say stands in the reports too.
 #[inline(never)]
-pub(crate) fn run_show_line<R: Input + Print + Eprint>(rt: &R, is_file: bool) -> ExitStatus {
-    let end = if is_file {
+pub(crate) fn run_show_line<R: Input + Print + Eprint>(rt: &R, show: Show) -> ExitStatus {
+    let format = format_of(show);
+    let end = if show.is_file {
         let mut writer = io::writer(rt);
-        run_show(&mut rt.reader(), &mut Reports::new(&mut writer))
+        run_show_by(format, &mut rt.reader(), &mut Reports::new(&mut writer))
     } else {
-        run_show(&mut rt.reader(), &mut io::writer(rt))
+        run_show_by(format, &mut rt.reader(), &mut io::writer(rt))
     };
     tell_end(rt, &end);
     ExitStatus::of_run(end.map(|tally| tally.refused == 0))

@@ -5,13 +5,15 @@ ghost use Rattle.chaosd_line.specs.Framings.{carriage_of};
 
 use crate::config::config_of;
 use crate::connections::Connections;
+use crate::framed::hops_of;
 use crate::run_ends::tell_unopened;
+use chaos_chudp::ChudpLink;
 use chaos_file::{DirStore, PrintedName, Store};
 use chaos_link::{Link, UdpLink};
 use chaosd_clock::ClockMoments;
 use chaosd_copies::ExitStatus;
 use chaosd_io::RunFault;
-use chaosd_line::{LogLevel, Serve};
+use chaosd_line::{Framing, LogLevel, Serve};
 use chaosd_log::{
     Journal, Ledger, Level, Matter, NotedLink, NotedSocket, NotedStore, Pages, ReadOnly,
 };
@@ -124,14 +126,42 @@ fn serve_folder<R: AllocGlobal + Clock + Eprint + Files<File = File> + Net>(
     folder: DirStore<&R>,
     bound: UdpSocket,
 ) -> ExitStatus {
+    let peers = match line.peers.clone() {
+        Ok(peers) => peers,
+        Err(error) => return tell_unopened(rt, &line.socket, &io::Error::from(error)),
+    };
     let options = options_of(&line);
     let level = level_of(line.is_quiet, line.log);
-    let journal = Journal::new(rt, level, line.is_timed, Ledger::new(line.peers.clone()));
+    let journal = Journal::new(rt, level, line.is_timed, Ledger::new(peers));
     journal.begin(line.address, line.socket, line.folder);
     let noted = NotedSocket::new(bound, &journal, line.hears_only_peers);
-    let mut link = NotedLink::new(UdpLink::new(noted, line.peers), &journal);
-    let store = NotedStore::new(folder, Pages(&journal));
-    serve_store(rt, options, &journal, &mut link, store, line.is_read_only)
+    match line.framing {
+        Framing::Own(_) => {
+            let link = UdpLink::new(noted, line.peers);
+            serve_over(rt, options, &journal, link, folder, line.is_read_only)
+        }
+        Framing::Chudp(bridge) => {
+            let hops = hops_of(line.peers.hosts(), bridge);
+            let link = ChudpLink::new(UdpLink::new(noted, line.peers), line.address, hops);
+            serve_over(rt, options, &journal, link, folder, line.is_read_only)
+        }
+    }
+}
+
+/// Serves a folder over a link, and takes note of what comes and goes by both.
+fn serve_over<R: AllocGlobal + Clock + Eprint + Files<File = File>, L: Link + Drop>(
+    rt: &R,
+    options: ServeOptions,
+    journal: &Journal<'_, R>,
+    link: L,
+    folder: DirStore<&R>,
+    is_read_only: bool,
+) -> ExitStatus
+    requires { 0 < options.me }
+{
+    let mut link = NotedLink::new(link, journal);
+    let store = NotedStore::new(folder, Pages(journal));
+    serve_store(rt, options, journal, &mut link, store, is_read_only)
 }
 
 /// Runs `serve` on a folder, which is opened first, and then the socket.
