@@ -485,15 +485,7 @@ class MachineAsksLispInChudp(Machine, Case):
 # CHUDP of `chaosd`.
 
 
-class OfChudp:
-    """What wants a `chaosd` that speaks CHUDP."""
-
-    def setUp(self):
-        if b"--chudp" not in run(["serve", "--help"]).out:
-            self.skipTest("this chaosd has no --chudp")
-
-
-class ChudpChaosdAsks(OfChudp, Both):
+class ChudpChaosdAsks(Both):
     client, server = FIRST, SECOND
     seconds = 20
 
@@ -505,7 +497,7 @@ class ChudpChaosdAsks(OfChudp, Both):
         self.carry(options, options, [1], f"contact {CONTACT}")
 
 
-class ChudpLispAsks(OfChudp, Both):
+class ChudpLispAsks(Both):
     client, server = SECOND, FIRST
     seconds = 20
 
@@ -519,5 +511,5 @@ class ChudpLispAsks(OfChudp, Both):
             self.check(self.named("the peer *=UDP"), ended.problems(DONE, b"", b"") + stored_problems(here / "A", b"a") + host.problems())
 
 
-class MachineAsksChaosdInChudp(OfChudp, Machine, Case):
+class MachineAsksChaosdInChudp(Machine, Case):
     server, options = FIRST, CHUDP
