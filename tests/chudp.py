@@ -27,6 +27,8 @@ FAR = 0o1001
 NEAR_BRIDGE, FAR_BRIDGE = 0o410, 0o1010
 NO_SERVER = b"No server for this contact name."
 CHUDP = ["--chudp"]
+# How many random packets the program of tests/crates/random_chudp writes.
+PACKETS = 20_000
 
 # A status, data of one byte, and a request for a contact that nobody serves, each to 000401 from 000402; with what `show` reports.
 STS = "01 01 00 00 07 00 00 04 01 01 02 01 01 02 03 05 00 00 00 10 00 12 00 0D 01 01 01 02 EF C0"
@@ -502,7 +504,7 @@ def written_problems(lines):
 
 
 class Written(Checking):
-    """What the program of tests/crates/random_chudp writes, which prints such a line for each of 100,000 random packets."""
+    """What the program of tests/crates/random_chudp writes, which prints such a line for each of so many random packets."""
 
     seconds = 60
 
@@ -515,10 +517,11 @@ class Written(Checking):
         self.check("a wrong sum is seen", listed(("problems", len(written_problems(lines)), 1)))
 
     def test_random_packets_are_written_as_by_the_reference(self):
-        ended = finished(subprocess.Popen([checked("random_chudp")], stdout=subprocess.PIPE, stderr=subprocess.PIPE), patience=LONG)
+        words = [checked("random_chudp"), str(SEED), str(PACKETS)]
+        ended = finished(subprocess.Popen(words, stdout=subprocess.PIPE, stderr=subprocess.PIPE), patience=LONG)
         lines = ended.out.decode().splitlines()
-        problems = ended.problems(DONE, None, b"") + written_problems(lines)[:3]
-        self.check(f"{len(lines)} random packets", problems + ([] if len(lines) >= 10_000 else ["they are too few"]))
+        problems = ended.problems(DONE, None, b"") + written_problems(lines)[:3] + listed(("lines", len(lines), PACKETS))
+        self.check(f"{PACKETS} random packets", problems)
 
 
 # What the documents say.
