@@ -5,6 +5,7 @@ import io
 import pathlib
 import tempfile
 
+from checks import Checks
 from reading import HEAD, Laws, reading, with_figures
 from rows import AGAIN, ON, PAGE, SECTION, SUMS, UNNAMED, Tables, accept, on, problems_of, run, show
 
@@ -332,18 +333,6 @@ whole of demo: 1 definitions, 3 lines; of them new here 1, 3
     1     3  crates/demo/specs/Limits.antt
 there is no public call gone
 """
-
-
-class Checks:
-    """Counts checks and says each."""
-
-    def __init__(self):
-        self.all = self.failed = 0
-
-    def same(self, what, seen, wanted):
-        self.all += 1
-        self.failed += seen != wanted
-        print(f"ok: {what}" if seen == wanted else f"not ok: {what}: {seen}")
 
 
 def example(folder):
