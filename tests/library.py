@@ -9,7 +9,11 @@ sys.path.insert(0, str(ROOT / "tools"))
 from sources import Sources  # noqa: E402
 
 PAGE = ROOT / "docs/LIBRARY.md"
-PROGRAMS = [ROOT / "tests/crates/example_reverse/src/main.rt.in", ROOT / "crates/example_echo/src/main.rt"]
+PROGRAMS = [
+    ROOT / "tests/crates/example_reverse/src/main.rt.in",
+    ROOT / "tests/crates/example_echo_udp/src/main.rt.in",
+    ROOT / "crates/example_echo/src/main.rt",
+]
 SIGNATURE = re.compile(r"fn (\w+)::(\w+)(.*)")
 
 
