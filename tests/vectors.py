@@ -38,7 +38,7 @@ def remade(old):
 class Vectors(Case):
     """The files of examples/vectors."""
 
-    seconds = 8
+    seconds = 10
 
     def test_they_are_what_the_program_reports_and_sends(self):
         old = files_of(VECTORS)
@@ -55,7 +55,8 @@ class Vectors(Case):
         self.check("each opcode with a name stands there", missing)
 
     def test_each_session_begins_with_a_request_and_ends_with_a_cls(self):
-        for name in ["session.txt", "recovery.txt"]:
+        """Or, where the CLS is lost, with the EOF again and a LOS."""
+        for name, end in [("session.txt", ["EOF", "CLS"]), ("losses.txt", ["EOF", "CLS", "EOF", "LOS"]), ("recovery.txt", ["EOF", "CLS"])]:
             ops = re.findall(r"^  op \d{3} (\w+)$", files_of(VECTORS).get(name, ""), re.M)
-            problems = [] if ops and ops[0] == "RFC" and ops[-1] == "CLS" and "EOF" in ops else [f"{ops}"]
+            problems = [] if ops[:1] == ["RFC"] and ops[-len(end) :] == end else [f"{ops}"]
             self.check(f"{name} is a whole connection", problems)

@@ -90,7 +90,7 @@
   (find-if (lambda (comment) (search "is ignored" comment)) comments))
 
 (defun test-vectors ()
-  (dolist (name '("datagrams" "session" "recovery"))
+  (dolist (name '("datagrams" "session" "losses" "recovery"))
     (loop for (comments octets told) in (blocks name)
           do (let ((packets (datagram-packets octets (length octets))))
                (check (remove "" (report octets) :test #'string=)
@@ -161,7 +161,7 @@ of the session."
       (setf (fdefinition 'first-number) old))))
 
 (defun test-sessions ()
-  (dolist (name '("session" "recovery"))
+  (dolist (name '("session" "losses" "recovery"))
     (with-first-number 65530 (lambda () (play name #o401)))
     (with-first-number 65534 (lambda () (play name #o402)))))
 
