@@ -1,9 +1,11 @@
 """Two programs that speak to each other: `chaosd`, and the end in Lisp, in each other's place."""
 
 import contextlib
+import os
 import pathlib
 import random
 import select
+import shlex
 import shutil
 import signal
 import socket
@@ -19,6 +21,8 @@ from tests.support import CLIENT, DONE, PROGRAM, ROOT, SERVER, USUAL_WINDOW, at,
 
 LISP = ROOT / "examples/lisp"
 SBCL = shutil.which("sbcl")
+# The words that start another implementation in place of the one in Lisp: docs/PROTOCOL.md, "Check your implementation".
+OTHER = shlex.split(os.environ.get("SECOND_PROGRAM", ""))
 # Seconds: a Lisp takes one to start, and more on a machine that does much else.
 LONG = 300
 
@@ -31,13 +35,15 @@ SHOWN = 200
 # The third is a Lisp machine as far as one can be had: its client, over a stand-in for its Chaosnet.
 FIRST, SECOND, MACHINE = "chaosd", "Lisp", "a Lisp machine"
 
-needs_lisp = unittest.skipUnless(SBCL, "sbcl isn't there: `apt-get install sbcl` gives it")
+needs_lisp = unittest.skipUnless(SBCL or OTHER, "sbcl isn't there: `apt-get install sbcl` gives it")
 
 
 def words_of(which):
     """The words that start a program."""
     if which == FIRST:
         return [str(PROGRAM)]
+    if which == SECOND and OTHER:
+        return OTHER
     return [SBCL, "--script", str(LISP / ("chaosd.lisp" if which == SECOND else "stand-in.lisp"))]
 
 
