@@ -534,7 +534,7 @@ class Documents(Checking):
         rows = re.findall(r"^(01 01 00 00 [0-9A-F ]+)$", (ROOT / "docs/PROTOCOL.md").read_text(), re.M)
         self.check("docs/PROTOCOL.md has the three datagrams", listed(("datagrams", rows, [text for text, _, _, _ in VECTORS])))
         text, _, lines, total = VECTORS[0]
-        example = f"```text\n{text}\n```\n\ngives\n\n```text\n{lines}trailer to 000401 from 000402\nsum {total}\n```\n"
+        example = f"```text\n{text}\n```\n\nThis line gives:\n\n```text\n{lines}trailer to 000401 from 000402\nsum {total}\n```\n"
         self.check("docs/SCRIPTS.md has a report", [] if example in (ROOT / "docs/SCRIPTS.md").read_text() else ["it has another"])
 
 
