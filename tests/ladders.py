@@ -11,7 +11,7 @@ from tests.support import DONE, PATIENCE, ROOT, Case, folder, run
 LADDER = ROOT / "tools/ladder"
 LAYERS = ROOT / "tools/layers"
 PICTURES = ROOT / "docs/pictures"
-DOCUMENTS = [ROOT / "docs/LABORATORY.md", ROOT / "docs/PROTOCOL.md", ROOT / "README.md"]
+DOCUMENTS = [ROOT / "docs/LABORATORY.md", ROOT / "docs/PROTOCOL.md", ROOT / "docs/ARCHITECTURE.md"]
 LOGIN = ROOT / "examples/login"
 SCRIPTS = sorted(path for path in ROOT.glob("examples/*lab/*") if path.suffix != ".txt")
 
