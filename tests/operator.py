@@ -11,7 +11,7 @@ from tests.flood import Packet
 from tests.packets import CLS, DATA, OPN, RFC, Peer, datagram
 from tests.scripts import FILE_SCRIPT
 from tests.support import (
-    BAD_LINE, CLIENT, DONE, LONG, REFUSED, SERVER,
+    BAD_LINE, CLIENT, DONE, LONG, REFUSED, ROOT, SERVER,
     Case, Serving, at, finished, folder, free_ports, line_of, run, serving, started,
 )  # fmt: skip
 
@@ -262,6 +262,37 @@ class Asking(Case):
             opened = [line for line in lines if " opens connection " in line]
             problems += [] if len(opened) == 1 and "asks from" not in "".join(lines) else [f"it said {lines}"]
             self.check("only-peers", problems)
+
+
+def shape(line):
+    """A line of a log without what differs from run to run: UDP addresses, indices of connections, and the folder."""
+    line = re.sub(r"\d+\.\d+\.\d+\.\d+:\d+", "UDP", line)
+    return re.sub(r"serves \S+ at", "serves FOLDER at", re.sub(r"connection \d{6}", "connection INDEX", line))
+
+
+class Page(Case):
+    """The log of docs/OPERATING.md."""
+
+    seconds = 8
+
+    def test_a_run_logs_the_lines_of_the_page(self):
+        """The page's lines stand in the log of a put, a get, a get of no file, and two clients that ask from unknown UDP addresses."""
+        page = (ROOT / "docs/OPERATING.md").read_text().partition("\n## The log\n")[2]
+        lines = re.search(r"^```\n(.*?)^```$", page, re.M | re.S)[1].splitlines()
+        wanted = [shape(line) for line in lines if not line.startswith("#")]
+        with serving(peers=2, options=["--log", "all"]) as server, folder() as here:
+            (near, far), others, to = server.peers, free_ports(2), f"401={at(server.port)}"
+            (here / "A.LISP").write_bytes(b"(DEFUN HELLO ())\n")
+            problems = [] if run(["put", "--login", "SMITH", "402", at(near), to, here / "A.LISP"]).status == DONE else ["no put"]
+            problems += [] if run(["get", "--output", here / "copy", "403", at(far), to, "A.LISP"]).status == DONE else ["no get"]
+            problems += [] if run(["get", "--output", here / "none", "403", at(far), to, "B.LISP"]).status == REFUSED else ["B.LISP is there"]
+            for address, other in zip(["404", "402"], others):
+                run(["get", "--timeout", "3", "--output", here / "none", address, at(other), to, "A.LISP"])
+            last = f"chaosd: host 000402 asks from {at(others[1])}, and is answered at {at(near)}, where its PEER is"
+            log = [shape(line) for line in ended(server, last=last)]
+        rest = iter(log)
+        problems += [f"no {line!r}, in its turn, in {log}" for line in wanted if line not in rest]
+        self.check("the page's lines, in their order", problems if wanted else ["the page has no log"])
 
 
 class Beginning(Case):
