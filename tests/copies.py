@@ -15,6 +15,9 @@ from tests.support import (
     Case, Ended, Relay, finished, folder, mixed_content, network_before, run, serving, stored_problems,
 )  # fmt: skip
 
+# What a client says that finds all slots of the server taken.
+FULL = b"it refused the connection: Connection table full.\n"
+
 SIZES = [0, 1, 447, 448, 449, 100_000, FILE_LIMIT]
 
 
@@ -236,9 +239,13 @@ class Several(Case):
             for n, content in enumerate(contents):
                 (server.folder / f"F{n}").write_bytes(content)
             running = [copying(server, "get", f"F{n}", options=FOR_LONG, peer=n, cwd=here) for n in range(16)]
-            problems = []
+            problems, end = [], time.monotonic() + LONG
             for n, process in enumerate(running):
-                problems += finished(process, patience=LONG).problems(DONE, b"", b"") or stored_problems(here / f"F{n}", contents[n])
+                ended = finished(process, patience=LONG)
+                # On a slow machine a client asks again from another index, and so takes two of the server's sixteen slots for a while.
+                while ended.err.endswith(FULL) and time.monotonic() < end:
+                    ended = copied(server, "get", f"F{n}", options=FOR_LONG, peer=n, cwd=here)
+                problems += ended.problems(DONE, b"", b"") or stored_problems(here / f"F{n}", contents[n])
             self.check("sixteen clients at once", problems)
 
 
