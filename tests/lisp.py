@@ -200,10 +200,11 @@ class Anew:
         with serving(self.server) as (host, here), network_before(host) as (network, port, line):
             content = content_of(FILE_LIMIT)
             (host.folder / "A").write_bytes(content)
-            process = begun(self.client, ["get", "--window", "1", *line, "A", "A2"], cwd=here)
-            network.wait_for(port, 20)
-            host.end()
-            host.start()
+            with network.closed_after(port, 20):
+                process = begun(self.client, ["get", "--window", "1", *line, "A", "A2"], cwd=here)
+                network.wait_for_last(port)
+                host.end()
+                host.start()
             told = b"chaosd: A: it knows no such connection: No such connection.\nchaosd: A2: not tried\n"
             self.check(self.named("the server is killed and begins again"), finished(process).problems(REFUSED, b"", told))
             problems = ran(self.client, ["get", *line, "A"], cwd=here).problems(DONE, b"", b"") + stored_problems(here / "A", content)

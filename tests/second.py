@@ -118,6 +118,8 @@ class Network(threading.Thread):
         self.socket.bind(("127.0.0.1", port))
         self.other = {server: client, client: server}
         self.sent = {server: [], client: []}
+        # How many datagrams of each are taken at most; None where all are.
+        self.most = {server: None, client: None}
         self.bad, self.late, self.random = bad, [], random.Random(1981)
         self.start()
 
@@ -127,7 +129,7 @@ class Network(threading.Thread):
     def take(self, seen, source):
         """Hands a datagram of either end on, as often and when it comes. One of another port is nobody's."""
         port = source[1]
-        if port not in self.other:
+        if port not in self.other or len(self.sent[port]) == self.most[port]:
             return
         self.sent[port].append(seen)
         for _ in range(0 if self.unlucky() else 2 if self.unlucky() else 1):
@@ -145,6 +147,22 @@ class Network(threading.Thread):
                 self.late = [one for one in self.late if one not in due]
                 for _, seen, port in due:
                     self.socket.sendto(seen, ("127.0.0.1", port))
+
+    @contextlib.contextmanager
+    def closed_after(self, port, count):
+        """Loses all that the one at this port sends behind its first datagrams, which are so many, while a test does something. The test
+        waits for these by `wait_for_last`."""
+        self.most[port] = count
+        try:
+            yield
+        finally:
+            self.most[port] = None
+
+    def wait_for_last(self, port):
+        """Waits until all datagrams have come that are taken of the one at this port."""
+        end = time.monotonic() + LONG
+        while len(self.sent[port]) < self.most[port] and time.monotonic() < end:
+            time.sleep(0.002)
 
     def wait_for(self, port, count):
         """Waits until the one at this port has sent so many datagrams more."""
