@@ -1,7 +1,8 @@
 /* Makes calls of a program fail: a library to be loaded before the C library.
  *
  * FAIL_CALL names the call, `sendto`, `recvfrom` or `clock_gettime`; FAIL_ERRNO is the number of its error; FAIL_AT=N fails the Nth call
- * of that name, and FAIL_TIMES=M as many from there on, one without it. What fails is not done.
+ * of that name, and FAIL_TIMES=M as many from there on, one without it. What fails is not done. Of `clock_gettime` the calls count
+ * that come behind the first `recvfrom`: how often a program reads a clock before depends on how it was compiled.
  */
 #define _GNU_SOURCE
 #include <dlfcn.h>
@@ -14,6 +15,7 @@
 #include <unistd.h>
 
 static long calls;
+static int has_received;
 
 static long number(const char *name, long without) {
     const char *value = getenv(name);
@@ -36,10 +38,11 @@ ssize_t sendto(int fd, const void *data, size_t size, int flags, const struct so
 
 ssize_t recvfrom(int fd, void *data, size_t size, int flags, struct sockaddr *from, socklen_t *length) {
     ssize_t (*real)(int, void *, size_t, int, struct sockaddr *, socklen_t *) = dlsym(RTLD_NEXT, "recvfrom");
+    has_received = 1;
     return fails("recvfrom") ? -1 : real(fd, data, size, flags, from, length);
 }
 
 /* Programs with checks read a clock before dlsym can be called. */
 int clock_gettime(clockid_t clock, struct timespec *at) {
-    return fails("clock_gettime") ? -1 : (int)syscall(SYS_clock_gettime, clock, at);
+    return has_received && fails("clock_gettime") ? -1 : (int)syscall(SYS_clock_gettime, clock, at);
 }
