@@ -111,7 +111,7 @@ LIBRARIES = {
             "1 connection and 254 free slots",
             "turn: turn of 1 connection and 254 free slots",
             1.3,
-            why="A turn walks over the slots five times for three.",
+            why="A turn makes five passes over the slots, and the plain version three.",
         ),
         Row("255 connections", "turn: turn of 255 connections", 1.3, why="A walk goes over 224 bytes of each connection."),
     ],
@@ -237,7 +237,7 @@ def missed(figures):
             for row in rows:
                 ratio = figures.timed[row.line][2]
                 if row.aim is not None and ratio > row.aim:
-                    lines.append(f"- `{bench}`, {row.what}: {ratio:.2f} for {row.aim}. {row.why}".rstrip())
+                    lines.append(f"- `{bench}`, {row.what}: {ratio:.2f}, aim {row.aim}. {row.why}".rstrip())
     return "\n".join(lines) or "No row misses its aim."
 
 

@@ -36,7 +36,7 @@ class Speed(Checking):
     def test_a_row_that_misses_its_aim_is_named(self):
         self.assertEqual(speed.missed(speed.figures_of(told(1.05))), "No row misses its aim.")
         lines = speed.missed(speed.figures_of(told(1.6))).splitlines()
-        self.assertIn("- `links`, a round trip of 508 bytes over two UDP links: 1.60 for 1.2.", lines)
+        self.assertIn("- `links`, a round trip of 508 bytes over two UDP links: 1.60, aim 1.2.", lines)
 
     def test_a_row_without_a_line_is_a_fault(self):
         short = "\n".join(line for line in told(1.05).splitlines() if not line.startswith("links"))
