@@ -12,9 +12,9 @@ use std::alloc::{AllocError, Global};
 use std::io;
 use std::process::ExitCode;
 
-const SERVER: u16 = 0o402;
+const SERVER: u16 = 0o401;
 
-const ANN: u16 = 0o401;
+const ANN: u16 = 0o402;
 
 const BOB: u16 = 0o403;
 
@@ -85,7 +85,7 @@ fn new_client(
     })
 }
 
-/// Takes a packet in. A request is accepted, and its connection is told.
+/// Takes a packet in. A request is accepted, and the result names its connection.
 fn take(node: &mut Node, packet: &Packet) -> Option<ConnId> {
     if node.out.room() < 2 {
         return None;

@@ -1,7 +1,7 @@
-//! `example_uptime`: a service of one's own, the simple transaction UPTIME, and its client. docs/LIBRARY.md walks through it.
+//! `example_uptime`: a service of your own, the simple transaction UPTIME, and its client. docs/LIBRARY.md walks through it.
 //!
 //! Two hosts in one process, and a clock that goes from one moment at which something is due to the next. The first request
-//! is lost on its way, so it is sent again.
+//! is lost on its way, so the client sends the request again.
 #![tactic(auto)]
 
 use chaos_conn::{ConnConfig, Delivered};
@@ -11,9 +11,9 @@ use std::alloc::Global;
 use std::io;
 use std::process::ExitCode;
 
-const CLIENT: u16 = 0o401;
+const CLIENT: u16 = 0o402;
 
-const SERVER: u16 = 0o402;
+const SERVER: u16 = 0o401;
 
 /// The room of an outbox: what a tick may put out at most, the usual send window.
 const ROOM: usize = 13;
@@ -35,7 +35,7 @@ fn new_node(alloc: Global, address: u16) -> Option<Node> {
     Some(Node { host, out })
 }
 
-/// How long a host is up that began at moment 0: 60ths of a second in 32 bits, the least byte first.
+/// How long a host has been up that began at moment 0: 60ths of a second in 32 bits, low byte first.
 fn uptime(now: u64) -> [u8; 4] {
     ((now / 50 * 3 % 0x1_0000_0000) as u32).to_le_bytes()
 }
@@ -50,7 +50,8 @@ fn serve(node: &mut Node, packet: &Packet, now: u64) {
     }
 }
 
-/// The client's user: what an ANS tells. Its connection has ended then, and is released; of another packet it is refused.
+/// The client's user: the time that an ANS carries. The ANS ends the connection, which is then released. After any other packet
+/// the release is refused, and changes nothing.
 fn hear(node: &mut Node, packet: &Packet, now: u64) -> Option<u32> {
     if node.out.room() < 2 {
         return None;
@@ -59,11 +60,11 @@ fn hear(node: &mut Node, packet: &Packet, now: u64) -> Option<u32> {
         return None;
     };
     let _released = node.host.release(id, &mut node.out);
-    told(&became)
+    time_in(&became)
 }
 
-/// What an ANS tells.
-fn told(became: &Delivered) -> Option<u32> {
+/// The time that an ANS carries.
+fn time_in(became: &Delivered) -> Option<u32> {
     let Delivered::Answered(answer) = became else {
         return None;
     };
