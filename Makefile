@@ -1,8 +1,8 @@
-# Proves and builds Poltxegun. Everything is done by the kit's `rt`; this file only names the usual wishes. `make help` lists them.
+# Proves and builds Poltxegun. The kit's `rt` does all the work; this file only names the usual targets. `make help` lists them.
 
 PREFIX ?= /usr/local
 RT ?= rt
-# what `dist` and `install` take; another program is named by PROGRAM=..
+# the program that `dist` and `install` take; name another with PROGRAM=..
 PROGRAM := bin/chaosd
 BENCHES := codec links window host file turn
 PROGRAM_BENCHES := show lab loop calls copy stack
@@ -12,10 +12,10 @@ PACKETS ?= 1000000
 
 .PHONY: all help demo test check fmt fmt-check lint wrong-bodies dialogues pictures bench $(PROGRAM_BENCHES:%=bench-%) $(BENCHES:%=bench-%) dist install uninstall clean unstamped
 
-all: bin/chaosd ## proves the program and all that it stands on, and builds bin/chaosd
+all: bin/chaosd ## prove the program and all crates below it, and build bin/chaosd
 
-help: ## lists these wishes
-	@sed -n 's/^\([a-zA-Z][^:=]*\):[^#]*## \(.*\)/\1\t\2/p' $(MAKEFILE_LIST) | while IFS="$$(printf '\t')" read -r wish what; do printf 'make %-14s %s\n' "$$wish" "$$what"; done
+help: ## list these targets
+	@sed -n 's/^\([a-zA-Z][^:=]*\):[^#]*## \(.*\)/\1\t\2/p' $(MAKEFILE_LIST) | while IFS="$$(printf '\t')" read -r target what; do printf 'make %-14s %s\n' "$$target" "$$what"; done
 
 # proved again where its stamp doesn't say that it was proved from these sources
 .SECONDEXPANSION:
@@ -26,36 +26,36 @@ bin/chaosd: $$(if $$(shell tools/stamp check bin/chaosd 2>&1),unstamped)
 	cp crates/chaosd/out/chaosd.stamp $@.stamp
 	cp crates/chaosd/out/chaosd $@
 
-demo: ## shows a FILE session between two hosts in one process: without proof, in a minute, where bin/chaosd isn't proved from these sources
+demo: ## show a FILE session between two hosts in one process; without proof, in a minute, unless bin/chaosd is proved from these sources
 	@RT=$(RT) tools/demo
 
-test: ## runs all tests, without proof, in some minutes: NAME=.. a crate of tests, a file or class of tests/, a word of a name
+test: ## run all tests without proof, in some minutes; NAME=.. is a crate of tests, a file or class of tests/, or a word of a name
 	@RT=$(RT) tools/test $(NAME)
 
-check: ## the gate: claims, every proof from nothing, wrong bodies, tests, and the program as a user meets it
+check: ## run the gate: claims, every proof from nothing, mutants, tests, and the program as a user meets it
 	@RT=$(RT) tools/gate
 
-fmt: ## lays out all .rt, .antt and .rt.in files
+fmt: ## format all .rt, .antt and .rt.in files
 	@RT=$(RT) tools/fmt
 
-fmt-check: ## names the files that aren't laid out
+fmt-check: ## name the files that aren't formatted
 	@RT=$(RT) tools/fmt --check
 
-lint: ## looks over documents, links, scripts and tracked files, in seconds
+lint: ## check documents, links, scripts and tracked files, in seconds
 	@tools/lint
 
-wrong-bodies: ## tries each wrong body of wrong-bodies/, of which the gate tries those that a change bears on: for before a release, and for a new kit
+wrong-bodies: ## try every mutant of wrong-bodies/, before a release and with a new kit; the gate tries only those that a change affects
 	@RT=$(RT) tools/wrong-bodies
 
-dialogues: ## random dialogues between two hosts, a million packets from a seed of the clock's; SEED=.. PACKETS=..
+dialogues: ## play random dialogues between two hosts, a million packets from a seed of the clock; SEED=.. PACKETS=..
 	@RT=$(RT) tools/checked random_dialogues
 	@$(DIALOGUES) $(SEED) $(PACKETS)
 
-pictures: ## draws the pictures of the documents again (python3)
+pictures: ## draw the pictures of the documents again (python3)
 	@tools/ladder --pictures docs/pictures
 	@tools/layers > docs/pictures/layers.svg.new && mv docs/pictures/layers.svg.new docs/pictures/layers.svg
 
-bench: bin/chaosd ## times everything beside the same in plain Rust and writes docs/SPEED.md; bench-show, bench-lab and so on: one alone
+bench: bin/chaosd ## time everything beside the same work in plain Rust, and write docs/SPEED.md; bench-show, bench-lab and so on run one bench
 	@RT=$(RT) python3 bench/speed.py
 
 $(PROGRAM_BENCHES:%=bench-%): bench-%: bin/chaosd
@@ -64,11 +64,11 @@ $(PROGRAM_BENCHES:%=bench-%): bench-%: bin/chaosd
 $(BENCHES:%=bench-%): bench-%:
 	@RT=$(RT) python3 bench/beside.py $*
 
-dist: $(PROGRAM) ## packs the program, its manual page, documents, examples, dissector and licences into a tar file in out/, whose name says where it isn't proved
+dist: $(PROGRAM) ## pack the program, its manual page, documents, examples, dissector and licences into a tar file in out/; the file's name says if the program isn't proved
 	@tools/dist $(PROGRAM) out
 
 # systemd reads units below /usr/local and /usr; the one that is installed names the program where it was put
-install: $(PROGRAM) ## puts the program, its stamp, its manual page, the dissector and the unit for systemd below PREFIX, /usr/local
+install: $(PROGRAM) ## install the program, its stamp, its manual page, the dissector and the unit for systemd below PREFIX, by default /usr/local
 	install -d "$(DESTDIR)$(PREFIX)/bin" "$(DESTDIR)$(PREFIX)/share/man/man1" "$(DESTDIR)$(PREFIX)/share/chaosd" "$(DESTDIR)$(PREFIX)/lib/systemd/system"
 	install -m 755 $(PROGRAM) "$(DESTDIR)$(PREFIX)/bin/chaosd"
 	if tools/stamp print $(PROGRAM) > /dev/null; then install -m 644 $(PROGRAM).stamp "$(DESTDIR)$(PREFIX)/share/chaosd/chaosd.stamp"; else rm -f "$(DESTDIR)$(PREFIX)/share/chaosd/chaosd.stamp"; fi
@@ -77,10 +77,10 @@ install: $(PROGRAM) ## puts the program, its stamp, its manual page, the dissect
 	install -m 644 examples/chaosd.service "$(DESTDIR)$(PREFIX)/lib/systemd/system/chaosd.service"
 	sed -i 's|/usr/local/bin/chaosd|$(PREFIX)/bin/chaosd|' "$(DESTDIR)$(PREFIX)/lib/systemd/system/chaosd.service"
 
-uninstall: ## takes away what `make install` with the same PREFIX put there
+uninstall: ## remove what `make install` with the same PREFIX installed
 	rm -f "$(DESTDIR)$(PREFIX)/bin/chaosd" "$(DESTDIR)$(PREFIX)/share/man/man1/chaosd.1"
 	rm -f "$(DESTDIR)$(PREFIX)/lib/systemd/system/chaosd.service" "$(DESTDIR)$(PREFIX)/share/chaosd/chaosnet.lua" "$(DESTDIR)$(PREFIX)/share/chaosd/chaosd.stamp"
 	test ! -d "$(DESTDIR)$(PREFIX)/share/chaosd" || rmdir --ignore-fail-on-non-empty "$(DESTDIR)$(PREFIX)/share/chaosd"
 
-clean: ## takes away all that was built
+clean: ## remove all that was built
 	rm -rf bin out crates/*/out
