@@ -2,8 +2,9 @@
 use crate::number::PktNum;
 use crate::opcode::Opcode;
 
-/// The header of a packet that no host forwarded: all of it but the number of data bytes, which they tell (AI Memo 628, on the
-/// packet header). Who sends makes a packet of this and of data that are lent, see [`Outbox::put_lent`](crate::Outbox::put_lent).
+/// The header of a packet that no host forwarded, without the number of data bytes, which follows
+/// from the data (AI Memo 628, on the packet header). A sender makes a packet of a header and of
+/// lent data: see [`Outbox::put_lent`](crate::Outbox::put_lent).
 #[derive(Clone, Copy, Debug, PartialEq, Eq)]
 pub struct Header {
     pub op: Opcode,

@@ -7,7 +7,8 @@ use crate::opcode::Opcode;
 use arrayvec::ArrayVec;
 use std::marker::Model;
 
-/// A controlled packet without its header: its opcode and its data. Its number is where it stands in its direction.
+/// A controlled packet without its header: its opcode and its data. Its number follows from its
+/// place in its direction.
 #[derive(Clone, Debug, PartialEq, Eq, Drop)]
 pub struct Item {
     pub op: Opcode,
@@ -25,9 +26,10 @@ impl Model for Item {
     ghost inverse = { λ v. record { op = v.op; body = record { items = v.body } } };
 }
 
-/// Lies in the places that hold no item yet: opcode 0, and no data.
+/// Lies in the places that hold no item yet.
 impl Default for Item {
     fn default() -> Self
+        // The item that stands for none has opcode 0 and no data.
         ensures { result ≡ blank_item }
     {
         Item::new(Opcode(0), &[])
@@ -38,6 +40,7 @@ impl Item {
     /// An item with a copy of these bytes.
     pub fn new(op: Opcode, bytes: &[u8]) -> Self
         requires { length bytes.now ≤ MAX_DATA }
+        // The item has this opcode and exactly these bytes.
         ensures { result ≡ record { op = op; body = bytes.now } }
     {
         Item {
@@ -46,18 +49,21 @@ impl Item {
         }
     }
 
-    /// Makes it an item with a copy of these bytes, which are written over those that it had. Where those were more, zeros are
-    /// written over the rest of them, and over no others.
+    /// Makes the item another one, with a copy of these bytes. The bytes are written over the old
+    /// ones. If the old ones were more, zeros are written over the rest of them, and over nothing
+    /// else.
     pub fn overwrite(&mut self, op: Opcode, bytes: &[u8])
         requires { length bytes.now ≤ MAX_DATA }
+        // The item has this opcode and exactly these bytes, whatever it was before.
         ensures { self.new ≡ record { op = op; body = bytes.now } }
     {
         self.op = op;
         overwrite_body(&mut self.body, bytes);
     }
 
-    /// The data bytes, lent.
+    /// The item's data.
     pub fn bytes(&self) -> &[u8]
+        // The bytes of the item are lent. There are at most 488.
         ensures value { result.now ≡ self.now.body }
         ensures fits { length result.now ≤ MAX_DATA }
     {
@@ -68,6 +74,7 @@ impl Item {
 /// A packet's data with a copy of these bytes. It takes no memory.
 pub fn body_of(bytes: &[u8]) -> ArrayVec<u8, MAX_DATA>
     requires { length bytes.now ≤ MAX_DATA }
+    // The bytes, at most 488, are copied whole.
     ensures { result.items ≡ bytes.now }
 {
     let mut body = ArrayVec::new();

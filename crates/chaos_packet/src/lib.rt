@@ -1,7 +1,8 @@
-//! Chaosnet packets: their words, their header, their opcodes and their numbers (AI Memo 628, on packets), a queue of
-//! them, and the ring of places that it stands on.
+//! Chaosnet packets: their words, their header, their opcodes and their numbers (AI Memo 628, on
+//! packets), a queue of packets, and the ring of places that the queue stands on.
 //!
-//! Values and their spelling alone: no sockets, no clock, and no allocation but that of `Ring::new`.
+//! The crate has values and their spelling alone: no sockets, no clock, and no allocation except
+//! that of `Ring::new`.
 #![tactic(auto)]
 
 mod fault;

@@ -16,8 +16,12 @@ pub const MAX_FORWARDS: u8 = 15;
 
 /// The limits as numerals.
 pub fn law_limits()
+    // A header has 8 words.
     ensures header { HEADER_WORDS ≡ 8 }
+    // A packet has at most 488 data bytes.
     ensures data { MAX_DATA ≡ 488 }
+    // A packet has at most 252 words.
     ensures words { MAX_WORDS ≡ 252 }
+    // A packet is forwarded at most 15 times.
     ensures forwards { MAX_FORWARDS ≡ 15 }
 {}

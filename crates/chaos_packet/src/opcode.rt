@@ -6,7 +6,8 @@ use std::marker::Model;
 
 /// An operation code (AI Memo 628, on packets). A contract sees the number.
 ///
-/// Every number is decoded; those that [`Opcode::name`] gives no name stand for nothing that this host knows.
+/// Every number is decoded. A number to which [`Opcode::name`] gives no name stands for nothing
+/// that this host knows.
 #[derive(Clone, Copy, Debug, PartialEq, Eq)]
 pub struct Opcode(pub u8);
 
@@ -18,7 +19,7 @@ impl Model for Opcode {
     ghost inverse = { λ n. record { 0 = n } };
 }
 
-/// The kinds of opcode that the protocol tells apart.
+/// The kinds of opcode that the protocol distinguishes.
 #[derive(Clone, Copy, Debug, PartialEq, Eq)]
 pub enum Kind {
     /// A request for a connection.
@@ -52,6 +53,7 @@ pub enum Kind {
 impl Kind {
     /// Whether such packets ask for a connection.
     pub fn is_rfc(self) -> bool
+        // The answer is whether the kind is that of an RFC.
         ensures { result ≡ is_rfc self }
     {
         matches!(self, Kind::Rfc)
@@ -83,8 +85,9 @@ impl Opcode {
     /// The usual opcode of 8-bit data.
     pub const DATA: Opcode = Opcode(0o200);
 
-    /// Which kind of packet the opcode stands for.
+    /// The kind of packet that the opcode stands for.
     pub fn kind(self) -> Kind
+        // The protocol gives the opcode this kind, or the kind is `Other`.
         ensures { result ≡ kind_of self }
     {
         match self.0 {
@@ -104,9 +107,9 @@ impl Opcode {
         }
     }
 
-    /// The name that reports show, where the opcode has one: the memo's, `DAT` for 8-bit data and `DWD` for 16-bit
-    /// data.
+    /// The memo's name, or `DAT` for 8-bit data and `DWD` for 16-bit data.
     pub fn name(self) -> Option<&'static str>
+        // Reports show this name of the opcode, where the opcode has one.
         ensures { option_map (λ s. s.now) result ≡ opcode_name self }
     {
         let name = match self.kind() {
@@ -128,8 +131,10 @@ impl Opcode {
         Some(name)
     }
 
-    /// Whether such packets are numbered, delivered in order, and sent again until they are receipted.
+    /// Whether such packets are numbered, delivered in order, and sent again until they are
+    /// receipted.
     pub fn is_controlled(self) -> bool
+        // The controlled packets are RFC, OPN, EOF and data.
         ensures { result ≡ is_controlled self }
     {
         matches!(self.0, 0o1 | 0o2 | 0o14) || self.is_data()
@@ -137,6 +142,7 @@ impl Opcode {
 
     /// Whether such packets carry the user's data, 8-bit or 16-bit.
     pub fn is_data(self) -> bool
+        // The data opcodes are those from octal 200 on.
         ensures { result ≡ is_data self }
     {
         self.0 >= 0o200

@@ -13,8 +13,8 @@ use crate::request::{arguments_in, contact_in};
 use arrayvec::ArrayVec;
 use std::marker::Model;
 
-/// A packet: its header, and at most [`MAX_DATA`] bytes of data (AI Memo 628, on packets). A contract sees a plain record,
-/// with the data as a list of bytes.
+/// A packet: its header, and at most [`MAX_DATA`] bytes of data (AI Memo 628, on packets). A
+/// contract sees a plain record, with the data as a list of bytes.
 ///
 /// As words, each of 16 bits:
 ///
@@ -38,7 +38,8 @@ use std::marker::Model;
 #[derive(Clone, Debug, PartialEq, Eq, Drop)]
 pub struct Packet {
     pub op: Opcode,
-    /// How often the packet was forwarded, at most [`MAX_FORWARDS`](crate::MAX_FORWARDS) times: the type keeps it.
+    /// How often the packet was forwarded, at most [`MAX_FORWARDS`](crate::MAX_FORWARDS) times: the
+    /// type keeps it.
     pub fwd: u8,
     /// The destination's address, subnet in the high half and host in the low half.
     pub dst: u16,
@@ -90,9 +91,10 @@ impl Model for Packet {
     } };
 }
 
-/// Stands in the places of an array that hold no packet yet: zeros, and no data.
+/// Stands in the places of an array that hold no packet yet.
 impl Default for Packet {
     fn default() -> Self
+        // The packet that stands for none has zeros and no data.
         ensures { result ≡ blank }
     {
         Packet {
@@ -110,8 +112,9 @@ impl Default for Packet {
 }
 
 impl Packet {
-    /// A copy of the packet, data and all. It takes no memory, so it can't fail.
+    /// A copy of the packet with its data. It takes no memory, so it can't fail.
     pub fn copy(&self) -> Self
+        // The packet is copied whole.
         ensures { result ≡ self.now }
     {
         Packet {
@@ -127,7 +130,8 @@ impl Packet {
         }
     }
 
-    /// Makes it the packet with this header and these data, which no host forwarded: the data are written over those that it had.
+    /// Makes it the packet with this header and these data, which no host forwarded. The data are
+    /// written over the old data.
     pub(crate) fn overwrite(&mut self, header: Header, bytes: &[u8])
         requires { length bytes.now ≤ MAX_DATA }
         ensures { self.new ≡ packet_of header bytes.now }
@@ -143,16 +147,18 @@ impl Packet {
         overwrite_body(&mut self.body, bytes);
     }
 
-    /// The data bytes, lent.
+    /// The packet's data.
     pub fn bytes(&self) -> &[u8]
+        // The data bytes of the packet are lent. There are at most 488.
         ensures value { result.now ≡ self.now.body }
         ensures fits { length result.now ≤ MAX_DATA }
     {
         self.body.as_slice()
     }
 
-    /// The words of the header, with a zero free half.
+    /// The header as words, with a zero free half.
     pub fn header(&self) -> [u16; HEADER_WORDS]
+        // These words are the packet's header.
         ensures words { result ≡ header_of self.now }
     {
         [
@@ -167,24 +173,26 @@ impl Packet {
         ]
     }
 
-    /// The contact name that the data of an RFC begins with: the bytes before the first space, lent.
+    /// The contact name in the data of an RFC: the bytes before the first space, lent.
     pub fn contact(&self) -> &[u8]
+        // The contact of a packet is the contact in its data.
         ensures { result.now ≡ contact_of self.now }
     {
         contact_in(self.bytes())
     }
 
-    /// The arguments that follow the contact name of an RFC: the bytes after the first space, lent, and none where
-    /// there is no space.
+    /// The arguments behind the contact name of an RFC: the bytes after the first space, lent.
     pub fn arguments(&self) -> &[u8]
+        // The arguments of a packet are the arguments in its data.
         ensures { result.now ≡ arguments_of self.now }
     {
         arguments_in(self.bytes())
     }
 
-    /// The receipt and the window that an OPN or STS tells, where it has four data bytes or more; those past the
-    /// fourth are ignored.
+    /// The receipt and the window that an OPN or STS carries.
     pub fn status(&self) -> Option<(PktNum, u16)>
+        // An OPN or STS with four data bytes or more has a receipt and a window. Data bytes past
+        // the fourth are ignored. Other packets have none.
         ensures { result ≡ status_of self.now }
     {
         match self.op.kind() {

@@ -11,22 +11,28 @@ use crate::opcode::Opcode;
 use crate::packet::Packet;
 use arrayvec::ArrayVec;
 
-/// The packet at the front of the words, and how many of them it takes. Words past those are not looked at.
+/// The packet at the front of the words, and how many words it takes. Words behind the packet are
+/// not looked at.
 ///
-/// The low half of word 0 is ignored, and with an odd count so is the high half of the last word. The cost is that of
-/// the data bytes, which are copied by whole words; nothing is allocated.
+/// The low half of word 0 is ignored. With an odd count the high half of the last word is ignored
+/// too. The cost is that of copying the data bytes, by whole words. Nothing is allocated.
 ///
 /// # Errors
-/// The first fault, in the order of [`PacketFault`]: read off the number of words and word 1 alone.
+/// The first fault, in the order of [`PacketFault`]. The number of words and word 1 alone decide
+/// it.
 pub fn from_words(words: &[u16]) -> Result<(Packet, usize), PacketFault>
-    // The words that are taken spell the packet.
-    ensures spelled { IfOk result (λ r. (r.1 ≤ length words.now) × Spells r.0 (take r.1 words.now)) }
+    // The words that are taken spell the packet, and there are no more of them than there are
+    // words.
+    ensures spelled { IfOk result
+        (λ r. (r.1 ≤ length words.now) × Spells r.0 (take r.1 words.now)) }
 
-    // Whatever the first words spell is what is read.
-    ensures only { (p : PacketView) (n : ℕ) → n ≤ length words.now → Spells p (take n words.now) → result ≡ Ok (p, n) }
+    // Whatever packet the first words spell is read.
+    ensures only { (p : PacketView) (n : ℕ) → n ≤ length words.now → Spells p (take n words.now) →
+        result ≡ Ok (p, n) }
 
     // A refusal is the first fault, and there is none where a packet is read.
-    ensures fault { MatchResult result (λ _. words_fault words.now ≡ None) (λ f. words_fault words.now ≡ Some f) }
+    ensures fault { MatchResult result (λ _. words_fault words.now ≡ None)
+        (λ f. words_fault words.now ≡ Some f) }
 
     // For callers that compute: the packet and its length are functions of the words.
     ensures packet { IfOk result (λ r. r.0 ≡ packet_at words.now) }
@@ -71,7 +77,8 @@ fn data_of(words: &[u16], count: usize) -> ArrayVec<u8, MAX_DATA>
     body_of(&bytes[..count])
 }
 
-/// The law that words are read in one way at most: no two packets are spelled by the same words.
+/// The law that words are read in one way at most.
 pub fn law_spells()
+    // Words spell at most one packet.
     ensures { AtMostOnePacket }
 {}

@@ -2,8 +2,9 @@
 ghost use Rattle.std.specs.Prelude.{◌≡◌, ◌==◌, position};
 ghost use Rattle.chaos_packet.specs.Request.{contact_in, arguments_in};
 
-/// The contact name that the data of an RFC begin with: the bytes before the first space, lent.
+/// The contact name in the data of an RFC, lent.
 pub fn contact_in(bytes: &[u8]) -> &[u8]
+    // The contact is the bytes before the first space. Without a space it is all bytes.
     ensures { result.now ≡ contact_in bytes.now }
 {
     match first_space(bytes) {
@@ -12,9 +13,9 @@ pub fn contact_in(bytes: &[u8]) -> &[u8]
     }
 }
 
-/// The arguments that follow the contact name in the data of an RFC: the bytes after the first space, lent, and none where
-/// there is no space.
+/// The arguments behind the contact name in the data of an RFC, lent.
 pub fn arguments_in(bytes: &[u8]) -> &[u8]
+    // The arguments are the bytes after the first space. Without a space there are none.
     ensures { result.now ≡ arguments_in bytes.now }
 {
     match first_space(bytes) {

@@ -6,7 +6,7 @@ use crate::limits::{HEADER_WORDS, MAX_DATA, MAX_WORDS};
 use crate::packet::Packet;
 use arrayvec::ArrayVec;
 
-/// The words that spell the packet, with zero free halves. Nothing is allocated.
+/// The words of the packet. Nothing is allocated.
 pub fn to_words(packet: &Packet) -> ArrayVec<u16, MAX_WORDS>
     // The words spell the packet.
     ensures spelled { Spells packet.now result.items }
@@ -24,19 +24,24 @@ pub fn to_words(packet: &Packet) -> ArrayVec<u16, MAX_WORDS>
     spelling
 }
 
-/// Writes the words of [`to_words`] to the front of a buffer of the caller's, and says how many they are. The data
-/// bytes are copied by whole words.
+/// Writes the words of [`to_words`] to the front of the caller's buffer, and returns how many there
+/// are. The data bytes are copied by whole words.
 pub fn write_words(packet: &Packet, words: &mut [u16; MAX_WORDS]) -> usize
+    // The packet needs at most 252 words.
     ensures count { result ≤ MAX_WORDS }
+    // The words that are written spell the packet.
     ensures spelled { Spells packet.now (take result words.new) }
+    // Their free halves are zero.
     ensures zero { HasZeroHalves (take result words.new) }
+    // For callers that compute: these words are a function of the packet.
     ensures exact { take result words.new ≡ spelling_of packet.now }
 {
     words[..HEADER_WORDS].copy_from_slice(&packet.header());
     pack(packet.bytes(), words)
 }
 
-/// Packs the bytes behind a header, two to a word, the first in the low half, and says where they end.
+/// Packs the bytes behind a header, two to a word, the first in the low half, and returns where
+/// they end.
 fn pack(bytes: &[u8], words: &mut [u16; MAX_WORDS]) -> usize
     requires { length bytes.now ≤ MAX_DATA }
     ensures count { result ≡ HEADER_WORDS + words_for (length bytes.now) }

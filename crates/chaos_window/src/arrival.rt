@@ -7,6 +7,6 @@ pub enum Arrived {
     Took,
     /// It was read already, or is held already.
     Duplicate,
-    /// It is past the window: its sender has to send it again.
+    /// It is past the window, so its sender has to send it again.
     Outside,
 }

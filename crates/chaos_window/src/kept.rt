@@ -6,10 +6,11 @@ use chaos_packet::{Item, MAX_DATA, Opcode, Ring};
 use std::alloc::{AllocError, Global};
 use std::marker::Model;
 
-/// A queue of items, with room for a fixed number of them. A contract sees the items, the oldest first, and that number.
+/// A queue of items, with room for a fixed number of items. A contract sees the items, the oldest
+/// first, and that number.
 ///
-/// `new` takes the memory for all of them, and no later call takes any. Each item lies in a place of its own, which is kept when the
-/// item goes; no call moves an item.
+/// `new` takes the memory for all of them, and no later call takes any. Each item lies in a place
+/// of its own, which stays when the item goes. No call moves an item.
 #[derive(Drop)]
 pub struct Kept {
     held: Ring<Item>,
@@ -39,7 +40,9 @@ impl Kept {
     pub fn add(&mut self, op: Opcode, bytes: &[u8])
         requires room { length self.old.items < self.old.cap }
         requires fits { length bytes.now ≤ MAX_DATA }
-        ensures { self.new ≡ record self.old { items = self.old.items ++ (record { op = op; body = bytes.now }) ∷ [] } }
+        ensures { self.new ≡ record self.old {
+            items = self.old.items ++ (record { op = op; body = bytes.now }) ∷ []
+        } }
     {
         if let Some(mut place) = self.held.take_spare() {
             place.value.overwrite(op, bytes);

@@ -1,5 +1,5 @@
-//! The two windows of a connection: what an end sent and may have to send again, and what an end holds until its
-//! user reads it (AI Memo 628, on connections).
+//! The two windows of a connection: what an end sent and may have to send again, and what an end
+//! holds until its user reads it (AI Memo 628, on connections).
 //!
 //! Rings and numbers alone: no sockets, no clock, and no allocation after `new`.
 #![tactic(auto)]

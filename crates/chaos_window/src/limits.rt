@@ -7,5 +7,6 @@ pub const MAX_WINDOW: u16 = 64;
 
 /// The limit as a numeral.
 pub fn law_limits()
+    // The greatest window is 64 items.
     ensures { MAX_WINDOW ≡ 64 }
 {}

@@ -10,8 +10,8 @@ use chaos_packet::{Item, MAX_DATA, Opcode, PktNum};
 use std::alloc::{AllocError, Global};
 use std::marker::Model;
 
-/// The receive window of a connection (AI Memo 628, on connections): the items that arrived and were not read, each at
-/// its offset past the number last read.
+/// The receive window of a connection (AI Memo 628, on connections): the items that arrived and
+/// were not read, each at its offset past the number last read.
 ///
 /// ```text
 ///    number last read
@@ -21,11 +21,11 @@ use std::marker::Model;
 ///       next number
 /// ```
 ///
-/// The window is the cap, until its end announces another, which is at most that. What is held past a window that was made
-/// smaller stays held.
+/// The window is the cap until its end announces another window, which is at most the cap. Items
+/// that are held past a window that was made smaller stay held.
 ///
-/// A contract sees the number and a slot for each offset. `new` takes the memory for an item in each slot, and no later
-/// call takes any.
+/// A contract sees the number and a slot for each offset. `new` takes the memory for an item in
+/// each slot, and no later call takes any.
 #[derive(Drop)]
 pub struct RecvWindow {
     /// The number last read.
@@ -47,9 +47,10 @@ impl Model for RecvWindow {
 }
 
 impl RecvWindow {
-    /// A clear window, which takes the next `cap` numbers.
+    /// A clear window, with room for `cap` items.
     pub fn new(alloc: Global, cap: u16) -> Result<Self, AllocError>
         requires { (1 ≤ cap) × (cap ≤ MAX_WINDOW) }
+        // A new receive window has last read 0, holds nothing, and announces its cap.
         ensures { IfOk result (λ window. window ≡ clear_receive cap) }
     {
         let slots = Slots::new(alloc, cap)?;
@@ -60,19 +61,22 @@ impl RecvWindow {
         })
     }
 
-    /// Makes `num` the number last read, in a clear window.
+    /// Starts a clear window: the next item is the one after `num`.
     pub fn start(&mut self, num: PktNum)
         requires { self.old ≡ clear_receive self.old.cap }
+        // The given number counts as the last that was read.
         ensures { self.new ≡ started_receive self.old.cap num }
     {
         self.read = num;
     }
 
-    /// Takes an item that came with a number, and says what became of it.
-    ///
-    /// One slot is written.
+    /// Takes an item that came with a number, and returns what became of it. One slot is written.
     pub fn arrive(&mut self, num: PktNum, item: Item) -> Arrived
+        // An item that is held already is `Duplicate`, also past a window that was made smaller.
+        // Otherwise it is `Took`, `Outside` or `Duplicate` exactly by its distance and the
+        // announced window.
         ensures answer { result ≡ arrival_of self.old num }
+        // An item that is taken is held at its offset. Nothing else changes.
         ensures held { self.new ≡ after_arrival self.old num item }
     {
         let arrived = arrival(self.read, self.window, &self.slots, num);
@@ -82,14 +86,16 @@ impl RecvWindow {
         arrived
     }
 
-    /// Takes a copy of an item that came with a number and is lent: its opcode, and at most [`MAX_DATA`] bytes. It says
-    /// what became of it, as `arrive` does.
-    ///
-    /// The bytes are copied where the item is taken, and not before.
+    /// Takes a copy of a lent item that came with a number: its opcode, and at most [`MAX_DATA`]
+    /// bytes. The bytes are copied only where the item is taken.
     pub fn arrive_lent(&mut self, num: PktNum, op: Opcode, bytes: &[u8]) -> Arrived
         requires { length bytes.now ≤ MAX_DATA }
+        // The answer is that of `arrive` for an item with these bytes.
         ensures answer { result ≡ arrival_of self.old num }
-        ensures held { self.new ≡ after_arrival self.old num (record { op = op; body = bytes.now }) }
+        // An item that is taken is held at its offset, with exactly these bytes. Nothing else
+        // changes.
+        ensures held { self.new
+            ≡ after_arrival self.old num (record { op = op; body = bytes.now }) }
     {
         let arrived = arrival(self.read, self.window, &self.slots, num);
         if arrived == Arrived::Took {
@@ -98,32 +104,38 @@ impl RecvWindow {
         arrived
     }
 
-    /// Makes this the window that its end announces. What is held past it stays.
+    /// Makes this the window that its end announces.
     pub fn set_window(&mut self, window: u16)
         requires { window ≤ self.old.cap }
+        // The end announces another window, at most the cap. Nothing else changes, so what is held
+        // past the window stays.
         ensures { self.new ≡ after_announcement self.old window }
     {
         self.window = window;
     }
 
-    /// The window that its end announces: how far past the number last read an item is taken.
+    /// How far past the number last read an item is taken.
     pub fn window(&self) -> u16
+        // The end announces this window, at most the cap.
         ensures value { result ≡ self.now.window }
         ensures fits { result ≤ self.now.cap }
     {
         self.window
     }
 
-    /// Lends the next item, where it is held.
+    /// Lends the next item without reading it.
     pub fn front(&self) -> Option<&Item>
+        // The next item is lent exactly where it is held.
         ensures { option_copied result ≡ item_at self.now 1 }
     {
         self.slots.first()
     }
 
-    /// Reads the next item, where it is held, and hands it out.
+    /// Reads the next item.
     pub fn advance(&mut self) -> Option<Item>
+        // The next item is handed out exactly where it is held.
         ensures item { result ≡ item_at self.old 1 }
+        // If it was held, the number last read moves on by one, and every offset is one lower.
         ensures rest { self.new ≡ after_advance self.old }
     {
         let item = self.slots.take_first()?;
@@ -131,9 +143,11 @@ impl RecvWindow {
         Some(item)
     }
 
-    /// Reads the next item, where it is held, and drops it where it lies. It says whether it was held.
+    /// Reads the next item, and drops it where it lies.
     pub fn discard(&mut self) -> bool
+        // The answer is whether the next item was held.
         ensures was_held { result ≡ is_some (item_at self.old 1) }
+        // If it was held, the number last read moves on by one, and every offset is one lower.
         ensures rest { self.new ≡ after_advance self.old }
     {
         let was_held = self.slots.drop_first();
@@ -143,50 +157,54 @@ impl RecvWindow {
         was_held
     }
 
-    /// The receipt to send: the number up to which all arrived, with no gap after the number last read.
-    ///
-    /// At most a walk over the items before the first gap.
+    /// The receipt to send: all items up to this number arrived. The cost is at most a walk over
+    /// the items before the first gap.
     pub fn receipt(&self) -> PktNum
+        // The receipt is the end of the unbroken front, which begins after the number last read.
         ensures { result ≡ receipt_of self.now }
     {
         self.read.plus(self.slots.unbroken())
     }
 
-    /// The number last read.
+    /// How far the user has read.
     pub fn read_num(&self) -> PktNum
+        // This is the number last read.
         ensures { result ≡ self.now.read }
     {
         self.read
     }
 
-    /// The most that the window may be: how many items it has room for.
+    /// The greatest window that the end may announce.
     pub fn cap(&self) -> u16
+        // This is the greatest window.
         ensures value { result ≡ self.now.cap }
-        // What a caller may know of any receive window.
+        // In every receive window the cap is from 1 to 64, there are as many places for items, and
+        // the end announces no more.
         ensures sound { IsReceiveWindow self.now }
     {
         self.slots.cap()
     }
 
-    /// How many items are held.
-    ///
-    /// A walk over the window.
+    /// How many items are held. The cost is a walk over the window.
     pub fn held(&self) -> usize
+        // The answer is how many items are held, at most the cap and at most 64.
         ensures count { result ≡ held_count self.now }
         ensures fits { (result ≤ self.now.cap) × (result ≤ MAX_WINDOW) }
     {
         self.slots.count()
     }
 
-    /// Lends the item held at an offset past the number last read, the next one at 1.
+    /// Lends a held item by its offset past the number last read. The next item has offset 1.
     pub fn held_at(&self, offset: u16) -> Option<&Item>
+        // The item at the offset is lent exactly where one is held there.
         ensures { option_copied result ≡ item_at self.now offset }
     {
         self.slots.get(offset)
     }
 
-    /// Drops every item, and makes the window as new.
+    /// Drops every item, so that the window can be started again.
     pub fn clear(&mut self)
+        // A cleared window is as new: it holds nothing, and announces its cap.
         ensures { self.new ≡ clear_receive self.old.cap }
     {
         self.slots.clear();

@@ -15,8 +15,8 @@ use thiserror::Error;
 #[error("the window is full")]
 pub struct Full;
 
-/// The send window of a connection (AI Memo 628, on connections): the items that may have to be sent again, the oldest
-/// first, and how far the other end has receipted and acknowledged them.
+/// The send window of a connection (AI Memo 628, on connections): the items that may have to be
+/// sent again, the oldest first, and how far the other end has receipted and acknowledged them.
 ///
 /// ```text
 ///      acknowledged        receipted              sent
@@ -26,8 +26,8 @@ pub struct Full;
 ///           +------------- outstanding ------------+
 /// ```
 ///
-/// A contract sees the numbers, the window and the list of the items kept. `new` takes the memory for as many items as
-/// the cap, and no later call takes any.
+/// A contract sees the numbers, the window and the list of the items kept. `new` takes the memory
+/// for as many items as the cap, and no later call takes any.
 #[derive(Drop)]
 pub struct SendWindow {
     /// The greatest window.
@@ -52,7 +52,8 @@ impl Model for SendWindow {
 
     ghost view = { λ w. send_view w.cap w.sent w.receipted w.acknowledged w.window w.kept.items };
 
-    ghost invariant = { λ w. IsSendWindow (send_view w.cap w.sent w.receipted w.acknowledged w.window w.kept.items)
+    ghost invariant = { λ w.
+        IsSendWindow (send_view w.cap w.sent w.receipted w.acknowledged w.window w.kept.items)
         × (w.kept.cap ≡ w.cap) };
 }
 
@@ -60,6 +61,7 @@ impl SendWindow {
     /// A clear window, which keeps at most `cap` items.
     pub fn new(alloc: Global, cap: u16) -> Result<Self, AllocError>
         requires { (1 ≤ cap) × (cap ≤ MAX_WINDOW) }
+        // A new send window keeps nothing, has last sent 0, and allows its cap.
         ensures { IfOk result (λ window. window ≡ clear_send cap) }
     {
         let kept = Kept::new(alloc, cap as usize)?;
@@ -73,10 +75,12 @@ impl SendWindow {
         })
     }
 
-    /// Makes `num` the number of the next item, in a clear window.
+    /// Starts a clear window.
     pub fn start(&mut self, num: PktNum)
         requires { self.old ≡ clear_send self.old.cap }
+        // The next item gets the given number.
         ensures started { self.new ≡ started_send self.old.cap num }
+        // There is room for this item.
         ensures room { outstanding_of self.new < self.new.window }
     {
         let before = PktNum(num.0.wrapping_sub(1));
@@ -85,15 +89,18 @@ impl SendWindow {
         self.acknowledged = before;
     }
 
-    /// Sends an item of at most [`MAX_DATA`] bytes, and answers its number. It is `Full` exactly where as many items are
-    /// outstanding as the window allows, and then nothing changes.
-    ///
-    /// The bytes are copied where the item is taken, and not before.
+    /// Sends an item of at most [`MAX_DATA`] bytes, and returns its number. The bytes are copied
+    /// only where the item is taken.
     pub fn push(&mut self, op: Opcode, body: &[u8]) -> Result<PktNum, Full>
         requires { length body.now ≤ MAX_DATA }
+        // If fewer items are outstanding than the window allows, the item is kept and gets the next
+        // number.
         ensures sent { outstanding_of self.old < self.old.window
             → (result ≡ Ok (next_of self.old)) × (self.new ≡ after_push self.old op body.now) }
-        ensures full { self.old.window ≤ outstanding_of self.old → IsErr result × (self.new ≡ self.old) }
+        // If as many items are outstanding as the window allows, the push is `Full`, and changes
+        // nothing.
+        ensures full { self.old.window ≤ outstanding_of self.old →
+            IsErr result × (self.new ≡ self.old) }
     {
         if self.outstanding() >= self.window {
             return Err(Full);
@@ -103,41 +110,47 @@ impl SendWindow {
         Ok(self.sent)
     }
 
-    /// The number last sent.
+    /// The number of the newest item.
     pub fn last(&self) -> PktNum
+        // This is the number last sent.
         ensures { result ≡ self.now.sent }
     {
         self.sent
     }
 
-    /// The number last receipted. The item kept at index i has the number i + 1 further on.
+    /// How far the other end has receipted. The item kept at index i has the number that is i + 1
+    /// further on.
     pub fn receipted(&self) -> PktNum
+        // This is the number last receipted.
         ensures { result ≡ self.now.receipted }
     {
         self.receipted
     }
 
-    /// The window: how many items may be outstanding.
+    /// The window that the other end announced, cut to the cap.
     pub fn window(&self) -> u16
+        // The window is how many items may be outstanding.
         ensures { result ≡ self.now.window }
     {
         self.window
     }
 
-    /// The greatest window.
+    /// How many items may be outstanding at most.
     pub fn cap(&self) -> u16
+        // This is the greatest window.
         ensures value { result ≡ self.now.cap }
-        // What a caller may know of any send window.
+        // In every send window no more is kept than is outstanding, and no more is outstanding than
+        // the cap, which is from 1 to 64.
         ensures sound { IsSendWindow self.now }
     {
         self.cap
     }
 
-    /// Takes a receipt, which says that all up to `num` arrived. It counts where `num` lies between the present receipt
-    /// and the number last sent, both included.
-    ///
-    /// The items that it says arrived are dropped where they lie, and no other is moved.
+    /// Takes a receipt, which says that all items up to `num` arrived. They are dropped where they
+    /// lie, and no other item is moved.
     pub fn receipt(&mut self, num: PktNum)
+        // A receipt counts exactly if it lies between the present receipt and the number last sent,
+        // both included. It drops just the items up to it.
         ensures { self.new ≡ after_receipt self.old num }
     {
         let arrived = num.off(self.receipted);
@@ -147,11 +160,11 @@ impl SendWindow {
         }
     }
 
-    /// Takes an acknowledgement, which says that the other end's user read all up to `num`, so that they arrived too. It
-    /// counts where `num` lies between the present acknowledgement and the number last sent, both included.
-    ///
-    /// The items that it says arrived are dropped where they lie, and no other is moved.
+    /// Takes an acknowledgement, which says that the other end's user read all items up to `num`,
+    /// so that they arrived too. They are dropped where they lie, and no other item is moved.
     pub fn acknowledge(&mut self, num: PktNum)
+        // An acknowledgement counts exactly if it lies between the present acknowledgement and the
+        // number last sent, both included. Then it is taken as a receipt too.
         ensures { self.new ≡ after_acknowledgement self.old num }
     {
         if num.off(self.acknowledged) <= self.outstanding() {
@@ -161,15 +174,17 @@ impl SendWindow {
         }
     }
 
-    /// Takes the window that the other end announced, which may be 0, and cuts it to the cap.
+    /// Takes the window that the other end announced, which may be 0.
     pub fn set_window(&mut self, window: u16)
+        // The announced window is cut to the cap. Nothing else changes.
         ensures { self.new ≡ after_window self.old window }
     {
         self.window = window.min(self.cap);
     }
 
-    /// Lends the item kept at an index, the oldest at 0.
+    /// Lends a kept item by its index.
     pub fn kept(&self, index: usize) -> Option<&Item>
+        // The item at the index is lent, the oldest at 0, where there is one.
         ensures { option_copied result ≡ slice_get self.now.kept index }
     {
         self.kept.get(index)
@@ -177,22 +192,25 @@ impl SendWindow {
 
     /// How many items are sent and not acknowledged.
     pub fn outstanding(&self) -> u16
+        // The answer is how many items are outstanding, at most the cap.
         ensures count { result ≡ outstanding_of self.now }
         ensures fits { result ≤ self.now.cap }
     {
         self.sent.off(self.acknowledged)
     }
 
-    /// How many items are sent and not receipted, which is how many are kept.
+    /// How many items are sent and not receipted.
     pub fn unreceipted(&self) -> u16
+        // The answer is how many items are kept, at most the cap and at most 64.
         ensures count { result ≡ length self.now.kept }
         ensures fits { (result ≤ self.now.cap) × (result ≤ MAX_WINDOW) }
     {
         self.sent.off(self.receipted)
     }
 
-    /// Drops every item, and makes the window as new.
+    /// Drops every item, so that the window can be started again.
     pub fn clear(&mut self)
+        // A cleared send window is as a new one of its cap.
         ensures { self.new ≡ clear_send self.old.cap }
     {
         self.kept.clear();

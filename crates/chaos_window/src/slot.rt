@@ -8,8 +8,8 @@ use std::marker::Model;
 
 /// A slot: an item that arrived, or none. A contract sees the item, where there is one.
 ///
-/// The place for an item is taken when the slot is made. An item that is dropped is left lying there until the next one is
-/// written over it, so neither an empty item nor a second copy is ever written.
+/// The place for an item is taken when the slot is made. A dropped item is left lying there until
+/// the next item is written over it, so neither an empty item nor a second copy is ever written.
 #[derive(Drop)]
 pub struct Slot {
     /// Whether an item is held. If not, what lies in the place means nothing.
@@ -49,7 +49,7 @@ impl Slot {
         if self.held { Some(&*self.place) } else { None }
     }
 
-    /// Holds an item.
+    /// Holds this item, in place of what it held.
     pub fn put(&mut self, item: Item)
         ensures { self.new ≡ Some item }
     {
@@ -78,7 +78,7 @@ impl Slot {
         Some(Item::new(self.place.op, self.place.bytes()))
     }
 
-    /// Holds none.
+    /// Holds no item any more.
     pub fn empty(&mut self)
         ensures { self.new ≡ None }
     {

@@ -11,13 +11,15 @@ use circular_buffer::HeapCircularBuffer;
 use std::alloc::{AllocError, Global};
 use std::marker::Model;
 
-/// A number of slots, each with an item or none. A contract sees the slots, the first one at offset 1.
+/// A number of slots, each with an item or none. A contract sees the slots, the first one at offset
+/// 1.
 ///
-/// A ring that is always full: `new` takes the memory for an item in each slot, and no later call takes any. A slot that is
-/// read goes behind the others with its memory, so no item moves.
+/// A ring that is always full: `new` takes the memory for an item in each slot, and no later call
+/// takes any. A slot that is read goes behind the others with its memory, so no item moves.
 #[derive(Drop)]
 pub struct Slots {
-    /// Whether there is an item at offset 1: who asks that of many windows need not look at their rings.
+    /// Whether there is an item at offset 1. A caller that asks this of many windows need not look
+    /// at their rings.
     has_first: bool,
     ring: HeapCircularBuffer<Slot>,
 }
@@ -32,7 +34,8 @@ impl Model for Slots {
 
     ghost view = { λ s. s.ring.items };
 
-    ghost invariant = { λ s. (1 ≤ s.ring.capacity) × (s.ring.capacity ≤ MAX_WINDOW) × (length s.ring.items ≡ s.ring.capacity)
+    ghost invariant = { λ s. (1 ≤ s.ring.capacity) × (s.ring.capacity ≤ MAX_WINDOW)
+        × (length s.ring.items ≡ s.ring.capacity)
         × (s.has_first ≡ is_some (slot_at s.ring.items 1)) };
 }
 
@@ -94,7 +97,8 @@ impl Slots {
         self.has_first = has_first(&self.ring);
     }
 
-    /// Takes the item at offset 1 out, where there is one, and lowers the offsets of the others by one.
+    /// Takes the item at offset 1 out, where there is one, and lowers the offsets of the others by
+    /// one.
     pub fn take_first(&mut self) -> Option<Item>
         ensures item { result ≡ slot_at self.old 1 }
         ensures none { IfNone result (self.new ≡ self.old) }
@@ -110,8 +114,8 @@ impl Slots {
         item
     }
 
-    /// Drops the item at offset 1 where it lies, where there is one, and lowers the offsets of the others by one. It says
-    /// whether there was one.
+    /// Drops the item at offset 1 where it lies, where there is one, and lowers the offsets of the
+    /// others by one. The answer is whether there was one.
     pub fn drop_first(&mut self) -> bool
         ensures held { result ≡ is_some (slot_at self.old 1) }
         ensures slots { self.new ≡ (if result then lowered_slots self.old else self.old) }
@@ -183,7 +187,8 @@ fn has_first(slots: &HeapCircularBuffer<Slot>) -> bool
 fn fill_slot(slots: &mut HeapCircularBuffer<Slot>, index: usize, op: Opcode, bytes: &[u8])
     requires within { index < length slots.old.items }
     requires fits { length bytes.now ≤ MAX_DATA }
-    ensures items { slots.new.items ≡ slice_set slots.old.items index (Some (record { op = op; body = bytes.now })) }
+    ensures items { slots.new.items
+        ≡ slice_set slots.old.items index (Some (record { op = op; body = bytes.now })) }
     ensures capacity { slots.new.capacity ≡ slots.old.capacity }
 {
     if let Some(slot) = slots.get_mut(index) {
