@@ -18,7 +18,7 @@ pub enum Why {
     Stranger,
     /// An end in this state takes no packet with this opcode.
     BadOp,
-    /// It is to tell a status, and has fewer than four data bytes.
+    /// It lacks a status: it has fewer than four data bytes.
     BadStatus,
     /// It is an RFC, and not the one that the end took.
     OtherNumber,
@@ -37,15 +37,15 @@ pub enum Disposition {
     Outside,
     /// It opened the connection.
     Opened,
-    /// It told a status.
+    /// It carried a status.
     Status,
     /// It asked for the status.
     Probed,
     /// It is uncontrolled data, kept nowhere.
     Unc,
-    /// It answers the request, which is thereby ended.
+    /// It answers the request, which it ends.
     Answered,
-    /// It tells where to ask instead, and the request is ended.
+    /// It names where to ask instead, and the request is ended.
     Forwarded,
     /// The peer closed the connection, or refused the request.
     Closed,
@@ -56,8 +56,10 @@ pub enum Disposition {
 }
 
 impl Disposition {
-    /// What became of the packet, with a copy of it where it is handed out.
+    /// The answer of [`Conn::deliver`](crate::Conn::deliver) for this packet.
     pub fn with_packet(self, packet: &Packet) -> Delivered
+        // The answer is what became of the packet, with a copy of the packet where it is handed
+        // out.
         ensures { result ≡ with_packet self packet.now }
     {
         match self {
@@ -88,15 +90,15 @@ pub enum Delivered {
     Outside,
     /// It opened the connection.
     Opened,
-    /// It told a status.
+    /// It carried a status.
     Status,
     /// It asked for the status.
     Probed,
     /// It is uncontrolled data, handed out here and kept nowhere.
     Unc(Packet),
-    /// It answers the request, which is thereby ended.
+    /// It answers the request, which it ends.
     Answered(Packet),
-    /// It tells where to ask instead, and the request is ended.
+    /// It names where to ask instead, and the request is ended.
     Forwarded(Packet),
     /// The peer closed the connection, or refused the request.
     Closed(Packet),
@@ -117,7 +119,7 @@ pub enum ReadEnd {
     Ended(State),
 }
 
-/// What a read came to that hands nothing out.
+/// What became of a read that hands nothing out.
 #[derive(Clone, Copy, Debug, PartialEq, Eq)]
 pub enum ReadDone {
     /// The next item was read.

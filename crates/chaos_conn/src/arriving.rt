@@ -15,26 +15,35 @@ use chaos_packet::{Kind, MAX_DATA, Outbox, Packet, PktNum};
 use chaos_window::Arrived;
 
 impl Conn {
-    /// Takes a packet that came, and says what became of it. What it tells is taken, and an STS goes out where the
-    /// delivery table says so.
+    /// Takes a packet that came, and returns what became of it. Its acknowledgement and its status
+    /// count, and an STS goes out where the delivery table says so.
     ///
-    /// The checks, in this order, each with `Dropped`: `NotOpen` where the end isn't live; `Stranger` where an address
-    /// isn't the one of its end; an RFC has checks of its own; `Stranger` where an index isn't the one of its end; then
-    /// the row of the state and the opcode. A packet that is dropped changes nothing.
+    /// The checks have this order. A packet that fails a check is `Dropped`:
     ///
-    /// The data are copied once, into the window or into the answer, and not at all where the packet is dropped or its item
-    /// isn't taken.
+    /// 1. `NotOpen`: the end isn't live.
+    /// 2. `Stranger`: an address isn't the address of its end.
+    /// 3. An RFC has checks of its own.
+    /// 4. `Stranger`: an index isn't the index of its end.
+    /// 5. The row of the state and the opcode.
+    ///
+    /// The data are copied once, into the window or into the answer. They aren't copied if the
+    /// packet is dropped or its item isn't taken.
     pub fn deliver(&mut self, packet: &Packet, now: u64, out: &mut Outbox) -> Delivered
         requires { 0 < room_of out.old }
+        // A packet that arrives has the effect of its row of the delivery table. A packet that is
+        // dropped changes nothing.
         ensures { Does self.old (Deliver packet.now now) self.new out.old out.new (Came result) }
     {
         self.take(packet, now, out).with_packet(packet)
     }
 
-    /// Takes a packet as `deliver` does, and hands no packet out: the caller has it.
+    /// Takes a packet as [`Conn::deliver`] does, for a caller that keeps the packet.
     pub fn take(&mut self, packet: &Packet, now: u64, out: &mut Outbox) -> Disposition
         requires { 0 < room_of out.old }
-        ensures { Does self.old (Deliver packet.now now) self.new out.old out.new (Came (with_packet result packet.now)) }
+        // Together with the packet the answer is the answer of `deliver`. Everything else is the
+        // same.
+        ensures { Does self.old (Deliver packet.now now)
+            self.new out.old out.new (Came (with_packet result packet.now)) }
     {
         if !self.state.is_live() {
             return Disposition::Dropped(Why::NotOpen);
@@ -51,14 +60,15 @@ impl Conn {
         self.deliver_in_state(packet, now, out)
     }
 
-    /// Whether the packet is for the own address, from the peer's.
+    /// Whether the packet comes from the peer's address and goes to the own address.
     fn is_between_hosts(&self, packet: &Packet) -> bool
         ensures { result ≡ is_between_hosts self.now packet.now }
     {
         packet.dst == self.me.address && packet.src == self.peer
     }
 
-    /// Whether the packet is for the own index, from the peer's where that is known.
+    /// Whether the packet goes to the own index, and comes from the peer's index where that is
+    /// known.
     fn is_between_indices(&self, packet: &Packet) -> bool
         ensures { result ≡ is_between_indices self.now packet.now }
     {
@@ -79,10 +89,11 @@ impl Conn {
         }
     }
 
-    /// The table, by the state.
+    /// The delivery table, by the state.
     fn deliver_in_state(&mut self, packet: &Packet, now: u64, out: &mut Outbox) -> Disposition
         requires { 0 < room_of out.old }
-        ensures { Acts self.old (deliver_in self.old.state self.old packet.now now) self.new out.old out.new (with_packet result packet.now) }
+        ensures { Acts self.old (deliver_in self.old.state self.old packet.now now)
+            self.new out.old out.new (with_packet result packet.now) }
     {
         match self.state {
             State::RfcSent => self.deliver_asking(packet, now, out),
@@ -92,10 +103,11 @@ impl Conn {
         }
     }
 
-    /// The rows of RfcSent.
+    /// The rows of the table in RfcSent.
     fn deliver_asking(&mut self, packet: &Packet, now: u64, out: &mut Outbox) -> Disposition
         requires { 0 < room_of out.old }
-        ensures { Acts self.old (deliver_asking self.old packet.now now (kind_of packet.now.op)) self.new out.old out.new (with_packet result packet.now) }
+        ensures { Acts self.old (deliver_asking self.old packet.now now (kind_of packet.now.op))
+            self.new out.old out.new (with_packet result packet.now) }
     {
         match packet.op.kind() {
             Kind::Opn => self.take_opn(packet, now, out),
@@ -107,9 +119,11 @@ impl Conn {
         }
     }
 
-    /// The rows of RfcReceived.
+    /// The rows of the table in RfcReceived.
     fn deliver_requested(&mut self, packet: &Packet, now: u64) -> Disposition
-        ensures { ActsQuietly self.old (deliver_requested self.old packet.now now (kind_of packet.now.op)) self.new (with_packet result packet.now) }
+        ensures { ActsQuietly self.old
+            (deliver_requested self.old packet.now now (kind_of packet.now.op))
+            self.new (with_packet result packet.now) }
     {
         match packet.op.kind() {
             Kind::Cls => self.take_cls(packet, now),
@@ -118,10 +132,11 @@ impl Conn {
         }
     }
 
-    /// The rows of Open.
+    /// The rows of the table in Open.
     fn deliver_open(&mut self, packet: &Packet, now: u64, out: &mut Outbox) -> Disposition
         requires { 0 < room_of out.old }
-        ensures { Acts self.old (deliver_open self.old packet.now now (kind_of packet.now.op)) self.new out.old out.new (with_packet result packet.now) }
+        ensures { Acts self.old (deliver_open self.old packet.now now (kind_of packet.now.op))
+            self.new out.old out.new (with_packet result packet.now) }
     {
         match packet.op.kind() {
             Kind::Data => self.take_data(packet, now, out),
@@ -136,10 +151,11 @@ impl Conn {
         }
     }
 
-    /// RFC, the one that the end took, again.
+    /// The RFC that the end took comes again.
     fn take_rfc_again(&mut self, packet: &Packet, now: u64, out: &mut Outbox) -> Disposition
         requires { 0 < room_of out.old }
-        ensures { Acts self.old (after_rfc self.old packet.now now) self.new out.old out.new (with_packet result packet.now) }
+        ensures { Acts self.old (after_rfc self.old packet.now now)
+            self.new out.old out.new (with_packet result packet.now) }
     {
         if self.asked {
             return Disposition::Dropped(Why::BadOp);
@@ -157,10 +173,11 @@ impl Conn {
         Disposition::Duplicate
     }
 
-    /// OPN, at the end that asked.
+    /// An OPN opens the end that asked.
     fn take_opn(&mut self, packet: &Packet, now: u64, out: &mut Outbox) -> Disposition
         requires { 0 < room_of out.old }
-        ensures { Acts self.old (after_opn self.old packet.now now) self.new out.old out.new (with_packet result packet.now) }
+        ensures { Acts self.old (after_opn self.old packet.now now)
+            self.new out.old out.new (with_packet result packet.now) }
     {
         let Some(told) = packet.status() else {
             return Disposition::Dropped(Why::BadStatus);
@@ -182,36 +199,40 @@ impl Conn {
         self.recv.start(opn.num);
     }
 
-    /// ANS.
+    /// An ANS answers the request, and ends it.
     fn take_ans(&mut self, packet: &Packet, now: u64) -> Disposition
-        ensures { ActsQuietly self.old (after_ans self.old packet.now now) self.new (with_packet result packet.now) }
+        ensures { ActsQuietly self.old (after_ans self.old packet.now now)
+            self.new (with_packet result packet.now) }
     {
         self.hear(now);
         self.state = State::Answered;
         Disposition::Answered
     }
 
-    /// FWD.
+    /// A FWD names where to ask instead, and ends the request.
     fn take_fwd(&mut self, packet: &Packet, now: u64) -> Disposition
-        ensures { ActsQuietly self.old (after_fwd self.old packet.now now) self.new (with_packet result packet.now) }
+        ensures { ActsQuietly self.old (after_fwd self.old packet.now now)
+            self.new (with_packet result packet.now) }
     {
         self.hear(now);
         self.state = State::Forwarded;
         Disposition::Forwarded
     }
 
-    /// CLS.
+    /// A CLS closes the connection, or refuses the request.
     fn take_cls(&mut self, packet: &Packet, now: u64) -> Disposition
-        ensures { ActsQuietly self.old (after_cls self.old packet.now now) self.new (with_packet result packet.now) }
+        ensures { ActsQuietly self.old (after_cls self.old packet.now now)
+            self.new (with_packet result packet.now) }
     {
         self.hear(now);
         self.end_in(State::ClsReceived);
         Disposition::Closed
     }
 
-    /// LOS.
+    /// A LOS says that the peer's host doesn't know the connection.
     fn take_los(&mut self, packet: &Packet, now: u64) -> Disposition
-        ensures { ActsQuietly self.old (after_los self.old packet.now now) self.new (with_packet result packet.now) }
+        ensures { ActsQuietly self.old (after_los self.old packet.now now)
+            self.new (with_packet result packet.now) }
     {
         self.hear(now);
         self.end_in(State::LosReceived);
@@ -228,29 +249,34 @@ impl Conn {
         self.state = state;
     }
 
-    /// Data.
+    /// Data is held, unless it came before or is past the window.
     fn take_data(&mut self, packet: &Packet, now: u64, out: &mut Outbox) -> Disposition
         requires { 0 < room_of out.old }
-        ensures { Acts self.old (after_data self.old packet.now now) self.new out.old out.new (with_packet result packet.now) }
+        ensures { Acts self.old (after_data self.old packet.now now)
+            self.new out.old out.new (with_packet result packet.now) }
     {
         self.hear_ack(packet, now);
         self.take_item(packet, packet.bytes(), out)
     }
 
-    /// EOF, which is held without its data bytes.
+    /// An EOF is held as data is, without its data bytes.
     fn take_eof(&mut self, packet: &Packet, now: u64, out: &mut Outbox) -> Disposition
         requires { 0 < room_of out.old }
-        ensures { Acts self.old (after_eof self.old packet.now now) self.new out.old out.new (with_packet result packet.now) }
+        ensures { Acts self.old (after_eof self.old packet.now now)
+            self.new out.old out.new (with_packet result packet.now) }
     {
         self.hear_ack(packet, now);
         self.take_item(packet, &[], out)
     }
 
-    /// Holds a copy of an item that came, or tells the status.
+    /// Holds a copy of an item that came, or sends the status.
     fn take_item(&mut self, packet: &Packet, bytes: &[u8], out: &mut Outbox) -> Disposition
         requires room { 0 < room_of out.old }
         requires fits { length bytes.now ≤ MAX_DATA }
-        ensures { Acts self.old (after_item_came self.old packet.now.num (record { op = packet.now.op; body = bytes.now })) self.new out.old out.new (with_packet result packet.now) }
+        ensures { Acts self.old
+            (after_item_came self.old packet.now.num
+                (record { op = packet.now.op; body = bytes.now }))
+            self.new out.old out.new (with_packet result packet.now) }
     {
         match self.recv.arrive_lent(packet.num, packet.op, bytes) {
             Arrived::Took => Disposition::Took,
@@ -265,10 +291,11 @@ impl Conn {
         }
     }
 
-    /// OPN, at an open end.
+    /// An OPN at an open end came before, and is answered by a status.
     fn take_second_opn(&mut self, packet: &Packet, now: u64, out: &mut Outbox) -> Disposition
         requires { 0 < room_of out.old }
-        ensures { Acts self.old (after_second_opn self.old packet.now now) self.new out.old out.new (with_packet result packet.now) }
+        ensures { Acts self.old (after_second_opn self.old packet.now now)
+            self.new out.old out.new (with_packet result packet.now) }
     {
         let Some(told) = packet.status() else {
             return Disposition::Dropped(Why::BadStatus);
@@ -278,19 +305,21 @@ impl Conn {
         Disposition::Duplicate
     }
 
-    /// SNS.
+    /// An SNS is answered by a status.
     fn take_sns(&mut self, packet: &Packet, now: u64, out: &mut Outbox) -> Disposition
         requires { 0 < room_of out.old }
-        ensures { Acts self.old (after_sns self.old packet.now now) self.new out.old out.new (with_packet result packet.now) }
+        ensures { Acts self.old (after_sns self.old packet.now now)
+            self.new out.old out.new (with_packet result packet.now) }
     {
         self.hear_ack(packet, now);
         self.put_sts(out);
         Disposition::Probed
     }
 
-    /// STS.
+    /// An STS carries receipt and window, and isn't answered.
     fn take_sts(&mut self, packet: &Packet, now: u64) -> Disposition
-        ensures { ActsQuietly self.old (after_sts self.old packet.now now) self.new (with_packet result packet.now) }
+        ensures { ActsQuietly self.old (after_sts self.old packet.now now)
+            self.new (with_packet result packet.now) }
     {
         let Some(told) = packet.status() else {
             return Disposition::Dropped(Why::BadStatus);
@@ -299,9 +328,10 @@ impl Conn {
         Disposition::Status
     }
 
-    /// UNC.
+    /// Uncontrolled data is handed out, and kept nowhere.
     fn take_unc(&mut self, packet: &Packet, now: u64) -> Disposition
-        ensures { ActsQuietly self.old (after_unc self.old packet.now now) self.new (with_packet result packet.now) }
+        ensures { ActsQuietly self.old (after_unc self.old packet.now now)
+            self.new (with_packet result packet.now) }
     {
         self.hear(now);
         Disposition::Unc

@@ -7,7 +7,8 @@ use crate::limits::{USUAL_DOWN, USUAL_PROBE, USUAL_RETRANSMIT, USUAL_WINDOW};
 use chaos_window::MAX_WINDOW;
 use std::marker::Model;
 
-/// A configuration: both windows, in packets, and three times, in milliseconds. A contract sees a plain record.
+/// A configuration: both windows, in packets, and three times, in milliseconds. A contract sees a
+/// plain record.
 #[derive(Clone, Copy, Debug, PartialEq, Eq)]
 pub struct ConnConfig {
     /// The greatest send window, from 1 to 64.
@@ -29,7 +30,8 @@ impl Model for ConnConfig {
 
     ghost view = { λ c. config_view c.send_cap c.recv_cap c.retransmit c.probe c.down };
 
-    ghost invariant = { λ c. IsConfig (config_view c.send_cap c.recv_cap c.retransmit c.probe c.down) };
+    ghost invariant = { λ c.
+        IsConfig (config_view c.send_cap c.recv_cap c.retransmit c.probe c.down) };
 
     ghost inverse = { λ v. record {
       send_cap = v.send_cap;
@@ -41,14 +43,16 @@ impl Model for ConnConfig {
 }
 
 impl ConnConfig {
-    /// A configuration of these windows and times, or the first of its faults.
+    /// A configuration of these windows and times.
     ///
-    /// Give both windows the same size, at both ends of a connection, or the receive window at most three times what the
-    /// peer sends at most: a reader that sends nothing tells what it read when that is a third of its own window, so a
-    /// sender whose window is smaller than that third waits each time until what it keeps is sent again.
+    /// Give both windows the same size, at both ends of a connection, or give a receive window at
+    /// most three times the peer's send window. A reader that sends nothing reports its reads when
+    /// they come to a third of its own window. A sender with a window smaller than that third waits
+    /// each time until it sends again what it keeps.
     ///
-    /// `down` isn't checked against the other times. Let it be well above both. Where it isn't above `retransmit`, an end that
-    /// hears nothing counts its peer as down before it sends anything again: the first packet that is lost ends the connection.
+    /// `down` isn't checked against the other times. Let it be well above both. If it isn't above
+    /// `retransmit`, an end that hears nothing counts its peer as down before it sends anything
+    /// again, so the first lost packet ends the connection.
     pub fn new(
         send_cap: u16,
         recv_cap: u16,
@@ -56,6 +60,8 @@ impl ConnConfig {
         probe: u64,
         down: u64,
     ) -> Result<Self, ConfigFault>
+        // A configuration is refused exactly where a window or a time is out of range, with its
+        // first fault.
         ensures { result ≡ checked_config (config_view send_cap recv_cap retransmit probe down) }
     {
         if !is_window(send_cap) {
@@ -76,8 +82,9 @@ impl ConnConfig {
         })
     }
 
-    /// Windows of 13 packets; sent again after 500 milliseconds, probed after 10 seconds, down after 90.
+    /// The configuration for a caller without special needs.
     pub fn usual() -> Self
+        // Both windows have 13 packets. The times are 500, 10,000 and 90,000 milliseconds.
         ensures { result ≡ usual_config }
     {
         ConnConfig {
@@ -89,8 +96,10 @@ impl ConnConfig {
         }
     }
 
-    /// The usual configuration, with both windows of so many packets, from 1 to 64. Any other number stands for the usual 13.
+    /// The usual times with windows of another size.
     pub fn with_window(window: u16) -> Self
+        // Both windows have that many packets, from 1 to 64. Any other number stands for the usual
+        // 13.
         ensures { result ≡ config_with window }
     {
         if !is_window(window) {
@@ -103,39 +112,45 @@ impl ConnConfig {
         }
     }
 
-    /// The greatest send window, in packets.
+    /// How many packets may be outstanding at most.
     pub fn send_cap(&self) -> u16
+        // This is the greatest send window.
         ensures value { result ≡ self.now.send_cap }
-        // What a caller may know of any configuration.
+        // In every configuration both windows have from 1 to 64 packets, and no time is 0.
         ensures sound { IsConfig self.now }
     {
         self.send_cap
     }
 
-    /// The receive window, in packets.
+    /// How many packets the end holds at most.
     pub fn recv_cap(&self) -> u16
+        // This is the greatest receive window.
         ensures value { result ≡ self.now.recv_cap }
+        // In every configuration both windows have from 1 to 64 packets, and no time is 0.
         ensures sound { IsConfig self.now }
     {
         self.recv_cap
     }
 
-    /// After how many milliseconds kept packets are sent again.
+    /// The time until packets are sent again, in milliseconds.
     pub fn retransmit(&self) -> u64
+        // Kept packets are sent again after this time.
         ensures { result ≡ self.now.retransmit }
     {
         self.retransmit
     }
 
-    /// After how many milliseconds a silent peer is probed.
+    /// The time until a peer is probed, in milliseconds.
     pub fn probe(&self) -> u64
+        // A silent peer is probed after this time.
         ensures { result ≡ self.now.probe }
     {
         self.probe
     }
 
-    /// After how many milliseconds a silent peer counts as down.
+    /// The time until a peer counts as down, in milliseconds.
     pub fn down(&self) -> u64
+        // A silent peer counts as down after this time.
         ensures { result ≡ self.now.down }
     {
         self.down

@@ -9,23 +9,30 @@ use chaos_window::{RecvWindow, SendWindow};
 use std::alloc::{AllocError, Global};
 use std::marker::Model;
 
-/// One end of a connection (AI Memo 628, on connections). A contract sees a plain record of its fields, and of each call
-/// the view after it, the packets that it put out, and its answer.
+/// One end of a connection (AI Memo 628, on connections). A contract sees a plain record of its
+/// fields.
 ///
-/// Its calls are of four kinds:
+/// Each call makes of the end exactly what the definition `act` says. Its contract is `Does`: the
+/// view after the call, the packets that it put out, its answer, at most one packet (at a tick as
+/// many as the send window), and the configuration as it was.
 ///
-/// - The user's calls. [`Conn::request`] asks a peer; [`Conn::take_request`] takes a peer's request, and then
-///   [`Conn::accept`], [`Conn::answer`] or [`Conn::reject`] replies to it. At an open end [`Conn::write`] and
-///   [`Conn::unc`] send; [`Conn::read`] hands the next item out, or [`Conn::front`] lends it and [`Conn::read_done`]
-///   passes over it. [`Conn::announce`] changes the window that the peer may fill. [`Conn::close`] gives the connection up,
-///   in any state, and makes the value ready for another.
+/// The calls are of four kinds:
+///
+/// - The user's calls. [`Conn::request`] asks a peer. [`Conn::take_request`] takes a peer's
+///   request, and then [`Conn::accept`], [`Conn::answer`] or [`Conn::reject`] replies to it. At an
+///   open end [`Conn::write`] and [`Conn::unc`] send. [`Conn::read`] hands the next item out; or
+///   [`Conn::front`] lends it, and [`Conn::read_done`] passes over it. [`Conn::announce`] changes
+///   the window that the peer may fill. [`Conn::close`] gives the connection up, in any state, and
+///   makes the value ready for another connection.
 /// - Packets from the network: [`Conn::deliver`].
-/// - The tick: [`Conn::tick`], called now and then, sends what is due; [`Conn::next_due`] says when something is.
-/// - Looks, which change nothing: [`Conn::state`], [`Conn::config`], [`Conn::peer`], [`Conn::heard`], [`Conn::asked`],
-///   [`Conn::announced`], [`Conn::can_write`], [`Conn::drained`], [`Conn::keeps_opn`] and [`Conn::stored`].
+/// - The tick: [`Conn::tick`], called now and then, sends what is due. [`Conn::next_due`] says when
+///   something is due.
+/// - Looks, which change nothing: [`Conn::state`], [`Conn::config`], [`Conn::peer`],
+///   [`Conn::heard`], [`Conn::asked`], [`Conn::announced`], [`Conn::can_write`], [`Conn::drained`],
+///   [`Conn::keeps_opn`] and [`Conn::stored`].
 ///
-/// The order: `new`; then `request`, or `take_request` and a reply; then packets, ticks, writes and reads as they come;
-/// then `close`. A call in the wrong state is refused, and changes nothing.
+/// The order: `new`; then `request`, or `take_request` and a reply; then packets, ticks, writes and
+/// reads as they come; then `close`. A call in the wrong state is refused, and changes nothing.
 ///
 /// ```text
 ///                           Inactive
@@ -45,11 +52,12 @@ use std::marker::Model;
 ///                            +-- close: Inactive  (close leads there from every state)
 /// ```
 ///
-/// The ended states are Answered, ClsReceived, LosReceived, HostDown and Forwarded. In them nothing is sent, and the
-/// items that are held can still be read.
+/// The ended states are Answered, ClsReceived, LosReceived, HostDown and Forwarded. In them nothing
+/// is sent, and the items that are held can still be read.
 ///
-/// Each call that has an outbox asks for room for one packet in it and puts at most one there; a tick asks for room for
-/// as many as the send window. Moments are milliseconds; one that is earlier than the last counts as the last.
+/// Each call with an outbox needs room for one packet in it and puts at most one packet there. A
+/// tick needs room for as many packets as the send window. Moments are milliseconds. A moment that
+/// is earlier than the last counts as the last.
 #[derive(Drop)]
 pub struct Conn {
     pub(crate) state: State,
@@ -72,7 +80,7 @@ pub struct Conn {
     pub(crate) resent: u64,
     /// The moment of the last probe.
     pub(crate) probed: u64,
-    /// How many items were read since the peer was last told.
+    /// How many items were read since the peer last heard of reads.
     pub(crate) untold: u16,
     pub(crate) send: SendWindow,
     pub(crate) recv: RecvWindow,
@@ -90,8 +98,10 @@ impl Model for Conn {
 }
 
 impl Conn {
-    /// An inactive end. It takes the memory for both windows, and no later call takes any.
+    /// An end for one connection after another. It takes the memory for both windows, and no later
+    /// call takes any.
     pub fn new(alloc: Global, config: ConnConfig) -> Result<Self, AllocError>
+        // A new end is inactive, and has the configuration that it was given.
         ensures { IfOk result (λ conn. conn ≡ new_conn config) }
     {
         let send = SendWindow::new(alloc, config.send_cap())?;

@@ -16,13 +16,14 @@ pub enum ConfigFault {
     BadTime,
 }
 
-/// Why a call of a connection was refused. Where several fit, the one with the least number is answered.
+/// Why a call of a connection was refused. If several reasons apply, the answer is the one with the
+/// least number.
 #[derive(Clone, Copy, Debug, PartialEq, Eq, Error)]
 pub enum ConnFault {
     /// 1: the end isn't open.
     #[error("the connection is not open")]
     NotOpen,
-    /// 2: a user writes data and EOF alone.
+    /// 2: a user writes only data and EOF.
     #[error("neither data nor EOF")]
     BadOp,
     /// 3: more than 488 bytes, or any with an EOF.
@@ -43,7 +44,7 @@ pub enum ConnFault {
     /// 8: the packet isn't an RFC.
     #[error("not a request for connection")]
     BadRequest,
-    /// 9: a window of more than the configuration's.
+    /// 9: the window is larger than the configuration's.
     #[error("the window is too large")]
     BadWindow,
 }

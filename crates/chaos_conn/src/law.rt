@@ -1,44 +1,51 @@
-//! Laws of a connection: of its names, of those that are over, and of what it holds. A law is a function that does nothing: its
-//! contract is the law, and a caller learns it by the call.
+//! Laws of a connection: of its names, of those that are over, and of what it holds. A law is a
+//! function that does nothing: its contract is the law, and a caller learns it by the call.
 ghost use Rattle.chaos_conn.specs.Held.{HeldStays, HeldIsRead};
 ghost use Rattle.chaos_conn.specs.Names.{ActsAlike, ComesAlike, ForeignIsQuiet, OverStays, RefusedIsSame, EndsAreOver, PutsItsNames, ConfigStays, NamesStay, OpensOrStays};
 
-/// A connection and its names, which are its own address and index, and its peer's.
+/// The laws of a connection's names. They are its own address and index, and its peer's.
 pub fn law_names()
-    // connections that differ in their names alone do the same in each call of a user and each tick, but for the names on their packets
+    // Connections that differ in their names alone do the same in each call of a user and each
+    // tick, except for the names on their packets.
     ensures acts { ActsAlike }
-    // and with each packet that carries an acknowledgement under their names
+    // Such connections also do the same with each packet that carries an acknowledgement under
+    // their names.
     ensures comes { ComesAlike }
-    // each packet that a connection puts out carries its names
+    // Each packet that a connection puts out carries its names.
     ensures puts { PutsItsNames }
-    // which stay, but where it begins or is closed, and where a packet comes
+    // Names stay, except where a connection begins or is closed, and where a packet comes.
     ensures stays { NamesStay }
-    // and then too, but for the OPN that opens it, whose source index is the peer's from then on
+    // Where a packet comes, names stay too, except for the OPN that opens the connection: its
+    // source index is the peer's from then on.
     ensures comes_in { OpensOrStays }
 {}
 
-/// A packet without an acknowledgement, and one of other names, makes little of a connection: it is heard, or answered by a status,
-/// or ends it. Nothing that it has to read, that it keeps or that it counts changes, but where a request that waits is lost.
+/// The law of packets without an acknowledgement, and of packets with other names.
 pub fn law_foreign()
+    // A packet without an acknowledgement, or with other names, is heard at most, or is answered by
+    // a status, or ends the connection. What is held, kept and counted stays, except where a
+    // waiting request is lost.
     ensures { ForeignIsQuiet }
 {}
 
-/// Connections that are over, and calls that change nothing.
+/// The laws of connections that are over, and of calls that change nothing.
 pub fn law_over()
-    // one that isn't live and has nothing to read stays so, and puts nothing out
+    // A connection that isn't live and has nothing to read stays so, and puts nothing out, until
+    // another connection begins.
     ensures stays { OverStays }
-    // a call that is refused changes nothing
+    // A call that is refused changes nothing.
     ensures refused { RefusedIsSame }
-    // the calls by which a user ends a connection leave it over, or change nothing
+    // The calls by which a user ends a connection leave it over, or change nothing.
     ensures ends { EndsAreOver }
-    // no call changes a configuration
+    // No call changes a configuration.
     ensures config { ConfigStays }
 {}
 
-/// What an end that has met its peer holds is there until it is read, whatever else comes and is called, or until its user closes it.
+/// The laws of what an end holds once it has met its peer.
 pub fn law_held()
-    // whatever happens but a read, each item stays where it is held
+    // Whatever comes and is called, each item stays where it is held until it is read or the user
+    // closes.
     ensures stays { HeldStays }
-    // a read hands out the item in front, and each other is one place nearer then
+    // A read hands out the item in front, and then each other item is one place nearer.
     ensures reads { HeldIsRead }
 {}

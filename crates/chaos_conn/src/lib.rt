@@ -1,8 +1,8 @@
-//! One end of a Chaosnet connection (AI Memo 628, on connections): its states, what each packet that arrives makes of it,
-//! its user's calls, and what is due at each moment.
+//! One end of a Chaosnet connection (AI Memo 628, on connections): its states, what each packet
+//! that arrives makes of it, its user's calls, and what is due at each moment.
 //!
-//! A connection is a value: no sockets, no clock (moments are handed in), and no allocation after `Conn::new`. Packets
-//! come in by a call and go out into an [`chaos_packet::Outbox`].
+//! A connection is a value: no sockets, no clock (moments are handed in), and no allocation after
+//! `Conn::new`. Packets come in by a call and go out into an [`chaos_packet::Outbox`].
 #![tactic(auto)]
 
 mod answers;

@@ -24,10 +24,16 @@ pub const USUAL_DOWN: u64 = 90_000;
 
 /// The limits and the usual values as numerals.
 pub fn law_limits()
+    // A packet's header has 16 bytes.
     ensures header { HEADER_BYTES ≡ 16 }
+    // A packet has at most 504 bytes, with its header.
     ensures packet { MAX_PACKET_BYTES ≡ 504 }
+    // The usual window has 13 packets.
     ensures window { USUAL_WINDOW ≡ 13 }
+    // Kept packets are usually sent again after 500 milliseconds.
     ensures retransmit { USUAL_RETRANSMIT ≡ 500 }
+    // A silent peer is usually probed after 10,000 milliseconds.
     ensures probe { USUAL_PROBE ≡ 10000 }
+    // A silent peer usually counts as down after 90,000 milliseconds.
     ensures down { USUAL_DOWN ≡ 90000 }
 {}

@@ -10,26 +10,31 @@ use crate::state::State;
 use chaos_packet::{Item, Opcode};
 
 impl Conn {
-    /// The state.
+    /// What the end is doing.
     pub fn state(&self) -> State
+        // This is the end's state.
         ensures { result ≡ self.now.state }
     {
         self.state
     }
 
-    /// The configuration. A tick asks for room for its send window.
+    /// What the end is set to. A tick needs room for its send window.
     pub fn config(&self) -> ConnConfig
+        // This is the end's configuration.
         ensures value { result ≡ self.now.config }
-        // What a caller may know of any connection.
+        // Every end is as `IsConn` says.
         ensures sound { IsConn self.now }
+        // Every end keeps no more items than its greatest send window.
         ensures kept_fit { length self.now.send.kept ≤ self.now.config.send_cap }
     {
         prove!(self.send.unreceipted() <= self.config.send_cap());
         self.config
     }
 
-    /// The peer's address, and its index where that is known. An inactive end alone has no peer.
+    /// The other end of the connection.
     pub fn peer(&self) -> Option<(u16, Option<u16>)>
+        // The answer is the peer's address, and its index where that is known. Only an inactive end
+        // has no peer.
         ensures { result ≡ peer_of self.now }
     {
         if self.state.is_inactive() {
@@ -39,38 +44,44 @@ impl Conn {
         }
     }
 
-    /// The moment when the peer was last heard.
+    /// A moment in milliseconds: the peer is silent since then.
     pub fn heard(&self) -> u64
+        // The peer was last heard at this moment.
         ensures { result ≡ self.now.heard }
     {
         self.heard
     }
 
-    /// The last moment that this end was handed; an earlier one counts as this.
+    /// A moment in milliseconds. An earlier moment that is handed in counts as this one.
     pub fn last(&self) -> u64
+        // This is the last moment that the end was handed.
         ensures { result ≡ self.now.last }
     {
         self.last
     }
 
-    /// Whether this end made the request itself.
+    /// Which of the two ends asked for the connection.
     pub fn asked(&self) -> bool
+        // The answer is whether this end made the request itself.
         ensures { result ≡ self.now.asked }
     {
         self.asked
     }
 
-    /// The window that this end announces: the configuration's receive window, until [`Conn::announce`] makes it another. A
-    /// close sets it back.
+    /// The configuration's receive window, until [`Conn::announce`] makes it another. A close sets
+    /// it back.
     pub fn announced(&self) -> u16
+        // This end announces this window, at most its greatest.
         ensures value { result ≡ self.now.recv.window }
         ensures fits { result ≤ self.now.config.recv_cap }
     {
         self.recv.window()
     }
 
-    /// Whether the end is open and its window has room, so that a write of data is taken.
+    /// Whether a write of data is taken.
     pub fn can_write(&self) -> bool
+        // The answer is whether the end is open and fewer items are outstanding than its window
+        // allows.
         ensures { result ≡ can_write self.now }
     {
         self.has_window() && self.state.is_open()
@@ -78,14 +89,17 @@ impl Conn {
 
     /// Whether the peer's user read all that was sent, as far as is known.
     pub fn drained(&self) -> bool
+        // The answer is whether all that was written was acknowledged.
         ensures { result ≡ is_drained self.now }
     {
         self.send.outstanding() == 0
     }
 
-    /// Whether the OPN by which this end accepted a request is still kept: the peer has receipted and acknowledged nothing that
-    /// this end sent. So it is with a peer that never asked, whose address a forger wrote into a request.
+    /// Whether the peer never replied to the OPN by which this end accepted its request. So it is
+    /// with a peer that never asked, whose address a forger wrote into a request.
     pub fn keeps_opn(&self) -> bool
+        // The answer is whether the OPN is still kept: the peer has receipted and acknowledged
+        // nothing that this end sent.
         ensures { result ≡ keeps_opn self.now }
     {
         match self.send.kept(0) {
@@ -94,8 +108,9 @@ impl Conn {
         }
     }
 
-    /// Lends the next item, where it is held.
+    /// Lends the next item without reading it.
     pub fn front(&self) -> Option<&Item>
+        // The next item is lent, where it is held.
         ensures { option_copied result ≡ front_of self.now }
     {
         self.recv.front()

@@ -6,13 +6,15 @@ ghost use Rattle.chaos_conn.specs.NextDue.{IsNextDue, QuietIsIdle, HoldsFrom, ea
 use crate::conn::Conn;
 
 impl Conn {
-    /// The next moment at which something is due, in milliseconds: a tick before it is `Quiet`, and a tick at it or later
-    /// isn't, as long as nothing else is done with the connection. A tick that is late finds what is due too, so where
-    /// something is due at the last moment already the next moment is 0. None where no tick finds anything due: the end
-    /// waits for no peer, or the moments end before.
+    /// The next moment at which something is due, in milliseconds, as long as nothing else is done
+    /// with the connection. A late tick finds what is due too. So if something is due at the last
+    /// moment already, the next moment is 0. There is no moment if the end waits for no peer, or if
+    /// the moments end before.
     ///
-    /// It takes the same time for any connection.
+    /// The cost is the same for any connection.
     pub fn next_due(&self) -> Option<u64>
+        // At each moment of 64 bits a tick would be `Quiet` exactly if the moment is before this
+        // one, or if there is none.
         ensures { IsNextDue self.now result }
     {
         earlier(self.down_at(), earlier(self.resend_at(), self.probe_at()))
@@ -49,8 +51,8 @@ impl Conn {
     }
 }
 
-/// From which moment on a time has passed since another moment, where calls count as no earlier than the last: 0 where it has
-/// passed at the last, and none where the moments end before.
+/// From which moment on a time has passed since another moment, where calls count as no earlier
+/// than the last: 0 where it has passed at the last moment, and none where the moments end before.
 fn passes_at(last: u64, since: u64, time: u64) -> Option<u64>
     requires { since ≤ last }
     ensures { HoldsFrom result (λ now. nat_le time (max last now - since)) }
@@ -62,9 +64,9 @@ fn passes_at(last: u64, since: u64, time: u64) -> Option<u64>
     Some(moment)
 }
 
-/// The earlier of two moments, either of which may never come: so a loop that has moments of its own joins them with
-/// [`Conn::next_due`].
+/// Joins two moments, for example a moment of a caller's loop with [`Conn::next_due`].
 pub fn earlier(a: Option<u64>, b: Option<u64>) -> Option<u64>
+    // The answer is the earlier of the two moments, either of which may never come.
     ensures { result ≡ earlier_of a b }
 {
     match (a, b) {
@@ -74,7 +76,9 @@ pub fn earlier(a: Option<u64>, b: Option<u64>) -> Option<u64>
     }
 }
 
-/// A quiet tick puts nothing out, and changes nothing but the moment of the last call.
+/// The law of a tick that finds nothing due.
 pub fn law_quiet()
+    // A tick that is quiet puts nothing out, and changes nothing except the moment of the last
+    // call.
     ensures { QuietIsIdle }
 {}

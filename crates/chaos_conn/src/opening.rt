@@ -14,11 +14,11 @@ use crate::state::{End, State};
 use chaos_packet::{MAX_DATA, Opcode, Outbox, Packet, PktNum};
 
 impl Conn {
-    /// Asks a peer for a contact, as the own end `me`: it sends an RFC, and numbers what it writes from `start` on. The
-    /// contact is what the RFC's data are: a name, and its arguments after a space.
+    /// Asks a peer for a contact, as the own end `me`. What it writes is numbered from `start` on.
+    /// The contact is the data of the RFC: a name, and its arguments after a space.
     ///
-    /// Refused, in this order: `TooLong` for a contact of more than 488 bytes; `Busy` where the end isn't inactive;
-    /// `BadAddress` where either address is 0. Nothing changes then.
+    /// Refused, in this order: `TooLong` for a contact of more than 488 bytes; `Busy` where the end
+    /// isn't inactive; `BadAddress` where either address is 0. Nothing changes then.
     pub fn request(
         &mut self,
         me: End,
@@ -29,8 +29,10 @@ impl Conn {
         out: &mut Outbox,
     ) -> Result<(), ConnFault>
         requires { 0 < room_of out.old }
-        ensures does { Does self.old (Request me peer contact.now start now) self.new out.old out.new (Did result) }
-        // What a caller may know of any packet number.
+        // The RFC goes out as item 0, or the answer is the refusal of the least number.
+        ensures does { Does self.old (Request me peer contact.now start now)
+            self.new out.old out.new (Did result) }
+        // Every packet number is below 65,536.
         ensures number { start < 65536 }
     {
         if contact.len() > MAX_DATA {
@@ -42,7 +44,7 @@ impl Conn {
         self.request_between(me, peer, contact, start, now, out)
     }
 
-    /// Asks, between two addresses neither of which is 0.
+    /// Asks between two addresses other than 0.
     fn request_between(
         &mut self,
         me: End,
@@ -54,7 +56,9 @@ impl Conn {
     ) -> Result<(), ConnFault>
         requires room { 0 < room_of out.old }
         requires fits { length contact.now ≤ MAX_DATA }
-        ensures { Acts self.old (request_between self.old me peer contact.now start (moment self.old now)) self.new out.old out.new result }
+        ensures { Acts self.old
+            (request_between self.old me peer contact.now start (moment self.old now))
+            self.new out.old out.new result }
     {
         if me.address == 0 || peer == 0 {
             return Err(ConnFault::BadAddress);
@@ -80,11 +84,13 @@ impl Conn {
         self.send.start(start);
     }
 
-    /// Takes a request that came, as the own end `me`: it is held until the user accepts it or turns it away.
+    /// Takes a request that came, as the own end `me`. The end holds it until the user accepts it
+    /// or turns it away.
     ///
-    /// Refused, in this order: `Busy` where the end isn't inactive; `BadAddress` where either address is 0; `BadRequest`
-    /// where the packet isn't an RFC. Nothing changes then.
+    /// Refused, in this order: `Busy` where the end isn't inactive; `BadAddress` where either
+    /// address is 0; `BadRequest` where the packet isn't an RFC. Nothing changes then.
     pub fn take_request(&mut self, rfc: &Packet, me: End, now: u64) -> Result<(), ConnFault>
+        // A request is taken and held, or refused. Nothing is sent.
         ensures { DoesQuietly self.old (TakeRequest rfc.now me now) self.new (Did result) }
     {
         if !self.state.is_inactive() {
@@ -96,9 +102,10 @@ impl Conn {
         self.take_rfc(rfc, me, now)
     }
 
-    /// Takes a request between two addresses neither of which is 0.
+    /// Takes a request between two addresses other than 0.
     fn take_rfc(&mut self, rfc: &Packet, me: End, now: u64) -> Result<(), ConnFault>
-        ensures { ActsQuietly self.old (take_rfc self.old rfc.now me (moment self.old now)) self.new result }
+        ensures { ActsQuietly self.old (take_rfc self.old rfc.now me (moment self.old now))
+            self.new result }
     {
         if !rfc.op.kind().is_rfc() {
             return Err(ConnFault::BadRequest);
@@ -123,11 +130,12 @@ impl Conn {
         let _ = self.recv.arrive_lent(rfc.num, rfc.op, rfc.bytes());
     }
 
-    /// Accepts the request that it holds: it sends an OPN, and numbers what it writes from `start` on.
+    /// Accepts the request that the end holds. What it writes is numbered from `start` on.
     ///
     /// Refused with `WrongState` where it holds none. Nothing changes then.
     pub fn accept(&mut self, start: PktNum, now: u64, out: &mut Outbox) -> Result<(), ConnFault>
         requires { 0 < room_of out.old }
+        // The request is read, and the OPN goes out as item 0.
         ensures { Does self.old (Accept start now) self.new out.old out.new (Did result) }
     {
         if !self.state.is_requested() {
@@ -162,22 +170,25 @@ impl Conn {
         self.send_item(Opcode::OPN, &body, out);
     }
 
-    /// Answers the request that it holds by one ANS, and is inactive then: a simple transaction.
+    /// Answers the request that the end holds, and is inactive then.
     ///
-    /// Refused, in this order: `TooLong` for more than 488 bytes; `WrongState` where it holds none. Nothing changes then.
+    /// Refused, in this order: `TooLong` for more than 488 bytes; `WrongState` where it holds no
+    /// request. Nothing changes then.
     pub fn answer(&mut self, bytes: &[u8], out: &mut Outbox) -> Result<(), ConnFault>
         requires { 0 < room_of out.old }
+        // A simple transaction is answered by one ANS.
         ensures { Does self.old (Answer bytes.now) self.new out.old out.new (Did result) }
     {
         self.turn_away(Opcode::ANS, bytes, out)
     }
 
-    /// Refuses the request that it holds by a CLS with a text, and is inactive then.
+    /// Refuses the request that the end holds, and is inactive then.
     ///
-    /// Refused itself, in this order: `TooLong` for more than 488 bytes; `WrongState` where it holds none. Nothing
-    /// changes then.
+    /// Refused itself, in this order: `TooLong` for more than 488 bytes; `WrongState` where it
+    /// holds no request. Nothing changes then.
     pub fn reject(&mut self, text: &[u8], out: &mut Outbox) -> Result<(), ConnFault>
         requires { 0 < room_of out.old }
+        // A request is rejected by a CLS with its text.
         ensures { Does self.old (Reject text.now) self.new out.old out.new (Did result) }
     {
         self.turn_away(Opcode::CLS, text, out)

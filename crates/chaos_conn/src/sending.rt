@@ -8,7 +8,8 @@ ghost use Rattle.chaos_conn.specs.Sending.{header_to_peer, untelling_packet, sta
 use crate::conn::Conn;
 use chaos_packet::{Header, Kind, MAX_DATA, Opcode, Outbox, PktNum};
 
-/// The number of a packet that has none, and the acknowledgement of one that tells nothing.
+/// The number of a packet without a number, and the acknowledgement of a packet without an
+/// acknowledgement.
 const NO_NUMBER: PktNum = PktNum(0);
 
 impl Conn {
@@ -27,7 +28,7 @@ impl Conn {
         }
     }
 
-    /// Puts an uncontrolled packet out, which tells nothing.
+    /// Puts an uncontrolled packet out, without an acknowledgement.
     pub(crate) fn put_untelling(&self, op: Opcode, body: &[u8], out: &mut Outbox)
         requires room { 0 < room_of out.old }
         requires fits { length body.now ≤ MAX_DATA }
@@ -36,14 +37,15 @@ impl Conn {
         out.put_lent(self.header_to_peer(op, NO_NUMBER, NO_NUMBER), body);
     }
 
-    /// The two words of a status: what arrived without a gap, and the window that this end announces.
+    /// The two words of a status: what arrived without a gap, and the window that this end
+    /// announces.
     pub(crate) fn status_body(&self) -> [u8; 4]
         ensures { result ≡ status_body self.now }
     {
         word_bytes(self.recv.receipt(), self.recv.window())
     }
 
-    /// Puts the status out, which tells all that was read.
+    /// Puts the status out, which reports all reads.
     pub(crate) fn put_sts(&mut self, out: &mut Outbox)
         requires { 0 < room_of out.old }
         ensures view { self.new ≡ record self.old { untold = 0 } }
@@ -64,11 +66,14 @@ impl Conn {
         out.put_lent(header, &[]);
     }
 
-    /// Puts an item out as a packet with a number, and the present acknowledgement where it carries one.
+    /// Puts an item out as a packet with a number, and with the present acknowledgement where it
+    /// carries one.
     pub(crate) fn put_item(&self, num: PktNum, op: Opcode, body: &[u8], out: &mut Outbox)
         requires room { 0 < room_of out.old }
         requires fits { length body.now ≤ MAX_DATA }
-        ensures { out.new ≡ with_put out.old (item_packet self.now num (record { op = op; body = body.now }) ∷ []) }
+        ensures { out.new
+            ≡ with_put out.old
+                (item_packet self.now num (record { op = op; body = body.now }) ∷ []) }
     {
         let ack = if carries_ack(op.kind()) {
             self.recv.read_num()
@@ -88,7 +93,10 @@ impl Conn {
         requires window { outstanding_of self.old.send < self.old.send.window }
         requires fits { length body.now ≤ MAX_DATA }
         ensures view { self.new ≡ after_item self.old (record { op = op; body = body.now }) }
-        ensures packets { out.new ≡ with_put out.old (item_packet self.old (next_of self.old.send) (record { op = op; body = body.now }) ∷ []) }
+        ensures packets { out.new
+            ≡ with_put out.old
+                (item_packet self.old (next_of self.old.send) (record { op = op; body = body.now })
+                    ∷ []) }
     {
         self.put_item(self.send.last().next(), op, body, out);
         if self.send.unreceipted() == 0 {

@@ -2,8 +2,8 @@
 ghost use Rattle.std.specs.Prelude.{◌≡◌};
 ghost use Rattle.chaos_conn.specs.State.{is_ended, is_live, is_opening, is_inactive, is_requested, is_open, awaits_peer, tells_close};
 
-/// The state of an end (AI Memo 628, on connections). That a forwarded request is a state of its own is this host's
-/// profile.
+/// The state of an end (AI Memo 628, on connections). A state of its own for a forwarded request is
+/// this host's profile.
 #[derive(Clone, Copy, Debug, PartialEq, Eq)]
 pub enum State {
     /// There is no connection.
@@ -34,8 +34,10 @@ pub struct End {
 }
 
 impl State {
-    /// Whether an attempt or a connection came to its end, and its user has not closed it yet.
+    /// Whether the connection has ended.
     pub fn is_ended(self) -> bool
+        // The answer is whether an attempt or a connection came to its end, and its user has not
+        // closed it yet.
         ensures { result ≡ is_ended self }
     {
         matches!(
@@ -55,15 +57,17 @@ impl State {
         matches!(self, State::RfcSent | State::RfcReceived | State::Open)
     }
 
-    /// Whether the end asked or was asked, and isn't open yet.
+    /// Whether a connection is being opened.
     pub fn is_opening(self) -> bool
+        // The answer is whether the end asked or was asked, and isn't open yet.
         ensures { result ≡ is_opening self }
     {
         matches!(self, State::RfcSent | State::RfcReceived)
     }
 
-    /// Whether there is no connection.
+    /// Whether the end is free for a request.
     pub fn is_inactive(self) -> bool
+        // The answer is whether there is no connection.
         ensures { result ≡ is_inactive self }
     {
         matches!(self, State::Inactive)
@@ -76,8 +80,9 @@ impl State {
         matches!(self, State::RfcReceived)
     }
 
-    /// Whether the connection is open.
+    /// Whether items go in both directions.
     pub fn is_open(self) -> bool
+        // The answer is whether the connection is open.
         ensures { result ≡ is_open self }
     {
         matches!(self, State::Open)
@@ -90,7 +95,7 @@ impl State {
         matches!(self, State::RfcSent | State::Open)
     }
 
-    /// Whether a close in this state is told to the peer.
+    /// Whether a close in this state sends a CLS to the peer.
     pub(crate) fn tells_close(self) -> bool
         ensures { result ≡ tells_close self }
     {

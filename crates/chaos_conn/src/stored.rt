@@ -11,13 +11,15 @@ use chaos_packet::Item;
 use chaos_window::{RecvWindow, SendWindow};
 
 impl Conn {
-    /// How many packets are kept and held, and their bytes with a header for each.
-    ///
-    /// A walk over the items.
+    /// What the end stores: packets and bytes. The cost is a walk over the items.
     pub fn stored(&self) -> (usize, usize)
+        // The first number counts exactly the packets that the end keeps and holds.
         ensures packets { result.0 ≡ stored_packets self.now }
+        // The second number counts exactly their bytes, with a header for each.
         ensures bytes { result.1 ≡ stored_bytes self.now }
+        // There are at most as many packets as both windows have together.
         ensures packets_fit { result.0 ≤ self.now.config.send_cap + self.now.config.recv_cap }
+        // There are at most 504 bytes for each packet.
         ensures bytes_fit { result.1 ≤ MAX_PACKET_BYTES * result.0 }
     {
         (

@@ -14,7 +14,8 @@ use crate::state::State;
 use chaos_packet::{Item, Outbox, PktNum};
 use chaos_window::SendWindow;
 
-/// What may be due at a moment. The definition of a tick goes by it, so it is public to the definitions of crates above.
+/// What may be due at a moment. It is public to the definitions of crates above, since the
+/// definition of a tick goes by it.
 pub enum Due {
     /// The peer counts as down.
     HostDown,
@@ -26,11 +27,15 @@ pub enum Due {
 }
 
 impl Conn {
-    /// Does what is due at a moment, the first of these that applies: an end that waits for its peer, and didn't hear it
-    /// for the time `down`, is ended; all kept items are sent again, each with its own number, after the time
-    /// `retransmit`; an open end whose peer was neither heard nor probed for the time `probe` sends an SNS.
+    /// Does what is due at a moment, the first of these that applies:
+    ///
+    /// 1. An end that waits for its peer and didn't hear it for the time `down` is ended.
+    /// 2. After the time `retransmit` all kept items are sent again, each with its own number.
+    /// 3. An open end whose peer was neither heard nor probed for the time `probe` sends an SNS.
     pub fn tick(&mut self, now: u64, out: &mut Outbox) -> Ticked
         requires { self.old.config.send_cap ≤ room_of out.old }
+        // A tick ends the connection, sends all kept items again, probes, or does nothing: exactly
+        // what is due.
         ensures { Does self.old (Tick now) self.new out.old out.new (Ticks result) }
     {
         self.last = self.last.max(now);
@@ -67,7 +72,7 @@ impl Conn {
         self.state.awaits_peer() && self.last - self.heard >= self.config.down()
     }
 
-    /// Whether items are kept, and were not sent again for so long that they are now.
+    /// Whether items are kept that weren't sent again for so long that they are sent now.
     fn is_resend_due(&self) -> bool
         ensures { result ≡ is_resend_due self.now }
     {
@@ -101,7 +106,7 @@ impl Conn {
         Ticked::Resent(count as usize)
     }
 
-    /// Probes the peer.
+    /// Asks a silent peer for its status by an SNS.
     fn probe(&mut self, out: &mut Outbox) -> Ticked
         requires { 0 < room_of out.old }
         ensures { Acts self.old (ticked_by Due.Probe self.old) self.new out.old out.new result }
