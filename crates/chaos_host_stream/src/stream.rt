@@ -5,15 +5,16 @@ use chaos_host::ConnId;
 use chaos_packet::MAX_DATA;
 use std::marker::Model;
 
-/// The byte stream of one of a host's connections: the connection's own index, and a place in the item that it has in front. A
-/// contract sees both.
+/// The byte stream of one of a host's connections: the connection's own index, and a place in the
+/// item that it has in front. A contract sees both.
 ///
-/// The host is lent to each call. [`HostStream::put_bytes`] and [`HostStream::put_eof`] write; [`HostStream::peek`] lends what
-/// comes next, and [`HostStream::consume`] passes over it. Each of them changes this connection alone. It is answered
-/// `NoSuchConnection`, and nothing changes, where the host has no connection of this index.
+/// The host is lent to each call. [`HostStream::put_bytes`] and [`HostStream::put_eof`] write.
+/// [`HostStream::peek`] lends what comes next, and [`HostStream::consume`] passes over it. Each
+/// call changes this connection alone. If the host has no connection of this index, the answer is
+/// `NoSuchConnection`, and nothing changes.
 ///
-/// A connection is to be read through one value alone, made when the connection begins; a place past the end of the item in
-/// front counts as its end.
+/// Read a connection through one value alone, made when the connection begins. A place past the end
+/// of the item in front counts as its end.
 #[derive(Debug, Drop)]
 pub struct HostStream {
     pub(crate) id: ConnId,
@@ -34,15 +35,17 @@ impl Model for HostStream {
 }
 
 impl HostStream {
-    /// The stream of the connection with this index, at the start of its first item.
+    /// The stream of a connection that begins.
     pub fn new(id: ConnId) -> Self
+        // A stream begins at the front of an item of the connection with the given index.
         ensures { result ≡ record { id = id; place = 0 } }
     {
         HostStream { id, place: 0 }
     }
 
-    /// The index of the connection.
+    /// The connection's own index.
     pub fn id(&self) -> ConnId
+        // This is the index that the stream was made with.
         ensures { result ≡ self.now.id }
     {
         self.id

@@ -14,11 +14,13 @@ use chaos_host::{CallFault, ConnId, Host};
 use chaos_packet::{MAX_DATA, Opcode, Outbox, PktNum};
 
 impl HostStream {
-    /// Writes bytes as data, and answers how many of them it took, from the first on. Each packet has 488 but the last.
+    /// Writes bytes as data, and returns how many of them it took, from the first on. Each packet
+    /// except the last has 488.
     ///
-    /// It stops early only where the connection can't write (it isn't open, or its window is full) or the outbox has no room;
-    /// the caller offers the rest again later. The bytes are copied once for the packet that goes out, and once for the one
-    /// that is kept. For each packet the host looks into its table twice, without a walk.
+    /// It stops early only if the connection can't write (it isn't open, or its window is full) or
+    /// the outbox has no room. Offer the rest again later. The bytes are copied once for the packet
+    /// that goes out, and once for the packet that is kept. For each packet the host looks into its
+    /// table twice, without a walk.
     pub fn put_bytes(
         &self,
         host: &mut Host,
@@ -26,19 +28,28 @@ impl HostStream {
         now: u64,
         out: &mut Outbox,
     ) -> Result<usize, CallFault>
+        // If no connection has the index, the answer is NoSuchConnection, and host and outbox are
+        // as they were. Otherwise the connection does with the bytes what chaos_stream's
+        // `put_bytes` promises: the same bytes are taken, go out and are kept. No other slot
+        // changes, and the index names the connection as before.
         ensures does { PutsAt host.old self.now.id bytes.now now host.new out.old out.new result }
+        // No more bytes are taken than there are.
         ensures within { IfOk result (λ taken. taken ≤ length bytes.now) }
-        // So a reply can be written before what it replies to is consumed.
+        // After the write a look at the stream shows what it showed before. So a reply can be
+        // written before what it replies to is consumed.
         ensures looks { peek_at host.new self.now ≡ peek_at host.old self.now }
     {
         host.conn(self.id)?;
         Ok(put_named(host, self.id, bytes, now, out))
     }
 
-    /// Writes an EOF, and answers its number. It is refused as [`Host::write`] refuses it.
+    /// Writes an EOF, and returns its number.
     pub fn put_eof(&self, host: &mut Host, now: u64, out: &mut Outbox) -> Result<PktNum, CallFault>
         requires { 0 < room_of out.old }
-        ensures does { HostDoes host.old 1 (host_call host.old self.now.id (Write op_eof [] now)) host.new out.old out.new (reply_of Wrote result) }
+        // An EOF is the host's write of one, with the same refusals.
+        ensures does { HostDoes host.old 1 (host_call host.old self.now.id (Write op_eof [] now))
+            host.new out.old out.new (reply_of Wrote result) }
+        // After the write a look shows what it showed before.
         ensures looks { peek_at host.new self.now ≡ peek_at host.old self.now }
     {
         host.write(self.id, Opcode::EOF, &[], now, out)

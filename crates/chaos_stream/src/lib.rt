@@ -1,8 +1,8 @@
-//! Byte streams over a connection (AI Memo 628, on connections): bytes cut into data packets on their way out, and lent from
-//! the packets that were delivered on their way in.
+//! Byte streams over a connection (AI Memo 628, on connections): bytes are cut into data packets on
+//! their way out, and lent from the packets that were delivered on their way in.
 //!
-//! No sockets, no clock (moments are handed in) and no allocation: what is sent is kept, and what came is held, by the
-//! connection.
+//! No sockets, no clock (moments are handed in) and no allocation: the connection keeps what is
+//! sent, and holds what came.
 #![tactic(auto)]
 
 mod law;

@@ -6,7 +6,8 @@ ghost use Rattle.chaos_stream.specs.Shown.{sight_of};
 /// What comes next in a stream.
 #[derive(Clone, Copy, Debug, PartialEq, Eq)]
 pub enum Peek<'a> {
-    /// Bytes, at most 488, lent from the item that holds them. There are none where the peer sent an empty packet of data.
+    /// Bytes, at most 488, lent from the item that holds them. If the peer sent an empty packet of
+    /// data, there are none.
     Bytes(&'a [u8]),
     /// The mark of an EOF.
     Eof,

@@ -8,16 +8,22 @@ ghost use Rattle.chaos_stream.specs.Writing.{can_put, Puts, SendsBytes};
 use chaos_conn::{Conn, ConnFault};
 use chaos_packet::{MAX_DATA, Opcode, Outbox, PktNum};
 
-/// Writes bytes as data, and answers how many of them it took, from the first on. Each packet has 488 but the last.
+/// Writes bytes as data, and returns how many of them it took, from the first on. Each packet
+/// except the last has 488.
 ///
-/// It stops early only where the end can't write (it isn't open, or its window is full) or the outbox has no room; the caller
-/// offers the rest again later. The bytes are copied once for the packet that goes out, and once for the one that is kept.
+/// If it took fewer than all, offer the rest again later. The bytes are copied once for the packet
+/// that goes out, and once for the packet that is kept.
 pub fn put_bytes(conn: &mut Conn, bytes: &[u8], now: u64, out: &mut Outbox) -> usize
+    // While bytes are left, the end can write and the outbox has room, the connection's own writes
+    // send data of opcode 200, cut at 488 bytes.
     ensures exact { Puts conn.old out.old bytes.now now conn.new out.new result }
 
-    // The same in plain words: how many are taken, when not all are, and what goes out.
+    // No more bytes are taken than there are.
     ensures within { result ≤ length bytes.now }
+    // Fewer than all are taken only if the end can't write or the outbox has no room.
     ensures short { result < length bytes.now → can_put conn.new out.new ≡ false }
+    // Just these bytes went out, a cut in each packet, and are kept. They are the text of what was
+    // sent.
     ensures sent { SendsBytes conn.old conn.new out.old out.new (take result bytes.now) }
 {
     let mut taken = 0;
@@ -44,9 +50,10 @@ fn first_cut(bytes: &[u8]) -> &[u8]
     &bytes[..MAX_DATA.min(bytes.len())]
 }
 
-/// Writes an EOF, and answers its number. It is refused as [`Conn::write`] refuses it.
+/// Writes an EOF, and returns its number.
 pub fn put_eof(conn: &mut Conn, now: u64, out: &mut Outbox) -> Result<PktNum, ConnFault>
     requires { 0 < room_of out.old }
+    // An EOF is the connection's write of one, with the same refusals.
     ensures { Does conn.old (Write op_eof [] now) conn.new out.old out.new (Wrote result) }
 {
     conn.write(Opcode::EOF, &[], now, out)
