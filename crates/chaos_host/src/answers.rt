@@ -9,7 +9,8 @@ use chaos_packet::Packet;
 /// What became of a packet at a host, without the packet.
 #[derive(Clone, Copy, Debug, PartialEq, Eq)]
 pub enum HostDisposition {
-    /// It is a request, which the new connection with this index holds until the user accepts it or turns it away.
+    /// It is a request, which the new connection with this index holds until the user accepts it or
+    /// turns it away.
     Requested(ConnId),
     /// It went to the connection with this index, where this became of it.
     At(ConnId, Disposition),
@@ -24,8 +25,10 @@ pub enum HostDisposition {
 }
 
 impl HostDisposition {
-    /// What became of the packet, with a copy of it where it is handed out.
+    /// The answer of [`Host::deliver`](crate::Host::deliver) for this packet.
     pub fn with_packet(self, packet: &Packet) -> HostDelivered
+        // The answer is what became of the packet, with a copy of the packet where it is handed
+        // out.
         ensures { result ≡ host_with_packet self packet.now }
     {
         match self {
@@ -45,7 +48,8 @@ impl HostDisposition {
 /// What became of a packet at a host.
 #[derive(Debug, PartialEq, Eq, Drop)]
 pub enum HostDelivered {
-    /// It is a request, which the new connection with this index holds until the user accepts it or turns it away.
+    /// It is a request, which the new connection with this index holds until the user accepts it or
+    /// turns it away.
     Requested(ConnId),
     /// It went to the connection with this index, which answered this.
     At(ConnId, Delivered),

@@ -13,10 +13,11 @@ use chaos_conn::{ReadDone, ReadEnd};
 use chaos_packet::{Opcode, Outbox, PktNum};
 
 impl Host {
-    /// Accepts the request that a connection holds: it sends an OPN, and numbers what it writes from `start` on.
+    /// Accepts the request that a connection holds. It sends an OPN, and what it writes is numbered
+    /// from `start` on.
     ///
-    /// `NoSuchConnection`, and nothing changes, where no connection has this index; so it is with all calls here. What the
-    /// connection refuses is told as `Refused`.
+    /// All calls here are `NoSuchConnection`, and change nothing, if no connection has this index.
+    /// What the connection refuses is `Refused`.
     pub fn accept(
         &mut self,
         id: ConnId,
@@ -25,14 +26,17 @@ impl Host {
         out: &mut Outbox,
     ) -> Result<(), CallFault>
         requires { 0 < room_of out.old }
-        ensures { HostDoes self.old 1 (host_call self.old id (Accept start now)) self.new out.old out.new (reply_of Did result) }
+        // The answer is NoSuchConnection exactly if no slot in use has the index. Otherwise that
+        // connection accepts, and no other changes.
+        ensures { HostDoes self.old 1 (host_call self.old id (Accept start now))
+            self.new out.old out.new (reply_of Did result) }
     {
         let slot = named_mut(&mut self.slots, id)?;
         let done = slot.conn.accept(start, now, out);
         done.map_err(CallFault::Refused)
     }
 
-    /// Writes data, or an EOF, and answers its number.
+    /// Writes data, or an EOF, and returns its number.
     pub fn write(
         &mut self,
         id: ConnId,
@@ -42,7 +46,10 @@ impl Host {
         out: &mut Outbox,
     ) -> Result<PktNum, CallFault>
         requires { 0 < room_of out.old }
-        ensures { HostDoes self.old 1 (host_call self.old id (Write op bytes.now now)) self.new out.old out.new (reply_of Wrote result) }
+        // A write through an index does what `Conn::write` does there, and changes no other slot.
+        // If no slot in use has the index, the answer is NoSuchConnection.
+        ensures { HostDoes self.old 1 (host_call self.old id (Write op bytes.now now))
+            self.new out.old out.new (reply_of Wrote result) }
     {
         let slot = named_mut(&mut self.slots, id)?;
         let done = slot.conn.write(op, bytes, now, out);
@@ -52,16 +59,23 @@ impl Host {
     /// Sends uncontrolled data, which may be lost and is kept nowhere.
     pub fn unc(&mut self, id: ConnId, bytes: &[u8], out: &mut Outbox) -> Result<(), CallFault>
         requires { 0 < room_of out.old }
-        ensures { HostDoes self.old 1 (host_call self.old id (Unc bytes.now)) self.new out.old out.new (reply_of Did result) }
+        // Uncontrolled data through an index is sent as `Conn::unc` sends it there, and no slot
+        // changes. If no slot in use has the index, the answer is NoSuchConnection.
+        ensures { HostDoes self.old 1 (host_call self.old id (Unc bytes.now))
+            self.new out.old out.new (reply_of Did result) }
     {
         let slot = named_mut(&mut self.slots, id)?;
         slot.conn.unc(bytes, out).map_err(CallFault::Refused)
     }
 
-    /// Announces another window, which an STS tells: [`chaos_conn::Conn::announce`].
+    /// Announces another window, which an STS carries to the peer. [`chaos_conn::Conn::announce`]
+    /// says when to announce again.
     pub fn announce(&mut self, id: ConnId, window: u16, out: &mut Outbox) -> Result<(), CallFault>
         requires { 0 < room_of out.old }
-        ensures { HostDoes self.old 1 (host_call self.old id (Announce window)) self.new out.old out.new (reply_of Did result) }
+        // An announcement through an index does what `Conn::announce` does there, and changes no
+        // other slot. If no slot in use has the index, the answer is NoSuchConnection.
+        ensures { HostDoes self.old 1 (host_call self.old id (Announce window))
+            self.new out.old out.new (reply_of Did result) }
     {
         let slot = named_mut(&mut self.slots, id)?;
         slot.conn.announce(window, out).map_err(CallFault::Refused)
@@ -70,26 +84,36 @@ impl Host {
     /// Reads the next item, where it is held, and hands it out.
     pub fn read(&mut self, id: ConnId, out: &mut Outbox) -> Result<ReadEnd, CallFault>
         requires { 0 < room_of out.old }
-        ensures { HostDoes self.old 1 (host_call self.old id Read) self.new out.old out.new (plain_reply_of Gave result) }
+        // A read through an index does what `Conn::read` does there, and changes no other slot. If
+        // no slot in use has the index, the answer is NoSuchConnection.
+        ensures { HostDoes self.old 1 (host_call self.old id Read)
+            self.new out.old out.new (plain_reply_of Gave result) }
     {
         let slot = named_mut(&mut self.slots, id)?;
         Ok(slot.conn.read(out))
     }
 
-    /// Reads the next item, where it is held, and drops it where it lies: what [`Host::read`] does, with nothing handed out.
-    /// [`Host::front`] lends the item beforehand.
+    /// Reads the next item, where it is held, and drops it where it lies. [`Host::front`] lends the
+    /// item beforehand.
     pub fn read_done(&mut self, id: ConnId, out: &mut Outbox) -> Result<ReadDone, CallFault>
         requires { 0 < room_of out.old }
-        ensures { HostDoes self.old 1 (host_call self.old id FinishRead) self.new out.old out.new (plain_reply_of Finished result) }
+        // A read that hands nothing out does what `Conn::read_done` does there, and changes no
+        // other slot. If no slot in use has the index, the answer is NoSuchConnection.
+        ensures { HostDoes self.old 1 (host_call self.old id FinishRead)
+            self.new out.old out.new (plain_reply_of Finished result) }
     {
         let slot = named_mut(&mut self.slots, id)?;
         Ok(slot.conn.read_done(out))
     }
 
-    /// Answers the request that a connection holds by one ANS, and frees its slot: a simple transaction.
+    /// Answers the request that a connection holds by one ANS: a simple transaction.
     pub fn answer(&mut self, id: ConnId, bytes: &[u8], out: &mut Outbox) -> Result<(), CallFault>
         requires { 0 < room_of out.old }
-        ensures { HostDoes self.old 1 (host_end self.old id (Answer bytes.now)) self.new out.old out.new (reply_of Did result) }
+        // An answer through an index does what `Conn::answer` does there, and changes no other
+        // slot. If it is taken, it frees the slot, whose generation moves on by one modulo 256. If
+        // no slot in use has the index, the answer is NoSuchConnection.
+        ensures { HostDoes self.old 1 (host_end self.old id (Answer bytes.now))
+            self.new out.old out.new (reply_of Did result) }
     {
         let slot = named_mut(&mut self.slots, id)?;
         let done = slot.conn.answer(bytes, out);
@@ -97,10 +121,14 @@ impl Host {
         done.map_err(CallFault::Refused)
     }
 
-    /// Refuses the request that a connection holds by a CLS with a text, and frees its slot.
+    /// Refuses the request that a connection holds by a CLS with a text.
     pub fn reject(&mut self, id: ConnId, text: &[u8], out: &mut Outbox) -> Result<(), CallFault>
         requires { 0 < room_of out.old }
-        ensures { HostDoes self.old 1 (host_end self.old id (Reject text.now)) self.new out.old out.new (reply_of Did result) }
+        // A rejection through an index does what `Conn::reject` does there, and changes no other
+        // slot. If it is taken, it frees the slot. If no slot in use has the index, the answer is
+        // NoSuchConnection.
+        ensures { HostDoes self.old 1 (host_end self.old id (Reject text.now))
+            self.new out.old out.new (reply_of Did result) }
     {
         let slot = named_mut(&mut self.slots, id)?;
         let done = slot.conn.reject(text, out);
@@ -108,11 +136,15 @@ impl Host {
         done.map_err(CallFault::Refused)
     }
 
-    /// Gives a connection up, in any state, and frees its slot. An open one, and one that holds a request, sends a CLS with
-    /// the text.
+    /// Gives a connection up, in any state. An open connection, and a connection that holds a
+    /// request, sends a CLS with the text.
     pub fn close(&mut self, id: ConnId, text: &[u8], out: &mut Outbox) -> Result<(), CallFault>
         requires { 0 < room_of out.old }
-        ensures { HostDoes self.old 1 (host_end self.old id (Close text.now)) self.new out.old out.new (reply_of Did result) }
+        // A close through an index does what `Conn::close` does there, and changes no other slot.
+        // If it is taken, it frees the slot. If no slot in use has the index, the answer is
+        // NoSuchConnection.
+        ensures { HostDoes self.old 1 (host_end self.old id (Close text.now))
+            self.new out.old out.new (reply_of Did result) }
     {
         let slot = named_mut(&mut self.slots, id)?;
         let done = slot.conn.close(text, out);

@@ -13,14 +13,14 @@ use crate::slots::{free_place, index_at};
 use chaos_packet::{MAX_DATA, Outbox, PktNum};
 
 impl Host {
-    /// Asks a peer for a contact, by the connection of the lowest free slot, and answers its index: it sends an RFC, and
-    /// numbers what it writes from `start` on. The contact is what the RFC's data are: a name, and its arguments after a
-    /// space.
+    /// Asks a peer for a contact, and returns the index of the new connection. It sends an RFC, and
+    /// what it writes is numbered from `start` on. The contact is the data of the RFC: a name, and
+    /// its arguments after a space.
     ///
-    /// Refused, in this order: `TableFull` where no slot is free; `TooLong` for a contact of more than 488 bytes;
-    /// `BadAddress` where the peer's address is 0. Nothing changes then.
+    /// Refused, in this order: `TableFull` where no slot is free; `TooLong` for a contact of more
+    /// than 488 bytes; `BadAddress` where the peer's address is 0. Nothing changes then.
     ///
-    /// A walk over the table.
+    /// The cost is a walk over the table.
     pub fn connect(
         &mut self,
         peer: u16,
@@ -30,8 +30,11 @@ impl Host {
         out: &mut Outbox,
     ) -> Result<ConnId, ConnectFault>
         requires { 0 < room_of out.old }
-        ensures does { HostDoes self.old 1 (host_connect self.old peer contact.now start now) self.new out.old out.new result }
-        // The connection with the index that is answered has asked.
+        // The connection of the lowest free slot asks the peer. The call is refused for a full
+        // table, for a contact that is too long, and for address 0.
+        ensures does { HostDoes self.old 1 (host_connect self.old peer contact.now start now)
+            self.new out.old out.new result }
+        // The connection with the returned index waits for its OPN.
         ensures asks { IfOk result (λ id. named_state self.new.slots id ≡ Some State.RfcSent) }
     {
         let place = free_place(&self.slots).ok_or(ConnectFault::TableFull)?;
@@ -59,7 +62,10 @@ impl Host {
         requires fits { length contact.now ≤ MAX_DATA }
         requires peer { (peer == 0) ≡ false }
         requires room { 0 < room_of out.old }
-        ensures does { HostDoes self.old 1 (connect_slot self.old place peer contact.now start now (slice_get self.old.slots place)) self.new out.old out.new (Ok result) }
+        ensures does { HostDoes self.old 1
+            (connect_slot self.old place peer contact.now start now
+                (slice_get self.old.slots place))
+            self.new out.old out.new (Ok result) }
         ensures asks { named_state self.new.slots result ≡ Some State.RfcSent }
     {
         let id = index_at(&self.slots, place);

@@ -19,36 +19,46 @@ use chaos_conn::Why;
 use chaos_packet::{Outbox, Packet};
 
 impl Host {
-    /// Takes a packet that came, and says what became of it.
+    /// Takes a packet that came, and returns what became of it.
     ///
     /// The checks, in this order; the first that applies decides:
     ///
     /// 1. A packet for another address is dropped: `NotOurs`.
-    /// 2. One whose source has address 0 is dropped: `NoSource`.
-    /// 3. An RFC. Where a connection took its request from this address and index, it gets the packet. Else, where nobody
-    ///    listens to exactly its contact: `NoServer`, and a CLS. Else, where no slot is free: `TableFull`, and a CLS. Else
-    ///    the connection of the lowest free slot takes the request: `Requested`.
-    /// 4. Another packet goes to the connection that its destination index names, where it comes from that connection's peer.
-    /// 5. Without such a connection OPN, EOF, data, SNS and STS are answered by a LOS: `NoConnection`. All others are
-    ///    dropped: `NoConn`.
+    /// 2. A packet whose source has address 0 is dropped: `NoSource`.
+    /// 3. An RFC goes to the connection that took its request from this address and index. Without
+    ///    one it is `NoServer`, with a CLS, if nobody listens to exactly its contact, and
+    ///    `TableFull`, with a CLS, if no slot is free. Otherwise the connection of the lowest free
+    ///    slot takes the request: `Requested`.
+    /// 4. Another packet goes to the connection that its destination index names, if it comes from
+    ///    that connection's peer.
+    /// 5. Without such a connection OPN, EOF, data, SNS and STS are answered by a LOS:
+    ///    `NoConnection`. All others are dropped: `NoConn`.
     ///
-    /// No connection changes but the one that the packet names. An RFC walks over the table; any other packet finds its slot
-    /// by one look, however many connections there are.
+    /// An RFC walks over the table. Any other packet finds its slot by one look, however many
+    /// connections there are.
     pub fn deliver(&mut self, packet: &Packet, now: u64, out: &mut Outbox) -> HostDelivered
         requires { 0 < room_of out.old }
-        ensures does { HostDoes self.old 1 (host_deliver self.old packet.now now) self.new out.old out.new result }
-        // A request that is told as taken is held by the connection with that index.
-        ensures holds { (id : ℕ) → result ≡ HostDelivered.Requested id → named_state self.new.slots id ≡ Some State.RfcReceived }
+        // A packet goes where its route leads, by one function of the view and the packet. The
+        // connection that it names changes by `act`, and no other slot does.
+        ensures does { HostDoes self.old 1 (host_deliver self.old packet.now now)
+            self.new out.old out.new result }
+        // If the answer is Requested, the connection with that index holds the request.
+        ensures holds { (id : ℕ) → result ≡ HostDelivered.Requested id →
+            named_state self.new.slots id ≡ Some State.RfcReceived }
     {
         self.take(packet, now, out).with_packet(packet)
     }
 
-    /// Takes a packet as `deliver` does, and hands no packet out: the caller has it.
+    /// Takes a packet as [`Host::deliver`] does, for a caller that keeps the packet.
     pub fn take(&mut self, packet: &Packet, now: u64, out: &mut Outbox) -> HostDisposition
         requires { 0 < room_of out.old }
-        ensures does { HostDoes self.old 1 (host_deliver self.old packet.now now) self.new out.old out.new (host_with_packet result packet.now) }
-        // A request that is told as taken is held by the connection with that index.
-        ensures holds { (id : ℕ) → result ≡ HostDisposition.Requested id → named_state self.new.slots id ≡ Some State.RfcReceived }
+        // Together with the packet the answer is the answer of `deliver`. Everything else is the
+        // same.
+        ensures does { HostDoes self.old 1 (host_deliver self.old packet.now now)
+            self.new out.old out.new (host_with_packet result packet.now) }
+        // If the answer is Requested, the connection with that index holds the request.
+        ensures holds { (id : ℕ) → result ≡ HostDisposition.Requested id →
+            named_state self.new.slots id ≡ Some State.RfcReceived }
     {
         let route = self.route(packet);
         self.follow(route, packet, now, out)
@@ -64,8 +74,10 @@ impl Host {
     ) -> HostDisposition
         requires sound { IsRouted self.old packet.now route }
         requires room { 0 < room_of out.old }
-        ensures does { HostDoes self.old 1 (deliver_by self.old packet.now now route) self.new out.old out.new (host_with_packet result packet.now) }
-        ensures holds { (id : ℕ) → result ≡ HostDisposition.Requested id → named_state self.new.slots id ≡ Some State.RfcReceived }
+        ensures does { HostDoes self.old 1 (deliver_by self.old packet.now now route)
+            self.new out.old out.new (host_with_packet result packet.now) }
+        ensures holds { (id : ℕ) → result ≡ HostDisposition.Requested id →
+            named_state self.new.slots id ≡ Some State.RfcReceived }
     {
         match route {
             Route::NotOurs => HostDisposition::Dropped(Why::NotOurs),
@@ -79,8 +91,8 @@ impl Host {
         }
     }
 
-    /// Refuses a request for a contact that nobody listens to. Replies are made in functions of their own, so that the way of a
-    /// packet to its connection has no room for one.
+    /// Refuses a request for a contact that nobody listens to. Replies are made in functions of
+    /// their own, so that the way of a packet to its connection has no room for a reply.
     fn refuse_no_server(&self, packet: &Packet, out: &mut Outbox) -> HostDisposition
         requires { 0 < room_of out.old }
         ensures put { out.new ≡ with_put out.old (no_server self.now packet.now ∷ []) }
@@ -100,7 +112,7 @@ impl Host {
         HostDisposition::TableFull
     }
 
-    /// Tells that there is no such connection.
+    /// Answers that there is no such connection.
     fn tell_lost(&self, packet: &Packet, out: &mut Outbox) -> HostDisposition
         requires { 0 < room_of out.old }
         ensures put { out.new ≡ with_put out.old (los_packet packet.now ∷ []) }
@@ -120,7 +132,9 @@ impl Host {
     ) -> HostDisposition
         requires within { place < length self.old.slots }
         requires room { 0 < room_of out.old }
-        ensures does { HostDoes self.old 1 (deliver_slot self.old packet.now now place (slice_get self.old.slots place)) self.new out.old out.new (host_with_packet result packet.now) }
+        ensures does { HostDoes self.old 1
+            (deliver_slot self.old packet.now now place (slice_get self.old.slots place))
+            self.new out.old out.new (host_with_packet result packet.now) }
         ensures not_new { (id : ℕ) → result ≢ HostDisposition.Requested id }
     {
         let id = index_at(&self.slots, place);
@@ -136,8 +150,11 @@ impl Host {
         out: &mut Outbox,
     ) -> HostDisposition
         requires { IsRequest self.old packet.now place }
-        ensures does { HostDoes self.old 1 (take_request_slot self.old packet.now now place (slice_get self.old.slots place)) self.new out.old out.new (host_with_packet result packet.now) }
-        ensures holds { (id : ℕ) → result ≡ HostDisposition.Requested id → named_state self.new.slots id ≡ Some State.RfcReceived }
+        ensures does { HostDoes self.old 1
+            (take_request_slot self.old packet.now now place (slice_get self.old.slots place))
+            self.new out.old out.new (host_with_packet result packet.now) }
+        ensures holds { (id : ℕ) → result ≡ HostDisposition.Requested id →
+            named_state self.new.slots id ≡ Some State.RfcReceived }
     {
         let id = index_at(&self.slots, place);
         let me = id.end_at(self.address);

@@ -11,13 +11,16 @@ use crate::slots::named_mut;
 use chaos_packet::Outbox;
 
 impl Host {
-    /// Frees the slot of an ended connection, and sends nothing.
+    /// Frees the slot of an ended connection.
     ///
-    /// Refused, in this order: `NoSuchConnection` where no connection has this index; `StillActive` where it hasn't ended.
-    /// Nothing changes then.
+    /// Refused, in this order: `NoSuchConnection` where no connection has this index; `StillActive`
+    /// where it hasn't ended. Nothing changes then.
     pub fn release(&mut self, id: ConnId, out: &mut Outbox) -> Result<(), CallFault>
         requires { 0 < room_of out.old }
-        ensures does { HostDoes self.old 1 (host_release self.old id) self.new out.old out.new result }
+        // A slot in an ended state is released, and no other slot changes.
+        ensures does { HostDoes self.old 1 (host_release self.old id)
+            self.new out.old out.new result }
+        // Nothing is sent.
         ensures quiet { out.new ≡ out.old }
     {
         let slot = named_mut(&mut self.slots, id)?;

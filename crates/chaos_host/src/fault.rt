@@ -17,7 +17,8 @@ pub enum MakeFault {
     NoMemory,
 }
 
-/// Why a contact isn't listened to. Where several fit, the one with the least number is answered.
+/// Why a contact isn't listened to. If several reasons apply, the answer is the one with the least
+/// number.
 #[derive(Clone, Copy, Debug, PartialEq, Eq, Error)]
 pub enum ListenFault {
     /// 1: the host listens to 16 contacts already.
@@ -34,7 +35,8 @@ pub enum ListenFault {
     BadContact,
 }
 
-/// Why a connection isn't asked for. Where several fit, the one with the least number is answered.
+/// Why a connection isn't asked for. If several reasons apply, the answer is the one with the least
+/// number.
 #[derive(Clone, Copy, Debug, PartialEq, Eq, Error)]
 pub enum ConnectFault {
     /// 1: every slot is in use.

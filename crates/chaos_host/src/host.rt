@@ -11,27 +11,38 @@ use chaos_conn::{Conn, ConnConfig};
 use std::alloc::{AllocError, Global};
 use std::marker::Model;
 
-/// A host: its address, the contacts that it listens to, and a table of slots, each with a connection. A contract sees a
-/// plain record of these, and of each call the view after it, the packets that it put out, and its answer.
+/// A host: its address, the contacts that it listens to, and a table of slots, each with a
+/// connection. A contract sees a plain record of these.
 ///
-/// Its calls are of five kinds:
+/// Each call makes of the host exactly what its definition says. Its contract is `HostDoes`: the
+/// view after the call, the packets that it put out, its answer, at most one packet (at a tick as
+/// many as the send window), and the configuration and the number of slots as they were.
 ///
-/// - The table's. [`Host::new`] makes it, with all memory that it will ever have. [`Host::listen`] adds a contact;
-///   [`Host::connect`] asks a peer for one, by the connection of the lowest free slot. [`Host::release`] frees the slot of a
-///   connection that has ended.
-/// - The user's calls on one connection, which a [`ConnId`] names. [`Host::accept`], [`Host::answer`] or [`Host::reject`]
-///   replies to a request that it holds. [`Host::write`] and [`Host::unc`] send; [`Host::read`] hands the next item out, or
-///   [`Host::front`] lends it and [`Host::read_done`] passes over it. [`Host::announce`] changes the window that the peer
-///   may fill. [`Host::close`] gives it up. `answer`, `reject` and `close` free its slot.
-/// - Packets from the network: [`Host::deliver`], which finds the connection, or takes a new request.
-/// - The tick: [`Host::tick`], called now and then for each slot, sends what is due there; [`Host::next_due`] says when
-///   something is.
-/// - Looks, which change nothing: [`Host::conn`], which lends the connection with all its looks, [`Host::state`], [`Host::announced`], [`Host::can_write`], [`Host::drained`],
-///   [`Host::heard`] and [`Host::peer`] of a connection, [`Host::contact`] and [`Host::arguments`] of a request that it holds; [`Host::id_of`], [`Host::stored`], [`Host::config`] and [`Host::conns`] of the table.
+/// The calls are of five kinds:
 ///
-/// The order: `new`; then `listen` for each contact; then packets, ticks and the user's calls as they come. An index is told
-/// by `connect`, and by `deliver` with a new request. It names its connection until the slot is freed, and no call on it
-/// touches any other slot; after that the call is refused with `NoSuchConnection`.
+/// - The calls of the table. [`Host::new`] makes it, with all memory that it will ever have.
+///   [`Host::listen`] adds a contact. [`Host::connect`] asks a peer for a contact, by the
+///   connection of the lowest free slot. [`Host::release`] frees the slot of a connection that has
+///   ended.
+/// - The user's calls on one connection, which a [`ConnId`] names. [`Host::accept`],
+///   [`Host::answer`] or [`Host::reject`] replies to a request that it holds. [`Host::write`] and
+///   [`Host::unc`] send. [`Host::read`] hands the next item out; or [`Host::front`] lends it, and
+///   [`Host::read_done`] passes over it. [`Host::announce`] changes the window that the peer may
+///   fill. [`Host::close`] gives the connection up. `answer`, `reject` and `close` free its slot.
+/// - Packets from the network: [`Host::deliver`], which finds the connection, or takes a new
+///   request.
+/// - The tick: [`Host::tick`], called now and then for each slot, sends what is due there.
+///   [`Host::next_due`] says when something is due.
+/// - Looks, which change nothing. [`Host::conn`] lends a connection with all its looks.
+///   [`Host::state`], [`Host::announced`], [`Host::can_write`], [`Host::drained`], [`Host::heard`]
+///   and [`Host::peer`] are looks at a connection, and [`Host::contact`] and [`Host::arguments`] at
+///   a request that it holds. [`Host::id_of`], [`Host::stored`], [`Host::config`] and
+///   [`Host::conns`] are looks at the table.
+///
+/// The order: `new`; then `listen` for each contact; then packets, ticks and the user's calls as
+/// they come. An index comes from `connect`, and from `deliver` with a new request. It names its
+/// connection until the slot is freed, and no call on it touches any other slot. After that the
+/// call is refused with `NoSuchConnection`.
 ///
 /// A turn, at a moment `now` and with an empty outbox `out` of room for one send window:
 ///
@@ -61,9 +72,10 @@ use std::marker::Model;
 /// }
 /// ```
 ///
-/// Each call that has an outbox asks for room for one packet in it and puts at most one there; a tick asks for room for
-/// as many as the send window, and `send_all` above hands each packet of the outbox to the network. Moments are
-/// milliseconds; one that is earlier than the last of its connection counts as that. After `new` no call takes memory.
+/// Each call with an outbox needs room for one packet in it and puts at most one packet there. A
+/// tick needs room for as many packets as the send window. `send_all` above hands each packet of
+/// the outbox to the network. Moments are milliseconds. A moment that is earlier than the last of
+/// its connection counts as the last. After `new` no call takes memory.
 #[derive(Drop)]
 pub struct Host {
     pub(crate) address: u16,
@@ -85,17 +97,20 @@ impl Model for Host {
 }
 
 impl Host {
-    /// A host with this address and so many connections, all of one configuration, which listens to nothing. It takes the
-    /// memory for all packets that the connections will keep and hold, and no later call takes any.
+    /// A host with this address and so many connections, all of one configuration, which listens to
+    /// nothing. It takes the memory for all packets that the connections will keep and hold, and no
+    /// later call takes any.
     ///
-    /// Refused, in this order: `BadAddress` for address 0; `BadCount` where the connections aren't 1 to 255; `NoMemory`, and
-    /// then what was taken before is given back.
+    /// Refused, in this order: `BadAddress`; `BadCount`; `NoMemory`, and then what was taken before
+    /// is given back.
     pub fn new(
         alloc: Global,
         address: u16,
         conns: usize,
         config: ConnConfig,
     ) -> Result<Self, MakeFault>
+        // A host is made for an address other than 0 and from 1 to 255 connections, if there is
+        // memory for all of it.
         ensures { Makes (make_fault address conns) (new_host address conns config) result }
     {
         if address == 0 {
@@ -113,18 +128,21 @@ impl Host {
         })
     }
 
-    /// The configuration of the connections. A tick asks for room for its send window.
+    /// What each connection is set to. A tick needs room for its send window.
     pub fn config(&self) -> ConnConfig
+        // This is the configuration of all connections.
         ensures value { result ≡ self.now.config }
-        // What a caller may know of any host.
+        // Every host is as `IsHost` says.
         ensures sound { IsHost self.now }
     {
         self.config
     }
 
-    /// The number of slots, from 1 to 255.
+    /// How many connections there may be at once, from 1 to 255.
     pub fn conns(&self) -> usize
+        // This is the number of slots.
         ensures value { result ≡ length self.now.slots }
+        // Every host is as `IsHost` says.
         ensures sound { IsHost self.now }
     {
         self.slots.len()

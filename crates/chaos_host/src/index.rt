@@ -4,9 +4,9 @@ ghost use Rattle.std.specs.Prelude.{◌≡◌};
 use chaos_conn::End;
 use std::marker::Model;
 
-/// The own index of one of a host's connections. In the low 8 bits it has the number of the connection's slot plus 1, and in
-/// the high 8 bits the slot's generation, so that a packet for an older connection of the slot finds none. A contract sees
-/// the number.
+/// The own index of one of a host's connections. Its low 8 bits are the number of the connection's
+/// slot plus 1, and its high 8 bits the slot's generation. So a packet for an older connection of
+/// the slot finds no connection. A contract sees the number.
 #[derive(Clone, Copy, Debug, PartialEq, Eq)]
 pub struct ConnId(pub u16);
 

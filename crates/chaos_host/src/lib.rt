@@ -1,8 +1,8 @@
-//! A Chaosnet host (AI Memo 628, on connections): a table of connections, the contacts that it listens to, what each packet
-//! that arrives makes of it, and its user's calls.
+//! A Chaosnet host (AI Memo 628, on connections): a table of connections, the contacts that it
+//! listens to, what each packet that arrives makes of it, and its user's calls.
 //!
-//! A host is a value: no sockets, no clock (moments are handed in), and no allocation after `Host::new`. Packets come in by
-//! a call and go out into an [`chaos_packet::Outbox`].
+//! A host is a value: no sockets, no clock (moments are handed in), and no allocation after
+//! `Host::new`. Packets come in by a call and go out into an [`chaos_packet::Outbox`].
 #![tactic(auto)]
 
 mod answers;

@@ -13,7 +13,10 @@ pub const MAX_CONTACT: usize = 64;
 
 /// The limits as numerals.
 pub fn law_limits()
+    // A host has at most 255 connections.
     ensures conns { MAX_CONNS ≡ 255 }
+    // A host listens to at most 16 contacts.
     ensures listeners { MAX_LISTENERS ≡ 16 }
+    // A contact that a host listens to has at most 64 bytes.
     ensures contact { MAX_CONTACT ≡ 64 }
 {}

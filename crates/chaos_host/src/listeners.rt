@@ -41,7 +41,7 @@ impl Contact {
         Contact { name: bytes }
     }
 
-    /// Whether this is the contact.
+    /// Whether these bytes are exactly this contact.
     fn is(&self, name: &[u8]) -> bool
         ensures { result ≡ bytes_eq self.now name.now }
     {
@@ -52,11 +52,15 @@ impl Contact {
 impl Host {
     /// Listens to a contact: requests for it are taken, and held for the user.
     ///
-    /// Refused, in this order: `TooMany` where the host listens to 16 contacts; `TooLong` for more than 64 bytes; `Already`
-    /// where the host listens to this contact; `BadContact` for one that is empty or has a space. Nothing changes then.
+    /// Refused, in this order: `TooMany` where the host listens to 16 contacts; `TooLong` for more
+    /// than 64 bytes; `Already` where the host listens to this contact; `BadContact` for a contact
+    /// that is empty or has a space.
     pub fn listen(&mut self, contact: &[u8]) -> Result<(), ListenFault>
+        // A contact is refused exactly for its first fault.
         ensures answer { result ≡ listen_answer (listen_fault self.old.listeners contact.now) }
-        ensures view { self.new ≡ after_listen (listen_fault self.old.listeners contact.now) self.old contact.now }
+        // A contact that isn't refused is listened to. A refused call changes nothing.
+        ensures view { self.new
+            ≡ after_listen (listen_fault self.old.listeners contact.now) self.old contact.now }
     {
         if let Some(fault) = listen_fault(&self.listeners, contact) {
             return Err(fault);
@@ -78,7 +82,8 @@ pub fn has_listener(listeners: &ArrayVec<Contact, MAX_LISTENERS>, contact: &[u8]
 /// The first fault of a contact that is to be added to these.
 fn listen_fault(listeners: &ArrayVec<Contact, MAX_LISTENERS>, contact: &[u8]) -> Option<ListenFault>
     ensures value { result ≡ listen_fault listeners.now.items contact.now }
-    ensures fits { IfNone result ((length listeners.now.items < MAX_LISTENERS) × (length contact.now ≤ MAX_CONTACT)) }
+    ensures fits { IfNone result
+        ((length listeners.now.items < MAX_LISTENERS) × (length contact.now ≤ MAX_CONTACT)) }
 {
     if listeners.len() >= MAX_LISTENERS {
         Some(ListenFault::TooMany)
@@ -107,7 +112,7 @@ fn has_space(bytes: &[u8]) -> bool
     bytes.iter().any(|byte| *byte == b' ')
 }
 
-/// Adds a contact.
+/// Adds a contact without a fault.
 fn add(listeners: &mut ArrayVec<Contact, MAX_LISTENERS>, contact: &[u8])
     requires room { length listeners.old.items < MAX_LISTENERS }
     requires fits { length contact.now ≤ MAX_CONTACT }

@@ -13,8 +13,10 @@ use chaos_conn::{Conn, State};
 use chaos_packet::Item;
 
 impl Host {
-    /// The index of the connection in a slot, and none for a free slot or a place without a slot. Slots are numbered from 0.
+    /// The index of the connection in a slot. Slots are numbered from 0.
     pub fn id_of(&self, slot: usize) -> Option<ConnId>
+        // The answer is the index of the slot in use there. A free slot has none, nor has a place
+        // without a slot.
         ensures { result ≡ id_at self.now slot }
     {
         let used = self.slots.get(slot)?;
@@ -25,12 +27,15 @@ impl Host {
         }
     }
 
-    /// The connection in a slot, lent with all its looks, and its index; none for a free slot or a place without a slot. So who
-    /// walks over the slots looks into the table once for each.
+    /// The connection in a slot, with its index. So a caller that walks over the slots looks into
+    /// the table once for each.
     pub fn conn_at(&self, slot: usize) -> Option<(ConnId, &Conn)>
+        // The connection in the slot is lent with all its looks. A free slot has none, nor has a
+        // place without a slot.
         ensures conn { option_map (λ at. (at.0, at.1.now)) result ≡ conn_at self.now slot }
-        // It is the one that `id_of` tells, and that its index names.
+        // Its index is the answer of `id_of`.
         ensures index { option_map (λ at. at.0) result ≡ id_at self.now slot }
+        // The index names the connection.
         ensures named { IfSome result (λ at. host_look self.now at.0 (λ conn. conn) ≡ Ok at.1.now) }
     {
         let used = self.slots.get(slot)?;
@@ -40,30 +45,38 @@ impl Host {
         Some((used.index_at(slot), &used.conn))
     }
 
-    /// Lends a connection, with all its looks: one look into the table for as many of them as a caller wants.
-    /// `NoSuchConnection` where none has this index; so it is with all calls here.
+    /// Lends a connection by its index. One look into the table serves all looks that a caller
+    /// needs.
+    ///
+    /// All calls here are `NoSuchConnection` if no connection has this index.
     pub fn conn(&self, id: ConnId) -> Result<&Conn, CallFault>
-        ensures { result_map_both (λ conn. conn.now) (λ fault. fault) result ≡ host_look self.now id (λ conn. conn) }
+        // The connection with the index is lent with all its looks.
+        ensures { result_map_both (λ conn. conn.now) (λ fault. fault) result
+            ≡ host_look self.now id (λ conn. conn) }
     {
         Ok(&named(&self.slots, id)?.conn)
     }
 
-    /// The state of a connection.
+    /// What a connection is doing.
     pub fn state(&self, id: ConnId) -> Result<State, CallFault>
+        // This is the state of the connection with the index.
         ensures { result ≡ host_look self.now id (λ conn. conn.state) }
     {
         Ok(named(&self.slots, id)?.conn.state())
     }
 
-    /// The address of a connection's peer, and its index where that is known.
+    /// The other end of a connection.
     pub fn peer(&self, id: ConnId) -> Result<Option<(u16, Option<u16>)>, CallFault>
+        // The answer is the peer's address there, and its index where that is known.
         ensures { result ≡ host_look self.now id (λ conn. peer_of conn) }
     {
         Ok(named(&self.slots, id)?.conn.peer())
     }
 
-    /// Whether a connection is open and its window has room, so that a write of data is taken.
+    /// Whether a write of data is taken.
     pub fn can_write(&self, id: ConnId) -> Result<bool, CallFault>
+        // The answer is whether the end there is open and fewer items are outstanding than its
+        // window allows.
         ensures { result ≡ host_look self.now id (λ conn. can_write conn) }
     {
         Ok(named(&self.slots, id)?.conn.can_write())
@@ -71,21 +84,25 @@ impl Host {
 
     /// Whether a connection's peer read all that was sent, as far as is known.
     pub fn drained(&self, id: ConnId) -> Result<bool, CallFault>
+        // The answer is whether all that was written there was acknowledged.
         ensures { result ≡ host_look self.now id (λ conn. is_drained conn) }
     {
         Ok(named(&self.slots, id)?.conn.drained())
     }
 
-    /// The window that a connection announces to its peer.
+    /// How many items past those that were read a connection takes.
     pub fn announced(&self, id: ConnId) -> Result<u16, CallFault>
+        // The connection there announces this window.
         ensures { result ≡ host_look self.now id (λ conn. conn.recv.window) }
     {
         Ok(named(&self.slots, id)?.conn.announced())
     }
 
-    /// Lends a connection's next item, where it is held.
+    /// Lends a connection's next item without reading it.
     pub fn front(&self, id: ConnId) -> Result<Option<&Item>, CallFault>
-        ensures { result_map_both (λ front. option_copied front) (λ fault. fault) result ≡ host_look self.now id (λ conn. front_of conn) }
+        // The item in front there is lent, where one is held.
+        ensures { result_map_both (λ front. option_copied front) (λ fault. fault) result
+            ≡ host_look self.now id (λ conn. front_of conn) }
     {
         Ok(named(&self.slots, id)?.conn.front())
     }

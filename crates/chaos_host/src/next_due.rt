@@ -9,12 +9,14 @@ use crate::slot::Slot;
 use chaos_conn::earlier;
 
 impl Host {
-    /// The next moment at which something is due for one of the connections, in milliseconds: before it a tick of any slot is
-    /// `Quiet`, and from it on that of some slot isn't, as long as nothing else is done with the host. 0 where something is
-    /// due already; none where no tick finds anything due.
+    /// The next moment at which something is due for one of the connections, in milliseconds, as
+    /// long as nothing else is done with the host. It is 0 if something is due already, and there
+    /// is none if no tick finds anything due.
     ///
-    /// A walk over the slots.
+    /// The cost is a walk over the slots.
     pub fn next_due(&self) -> Option<u64>
+        // At each moment of 64 bits before this one, and at each if there is none, a tick of any
+        // slot would be `Quiet`. At each moment from this one on, a tick of some slot wouldn't be.
         ensures { IsNextDue self.now result }
     {
         next_of(&self.slots)
@@ -23,7 +25,8 @@ impl Host {
 
 /// The next moment at which something is due in one of these slots.
 fn next_of(slots: &[Slot]) -> Option<u64>
-    ensures { (now : ℕ) → now < 2 ^ 64 → list_all (λ slot. is_quiet_at slot.conn now) slots.now ≡ is_before now result }
+    ensures { (now : ℕ) → now < 2 ^ 64 →
+        list_all (λ slot. is_quiet_at slot.conn now) slots.now ≡ is_before now result }
 {
     let mut next = None;
     for slot in slots {

@@ -42,7 +42,7 @@ impl Host {
     }
 }
 
-/// What tells of a lost connection: a LOS between the ends of the packet, exchanged.
+/// The report of a lost connection: a LOS between the ends of the packet, exchanged.
 pub fn los_packet(packet: &Packet) -> Packet
     ensures { result ≡ los_packet packet.now }
 {

@@ -13,27 +13,35 @@ use chaos_conn::{Conn, ConnFault, State};
 use chaos_packet::{arguments_in, contact_in};
 
 impl Host {
-    /// The contact that a connection was asked for, while its request waits for the user: the bytes before the first space,
-    /// lent.
+    /// The contact that a connection was asked for, while its request waits for the user.
     ///
-    /// Refused, in this order: `NoSuchConnection` where no connection has this index; `Refused(WrongState)` where it holds no
-    /// request, as [`Host::accept`] refuses it; so it is with [`Host::arguments`].
+    /// `contact` and `arguments` are refused, in this order: `NoSuchConnection` where no connection
+    /// has this index; `Refused(WrongState)` where it holds no request, as [`Host::accept`] refuses
+    /// it.
     pub fn contact(&self, id: ConnId) -> Result<&[u8], CallFault>
-        ensures { result_map_both (λ bytes. bytes.now) (λ fault. fault) result ≡ part_of contact_in (host_asked self.now id) }
+        // The contact of the request that waits there is lent, as `contact_in` reads it. If no
+        // request waits, the answer is WrongState.
+        ensures { result_map_both (λ bytes. bytes.now) (λ fault. fault) result
+            ≡ part_of contact_in (host_asked self.now id) }
     {
         Ok(contact_in(asked(&named(&self.slots, id)?.conn)?))
     }
 
-    /// The arguments of the request that waits: the bytes after the first space, lent, and none where there is no space.
+    /// The arguments that follow the contact in the request that waits, lent.
     pub fn arguments(&self, id: ConnId) -> Result<&[u8], CallFault>
-        ensures { result_map_both (λ bytes. bytes.now) (λ fault. fault) result ≡ part_of arguments_in (host_asked self.now id) }
+        // The arguments of the request that waits there are lent, as `arguments_in` reads them. If
+        // no request waits, the answer is WrongState.
+        ensures { result_map_both (λ bytes. bytes.now) (λ fault. fault) result
+            ≡ part_of arguments_in (host_asked self.now id) }
     {
         Ok(arguments_in(asked(&named(&self.slots, id)?.conn)?))
     }
 
-    /// The moment when a connection's peer was last heard. Who waits for a reply to a request asks again and again, and is
-    /// heard each time; so a request whose peer wasn't heard for long can be rejected or closed, which frees its slot.
+    /// A moment in milliseconds. A peer that waits for a reply to its request asks again and again,
+    /// and is heard each time. So a request whose peer wasn't heard for long can be rejected or
+    /// closed, which frees its slot.
     pub fn heard(&self, id: ConnId) -> Result<u64, CallFault>
+        // The peer there was last heard at this moment.
         ensures { result ≡ host_look self.now id (λ conn. conn.heard) }
     {
         Ok(named(&self.slots, id)?.conn.heard())

@@ -24,9 +24,9 @@ pub enum Route {
     TableFull,
     /// To the free slot at this place, as a new request.
     Request(usize),
-    /// Nowhere: it takes it that there is a connection, and there is none. Its sender is told by a LOS.
+    /// Nowhere: it needs a connection, and there is none. A LOS goes to its sender.
     SendLos,
-    /// Nowhere: there is no connection for it, and nobody is told.
+    /// Nowhere: there is no connection for it, and nothing is sent.
     DropSilently,
 }
 
@@ -106,7 +106,7 @@ fn route_no_conn(packet: &Packet) -> Route
     }
 }
 
-/// Whether packets of this kind take it that there is a connection.
+/// Whether packets of this kind need a connection.
 fn needs_conn(kind: Kind) -> bool
     ensures { result ≡ needs_conn kind }
 {

@@ -7,7 +7,8 @@ use crate::limits::MAX_CONNS;
 use chaos_conn::{Conn, State};
 use chaos_packet::Packet;
 
-/// A slot of the table: a connection, which is inactive while the slot is free, and how often the slot was freed.
+/// A slot of the table: a connection, which is inactive while the slot is free, and how often the
+/// slot was freed.
 #[derive(Drop)]
 pub struct Slot {
     /// How often the slot was freed, modulo 256.

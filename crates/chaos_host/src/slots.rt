@@ -12,11 +12,13 @@ use crate::limits::MAX_CONNS;
 use crate::slot::Slot;
 use chaos_packet::Packet;
 
-/// The slot in use whose connection has an own index: one look, and no walk. `NoSuchConnection` where none has it.
+/// The slot in use whose connection has an own index: one look, and no walk. It is
+/// `NoSuchConnection` where none has it.
 #[tactic(auto, using(std::proofs::lemmas::Option::gets))]
 pub fn named(slots: &Vec<Slot>, id: ConnId) -> Result<&Slot, CallFault>
     ensures found { IfOk result (λ slot. named_slot slots.now.items id ≡ Some slot.now) }
-    ensures none { IfErr result (λ why. (why ≡ CallFault.NoSuchConnection) × (named_slot slots.now.items id ≡ None)) }
+    ensures none { IfErr result
+        (λ why. (why ≡ CallFault.NoSuchConnection) × (named_slot slots.now.items id ≡ None)) }
 {
     let place = named_place(slots, id).ok_or(CallFault::NoSuchConnection)?;
     Ok(&slots[place])
@@ -25,7 +27,9 @@ pub fn named(slots: &Vec<Slot>, id: ConnId) -> Result<&Slot, CallFault>
 /// The place of the slot in use whose connection has an own index: one look, and no walk.
 #[tactic(auto, using(std::proofs::lemmas::Option::gets))]
 pub fn named_place(slots: &Vec<Slot>, id: ConnId) -> Option<usize>
-    ensures found { IfSome result (λ i. (i ≡ place_of id) × (i < length slots.now.items) × (named_slot slots.now.items id ≡ slice_get slots.now.items i)) }
+    ensures found { IfSome result
+        (λ i. (i ≡ place_of id) × (i < length slots.now.items)
+            × (named_slot slots.now.items id ≡ slice_get slots.now.items i)) }
     ensures none { IfNone result (named_slot slots.now.items id ≡ None) }
 {
     let place = usize::from(id.0 % 256).saturating_sub(1);
@@ -42,7 +46,8 @@ pub fn named_place(slots: &Vec<Slot>, id: ConnId) -> Option<usize>
 /// A walk over the slots.
 pub fn free_place(slots: &Vec<Slot>) -> Option<usize>
     ensures place { result ≡ free_place slots.now.items }
-    ensures vacant { IfSome result (λ i. (i < length slots.now.items) × (is_used_at slots.now.items i ≡ false)) }
+    ensures vacant { IfSome result
+        (λ i. (i < length slots.now.items) × (is_used_at slots.now.items i ≡ false)) }
 {
     slots.iter().position(|slot| slot.is_free())
 }
@@ -74,7 +79,8 @@ pub fn is_used_at(slots: &Vec<Slot>, place: usize) -> bool
 pub fn index_at(slots: &Vec<Slot>, place: usize) -> ConnId
     requires within { place < length slots.now.items }
     requires few { length slots.now.items ≤ MAX_CONNS }
-    ensures { (slot : Slot) → slice_get slots.now.items place ≡ Some slot → result ≡ index_of place slot }
+    ensures { (slot : Slot) → slice_get slots.now.items place ≡ Some slot →
+        result ≡ index_of place slot }
 {
     slots[place].index_at(place)
 }
@@ -84,7 +90,8 @@ pub fn index_at(slots: &Vec<Slot>, place: usize) -> ConnId
 pub fn named_mut(slots: &mut Vec<Slot>, id: ConnId) -> Result<&mut Slot, CallFault>
     ensures* writes_back { sem 𝓛 (LendsNamed slots.entry id result) }
     ensures found { IfOk result (λ slot. named_slot slots.old.items id ≡ Some slot.now) }
-    ensures none { IfErr result (λ why. (why ≡ CallFault.NoSuchConnection) × (named_slot slots.old.items id ≡ None)) }
+    ensures none { IfErr result
+        (λ why. (why ≡ CallFault.NoSuchConnection) × (named_slot slots.old.items id ≡ None)) }
 {
     let place = named_place(slots, id).ok_or(CallFault::NoSuchConnection)?;
     Ok(&mut slots[place])

@@ -10,18 +10,21 @@ use crate::slot::Slot;
 use chaos_conn::{ConnConfig, MAX_PACKET_BYTES};
 
 impl Host {
-    /// How many packets the connections keep and hold, and their bytes with a header for each. Whatever packets, calls and
-    /// moments came, they are at most as many as the connections times both windows, and at most 504 bytes each. A free slot
-    /// stores nothing, and a slot whose request waits for its user stores that one item.
-    ///
-    /// A walk over all items.
+    /// How many packets the connections keep and hold, and their bytes with a header for each. The
+    /// cost is a walk over all items.
     pub fn stored(&self) -> (usize, usize)
+        // What the host keeps is counted exactly.
         ensures value { result ≡ stored_of self.now }
-        ensures packets_fit { result.0 ≤ length self.now.slots * (self.now.config.send_cap + self.now.config.recv_cap) }
+        // A host of N connections with windows of S and R packets keeps at most N(S+R) packets,
+        // whatever packets, calls and moments came.
+        ensures packets_fit { result.0
+            ≤ length self.now.slots * (self.now.config.send_cap + self.now.config.recv_cap) }
+        // There are at most 504 bytes for each packet.
         ensures bytes_fit { result.1 ≤ MAX_PACKET_BYTES * result.0 }
-        // A request that waits for its user is an RFC, which its slot holds in front, and the slot stores nothing else.
+        // A request that waits for its user is the one item that its slot stores: an RFC, held in
+        // front, with nothing kept.
         ensures pending { All (λ slot. HoldsRequestAlone slot.conn) self.now.slots }
-        // What stands in a free slot stores nothing: it is as new, but for its moments.
+        // A free slot's connection is as new except for its moments, and stores nothing.
         ensures blank { All (λ slot. IsBlank slot.conn) self.now.slots }
     {
         stored_in(&self.slots, &self.config)
@@ -34,7 +37,8 @@ fn stored_in(slots: &[Slot], config: &ConnConfig) -> (usize, usize)
     requires config { All (HasConfig config.now) slots.now }
     ensures packets { result.0 ≡ packets_in slots.now }
     ensures bytes { result.1 ≡ bytes_in slots.now }
-    ensures packets_fit { result.0 ≤ length slots.now * (config.now.send_cap + config.now.recv_cap) }
+    ensures packets_fit { result.0
+        ≤ length slots.now * (config.now.send_cap + config.now.recv_cap) }
     ensures bytes_fit { result.1 ≤ MAX_PACKET_BYTES * result.0 }
 {
     let each = config.send_cap() + config.recv_cap();

@@ -15,7 +15,8 @@ use std::alloc::Global;
 #[tactic(auto, using(crate::proofs::Twice::put_twice, crate::proofs::Twice::length_both))]
 fn answer(conn: &mut Conn, reply: &[u8], now: u64, out: &mut Outbox) -> Served
     requires { 2 ≤ room_of out.old }
-    ensures { ActsTwice conn.old (after_reply conn.old reply.now now) conn.new out.old out.new result }
+    ensures { ActsTwice conn.old (after_reply conn.old reply.now now)
+        conn.new out.old out.new result }
 {
     let _command = conn.read_done(out);
     let _number = conn.write(Opcode::DATA, reply, now, out);
@@ -33,16 +34,17 @@ fn finish(conn: &mut Conn, out: &mut Outbox) -> Served
 
 /// Serves the item in front of a connection: one command at most.
 ///
-/// An open end alone is served. A data item is a command, and is taken only where its reply can be written: its bytes are
-/// carried out where they lie, then the item is read, and then the reply is written as one packet of opcode 200. An EOF is
-/// read and not answered. A command that was read is never carried out again, whatever copies of it come.
+/// Only an open end is served. A data item is a command, and is taken only if its reply can be
+/// written. Its bytes are carried out where they lie, then the item is read, and then the reply is
+/// written. A command that was read is never carried out again, whatever copies of it come.
 ///
-/// Each case that changes nothing has its own answer, see [`Served`]. That the reply is taken is told by
-/// [`law_reply_taken`](crate::law_reply_taken).
+/// Each case that changes nothing has its own answer: see [`Served`].
+/// [`law_reply_taken`](crate::law_reply_taken) says that the reply is taken.
 ///
-/// It puts at most two packets out, and asks for room for two: a status and the reply. The cost is that of the command. A
-/// command's bytes are copied only as [`Session::apply`] says, and a reply's bytes once, into the packet that is kept, and
-/// once more into the packet that goes out. No memory is taken but by `apply`.
+/// The call needs room for the two packets that it puts out at most: a status and the reply. The
+/// cost is that of the command. [`Session::apply`] says where a command's bytes are copied. A
+/// reply's bytes are copied once into the packet that is kept, and once into the packet that goes
+/// out. Only `apply` takes memory.
 pub fn serve_conn<S: Store>(
     alloc: Global,
     conn: &mut Conn,
@@ -52,8 +54,12 @@ pub fn serve_conn<S: Store>(
     out: &mut Outbox,
 ) -> Served
     requires { 2 ≤ room_of out.old }
-    ensures { ServesConn (change S.contents S.may_give S.count store.old store.new) session.old session.new
-        conn.old now conn.new out.old out.new result }
+    // If the end isn't open, the answer is Ended. If nothing is in front, the answer is Idle. If a
+    // command has no room for its reply, the answer is NoRoom. In these cases nothing changes. Any
+    // other command is applied once, by the whole promise of `Session::apply`, is read, and is
+    // answered by one packet of opcode 200. An EOF is read and not answered.
+    ensures { ServesConn (change S.contents S.may_give S.count store.old store.new)
+        session.old session.new conn.old now conn.new out.old out.new result }
 {
     match task_of(conn) {
         Task::NotOpen(state) => Served::Ended(state),

@@ -7,9 +7,11 @@ use crate::task::{Task, task_of};
 use chaos_conn::Conn;
 use chaos_host::{ConnId, Host};
 
-/// Whether [`serve_one`](crate::serve_one) would serve an item of this connection: a command in front for whose reply there is
-/// room, or an EOF. The cost is a look at what is in front.
+/// Whether [`serve_one`](crate::serve_one) has something to do. The cost is a look at what is in
+/// front.
 pub fn can_serve(host: &Host, id: ConnId) -> bool
+    // The answer is whether `serve_one` would serve an item of this connection: a command in front
+    // whose reply has room, or an EOF.
     ensures { result ≡ can_serve host.now id }
 {
     match host.conn(id) {
@@ -18,8 +20,10 @@ pub fn can_serve(host: &Host, id: ConnId) -> bool
     }
 }
 
-/// Whether [`serve_conn`](crate::serve_conn) would serve an item of this end, likewise.
+/// Whether [`serve_conn`](crate::serve_conn) has something to do.
 pub fn can_serve_conn(conn: &Conn) -> bool
+    // The answer is whether `serve_conn` would serve an item of this end: a command in front whose
+    // reply has room, or an EOF.
     ensures { result ≡ is_served (Some (work_of conn.now)) }
 {
     match task_of(conn) {

@@ -26,7 +26,8 @@ fn task_at(host: &Host, id: ConnId) -> Option<Task<'_>>
 #[tactic(auto, using(crate::proofs::Twice::put_twice, crate::proofs::Twice::length_both))]
 fn answer_at(host: &mut Host, id: ConnId, reply: &[u8], now: u64, out: &mut Outbox) -> Served
     requires { 2 ≤ room_of out.old }
-    ensures { HostDoes host.old 2 (after_reply_at host.old id reply.now now) host.new out.old out.new result }
+    ensures { HostDoes host.old 2 (after_reply_at host.old id reply.now now)
+        host.new out.old out.new result }
 {
     let _command = host.read_done(id, out);
     let _number = host.write(id, Opcode::DATA, reply, now, out);
@@ -42,8 +43,8 @@ fn finish_at(host: &mut Host, id: ConnId, out: &mut Outbox) -> Served
     Served::Eof
 }
 
-/// Serves the item in front of a connection, by calls of the host. The room for a reply is made for a command alone, so that a
-/// connection with nothing in front is passed over by one look.
+/// Serves the item in front of a connection, by calls of the host. Only a command gets room for a
+/// reply, so that a connection with nothing in front is passed over by one look.
 fn serve_by_calls<S: Store>(
     alloc: Global,
     host: &mut Host,
@@ -54,8 +55,10 @@ fn serve_by_calls<S: Store>(
     out: &mut Outbox,
 ) -> Served
     requires { 2 ≤ room_of out.old }
-    ensures { DoesWorkByCalls (change S.contents S.may_give S.count store.old store.new) session.old session.new
-        (λ acted. HostDoes host.old 2 acted host.new out.old out.new result) host.old id now (work_at host.old id) }
+    ensures { DoesWorkByCalls (change S.contents S.may_give S.count store.old store.new)
+        session.old session.new
+        (λ acted. HostDoes host.old 2 acted host.new out.old out.new result)
+        host.old id now (work_at host.old id) }
 {
     let Some(task) = task_at(host, id) else {
         return Served::NoSuchConnection;
@@ -73,10 +76,8 @@ fn serve_by_calls<S: Store>(
     }
 }
 
-/// Serves the item in front of one of a host's connections, one command at most: what [`serve_conn`](crate::serve_conn)
-/// does at its end, with the same answers and the same cost. No other connection changes.
-///
-/// `NoSuchConnection`, and nothing changes, where no connection has this index. It asks for room for two packets.
+/// Serves the item in front of one of a host's connections, one command at most. Answers and cost
+/// are those of [`serve_conn`](crate::serve_conn), and the call needs room for two packets.
 pub fn serve_one<S: Store>(
     alloc: Global,
     host: &mut Host,
@@ -87,8 +88,10 @@ pub fn serve_one<S: Store>(
     out: &mut Outbox,
 ) -> Served
     requires { 2 ≤ room_of out.old }
-    ensures { ServesOne (change S.contents S.may_give S.count store.old store.new) session.old session.new
-        host.old id now host.new out.old out.new result }
+    // At the host's connection this does what `serve_conn` does, and no other connection changes.
+    // If no connection in use has the index, the answer is NoSuchConnection, and nothing changes.
+    ensures { ServesOne (change S.contents S.may_give S.count store.old store.new)
+        session.old session.new host.old id now host.new out.old out.new result }
 {
     serve_by_calls(alloc, host, id, session, store, now, out)
 }

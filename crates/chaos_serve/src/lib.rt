@@ -1,9 +1,9 @@
-//! FILE over connections: each data item that a peer wrote is a command, which is carried out once and answered by one
-//! reply.
+//! FILE over connections: each data item that a peer wrote is a command, which is carried out once
+//! and answered by one reply.
 //!
-//! [`serve_conn`] serves an end of a connection, and [`serve_one`] one of a host's connections; [`can_serve`] says whether it
-//! would serve anything. They touch no socket and no
-//! clock, and take no memory but what [`chaos_file::Session::apply`] takes.
+//! [`serve_conn`] serves an end of a connection, and [`serve_one`] one of a host's connections.
+//! [`can_serve`] returns whether it would serve anything. The calls touch no socket and no clock,
+//! and take no memory except what [`chaos_file::Session::apply`] takes.
 #![tactic(auto)]
 
 mod conn;

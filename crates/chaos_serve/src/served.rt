@@ -11,9 +11,10 @@ pub enum Served {
     Eof,
     /// There is none, and nothing changed.
     Idle,
-    /// It is a command, and the window has no room for a reply. It stays in front, and nothing changed.
+    /// It is a command, and the window has no room for a reply. The command stays in front, and
+    /// nothing changed.
     NoRoom,
-    /// The end isn't open, but in this state. Whatever it still holds, nothing changed.
+    /// The end isn't open, but in this state. Nothing changed, whatever the end still holds.
     Ended(State),
     /// The host has no connection with this index, and nothing changed.
     NoSuchConnection,

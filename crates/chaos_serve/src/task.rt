@@ -17,7 +17,7 @@ pub(crate) enum Task<'a> {
     Command(&'a [u8]),
 }
 
-/// What is to be done at an end in this state, with this item in front, where a write is taken or not.
+/// What is to be done at an end by its state, its item in front, and whether it takes a write.
 pub(crate) fn task_by(state: State, front: Option<&Item>, can_write: bool) -> Task<'_>
     ensures { work_in result ≡ work_by state (option_copied front.entry) can_write }
 {
