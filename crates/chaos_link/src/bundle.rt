@@ -11,10 +11,10 @@ use crate::packets::{VERSION_TWO, packet_bytes};
 use arrayvec::ArrayVec;
 use chaos_packet::{HEADER_WORDS, Packet};
 
-/// Whether one datagram of version 2 can carry the packets: 1 to 8 of them, which need at most 2,020 bytes with the mark. No
-/// data byte is looked at.
+/// Whether one datagram of version 2 can carry the packets: 1 to 8 packets, which need at most
+/// 2,020 bytes with the mark. The call looks at no data byte.
 pub fn fits(packets: &[Packet]) -> bool
-    // They fit exactly where some bytes carry them.
+    // The packets fit exactly where some datagram of version 2 carries them.
     ensures carried { (result ≡ true) ↔ ((bs : List ℕ) × Carries2 packets.now bs) }
 
     // For callers that compute: the answer is a function of the packets.
@@ -26,8 +26,9 @@ pub fn fits(packets: &[Packet]) -> bool
     MARK_BYTES + bytes_of_all(packets) <= MAX_BUNDLE
 }
 
-/// The datagram of version 2 that carries the packets, which must fit ([`fits`]); its free halves are zero (own profile). The
-/// data bytes are copied once, by whole words, and nothing is allocated; [`write_datagram2`] spares the move of the datagram, too.
+/// The datagram of version 2 of the packets, which must fit ([`fits`]). Its free halves are zero
+/// (own profile). The data bytes are copied once, by whole words, and nothing is allocated.
+/// [`write_datagram2`] also saves moving the datagram.
 pub fn to_datagram2(packets: &[Packet]) -> ArrayVec<u8, MAX_BUNDLE>
     requires { fit_together packets.now ≡ true }
 
@@ -46,13 +47,14 @@ pub fn to_datagram2(packets: &[Packet]) -> ArrayVec<u8, MAX_BUNDLE>
     datagram
 }
 
-/// Writes the datagram of [`to_datagram2`] to the front of a buffer of the caller's, and says where it ends. Of the bytes
-/// behind the end nothing is promised. The data bytes are copied once, and no datagram is moved.
+/// Writes the datagram of [`to_datagram2`] to the front of the caller's buffer, and answers where
+/// the datagram ends. Of the bytes behind the end nothing is promised. The data bytes are copied
+/// once, and no datagram is moved.
 pub fn write_datagram2(packets: &[Packet], buffer: &mut [u8]) -> usize
     requires fit { fit_together packets.now ≡ true }
     requires room { MAX_BUNDLE ≤ length buffer.old }
 
-    // What is written fits, and carries the packets.
+    // What is written has 2,020 bytes at most, and carries the packets.
     ensures fits { result ≤ MAX_BUNDLE }
     ensures carried { Carries2 packets.now (take result buffer.new) }
 
@@ -85,7 +87,8 @@ fn bytes_of_all(packets: &[Packet]) -> usize
     bytes
 }
 
-/// How many bytes a packet takes. Its data are bytes, and no more than a packet has, so words spell it.
+/// How many bytes a packet takes. Its data are bytes, and no more than a packet has, so words spell
+/// it.
 pub(crate) fn bytes_of(packet: &Packet) -> usize
     ensures bytes { result ≡ 2 * (HEADER_WORDS + words_for (length packet.now.body)) }
     ensures few { result ≤ MAX_DATAGRAM }

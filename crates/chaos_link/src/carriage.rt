@@ -1,7 +1,7 @@
 //! How packets are carried on a link.
 
-/// How packets are carried on a link: the version of the datagrams that they are sent in. Datagrams of both are read, whatever
-/// is sent.
+/// The version of the datagrams that packets are sent in. Datagrams of both versions are read,
+/// whatever is sent.
 #[derive(Clone, Copy, Debug, PartialEq, Eq)]
 pub enum Carriage {
     /// Each packet is a datagram of its own, of version 1, which every host reads.

@@ -23,11 +23,12 @@ pub(crate) const MARK: [u8; 4] = [0x43, 0x48, 0x01, 0x00];
 ///    +----+----+----+----+--------+--------+--
 /// ```
 ///
-/// After the mark and the version come the packet's words, each high byte first, and nothing more. The data bytes are
-/// copied once, by whole words; nothing is allocated.
+/// After the mark and the version come the packet's words, each high byte first, and nothing more.
+/// The data bytes are copied once, by whole words, and nothing is allocated.
 ///
 /// # Errors
-/// The first fault, in the order of [`LinkFault`]: read off the number of bytes, the first four bytes and word 1 alone.
+/// The first fault, in the order of [`LinkFault`]. The number of bytes, the first four bytes and
+/// word 1 alone decide it.
 #[inline(always)]
 pub fn from_datagram(bytes: &[u8]) -> Result<Packet, LinkFault>
     // The bytes carry the packet that is read.
@@ -37,7 +38,8 @@ pub fn from_datagram(bytes: &[u8]) -> Result<Packet, LinkFault>
     ensures only { (p : PacketView) → Carries p bytes.now → result ≡ Ok p }
 
     // A refusal is the first fault, and there is none where a packet is read.
-    ensures fault { MatchResult result (λ _. fault_of bytes.now ≡ None) (λ f. fault_of bytes.now ≡ Some f) }
+    ensures fault { MatchResult result (λ _. fault_of bytes.now ≡ None)
+        (λ f. fault_of bytes.now ≡ Some f) }
 
     // For callers that compute: the answer is a function of the bytes.
     ensures exact { result ≡ datagram_read bytes.now }
@@ -74,8 +76,9 @@ pub(crate) fn packet_of(words: &[u8], count: usize) -> Packet
     packet
 }
 
-/// The same into a place of the caller's, whatever packet stands there: what is longer than the data of both stays as it is, so
-/// that a packet that is read over others again and again costs its data and no more.
+/// The same into a place of the caller's, whatever packet stands there. What is longer than the
+/// data of both stays as it is. So a packet that is read over others again and again costs its data
+/// and no more.
 #[inline(always)]
 pub(crate) fn read_over(words: &[u8], count: usize, packet: &mut Packet)
     requires long { datagram_len count ≤ MARK_BYTES + length words.now }
@@ -112,10 +115,12 @@ fn turn_over(from: &[u8], count: usize, body: &mut ArrayVec<u8, MAX_DATA>)
     body.truncate(count);
 }
 
-/// How many data bytes the datagram's packet has, where it is one: what the checks make of the bytes, in their order.
+/// How many data bytes the datagram's packet has, where it is one: what the checks make of the
+/// bytes, in their order.
 #[inline(always)]
 pub(crate) fn checked_count(bytes: &[u8]) -> Result<usize, LinkFault>
-    ensures fault { MatchResult result (λ _. fault_of bytes.now ≡ None) (λ f. fault_of bytes.now ≡ Some f) }
+    ensures fault { MatchResult result (λ _. fault_of bytes.now ≡ None)
+        (λ f. fault_of bytes.now ≡ Some f) }
     ensures count { IfOk result (λ n. n ≡ count_of (words_of (drop MARK_BYTES bytes.now))) }
     ensures small { IfOk result (λ n. n ≤ MAX_DATA) }
     ensures long { IfOk result (λ n. length bytes.now ≡ datagram_len n) }
@@ -137,10 +142,12 @@ pub(crate) fn checked_count(bytes: &[u8]) -> Result<usize, LinkFault>
     }
 }
 
-/// How many data bytes the packet at the front of the whole words of the bytes has, where one is there.
+/// How many data bytes the packet at the front of the whole words of the bytes has, where one is
+/// there.
 #[inline(always)]
 pub(crate) fn data_count(bytes: &[u8]) -> Result<usize, PacketFault>
-    ensures fault { MatchResult result (λ _. words_fault (words_of bytes.now) ≡ None) (λ f. words_fault (words_of bytes.now) ≡ Some f) }
+    ensures fault { MatchResult result (λ _. words_fault (words_of bytes.now) ≡ None)
+        (λ f. words_fault (words_of bytes.now) ≡ Some f) }
     ensures count { IfOk result (λ n. n ≡ count_of (words_of bytes.now)) }
     ensures small { IfOk result (λ n. n ≤ MAX_DATA) }
     ensures long { IfOk result (λ n. 2 * (HEADER_WORDS + words_for n) ≤ length bytes.now) }
@@ -168,8 +175,9 @@ fn word_at(bytes: &[u8], i: usize) -> u16
     u16::from_be_bytes([bytes[2 * i], bytes[2 * i + 1]])
 }
 
-/// The law that what is read of bytes is decided by [`from_datagram`]'s relation alone: a packet exactly where the bytes
-/// carry it, and else the first fault.
+/// The law of reading datagrams of version 1, over the definitions alone.
 pub fn law_carries()
+    // What is read of bytes is decided by what they carry: a packet exactly where the bytes carry
+    // it, otherwise the first fault.
     ensures { IsDecidedByCarries }
 {}

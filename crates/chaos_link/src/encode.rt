@@ -9,14 +9,14 @@ use crate::pairs::{put_words, turn_pairs};
 use arrayvec::ArrayVec;
 use chaos_packet::{HEADER_WORDS, MAX_DATA, Packet};
 
-/// The one canonical datagram that carries the packet: its free halves are zero (own profile). The data bytes
-/// are copied once, by whole words, and nothing is allocated; [`write_datagram`] spares the move of the datagram, too.
+/// The canonical datagram of the packet (own profile). The data bytes are copied once, by whole
+/// words, and nothing is allocated. [`write_datagram`] also saves moving the datagram.
 pub fn to_datagram(packet: &Packet) -> ArrayVec<u8, MAX_DATAGRAM>
-    // The datagram carries the packet, and its free halves are zero.
+    // The datagram carries the packet, and is canonical: its free halves are zero.
     ensures carried { Carries packet.now result.items }
     ensures canonical { Canonical result.items }
 
-    // No other bytes do both.
+    // No other bytes carry the packet and are canonical.
     ensures only { (bs : List ℕ) → Carries packet.now bs → Canonical bs → bs ≡ result.items }
 
     // What is read of it is the packet.
@@ -31,19 +31,22 @@ pub fn to_datagram(packet: &Packet) -> ArrayVec<u8, MAX_DATAGRAM>
     datagram
 }
 
-/// Writes the datagram of [`to_datagram`] to the front of a buffer of the caller's, and says where it ends. Of the bytes
-/// behind the end nothing is promised. The data bytes are copied once, and no datagram is moved: the call for many packets.
+/// Writes the datagram of [`to_datagram`] to the front of the caller's buffer, and answers where
+/// the datagram ends. Of the bytes behind the end nothing is promised. The data bytes are copied
+/// once, and no datagram is moved: use this call for many packets.
 #[inline(always)]
 pub fn write_datagram(packet: &Packet, buffer: &mut [u8]) -> usize
     requires { MAX_DATAGRAM ≤ length buffer.old }
 
-    // What is written fits, and carries the packet; its free halves are zero.
+    // What is written has 508 bytes at most, carries the packet, and is canonical: its free halves
+    // are zero.
     ensures fits { result ≤ MAX_DATAGRAM }
     ensures carried { Carries packet.now (take result buffer.new) }
     ensures canonical { Canonical (take result buffer.new) }
 
-    // No other bytes do both.
-    ensures only { (bs : List ℕ) → Carries packet.now bs → Canonical bs → bs ≡ take result buffer.new }
+    // No other bytes carry the packet and are canonical.
+    ensures only { (bs : List ℕ) → Carries packet.now bs → Canonical bs →
+        bs ≡ take result buffer.new }
 
     // What is read of it is the packet.
     ensures read { datagram_read (take result buffer.new) ≡ Ok packet.now }
@@ -55,14 +58,16 @@ pub fn write_datagram(packet: &Packet, buffer: &mut [u8]) -> usize
     put_packet(packet, MARK_BYTES, buffer)
 }
 
-/// Puts the words of a packet behind so many bytes, and says where they end. A packet has at most 488 data bytes, which the
-/// caller needn't know.
+/// Puts the words of a packet behind so many bytes, and says where they end. A packet has at most
+/// 488 data bytes, which the caller needn't know.
 #[inline(always)]
 pub(crate) fn put_packet(packet: &Packet, front: usize, buffer: &mut [u8]) -> usize
-    requires { length packet.now.body ≤ MAX_DATA → front + 2 * (HEADER_WORDS + words_for (length packet.now.body)) ≤ length buffer.old }
+    requires { length packet.now.body ≤ MAX_DATA →
+        front + 2 * (HEADER_WORDS + words_for (length packet.now.body)) ≤ length buffer.old }
     ensures end { result ≡ front + 2 * (HEADER_WORDS + words_for (length packet.now.body)) }
     ensures fits { result ≤ length buffer.new }
-    ensures bytes { take result buffer.new ≡ take front buffer.old ++ wire (spelling_of packet.now) }
+    ensures bytes { take result buffer.new
+        ≡ take front buffer.old ++ wire (spelling_of packet.now) }
     ensures spelled { Spells packet.now (spelling_of packet.now) }
     ensures zero { HasZeroHalves (spelling_of packet.now) }
     ensures small { length packet.now.body ≤ MAX_DATA }

@@ -1,8 +1,9 @@
-//! Chaosnet packets as UDP datagrams (own profile: the memo's hardware carriage is not used), and links that carry
-//! datagrams between hosts.
+//! Chaosnet packets as UDP datagrams (own profile: the memo's hardware carriage is not used), and
+//! links that carry datagrams between hosts.
 //!
-//! The datagrams are bytes and packets alone. Of the links one is a queue in memory, two are a pair in memory, whose
-//! constructors allocate, and one is a UDP socket, which alone waits. Nothing here reads a clock or makes a socket.
+//! The datagrams are bytes and packets alone. Of the links one is a queue in memory, two are a pair
+//! in memory, whose constructors allocate, and one is a UDP socket, which alone waits. Nothing here
+//! reads a clock or makes a socket.
 #![tactic(auto)]
 
 mod bundle;

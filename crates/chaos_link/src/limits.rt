@@ -5,7 +5,8 @@ ghost use Rattle.chaos_link.specs.declared.limits.TheConstants.{MARK_BYTES, MAX_
 /// The bytes of the mark and the version that a datagram begins with.
 pub const MARK_BYTES: usize = 4;
 
-/// The most bytes of a datagram that carries a packet: the mark, the version and the greatest packet.
+/// The most bytes of a datagram that carries a packet: the mark, the version and the greatest
+/// packet.
 pub const MAX_DATAGRAM: usize = 508;
 
 /// The most packets of a datagram of version 2.
@@ -25,11 +26,17 @@ pub const MAX_WAIT: u64 = 10;
 
 /// The limits as numerals.
 pub fn law_limits()
+    // The mark and the version have 4 bytes.
     ensures mark { MARK_BYTES ≡ 4 }
+    // A datagram that carries a packet has at most 508 bytes.
     ensures datagram { MAX_DATAGRAM ≡ 508 }
+    // A datagram of version 2 has at most 8 packets and 2,020 bytes.
     ensures packets { MAX_PACKETS ≡ 8 }
     ensures bundle { MAX_BUNDLE ≡ 2020 }
+    // A link takes a datagram of at most 2,048 bytes.
     ensures room { LINK_ROOM ≡ 2048 }
+    // A link knows at most 32 peers.
     ensures peers { MAX_PEERS ≡ 32 }
+    // A receive waits at most 10 milliseconds.
     ensures wait { MAX_WAIT ≡ 10 }
 {}

@@ -16,12 +16,13 @@ use std::marker::Model;
 /// The place of the number of packets in a datagram of version 2.
 const NUMBER: usize = 3;
 
-/// A datagram of version 2 that is built packet by packet, all of them to one destination. A contract sees its packets, of which
-/// there is one at least.
+/// A datagram of version 2 that is built packet by packet, all of them to one destination. A
+/// contract sees its packets, of which there is at least one.
 ///
-/// So packets that wait one behind the other are sent in as few datagrams as that order allows: each joins the load before it
-/// ([`Load::join`]), else that one is sent and the packet begins the next ([`Load::begin`]). It has room of its own for 2,020
-/// bytes, and takes no memory.
+/// A load lets packets that wait one behind the other go out in as few datagrams as their order
+/// allows. Each packet joins the load before it ([`Load::join`]); otherwise that load is sent and
+/// the packet begins the next ([`Load::begin`]). A load has room of its own for 2,020 bytes, and
+/// takes no memory.
 #[derive(Drop)]
 pub struct Load {
     bytes: [u8; MAX_BUNDLE],
@@ -46,6 +47,7 @@ impl Model for Load {
 impl Load {
     /// A load of this packet.
     pub fn of(packet: &Packet) -> Self
+        // A new load has its one packet.
         ensures { result ≡ packet.now ∷ [] }
     {
         let mut bytes = [0; MAX_BUNDLE];
@@ -59,16 +61,21 @@ impl Load {
 
     /// Begins a load anew, with this packet in place of those that it had.
     pub fn begin(&mut self, packet: &Packet)
+        // A load that is begun anew has this packet, and none that it had.
         ensures { self.new ≡ packet.now ∷ [] }
     {
         self.end = put_first(packet, &mut self.bytes);
         self.to = packet.dst;
     }
 
-    /// Takes a packet in, behind the others, where it joins them: where it goes to their destination, and one datagram can carry
-    /// all. Says whether it does; else nothing changes. No data byte is looked at to tell; it is copied once, by whole words.
+    /// Adds a packet to the load where the packet joins it, and answers whether it does. No data
+    /// byte is looked at for the answer; the data bytes are copied once, by whole words.
     pub fn join(&mut self, packet: &Packet) -> bool
+        // A packet joins a load exactly where it goes to the same destination and one datagram can
+        // carry all of them together.
         ensures told { result ≡ joins self.old packet.now }
+        // A packet that joins goes behind the others, and a packet that doesn't join changes
+        // nothing.
         ensures load { self.new ≡ joined self.old packet.now }
     {
         if !self.joins(packet) {
@@ -89,9 +96,9 @@ impl Load {
         self.end + bytes_of(packet) <= MAX_BUNDLE
     }
 
-    /// The Chaosnet address that all packets of the load go to.
+    /// The Chaosnet address that the load goes to.
     pub fn destination(&self) -> u16
-        // Each goes there, and there is one at least.
+        // All packets of a load, of which there is at least one, go to one destination.
         ensures all { All (λ p. p.dst ≡ result) self.now }
         ensures some { 1 ≤ length self.now }
     {
@@ -100,7 +107,8 @@ impl Load {
 
     /// The datagram of the load. Its free halves are zero.
     pub fn datagram(&self) -> &[u8]
-        // A link takes it, and it carries the packets.
+        // The datagram has 2,020 bytes at most, so that a link takes it, and it carries the
+        // packets.
         ensures fits { length result.now ≤ MAX_BUNDLE }
         ensures carried { Carries2 self.now result.now }
 
@@ -122,20 +130,23 @@ fn put_first(packet: &Packet, buffer: &mut [u8; MAX_BUNDLE]) -> usize
     put_packet(packet, MARK_BYTES, buffer)
 }
 
-/// The law of the loads of packets that wait.
+/// The law of the loads of packets that wait, over the definitions alone.
 pub fn law_loads()
-    // In order, and put together, they are the packets.
+    // The loads, one behind the other, are the packets that wait, in their order.
     ensures whole { (ps : List PacketView) → packets_of (loads_of ps) ≡ ps }
 
-    // One datagram can carry each, where no packet has more data than packets have.
-    ensures fit { (ps : List PacketView) → All IsSmall ps → All (λ load. fit_together load ≡ true) (loads_of ps) }
+    // One datagram can carry each load, where no packet has over 488 data bytes.
+    ensures fit { (ps : List PacketView) → All IsSmall ps →
+        All (λ load. fit_together load ≡ true) (loads_of ps) }
 
     // Each has one destination.
     ensures one { (ps : List PacketView) → All HasOneDestination (loads_of ps) }
 
-    // Each is the longest front of what is left: the next one's first packet goes elsewhere, or doesn't fit.
+    // Each load is the longest prefix of what is left: the first packet of the next load goes
+    // elsewhere, or doesn't fit.
     ensures longest { (ps : List PacketView) → AreLongest (loads_of ps) }
 
     // No other loads are all of that.
-    ensures only { (ps : List PacketView) (loads : List (List PacketView)) → AreLoadsOf ps loads → loads ≡ loads_of ps }
+    ensures only { (ps : List PacketView) (loads : List (List PacketView)) → AreLoadsOf ps loads →
+        loads ≡ loads_of ps }
 {}

@@ -9,10 +9,11 @@ use circular_buffer::HeapCircularBuffer;
 use std::alloc::{AllocError, Global};
 use std::marker::Model;
 
-/// One queue of datagrams, whatever address they are sent to: what is sent into it is received from it, in order. A
-/// contract sees the datagrams, the oldest first, each with its address, and how many there may be.
+/// One queue of datagrams, whatever address they are sent to: what is sent into it is received from
+/// it, in order. A contract sees the datagrams, the oldest first, each with its address, and how
+/// many there may be.
 ///
-/// `new` takes the memory for all of them, and no later call takes any.
+/// `new` takes the memory for all datagrams, and no later call takes any.
 #[derive(Drop)]
 pub struct MemLink {
     ring: HeapCircularBuffer<Datagram>,
@@ -46,8 +47,9 @@ impl MemLink {
     /// An empty queue, with room for `cap` datagrams of 2,048 bytes.
     ///
     /// # Errors
-    /// No memory for them.
+    /// No memory for the datagrams.
     pub fn new(alloc: Global, cap: usize) -> Result<Self, AllocError>
+        // A new link in memory is an empty queue of this cap.
         ensures { IfOk result (λ link. link ≡ record { datagrams = []; cap = cap }) }
     {
         let ring = HeapCircularBuffer::with_capacity(alloc, cap)?;
@@ -74,13 +76,14 @@ impl Link for MemLink {
 
     ghost began = { λ _. tt };
 
-    /// Puts the datagram behind those that wait. One that finds the queue full is lost, and answered as sent.
+    /// Puts the datagram behind those that wait, with its address. A datagram that finds the queue
+    /// full is lost, and the answer is still Sent.
     fn send(&mut self, to_address: u16, bytes: &[u8]) -> Sent {
         let _lost = self.ring.try_push_back(datagram_to(to_address, bytes));
         Sent::Sent
     }
 
-    /// Takes the oldest datagram out, and never waits. The buffer behind it stays as it was.
+    /// Takes the oldest datagram out, and never waits. The rest of the buffer stays as it was.
     fn receive(&mut self, buffer: &mut [u8; LINK_ROOM], _may_wait: bool) -> Received {
         match self.ring.pop_front() {
             Some(datagram) => {

@@ -15,11 +15,11 @@ use std::marker::Model;
 /// The third byte of a datagram that carries several packets.
 pub(crate) const VERSION_TWO: u8 = 2;
 
-/// The packets of a datagram, which lie in it and are taken one after the other. A contract sees the list of those that are
-/// left.
+/// The packets of a datagram, which lie in it and are taken one after the other. A contract sees
+/// the list of the packets that are left.
 ///
-/// A datagram is looked through before any packet is taken ([`open_datagram`]), so none of a bad one is. Taking a packet
-/// copies its data bytes once.
+/// [`open_datagram`] checks a datagram before any packet is taken, so that no packet of a bad
+/// datagram is taken. Taking a packet copies its data bytes once.
 #[derive(Drop)]
 pub struct Packets<'a> {
     words: &'a [u8],
@@ -42,6 +42,7 @@ impl<'a> Model for Packets<'a> {
 impl<'a> Packets<'a> {
     /// Takes the next packet out.
     pub fn next(&mut self) -> Option<Packet>
+        // The packets of an opened datagram come out in their order, each once, and then none.
         ensures packet { result ≡ slice_get self.old 0 }
         ensures rest { self.new ≡ drop 1 self.old }
     {
@@ -49,11 +50,13 @@ impl<'a> Packets<'a> {
         Some(packet_of(words, count))
     }
 
-    /// Takes the next packet out into a place of the caller's, whatever packet stands there, and says whether there was one: a
-    /// caller who takes one after the other keeps one place for all of them, and pays for the data alone. Where none is left,
-    /// the place stays as it is.
+    /// Takes the next packet out into a place of the caller's, whatever packet stands there, and
+    /// answers whether there was a packet. A caller that keeps one place for all packets pays for
+    /// their data alone.
     pub fn next_into(&mut self, packet: &mut Packet) -> bool
+        // The packets come out in their order, each once, and then none.
         ensures packet { (if result then Some packet.new else None) ≡ slice_get self.old 0 }
+        // Where no packet is left, the place stays as it is.
         ensures none { result ≡ false → packet.new ≡ packet.old }
         ensures rest { self.new ≡ drop 1 self.old }
     {
@@ -67,7 +70,8 @@ impl<'a> Packets<'a> {
     /// Steps over the next packet: the words that it begins, and how many data bytes it has.
     #[inline(always)]
     fn step(&mut self) -> Option<(&'a [u8], usize)>
-        ensures packet { option_map (λ at. packet_at (words_of at.0.now)) result ≡ slice_get self.old 0 }
+        ensures packet { option_map (λ at. packet_at (words_of at.0.now)) result
+            ≡ slice_get self.old 0 }
         ensures count { IfSome result (λ at. at.1 ≡ count_of (words_of at.0.now)) }
         ensures small { IfSome result (λ at. at.1 ≤ MAX_DATA) }
         ensures long { IfSome result (λ at. datagram_len at.1 ≤ MARK_BYTES + length at.0.now) }
@@ -87,7 +91,7 @@ impl<'a> Packets<'a> {
     }
 }
 
-/// The packets of a datagram of either version (own profile), once it was looked through and has no fault.
+/// Opens a datagram of either version (own profile): checks it, and gives its packets.
 ///
 /// ```text
 ///       0    1    2    3     4 ..                 4 + n ..
@@ -98,20 +102,23 @@ impl<'a> Packets<'a> {
 ///    +----+----+----+----+--------------------+--------------------+--
 /// ```
 ///
-/// Each packet's header is looked at once; no data byte is, and nothing is copied or allocated.
+/// The call looks at each packet's header once and at no data byte. Nothing is copied or allocated.
 ///
 /// # Errors
-/// The first fault. Where the third byte is 2: `BadNumber` (N isn't 1 to 8), `TooLong`, `PacketAt` for the first packet at
-/// fault, `Trailing`. Else those of [`from_datagram`](crate::from_datagram), which come before where the mark isn't there.
+/// The first fault. Where the third byte is 2: `BadNumber` (N isn't 1 to 8), `TooLong`, `PacketAt`
+/// for the first packet at fault, `Trailing`. Otherwise the faults of
+/// [`from_datagram`](crate::from_datagram). They come first where the mark isn't there.
 pub fn open_datagram(bytes: &[u8]) -> Result<Packets<'_>, LinkFault>
     // The bytes carry the packets that are read.
     ensures carried { IfOk result (λ packets. CarriesAll packets bytes.now) }
 
     // Whatever packets the bytes carry are read.
-    ensures only { (packets : List PacketView) → CarriesAll packets bytes.now → result ≡ Ok packets }
+    ensures only { (packets : List PacketView) → CarriesAll packets bytes.now →
+        result ≡ Ok packets }
 
     // A refusal is the first fault, and there is none where packets are read.
-    ensures fault { MatchResult result (λ _. fault_of_all bytes.now ≡ None) (λ f. fault_of_all bytes.now ≡ Some f) }
+    ensures fault { MatchResult result (λ _. fault_of_all bytes.now ≡ None)
+        (λ f. fault_of_all bytes.now ≡ Some f) }
 
     // For callers that compute: the answer is a function of the bytes.
     ensures exact { result ≡ packets_read bytes.now }
@@ -126,8 +133,8 @@ pub fn open_datagram(bytes: &[u8]) -> Result<Packets<'_>, LinkFault>
     Ok(Packets { words, left: 1 })
 }
 
-/// The packets of a datagram of either version, as [`open_datagram`] reads it, in an array of their own: 4 KB, for callers that
-/// want them all at once. Nothing is allocated.
+/// The packets of a datagram of either version, as [`open_datagram`] reads it, in an array of their
+/// own: 4 KB, for callers that need them all at once. Nothing is allocated.
 ///
 /// # Errors
 /// Those of [`open_datagram`].
@@ -136,13 +143,16 @@ pub fn read_datagram(bytes: &[u8]) -> Result<ArrayVec<Packet, MAX_PACKETS>, Link
     ensures carried { IfOk result (λ packets. CarriesAll packets.items bytes.now) }
 
     // Whatever packets the bytes carry are read.
-    ensures only { (packets : List PacketView) → CarriesAll packets bytes.now → result ≡ Ok (record { items = packets }) }
+    ensures only { (packets : List PacketView) → CarriesAll packets bytes.now →
+        result ≡ Ok (record { items = packets }) }
 
     // A refusal is the first fault, and there is none where packets are read.
-    ensures fault { MatchResult result (λ _. fault_of_all bytes.now ≡ None) (λ f. fault_of_all bytes.now ≡ Some f) }
+    ensures fault { MatchResult result (λ _. fault_of_all bytes.now ≡ None)
+        (λ f. fault_of_all bytes.now ≡ Some f) }
 
     // For callers that compute: the answer is a function of the bytes.
-    ensures exact { MatchResult result (λ packets. packets_read bytes.now ≡ Ok packets.items) (λ f. packets_read bytes.now ≡ Err f) }
+    ensures exact { MatchResult result (λ packets. packets_read bytes.now ≡ Ok packets.items)
+        (λ f. packets_read bytes.now ≡ Err f) }
 {
     let mut left = open_datagram(bytes)?;
     let mut packets = ArrayVec::new();
@@ -154,9 +164,10 @@ pub fn read_datagram(bytes: &[u8]) -> Result<ArrayVec<Packet, MAX_PACKETS>, Link
     Ok(packets)
 }
 
-/// Whether the mark is there and the third byte is 2, as of a datagram of version 2. Nothing else is looked at: it may have any
-/// fault behind them.
+/// Whether the bytes begin as a datagram of version 2 does.
 pub fn is_version_two(bytes: &[u8]) -> bool
+    // The mark is there, and the third byte is 2. Nothing else is looked at: the bytes may have any
+    // fault behind these.
     ensures { result ≡ is_two bytes.now }
 {
     bytes.len() >= MARK_BYTES
@@ -165,12 +176,15 @@ pub fn is_version_two(bytes: &[u8]) -> bool
         && bytes[2] == VERSION_TWO
 }
 
-/// How many packets a datagram of version 2 has, where it has no fault: what the checks make of the bytes, in their order.
+/// How many packets a datagram of version 2 has, where it has no fault: what the checks make of the
+/// bytes, in their order.
 fn checked_number(bytes: &[u8]) -> Result<usize, LinkFault>
     requires { is_two bytes.now ≡ true }
-    ensures fault { MatchResult result (λ _. fault_of_two bytes.now ≡ None) (λ f. fault_of_two bytes.now ≡ Some f) }
+    ensures fault { MatchResult result (λ _. fault_of_two bytes.now ≡ None)
+        (λ f. fault_of_two bytes.now ≡ Some f) }
     ensures number { IfOk result (λ n. n ≡ slice_index bytes.now 3) }
-    ensures none { IfOk result (λ n. packets_fault n 1 (words_of (drop MARK_BYTES bytes.now)) ≡ None) }
+    ensures none { IfOk result
+        (λ n. packets_fault n 1 (words_of (drop MARK_BYTES bytes.now)) ≡ None) }
 {
     let number = bytes[3];
     if number < 1 || number > MAX_PACKETS as u8 {
@@ -189,8 +203,10 @@ fn checked_number(bytes: &[u8]) -> Result<usize, LinkFault>
 /// How many bytes stand behind so many packets.
 fn left_over(words: &[u8], number: u8) -> Result<usize, LinkFault>
     requires { number ≤ MAX_PACKETS }
-    ensures fault { MatchResult result (λ _. packets_fault number 1 (words_of words.now) ≡ None) (λ f. packets_fault number 1 (words_of words.now) ≡ Some f) }
-    ensures over { IfOk result (λ over. 2 * packets_len number (words_of words.now) + over ≡ length words.now) }
+    ensures fault { MatchResult result (λ _. packets_fault number 1 (words_of words.now) ≡ None)
+        (λ f. packets_fault number 1 (words_of words.now) ≡ Some f) }
+    ensures over { IfOk result
+        (λ over. 2 * packets_len number (words_of words.now) + over ≡ length words.now) }
 {
     let mut rest = words;
     for k in 0..number {
@@ -214,9 +230,11 @@ pub(crate) fn packet_bytes(count: usize) -> usize
     2 * (HEADER_WORDS + (count + 1) / 2)
 }
 
-/// The law that what is read of bytes is decided by the grammar alone: packets exactly where the bytes carry them, and else
-/// the first fault; and that at most one list of packets is carried by any bytes.
+/// The law of reading datagrams of either version, over the definitions alone.
 pub fn law_carries2()
+    // What is read of bytes is decided by what they carry: packets exactly where the bytes carry
+    // these packets, otherwise the first fault.
     ensures decided { IsDecidedByCarriesAll }
+    // Any bytes carry at most one list of packets.
     ensures one { AtMostOneList }
 {}

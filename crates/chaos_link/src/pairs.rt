@@ -20,7 +20,8 @@ pub(crate) fn turn_pairs(from: &[u8], to: &mut [u8])
     turn_few(&from[rest..], &mut to[rest..]);
 }
 
-/// The same for a block of bytes or fewer: read whole before any is written, so that no byte written can be one to be read.
+/// The same for a block of bytes or fewer: read whole before any is written, so that no byte
+/// written can be one to be read.
 #[inline(always)]
 fn turn_few(from: &[u8], to: &mut [u8])
     requires few { length from.now ≤ BLOCK }

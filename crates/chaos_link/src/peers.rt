@@ -17,7 +17,8 @@ pub struct Peer {
     pub socket: SocketAddrV4,
 }
 
-/// Stands in the places of a table that hold no peer yet: address 0, which no host has, at no socket.
+/// Stands in the places of a table that hold no peer yet: address 0, which no host has, at no
+/// socket.
 impl Default for Peer {
     ghost is_default = { λ peer. (peer.address ≡ 0) × (v4_port peer.socket ≡ 0) };
 
@@ -29,8 +30,10 @@ impl Default for Peer {
     }
 }
 
-/// The hosts that a link reaches: each has an entry, at most [`MAX_PEERS`] of them, and each address one entry. All other hosts are
-/// reached through a bridge, where there is one. A contract sees the entries in the order of their coming, and the bridge.
+/// The hosts that a link reaches. Each peer has an entry, and no two entries have the same address;
+/// there are at most [`MAX_PEERS`] entries. All other hosts are reached through a bridge, where
+/// there is one. A contract sees the entries, in the order in which they were added, and the
+/// bridge.
 #[derive(Clone, Drop)]
 pub struct Peers {
     table: ArrayVec<Peer, MAX_PEERS>,
@@ -50,8 +53,9 @@ impl Model for Peers {
 }
 
 impl Peers {
-    /// No peers, and no bridge.
+    /// An empty table.
     pub fn new() -> Self
+        // A new table has no peers and no bridge.
         ensures { result ≡ record { hosts = []; bridge = None } }
     {
         Peers {
@@ -60,8 +64,9 @@ impl Peers {
         }
     }
 
-    /// The entries, in the order of their coming.
+    /// The peers, each with the UDP address that its datagrams go to.
     pub fn hosts(&self) -> &[Peer]
+        // The peers are given in the order in which they were added, 32 at most.
         ensures hosts { result.now ≡ self.now.hosts }
         ensures few { length result.now ≤ MAX_PEERS }
     {
@@ -70,16 +75,18 @@ impl Peers {
 
     /// The UDP address of the bridge to all hosts that have no entry.
     pub fn bridge(&self) -> Option<SocketAddrV4>
+        // The bridge is the one that was set last, where one was set.
         ensures { result ≡ self.now.bridge }
     {
         self.bridge
     }
 
-    /// Where datagrams for this Chaosnet address go: to the UDP address of the entry that has it, else to the bridge. Where there is
-    /// neither, they go nowhere.
+    /// Where datagrams for this Chaosnet address go. The answer is `None` where they go nowhere.
     ///
-    /// One walk over the entries.
+    /// The call walks over the entries once.
     pub fn find(&self, address: u16) -> Option<SocketAddrV4>
+        // Datagrams for a Chaosnet address go to the UDP address of the peer with that address,
+        // otherwise to the bridge. They go nowhere where there is neither.
         ensures { result ≡ socket_of address self.now }
     {
         self.entry(address).or(self.bridge)
@@ -98,12 +105,19 @@ impl Peers {
     /// Adds a peer.
     ///
     /// # Errors
-    /// A table that is full, else an address that an entry has already. The table then stays as it was.
+    /// The table is full, or an entry has the address already. The first of these that holds is
+    /// given.
     pub fn add(&mut self, peer: Peer) -> Result<(), PeerFault>
-        ensures ok { OnOk result (self.new ≡ record self.old { hosts = self.old.hosts ++ peer ∷ [] }) }
+        // The peer is added behind the others. No other entry changes, nor does the bridge.
+        ensures ok { OnOk result
+            (self.new ≡ record self.old { hosts = self.old.hosts ++ peer ∷ [] }) }
+        // A refusal changes nothing.
         ensures err { OnErr result (self.new ≡ self.old) }
+        // A peer is refused exactly where there are 32 peers already, or the table has its address;
+        // the first of these that holds is given.
         ensures too_many { IsErrOf result PeerFault.TooMany ↔ (length self.old.hosts ≡ MAX_PEERS) }
-        ensures already { IsErrOf result PeerFault.Already ↔ ((length self.old.hosts < MAX_PEERS) × IsKnown peer.address self.old.hosts) }
+        ensures already { IsErrOf result PeerFault.Already
+            ↔ ((length self.old.hosts < MAX_PEERS) × IsKnown peer.address self.old.hosts) }
     {
         if self.table.is_full() {
             return Err(PeerFault::TooMany);
@@ -117,6 +131,7 @@ impl Peers {
 
     /// Sets the bridge. A bridge that was set before is replaced.
     pub fn set_bridge(&mut self, socket: SocketAddrV4)
+        // The bridge is set, and no peer changes.
         ensures { self.new ≡ record self.old { bridge = Some socket } }
     {
         self.bridge = Some(socket);

@@ -11,19 +11,22 @@ use std::io;
 use std::net::{SocketAddr, SocketAddrV4, UdpSocket};
 use std::time::Duration;
 
-/// A socket by which datagrams leave and come: the system's, or one that tells what it was asked.
+/// A socket by which datagrams leave and come: the system's socket, or a socket that reports what
+/// it was asked.
 ///
-/// So a contract over every socket says where a datagram goes, which none says of the system's alone.
+/// The trait lets a contract over every socket say where a datagram goes. No contract says that of
+/// the system's socket alone.
 pub trait DatagramSocket {
-    /// What the socket may have been asked between an earlier state and this state, in order, whatever the socket answered. The
-    /// later state stands first. A socket that claims nothing, as the system's, allows any list.
+    /// What the socket may have been asked between an earlier state and this state, in order,
+    /// whatever the socket answered. The later state stands first. A socket that claims nothing, as
+    /// the system's, allows any list.
     ghost asked: { Self → Self → List SocketAsk → Type 0 };
 
     /// Nothing was asked since the present state.
     ghost began: { (socket : Self) → asked socket socket [] };
 
-    /// What the socket may have answered to its last call: an error, or none. A socket that claims nothing, as the system's, allows
-    /// any.
+    /// What the socket may have answered to its last call: an error, or none. A socket that claims
+    /// nothing, such as the system's, allows any answer.
     ghost answered: { Self → Option Error → Type 0 } = { λ _ _. Unit {0} };
 
     /// Sends a datagram to this UDP address.
@@ -31,32 +34,42 @@ pub trait DatagramSocket {
     /// # Errors
     /// The socket's. It was asked all the same.
     fn send_datagram(&mut self, bytes: &[u8], to: SocketAddrV4) -> io::Result<()>
-        ensures asked { Asks (asked self.old) (asked self.new) (SendTo (record { to = to; bytes = bytes.now }) ∷ []) }
+        // The socket is asked once to send these bytes to this UDP address.
+        ensures asked { Asks (asked self.old) (asked self.new)
+            (SendTo (record { to = to; bytes = bytes.now }) ∷ []) }
+        // Whether the call failed, and by which error, is what the socket says that it answered.
         ensures answered { answered self.new (error_of result) };
 
-    /// Receives a datagram into the front of the buffer, and says how many bytes it has there.
+    /// Receives a datagram into the front of the buffer, and answers how many bytes it has there.
     ///
     /// # Errors
     /// The socket's, also where nothing came.
     fn receive_datagram(&mut self, buffer: &mut [u8; LINK_ROOM]) -> io::Result<usize>
+        // No more bytes come than the buffer has.
         ensures within { IfOk result (λ count. count ≤ LINK_ROOM) }
+        // The socket is asked once for a datagram.
         ensures asked { Asks (asked self.old) (asked self.new) (ReceiveOne ∷ []) }
+        // Whether the call failed, and by which error, is what the socket says that it answered.
         ensures answered { answered self.new (error_of result) };
 
-    /// How long a send or a receive waits at most, where they wait.
+    /// Sets how long a send or a receive waits at most, where it waits.
     ///
     /// # Errors
     /// The socket's.
     fn set_wait(&mut self, wait: Duration) -> io::Result<()>
+        // The socket is asked to wait for at most this time.
         ensures asked { Asks (asked self.old) (asked self.new) (WaitAtMost (as_nanos wait) ∷ []) }
+        // Whether the call failed, and by which error, is what the socket says that it answered.
         ensures answered { answered self.new (error_of result) };
 
-    /// Whether they wait.
+    /// Sets whether sends and receives wait, or return at once.
     ///
     /// # Errors
     /// The socket's.
     fn set_waits(&mut self, waits: bool) -> io::Result<()>
+        // The socket is asked to wait, or to poll.
         ensures asked { Asks (asked self.old) (asked self.new) (Wait waits ∷ []) }
+        // Whether the call failed, and by which error, is what the socket says that it answered.
         ensures answered { answered self.new (error_of result) };
 }
 
