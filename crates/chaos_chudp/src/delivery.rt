@@ -11,7 +11,7 @@ pub struct Delivery {
     pub to: u16,
     /// The address of the hop that sent it.
     pub from: u16,
-    /// The sum.
+    /// The sum, as it stands in the bytes.
     pub sum: u16,
 }
 

@@ -8,8 +8,8 @@ use arrayvec::ArrayVec;
 use chaos_link::{MAX_PEERS, Peer};
 use std::marker::Model;
 
-/// Which Chaosnet addresses a host reaches directly, at most [`MAX_PEERS`] of them, and the Chaosnet address of the bridge through
-/// which the host reaches all others, where that address is known.
+/// Which Chaosnet addresses a host reaches directly, at most [`MAX_PEERS`] of them. All others are
+/// reached through a bridge, where the Chaosnet address of that bridge is known.
 #[derive(Drop)]
 pub struct Hops {
     near: ArrayVec<u16, MAX_PEERS>,
@@ -29,8 +29,10 @@ impl Model for Hops {
 }
 
 impl Hops {
-    /// No bridge is known: each address is its own hop.
+    /// The hops of a host that talks to its peers alone, or doesn't know the Chaosnet address of
+    /// its bridge.
     pub fn direct() -> Self
+        // No address is listed and no bridge is known, so that each address is its own hop.
         ensures { result ≡ record { near = []; bridge = None } }
     {
         Hops {
@@ -39,17 +41,21 @@ impl Hops {
         }
     }
 
-    /// All addresses are reached through the bridge with this address.
+    /// The hops of a host whose packets all go through the bridge with this address.
     pub fn through(bridge: u16) -> Self
+        // No address is reached directly, and all are reached through this bridge.
         ensures { result ≡ record { near = []; bridge = Some bridge } }
     {
         Hops::beside(&[], bridge)
     }
 
-    /// The addresses of these hosts are reached directly, and all others through the bridge with this address.
+    /// The hops of a host that reaches these hosts directly, and all others through the bridge with
+    /// this address.
     pub fn beside(hosts: &[Peer], bridge: u16) -> Self
         requires { length hosts.now ≤ MAX_PEERS }
-        ensures { result ≡ record { near = map (λ host. host.address) hosts.now; bridge = Some bridge } }
+        // The addresses of these hosts are reached directly, and all others through this bridge.
+        ensures { result
+            ≡ record { near = map (λ host. host.address) hosts.now; bridge = Some bridge } }
     {
         let mut near = ArrayVec::new();
         for host in hosts {
@@ -61,11 +67,12 @@ impl Hops {
         }
     }
 
-    /// The next hop on the way to an address: the address itself where the host reaches the address directly or knows no bridge,
-    /// else the bridge.
+    /// The next hop on the way to an address.
     ///
-    /// One walk over the addresses that are reached directly.
+    /// The call walks once over the addresses that are reached directly.
     pub fn next(&self, to: u16) -> u16
+        // The next hop is the address itself where it is reached directly or no bridge is known,
+        // otherwise the bridge.
         ensures { result ≡ hop_of to self.now }
     {
         if self.is_near(to) {

@@ -1,5 +1,6 @@
-//! CHUDP: how cbridge, klh10, usim and others put Chaosnet packets into UDP datagrams, and a link that speaks CHUDP over
-//! another link. Nobody has tried this crate together with one of these programs.
+//! CHUDP: how cbridge, klh10, usim and others put Chaosnet packets into UDP datagrams, and a link
+//! that speaks CHUDP over another link. Nobody has tried this crate together with one of these
+//! programs.
 //!
 //! Bytes and packets alone: no socket and no clock, and nothing is allocated.
 #![tactic(auto)]

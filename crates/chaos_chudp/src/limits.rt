@@ -13,6 +13,7 @@ pub const MAX_CHUDP: usize = 514;
 
 /// The limits as numerals.
 pub fn law_limits()
+    // The head has 4 bytes, the trailer 6, and a datagram that carries a packet at most 514.
     ensures head { HEAD_BYTES ≡ 4 }
     ensures trailer { TRAILER_BYTES ≡ 6 }
     ensures datagram { MAX_CHUDP ≡ 514 }

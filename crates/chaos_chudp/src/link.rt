@@ -12,12 +12,13 @@ use crate::write::close;
 use chaos_link::{DatagramSocket, LINK_ROOM, Link, Received, Sent};
 use std::marker::Model;
 
-/// A link over another that carries in CHUDP what is sent to it as datagrams of version 1, and hands up as these what
-/// comes in CHUDP.
+/// A link over another link, which carries packets in CHUDP. What is sent to it as a datagram of
+/// version 1 goes out in CHUDP, and what comes in CHUDP is handed up as a datagram of version 1.
 ///
-/// Anything else that is sent is lost, and answered as sent; so is each datagram of version 2. Anything else that comes is handed up
-/// as a datagram of no bytes, which carries no packet. The trailer's next hop is that of the address to which the datagram is sent.
-/// The link takes no memory.
+/// Anything else that is sent is lost, such as a datagram of version 2, and the answer is still
+/// Sent. Anything else that comes is handed up as a datagram of no bytes, which carries no packet.
+/// The trailer names the next hop to the address that the datagram is sent to. The link takes no
+/// memory.
 #[derive(Drop)]
 pub struct ChudpLink<L> {
     inner: L,
@@ -35,8 +36,9 @@ impl<L> Model for ChudpLink<L> {
 }
 
 impl<L> ChudpLink<L> {
-    /// A link over this one, of the host with this address, whose packets take these hops.
+    /// A link over this link, for the host with this address, whose packets take these hops.
     pub fn new(inner: L, me: u16, hops: Hops) -> Self
+        // A new link has the link beneath, the own address and the hops that it was given.
         ensures { result ≡ record { inner = inner; me = me; hops = hops } }
     {
         ChudpLink { inner, me, hops }
@@ -53,17 +55,32 @@ impl<L: Link> Link for ChudpLink<L> {
 
     ghost began = { λ link. record { me = refl; hops = refl; beneath = L.began link.inner } };
 
+    /// Sends a datagram of version 1 in its CHUDP form to the same address.
     fn send(&mut self, to_address: u16, bytes: &[u8]) -> Sent
         requires { length bytes.now ≤ LINK_ROOM }
-        ensures failed { result ≡ Sent.Failed → Rose (L.count self.old.inner) (L.count self.new.inner) }
+        // A send is answered Failed only where the count of the link beneath rose; otherwise that
+        // count stays. The link is no queue.
+        ensures failed { result ≡ Sent.Failed →
+            Rose (L.count self.old.inner) (L.count self.new.inner) }
         ensures uncounted { result ≢ Sent.Failed → L.count self.new.inner ≡ L.count self.old.inner }
         ensures queued { Unit {0} }
-        ensures asked { Asks (AsksBeneath L.asked self.old) (AsksBeneath L.asked self.new) (Send (record { to = to_address; bytes = bytes.now }) ∷ []) }
-        // Of a datagram of version 1 the link beneath is asked once to send the CHUDP form to this address; where it is a queue, it takes it.
-        ensures over { fault_of bytes.now ≡ None → Asks (L.asked self.old.inner) (L.asked self.new.inner) (Send (record { to = to_address; bytes = form_to self.old.hops self.old.me to_address bytes.now }) ∷ []) }
-        ensures into { fault_of bytes.now ≡ None → IfSome (L.queue self.old.inner) (SendsInto to_address (form_to self.old.hops self.old.me to_address bytes.now) result (L.queue self.new.inner)) }
-        // Of anything else nothing is asked.
+        // The link is asked to send this datagram once. So the link beneath was asked exactly what
+        // `asks_over` makes of all that the link was asked.
+        ensures asked { Asks (AsksBeneath L.asked self.old) (AsksBeneath L.asked self.new)
+            (Send (record { to = to_address; bytes = bytes.now }) ∷ []) }
+        // Of a datagram of version 1 without a fault, the link beneath is asked once, and nothing
+        // else, to send the CHUDP form to the same address. The trailer has the next hop there, and
+        // the own address. Where the link beneath is a queue, the queue takes exactly that.
+        ensures over { fault_of bytes.now ≡ None →
+            Asks (L.asked self.old.inner) (L.asked self.new.inner) (Send (record { to = to_address;
+            bytes = form_to self.old.hops self.old.me to_address bytes.now }) ∷ []) }
+        ensures into { fault_of bytes.now ≡ None → IfSome (L.queue self.old.inner)
+            (SendsInto to_address (form_to self.old.hops self.old.me to_address bytes.now) result
+            (L.queue self.new.inner)) }
+        // Of any other datagram the link beneath is asked nothing, the answer is Sent, and the link
+        // stays as it was.
         ensures lost { fault_of bytes.now ≢ None → (result ≡ Sent.Sent) × (self.new ≡ self.old) }
+        // The own address and the hops stay.
         ensures me { self.new.me ≡ self.old.me }
         ensures hops { self.new.hops ≡ self.old.hops }
     {
@@ -77,18 +94,32 @@ impl<L: Link> Link for ChudpLink<L> {
         self.inner.send(to_address, &datagram[..end])
     }
 
+    /// Receives a datagram from the link beneath, and hands it up as a datagram of version 1, or of
+    /// no bytes where it has a fault.
     fn receive(&mut self, buffer: &mut [u8; LINK_ROOM], may_wait: bool) -> Received
-        ensures failed { result ≡ Received.Failed → Rose (L.count self.old.inner) (L.count self.new.inner) }
-        ensures uncounted { result ≢ Received.Failed → L.count self.new.inner ≡ L.count self.old.inner }
+        // A receive is answered Failed only where the count of the link beneath rose; otherwise
+        // that count stays. No more bytes come than the buffer has, and the link is no queue.
+        ensures failed { result ≡ Received.Failed →
+            Rose (L.count self.old.inner) (L.count self.new.inner) }
+        ensures uncounted { result ≢ Received.Failed →
+            L.count self.new.inner ≡ L.count self.old.inner }
         ensures within { IsWithin LINK_ROOM result }
         ensures queued { Unit {0} }
-        ensures asked { Asks (AsksBeneath L.asked self.old) (AsksBeneath L.asked self.new) (Receive may_wait ∷ []) }
-        // What is handed up is the datagram of version 1 with the words of what came, or of no bytes where that has a fault.
+        // The link is asked once to receive, and to send nothing.
+        ensures asked { Asks (AsksBeneath L.asked self.old) (AsksBeneath L.asked self.new)
+            (Receive may_wait ∷ []) }
+        // What is handed up is the datagram of version 1 with the words of bytes without a fault,
+        // or has no bytes.
         ensures some { HandsUpSome buffer.new result }
-        // Where the link beneath is a queue, its oldest datagram came.
-        ensures heard { IfSome (L.queue self.old.inner) (HearsFrom buffer.new result (L.queue self.new.inner)) }
-        // The link beneath is asked once to receive, and may wait exactly where this one may.
-        ensures over { Asks (L.asked self.old.inner) (L.asked self.new.inner) (Receive may_wait ∷ []) }
+        // Where the link beneath is a queue, its oldest datagram is taken out, and what is handed
+        // up is handed up for that datagram. Of an empty queue nothing comes.
+        ensures heard { IfSome (L.queue self.old.inner)
+            (HearsFrom buffer.new result (L.queue self.new.inner)) }
+        // The link beneath is asked once to receive, and may wait exactly where the caller lets the
+        // link wait.
+        ensures over { Asks (L.asked self.old.inner) (L.asked self.new.inner)
+            (Receive may_wait ∷ []) }
+        // The own address and the hops stay.
         ensures me { self.new.me ≡ self.old.me }
         ensures hops { self.new.hops ≡ self.old.hops }
     {
@@ -96,6 +127,7 @@ impl<L: Link> Link for ChudpLink<L> {
         hand_up(buffer, received)
     }
 
+    /// The failures of the link are those of the link beneath.
     fn failures(&self) -> u64 {
         self.inner.failures()
     }
@@ -129,7 +161,8 @@ fn hand_up(buffer: &mut [u8; LINK_ROOM], received: Received) -> Received
     }
 }
 
-/// Makes the CHUDP datagram of so many bytes at the front of the buffer into what is handed up, and says where that ends.
+/// Makes the CHUDP datagram of so many bytes at the front of the buffer into what is handed up, and
+/// says where that ends.
 #[inline(always)]
 fn open(buffer: &mut [u8; LINK_ROOM], count: usize) -> usize
     requires { count ≤ LINK_ROOM }
@@ -146,13 +179,18 @@ fn open(buffer: &mut [u8; LINK_ROOM], count: usize) -> usize
     }
 }
 
-/// The law that what one such link sends another hands up: the same datagram, whatever the next hop and the own address are.
+/// The law of two such links, over the definitions alone. It holds whatever the next hop and the
+/// own address are.
 pub fn law_same_datagram()
+    // What one such link sends, another hands up: the CHUDP form of a datagram of version 1 without
+    // a fault is handed up as that datagram.
     ensures { IsHandedUpAsSent }
 {}
 
-/// The law of such a link over UDP: its socket is asked to send exactly the CHUDP forms of the datagrams that the link is asked
-/// to send, in their order, each to the UDP address that the peers have for its address.
+/// The law of such a link over UDP.
 pub fn law_sockets<S: DatagramSocket>()
+    // The socket is asked to send exactly the CHUDP forms of the datagrams that the link is asked
+    // to send, in their order. Each form goes to the UDP address that the link's peers have for its
+    // address, and nowhere where they have none.
     ensures { SocketSendsForms S.asked }
 {}

@@ -24,23 +24,27 @@ pub(crate) const MARK: [u8; 4] = [0x43, 0x48, 0x01, 0x00];
 ///    +----+----+----+----+--------+--------+--    --+----------+----------+----------+
 /// ```
 ///
-/// Version 1, function 1 and two arguments; the packet's words, each high byte first; and three words more, of which the last makes
-/// the checksum of packet and trailer 0. Nothing more. The data bytes are copied twice; nothing is allocated.
+/// The head is version 1, function 1 and two arguments. The packet's words follow, each high byte
+/// first, and then three words more, of which the last makes the checksum of packet and trailer 0.
+/// Nothing may stand between packet and trailer. The data bytes are copied twice, and nothing is
+/// allocated.
 ///
 /// # Errors
 /// The first fault, in the order of [`ChudpFault`].
 pub fn from_chudp(bytes: &[u8]) -> Result<Delivery, ChudpFault>
-    // The bytes carry the packet that is read.
+    // The bytes carry the packet that is read, to the next hop and from the hop that are read.
     ensures carried { IfOk result (λ d. CarriesChudp d.packet d.to d.from bytes.now) }
 
-    // Whatever packet the bytes carry is read.
-    ensures only { (p : PacketView) (to from : ℕ) → CarriesChudp p to from bytes.now → result ≡ Ok (record { packet = p; to = to; from = from; sum = sum_in bytes.now }) }
+    // Whatever packet the bytes carry, to whatever hop and from whatever hop, is read.
+    ensures only { (p : PacketView) (to from : ℕ) → CarriesChudp p to from bytes.now →
+        result ≡ Ok (record { packet = p; to = to; from = from; sum = sum_in bytes.now }) }
 
     // The sum is given as it stands in the bytes.
     ensures sum { IfOk result (λ d. d.sum ≡ sum_in bytes.now) }
 
     // A refusal is the first fault, and there is none where a packet is read.
-    ensures fault { MatchResult result (λ _. chudp_fault bytes.now ≡ None) (λ f. chudp_fault bytes.now ≡ Some f) }
+    ensures fault { MatchResult result (λ _. chudp_fault bytes.now ≡ None)
+        (λ f. chudp_fault bytes.now ≡ Some f) }
 
     // For callers that compute: the answer is a function of the bytes.
     ensures exact { result ≡ chudp_read bytes.now }
@@ -74,7 +78,8 @@ fn mark_over(from: &[u8], to: &mut [u8])
 /// What the checks make of the bytes, in their order.
 #[inline(always)]
 pub(crate) fn checked(bytes: &[u8]) -> Result<(), ChudpFault>
-    ensures fault { MatchResult result (λ _. chudp_fault bytes.now ≡ None) (λ f. chudp_fault bytes.now ≡ Some f) }
+    ensures fault { MatchResult result (λ _. chudp_fault bytes.now ≡ None)
+        (λ f. chudp_fault bytes.now ≡ Some f) }
     ensures long { IfOk result (λ _. 26 ≤ length bytes.now) }
     ensures few { IfOk result (λ _. length bytes.now ≤ MAX_CHUDP) }
 {
@@ -102,9 +107,11 @@ pub(crate) fn checked(bytes: &[u8]) -> Result<(), ChudpFault>
 /// What the checks make of the words of a packet, which a head and a trailer stand round.
 #[inline(always)]
 pub(crate) fn words_checked(words: &[u8]) -> Result<(), ChudpFault>
-    ensures fault { MatchResult result (λ _. fault_between words.now ≡ None) (λ f. fault_between words.now ≡ Some f) }
+    ensures fault { MatchResult result (λ _. fault_between words.now ≡ None)
+        (λ f. fault_between words.now ≡ Some f) }
     // They are a packet behind the mark of a datagram of version 1 exactly where they are one here.
-    ensures plain { MatchResult result (λ _. fault_of (mark ++ words.now) ≡ None) (λ _. fault_of (mark ++ words.now) ≢ None) }
+    ensures plain { MatchResult result (λ _. fault_of (mark ++ words.now) ≡ None)
+        (λ _. fault_of (mark ++ words.now) ≢ None) }
     ensures few { IfOk result (λ _. length words.now ≤ 504) }
 {
     let whole = words.len() / 2;
@@ -133,9 +140,10 @@ fn word_at(bytes: &[u8], i: usize) -> u16
     u16::from_be_bytes([bytes[i], bytes[i + 1]])
 }
 
-/// The law that what is read of bytes is decided by what they carry alone, and that they carry at most one packet, to one hop and
-/// from one.
+/// The law of reading CHUDP datagrams, over the definitions alone.
 pub fn law_carries_chudp()
+    // What is read of bytes is decided by what they carry.
     ensures decided { IsDecidedByCarriesChudp }
+    // Bytes carry at most one packet, to one next hop and from one hop.
     ensures one { AtMostOneDelivery }
 {}

@@ -4,10 +4,11 @@ ghost use Rattle.chaos_link.specs.Datagram.{words_of};
 ghost use Rattle.chaos_link.specs.declared.limits.TheConstants.{LINK_ROOM};
 ghost use Rattle.chaos_chudp.specs.Sum.{checksum, SeesOneWord};
 
-/// The checksum of the whole words of the bytes, each high byte first.
+/// The checksum of the whole words of the bytes, each high byte first. A last odd byte is left out.
 #[inline(always)]
 pub fn checksum_of(bytes: &[u8]) -> u16
     requires { length bytes.now ≤ LINK_ROOM }
+    // The sum is the Internet checksum of the bytes' whole words.
     ensures { result ≡ checksum (words_of bytes.now) }
 {
     let mut total: u32 = 0;
@@ -28,10 +29,12 @@ fn folded(total: u32) -> u16
     twice as u16
 }
 
-/// The law of what a sum of this kind sees of one word: any change, but of 0000 to FFFF or back. So a datagram's sum shows each
-/// change of one bit of packet and trailer.
+/// The law of what a sum of this kind sees of one word.
 ///
-/// It can't see 0000 and FFFF in one word from each other, two words that are exchanged, nor changes of several words that cancel.
+/// A sum can't tell 0000 from FFFF in one word. It can't see that two words are exchanged, nor
+/// changes of several words that cancel.
 pub fn law_one_word()
+    // Words that differ in one place have different checksums, except for 0000 in one and FFFF in
+    // the other. So the sum shows each change of one bit of packet and trailer.
     ensures { SeesOneWord }
 {}

@@ -13,19 +13,22 @@ use chaos_packet::Packet;
 /// The head: version 1, function 1, and two arguments that are 0.
 const HEAD: [u8; 4] = [1, 1, 0, 0];
 
-/// The one canonical CHUDP datagram that carries the packet to this hop from that one.
+/// The canonical CHUDP datagram of the packet, to the next hop `to` and from the hop `me`.
 pub fn to_chudp(packet: &Packet, to: u16, me: u16) -> ArrayVec<u8, MAX_CHUDP>
-    // The datagram carries the packet, and is canonical.
+    // The datagram carries the packet and the hops, and is canonical: its arguments and free halves
+    // are zero, and its sum is the checksum of packet and trailer.
     ensures carried { CarriesChudp packet.now to me result.items }
     ensures canonical { IsCanonical result.items }
 
-    // No other bytes are both.
-    ensures only { (bs : List ℕ) → CarriesChudp packet.now to me bs → IsCanonical bs → bs ≡ result.items }
+    // No other bytes carry the packet and the hops and are canonical.
+    ensures only { (bs : List ℕ) → CarriesChudp packet.now to me bs → IsCanonical bs →
+        bs ≡ result.items }
 
-    // What is read of it is the packet.
-    ensures read { chudp_read result.items ≡ Ok (record { packet = packet.now; to = to; from = me; sum = sum_in result.items }) }
+    // What is read of it is the packet and the hops.
+    ensures read { chudp_read result.items
+        ≡ Ok (record { packet = packet.now; to = to; from = me; sum = sum_in result.items }) }
 
-    // For callers that compute: the datagram is a function of the packet.
+    // For callers that compute: the datagram is a function of the packet and the hops.
     ensures exact { result.items ≡ chudp_of packet.now to me }
 {
     let mut datagram = ArrayVec::from([0; MAX_CHUDP]);
@@ -34,15 +37,22 @@ pub fn to_chudp(packet: &Packet, to: u16, me: u16) -> ArrayVec<u8, MAX_CHUDP>
     datagram
 }
 
-/// Writes the datagram of [`to_chudp`] to the front of a buffer of the caller's, and says where it ends.
+/// Writes the datagram of [`to_chudp`] to the front of the caller's buffer, and answers where the
+/// datagram ends.
 #[inline(always)]
 pub fn write_chudp(packet: &Packet, to: u16, me: u16, buffer: &mut [u8]) -> usize
     requires { MAX_CHUDP ≤ length buffer.old }
+    // What is written has 514 bytes at most, carries the packet and the hops, and is canonical.
     ensures fits { result ≤ MAX_CHUDP }
     ensures carried { CarriesChudp packet.now to me (take result buffer.new) }
     ensures canonical { IsCanonical (take result buffer.new) }
-    ensures only { (bs : List ℕ) → CarriesChudp packet.now to me bs → IsCanonical bs → bs ≡ take result buffer.new }
-    ensures read { chudp_read (take result buffer.new) ≡ Ok (record { packet = packet.now; to = to; from = me; sum = sum_in (take result buffer.new) }) }
+    // No other bytes carry the packet and the hops and are canonical.
+    ensures only { (bs : List ℕ) → CarriesChudp packet.now to me bs → IsCanonical bs →
+        bs ≡ take result buffer.new }
+    // What is read of it is the packet and the hops.
+    ensures read { chudp_read (take result buffer.new) ≡ Ok (record { packet = packet.now; to = to;
+        from = me; sum = sum_in (take result buffer.new) }) }
+    // For callers that compute: the datagram is a function of the packet and the hops.
     ensures exact { take result buffer.new ≡ chudp_of packet.now to me }
 {
     let end = write_datagram(packet, buffer);
@@ -87,7 +97,8 @@ fn put_word(buffer: &mut [u8], at: usize, word: u16)
     buffer[at + 1] = (word % 256) as u8;
 }
 
-/// The law that the CHUDP form of whatever datagram of version 1 carries a packet carries that packet.
+/// The law of the CHUDP form, over the definitions alone.
 pub fn law_form()
+    // The CHUDP form of whatever datagram of version 1 carries a packet carries the same packet.
     ensures { IsCarriedOver }
 {}

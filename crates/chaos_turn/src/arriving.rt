@@ -25,7 +25,9 @@ fn deliver<L: Link>(
 ) -> bool
     requires room { TURN_ROOM ≤ out.old.cap }
     requires empty { out.old.packets ≡ [] }
-    ensures phase { DoesPhase (Asks (L.asked link.old) (L.asked link.new)) carriage (deliver_effect now packet.now host.old) (station host.old (L.queue link.old) out.old) (station host.new (L.queue link.new) out.new) result }
+    ensures phase { DoesPhase (Asks (L.asked link.old) (L.asked link.new)) carriage
+        (deliver_effect now packet.now host.old) (station host.old (L.queue link.old) out.old)
+        (station host.new (L.queue link.new) out.new) result }
     ensures told { told.new ≡ Some (host_deliver host.old packet.now now).answer }
 {
     *told = Some(host.deliver(packet, now, out));
@@ -44,7 +46,10 @@ fn deliver_all<L: Link>(
 ) -> bool
     requires room { TURN_ROOM ≤ out.old.cap }
     requires empty { out.old.packets ≡ [] }
-    ensures phase { DoesPhase (Asks (L.asked link.old) (L.asked link.new)) carriage (over_packets (deliver_effect now) packets.entry host.old) (station host.old (L.queue link.old) out.old) (station host.new (L.queue link.new) out.new) result }
+    ensures phase { DoesPhase (Asks (L.asked link.old) (L.asked link.new)) carriage
+        (over_packets (deliver_effect now) packets.entry host.old)
+        (station host.old (L.queue link.old) out.old)
+        (station host.new (L.queue link.new) out.new) result }
     ensures told { told.new ≡ told_after told.old packets.entry now host.old }
 {
     let mut sent = false;
@@ -55,7 +60,8 @@ fn deliver_all<L: Link>(
     sent
 }
 
-/// Takes what came at a client, which accepts nothing, and leaves in `told` what became of its last packet.
+/// Takes what came at a client, which accepts nothing. What became of its last packet is left in
+/// `told`.
 pub fn arrive_at_client<L: Link>(
     host: &mut Host,
     came: Option<Result<Packets<'_>, LinkFault>>,
@@ -67,7 +73,11 @@ pub fn arrive_at_client<L: Link>(
 ) -> bool
     requires room { TURN_ROOM ≤ out.old.cap }
     requires empty { out.old.packets ≡ [] }
-    ensures phase { DoesPhase (Asks (L.asked link.old) (L.asked link.new)) carriage (arrive_at_client came.entry now host.old) (station host.old (L.queue link.old) out.old) (station host.new (L.queue link.new) out.new) result }
+    // The packets of what came are delivered in order, and what that puts out goes out.
+    ensures phase { DoesPhase (Asks (L.asked link.old) (L.asked link.new)) carriage
+        (arrive_at_client came.entry now host.old) (station host.old (L.queue link.old) out.old)
+        (station host.new (L.queue link.new) out.new) result }
+    // What the host answered to the last packet is left in `told`, and none where none came.
     ensures told { told.new ≡ told_at_client came.entry now host.old }
 {
     *told = None;

@@ -16,7 +16,7 @@ use chaos_host::{Host, HostDelivered};
 use chaos_link::{Carriage, LINK_ROOM, Link, LinkFault, Packets};
 use chaos_packet::Outbox;
 
-/// Makes a turn of what came. Says whether packets went out.
+/// Makes a turn of what came, and answers whether packets went out.
 fn take_client_turn<L: Link>(
     host: &mut Host,
     came: Option<Result<Packets<'_>, LinkFault>>,
@@ -29,32 +29,38 @@ fn take_client_turn<L: Link>(
     requires room { TURN_ROOM ≤ out.old.cap }
     requires empty { out.old.packets ≡ [] }
     ensures told { told.new ≡ told_at_client came.entry now host.old }
-    ensures phases { DoesPhase (Asks (L.asked link.old) (L.asked link.new)) carriage (client_phases came.entry now host.old) (station host.old (L.queue link.old) out.old) (station host.new (L.queue link.new) out.new) result }
+    ensures phases { DoesPhase (Asks (L.asked link.old) (L.asked link.new)) carriage
+        (client_phases came.entry now host.old) (station host.old (L.queue link.old) out.old)
+        (station host.new (L.queue link.new) out.new) result }
 {
     let arrived = arrive_at_client(host, came, link, now, out, told, carriage);
     let ticked = tick_slots(host, link, now, out, carriage);
     any_of(ticked, arrived, false)
 }
 
-/// One turn of a client, or of a host with services of its caller's: it sends what waits, receives at most one datagram, delivers its packets in order, and ticks each
-/// slot. What the host puts out is sent after each of its calls. It accepts no request and serves nothing.
+/// One turn of a client, or of a host with services of its caller's. It sends what waits, receives
+/// at most one datagram, delivers its packets in order, and ticks each slot. What the host puts out
+/// is sent after each of its calls. The turn accepts no request and serves nothing.
 ///
-/// A service takes it, and then: accepts, answers or rejects the requests that wait, which [`Host::contact`] and
-/// [`Host::arguments`] tell slot by slot; reads what is in front, and writes; releases what ended; and sends what these calls
-/// put out by [`send_all`](crate::send_all).
+/// A service takes the turn and then does its own work. It accepts, answers or rejects the requests
+/// that wait, which [`Host::contact`] and [`Host::arguments`] give slot by slot. It reads what is
+/// in front, writes, and releases what ended. Then it sends what these calls put out by
+/// [`send_all`](crate::send_all).
 ///
-/// It leaves in `told` what became of the last packet of the datagram, as [`Host::deliver`] answered it, and `None` where no
-/// datagram came or it carried no packet. So a client learns with which text its request was refused.
+/// The turn leaves in `told` what became of the last packet of the datagram, as [`Host::deliver`]
+/// answered it. A client learns from that with which text its request was refused.
 ///
-/// By `carriage` packets that are sent at once go each in a datagram of version 1, or several to one host in a datagram of
-/// version 2. What a tick puts out goes one packet to a datagram by either carriage, so that what is sent again comes through where
-/// a datagram of several packets is too long for the way. The datagram is received into `buffer`, whatever that holds: a caller keeps it from turn to turn. Where none is
-/// there the turn waits for one as the link does, where `may_wait` allows it.
+/// By `carriage` packets that are sent at once go each in a datagram of version 1, or several to
+/// one host in a datagram of version 2. What a tick puts out goes one packet to a datagram by
+/// either carriage. So what is sent again comes through where a datagram of several packets is too
+/// long for the way. The datagram is received into `buffer`, whatever that holds: a caller keeps it
+/// from turn to turn. Where no datagram is there, the turn waits for one as the link does, where
+/// `may_wait` allows it.
 ///
-/// `LinkFault` exactly where the link's count of failures rose in the turn, or stands at its greatest; a packet whose send
-/// failed is lost, and the turn goes on to its end. Else `Worked` where a datagram came or a packet was sent, else `Idle`.
+/// A packet whose send failed is lost, and the turn goes on to its end.
 ///
-/// The outbox has room for [`TURN_ROOM`] packets at least. It walks over the slots once, and takes no memory.
+/// The outbox has room for [`TURN_ROOM`] packets at least. The turn walks over the slots once, and
+/// takes no memory.
 pub fn client_turn<L: Link>(
     host: &mut Host,
     link: &mut L,
@@ -66,9 +72,22 @@ pub fn client_turn<L: Link>(
     may_wait: bool,
 ) -> TurnEnd
     requires room { TURN_ROOM ≤ out.old.cap }
+    // The answer is LinkFault exactly where the link's count of failures rose in the turn, or
+    // stands at its greatest.
     ensures fault { (result ≡ TurnEnd.LinkFault) ↔ Rose (L.count link.old) (L.count link.new) }
-    ensures turn { RunsClientTurn (Asks (L.asked link.old) (L.asked link.new)) may_wait carriage now (station host.old (L.queue link.old) out.old) (station host.new (L.queue link.new) out.new) result told.new }
-    // All was sent.
+    // The turn sends what waits, then receives, delivers the packets of what came in order, and
+    // ticks each slot. It serves nothing. Over a queue its packets go out in order, each to its
+    // destination. By carriage 1 each is its canonical datagram. By carriage 2 packets that are
+    // sent at once go as the datagrams of their loads, and each packet of a tick as a load of its
+    // own. Any link is asked to send the datagrams that a queue is given, each once, in this order
+    // and to this address. Between them the link is asked once to receive, and may wait exactly
+    // where `may_wait` says so. Unless the link failed, Worked or Idle says whether packets waited,
+    // a datagram came or one was sent. What the host answered to the last packet that came is left
+    // in `told`, and none where none came.
+    ensures turn { RunsClientTurn (Asks (L.asked link.old) (L.asked link.new)) may_wait carriage now
+        (station host.old (L.queue link.old) out.old)
+        (station host.new (L.queue link.new) out.new) result told.new }
+    // The outbox is empty afterwards.
     ensures outbox { out.new ≡ record { packets = []; cap = out.old.cap } }
 {
     let begun = begin(link, out, carriage, buffer, may_wait);

@@ -1,12 +1,12 @@
-//! One turn of a host over a link: what waits is sent, what came is delivered, what is due is done, and what the host puts out goes
-//! into the link. It knows no service: a [`Node`] has what a host needs for such turns, and its owner serves between their halves,
-//! by the host's calls.
+//! One turn of a host over a link: what waits is sent, what came is delivered, and each slot is
+//! ticked. What the host puts out goes into the link. A turn knows no service. A [`Node`] has what
+//! a host needs for such turns, and its owner serves between their halves, by the host's calls.
 //!
-//! A turn of one's own make has the same phases: [`begin`], the host's calls on what came, each followed by [`send_all`],
-//! [`tick_slots`] and [`end_of`].
+//! A turn that you build yourself has the same phases: [`begin`], the host's calls on what came,
+//! each followed by [`send_all`], [`tick_slots`] and [`end_of`].
 //!
-//! A turn reads no clock (the moment is handed in), waits for a datagram only where its caller lets it, as its link does, and takes
-//! no memory.
+//! A turn reads no clock (the moment is handed in), waits for a datagram only where its caller lets
+//! it, as its link does, and takes no memory.
 #![tactic(auto)]
 
 mod arriving;

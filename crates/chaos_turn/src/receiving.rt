@@ -5,20 +5,24 @@ ghost use Rattle.chaos_turn.specs.Arrive.{Receives};
 
 use chaos_link::{LINK_ROOM, Link, LinkFault, Packets, Received, open_datagram};
 
-/// Receives at most one datagram into the buffer, for which it may wait or not, and answers the packets that it carries, of
-/// either version, which lie there, or why it carries none. `None` where none came, or the link failed, which its count of
-/// failures tells.
+/// Receives at most one datagram into the buffer, for which the link may wait where `may_wait` says
+/// so. The answer is the packets that the datagram carries, of either version, which lie in the
+/// buffer, or why it carries none. The answer is `None` where no datagram came or the link failed,
+/// as its count of failures shows.
 ///
-/// It is how a turn receives, for those who build a turn of their own. It takes no memory.
+/// This is how a turn receives, for those who build a turn of their own. It takes no memory.
 pub fn receive<'a, L: Link>(
     link: &mut L,
     buffer: &'a mut [u8; LINK_ROOM],
     may_wait: bool,
 ) -> Option<Result<Packets<'a>, LinkFault>>
+    // What is received from a queue is its oldest datagram: its packets, of either version, or why
+    // it carries none. From an empty queue nothing is received. The other datagrams stay.
     ensures queued { IfSome (L.queue link.old) (Receives result (L.queue link.new)) }
-    // Something came only where the link counted no failure.
+    // Something is received only where the link counted no failure.
     ensures counted { IfSome result (λ _. L.count link.new ≡ L.count link.old) }
-    // The link was asked to receive once, and nothing else.
+    // The link is asked once to receive, for which it may wait exactly where `may_wait` says so,
+    // and to send nothing.
     ensures asked { Asks (L.asked link.old) (L.asked link.new) (Receive may_wait ∷ []) }
 {
     match link.receive(buffer, may_wait) {

@@ -8,18 +8,25 @@ ghost use Rattle.chaos_link.specs.Loads.{packets_of};
 use chaos_link::{Carriage, Link, Load, MAX_DATAGRAM, write_datagram};
 use chaos_packet::{Outbox, Packet};
 
-/// Sends all that waits by the carriage, the oldest first, each datagram to where its packets go, and says whether anything did.
-/// A packet whose send fails is lost, and with it those in its datagram; the link's count of failures tells it, and the others
-/// are sent all the same.
+/// Sends all that waits by the carriage, the oldest first, each datagram to where its packets go,
+/// and answers whether anything waited. A packet whose send fails is lost, and with it those in its
+/// datagram. The link's count of failures shows the failure, and the other packets are sent all the
+/// same.
 ///
-/// A turn does so after each call of its host but a tick, after which it calls [`send_singly`]. A service of one's own does so after its own calls, so that what they put out
-/// doesn't wait for the next turn. It takes no memory, and costs a look where nothing waits, as after most calls of a turn.
+/// A turn does so after each call of its host but a tick, after which it calls [`send_singly`]. A
+/// service of your own does so after its own calls, so that what they put out doesn't wait for the
+/// next turn. The call takes no memory, and costs a look where nothing waits, as after most calls
+/// of a turn.
 #[inline(always)]
 pub fn send_all<L: Link>(link: &mut L, out: &mut Outbox, carriage: Carriage) -> bool
-    // Whatever the link answers, it is asked to send all of it, once and in order, and nothing else.
-    // Of what it posts the packets are read that waited.
-    ensures sends { SendsLots (Asks (L.asked link.old) (L.asked link.new)) carriage (L.queue link.old) (out.old.packets ∷ []) (L.queue link.new) }
+    // Whatever a link is and answers, it is asked to send all that waits, once, in order, each
+    // datagram to its address, and nothing else. Over a queue it goes in order, as the datagrams of
+    // the carriage. Of what goes out the packets are read that waited.
+    ensures sends { SendsLots (Asks (L.asked link.old) (L.asked link.new)) carriage
+        (L.queue link.old) (out.old.packets ∷ []) (L.queue link.new) }
+    // The outbox is empty afterwards.
     ensures empty { out.new ≡ record { packets = []; cap = out.old.cap } }
+    // The answer is whether anything waited.
     ensures told { result ≡ has_packets (out.old.packets ∷ []) }
 {
     if out.front().is_none() {
@@ -29,17 +36,23 @@ pub fn send_all<L: Link>(link: &mut L, out: &mut Outbox, carriage: Carriage) -> 
     true
 }
 
-/// Sends all that waits by the carriage, the oldest first, each packet in a datagram of its own, and says whether anything did.
-/// A packet whose send fails is lost, and the others are sent all the same, as by [`send_all`].
+/// Sends all that waits by the carriage, the oldest first, each packet in a datagram of its own,
+/// and answers whether anything waited. A packet whose send fails is lost, and the others are sent
+/// all the same, as by [`send_all`].
 ///
-/// A turn does so after it ticked a connection. A datagram of one packet has at most 508 bytes, and so comes through where a
-/// datagram of several packets is too long for the way.
+/// A turn does so after it ticked a connection. A datagram of one packet has at most 508 bytes, and
+/// so comes through where a datagram of several packets is too long for the way.
 #[inline(always)]
 pub fn send_singly<L: Link>(link: &mut L, out: &mut Outbox, carriage: Carriage) -> bool
-    // Whatever the link answers, it is asked to send each packet as a lot of its own, once and in order, and nothing else.
-    // Of what it posts the packets are read that waited.
-    ensures sends { SendsLots (Asks (L.asked link.old) (L.asked link.new)) carriage (L.queue link.old) (singly out.old.packets) (L.queue link.new) }
+    // Whatever the link answers, it is asked to send each packet in a datagram of its own, once and
+    // in order, and nothing else. By carriage 1 that is the packet's canonical datagram, by
+    // carriage 2 the datagram of a load of this one packet. Of what goes out the packets are read
+    // that waited.
+    ensures sends { SendsLots (Asks (L.asked link.old) (L.asked link.new)) carriage
+        (L.queue link.old) (singly out.old.packets) (L.queue link.new) }
+    // The outbox is empty afterwards.
     ensures empty { out.new ≡ record { packets = []; cap = out.old.cap } }
+    // The answer is whether anything waited.
     ensures told { result ≡ has_packets (singly out.old.packets) }
 {
     if out.front().is_none() {
@@ -52,9 +65,12 @@ pub fn send_singly<L: Link>(link: &mut L, out: &mut Outbox, carriage: Carriage) 
 /// Sends all that waits by the carriage, the oldest first.
 #[tactic(auto, using(crate::proofs::Queue::lot_read_so, crate::proofs::Queue::each_by_one))]
 fn send_waiting<L: Link>(link: &mut L, out: &mut Outbox, carriage: Carriage)
-    ensures sends { Sends (L.queue link.old) (sent_by carriage (out.old.packets ∷ [])) (L.queue link.new) }
-    ensures read { read_all (sent_by carriage (out.old.packets ∷ [])) ≡ packets_of (out.old.packets ∷ []) }
-    ensures asks { Asks (L.asked link.old) (L.asked link.new) (to_send (sent_by carriage (out.old.packets ∷ []))) }
+    ensures sends { Sends (L.queue link.old) (sent_by carriage (out.old.packets ∷ []))
+        (L.queue link.new) }
+    ensures read { read_all (sent_by carriage (out.old.packets ∷ []))
+        ≡ packets_of (out.old.packets ∷ []) }
+    ensures asks { Asks (L.asked link.old) (L.asked link.new)
+        (to_send (sent_by carriage (out.old.packets ∷ []))) }
     ensures empty { out.new ≡ record { packets = []; cap = out.old.cap } }
 {
     match carriage {
@@ -65,8 +81,10 @@ fn send_waiting<L: Link>(link: &mut L, out: &mut Outbox, carriage: Carriage)
 
 /// Sends all that waits, each packet in a datagram of its own by the carriage.
 fn send_each<L: Link>(link: &mut L, out: &mut Outbox, carriage: Carriage)
-    ensures sends { Sends (L.queue link.old) (sent_by carriage (singly out.old.packets)) (L.queue link.new) }
-    ensures asks { Asks (L.asked link.old) (L.asked link.new) (to_send (sent_by carriage (singly out.old.packets))) }
+    ensures sends { Sends (L.queue link.old) (sent_by carriage (singly out.old.packets))
+        (L.queue link.new) }
+    ensures asks { Asks (L.asked link.old) (L.asked link.new)
+        (to_send (sent_by carriage (singly out.old.packets))) }
     ensures read { read_all (sent_by carriage (singly out.old.packets)) ≡ out.old.packets }
     ensures empty { out.new ≡ record { packets = []; cap = out.old.cap } }
 {
@@ -85,8 +103,10 @@ fn send_alone<L: Link>(
     carriage: Carriage,
     buffer: &mut [u8; MAX_DATAGRAM],
 )
-    ensures sends { Sends (L.queue link.old) (datagrams_of carriage (packet.now ∷ [])) (L.queue link.new) }
-    ensures asks { Asks (L.asked link.old) (L.asked link.new) (to_send (datagrams_of carriage (packet.now ∷ []))) }
+    ensures sends { Sends (L.queue link.old) (datagrams_of carriage (packet.now ∷ []))
+        (L.queue link.new) }
+    ensures asks { Asks (L.asked link.old) (L.asked link.new)
+        (to_send (datagrams_of carriage (packet.now ∷ []))) }
     ensures read { read_all (datagrams_of carriage (packet.now ∷ [])) ≡ packet.now ∷ [] }
 {
     match carriage {
@@ -95,20 +115,26 @@ fn send_alone<L: Link>(
     }
 }
 
-/// Sends a packet as its canonical datagram, which is written into the buffer from the packet where it lies.
+/// Sends a packet as its canonical datagram, which is written into the buffer from the packet where
+/// it lies.
 fn send<L: Link>(link: &mut L, packet: &Packet, buffer: &mut [u8; MAX_DATAGRAM])
-    ensures sends { Sends (L.queue link.old) (datagrams_of Carriage.One (packet.now ∷ [])) (L.queue link.new) }
-    ensures asks { Asks (L.asked link.old) (L.asked link.new) (to_send (datagrams_of Carriage.One (packet.now ∷ []))) }
+    ensures sends { Sends (L.queue link.old) (datagrams_of Carriage.One (packet.now ∷ []))
+        (L.queue link.new) }
+    ensures asks { Asks (L.asked link.old) (L.asked link.new)
+        (to_send (datagrams_of Carriage.One (packet.now ∷ []))) }
     ensures read { read_all (datagrams_of Carriage.One (packet.now ∷ [])) ≡ packet.now ∷ [] }
 {
     let end = write_datagram(packet, buffer);
     let _ = link.send(packet.dst, &buffer[..end]);
 }
 
-/// Sends all that waits, load by load: a packet that doesn't join the load before it begins the next.
+/// Sends all that waits, load by load: a packet that doesn't join the load before it begins the
+/// next.
 fn send_loads<L: Link>(link: &mut L, out: &mut Outbox)
-    ensures sends { Sends (L.queue link.old) (datagrams_of Carriage.Two out.old.packets) (L.queue link.new) }
-    ensures asks { Asks (L.asked link.old) (L.asked link.new) (to_send (datagrams_of Carriage.Two out.old.packets)) }
+    ensures sends { Sends (L.queue link.old) (datagrams_of Carriage.Two out.old.packets)
+        (L.queue link.new) }
+    ensures asks { Asks (L.asked link.old) (L.asked link.new)
+        (to_send (datagrams_of Carriage.Two out.old.packets)) }
     ensures read { read_all (datagrams_of Carriage.Two out.old.packets) ≡ out.old.packets }
     ensures empty { out.new ≡ record { packets = []; cap = out.old.cap } }
 {
@@ -130,20 +156,24 @@ fn send_loads<L: Link>(link: &mut L, out: &mut Outbox)
 /// Sends a load as its datagram.
 fn send_load<L: Link>(link: &mut L, load: &Load)
     ensures sends { Sends (L.queue link.old) (datagram_for_all load.now ∷ []) (L.queue link.new) }
-    ensures asks { Asks (L.asked link.old) (L.asked link.new) (to_send (datagram_for_all load.now ∷ [])) }
+    ensures asks { Asks (L.asked link.old) (L.asked link.new)
+        (to_send (datagram_for_all load.now ∷ [])) }
     ensures read { read_all (datagram_for_all load.now ∷ []) ≡ load.now }
 {
     let _ = link.send(load.destination(), load.datagram());
 }
 
-/// The law that packets sent singly in two lots are sent as one.
+/// The law of packets that are sent singly, over the definitions alone.
 #[tactic(auto, using(crate::proofs::Queue::sends_one_by_one))]
 pub fn law_sends_one()
+    // By carriage 1, packets that are sent in two lots are sent as one lot.
     ensures { SendsOneByOne }
 {}
 
-/// The law that of the datagrams that lots of packets go out in, by either carriage, those packets are read, in their order.
+/// The law of reading what was sent, over the definitions alone.
 #[tactic(auto, using(crate::proofs::Readback::read_back))]
 pub fn law_read_back()
+    // Of the datagrams that lots of packets go out in, by either carriage, those packets are read,
+    // in their order, where words spell each.
     ensures { IsReadBack }
 {}
