@@ -6,7 +6,8 @@ use chaos_lab::KeptItem;
 use chaos_packet::Kind;
 use std::marker::Model;
 
-/// The bodies of the data items among some items, in order, which are lent. A contract sees the list of them.
+/// The bodies of the data items among some items, lent in their order. A contract sees the list of
+/// the bodies.
 #[derive(Drop)]
 pub struct Bodies<'a> {
     items: &'a [KeptItem],
@@ -30,6 +31,7 @@ impl<'a> Bodies<'a> {
 
     /// Takes the next body out.
     pub fn next(&mut self) -> Option<&'a [u8]>
+        // The bodies are lent one after another, in order, and then none.
         ensures body { option_map (λ b. b.now) result ≡ slice_get self.old 0 }
         ensures rest { self.new ≡ drop 1 self.old }
     {
@@ -48,7 +50,8 @@ impl<'a> Bodies<'a> {
 
 /// The body of the first data item, and the items behind it.
 fn first_data(items: &[KeptItem]) -> Option<(&[u8], &[KeptItem])>
-    ensures { option_map (λ p. (p.0.now, data_bodies p.1.now)) result ≡ first_of (data_bodies items.now) }
+    ensures { option_map (λ p. (p.0.now, data_bodies p.1.now)) result
+        ≡ first_of (data_bodies items.now) }
 {
     let mut left = items;
     while let [item, rest @ ..] = left {

@@ -3,16 +3,17 @@
 use chaos_lab::{Event, Stepped};
 use chaos_serve::Served;
 
-/// What may happen.
+/// What may happen: an event of `chaos_lab`, or B's server serves.
 #[derive(Clone, Copy, Debug)]
 pub enum FileEvent<'a> {
-    /// An event of the laboratory. B's writes and reads are refused, since they are its server's.
+    /// An event of the laboratory. A write and a read at B are refused, since they are its
+    /// server's.
     At(Event<'a>),
     /// B's server serves the item in front of its connection.
     Serve,
 }
 
-/// What an event did.
+/// What an event did that was taken.
 #[derive(Debug, PartialEq, Eq, Drop)]
 pub enum FileStepped {
     /// What the laboratory's event did.

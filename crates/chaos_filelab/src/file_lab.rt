@@ -28,9 +28,9 @@ use chaos_serve::{CONTACT, Served, law_reply_taken};
 use std::alloc::{AllocError, Global};
 use std::marker::Model;
 
-/// Two ends of one connection, and every packet that was ever sent between them. A is a client of FILE, and its user is the
-/// caller; B's user is a server with its own session and store, which serves one command at a time. A contract sees the
-/// laboratory, the session and the files.
+/// Two ends of one connection, and every packet that was ever sent between them. A is a client of
+/// FILE, whose user is the caller. B's user is a server with its own session and store, which
+/// serves one command at a time. A contract sees the laboratory, the session and the files.
 #[derive(Drop)]
 pub struct FileLab {
     lab: Lab,
@@ -54,15 +54,20 @@ impl Model for FileLab {
 }
 
 impl FileLab {
-    /// Two ends with these configurations. A has asked B for the contact `FILE` at moment 0, and numbers what it writes from
-    /// `start_a` on. B has a new session, and no files.
+    /// A laboratory whose two ends have these configurations. A numbers what it writes from
+    /// `start_a` on, and its RFC is copy 0.
+    ///
+    /// # Errors
+    /// No memory.
     pub fn new(
         alloc: Global,
         config_a: ConnConfig,
         config_b: ConnConfig,
         start_a: PktNum,
     ) -> Result<Self, AllocError>
-        ensures { IfOk result (λ l. l ≡ record { lab = start_for (codes "FILE") config_a config_b start_a; session = new_session; files = files.empty }) }
+        // A has asked B for the contact `FILE` at moment 0. B has a new session and no files.
+        ensures { IfOk result (λ l. l ≡ record { lab = start_for (codes "FILE") config_a config_b
+            start_a; session = new_session; files = files.empty }) }
     {
         let lab = Lab::asking_for(alloc, config_a, config_b, CONTACT, start_a)?;
         let server = Server {
@@ -77,14 +82,24 @@ impl FileLab {
         })
     }
 
-    /// Lets an event happen. Refused, in this order: `ByServer` for a write and a read at B; what [`Lab::step`] refuses.
-    /// Nothing changes then. Where B's server has no memory for a command, it replies so, and its session and files stay.
+    /// Lets an event happen. Where B's server has no memory for a command, it replies so, and its
+    /// session and files stay.
+    ///
+    /// # Errors
+    /// `ByServer` for a write and a read at B, otherwise what [`Lab::step`] refuses.
     pub fn step(&mut self, alloc: Global, event: &FileEvent<'_>) -> Result<FileStepped, LabFault>
+        // A write and a read at B, and no other event, are refused by ByServer. Every other event
+        // of the laboratory is the laboratory's, and leaves session and files. A Serve serves once
+        // at B, or there was no memory for the histories, and nothing changed.
         ensures happens { FileHappens self.old (file_event event.now) self.new result }
+        // A refusal changes nothing.
         ensures refused { OnErr result (self.new ≡ self.old) }
-        // an event is a function of what was before, but for running out of memory: for the histories it is refused, and B's server writes a
-        // reply that says so
-        ensures exact { IsExact self.old (file_event event.now) self.new result ⊎ Wants self.old (file_event event.now) self.new result }
+        // An event is a function of what was before, except where memory runs out. Without memory
+        // for the histories it is refused by NoMemory, and nothing changes. At a Serve of a command
+        // that may take memory, the server may reply that there is none. That reply is written and
+        // answered as any other, and neither the session nor the files change.
+        ensures exact { IsExact self.old (file_event event.now) self.new result
+            ⊎ Wants self.old (file_event event.now) self.new result }
     {
         match event {
             FileEvent::Serve => self.serve(alloc),
@@ -92,13 +107,21 @@ impl FileLab {
         }
     }
 
-    /// Lets an event of the laboratory happen, as [`FileLab::step`] does: `ByServer` for a write and a read at B.
+    /// Lets an event of the laboratory happen, as [`FileLab::step`] does.
+    ///
+    /// # Errors
+    /// `ByServer` for a write and a read at B, otherwise what [`Lab::step`] refuses.
     #[tactic(auto, using(crate::proofs::Exactly::server_exact))]
     pub fn happen(&mut self, alloc: Global, event: &Event<'_>) -> Result<FileStepped, LabFault>
+        // A write and a read at B, and no other event, are refused by ByServer. Every other event
+        // is the laboratory's, and leaves session and files.
         ensures happens { FileHappens self.old (At (happening_of event.now)) self.new result }
+        // A refusal changes nothing.
         ensures refused { OnErr result (self.new ≡ self.old) }
+        // An event is a function of what was before. Memory may run out for the histories alone:
+        // then the event is refused by NoMemory, and nothing changes.
         ensures exact { IsExact self.old (At (happening_of event.now)) self.new result }
-        // an out-of-memory reply is written by a serve alone
+        // Only a serve writes an out-of-memory reply.
         ensures mem { wrote_mem self.new ≡ wrote_mem self.old }
     {
         if is_by_server(event) {
@@ -107,10 +130,16 @@ impl FileLab {
         self.at(alloc, event)
     }
 
-    /// Lets events happen, one after the other. A refused event changes nothing, and the next one follows. Where there is no
-    /// memory for the histories it stops, with all as after the events before that one, which had passed its checks.
+    /// Lets events happen, one after the other. A refused event changes nothing, and the next event
+    /// follows.
+    ///
+    /// # Errors
+    /// No memory for the histories.
     pub fn run(&mut self, alloc: Global, events: &[FileEvent<'_>]) -> Result<(), AllocError>
+        // All events happened, the refused events passed over.
         ensures all { OnOk result (Runs self.old (map file_event events.now) self.new) }
+        // Where there is no memory for the histories it stops, with all as after the events before.
+        // The event at which it stops had passed its checks.
         ensures no_memory { OnErr result (Stops self.old (map file_event events.now) self.new) }
     {
         for event in events {
@@ -149,11 +178,18 @@ impl FileLab {
         }
     }
 
-    /// B's server serves once, as [`FileLab::step`] lets it.
+    /// Lets B's server serve once, as [`FileLab::step`] does.
+    ///
+    /// # Errors
+    /// No memory for the histories.
     #[tactic(auto, using(crate::proofs::KeptSteps::serves_not, crate::proofs::KeptSteps::stays_sound))]
     pub fn serve(&mut self, alloc: Global) -> Result<FileStepped, LabFault>
+        // B's server serves the item in front of its connection once, or there was no memory for
+        // the histories, and nothing changed.
         ensures happens { ServeHappens self.old self.new result }
-        ensures exact { IsExact self.old Serve self.new result ⊎ ServeWants self.old self.new result }
+        // What comes of it is a function of what was before, except where memory runs out.
+        ensures exact { IsExact self.old Serve self.new result
+            ⊎ ServeWants self.old self.new result }
     {
         self.lab.law_headline();
         law_delivery();
@@ -168,15 +204,17 @@ impl FileLab {
         Ok(FileStepped::Served(served))
     }
 
-    /// The bodies of the data items that A wrote.
+    /// The commands of A: the bodies of the data items that A wrote.
     pub fn commands(&self) -> Bodies<'_>
+        // The bodies of the data items that A wrote are lent, in order.
         ensures { result ≡ commands_of self.now }
     {
         Bodies::new(self.lab.written(Side::A))
     }
 
-    /// The bodies of the data items that A's user has read.
+    /// The replies that A's user has read, as the bodies of data items.
     pub fn replies(&self) -> Bodies<'_>
+        // The bodies of the data items that A's user has read are lent, in order.
         ensures { result ≡ replies_to_a self.now }
     {
         Bodies::new(self.lab.read(Side::A))
@@ -184,13 +222,15 @@ impl FileLab {
 
     /// Whether B wrote an out-of-memory reply.
     pub fn wrote_mem(&self) -> bool
+        // The answer is whether a data item that B wrote is an out-of-memory reply.
         ensures { result ≡ wrote_mem self.now }
     {
         self.wanted
     }
 
-    /// Every packet that was sent, with its stamp, the oldest first.
+    /// Every packet that was sent, the oldest first. An event names a copy by its place here.
     pub fn copies(&self) -> &[Stamped]
+        // These are all packets that were sent, each with its stamp.
         ensures { result.now ≡ self.now.lab.copies }
     {
         self.lab.copies()
@@ -198,26 +238,36 @@ impl FileLab {
 
     /// How many packets an end stores, and their bytes with a header for each.
     pub fn stored(&self, side: Side) -> (usize, usize)
+        // The first number counts the packets that the end stores, and the second their bytes.
         ensures packets { result.0 ≡ stored_packets (lab_end self.now.lab side).conn }
         ensures bytes { result.1 ≡ stored_bytes (lab_end self.now.lab side).conn }
     {
         self.lab.stored(side)
     }
 
-    /// FILE over a losing network: whatever happened, and unless B wrote an out-of-memory reply, the replies that A has read
-    /// are a beginning of those that the definition of the language gives to the commands that A wrote, over no files at first.
+    /// The law of replies: FILE over a losing network, whatever happened.
     pub fn law_replies(&self)
+        // The laboratory stands for a state of the plain machine.
         ensures machine { HasMachine self.now.lab }
+        // The replies that A has read are a prefix of the FILE machine's replies to the commands
+        // that A wrote, over no files at first. That holds after any deliveries, losses, repeats
+        // and orders of fresh copies, unless B wrote an out-of-memory reply.
         ensures replies { RepliesBegin self.now }
     {
         self.lab.law_headline();
         law_replies();
     }
 
-    /// Progress of FILE: whatever happened in a laboratory that can settle, there are few events after which each command that A wrote
-    /// was served and its reply read, and nothing is left to be read or sent. Nothing that was lost, late or out of order keeps the
-    /// ends from it, and no window that was announced. Where there is no memory for the histories or at the server, it doesn't hold.
+    /// The law of progress of FILE. Nothing that was lost, late or out of order keeps the ends from
+    /// it, and no window that was announced. It doesn't hold where there is no memory for the
+    /// histories or at the server.
     pub fn law_progress(&self)
+        // Each command is served, and its reply read. Where both ends can settle and B wrote no
+        // out-of-memory reply, at most 586 events lead to where A has read the right replies to all
+        // commands that it wrote. Then neither end stores a packet, and both are drained and open.
+        // Each event is taken, each serve reads an item, no other event is the server's, and none
+        // is a write, a close or an acceptance of the client's. Only copies are delivered that were
+        // put out since.
         ensures { CanServe self.now → Serves self.now (file_settling self.now) }
     {
         self.lab.law_headline();
@@ -227,9 +277,10 @@ impl FileLab {
         law_reply_taken();
     }
 
-    /// Whether it can settle, by the events of [`FileSettling`](crate::FileSettling): both ends are open, each sends again before it
-    /// would count the other as down, there are moments left for that, and B wrote no out-of-memory reply.
+    /// Whether [`FileLab::settle`] may be called.
     pub fn can_settle(&self) -> bool
+        // It can settle where both ends are open, each sends again before it would count the other
+        // as down, moments are left for that, and B wrote no out-of-memory reply.
         ensures { IsTrue result ↔ CanServe self.now }
     {
         self.lab.can_settle() && !self.wrote_mem()
@@ -266,7 +317,8 @@ impl FileLab {
 
     /// The event by which an end announces its greatest window.
     pub(crate) fn announcement(&self, side: Side) -> FileEvent<'static>
-        ensures { file_event result ≡ At (AnnounceBy side (lab_end self.now.lab side).conn.config.recv_cap) }
+        ensures { file_event result
+            ≡ At (AnnounceBy side (lab_end self.now.lab side).conn.config.recv_cap) }
     {
         FileEvent::At(self.lab.announcement(side))
     }

@@ -1,7 +1,9 @@
-//! FILE over a losing network: a laboratory of two connections, whose A is the caller's, and whose B serves FILE.
+//! FILE over a losing network: a laboratory of two connections, whose A is the caller's, and whose
+//! B serves FILE.
 //!
-//! [`FileLab`] lets events happen as [`chaos_lab::Lab`] does, and B's server serve one command at a time. Whatever the network
-//! loses, repeats and reorders, [`FileLab::law_replies`] says what A reads.
+//! [`FileLab`] lets events happen as [`chaos_lab::Lab`] does, and lets B's server serve one command
+//! at a time. [`FileLab::law_replies`] says what A reads, whatever the network loses, repeats and
+//! reorders.
 #![tactic(auto)]
 
 mod bodies;

@@ -19,7 +19,8 @@ pub(crate) struct Server {
 }
 
 impl User for Server {
-    ghost may_turn = { λ s t v now turn. ServesBy (record { session = s.session; files = s.store }) (record { session = t.session; files = t.store }) turn t.served (work_of v) };
+    ghost may_turn = { λ s t v now turn. ServesBy (record { session = s.session; files = s.store })
+        (record { session = t.session; files = t.store }) turn t.served (work_of v) };
 
     fn turn(&mut self, alloc: Global, conn: &mut Conn, now: u64, out: &mut Outbox) -> Turned {
         law_reply_taken();

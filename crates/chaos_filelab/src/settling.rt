@@ -48,7 +48,8 @@ pub(crate) enum Place {
     Answered,
     /// A's user reads the reply.
     ReadReply,
-    /// All was served, and A's user has announced its greatest window, by an STS, this copy, which comes to B.
+    /// All was served, and A's user has announced its greatest window, by an STS, this copy, which
+    /// comes to B.
     EndA(usize),
     /// B's greatest window is announced,
     EndTell,
@@ -57,9 +58,10 @@ pub(crate) enum Place {
     Over,
 }
 
-/// The events by which a laboratory settles whose B serves FILE, one after the other. Each end tells the other what came to it, and
-/// sends again what it has no receipt for. A's user reads the replies that were written before. Then B's server serves item after
-/// item, and each reply comes to A, whose user reads it. At the end each user tells that all was read.
+/// The events by which a laboratory settles whose B serves FILE, one after the other. Each end
+/// reports to the other what came to it, and sends again what it has no receipt for. A's user reads
+/// the replies that were written before. Then B's server serves item after item, and each reply
+/// comes to A, whose user reads it. At the end each user reports that all was read.
 ///
 /// Only copies that were sent since are delivered, each once.
 #[derive(Clone, Copy, Debug, PartialEq, Eq)]
@@ -78,8 +80,9 @@ pub struct FileSettling {
 }
 
 impl FileSettling {
-    /// From the start.
+    /// Settling at its start.
     pub fn new() -> Self
+        // What is left of settling at first is all of it.
         ensures { (l : FileLabView) → left result l ≡ file_settling l }
     {
         FileSettling {
@@ -92,9 +95,14 @@ impl FileSettling {
         }
     }
 
-    /// The next event, in the laboratory as it is after those before; none where all have happened.
+    /// Takes the next event, in the laboratory as it is after those before. Let each event happen
+    /// before you ask for the next.
     pub fn next(&mut self, lab: &FileLab) -> Option<FileEvent<'static>>
-        ensures some { IfSome result (λ event. left self.old lab.now ≡ file_event event ∷ left self.new (file_happen lab.now (file_event event)).view) }
+        // The answer is the first event of what is left, in the laboratory as it is then, and the
+        // others are left.
+        ensures some { IfSome result (λ event. left self.old lab.now
+            ≡ file_event event ∷ left self.new (file_happen lab.now (file_event event)).view) }
+        // No event is answered where nothing is left.
         ensures none { IfNone result (left self.old lab.now ≡ []) }
     {
         match self.place {
@@ -132,7 +140,8 @@ impl FileSettling {
 
     /// B's greatest window is announced.
     fn start(&mut self, lab: &FileLab) -> FileEvent<'static>
-        ensures { left_at Place.Start self.old lab.now ≡ file_event result ∷ left self.new (file_happen lab.now (file_event result)).view }
+        ensures { left_at Place.Start self.old lab.now
+            ≡ file_event result ∷ left self.new (file_happen lab.now (file_event result)).view }
     {
         self.place = Place::HearB(lab.copies().len());
         lab.announcement(Side::B)
@@ -140,7 +149,8 @@ impl FileSettling {
 
     /// A sends again.
     fn resend_a(&mut self, lab: &FileLab) -> FileEvent<'static>
-        ensures { left_at Place.ResendA self.old lab.now ≡ file_event result ∷ left self.new (file_happen lab.now (file_event result)).view }
+        ensures { left_at Place.ResendA self.old lab.now
+            ≡ file_event result ∷ left self.new (file_happen lab.now (file_event result)).view }
     {
         self.place = Place::Home;
         lab.resending(Side::A)
@@ -148,7 +158,8 @@ impl FileSettling {
 
     /// A, which has just sent again, announces its greatest window.
     fn home(&mut self, lab: &FileLab) -> FileEvent<'static>
-        ensures { left_at Place.Home self.old lab.now ≡ file_event result ∷ left self.new (file_happen lab.now (file_event result)).view }
+        ensures { left_at Place.Home self.old lab.now
+            ≡ file_event result ∷ left self.new (file_happen lab.now (file_event result)).view }
     {
         let copies = lab.copies().len();
         self.before = copies;
@@ -159,7 +170,8 @@ impl FileSettling {
 
     /// B sends again.
     fn resend_b(&mut self, lab: &FileLab) -> FileEvent<'static>
-        ensures { left_at Place.ResendB self.old lab.now ≡ file_event result ∷ left self.new (file_happen lab.now (file_event result)).view }
+        ensures { left_at Place.ResendB self.old lab.now
+            ≡ file_event result ∷ left self.new (file_happen lab.now (file_event result)).view }
     {
         self.from = lab.copies().len();
         self.place = Place::Take;
@@ -168,7 +180,8 @@ impl FileSettling {
 
     /// What B has just sent again comes to A.
     fn take(&mut self, lab: &FileLab) -> FileEvent<'static>
-        ensures { left_at Place.Take self.old lab.now ≡ file_event result ∷ left self.new (file_happen lab.now (file_event result)).view }
+        ensures { left_at Place.Take self.old lab.now
+            ≡ file_event result ∷ left self.new (file_happen lab.now (file_event result)).view }
     {
         self.to = lab.copies().len();
         self.read(lab, lab.recv_cap(Side::A))
@@ -176,7 +189,8 @@ impl FileSettling {
 
     /// A's user reads so many times, if there is something; then the copies come.
     fn read(&mut self, lab: &FileLab, times: u16) -> FileEvent<'static>
-        ensures { left_at (Place.Read times) self.old lab.now ≡ file_event result ∷ left self.new (file_happen lab.now (file_event result)).view }
+        ensures { left_at (Place.Read times) self.old lab.now
+            ≡ file_event result ∷ left self.new (file_happen lab.now (file_event result)).view }
     {
         if times == 0 || lab.waits(Side::A) {
             return self.come(lab, self.from);
@@ -187,7 +201,8 @@ impl FileSettling {
 
     /// This copy comes to A, and those that were sent with it later.
     fn come(&mut self, lab: &FileLab, copy: usize) -> FileEvent<'static>
-        ensures { left_at (Place.Come copy) self.old lab.now ≡ file_event result ∷ left self.new (file_happen lab.now (file_event result)).view }
+        ensures { left_at (Place.Come copy) self.old lab.now
+            ≡ file_event result ∷ left self.new (file_happen lab.now (file_event result)).view }
     {
         if copy >= self.to {
             return self.go_on(lab);
@@ -198,7 +213,8 @@ impl FileSettling {
 
     /// A's user reads what came, if there is something; then this copy comes, and the others.
     fn read_come(&mut self, lab: &FileLab, copy: usize) -> FileEvent<'static>
-        ensures { left_at (Place.ReadCome copy) self.old lab.now ≡ file_event result ∷ left self.new (file_happen lab.now (file_event result)).view }
+        ensures { left_at (Place.ReadCome copy) self.old lab.now
+            ≡ file_event result ∷ left self.new (file_happen lab.now (file_event result)).view }
     {
         if lab.waits(Side::A) {
             return self.come(lab, copy);
@@ -209,7 +225,8 @@ impl FileSettling {
 
     /// The next item comes to B, if none is in front; or all have been served.
     fn go_on(&mut self, lab: &FileLab) -> FileEvent<'static>
-        ensures { left_at Place.Next self.old lab.now ≡ file_event result ∷ left self.new (file_happen lab.now (file_event result)).view }
+        ensures { left_at Place.Next self.old lab.now
+            ≡ file_event result ∷ left self.new (file_happen lab.now (file_event result)).view }
     {
         if self.left == 0 {
             self.place = Place::EndA(lab.copies().len());
@@ -226,7 +243,8 @@ impl FileSettling {
 
     /// A's user announces its greatest window, so that B may reply.
     fn tell(&mut self, lab: &FileLab) -> FileEvent<'static>
-        ensures { left_at Place.Tell self.old lab.now ≡ file_event result ∷ left self.new (file_happen lab.now (file_event result)).view }
+        ensures { left_at Place.Tell self.old lab.now
+            ≡ file_event result ∷ left self.new (file_happen lab.now (file_event result)).view }
     {
         self.place = Place::Told(lab.copies().len());
         lab.announcement(Side::A)
@@ -234,7 +252,8 @@ impl FileSettling {
 
     /// B's server serves what is in front.
     fn answer(&mut self, lab: &FileLab) -> FileEvent<'static>
-        ensures { left_at Place.Answer self.old lab.now ≡ file_event result ∷ left self.new (file_happen lab.now (file_event result)).view }
+        ensures { left_at Place.Answer self.old lab.now
+            ≡ file_event result ∷ left self.new (file_happen lab.now (file_event result)).view }
     {
         self.wrote = lab.wrote();
         self.place = Place::Answered;
@@ -243,7 +262,8 @@ impl FileSettling {
 
     /// The reply comes to A, if there is one.
     fn answered(&mut self, lab: &FileLab) -> FileEvent<'static>
-        ensures { left_at Place.Answered self.old lab.now ≡ file_event result ∷ left self.new (file_happen lab.now (file_event result)).view }
+        ensures { left_at Place.Answered self.old lab.now
+            ≡ file_event result ∷ left self.new (file_happen lab.now (file_event result)).view }
     {
         if lab.wrote() <= self.wrote {
             return self.go_on(lab);
@@ -254,7 +274,8 @@ impl FileSettling {
 
     /// A's user reads the reply.
     fn read_reply(&mut self, lab: &FileLab) -> FileEvent<'static>
-        ensures { left_at Place.ReadReply self.old lab.now ≡ file_event result ∷ left self.new (file_happen lab.now (file_event result)).view }
+        ensures { left_at Place.ReadReply self.old lab.now
+            ≡ file_event result ∷ left self.new (file_happen lab.now (file_event result)).view }
     {
         if lab.waits(Side::A) {
             return self.go_on(lab);
@@ -265,7 +286,8 @@ impl FileSettling {
 
     /// B's greatest window is announced, for the last time.
     fn end(&mut self, lab: &FileLab) -> FileEvent<'static>
-        ensures { left_at Place.EndTell self.old lab.now ≡ file_event result ∷ left self.new (file_happen lab.now (file_event result)).view }
+        ensures { left_at Place.EndTell self.old lab.now
+            ≡ file_event result ∷ left self.new (file_happen lab.now (file_event result)).view }
     {
         self.place = Place::EndB(lab.copies().len());
         lab.announcement(Side::B)
@@ -273,16 +295,21 @@ impl FileSettling {
 }
 
 impl FileLab {
-    /// Lets all be served that A wrote, by the events of [`FileSettling`]. Then A's user has read the reply to each command, and
-    /// nothing is left to be read or sent at either end.
+    /// Lets all be served that A wrote, by the events of [`FileSettling`], at most 586.
     ///
-    /// There are at most 586 events. Where there is no memory it stops, with all as after the events before that one; or B wrote a
-    /// out-of-memory reply, which [`FileLab::wrote_mem`] tells.
+    /// # Errors
+    /// No memory for the histories, or for a reply of B.
     pub fn settle(&mut self, alloc: Global) -> Result<(), AllocError>
         requires { CanServe self.old }
+        // Afterwards A's user has read the reply to each command, neither end stores a packet, and
+        // both are drained and open.
         ensures served { OnOk result (AllServed self.old self.new) }
+        // Exactly the events of settling happened.
         ensures events { OnOk result (self.new ≡ after_events self.old (file_settling self.old)) }
-        ensures no_memory { OnErr result ((wrote_mem self.new ≡ true) ⊎ Stopped self.old (file_settling self.old) self.new) }
+        // Where there is no memory for the histories it stops, with all as after the events before;
+        // or B wrote an out-of-memory reply.
+        ensures no_memory { OnErr result
+            ((wrote_mem self.new ≡ true) ⊎ Stopped self.old (file_settling self.old) self.new) }
     {
         self.law_progress();
         let mut events = FileSettling::new();

@@ -22,7 +22,8 @@ pub(crate) struct BothEnds {
 impl BothEnds {
     /// Makes room for one more item in each list.
     pub(crate) fn grow(&mut self) -> Result<(), AllocError>
-        ensures same { (end_view self.new.a ≡ end_view self.old.a) × (end_view self.new.b ≡ end_view self.old.b) }
+        ensures same { (end_view self.new.a ≡ end_view self.old.a)
+            × (end_view self.new.b ≡ end_view self.old.b) }
         ensures room { OnOk result (HasRoom self.new.a × HasRoom self.new.b) }
     {
         self.a.grow()?;
@@ -38,7 +39,8 @@ impl BothEnds {
         out: &mut Outbox,
     ) -> Result<StepDone, LabFault>
         requires ready { AreReady self.old out.old }
-        ensures { MakesAt side (call_of call.now now) self.old self.new out.old out.new (told_of call.now (read_at side self.new) result) }
+        ensures { MakesAt side (call_of call.now now) self.old self.new out.old out.new
+            (told_of call.now (read_at side self.new) result) }
     {
         match side {
             Side::A => self.a.call(call, now, out),

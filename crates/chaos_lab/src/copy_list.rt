@@ -16,7 +16,8 @@ use std::alloc::{AllocError, Global};
 pub(crate) struct CopyList {
     /// The oldest first.
     pub(crate) list: Vec<Stamped>,
-    /// Room for the data of a packet each, set aside before a call: how much data it will put out isn't known then.
+    /// Room for the data of a packet each, set aside before a call: how much data it will put out
+    /// isn't known then.
     pub(crate) spares: Vec<Box<Item, Global>>,
     alloc: Global,
 }
@@ -48,7 +49,8 @@ impl CopyList {
     pub(crate) fn push(&mut self, side: Side, packet: &Packet, len_a: usize, len_b: usize)
         requires place { vec_len self.old.list < vec_capacity self.old.list }
         requires spare { 0 < vec_len self.old.spares }
-        ensures items { self.new.list.items ≡ self.old.list.items ++ stamp side len_a len_b packet.now ∷ [] }
+        ensures items { self.new.list.items
+            ≡ self.old.list.items ++ stamp side len_a len_b packet.now ∷ [] }
         ensures len { vec_len self.new.list ≡ vec_len self.old.list + 1 }
         ensures capacity { vec_capacity self.new.list ≡ vec_capacity self.old.list }
         ensures spares { vec_len self.old.spares ≤ vec_len self.new.spares + 1 }

@@ -6,7 +6,8 @@ use arrayvec::ArrayVec;
 use chaos_packet::{Item, MAX_DATA, Opcode};
 use std::alloc::{AllocError, Global};
 
-/// So few bytes are kept without memory of their own: a status has four, and most lines of a script no more than these.
+/// So few bytes are kept without memory of their own: a status has four, and most lines of a script
+/// no more than these.
 const SHORT_LEN: usize = 24;
 
 /// The data bytes of a packet or an item, in as much memory as they need.
@@ -16,7 +17,8 @@ pub(crate) enum Data {
     Short(ArrayVec<u8, SHORT_LEN>),
     /// More, in memory of their own.
     Long(Vec<u8>),
-    /// In room for the most that there are, which was set aside before: no other memory was to be had.
+    /// In room for the most that there are, which was set aside before: no other memory was to be
+    /// had.
     Spare(Box<Item, Global>),
 }
 
@@ -35,7 +37,7 @@ impl Data {
         Data::long(alloc, bytes, spares)
     }
 
-    /// So of more than a few.
+    /// A copy of more than a few bytes.
     #[inline(never)]
     fn long(alloc: Global, bytes: &[u8], spares: &mut Vec<Box<Item, Global>>) -> Self
         requires fits { length bytes.now ≤ MAX_DATA }
@@ -68,12 +70,17 @@ impl Data {
     }
 }
 
-/// Sets room aside for the data of so many packets or items: how much data they will have isn't known yet.
+/// Sets room aside for the data of so many packets or items, before it is known how much data they
+/// will have.
+///
+/// # Errors
+/// No memory for that many rooms.
 pub fn set_aside(
     alloc: Global,
     spares: &mut Vec<Box<Item, Global>>,
     count: usize,
 ) -> Result<(), AllocError>
+    // So many rooms are set aside, where there is memory.
     ensures { OnOk result (count ≤ vec_len spares.new) }
 {
     for place in spares.len()..count {

@@ -8,7 +8,8 @@ use crate::side::Side;
 use chaos_conn::{Delivered, Disposition, ReadDone, ReadEnd, Ticked};
 use chaos_packet::{Opcode, Packet, PktNum};
 
-/// What may happen: a call at one end, or the delivery of a copy. A copy that is never delivered is lost.
+/// What may happen: a call at one end, or the delivery of a copy. A copy that is never delivered is
+/// lost.
 #[derive(Clone, Copy, Debug)]
 pub enum Event<'a> {
     /// The user at a side writes an item.
@@ -23,11 +24,12 @@ pub enum Event<'a> {
     Close(Side, &'a [u8]),
     /// The user at B accepts the request, and numbers what it writes from this on.
     Accept(PktNum),
-    /// The copy of this number comes to the end that it was sent to. It stays, and may be delivered again.
+    /// The copy of this number comes to the end that it was sent to. It stays, and may be delivered
+    /// again.
     Deliver(usize),
 }
 
-/// What an event did.
+/// What an event did that was taken, with the item or the packet that it hands out.
 #[derive(Debug, PartialEq, Eq, Drop)]
 pub enum Stepped {
     /// The item was written with this number.
@@ -44,7 +46,8 @@ pub enum Stepped {
     Delivered(Delivered),
 }
 
-/// What an event did, without the item or the packet that it hands out: those lie in the laboratory.
+/// What an event did, without the item or the packet that it hands out; these lie in the
+/// laboratory.
 #[derive(Clone, Copy, Debug, PartialEq, Eq)]
 pub enum StepDone {
     /// The item was written with this number.
@@ -64,7 +67,8 @@ pub enum StepDone {
 }
 
 impl StepDone {
-    /// The answer in full, of an event that delivered this packet or after which an end's user has read these items.
+    /// The answer in full, of an event that delivered this packet or after which an end's user has
+    /// read these items.
     pub(crate) fn in_full(self, packet: &Packet, items: &[KeptItem]) -> Stepped
         ensures { result ≡ in_full packet.now items.now self }
     {

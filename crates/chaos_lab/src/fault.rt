@@ -18,7 +18,8 @@ pub enum LabFault {
     /// 4: there was no memory.
     #[error("no memory")]
     NoMemory,
-    /// 5: B writes and reads by its server alone. A laboratory whose users are all the caller's own never answers this.
+    /// 5: B writes and reads by its server alone. A laboratory whose users are all the caller's own
+    /// never answers this.
     #[error("B is served")]
     ByServer,
 }

@@ -29,7 +29,8 @@ impl Model for KeptItem {
 }
 
 impl KeptItem {
-    /// A copy of an item with these data. Where there is no memory for them, they take a spare room.
+    /// A copy of an item with these data. Where there is no memory for them, they take a spare
+    /// room.
     pub(crate) fn new(
         alloc: Global,
         op: Opcode,
@@ -47,23 +48,26 @@ impl KeptItem {
         }
     }
 
-    /// The item's opcode.
+    /// The opcode that the item was written with.
     pub fn op(&self) -> Opcode
+        // The opcode is the kept item's.
         ensures { result ≡ self.now.op }
     {
         self.op
     }
 
-    /// The data bytes, lent.
+    /// The data bytes, lent from where they are kept.
     pub fn bytes(&self) -> &[u8]
+        // The data are the kept item's, at most 488 bytes.
         ensures value { result.now ≡ self.now.body }
         ensures fits { length result.now ≤ MAX_DATA }
     {
         self.bytes.bytes()
     }
 
-    /// The item, made again. It takes no memory, and copies the data.
+    /// The whole item, made again. The call takes no memory, and copies the data.
     pub fn item(&self) -> Item
+        // The item is the kept item.
         ensures { result ≡ self.now }
     {
         Item::new(self.op, self.bytes())

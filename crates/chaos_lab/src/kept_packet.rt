@@ -8,7 +8,8 @@ use std::marker::Model;
 
 /// A packet that was sent. A contract sees it as any packet.
 ///
-/// It takes the memory of its header and of the data bytes that it has, where a [`Packet`] has room for the most of them.
+/// It takes the memory of its header and of the data bytes that it has, where a [`Packet`] has room
+/// for the most of them.
 #[derive(Drop)]
 pub struct KeptPacket {
     op: Opcode,
@@ -46,10 +47,13 @@ impl Model for KeptPacket {
 }
 
 impl KeptPacket {
-    /// A copy of a packet. Where there is no memory for its data, they take a spare room, as [`crate::set_aside`] makes them.
+    /// A copy of a packet. Where there is no memory for its data, the data take a spare room, as
+    /// [`crate::set_aside`] makes them.
     pub fn new(alloc: Global, packet: &Packet, spares: &mut Vec<Box<Item, Global>>) -> Self
         requires { 0 < vec_len spares.old }
+        // What is kept is the packet.
         ensures value { result ≡ packet.now }
+        // At most one of the rooms that were set aside is taken.
         ensures spares { vec_len spares.old ≤ vec_len spares.new + 1 }
     {
         KeptPacket {
@@ -65,22 +69,25 @@ impl KeptPacket {
         }
     }
 
-    /// The packet's opcode.
+    /// The opcode, which says what kind of packet it is.
     pub fn op(&self) -> Opcode
+        // The opcode is the kept packet's.
         ensures { result ≡ self.now.op }
     {
         self.op
     }
 
-    /// The index at the host that it is for.
+    /// The index at the host that the packet is for.
     pub fn dst_index(&self) -> u16
+        // The index is the kept packet's.
         ensures { result ≡ self.now.dst_index }
     {
         self.dst_index
     }
 
-    /// The packet's number.
+    /// The packet's number, by which its receiver puts it in order.
     pub fn num(&self) -> PktNum
+        // The number is the kept packet's.
         ensures { result ≡ self.now.num }
     {
         self.num
@@ -88,13 +95,15 @@ impl KeptPacket {
 
     /// The number of the last packet that its sender's user had read.
     pub fn ack(&self) -> PktNum
+        // The acknowledgement is the kept packet's.
         ensures { result ≡ self.now.ack }
     {
         self.ack
     }
 
-    /// The data bytes, lent.
+    /// The data bytes, lent from where they are kept.
     pub fn bytes(&self) -> &[u8]
+        // The data are the kept packet's.
         ensures { result.now ≡ self.now.body }
     {
         self.bytes.bytes()
@@ -102,6 +111,7 @@ impl KeptPacket {
 
     /// Writes the packet into a place of the caller's, by a copy of the data over what lay there.
     pub fn write_into(&self, packet: &mut Packet)
+        // The packet is written over whatever packet lay there.
         ensures { packet.new ≡ self.now }
     {
         packet.op = self.op;
@@ -116,8 +126,9 @@ impl KeptPacket {
         let _fits = packet.body.try_extend_from_slice(self.bytes.bytes());
     }
 
-    /// The packet, made again. It takes no memory, and copies the data.
+    /// The whole packet, made again. The call takes no memory, and copies the data.
     pub fn packet(&self) -> Packet
+        // The packet is the kept packet.
         ensures { result ≡ self.now }
     {
         Packet {

@@ -52,7 +52,8 @@ pub(crate) struct LabEnd {
 impl LabEnd {
     /// An end that wasn't asked.
     pub(crate) fn new(alloc: Global, config: ConnConfig) -> Result<Self, AllocError>
-        ensures { IfOk result (λ e. end_view e ≡ record { conn = new_conn config; first = 0; written = []; read = [] }) }
+        ensures { IfOk result (λ e. end_view e
+            ≡ record { conn = new_conn config; first = 0; written = []; read = [] }) }
     {
         Ok(LabEnd {
             conn: Conn::new(alloc, config)?,
@@ -73,9 +74,12 @@ impl LabEnd {
         requires short { length contact.now ≤ MAX_DATA }
         requires empty { out.old.packets ≡ [] }
         requires fits { 0 < out.old.cap }
-        ensures end { IfOk result (λ e. end_view e ≡ record { conn = (request_for contact.now config start).view; first = start; written = rfc_item contact.now ∷ []; read = [] }) }
+        ensures end { IfOk result
+            (λ e. end_view e ≡ record { conn = (request_for contact.now config start).view;
+            first = start; written = rfc_item contact.now ∷ []; read = [] }) }
         ensures number { IfOk result (λ e. start < 65536) }
-        ensures packets { IfOk result (λ e. out.new ≡ record out.old { packets = (request_for contact.now config start).packets }) }
+        ensures packets { IfOk result (λ e. out.new
+            ≡ record out.old { packets = (request_for contact.now config start).packets }) }
     {
         let mut end = LabEnd::new(alloc, config)?;
         end.first = start;
@@ -106,7 +110,8 @@ impl LabEnd {
         requires room { HasRoom self.old }
         requires empty { out.old.packets ≡ [] }
         requires fits { (self.old.conn.config.send_cap ≤ MAX_WINDOW) × (MAX_WINDOW ≤ out.old.cap) }
-        ensures { Makes (end_view self.old) (call_of call.now now) (end_view self.new) out.old out.new (told_of call.now self.new.read.list.items result) }
+        ensures { Makes (end_view self.old) (call_of call.now now)
+            (end_view self.new) out.old out.new (told_of call.now self.new.read.list.items result) }
     {
         match call {
             Call::Write(op, bytes) => self.write(*op, bytes, now, out),
@@ -140,7 +145,8 @@ impl LabEnd {
         requires room { HasRoom self.old }
         requires empty { out.old.packets ≡ [] }
         requires fits { 0 < out.old.cap }
-        ensures { Makes (end_view self.old) (Write op bytes.now now) (end_view self.new) out.old out.new (told blank [] result) }
+        ensures { Makes (end_view self.old) (Write op bytes.now now)
+            (end_view self.new) out.old out.new (told blank [] result) }
     {
         match self.conn.write(op, bytes, now, out) {
             Ok(number) => {
@@ -156,7 +162,8 @@ impl LabEnd {
         requires room { HasRoom self.old }
         requires empty { out.old.packets ≡ [] }
         requires fits { 0 < out.old.cap }
-        ensures { Makes (end_view self.old) Read (end_view self.new) out.old out.new (told blank self.new.read.list.items result) }
+        ensures { Makes (end_view self.old) Read (end_view self.new) out.old out.new
+            (told blank self.new.read.list.items result) }
     {
         if !self.conn.state().is_opening() {
             if let Some(item) = self.conn.front() {
@@ -171,7 +178,8 @@ impl LabEnd {
         requires room { HasRoom self.old }
         requires empty { out.old.packets ≡ [] }
         requires fits { 0 < out.old.cap }
-        ensures { Makes (end_view self.old) (Deliver packet.now now) (end_view self.new) out.old out.new (told packet.now [] result) }
+        ensures { Makes (end_view self.old) (Deliver packet.now now)
+            (end_view self.new) out.old out.new (told packet.now [] result) }
     {
         let disposition = self.conn.take(packet, now, out);
         if disposition == Disposition::Opened {
@@ -184,7 +192,8 @@ impl LabEnd {
     #[inline(never)]
     fn keep_read(&mut self, packet: &Packet)
         requires { HasPlace self.old.read }
-        ensures { end_view self.new ≡ record (end_view self.old) { read = self.old.read.list.items ++ item_of packet.now ∷ [] } }
+        ensures { end_view self.new ≡ record (end_view self.old) { read = self.old.read.list.items
+            ++ item_of packet.now ∷ [] } }
     {
         self.read.keep(packet.op, packet.bytes());
     }
@@ -195,7 +204,8 @@ impl LabEnd {
         requires room { HasRoom self.old }
         requires empty { out.old.packets ≡ [] }
         requires fits { 0 < out.old.cap }
-        ensures { Makes (end_view self.old) (Accept start now) (end_view self.new) out.old out.new (told blank [] result) }
+        ensures { Makes (end_view self.old) (Accept start now) (end_view self.new) out.old out.new
+            (told blank [] result) }
     {
         let rfc = self.front();
         match self.conn.accept(start, now, out) {

@@ -1,9 +1,10 @@
-//! The laboratory: two ends of one connection (AI Memo 628, on connections) over a network that loses, repeats and reorders
-//! packets, and what is true of them whatever it does.
+//! The laboratory: two ends of one connection (AI Memo 628, on connections) over a network that
+//! loses, repeats and reorders packets, and what is true of them whatever it does.
 //!
-//! [`Lab`] runs two real connections over a schedule of [`Event`]s, and keeps every packet that was ever sent. The plain machine
-//! (`specs/Machine.antt`) says in whole lists and true counts what two ends may do, with two laws: [`law_delivery`] over all its
-//! schedules, and [`law_numbers`], by which 16-bit packet numbers stand for true counts.
+//! [`Lab`] runs two real connections over a schedule of [`Event`]s, and keeps every packet that was
+//! ever sent. The plain machine (`specs/Machine.antt`) says in whole lists and true counts what two
+//! ends may do. It has two laws: [`law_delivery`] over all its schedules, and [`law_numbers`], by
+//! which 16-bit packet numbers stand for true counts.
 //!
 //! No sockets and no clock: moments are handed in.
 #![tactic(auto)]

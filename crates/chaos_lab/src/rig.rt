@@ -61,8 +61,9 @@ impl Model for Rig {
 }
 
 impl Rig {
-    /// Two ends with these configurations. A, which is host 401 octal, has asked B, which is host 402 octal, for a contact at
-    /// moment 0, and numbers what it writes from `start_a` on. Its RFC is copy 0.
+    /// Two ends with these configurations. A, which is host 401 octal, has asked B, which is host
+    /// 402 octal, for a contact at moment 0, and numbers what it writes from `start_a` on. Its RFC
+    /// is copy 0.
     pub(crate) fn new(
         alloc: Global,
         config_a: ConnConfig,
@@ -111,7 +112,8 @@ impl Rig {
         }
     }
 
-    /// Every packet that was sent, with its stamp, the oldest first. An event names a copy by its place here.
+    /// Every packet that was sent, with its stamp, the oldest first. An event names a copy by its
+    /// place here.
     pub(crate) fn copies(&self) -> &[Stamped]
         ensures { result.now ≡ self.now.copies }
     {
@@ -153,12 +155,13 @@ impl Rig {
         self.clock
     }
 
-    /// Lets events happen, one after the other. A refused event changes nothing, and the next one follows. Where there is no
-    /// memory it stops, with the laboratory as after the events before that one. Each packet that is delivered is written into
-    /// the same place.
+    /// Lets events happen, one after the other. A refused event changes nothing, and the next one
+    /// follows. Where there is no memory it stops, with the laboratory as after the events before
+    /// that one. Each packet that is delivered is written into the same place.
     pub(crate) fn run(&mut self, events: &[Event<'_>], place: &mut Packet) -> Result<(), AllocError>
         ensures all { OnOk result (self.new ≡ after_all self.old (map happening_of events.now)) }
-        ensures no_memory { OnErr result (StopsWithin self.old (map happening_of events.now) self.new) }
+        ensures no_memory { OnErr result
+            (StopsWithin self.old (map happening_of events.now) self.new) }
     {
         for event in events {
             self.attempt(event, place)?;
@@ -185,7 +188,8 @@ impl Rig {
         event: &Event<'_>,
         place: &mut Packet,
     ) -> Result<StepDone, LabFault>
-        ensures { Happens self.old (happening_of event.now) self.new (told_at self.old self.new (happening_of event.now) result) }
+        ensures { Happens self.old (happening_of event.now) self.new
+            (told_at self.old self.new (happening_of event.now) result) }
     {
         match event {
             Event::Write(side, op, bytes) => self.call(*side, &Call::Write(*op, bytes)),
@@ -198,9 +202,11 @@ impl Rig {
         }
     }
 
-    /// A copy comes to the end that it was sent to, as the request or as a packet of the connection.
+    /// A copy comes to the end that it was sent to, as the request or as a packet of the
+    /// connection.
     fn deliver(&mut self, k: usize, place: &mut Packet) -> Result<StepDone, LabFault>
-        ensures { Happens self.old (DeliverCopy k) self.new (told_at self.old self.new (DeliverCopy k) result) }
+        ensures { Happens self.old (DeliverCopy k) self.new
+            (told_at self.old self.new (DeliverCopy k) result) }
     {
         let Some(copy) = self.copies.list.get(k) else {
             return Err(LabFault::NoSuchCopy);
@@ -217,9 +223,11 @@ impl Rig {
         self.call(side, &Call::Deliver(place))
     }
 
-    /// Makes a call at one end, at the greatest moment that was ticked. What it puts out joins the copies.
+    /// Makes a call at one end, at the greatest moment that was ticked. What it puts out joins the
+    /// copies.
     fn call(&mut self, side: Side, call: &Call<'_>) -> Result<StepDone, LabFault>
-        ensures { Calls self.old side (call_of call.now self.old.clock) self.new (told_of call.now (lab_end self.new side).read result) }
+        ensures { Calls self.old side (call_of call.now self.old.clock) self.new
+            (told_of call.now (lab_end self.new side).read result) }
     {
         grow(&mut self.ends, &mut self.copies)?;
         let done = self.ends.call(side, call, self.clock, &mut self.out)?;
@@ -259,8 +267,9 @@ impl Rig {
         alloc: Global,
         user: &mut U,
     ) -> Result<(), AllocError>
-        ensures ok { OnOk result ((turn : Turn) × U.may_turn user.old user.new self.old.b.conn self.old.clock turn
-            × IsTaken self.old.b.conn self.old.clock turn × (self.new ≡ after_all self.old (turn_events turn))) }
+        ensures ok { OnOk result ((turn : Turn) × U.may_turn user.old user.new
+            self.old.b.conn self.old.clock turn × IsTaken self.old.b.conn self.old.clock turn
+            × (self.new ≡ after_all self.old (turn_events turn))) }
         ensures err { OnErr result ((self.new ≡ self.old) × (user.new ≡ user.old)) }
     {
         if grow(&mut self.ends, &mut self.copies).is_err() {
@@ -281,7 +290,8 @@ impl Rig {
 
 /// Makes room for all that one call may add.
 fn grow(ends: &mut BothEnds, copies: &mut CopyList) -> Result<(), LabFault>
-    ensures ends { (end_view ends.new.a ≡ end_view ends.old.a) × (end_view ends.new.b ≡ end_view ends.old.b) }
+    ensures ends { (end_view ends.new.a ≡ end_view ends.old.a)
+        × (end_view ends.new.b ≡ end_view ends.old.b) }
     ensures copies { copies.new.list.items ≡ copies.old.list.items }
     ensures room { OnOk result (HasRoom ends.new.a × HasRoom ends.new.b × HasSpace copies.new) }
     ensures err { IfErr result (λ fault. fault ≡ LabFault.NoMemory) }
@@ -329,7 +339,9 @@ fn noted(asked: bool, now: u64, call: &Call<'_>) -> (bool, u64)
 fn post(copies: &mut CopyList, out: &mut Outbox, side: Side, ends: &BothEnds)
     requires few { length out.old.packets ≤ MAX_WINDOW }
     requires space { HasSpace copies.old }
-    ensures copies { copies.new.list.items ≡ copies.old.list.items ++ map (stamp side (length ends.now.a.written.list.items) (length ends.now.b.written.list.items)) out.old.packets }
+    ensures copies { copies.new.list.items ≡ copies.old.list.items ++ map
+        (stamp side (length ends.now.a.written.list.items) (length ends.now.b.written.list.items))
+        out.old.packets }
     ensures out { out.new ≡ record out.old { packets = [] } }
 {
     let (len_a, len_b) = (ends.a.written.list.len(), ends.b.written.list.len());
@@ -342,14 +354,17 @@ fn post(copies: &mut CopyList, out: &mut Outbox, side: Side, ends: &BothEnds)
     }
 }
 
-/// Takes what was put out in a turn that ended with B's reply into the copies, and the reply into what B wrote. What went out
-/// before it is stamped before the reply is counted.
+/// Takes what was put out in a turn that ended with B's reply into the copies, and the reply into
+/// what B wrote. What went out before it is stamped before the reply is counted.
 fn post_reply(copies: &mut CopyList, out: &mut Outbox, ends: &mut BothEnds)
     requires few { length out.old.packets ≤ 2 }
     requires space { HasSpace copies.old }
     requires room { HasPlace ends.old.b.written }
-    ensures copies { copies.new.list.items ≡ copies.old.list.items ++ stamped_reply (length ends.old.a.written.list.items) (length ends.old.b.written.list.items) out.old.packets }
-    ensures ends { (ends.new.a ≡ ends.old.a) × (end_view ends.new.b ≡ record (end_view ends.old.b) { written = ends.old.b.written.list.items ++ reply_items out.old.packets }) }
+    ensures copies { copies.new.list.items
+        ≡ copies.old.list.items ++ stamped_reply (length ends.old.a.written.list.items)
+        (length ends.old.b.written.list.items) out.old.packets }
+    ensures ends { (ends.new.a ≡ ends.old.a) × (end_view ends.new.b ≡ record (end_view
+        ends.old.b) { written = ends.old.b.written.list.items ++ reply_items out.old.packets }) }
     ensures out { out.new ≡ record out.old { packets = [] } }
 {
     let len_a = ends.a.written.list.len();

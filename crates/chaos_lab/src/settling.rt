@@ -38,7 +38,8 @@ pub(crate) enum Place {
     Read(Side, u16),
     /// This copy comes to a side, and those that were sent with it later.
     Come(Side, usize),
-    /// The user at a side reads what came, if there is something. Then this copy comes, and the others.
+    /// The user at a side reads what came, if there is something. Then this copy comes, and the
+    /// others.
     ReadCome(Side, usize),
     /// The user at a side, to which all came, announces its greatest window,
     TellAll(Side),
@@ -47,8 +48,9 @@ pub(crate) enum Place {
     Over,
 }
 
-/// The events by which two open ends settle, one after the other. Each end announces its greatest window, and the clock of the
-/// other goes on until it sends again what it has no receipt for. All of that comes, the users read, and each end tells that.
+/// The events by which two open ends settle, one after the other. Each end announces its greatest
+/// window, and the clock of the other goes on until it sends again what it has no receipt for. All
+/// of that comes, the users read, and each end reports what its user read.
 ///
 /// Only copies that were sent since are delivered, each once.
 #[derive(Clone, Copy, Debug, PartialEq, Eq)]
@@ -59,8 +61,9 @@ pub struct Settling {
 }
 
 impl Settling {
-    /// From the start.
+    /// Settling at its start.
     pub fn new() -> Self
+        // What is left of settling at first is all of it.
         ensures { (l : LabView) → left result l ≡ settling l }
     {
         let none = Burst { from: 0, to: 0 };
@@ -71,9 +74,13 @@ impl Settling {
         }
     }
 
-    /// The next event, in the laboratory as it is after those before; none where all have happened.
+    /// Takes the next event, in the laboratory as it is after those before.
     pub fn next(&mut self, lab: &Lab) -> Option<Event<'static>>
-        ensures some { IfSome result (λ event. left self.old lab.now ≡ happening_of event ∷ left self.new (happen lab.now (happening_of event)).lab) }
+        // The answer is the first event of what is left, in the laboratory as it is then, and the
+        // others are left.
+        ensures some { IfSome result (λ event. left self.old lab.now
+            ≡ happening_of event ∷ left self.new (happen lab.now (happening_of event)).lab) }
+        // No event is answered where nothing is left.
         ensures none { IfNone result (left self.old lab.now ≡ []) }
     {
         match self.place {
@@ -98,7 +105,8 @@ impl Settling {
 
     /// An end announces its greatest window. Where it is A, that has sent again.
     fn tell(&mut self, lab: &Lab, side: Side) -> Event<'static>
-        ensures { left_at (Place.Tell side) self.old lab.now ≡ happening_of result ∷ left self.new (happen lab.now (happening_of result)).lab }
+        ensures { left_at (Place.Tell side) self.old lab.now
+            ≡ happening_of result ∷ left self.new (happen lab.now (happening_of result)).lab }
     {
         let copy = lab.copies().len();
         match side {
@@ -111,7 +119,8 @@ impl Settling {
 
     /// An end sends again.
     fn resend(&mut self, lab: &Lab, side: Side) -> Event<'static>
-        ensures { left_at (Place.Resend side) self.old lab.now ≡ happening_of result ∷ left self.new (happen lab.now (happening_of result)).lab }
+        ensures { left_at (Place.Resend side) self.old lab.now
+            ≡ happening_of result ∷ left self.new (happen lab.now (happening_of result)).lab }
     {
         let first = lab.copies().len();
         match side {
@@ -129,7 +138,8 @@ impl Settling {
 
     /// What the other end sent again comes to a side. Where that is A, B has just sent.
     fn take(&mut self, lab: &Lab, side: Side) -> Event<'static>
-        ensures { left_at (Place.Take side) self.old lab.now ≡ happening_of result ∷ left self.new (happen lab.now (happening_of result)).lab }
+        ensures { left_at (Place.Take side) self.old lab.now
+            ≡ happening_of result ∷ left self.new (happen lab.now (happening_of result)).lab }
     {
         match side {
             Side::A => self.of_b.to = lab.copies().len(),
@@ -150,7 +160,8 @@ impl Settling {
 
     /// A user reads so many times, if there is something; then the copies come.
     fn read(&mut self, lab: &Lab, side: Side, times: u16) -> Event<'static>
-        ensures { left_at (Place.Read side times) self.old lab.now ≡ happening_of result ∷ left self.new (happen lab.now (happening_of result)).lab }
+        ensures { left_at (Place.Read side times) self.old lab.now
+            ≡ happening_of result ∷ left self.new (happen lab.now (happening_of result)).lab }
     {
         if times == 0 || lab.waits(side) {
             return self.come(lab, side, self.sent_to(side).from);
@@ -161,7 +172,8 @@ impl Settling {
 
     /// This copy comes, and those that were sent with it later.
     fn come(&mut self, lab: &Lab, side: Side, copy: usize) -> Event<'static>
-        ensures { left_at (Place.Come side copy) self.old lab.now ≡ happening_of result ∷ left self.new (happen lab.now (happening_of result)).lab }
+        ensures { left_at (Place.Come side copy) self.old lab.now
+            ≡ happening_of result ∷ left self.new (happen lab.now (happening_of result)).lab }
     {
         if copy >= self.sent_to(side).to {
             return self.tell_all(lab, side);
@@ -172,7 +184,8 @@ impl Settling {
 
     /// A user reads what came, if there is something; then this copy comes, and the others.
     fn read_come(&mut self, lab: &Lab, side: Side, copy: usize) -> Event<'static>
-        ensures { left_at (Place.ReadCome side copy) self.old lab.now ≡ happening_of result ∷ left self.new (happen lab.now (happening_of result)).lab }
+        ensures { left_at (Place.ReadCome side copy) self.old lab.now
+            ≡ happening_of result ∷ left self.new (happen lab.now (happening_of result)).lab }
     {
         if lab.waits(side) {
             return self.come(lab, side, copy);
@@ -183,7 +196,8 @@ impl Settling {
 
     /// An end to which all came announces its greatest window.
     fn tell_all(&mut self, lab: &Lab, side: Side) -> Event<'static>
-        ensures { left_at (Place.TellAll side) self.old lab.now ≡ happening_of result ∷ left self.new (happen lab.now (happening_of result)).lab }
+        ensures { left_at (Place.TellAll side) self.old lab.now
+            ≡ happening_of result ∷ left self.new (happen lab.now (happening_of result)).lab }
     {
         self.place = Place::HearAll(side, lab.copies().len());
         lab.announcement(side)
@@ -201,22 +215,27 @@ fn after_all_came(side: Side) -> Place
 }
 
 impl Lab {
-    /// Whether both ends can settle: both are open, each sends again before it would count the other as down, and there are moments
-    /// left for that.
+    /// Whether [`Lab::settle`] may be called.
     pub fn can_settle(&self) -> bool
+        // Both ends can settle where both are open, each sends again before it would count the
+        // other as down, and moments are left for that.
         ensures { IsTrue result ↔ CanSettle self.now }
     {
         self.is_in_time(Side::A) && self.is_in_time(Side::B) && self.has_moments()
     }
 
-    /// Lets both ends settle, by the events of [`Settling`]. Then both users have read all that was written, neither end stores a
-    /// packet, and each knows it.
+    /// Lets both ends settle, by the events of [`Settling`], at most 394.
     ///
-    /// There are at most 394 events. Where there is no memory it stops, with the laboratory as after the events before that one.
+    /// # Errors
+    /// No memory for an event.
     pub fn settle(&mut self, alloc: Global) -> Result<(), AllocError>
         requires { CanSettle self.old }
+        // Afterwards both users have read all that was written, neither end stores a packet, and
+        // both are drained.
         ensures settled { OnOk result (IsSettled self.old self.new) }
+        // Exactly the events of settling happened.
         ensures events { OnOk result (self.new ≡ after_all self.old (settling self.old)) }
+        // Where there is no memory it stops, with the laboratory as after the events before.
         ensures no_memory { OnErr result (StopsWithin self.old (settling self.old) self.new) }
     {
         self.rig.sound();
@@ -227,8 +246,9 @@ impl Lab {
         Ok(())
     }
 
-    /// What holds of both connections, whatever happened: each is sound.
+    /// The law of what holds of both connections, whatever happened.
     pub fn law_sound(&self)
+        // Both connections of every laboratory are as `IsConn` says.
         ensures { (x : Side) → IsConn (lab_end self.now x).conn }
     {
         self.rig.sound();
@@ -256,20 +276,25 @@ impl Lab {
 
     /// The event by which the user at a side announces its greatest window.
     pub fn announcement(&self, side: Side) -> Event<'static>
-        ensures { happening_of result ≡ AnnounceBy side (lab_end self.now side).conn.config.recv_cap }
+        // The event announces the window of `recv_cap` at that side.
+        ensures { happening_of result
+            ≡ AnnounceBy side (lab_end self.now side).conn.config.recv_cap }
     {
         Event::Announce(side, self.recv_cap(side))
     }
 
     /// The greatest window that an end may announce.
     pub fn recv_cap(&self, side: Side) -> u16
+        // The window is the `recv_cap` of the end's configuration.
         ensures { result ≡ (lab_end self.now side).conn.config.recv_cap }
     {
         self.rig.conn(side).config().recv_cap()
     }
 
-    /// When an end that was just heard sends again, or the last moment that there is.
+    /// The moment at which an end that was just heard sends again, or the last moment that there
+    /// is.
     pub fn resend_moment(&self, side: Side) -> u64
+        // The moment is as long after the end was heard as its time of retransmission says.
         ensures { result ≡ resend_moment side self.now }
     {
         let conn = self.rig.conn(side);
@@ -278,6 +303,7 @@ impl Lab {
 
     /// Whether the user at a side has nothing to read.
     pub fn waits(&self, side: Side) -> bool
+        // The user waits exactly where there is nothing in front for it to read.
         ensures { result ≡ is_none (front_of (lab_end self.now side).conn) }
     {
         self.rig.conn(side).front().is_none()

@@ -13,8 +13,9 @@ impl Side {
     ghost use Rattle.std.specs.Prelude.{◌≡◌};
     ghost use Rattle.chaos_lab.specs.Machine.{other};
 
-    /// The end that this one talks to.
+    /// The end that this end talks to.
     pub fn other(self) -> Side
+        // The other end of A is B, and the other end of B is A.
         ensures { result ≡ other self }
     {
         match self {

@@ -3,8 +3,8 @@
 use crate::kept_packet::KeptPacket;
 use crate::side::Side;
 
-/// A packet that was sent, and its stamp: how many items each end had written after the call that sent it, the packet's own
-/// item counted.
+/// A packet that was sent, and its stamp: how many items each end had written after the call that
+/// sent the packet, with the packet's own item counted.
 #[derive(Drop)]
 pub struct Stamped {
     /// The end that sent it.

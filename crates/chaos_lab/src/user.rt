@@ -19,15 +19,17 @@ pub enum Turned {
     Replied,
 }
 
-/// A user of B's connection, such as a server: in a turn it looks at the connection, and reads the item in front, or reads it and
-/// writes one item, or does neither. [`Lab::take_turn`](crate::Lab::take_turn) lends it the connection.
+/// A user of B's connection, such as a server. [`Lab::take_turn`](crate::Lab::take_turn) lends it
+/// the connection for a turn.
 pub trait User {
-    /// Which turns it may take, and what becomes of it: the user before and after it, the connection before it, the moment and
-    /// the turn.
+    /// Which turns the user may take, and what becomes of it: the user before and after the turn,
+    /// the connection before it, the moment and the turn.
     ghost may_turn: { Self → Self → ConnView → ℕ → Turn → Type 0 };
 
     /// Takes a turn. The outbox has room for two packets.
     fn turn(&mut self, alloc: Global, conn: &mut Conn, now: u64, out: &mut Outbox) -> Turned
         requires { 2 ≤ room_of out.old }
-        ensures { (turn : Turn) × may_turn self.old self.new conn.old now turn × TakesTurn conn.old now turn conn.new out.old out.new result };
+        // The user reads the item in front, or reads it and writes one item, or rests.
+        ensures { (turn : Turn) × may_turn self.old self.new conn.old now turn
+            × TakesTurn conn.old now turn conn.new out.old out.new result };
 }
