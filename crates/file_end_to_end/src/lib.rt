@@ -1,5 +1,18 @@
-//! FILE from end to end: a client's engine at one link, a FILE server at another link, and the datagrams between the two. The laws
-//! follow each turn and each datagram, and say what the client copies.
+//! FILE from end to end: a client's engine at one link, a FILE server at another link, and the
+//! datagrams between the two. The laws follow each turn and each datagram, and say what the client
+//! copies.
+//!
+//! The laws have these premises, and promise nothing of progress or of time:
+//!
+//! - The premises of chaos_system. Otherwise a stranger could log in as the client, and an old
+//!   packet could carry an old command.
+//! - The store keeps its files honestly, so it says what files it has: `MemStore` does, `DirStore`
+//!   does not. A disk may lose what was written to it.
+//! - B's owner only listens, and starts with a new server. Otherwise another user of B could answer
+//!   a client.
+//! - For a copy: the user is idle, so the user has read a reply to each earlier command. Otherwise
+//!   an earlier reply could be taken for a reply of this copy.
+//! - The engine asks for no other connection. Otherwise the commands would go to two sessions.
 #![tactic(auto)]
 
 mod law;

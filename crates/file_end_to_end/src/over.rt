@@ -14,9 +14,8 @@ use chaosd_copy::{CopyEnd, get_file, put_file};
 use chaosd_io::RunFault;
 use file_client::Call;
 
-/// Gets a file over a call. If the answer is `Done`, then the bytes are those that the server's store had at the path when the
-/// OPEN was served. This holds in each world in which the engine took its steps, whatever the server and the network did
-/// meanwhile.
+/// Gets a file over a call, as [`get_file`] does. The contract says that there are steps of the
+/// engine from the call's state before to its state after; it doesn't say which steps.
 ///
 /// # Errors
 /// The errors of [`get_file`].
@@ -29,14 +28,17 @@ pub fn get_over<C: Dial, L: Link, S: Store>(
     requires first { first ≤ MAX_FIRST }
     requires path { length path.now ≤ MAX_PATH }
     requires empty { bytes.old.items ≡ [] }
-    ensures { IfDone result (CopiesInWorlds C.shows L.queue L.asked S.contents S.may_give S.count call.old call.new (Get (tids_from first) file_handle path.now bytes.new.items)) }
+    // A get that is Done has the file that the server had. Take each world in which the engine
+    // takes the steps of the call, from an idle user on. There the file at the path had exactly the
+    // bytes that the get handed over, at the moment when the OPEN was served. The server and the
+    // network may do anything meanwhile.
+    ensures { IfDone result (CopiesInWorlds C.shows L.queue L.asked S.contents S.may_give S.count
+        call.old call.new (Get (tids_from first) file_handle path.now bytes.new.items)) }
 {
     get_file(call, first, path, bytes)
 }
 
-/// Puts a file over a call. If the answer is `Done`, then these bytes became the file at the path when the CLOSE was served, and
-/// by the CLOSE alone. This holds in each world in which the engine took its steps, whatever the server and the network did
-/// meanwhile.
+/// Puts a file over a call, as [`put_file`] does.
 ///
 /// # Errors
 /// The errors of [`put_file`].
@@ -49,7 +51,12 @@ pub fn put_over<C: Dial, L: Link, S: Store>(
     requires first { first ≤ MAX_FIRST }
     requires path { length path.now ≤ MAX_PATH }
     requires fits { length bytes.now ≤ MAX_FILE }
-    ensures { IfDone result (CopiesInWorlds C.shows L.queue L.asked S.contents S.may_give S.count call.old call.new (Put (tids_from first) file_handle path.now bytes.now)) }
+    // A put that is Done stored exactly the file. In each world in which the engine takes the steps
+    // of the call, from an idle user on, the CLOSE of the put made the file at the path exactly
+    // these bytes, whole. No other command of the put changed any file. The server and the network
+    // may do anything meanwhile.
+    ensures { IfDone result (CopiesInWorlds C.shows L.queue L.asked S.contents S.may_give S.count
+        call.old call.new (Put (tids_from first) file_handle path.now bytes.now)) }
 {
     put_file(call, first, path, bytes)
 }

@@ -1,5 +1,17 @@
-//! FILE over a network. One host serves FILE to many connections from one store. The laws say what the clients read, and what whole
-//! files the clients copy.
+//! FILE over a network. One host serves FILE to many connections from one store. The laws say what
+//! the clients read, and what whole files the clients copy.
+//!
+//! The laws have these premises, and promise nothing of progress: a server that never serves meets
+//! the laws.
+//!
+//! - The premises of chaos_net. Otherwise a packet could come to a wrong connection, or a host
+//!   could forget a command that it served.
+//! - The store keeps its files honestly, though it may fail. Otherwise a READ could give bytes that
+//!   no client ever stored.
+//! - Only B's server reads and writes at B. Otherwise another user of B could take a command, or
+//!   could send a false reply.
+//! - For whole files: the user sent LOGIN and then exactly the commands of copies. Otherwise the
+//!   user could close the file in the middle of a copy.
 #![tactic(auto)]
 
 mod copies;
