@@ -34,7 +34,10 @@ fn accept<L: Link>(
 ) -> bool
     requires room { TURN_ROOM ≤ out.old.cap }
     requires empty { out.old.packets ≡ [] }
-    ensures { DoesPhase (Asks (L.asked link.old) (L.asked link.new)) terms.now.carriage (accept_by host.old terms.now.start terms.now.moment request) (station host.old (L.queue link.old) out.old) (station host.new (L.queue link.new) out.new) result }
+    ensures { DoesPhase (Asks (L.asked link.old) (L.asked link.new)) terms.now.carriage
+        (accept_by host.old terms.now.start terms.now.moment request)
+        (station host.old (L.queue link.old) out.old) (station host.new (L.queue link.new) out.new)
+        result }
 {
     let Some(id) = request else {
         return false;
@@ -53,7 +56,10 @@ fn greet<L: Link>(
 ) -> bool
     requires room { TURN_ROOM ≤ out.old.cap }
     requires empty { out.old.packets ≡ [] }
-    ensures { DoesPhase (Asks (L.asked link.old) (L.asked link.new)) terms.now.carriage (greet terms.now.start terms.now.moment packet.now host.old) (station host.old (L.queue link.old) out.old) (station host.new (L.queue link.new) out.new) result }
+    ensures { DoesPhase (Asks (L.asked link.old) (L.asked link.new)) terms.now.carriage
+        (greet terms.now.start terms.now.moment packet.now host.old)
+        (station host.old (L.queue link.old) out.old) (station host.new (L.queue link.new) out.new)
+        result }
 {
     let became = host.take(packet, terms.moment, out);
     let sent = send_all(link, out, terms.carriage);
@@ -70,7 +76,10 @@ fn greet_all<L: Link>(
 ) -> bool
     requires room { TURN_ROOM ≤ out.old.cap }
     requires empty { out.old.packets ≡ [] }
-    ensures { DoesPhase (Asks (L.asked link.old) (L.asked link.new)) terms.now.carriage (over_packets (greet terms.now.start terms.now.moment) packets.entry host.old) (station host.old (L.queue link.old) out.old) (station host.new (L.queue link.new) out.new) result }
+    ensures { DoesPhase (Asks (L.asked link.old) (L.asked link.new)) terms.now.carriage
+        (over_packets (greet terms.now.start terms.now.moment) packets.entry host.old)
+        (station host.old (L.queue link.old) out.old) (station host.new (L.queue link.new) out.new)
+        result }
 {
     let mut sent = false;
     let mut packet = Packet::default();
@@ -90,7 +99,10 @@ pub fn arrive_at_server<L: Link>(
 ) -> bool
     requires room { TURN_ROOM ≤ out.old.cap }
     requires empty { out.old.packets ≡ [] }
-    ensures { DoesPhase (Asks (L.asked link.old) (L.asked link.new)) terms.now.carriage (arrive_at_server came.entry terms.now.start terms.now.moment host.old) (station host.old (L.queue link.old) out.old) (station host.new (L.queue link.new) out.new) result }
+    ensures { DoesPhase (Asks (L.asked link.old) (L.asked link.new)) terms.now.carriage
+        (arrive_at_server came.entry terms.now.start terms.now.moment host.old)
+        (station host.old (L.queue link.old) out.old) (station host.new (L.queue link.new) out.new)
+        result }
 {
     match came {
         Some(Ok(packets)) => greet_all(host, packets, link, out, terms),

@@ -1,5 +1,5 @@
-//! The ends of connections: those that were served to their EOF, and those whose peer acknowledges nothing, are closed; those that
-//! ended are released.
+//! The ends of connections: those that were served to their EOF, and those whose peer acknowledges
+//! nothing, are closed; those that ended are released.
 ghost use Rattle.std.specs.Prelude.{◌≡◌, ◌<◌, ◌≤◌, [], length};
 ghost use Rattle.chaos_link.specs.Link.{Asks};
 ghost use Rattle.chaos_turn.specs.Phase.{DoesPhase, over_slots};
@@ -24,15 +24,16 @@ fn is_late(silence: Option<u64>, since: u64, now: u64) -> bool
     }
 }
 
-/// Whether a connection is to be closed: its EOF was served and its peer read all, or it is late, and its peer has acknowledged
-/// nothing that was sent to it.
+/// Whether a connection is to be closed: its EOF was served and its peer read all, or it is late,
+/// and its peer has acknowledged nothing that was sent to it.
 fn is_over(eof: bool, late: bool, conn: &Conn) -> bool
     ensures { result ≡ is_over eof late conn.now }
 {
     eof && conn.drained() || late && conn.keeps_opn()
 }
 
-/// Closes the connection in a slot with an empty text, where it is over. Says whether packets went out, as all here do.
+/// Closes the connection in a slot with an empty text, where it is over. Says whether packets went
+/// out, as all here do.
 fn close_slot<L: Link>(
     host: &mut Host,
     sessions: &Sessions,
@@ -44,7 +45,10 @@ fn close_slot<L: Link>(
     requires within { place < length sessions.now }
     requires room { TURN_ROOM ≤ out.old.cap }
     requires empty { out.old.packets ≡ [] }
-    ensures { DoesPhase (Asks (L.asked link.old) (L.asked link.new)) terms.now.carriage (close_at terms.now.silence terms.now.moment sessions.now place host.old) (station host.old (L.queue link.old) out.old) (station host.new (L.queue link.new) out.new) result }
+    ensures { DoesPhase (Asks (L.asked link.old) (L.asked link.new)) terms.now.carriage
+        (close_at terms.now.silence terms.now.moment sessions.now place host.old)
+        (station host.old (L.queue link.old) out.old) (station host.new (L.queue link.new) out.new)
+        result }
 {
     let Some((id, conn)) = host.conn_at(place) else {
         return false;
@@ -69,7 +73,11 @@ pub(crate) fn close_slots<L: Link>(
     requires alike { length sessions.now ≡ length host.old.slots }
     requires room { TURN_ROOM ≤ out.old.cap }
     requires empty { out.old.packets ≡ [] }
-    ensures { DoesPhase (Asks (L.asked link.old) (L.asked link.new)) terms.now.carriage (over_slots (close_at terms.now.silence terms.now.moment sessions.now) (length host.old.slots) host.old) (station host.old (L.queue link.old) out.old) (station host.new (L.queue link.new) out.new) result }
+    ensures { DoesPhase (Asks (L.asked link.old) (L.asked link.new)) terms.now.carriage
+        (over_slots (close_at terms.now.silence terms.now.moment sessions.now)
+            (length host.old.slots) host.old)
+        (station host.old (L.queue link.old) out.old) (station host.new (L.queue link.new) out.new)
+        result }
 {
     let mut sent = false;
     for place in 0..host.conns() {
@@ -89,7 +97,9 @@ fn release_slot<L: Link>(
 ) -> bool
     requires room { TURN_ROOM ≤ out.old.cap }
     requires empty { out.old.packets ≡ [] }
-    ensures { DoesPhase (Asks (L.asked link.old) (L.asked link.new)) carriage (release_at place host.old) (station host.old (L.queue link.old) out.old) (station host.new (L.queue link.new) out.new) result }
+    ensures { DoesPhase (Asks (L.asked link.old) (L.asked link.new)) carriage
+        (release_at place host.old) (station host.old (L.queue link.old) out.old)
+        (station host.new (L.queue link.new) out.new) result }
 {
     let Some((id, conn)) = host.conn_at(place) else {
         return false;
@@ -111,7 +121,10 @@ pub fn release_slots<L: Link>(
 ) -> bool
     requires room { TURN_ROOM ≤ out.old.cap }
     requires empty { out.old.packets ≡ [] }
-    ensures { DoesPhase (Asks (L.asked link.old) (L.asked link.new)) carriage (over_slots release_at (length host.old.slots) host.old) (station host.old (L.queue link.old) out.old) (station host.new (L.queue link.new) out.new) result }
+    ensures { DoesPhase (Asks (L.asked link.old) (L.asked link.new)) carriage
+        (over_slots release_at (length host.old.slots) host.old)
+        (station host.old (L.queue link.old) out.old) (station host.new (L.queue link.new) out.new)
+        result }
 {
     let mut sent = false;
     for place in 0..host.conns() {
@@ -120,8 +133,8 @@ pub fn release_slots<L: Link>(
     sent
 }
 
-/// The last phases of a turn: connections that are over are closed, those that ended are released, and what is due in each slot
-/// is done.
+/// The last phases of a turn: connections that are over are closed, those that ended are released,
+/// and what is due in each slot is done.
 pub(crate) fn end_slots<L: Link>(
     host: &mut Host,
     sessions: &Sessions,
@@ -132,7 +145,10 @@ pub(crate) fn end_slots<L: Link>(
     requires alike { length sessions.now ≡ length host.old.slots }
     requires room { TURN_ROOM ≤ out.old.cap }
     requires empty { out.old.packets ≡ [] }
-    ensures { DoesPhase (Asks (L.asked link.old) (L.asked link.new)) terms.now.carriage (end_phases terms.now.silence sessions.now terms.now.moment host.old) (station host.old (L.queue link.old) out.old) (station host.new (L.queue link.new) out.new) result }
+    ensures { DoesPhase (Asks (L.asked link.old) (L.asked link.new)) terms.now.carriage
+        (end_phases terms.now.silence sessions.now terms.now.moment host.old)
+        (station host.old (L.queue link.old) out.old) (station host.new (L.queue link.new) out.new)
+        result }
 {
     let closed = close_slots(host, sessions, link, out, terms);
     let released = release_slots(host, link, out, terms.carriage);

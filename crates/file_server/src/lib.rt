@@ -1,11 +1,14 @@
-//! A server of FILE over a link: a session for each slot of a host, the server's turn, and the engine `serve`.
+//! A server of FILE over a link: a session for each slot of a host, the server's turn, and the
+//! engine `serve`.
 //!
-//! [`run_turn`] is one turn: what came is delivered, requests for FILE are accepted, each slot is served once, and what is due is done.
-//! [`Server`] has what a service needs for such turns, and [`run_serve`] makes them by a clock. [`run_serve_by`] makes each turn at the
-//! next moment of a source, and tells a [`Log`] which connections opened and ended.
+//! [`run_turn`] is one turn: what came is delivered, requests for FILE are accepted, each slot is
+//! served once, and what is due is done. [`Server`] has what a service needs for such turns, and
+//! [`run_serve`] makes them by a clock. [`run_serve_by`] makes each turn at the next moment of a
+//! source, and notes in a [`Log`] which connections opened and ended.
 //!
-//! A turn reads no clock (the moment is handed in), and waits for a datagram only where its caller lets it, as its link does:
-//! [`can_serve_any`] says whether a server is to. The host and [`Sessions::new`] take their memory first; a turn takes none but what
+//! A turn reads no clock (the moment is handed in). It waits for a datagram only where its caller
+//! lets it, as its link does: [`can_serve_any`] says whether a server is to. The host and
+//! [`Sessions::new`] take their memory first; a turn takes none but what
 //! [`chaos_file::Session::apply`] takes.
 #![tactic(auto)]
 

@@ -5,12 +5,15 @@ ghost use Rattle.file_server.specs.declared.limits.TheConstants.{SERVER_CONNS, S
 /// The connections of a server's host.
 pub const SERVER_CONNS: usize = 16;
 
-/// For how many milliseconds a server serves a peer that acknowledges nothing. Such a peer may never have asked: a forger wrote its
-/// address into a request. A peer on a road of 10 seconds each way acknowledges the OPN 20 seconds after it was sent.
+/// For how many milliseconds a server serves a peer that acknowledges nothing. Such a peer may
+/// never have asked: a forger wrote its address into a request. A peer on a road of 10 seconds each
+/// way acknowledges the OPN 20 seconds after it was sent.
 pub const SILENT_MILLIS: u64 = 30_000;
 
-/// These as numerals.
+/// The limits of a service as numerals.
 pub fn law_limits()
+    // A server's host has 16 connections.
     ensures conns { SERVER_CONNS ≡ 16 }
+    // A server serves a peer that acknowledges nothing for 30,000 milliseconds.
     ensures silent { SILENT_MILLIS ≡ 30000 }
 {}

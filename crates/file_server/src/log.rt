@@ -1,4 +1,4 @@
-//! What is told of a server's connections.
+//! The log of a server's connections.
 ghost use Rattle.std.specs.Prelude.{◌≡◌, List, Option, option_map};
 ghost use Rattle.file_server.specs.Watch.{Event, told_opened, told_ended};
 
@@ -7,31 +7,37 @@ use chaos_conn::End;
 /// Why a connection ended, as far as its host knows.
 #[derive(Clone, Copy, Debug, PartialEq, Eq)]
 pub enum Ending {
-    /// Its user ended what it wrote, and all that was served.
+    /// Its EOF was served: its user ended what it wrote, and all of that was served.
     Done,
-    /// Its peer's host was heard no more.
+    /// By the look before, its peer's host was heard no more.
     HostDown,
-    /// Its peer had acknowledged nothing that was sent to it, and may never have asked: the server closed it, or the peer did.
+    /// By the look before, its peer had acknowledged nothing that was sent to it, and may never
+    /// have asked. The server closed it, or the peer did.
     Unacknowledged,
     /// Its peer closed it, or doesn't know it any more.
     Closed,
 }
 
-/// Whoever is told of each connection of a server that opens and of each that ends.
+/// Whatever notes each connection of a server that opens and each that ends.
 pub trait Log {
-    /// What was told so far, in order. `None` for one that claims nothing.
+    /// The openings and the ends so far, in order. `None` for a log that promises nothing.
     ghost told: { Self → Option (List Event) };
 
     /// The connection that this peer asked for has opened.
     fn opened(&mut self, peer: End)
+        // The log holds the opening, with its peer, behind all that it held before.
         ensures { told self.new ≡ told_opened peer (told self.old) };
 
-    /// It has ended: the name that its user gave, where one was given, how many commands were replied to, and why.
+    /// The connection to this peer has ended. `login` is the name that its user gave, if any, and
+    /// `commands` is how many commands were replied to.
     fn ended(&mut self, peer: End, login: Option<&[u8]>, commands: u64, ending: Ending)
-        ensures { told self.new ≡ told_ended peer (option_map (λ name. name.now) login.entry) ending (told self.old) };
+        // The log holds the end behind all that it held before: the peer, the name that its user
+        // gave, and why the connection ended.
+        ensures { told self.new
+            ≡ told_ended peer (option_map (λ name. name.now) login.entry) ending (told self.old) };
 }
 
-/// A log that says nothing.
+/// A log that keeps nothing, and promises nothing.
 #[derive(Drop)]
 pub struct Silent;
 

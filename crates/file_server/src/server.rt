@@ -41,7 +41,8 @@ impl Server {
     ghost use Rattle.file_server.specs.Waiting.{waits};
     ghost use Rattle.file_server.specs.Watch.{watched, watched_slots};
 
-    /// A server with this address, whose connections have this configuration, and whose packets go out by the carriage.
+    /// A server with this address, whose connections have this configuration, and whose packets go
+    /// out by the carriage.
     ///
     /// # Errors
     /// `NoMemory`.
@@ -52,10 +53,18 @@ impl Server {
         carriage: Carriage,
     ) -> Result<Self, RunFault>
         requires { 0 < address }
+        // It fails only when out of memory.
         ensures faults { IfErr result (λ fault. fault ≡ RunFault.NoMemory) }
+        // The host listens to FILE and nothing else, at this address, with `SERVER_CONNS`
+        // connections of this configuration to come.
         ensures host { IfOk result (λ server. server.node.host ≡ listening_host config address) }
-        ensures sessions { IfOk result (λ server. server.sessions ≡ replicate SERVER_CONNS new_serving) }
-        ensures out { IfOk result (λ server. server.node.out ≡ record { packets = []; cap = TURN_ROOM }) }
+        // Each of the `SERVER_CONNS` slots has a new session.
+        ensures sessions { IfOk result
+            (λ server. server.sessions ≡ replicate SERVER_CONNS new_serving) }
+        // Nothing waits in the outbox, which has room for `TURN_ROOM` packets.
+        ensures out { IfOk result
+            (λ server. server.node.out ≡ record { packets = []; cap = TURN_ROOM }) }
+        // The server sends by the carriage that it was given.
         ensures carriage { IfOk result (λ server. server.node.carriage ≡ carriage) }
     {
         let Ok(mut host) = Host::new(alloc, address, SERVER_CONNS, config) else {
@@ -71,9 +80,10 @@ impl Server {
         }
     }
 
-    /// One turn, as [`run_turn`](crate::run_turn) makes it, but that it also closes each connection whose peer acknowledged nothing
-    /// in the first 30 seconds. A new connection numbers what it writes from `start` on. Where nothing in front is to be served the
-    /// turn may wait for a datagram, where `may_wait` allows it.
+    /// One turn, as [`run_turn`](crate::run_turn) makes it. The turn also closes each connection
+    /// whose peer acknowledged nothing in the first 30 seconds. A new connection numbers what it
+    /// writes from `start` on. If nothing in front is to be served, the turn may wait for a
+    /// datagram, where `may_wait` allows it.
     pub fn turn<S: Store, L: Link>(
         &mut self,
         alloc: Global,
@@ -83,8 +93,18 @@ impl Server {
         now: u64,
         may_wait: bool,
     ) -> TurnEnd
+        // The turn ends by `LinkFault` exactly where the link's count of failures rose.
         ensures fault { (result ≡ TurnEnd.LinkFault) ↔ Rose (L.count link.old) (L.count link.new) }
-        ensures serves { RunsTurn (change S.contents S.may_give S.count) (Some SILENT_MILLIS) (Asks (L.asked link.old) (L.asked link.new)) (waits may_wait self.old.node.host) self.old.node.carriage start now (service_of self.old store.old (L.queue link.old)) (service_of self.new store.new (L.queue link.new)) result }
+        // The turn is the definition's at this moment, by the server's carriage. A connection that
+        // it accepts numbers what it writes from `start`. It also closes, with an empty text, each
+        // connection that was served first `SILENT_MILLIS` ago or earlier and whose peer has
+        // receipted and acknowledged nothing. Its one receive waits exactly where `may_wait` allows
+        // it and nothing in front can be served.
+        ensures serves { RunsTurn (change S.contents S.may_give S.count) (Some SILENT_MILLIS)
+            (Asks (L.asked link.old) (L.asked link.new)) (waits may_wait self.old.node.host)
+            self.old.node.carriage start now (service_of self.old store.old (L.queue link.old))
+            (service_of self.new store.new (L.queue link.new)) result }
+        // The server keeps its carriage.
         ensures carriage { self.new.node.carriage ≡ self.old.node.carriage }
     {
         let terms = Terms {
@@ -107,9 +127,12 @@ impl Server {
         )
     }
 
-    /// Looks at each slot, and tells of the connections that opened and ended since the last look.
+    /// Looks at each slot, and logs the connections that opened and ended since the last look.
     pub(crate) fn watch<G: Log>(&self, watch: &mut Watch, log: &mut G)
-        ensures { watched watch.new.seen (G.told log.new) ≡ watched_slots self.now.node.host self.now.sessions (min SERVER_CONNS (length self.now.node.host.slots)) (watched watch.old.seen (G.told log.old)) }
+        ensures { watched watch.new.seen (G.told log.new)
+            ≡ watched_slots self.now.node.host self.now.sessions
+                (min SERVER_CONNS (length self.now.node.host.slots))
+                (watched watch.old.seen (G.told log.old)) }
     {
         for place in 0..SERVER_CONNS.min(self.node.host.conns()) {
             watch.look(&self.node.host, &self.sessions, place, log);

@@ -17,7 +17,8 @@ use chaos_packet::Outbox;
 use chaos_serve::{can_serve_conn, serve_one};
 use chaos_turn::{TURN_ROOM, send_all};
 
-/// Serves a connection once by a slot's session, which is a new one where it served another connection before.
+/// Serves a connection once by a slot's session, which is a new one where it served another
+/// connection before.
 fn serve_kept<S: Store>(
     host: &mut Host,
     id: ConnId,
@@ -27,8 +28,10 @@ fn serve_kept<S: Store>(
     terms: &Terms,
 )
     requires { 2 ≤ room_of out.old }
-    ensures { SessionServes (change S.contents S.may_give S.count store.old store.new) terms.now.moment id (serving_of id terms.now.moment kept.old)
-        (λ serving acted. DoesKept serving kept.new host.old acted host.new out.old out.new) host.old }
+    ensures { SessionServes (change S.contents S.may_give S.count store.old store.new)
+        terms.now.moment id (serving_of id terms.now.moment kept.old)
+        (λ serving acted. DoesKept serving kept.new host.old acted host.new out.old out.new)
+        host.old }
 {
     kept.turn_to(id, terms.moment);
     kept.may_hold = true;
@@ -37,8 +40,8 @@ fn serve_kept<S: Store>(
     kept.note(served);
 }
 
-/// Serves the connection in a slot once, where the slot is in use: with its own session, which is a new one where another
-/// connection was there before. Says whether packets went out.
+/// Serves the connection in a slot once, where the slot is in use: with its own session, which is a
+/// new one where another connection was there before. Says whether packets went out.
 fn serve_slot<S: Store, L: Link>(
     host: &mut Host,
     sessions: &mut Sessions,
@@ -51,7 +54,8 @@ fn serve_slot<S: Store, L: Link>(
     requires within { place < length sessions.old }
     requires room { TURN_ROOM ≤ out.old.cap }
     requires empty { out.old.packets ≡ [] }
-    ensures { ServerDoes (Asks (L.asked link.old) (L.asked link.new)) terms.now.carriage (ServesSlot (change S.contents S.may_give S.count) terms.now.moment place)
+    ensures { ServerDoes (Asks (L.asked link.old) (L.asked link.new)) terms.now.carriage
+        (ServesSlot (change S.contents S.may_give S.count) terms.now.moment place)
         (station (server host.old sessions.old store.old) (L.queue link.old) out.old)
         (station (server host.new sessions.new store.new) (L.queue link.new) out.new) result }
 {
@@ -80,7 +84,9 @@ pub fn serve_slots<S: Store, L: Link>(
     requires alike { length sessions.old ≡ length host.old.slots }
     requires room { TURN_ROOM ≤ out.old.cap }
     requires empty { out.old.packets ≡ [] }
-    ensures { ServerDoes (Asks (L.asked link.old) (L.asked link.new)) terms.now.carriage (ServesSlots (change S.contents S.may_give S.count) terms.now.moment (length host.old.slots))
+    ensures { ServerDoes (Asks (L.asked link.old) (L.asked link.new)) terms.now.carriage
+        (ServesSlots (change S.contents S.may_give S.count) terms.now.moment
+            (length host.old.slots))
         (station (server host.old sessions.old store.old) (L.queue link.old) out.old)
         (station (server host.new sessions.new store.new) (L.queue link.new) out.new) result }
 {

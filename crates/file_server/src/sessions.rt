@@ -10,7 +10,8 @@ use chaos_serve::Served;
 use std::alloc::{AllocError, Global};
 use std::marker::Model;
 
-/// A slot's session, the connection that it serves, whether that connection's EOF was served, and since when it is served.
+/// A slot's session, the connection that it serves, whether that connection's EOF was served, and
+/// since when it is served.
 #[derive(Drop)]
 pub(crate) struct Kept {
     pub(crate) id: Option<ConnId>,
@@ -31,14 +32,15 @@ impl Model for Kept {
 
     ghost Value = { Serving };
 
-    ghost view = { λ k. record { id = k.id; session = k.session.value; eof = k.eof; since = k.since } };
+    ghost view = { λ k.
+        record { id = k.id; session = k.session.value; eof = k.eof; since = k.since } };
 }
 
-/// A session for each slot of a host, with the connection that it serves. A contract sees the sessions in the order of the
-/// slots.
+/// A session for each slot of a host, with the connection that it serves. A contract sees the
+/// sessions in the order of the slots.
 ///
-/// A turn gives a slot a new session where another connection is there, and gives the files of a session back where its connection
-/// has ended.
+/// A turn gives a slot a new session where another connection is there, and gives the files of a
+/// session back where its connection has ended.
 #[derive(Drop)]
 pub struct Sessions {
     pub(crate) kept: Vec<Kept>,
@@ -54,12 +56,13 @@ impl Model for Sessions {
 }
 
 impl Sessions {
-    /// A new session for each of so many slots, which serves no connection yet. A host's turn wants as many as
-    /// [`chaos_host::Host::conns`].
+    /// A new session for each of so many slots, which serves no connection yet. A host's turn needs
+    /// as many as [`chaos_host::Host::conns`].
     ///
     /// # Errors
-    /// No memory for them.
+    /// No memory for the sessions.
     pub fn new(alloc: Global, conns: usize) -> Result<Self, AllocError>
+        // There are as many new sessions as were asked for.
         ensures { IfOk result (λ sessions. sessions ≡ replicate conns new_serving) }
     {
         let mut kept = Vec::with_capacity(alloc, conns)?;
@@ -69,30 +72,37 @@ impl Sessions {
         Ok(Sessions { kept })
     }
 
-    /// The number of slots for which it has a session.
+    /// The number of slots, for each of which there is a session.
     pub fn conns(&self) -> usize
+        // The result is the number of sessions.
         ensures { result ≡ length self.now }
     {
         self.kept.len()
     }
 
-    /// The name that the user gave of the connection in a slot, or of the last one that was served there, where one was given.
+    /// The name that the user of the connection in a slot gave, if any. If the slot is free, the
+    /// connection is the last one that was served there.
     pub fn name(&self, place: usize) -> Option<&[u8]>
         requires { place < length self.now }
+        // The result is the name that the slot's session has, lent, or `None` where it has none.
         ensures { option_map (λ name. name.now) result ≡ (serving_at self.now place).session.name }
     {
         self.kept[place].session.name()
     }
 
-    /// Whether the EOF of the connection in a slot was served, or of the last one that was served there.
+    /// Whether the EOF of the connection in a slot was served. If the slot is free, the connection
+    /// is the last one that was served there.
     pub fn eof(&self, place: usize) -> bool
         requires { place < length self.now }
+        // The result says whether an EOF was served of the connection that the slot's session is
+        // of.
         ensures { result ≡ (serving_at self.now place).eof }
     {
         self.kept[place].eof
     }
 
-    /// The moment at which the connection in a slot was served first, or the last one that was served there. It is 0 where none was.
+    /// The moment at which the connection in a slot was served first, or the last one that was
+    /// served there. It is 0 where none was.
     pub(crate) fn since(&self, place: usize) -> u64
         requires { place < length self.now }
         ensures { result ≡ (serving_at self.now place).since }
@@ -100,16 +110,18 @@ impl Sessions {
         self.kept[place].since
     }
 
-    /// How many files the session of a slot has open: none where no connection is there behind a turn.
+    /// How many files are open in a slot. After a turn none are open in a slot without a
+    /// connection.
     pub fn open_files(&self, place: usize) -> usize
         requires { place < length self.now }
+        // The result is how many files the slot's session has open.
         ensures { result ≡ length (serving_at self.now place).session.handles }
     {
         self.kept[place].session.open_files()
     }
 
-    /// Gives the files of each slot back that has no connection any more. The name of its user and its counts stay, for who tells
-    /// of its end.
+    /// Gives the files of each slot back that has no connection any more. The name of its user and
+    /// its counts stay for the log of its end.
     pub(crate) fn give_back(&mut self, host: &Host)
         requires { length self.old ≡ length host.now.slots }
         ensures { self.new ≡ given_back host.now (length host.now.slots) self.old }
@@ -130,7 +142,9 @@ impl Sessions {
         }
     }
 
-    /// How many commands of the connection in a slot were replied to, or of the last one that was served there.
+    /// How many commands of the connection in a slot were replied to. If the slot is free, the
+    /// connection is the last one that was served there. The count is for reports, and no clause
+    /// sees it.
     pub fn commands(&self, place: usize) -> u64
         requires { place < length self.now }
     {
@@ -160,7 +174,8 @@ impl Kept {
         self.id == Some(id)
     }
 
-    /// Turns to this connection at a moment: with a new session, unless it is the one that was served so far.
+    /// Turns to this connection at a moment: with a new session, unless it is the one that was
+    /// served so far.
     pub(crate) fn turn_to(&mut self, id: ConnId, now: u64)
         ensures { self.new ≡ serving_of id now self.old }
     {

@@ -15,7 +15,8 @@ pub(crate) struct Terms {
     pub(crate) moment: u64,
     /// As which datagrams packets go out.
     pub(crate) carriage: Carriage,
-    /// For how many milliseconds a peer is served that acknowledges nothing. `None`: as long as it is heard.
+    /// For how many milliseconds a peer is served that acknowledges nothing. `None`: as long as it
+    /// is heard.
     pub(crate) silence: Option<u64>,
     /// Whether it may wait for a datagram.
     pub(crate) may_wait: bool,

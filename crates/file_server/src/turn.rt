@@ -33,7 +33,9 @@ fn take_turn<S: Store, L: Link>(
     requires alike { length sessions.old ≡ length host.old.slots }
     requires room { TURN_ROOM ≤ out.old.cap }
     requires empty { out.old.packets ≡ [] }
-    ensures { ServerDoes (Asks (L.asked link.old) (L.asked link.new)) terms.now.carriage (IsTurn (change S.contents S.may_give S.count) terms.now.silence came.entry terms.now.start terms.now.moment)
+    ensures { ServerDoes (Asks (L.asked link.old) (L.asked link.new)) terms.now.carriage
+        (IsTurn (change S.contents S.may_give S.count) terms.now.silence came.entry terms.now.start
+            terms.now.moment)
         (station (server host.old sessions.old store.old) (L.queue link.old) out.old)
         (station (server host.new sessions.new store.new) (L.queue link.new) out.new) result }
 {
@@ -57,7 +59,9 @@ pub(crate) fn make_turn<S: Store, L: Link>(
     requires alike { length sessions.old ≡ length host.old.slots }
     requires room { TURN_ROOM ≤ out.old.cap }
     ensures fault { (result ≡ TurnEnd.LinkFault) ↔ Rose (L.count link.old) (L.count link.new) }
-    ensures turn { RunsTurn (change S.contents S.may_give S.count) terms.now.silence (Asks (L.asked link.old) (L.asked link.new)) terms.now.may_wait terms.now.carriage terms.now.start terms.now.moment
+    ensures turn { RunsTurn (change S.contents S.may_give S.count) terms.now.silence
+        (Asks (L.asked link.old) (L.asked link.new)) terms.now.may_wait terms.now.carriage
+        terms.now.start terms.now.moment
         (station (server host.old sessions.old store.old) (L.queue link.old) out.old)
         (station (server host.new sessions.new store.new) (L.queue link.new) out.new) result }
     ensures outbox { out.new ≡ record { packets = []; cap = out.old.cap } }
@@ -68,32 +72,36 @@ pub(crate) fn make_turn<S: Store, L: Link>(
     end_of(begun.failures, link.failures(), begun.worked, sent)
 }
 
-/// One turn of a server of FILE: it sends what waits, receives at most one datagram, and does what is due at the moment
-/// `now`. What the host puts out is sent after each of its calls. In this order:
+/// One turn of a server of FILE: it sends what waits, receives at most one datagram, and does what
+/// is due at the moment `now`. What the host puts out is sent after each of its calls. In this
+/// order:
 ///
-/// 1. Each packet of the datagram, which may be of either version, is delivered in order. A datagram that carries none is
-///    dropped.
-/// 2. Where one was a new request for contact FILE, the request is accepted before the next packet is delivered; what its
-///    connection writes is numbered from `start` on.
-/// 3. Each slot in use is served once, in rising order, by its own session. It is a new session where another connection
-///    was in the slot before.
+/// 1. Each packet of the datagram, which may be of either version, is delivered in order. A
+///    datagram that carries none is dropped.
+/// 2. Where one was a new request for contact FILE, the request is accepted before the next packet
+///    is delivered; what its connection writes is numbered from `start` on.
+/// 3. Each slot in use is served once, in rising order, by its own session. It is a new session
+///    where another connection was in the slot before.
 /// 4. Each connection whose EOF was served and whose peer read all is closed with an empty text.
 /// 5. Each ended connection is released.
 /// 6. Each slot is ticked.
 /// 7. The open files of each slot without a connection are given back.
 ///
-/// By `carriage` packets that are sent at once go each in a datagram of version 1, or several to one host in a datagram of
-/// version 2.
+/// By `carriage` packets that are sent at once go each in a datagram of version 1, or several to
+/// one host in a datagram of version 2.
 ///
-/// The datagram is received into `buffer`, whatever that holds: a caller keeps it from turn to turn. Where none is there the
-/// turn waits for one as the link does, where `may_wait` allows it. A caller that leaves items in front, see
-/// [`can_serve_any`](crate::can_serve_any), isn't to let the next turn wait.
+/// The datagram is received into `buffer`, whatever that holds: a caller keeps it from turn to
+/// turn. Where none is there the turn waits for one as the link does, where `may_wait` allows it. A
+/// caller that leaves items in front, see [`can_serve_any`](crate::can_serve_any), isn't to let the
+/// next turn wait.
 ///
-/// `LinkFault` exactly where the link's count of failures rose in the turn, or stands at its greatest; a packet whose send
-/// failed is lost, and the turn goes on to its end. Else `Worked` where a datagram came or a packet was sent, else `Idle`.
+/// `LinkFault` exactly where the link's count of failures rose in the turn, or stands at its
+/// greatest; a packet whose send failed is lost, and the turn goes on to its end. Else `Worked`
+/// where a datagram came or a packet was sent, else `Idle`.
 ///
-/// The sessions are as many as the host's slots, and the outbox has room for [`TURN_ROOM`] packets at least. A turn walks
-/// over the slots five times, and an RFC once more. No memory is taken but by [`chaos_file::Session::apply`].
+/// The sessions are as many as the host's slots, and the outbox has room for [`TURN_ROOM`] packets
+/// at least. A turn walks over the slots five times, and an RFC once more. No memory is taken but
+/// by [`chaos_file::Session::apply`].
 pub fn run_turn<S: Store, L: Link>(
     alloc: Global,
     host: &mut Host,
@@ -109,14 +117,27 @@ pub fn run_turn<S: Store, L: Link>(
 ) -> TurnEnd
     requires alike { length sessions.old ≡ length host.old.slots }
     requires room { TURN_ROOM ≤ out.old.cap }
+    // The turn ends by `LinkFault` exactly where the link's count of failures rose, over every
+    // link.
     ensures fault { (result ≡ TurnEnd.LinkFault) ↔ Rose (L.count link.old) (L.count link.new) }
-    // The turn is the definition, and this is what the link was asked; over a queue its packets went out in order.
-    ensures turn { RunsTurn (change S.contents S.may_give S.count) None (Asks (L.asked link.old) (L.asked link.new)) may_wait carriage start now
+    // The turn is the definition, phase by phase, of what came or of nothing. Over a queue, what
+    // came is its oldest datagram, once what waited in the outbox was sent. The packets of a
+    // datagram of either version are delivered in order, and a request for FILE is accepted before
+    // the next packet is delivered. Each slot in use is served once. At the end the open files of
+    // each slot without a connection are given back, and the name of its user stays. `Worked` or
+    // `Idle` says whether packets waited, a datagram came or a packet was sent. Whatever the link
+    // is and answers, the turn asks of it exactly this, in this order: to send what waited; once to
+    // receive, waiting or not as `may_wait` says; to send the packets of the turn, lot by lot, each
+    // to its destination. By carriage 1 a packet is sent as its canonical datagram. By carriage 2
+    // the packets that are sent at once go as the datagrams of their loads. Over a queue they go
+    // out so.
+    ensures turn { RunsTurn (change S.contents S.may_give S.count) None
+        (Asks (L.asked link.old) (L.asked link.new)) may_wait carriage start now
         (station (server host.old sessions.old store.old) (L.queue link.old) out.old)
         (station (server host.new sessions.new store.new) (L.queue link.new) out.new) result }
-    // All was sent.
+    // The outbox is empty afterwards.
     ensures outbox { out.new ≡ record { packets = []; cap = out.old.cap } }
-    // A next turn finds as many sessions as slots.
+    // There are as many sessions as slots, as the next turn needs them.
     ensures alike { length sessions.new ≡ length host.new.slots }
 {
     let terms = Terms {

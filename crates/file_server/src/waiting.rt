@@ -16,9 +16,11 @@ fn serves_at(host: &Host, place: usize) -> bool
     }
 }
 
-/// Whether any connection has something to serve: a command in front for whose reply there is room, or an EOF. A server's turn
-/// over such a host isn't to wait for a datagram. The cost is a look at each slot.
+/// Whether any connection has something to serve: a command in front for whose reply there is room,
+/// or an EOF. If so, a server's turn over the host must not wait for a datagram. The cost is a look
+/// at each slot.
 pub fn can_serve_any(host: &Host) -> bool
+    // The result says whether any connection of the host has something to serve.
     ensures { result ≡ can_serve_any host.now }
 {
     let mut found = false;

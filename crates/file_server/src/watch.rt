@@ -29,19 +29,20 @@ pub struct Watch {
 }
 
 impl Watch {
-    /// Of a server that made no turn yet: no connection was seen.
+    /// No connection was seen yet: the server has made no turn.
     pub fn new() -> Self {
         Watch {
             seen: [None; SERVER_CONNS],
         }
     }
 
-    /// Looks at a slot, and tells of the connection there that opened or ended since the last look. One that opened and ended
-    /// between two looks isn't told.
+    /// Looks at a slot, and logs the connection there that opened or ended since the last look. A
+    /// connection that opened and ended between two looks isn't logged.
     pub fn look<G: Log>(&mut self, host: &Host, sessions: &Sessions, place: usize, log: &mut G)
         requires slot { place < SERVER_CONNS }
         requires session { place < length sessions.now }
-        ensures { watched self.new.seen (G.told log.new) ≡ watched_at host.now sessions.now place (watched self.old.seen (G.told log.old)) }
+        ensures { watched self.new.seen (G.told log.new)
+            ≡ watched_at host.now sessions.now place (watched self.old.seen (G.told log.old)) }
     {
         let there = seen_at(host, place);
         tell_change(&self.seen[place], &there, sessions, place, log);
@@ -62,7 +63,8 @@ fn seen_at(host: &Host, place: usize) -> Option<Seen>
     })
 }
 
-/// The peer of a connection. A server's connections were asked for, so that the peer's index is known.
+/// The peer of a connection. A server's connections were asked for, so that the peer's index is
+/// known.
 fn peer_of(host: &Host, id: ConnId) -> End
     ensures { result ≡ end_told (host_look host.now id (λ conn. peer_of conn)) }
 {
@@ -121,7 +123,7 @@ fn ending_of(is_down: bool, eof: bool, is_unacknowledged: bool) -> Ending
     }
 }
 
-/// Tells what changed in a slot since the last look.
+/// Logs what changed in a slot since the last look.
 fn tell_change<G: Log>(
     was: &Option<Seen>,
     there: &Option<Seen>,
@@ -130,7 +132,8 @@ fn tell_change<G: Log>(
     log: &mut G,
 )
     requires { place < length sessions.now }
-    ensures { G.told log.new ≡ after_change was.now there.now (serving_at sessions.now place) (G.told log.old) }
+    ensures { G.told log.new
+        ≡ after_change was.now there.now (serving_at sessions.now place) (G.told log.old) }
 {
     if is_same(was, there) {
         return;
