@@ -46,7 +46,9 @@ impl Model for Caller {
 
     ghost Value = { CallerView };
 
-    ghost view = { λ c. record { host = c.host; to = c.to; contact = c.contact; carriage = c.carriage; id = c.id; since = c.since; wait = c.wait; out = c.out } };
+    ghost view = { λ c.
+        record { host = c.host; to = c.to; contact = c.contact; carriage = c.carriage; id = c.id;
+            since = c.since; wait = c.wait; out = c.out } };
 
     ghost invariant = { λ c. c.out.cap ≡ TURN_ROOM };
 }
@@ -77,7 +79,8 @@ impl Caller {
         })
     }
 
-    /// Asks for a connection to the contact, where there is room for its RFC. For so many milliseconds its OPN is waited for.
+    /// Asks for a connection to the contact, where there is room for its RFC. For so many
+    /// milliseconds its OPN is waited for.
     pub(crate) fn ask(&mut self, start: PktNum, now: u64, wait: u64)
         ensures { self.new ≡ asked start now wait self.old }
     {
@@ -93,7 +96,8 @@ impl Caller {
         }
     }
 
-    /// Closes the connection, where there is one, with an empty text, where there is room for its CLS.
+    /// Closes the connection, where there is one, with an empty text, where there is room for its
+    /// CLS.
     pub(crate) fn close(&mut self)
         ensures { self.new ≡ closed self.old }
     {
@@ -144,7 +148,8 @@ impl Caller {
         self.out.room() == TURN_ROOM
     }
 
-    /// Writes an item, where there is room for it and a packet more, and says whether the connection took it.
+    /// Writes an item, where there is room for it and a packet more, and says whether the
+    /// connection took it.
     pub(crate) fn write(&mut self, op: Opcode, bytes: &[u8], now: u64) -> bool
         ensures { Sends (record { op = op; body = bytes.now }) now result self.old self.new }
     {
@@ -154,8 +159,8 @@ impl Caller {
         write_item(&mut self.host, self.id, op, bytes, now, &mut self.out)
     }
 
-    /// Reads the next item, where there is room for what that sends, and says whether it is data, which are then left in the caller's
-    /// place.
+    /// Reads the next item, where there is room for what that sends, and says whether it is data,
+    /// which are then left in the caller's place.
     pub(crate) fn read(&mut self, reply: &mut Reply) -> bool
         ensures { Receives (taken result reply.new.items) self.old self.new }
     {
@@ -193,12 +198,16 @@ impl Caller {
         told: &mut Option<HostDelivered>,
         may_wait: bool,
     ) -> Result<(), RunFault>
-        ensures turned { TurnsAt (Asks (T.asked turns.old) (T.asked turns.new)) ((T.pace (T.time turns.old)).Waits may_wait) now (T.queue turns.old) (T.queue turns.new) self.old self.new }
-        ensures same { (self.new.to ≡ self.old.to) × (self.new.contact ≡ self.old.contact) × (self.new.carriage ≡ self.old.carriage) × (self.new.id ≡ self.old.id) }
+        ensures turned { TurnsAt (Asks (T.asked turns.old) (T.asked turns.new))
+            ((T.pace (T.time turns.old)).Waits may_wait) now (T.queue turns.old) (T.queue turns.new)
+            self.old self.new }
+        ensures same { (self.new.to ≡ self.old.to) × (self.new.contact ≡ self.old.contact)
+            × (self.new.carriage ≡ self.old.carriage) × (self.new.id ≡ self.old.id) }
         ensures same_links { T.links turns.new ≡ T.links turns.old }
         ensures same_time { T.time turns.new ≡ T.time turns.old }
         ensures well { OnOk result (T.failures turns.new ≤ T.failures turns.old) }
-        ensures faults { IfErr result (IsTurnFault (T.stops (T.time turns.old)) (T.failures turns.new)) }
+        ensures faults { IfErr result
+            (IsTurnFault (T.stops (T.time turns.old)) (T.failures turns.new)) }
         ensures failed { result ≡ Err RunFault.LinkFault → T.failed turns.old turns.new }
     {
         turns.turn(

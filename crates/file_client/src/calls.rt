@@ -24,7 +24,8 @@ pub(crate) fn write_item(
 ) -> bool
     requires { 0 < room_of out.old }
     ensures host { host.new ≡ (call_by host.old (Write op bytes.now now) id).view }
-    ensures out { out.new ≡ with_put out.old (call_by host.old (Write op bytes.now now) id).packets }
+    ensures out { out.new
+        ≡ with_put out.old (call_by host.old (Write op bytes.now now) id).packets }
     ensures told { result ≡ is_wrote (call_by host.old (Write op bytes.now now) id).answer }
 {
     match id {
@@ -33,8 +34,9 @@ pub(crate) fn write_item(
     }
 }
 
-/// Reads the next item, where it is held, and says whether it is data, which are then left in the caller's place: a copy from where
-/// they lie. What is no data is dropped. Where none are taken, no clause says what the place holds.
+/// Reads the next item, where it is held, and says whether it is data, which are then left in the
+/// caller's place: a copy from where they lie. What is no data is dropped. Where none are taken, no
+/// clause says what the place holds.
 pub(crate) fn take_reply(
     host: &mut Host,
     id: Option<ConnId>,
@@ -56,7 +58,8 @@ pub(crate) fn take_reply(
 
 /// Copies the data in front of a connection, where there are any, and says so.
 fn copy_front(host: &Host, id: ConnId, reply: &mut Reply) -> bool
-    ensures { taken result reply.new.items ≡ data_in_front (host_look host.now id (λ conn. front_of conn)) }
+    ensures { taken result reply.new.items
+        ≡ data_in_front (host_look host.now id (λ conn. front_of conn)) }
 {
     let Ok(Some(item)) = host.front(id) else {
         return false;

@@ -17,8 +17,8 @@ use chaos_packet::Opcode;
 use chaosd_io::RunFault;
 use std::alloc::Global;
 
-/// A client of a FILE server. Its turns are lent to each call that takes some: what it does at the links that they go over is what
-/// `Host` and `client_turn` say.
+/// A client of a FILE server. Its turns are lent to each call that takes some: what it does at the
+/// links that they go over is what `Host` and `client_turn` say.
 #[derive(Drop)]
 pub struct Client {
     pub(crate) caller: Caller,
@@ -31,17 +31,24 @@ pub struct Client {
 }
 
 impl Client {
-    /// The host of the route, which will ask the route's server for connections, one at a time, and has none yet.
+    /// The host of the route, which will ask the route's server for connections, one at a time, and
+    /// has none yet.
     ///
-    /// A client that hears all that is there before it says more tells with each command what was read: so a server never has more to
-    /// answer than it has room for replies, whatever the two windows are.
+    /// A client reads all that is there before it writes more, so each command also acknowledges
+    /// what was read. So a server never has more to answer than it has room for replies, whatever
+    /// the two windows are.
     ///
     /// # Errors
     /// `NoMemory`.
     pub fn new<T: Turns>(alloc: Global, turns: &T, route: &Route) -> Result<Self, RunFault>
         requires { 0 < route.now.me }
+        // It fails only when out of memory.
         ensures faults { IfErr result (λ fault. fault ≡ RunFault.NoMemory) }
-        ensures made { IfOk result (λ client. client.caller ≡ caller_by route.now (T.passed (T.time turns.now))) }
+        // The host has the route's address and configuration, with one connection to come, and an
+        // empty outbox. The client has the route's server, contact and carriage, and has used up as
+        // many indices as its turns say.
+        ensures made { IfOk result
+            (λ client. client.caller ≡ caller_by route.now (T.passed (T.time turns.now))) }
     {
         let caller = Caller::new(alloc, route, turns.passed())?;
         Ok(Client {
@@ -52,16 +59,30 @@ impl Client {
         })
     }
 
-    /// Asks for a connection, in place of one that there was. It is open once the server has answered, within turns.
+    /// Asks for a connection, in place of one that there was. It is open once the server has
+    /// answered, within turns.
     ///
     /// # Errors
     /// `ClockFault`, and what `hang_up` gives.
     pub fn connect<T: Turns>(&mut self, turns: &mut T) -> Result<(), RunFault>
-        ensures faults { IfErr result (IsTurnFault (T.stops (T.time turns.old)) (T.failures turns.new)) }
-        ensures well { OnOk result (Connects (T.pace (T.time turns.old)) (Asks (T.asked turns.old) (T.asked turns.new)) self.new.now (T.queue turns.old) (T.queue turns.new) self.old.caller self.new.caller) }
+        // It fails only by a clock that may fail, or by a link of which failures were counted.
+        ensures faults { IfErr result
+            (IsTurnFault (T.stops (T.time turns.old)) (T.failures turns.new)) }
+        // If it ends well, the client hung up first and then asked its server for its contact, at a
+        // moment that its turns may show and with the first number of that moment. Without room for
+        // the request it did nothing.
+        ensures well { OnOk result
+            (Connects (T.pace (T.time turns.old)) (Asks (T.asked turns.old) (T.asked turns.new))
+                self.new.now (T.queue turns.old) (T.queue turns.new) self.old.caller
+                self.new.caller) }
+        // If it ends well, the links' count of failures didn't rise.
         ensures unfailed { OnOk result (T.failures turns.new ≤ T.failures turns.old) }
-        ensures same_server { (self.new.caller.to ≡ self.old.caller.to) × (self.new.caller.contact ≡ self.old.caller.contact) × (self.new.caller.carriage ≡ self.old.caller.carriage) }
-        ensures same_turns { (T.links turns.new ≡ T.links turns.old) × (T.time turns.new ≡ T.time turns.old) }
+        // The server, the contact, the carriage, the links and the clock stay.
+        ensures same_server { (self.new.caller.to ≡ self.old.caller.to)
+            × (self.new.caller.contact ≡ self.old.caller.contact)
+            × (self.new.caller.carriage ≡ self.old.caller.carriage) }
+        ensures same_turns { (T.links turns.new ≡ T.links turns.old)
+            × (T.time turns.new ≡ T.time turns.old) }
     {
         self.hang_up(turns)?;
         self.look(turns)?;
@@ -72,18 +93,33 @@ impl Client {
         Ok(())
     }
 
-    /// Closes the connection with an empty text, where there is one, and sends what waits in one more turn, where anything does. The
-    /// server then forgets the session, and what its handles had written.
+    /// Closes the connection with an empty text, if there is one, and sends what waits in one more
+    /// turn, if anything does. The server then drops the session, and what was written through its
+    /// handles.
     ///
     /// # Errors
     /// `LinkFault` and `ClockFault`. The connection is given up also then.
     pub fn hang_up<T: Turns>(&mut self, turns: &mut T) -> Result<(), RunFault>
-        ensures faults { IfErr result (IsTurnFault (T.stops (T.time turns.old)) (T.failures turns.new)) }
-        ensures well { OnOk result (HangsUp (T.pace (T.time turns.old)) (Asks (T.asked turns.old) (T.asked turns.new)) (T.queue turns.old) (T.queue turns.new) self.old.caller self.new.caller) }
+        // It fails only by a clock that may fail, or by a link of which failures were counted.
+        ensures faults { IfErr result
+            (IsTurnFault (T.stops (T.time turns.old)) (T.failures turns.new)) }
+        // If it ends well, the connection was closed with an empty text, where there was room for
+        // the CLS. What then waited was sent in one turn, which doesn't wait, at a moment that the
+        // turns may show. The link was asked just what that turn asks. Without a connection nothing
+        // was done, and the link was asked nothing.
+        ensures well { OnOk result
+            (HangsUp (T.pace (T.time turns.old)) (Asks (T.asked turns.old) (T.asked turns.new))
+                (T.queue turns.old) (T.queue turns.new) self.old.caller self.new.caller) }
+        // If it ends well, the links' count of failures didn't rise.
         ensures unfailed { OnOk result (T.failures turns.new ≤ T.failures turns.old) }
+        // However it ends, the client has no connection afterwards.
         ensures gone { self.new.caller.id ≡ None }
-        ensures same_server { (self.new.caller.to ≡ self.old.caller.to) × (self.new.caller.contact ≡ self.old.caller.contact) × (self.new.caller.carriage ≡ self.old.caller.carriage) }
-        ensures same_turns { (T.links turns.new ≡ T.links turns.old) × (T.time turns.new ≡ T.time turns.old) }
+        // The server, the contact, the carriage, the links and the clock stay.
+        ensures same_server { (self.new.caller.to ≡ self.old.caller.to)
+            × (self.new.caller.contact ≡ self.old.caller.contact)
+            × (self.new.caller.carriage ≡ self.old.caller.carriage) }
+        ensures same_turns { (T.links turns.new ≡ T.links turns.old)
+            × (T.time turns.new ≡ T.time turns.old) }
     {
         if !self.caller.has_connection() {
             return Ok(());
@@ -97,12 +133,15 @@ impl Client {
         self.pass(turns, false)
     }
 
-    /// A wait for a reply begins at this moment, which that of the clock is.
+    /// Begins to wait for a reply at the moment that the clock shows.
     ///
     /// # Errors
     /// `ClockFault`.
     pub fn begin<T: Turns>(&mut self, turns: &T) -> Result<(), RunFault>
-        ensures faults { IfErr result (λ fault. (fault ≡ RunFault.ClockFault) × T.stops (T.time turns.now)) }
+        // It fails only by a clock that may fail.
+        ensures faults { IfErr result
+            (λ fault. (fault ≡ RunFault.ClockFault) × T.stops (T.time turns.now)) }
+        // The wait begins at a moment that the turns may show, and the connection stays as it was.
         ensures moment { OnOk result ((T.pace (T.time turns.now)).Shows self.new.now) }
         ensures same { self.new.caller ≡ self.old.caller }
     {
@@ -111,18 +150,27 @@ impl Client {
         Ok(())
     }
 
-    /// Writes an item, where there is room for it on its way, and says whether the connection took it.
+    /// Writes an item, if there is room for its packet and one more. Says whether the connection
+    /// took it.
     pub fn write(&mut self, op: Opcode, bytes: &[u8]) -> bool
-        ensures sent { Sends (record { op = op; body = bytes.now }) self.old.now result self.old.caller self.new.caller }
+        // The item is written to the connection as it is, and the result says whether the
+        // connection took it. Without room for its packet and one more nothing is done.
+        ensures sent { Sends (record { op = op; body = bytes.now }) self.old.now result
+            self.old.caller self.new.caller }
+        // The moment and the count of turns stay.
         ensures same { (self.new.now ≡ self.old.now) × (self.new.count ≡ self.old.count) }
     {
         self.caller.write(op, bytes, self.now)
     }
 
-    /// Reads the next item, where it is there, and says whether it is data, which are then left in the caller's place. What is no data
-    /// is dropped: an EOF is no reply.
+    /// Reads the next item, if it is there. Says whether it is data, which are then left in the
+    /// caller's place. An item that isn't data is dropped: an EOF is no reply.
     pub fn take(&mut self, reply: &mut Reply) -> bool
+        // The result is true if one read of the connection gave data, which are then in the
+        // caller's place. Otherwise the result is false, also for an EOF, which is read. Without
+        // room nothing is done.
         ensures received { Receives (taken result reply.new.items) self.old.caller self.new.caller }
+        // The moment and the count of turns stay.
         ensures same { (self.new.now ≡ self.old.now) × (self.new.count ≡ self.old.count) }
     {
         let came = self.caller.read(reply);
@@ -132,21 +180,46 @@ impl Client {
         came
     }
 
-    /// One turn at this moment: what was written is sent, and a datagram that comes is taken, for which it may wait a moment. Where no
-    /// OPN came for as long as it is waited for, another connection is asked for first, whose OPN is waited for twice as long.
+    /// One turn at this moment: what was written is sent, and a datagram that comes is taken, for
+    /// which the turn may wait. If no OPN came within its wait, the client first asks for another
+    /// connection, whose OPN is waited for twice as long.
     ///
     /// # Errors
     /// `LinkFault` and `ClockFault`.
     pub fn turn<T: Turns>(&mut self, turns: &mut T) -> Result<(), RunFault>
-        ensures faults { IfErr result (IsTurnFault (T.stops (T.time turns.old)) (T.failures turns.new)) }
+        // It fails only by a clock that may fail, or by a link that failed in this turn and of
+        // which failures were counted.
+        ensures faults { IfErr result
+            (IsTurnFault (T.stops (T.time turns.old)) (T.failures turns.new)) }
         ensures failed { result ≡ Err RunFault.LinkFault → T.failed turns.old turns.new }
-        ensures well { OnOk result (TurnsAt (Asks (T.asked turns.old) (T.asked turns.new)) ((T.pace (T.time turns.old)).Waits true) self.new.now (T.queue turns.old) (T.queue turns.new) (asked_again (T.pace (T.time turns.old)) self.new.now self.old.caller) self.new.caller) }
+        // A turn that ends well is a client's, over the link and by the carriage, at the moment
+        // that the client then has. If the OPN of a connection had been waited for long enough,
+        // that connection was closed first. Another connection was then asked for, for the same
+        // contact, whose OPN is waited for twice as long.
+        ensures well { OnOk result
+            (TurnsAt (Asks (T.asked turns.old) (T.asked turns.new))
+                ((T.pace (T.time turns.old)).Waits true) self.new.now (T.queue turns.old)
+                (T.queue turns.new)
+                (asked_again (T.pace (T.time turns.old)) self.new.now self.old.caller)
+                self.new.caller) }
+        // The client's moment is one that its turns may show.
         ensures moment { OnOk result ((T.pace (T.time turns.old)).Shows self.new.now) }
-        ensures went { TurnsOrStops (T.pace (T.time turns.old)) (Asks (T.asked turns.old) (T.asked turns.new)) self.old.now self.new.now (T.queue turns.old) (T.queue turns.new) self.old.caller self.new.caller }
+        // However a turn ends, its link was asked just what a turn asks: to send what waited, once
+        // to receive, for which it may wait as the pace says, and to send what the turn put out. If
+        // the clock couldn't be read, the link was asked nothing.
+        ensures went { TurnsOrStops (T.pace (T.time turns.old))
+            (Asks (T.asked turns.old) (T.asked turns.new)) self.old.now self.new.now
+            (T.queue turns.old) (T.queue turns.new) self.old.caller self.new.caller }
+        // One turn more is counted, up to the greatest count.
         ensures counted { Turned 1 (counted self.old.count) (counted self.new.count) }
+        // If it ends well, the links' count of failures didn't rise.
         ensures unfailed { OnOk result (T.failures turns.new ≤ T.failures turns.old) }
-        ensures same_server { (self.new.caller.to ≡ self.old.caller.to) × (self.new.caller.contact ≡ self.old.caller.contact) × (self.new.caller.carriage ≡ self.old.caller.carriage) }
-        ensures same_turns { (T.links turns.new ≡ T.links turns.old) × (T.time turns.new ≡ T.time turns.old) }
+        // The server, the contact, the carriage, the links and the clock stay.
+        ensures same_server { (self.new.caller.to ≡ self.old.caller.to)
+            × (self.new.caller.contact ≡ self.old.caller.contact)
+            × (self.new.caller.carriage ≡ self.old.caller.carriage) }
+        ensures same_turns { (T.links turns.new ≡ T.links turns.old)
+            × (T.time turns.new ≡ T.time turns.old) }
     {
         self.count = self.count.saturating_add(1);
         self.look(turns)?;
@@ -156,14 +229,16 @@ impl Client {
 
     /// Whether the connection has ended, or there is none.
     pub fn is_over(&self) -> bool
+        // A client is over exactly where its connection has ended or there is none.
         ensures { result ≡ is_over self.entry.now.caller.host self.entry.now.caller.id }
     {
         self.caller.is_over()
     }
 
-    /// Writes a command as soon as there is room, and takes turns until its reply comes, as many as the turns' patience allows. Says
-    /// whether one came, which is then left in the caller's place. None comes any more where the connection ended. Where there is no
-    /// connection one is asked for first.
+    /// Writes a command as soon as there is room, and takes turns until its reply comes, as many as
+    /// the turns' patience allows. Says whether a reply came, which is then left in the caller's
+    /// place. No reply comes any more once the connection ended. If there is no connection, the
+    /// client asks for one first.
     ///
     /// # Errors
     /// `LinkFault` and `ClockFault`.
@@ -174,10 +249,26 @@ impl Client {
         command: &[u8],
         reply: &mut Reply,
     ) -> Result<bool, RunFault>
-        ensures faults { IfErr result (IsTurnFault (T.stops (T.time turns.old)) (T.failures turns.new)) }
-        ensures talk { IfOk result (λ came. Exchanges (T.pace (T.time turns.old)) (Asks (T.asked turns.old) (T.asked turns.new)) (talker self.old.caller (T.queue turns.old)) command.now (taken came reply.new.items) (talker self.new.caller (T.queue turns.new))) }
+        // It fails only by a clock that may fail, or by a link of which failures were counted.
+        ensures faults { IfErr result
+            (IsTurnFault (T.stops (T.time turns.old)) (T.failures turns.new)) }
+        // If a reply came, the connection wrote this command and nothing else, and was read once
+        // with data, which are the reply. If none came, the connection wrote the command or
+        // nothing, and was given no data. Then the turns' patience was spent or the connection had
+        // ended. The patience is spent after so many turns, or when so many milliseconds lie
+        // between two moments that the turns may show. A client without a connection asked for one
+        // first. Each turn was at a moment that the turns may show, and the link was asked just
+        // what these turns ask, in order.
+        ensures talk { IfOk result
+            (λ came. Exchanges (T.pace (T.time turns.old))
+                (Asks (T.asked turns.old) (T.asked turns.new))
+                (talker self.old.caller (T.queue turns.old)) command.now
+                (taken came reply.new.items) (talker self.new.caller (T.queue turns.new))) }
+        // If it ends well, the links' count of failures didn't rise.
         ensures unfailed { OnOk result (T.failures turns.new ≤ T.failures turns.old) }
-        ensures same_turns { (T.links turns.new ≡ T.links turns.old) × (T.time turns.new ≡ T.time turns.old) }
+        // The links and the clock stay.
+        ensures same_turns { (T.links turns.new ≡ T.links turns.old)
+            × (T.time turns.new ≡ T.time turns.old) }
     {
         self.call(turns)?;
         self.begin(turns)?;
@@ -199,16 +290,29 @@ impl Client {
         Ok(false)
     }
 
-    /// Writes an EOF as soon as there is room, and takes turns until the server has read all, or the connection has ended: 100 at most.
-    /// Where there is no connection nothing is done.
+    /// Writes an EOF as soon as there is room, and takes turns until the server has read all or the
+    /// connection has ended: 100 turns at most. Without a connection nothing is done.
     ///
     /// # Errors
     /// `LinkFault` and `ClockFault`.
     pub fn end<T: Turns>(&mut self, turns: &mut T) -> Result<(), RunFault>
-        ensures faults { IfErr result (IsTurnFault (T.stops (T.time turns.old)) (T.failures turns.new)) }
-        ensures talk { OnOk result (SendsFarewell (T.pace (T.time turns.old)) (Asks (T.asked turns.old) (T.asked turns.new)) (talker self.old.caller (T.queue turns.old)) (talker self.new.caller (T.queue turns.new))) }
+        // It fails only by a clock that may fail, or by a link of which failures were counted.
+        ensures faults { IfErr result
+            (IsTurnFault (T.stops (T.time turns.old)) (T.failures turns.new)) }
+        // If it ends well, the connection wrote an EOF or nothing, and was given no data, in 100
+        // turns at most. It stopped when the server had read all, the EOF too, after 100 turns, or
+        // when the connection had ended or there was none. The link was asked just what these turns
+        // ask, in order.
+        ensures talk { OnOk result
+            (SendsFarewell (T.pace (T.time turns.old))
+                (Asks (T.asked turns.old) (T.asked turns.new))
+                (talker self.old.caller (T.queue turns.old))
+                (talker self.new.caller (T.queue turns.new))) }
+        // If it ends well, the links' count of failures didn't rise.
         ensures unfailed { OnOk result (T.failures turns.new ≤ T.failures turns.old) }
-        ensures same_turns { (T.links turns.new ≡ T.links turns.old) × (T.time turns.new ≡ T.time turns.old) }
+        // The links and the clock stay.
+        ensures same_turns { (T.links turns.new ≡ T.links turns.old)
+            × (T.time turns.new ≡ T.time turns.old) }
     {
         if !self.caller.has_connection() {
             return Ok(());
@@ -226,11 +330,15 @@ impl Client {
 
     /// Asks for a connection, where there is none.
     fn call<T: Turns>(&mut self, turns: &mut T) -> Result<(), RunFault>
-        ensures faults { IfErr result (IsTurnFault (T.stops (T.time turns.old)) (T.failures turns.new)) }
-        ensures talk { OnOk result (Talks (T.pace (T.time turns.old)) (talker self.old.caller (T.queue turns.old)) silence (talker self.new.caller (T.queue turns.new))) }
+        ensures faults { IfErr result
+            (IsTurnFault (T.stops (T.time turns.old)) (T.failures turns.new)) }
+        ensures talk { OnOk result
+            (Talks (T.pace (T.time turns.old)) (talker self.old.caller (T.queue turns.old)) silence
+                (talker self.new.caller (T.queue turns.new))) }
         ensures asked { OnOk result (Asks (T.asked turns.old) (T.asked turns.new) []) }
         ensures unfailed { OnOk result (T.failures turns.new ≤ T.failures turns.old) }
-        ensures same_turns { (T.links turns.new ≡ T.links turns.old) × (T.time turns.new ≡ T.time turns.old) }
+        ensures same_turns { (T.links turns.new ≡ T.links turns.old)
+            × (T.time turns.new ≡ T.time turns.old) }
     {
         if self.caller.has_connection() {
             return Ok(());
@@ -238,9 +346,12 @@ impl Client {
         self.connect(turns)
     }
 
-    /// Takes the reply to a command, where that was written and a reply is there. Says whether one came.
+    /// Takes the reply to a command, where that was written and a reply is there. Says whether one
+    /// came.
     fn take_behind<T: Turns>(&mut self, turns: &T, is_written: bool, reply: &mut Reply) -> bool
-        ensures talk { Talks (T.pace (T.time turns.now)) (talker self.old.caller (T.queue turns.now)) (receiving (taken result reply.new.items)) (talker self.new.caller (T.queue turns.now)) }
+        ensures talk { Talks (T.pace (T.time turns.now))
+            (talker self.old.caller (T.queue turns.now)) (receiving (taken result reply.new.items))
+            (talker self.new.caller (T.queue turns.now)) }
         ensures written { result ≡ true → is_written ≡ true }
         ensures same { self.new.now ≡ self.old.now }
     {
@@ -252,12 +363,16 @@ impl Client {
 
     /// Whether the connection has ended, or the server has read all, the EOF among it.
     fn is_parted(&self, is_written: bool) -> bool
-        ensures { result ≡ true ↔ ((is_over self.entry.now.caller.host self.entry.now.caller.id ≡ true) ⊎ ((is_written ≡ true) × (all_read self.entry.now.caller.host self.entry.now.caller.id ≡ true))) }
+        ensures { result ≡ true
+            ↔ ((is_over self.entry.now.caller.host self.entry.now.caller.id ≡ true)
+                ⊎ ((is_written ≡ true)
+                    × (all_read self.entry.now.caller.host self.entry.now.caller.id ≡ true))) }
     {
         self.caller.is_over() || (is_written && self.caller.is_drained())
     }
 
-    /// One turn, before which the item is written where it isn't yet and there is room. Says whether it is written.
+    /// One turn, before which the item is written where it isn't yet and there is room. Says
+    /// whether it is written.
     fn turn_with<T: Turns>(
         &mut self,
         turns: &mut T,
@@ -266,11 +381,17 @@ impl Client {
         is_written: bool,
     ) -> Result<bool, RunFault>
         requires moment { (T.pace (T.time turns.old)).Shows self.old.now }
-        ensures faults { IfErr result (IsTurnFault (T.stops (T.time turns.old)) (T.failures turns.new)) }
-        ensures talk { IfOk result (λ is. WritesAndTurns (T.pace (T.time turns.old)) (Asks (T.asked turns.old) (T.asked turns.new)) 1 (talker self.old.caller (T.queue turns.old)) (record { op = op; body = bytes.now }) is_written is (talker self.new.caller (T.queue turns.new))) }
+        ensures faults { IfErr result
+            (IsTurnFault (T.stops (T.time turns.old)) (T.failures turns.new)) }
+        ensures talk { IfOk result
+            (λ is. WritesAndTurns (T.pace (T.time turns.old))
+                (Asks (T.asked turns.old) (T.asked turns.new)) 1
+                (talker self.old.caller (T.queue turns.old)) (record { op = op; body = bytes.now })
+                is_written is (talker self.new.caller (T.queue turns.new))) }
         ensures moment { OnOk result ((T.pace (T.time turns.old)).Shows self.new.now) }
         ensures unfailed { OnOk result (T.failures turns.new ≤ T.failures turns.old) }
-        ensures same_turns { (T.links turns.new ≡ T.links turns.old) × (T.time turns.new ≡ T.time turns.old) }
+        ensures same_turns { (T.links turns.new ≡ T.links turns.old)
+            × (T.time turns.new ≡ T.time turns.old) }
     {
         let is_written = self.write_once(turns, op, bytes, is_written);
         self.turn(turns)?;
@@ -286,7 +407,9 @@ impl Client {
         is_written: bool,
     ) -> bool
         requires moment { (T.pace (T.time turns.now)).Shows self.old.now }
-        ensures talk { WritesAndTurns (T.pace (T.time turns.now)) (λ asks. asks ≡ []) 0 (talker self.old.caller (T.queue turns.now)) (record { op = op; body = bytes.now }) is_written result (talker self.new.caller (T.queue turns.now)) }
+        ensures talk { WritesAndTurns (T.pace (T.time turns.now)) (λ asks. asks ≡ []) 0
+            (talker self.old.caller (T.queue turns.now)) (record { op = op; body = bytes.now })
+            is_written result (talker self.new.caller (T.queue turns.now)) }
         ensures same { self.new.now ≡ self.old.now }
     {
         if is_written {
@@ -295,9 +418,11 @@ impl Client {
         self.write(op, bytes)
     }
 
-    /// Why no reply came, as far as is known: how long one was waited for since the last, or what the server sent that ended the
-    /// connection. What it sent is told once.
+    /// Why no reply came, as far as is known: how long a reply was waited for since the last, or
+    /// what the server sent that ended the connection. A second call doesn't repeat what the server
+    /// sent.
     pub fn no_reply(&mut self) -> NoReply
+        // The connection doesn't change.
         ensures { self.new.caller ≡ self.old.caller }
     {
         self.reply_timer.no_reply()
@@ -305,7 +430,8 @@ impl Client {
 
     /// Looks at the clock.
     pub(crate) fn look<T: Turns>(&mut self, turns: &T) -> Result<(), RunFault>
-        ensures faults { IfErr result (λ fault. (fault ≡ RunFault.ClockFault) × T.stops (T.time turns.now)) }
+        ensures faults { IfErr result
+            (λ fault. (fault ≡ RunFault.ClockFault) × T.stops (T.time turns.now)) }
         ensures moment { OnOk result ((T.pace (T.time turns.now)).Shows self.new.now) }
         ensures still { OnErr result (self.new.now ≡ self.old.now) }
         ensures same { (self.new.caller ≡ self.old.caller) × (self.new.count ≡ self.old.count) }
@@ -316,7 +442,8 @@ impl Client {
 
     /// Asks for another connection, where no OPN came for long.
     pub(crate) fn ask_again<T: Turns>(&mut self, turns: &T)
-        ensures again { self.new.caller ≡ asked_again (T.pace (T.time turns.now)) self.old.now self.old.caller }
+        ensures again { self.new.caller
+            ≡ asked_again (T.pace (T.time turns.now)) self.old.now self.old.caller }
         ensures same { (self.new.now ≡ self.old.now) × (self.new.count ≡ self.old.count) }
     {
         if self.caller.is_late(self.now) {
@@ -328,13 +455,20 @@ impl Client {
 
     /// One turn at this moment. The place where a turn is taken.
     pub(crate) fn pass<T: Turns>(&mut self, turns: &mut T, may_wait: bool) -> Result<(), RunFault>
-        ensures faults { IfErr result (IsTurnFault (T.stops (T.time turns.old)) (T.failures turns.new)) }
+        ensures faults { IfErr result
+            (IsTurnFault (T.stops (T.time turns.old)) (T.failures turns.new)) }
         ensures failed { result ≡ Err RunFault.LinkFault → T.failed turns.old turns.new }
-        ensures well { TurnsAt (Asks (T.asked turns.old) (T.asked turns.new)) ((T.pace (T.time turns.old)).Waits may_wait) self.old.now (T.queue turns.old) (T.queue turns.new) self.old.caller self.new.caller }
+        ensures well { TurnsAt (Asks (T.asked turns.old) (T.asked turns.new))
+            ((T.pace (T.time turns.old)).Waits may_wait) self.old.now (T.queue turns.old)
+            (T.queue turns.new) self.old.caller self.new.caller }
         ensures unfailed { OnOk result (T.failures turns.new ≤ T.failures turns.old) }
-        ensures same { (self.new.caller.to ≡ self.old.caller.to) × (self.new.caller.contact ≡ self.old.caller.contact) × (self.new.caller.carriage ≡ self.old.caller.carriage) × (self.new.caller.id ≡ self.old.caller.id) }
+        ensures same { (self.new.caller.to ≡ self.old.caller.to)
+            × (self.new.caller.contact ≡ self.old.caller.contact)
+            × (self.new.caller.carriage ≡ self.old.caller.carriage)
+            × (self.new.caller.id ≡ self.old.caller.id) }
         ensures same_now { (self.new.now ≡ self.old.now) × (self.new.count ≡ self.old.count) }
-        ensures same_turns { (T.links turns.new ≡ T.links turns.old) × (T.time turns.new ≡ T.time turns.old) }
+        ensures same_turns { (T.links turns.new ≡ T.links turns.old)
+            × (T.time turns.new ≡ T.time turns.old) }
     {
         let mut told = None;
         self.caller.turn(turns, self.now, &mut told, may_wait)?;

@@ -17,12 +17,14 @@ pub enum ContactFault {
     /// 2: there are more than 64 bytes.
     #[error("the contact has more than 64 bytes")]
     TooLong,
-    /// 3: a space is among the bytes. In a request a space ends the contact, and the arguments follow.
+    /// 3: a space is among the bytes. In a request a space ends the contact, and the arguments
+    /// follow.
     #[error("the contact has a space")]
     HasSpace,
 }
 
-/// The name that a server is asked for: 1 to 64 bytes, none of which is a space. A contract sees the bytes.
+/// The name that a server is asked for: 1 to 64 bytes, none of which is a space. A contract sees
+/// the bytes.
 #[derive(Clone, Copy, Debug, PartialEq, Eq)]
 pub struct Contact {
     /// The name, and zeros behind the name.
@@ -45,7 +47,8 @@ impl Model for Contact {
 
     ghost inverse = { λ name. record { bytes = padded name; len = length name } };
 
-    ghost inverse_ok = { λ c h i. record { bytes = sym h.1 i; len = length-take-le c.len c.bytes h.0 i } };
+    ghost inverse_ok = { λ c h i.
+        record { bytes = sym h.1 i; len = length-take-le c.len c.bytes h.0 i } };
 }
 
 impl Contact {
@@ -54,6 +57,8 @@ impl Contact {
     /// # Errors
     /// `Empty` for no bytes, `TooLong` for more than 64 bytes, `HasSpace` for bytes with a space.
     pub fn new(name: &[u8]) -> Result<Self, ContactFault>
+        // A contact of 1 to 64 bytes without a space has exactly these bytes. No bytes are refused
+        // as `Empty`, more than 64 bytes as `TooLong`, and other bytes with a space as `HasSpace`.
         ensures { result ≡ checked_contact name.now }
     {
         match contact_fault(name) {
@@ -64,6 +69,7 @@ impl Contact {
 
     /// The usual contact of a server of FILE: `FILE`.
     pub fn file() -> Self
+        // The contact is `FILE`.
         ensures { result ≡ codes "FILE" }
     {
         Contact::of(CONTACT)
@@ -80,8 +86,9 @@ impl Contact {
         }
     }
 
-    /// The bytes, lent.
+    /// The bytes of the contact, lent.
     pub fn bytes(&self) -> &[u8]
+        // The bytes of a contact are lent as they are.
         ensures { result.now ≡ self.now }
     {
         &self.bytes[..self.len]

@@ -6,8 +6,8 @@ use chaos_host::Host;
 use chaos_packet::{Outbox, PktNum};
 use chaos_serve::CONTACT;
 
-/// Uses up so many indices: each by a connection that is asked for and given up at once, whose request isn't sent. So copies of an
-/// older process's packets find no connection.
+/// Uses up so many indices: each by a connection that is asked for and given up at once, whose
+/// request isn't sent. So copies of an older process's packets find no connection.
 pub(crate) fn pass_indices(host: &mut Host, to: u16, count: u8, out: &mut Outbox)
     requires empty { out.old.packets ≡ [] }
     requires room { 0 < out.old.cap }

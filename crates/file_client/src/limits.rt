@@ -2,15 +2,18 @@
 ghost use Rattle.std.specs.Prelude.{◌≡◌};
 ghost use Rattle.file_client.specs.declared.limits.TheConstants.{COMMAND_TURNS, END_TURNS, LEAST_RETRANSMIT, MOST_RETRANSMIT, MOST_TURNS, OPEN_MILLIS, OPEN_SHARE, TRAIN, TRAINS_OF_A_WINDOW, TRIP_MILLIS};
 
-/// The most milliseconds for which a client waits for the OPN of the first connection that it asks for, before it asks for another: its
-/// server may still have a connection of this address and index, of a client that was killed, and drops a request for that with
-/// another number. Each further wait is twice as long, so that a connection opens over a network of any delay.
+/// The most milliseconds for which a client waits for the OPN of the first connection that it asks
+/// for, before it asks for another: its server may still have a connection of this address and
+/// index, of a client that was killed, and drops a request for that with another number. Each
+/// further wait is twice as long, so that a connection opens over a network of any delay.
 pub const OPEN_MILLIS: u64 = 2_000;
 
-/// The first OPN is waited for at most this part of the time for which a reply is waited for: a fourth.
+/// The first OPN is waited for at most this part of the time for which a reply is waited for: a
+/// fourth.
 pub const OPEN_SHARE: u64 = 4;
 
-/// The turns that a command usually waits for its reply, those before the connection is open and has room among them.
+/// The turns that a command usually waits for its reply, those before the connection is open and
+/// has room among them.
 pub const COMMAND_TURNS: u32 = 1_000;
 
 /// The turns that a command waits for its reply at most, where the clock counts and stands still.
@@ -28,21 +31,31 @@ pub const TRAINS_OF_A_WINDOW: u64 = 4;
 /// For how many milliseconds the first answer to them is waited for.
 pub const TRIP_MILLIS: u64 = 1_000;
 
-/// A client that measured the round trip sends again what it keeps after so many milliseconds at least, and at most.
+/// A client that measured the round trip sends again what it keeps after so many milliseconds at
+/// least, and at most.
 pub const LEAST_RETRANSMIT: u64 = 20;
 
 pub const MOST_RETRANSMIT: u64 = 500;
 
-/// The times as numerals.
+/// The times and numbers of a client as numerals.
 pub fn law_limits()
+    // The first OPN is waited for 2,000 milliseconds at most.
     ensures open { OPEN_MILLIS ≡ 2000 }
+    // The first OPN is waited for a fourth of the patience, if that is less.
     ensures share { OPEN_SHARE ≡ 4 }
+    // A command usually waits for its reply for 1,000 turns.
     ensures command { COMMAND_TURNS ≡ 1000 }
+    // If the clock counts, a command waits for 4,294,967,295 turns at most.
     ensures most { MOST_TURNS ≡ 4294967295 }
+    // An EOF behind the last command waits for 100 turns.
     ensures end { END_TURNS ≡ 100 }
+    // A round trip is measured by 16 requests.
     ensures train { TRAIN ≡ 16 }
+    // A train is a fourth of the greatest window.
     ensures trains { TRAINS_OF_A_WINDOW ≡ 4 }
+    // The first answer to a train is waited for 1,000 milliseconds.
     ensures trip { TRIP_MILLIS ≡ 1000 }
+    // What is kept is sent again after 20 to 500 milliseconds.
     ensures least { LEAST_RETRANSMIT ≡ 20 }
     ensures greatest { MOST_RETRANSMIT ≡ 500 }
 {}

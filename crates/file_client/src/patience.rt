@@ -14,16 +14,19 @@ pub enum Patience {
 }
 
 impl Patience {
-    /// 1,000 turns.
+    /// The usual patience: 1,000 turns.
     pub fn usual() -> Self
+        // The usual patience is the definition's.
         ensures { result ≡ usual_patience }
     {
         Patience::Turns(COMMAND_TURNS)
     }
 
-    /// The milliseconds for which an OPN is waited for before another connection is asked for: [`OPEN_MILLIS`], or a share of
-    /// what a reply is waited for, where that is less. So a client of little patience asks again in time, too.
+    /// The milliseconds for which an OPN is waited for before another connection is asked for:
+    /// [`OPEN_MILLIS`], or a share of what a reply is waited for, where that is less. So a client
+    /// of little patience asks again in time, too.
     pub fn first_wait(self) -> u64
+        // The first OPN is waited for as long as the definition says for this patience.
         ensures { result ≡ first_wait_of self }
     {
         match self {
@@ -34,6 +37,7 @@ impl Patience {
 
     /// The milliseconds for which a reply is waited for, where the clock counts.
     pub fn millis(self) -> Option<u64>
+        // A patience in milliseconds gives its number, and a patience in turns gives none.
         ensures { result ≡ millis_waited self }
     {
         match self {

@@ -85,7 +85,7 @@ impl Display for NoReply {
     }
 }
 
-/// Tells what a packet did, and its text where it has one.
+/// Says what a packet did, with its text where it has one.
 fn told<W: fmt::Write>(f: &mut Formatter<W>, what: &str, packet: &Packet) -> fmt::Result {
     let text = packet.body.as_slice();
     if text.is_empty() {

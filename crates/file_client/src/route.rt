@@ -12,9 +12,9 @@ pub struct Route {
     pub to: u16,
     /// The contact that the server is asked for.
     pub contact: Contact,
-    /// The windows and times of the client's connections. As many commands are in flight as the lesser of its send window and the
-    /// server's window allows.
+    /// The windows and times of the client's connections. As many commands are in flight as the
+    /// lesser of its send window and the server's window allows.
     pub config: ConnConfig,
-    /// As which datagrams packets go out. Datagrams of both versions are read.
+    /// The form of the datagrams in which packets go out. Datagrams of both versions are read.
     pub carriage: Carriage,
 }

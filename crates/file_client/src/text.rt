@@ -1,8 +1,9 @@
-//! Bytes in what a user is told.
+//! Bytes in a report to a user.
 use std::fmt;
 use std::fmt::{Display, Formatter};
 
-/// Bytes as replies are printed: `^` for 8D, and two hexadecimal digits behind a `\` for what is no printing character.
+/// Bytes as replies are printed: `^` for 8D, and two hexadecimal digits behind a `\` for a byte
+/// that is no printing character.
 #[derive(Drop)]
 pub struct Shown<'a>(pub &'a [u8]);
 

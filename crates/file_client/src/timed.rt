@@ -22,10 +22,13 @@ pub struct Timed<'a, C: Dial, L: Link> {
 }
 
 impl<'a, C: Dial, L: Link> Timed<'a, C, L> {
-    /// Turns of a run with this timing, by the clock, over the link. Nothing is read or sent.
+    /// Turns of a run with this timing. Nothing is read or sent.
     pub fn new(clock: &'a C, link: &'a mut L, timing: Timing) -> Self
+        // The turns go by the clock and the timing that were handed to them.
         ensures timing { (result.clock.now ≡ clock.now) × (result.timing ≡ timing) }
-        ensures link { (result.link.ghost_name ≡ link.entry.ghost_name) × (result.link.now ≡ link.old) }
+        // They go over the link that was handed to them.
+        ensures link { (result.link.ghost_name ≡ link.entry.ghost_name)
+            × (result.link.now ≡ link.old) }
     {
         Timed {
             clock,

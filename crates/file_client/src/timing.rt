@@ -5,7 +5,8 @@ ghost use Rattle.file_client.specs.Pace.{usual_timing};
 use crate::patience::Patience;
 use chaosd_clock::Epoch;
 
-/// When a client's run began, with the numbers and indices that its connections begin with, and how long the client waits for a reply.
+/// When a client's run began, with the numbers and indices that its connections begin with, and how
+/// long the client waits for a reply.
 #[derive(Clone, Copy)]
 pub struct Timing {
     pub epoch: Epoch,
@@ -15,6 +16,7 @@ pub struct Timing {
 impl Timing {
     /// A run that began then, with the usual patience.
     pub fn usual(epoch: Epoch) -> Self
+        // A usual timing has this epoch and the usual patience.
         ensures { result ≡ usual_timing epoch }
     {
         Timing {

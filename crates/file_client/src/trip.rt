@@ -16,18 +16,20 @@ use chaos_turn::TURN_ROOM;
 use chaosd_io::RunFault;
 use std::alloc::Global;
 
-/// The bytes of a request of the train: about those of a WRITE, so that the train takes as long on its way as packets of data.
+/// The bytes of a request of the train: about those of a WRITE, so that the train takes as long on
+/// its way as packets of data.
 const REQUEST_BYTES: usize = 448;
 
-/// A contact that nobody serves: a host refuses a request for it by a CLS at once, and keeps nothing of the request. What follows is
-/// its arguments.
+/// A contact that nobody serves: a host refuses a request for it by a CLS at once, and keeps
+/// nothing of the request. What follows is its arguments.
 const NOBODY: &[u8] = b"RTT ";
 
-/// So many indices lie between those of a measurement and those of the client's connections, so that a late answer to a request isn't
-/// taken for an answer to a connection's.
+/// So many indices lie between those of a measurement and those of the client's connections, so
+/// that a late answer to a request isn't taken for an answer to a connection's.
 const APART: u8 = 128;
 
-/// How long a train of requests took, in milliseconds: until the answer to the first of them came, and until the last answer came.
+/// How long a train of requests took, in milliseconds: until the answer to the first of them came,
+/// and until the last answer came.
 #[derive(Clone, Copy, Debug, PartialEq, Eq)]
 pub struct RoundTrip {
     pub first: u64,
@@ -68,7 +70,8 @@ impl Train {
         self.latest.saturating_sub(self.since)
     }
 
-    /// Whether no more answers are waited for: all came, or none came for a while behind the last one, or for a second.
+    /// Whether no more answers are waited for: all came, or none came for a while behind the last
+    /// one, or for a second.
     fn is_over(&self) -> bool {
         let millis = self.millis();
         match self.trip {
@@ -93,8 +96,10 @@ impl Train {
         requires under_way { IsUnderWay (T.pace (T.time turns.old)) self.old }
         ensures under_way { OnOk result (IsUnderWay (T.pace (T.time turns.old)) self.new) }
         ensures unfailed { OnOk result (T.failures turns.new ≤ T.failures turns.old) }
-        ensures faults { IfErr result (IsTurnFault (T.stops (T.time turns.old)) (T.failures turns.new)) }
-        ensures same_turns { (T.links turns.new ≡ T.links turns.old) × (T.time turns.new ≡ T.time turns.old) }
+        ensures faults { IfErr result
+            (IsTurnFault (T.stops (T.time turns.old)) (T.failures turns.new)) }
+        ensures same_turns { (T.links turns.new ≡ T.links turns.old)
+            × (T.time turns.new ≡ T.time turns.old) }
         ensures empty { OnOk result (out.new.packets ≡ []) }
         ensures room { out.new.cap ≡ out.old.cap }
     {
@@ -117,8 +122,9 @@ impl Train {
     }
 }
 
-/// Measures the round trip to the route's server: 16 requests for a contact that nobody serves leave at once, and each is refused. What
-/// the answers of a train spread shows how fast packets go one behind the other. `None` where no answer comes within a second.
+/// Measures the round trip to the route's server. 16 requests for a contact that nobody serves
+/// leave at once, and each is refused. The spread of the answers shows how fast packets go one
+/// behind the other. The result is `None` where no answer comes within a second; no clause says so.
 ///
 /// # Errors
 /// `NoMemory`, `LinkFault` and `ClockFault`.
@@ -128,11 +134,19 @@ pub fn round_trip<T: Turns>(
     route: &Route,
 ) -> Result<Option<RoundTrip>, RunFault>
     requires { 0 < route.now.me }
-    // What is measured lies between moments that the clock showed.
+    // A round trip that is measured is the time until a first answer and the time until a last
+    // answer. Each lies between two moments that the turns may show.
     ensures trip { IfOk result (λ trip. IfSome trip (IsTripBetween (T.pace (T.time turns.old)))) }
+    // If it ends well, the links' count of failures didn't rise.
     ensures unfailed { OnOk result (T.failures turns.new ≤ T.failures turns.old) }
-    ensures faults { IfErr result (λ fault. (fault ≡ RunFault.NoMemory) ⊎ IsTurnFault (T.stops (T.time turns.old)) (T.failures turns.new) fault) }
-    ensures same_turns { (T.links turns.new ≡ T.links turns.old) × (T.time turns.new ≡ T.time turns.old) }
+    // It fails only when out of memory, by a clock that may fail, or by a link of which failures
+    // were counted.
+    ensures faults { IfErr result
+        (λ fault. (fault ≡ RunFault.NoMemory)
+            ⊎ IsTurnFault (T.stops (T.time turns.old)) (T.failures turns.new) fault) }
+    // The links and the clock stay.
+    ensures same_turns { (T.links turns.new ≡ T.links turns.old)
+        × (T.time turns.new ≡ T.time turns.old) }
 {
     let config = ConnConfig::with_window(1);
     let Ok(mut host) = Host::new(alloc, route.me, TRAIN as usize, config) else {
@@ -176,13 +190,16 @@ fn is_answer(told: &Option<HostDelivered>) -> bool {
     )
 }
 
-/// After how many milliseconds a client sends again what it keeps, by the round trip, where that was measured: after two round trips and
-/// as long as a window of 64 packets takes one behind the other, but not before 20 and not later than the usual 500, which is also
-/// what holds where nothing was measured.
+/// After how many milliseconds a client sends again what it keeps. `trip` is the round trip, if it
+/// was measured.
 ///
-/// So a wrong measurement costs at most a window of packets every 20 milliseconds, where it is too short, and half a second for each
-/// packet that is lost, where it is too long.
+/// The time is two round trips and as long as a window of 64 packets takes one behind the other. A
+/// measurement that is too short costs at most a window of packets every 20 milliseconds. A
+/// measurement that is too long costs half a second for each packet that is lost.
 pub fn retransmit_for(trip: Option<RoundTrip>) -> u64
+    // What is kept is sent again after two round trips and four times what lies between the first
+    // and the last answer, but not before 20 milliseconds and not later than 500. It is sent again
+    // after 500 milliseconds where no round trip was measured.
     ensures { result ≡ retransmit_of trip }
 {
     let Some(RoundTrip { first, last }) = trip else {

@@ -15,12 +15,13 @@ use chaosd_io::RunFault;
 
 /// The turns of a client: what takes part in them beside its host, and the moments.
 pub trait Turns: Drop {
-    /// What tells the moments: a clock and its reading when the run began, where there is one.
+    /// The source of the moments: a clock and its reading when the run began, where there is one.
     ghost Time: { Type 0 };
 
     ghost time: { Self → Time };
 
-    /// The moments that it may show, the numbers that connections begin with, and how long an OPN and a reply are waited for.
+    /// The moments that it may show, the numbers that connections begin with, and how long an OPN
+    /// and a reply are waited for.
     ghost pace: { Time → Pace };
 
     /// The moment that it stands at, where it counts its turns and asks no clock.
@@ -29,7 +30,7 @@ pub trait Turns: Drop {
     /// The moment behind a turn, of one that counts them.
     ghost later: { ℕ → ℕ };
 
-    /// That the moment may be one that can't be told.
+    /// That there may be a moment at which the clock can't be read.
     ghost stops: { Time → Type 0 };
 
     /// How many indices a new client passes over.
@@ -53,34 +54,44 @@ pub trait Turns: Drop {
     /// The moment, in milliseconds, of the next turn and of the calls before it.
     ///
     /// # Errors
-    /// `ClockFault` where it can't be told.
+    /// `ClockFault` where the clock can't be read.
     fn now(&self) -> Result<u64, RunFault>
+        // The moment is one that the turns may show.
         ensures shown { IfOk result (λ now. (pace (time self.now)).Shows now) }
+        // Turns that count their own moments give the moment that they stand at.
         ensures stood { StoodAt (stands self.now) result }
-        ensures faults { IfErr result (λ fault. (fault ≡ RunFault.ClockFault) × stops (time self.now)) };
+        // It fails only where the clock may fail.
+        ensures faults { IfErr result
+            (λ fault. (fault ≡ RunFault.ClockFault) × stops (time self.now)) };
 
     /// The number with which a connection that is asked for at this moment begins.
     fn start(&self, now: u64) -> PktNum
+        // The number is the one that the pace has for this moment.
         ensures { result ≡ (pace (time self.now)).starts now };
 
-    /// The milliseconds without an OPN after which another connection is asked for, the first time. Each next wait is twice as long.
+    /// How many milliseconds without an OPN pass before another connection is asked for, the first
+    /// time. Each next wait is twice as long.
     fn wait(&self) -> u64
+        // The first OPN is waited for as long as the pace says.
         ensures { result ≡ (pace (time self.now)).wait };
 
     /// How long a reply is waited for.
     fn patience(&self) -> Patience
+        // A reply is waited for as long as the pace says.
         ensures { result ≡ (pace (time self.now)).patience };
 
     /// How many indices a new client passes over, which an older process may have had.
     fn passed(&self) -> u8
+        // As many indices are passed over as the time of the turns says.
         ensures { result ≡ passed (time self.now) };
 
-    /// One turn, of the client's host and of all that takes part. What waits in the outbox is sent by this carriage, and what became
-    /// of the last packet that came is left in `told`. The client's own turn may wait for a datagram where `may_wait` allows it, as the
-    /// pace says. Its link is asked to send what waits, once to receive, and to send what the turn puts out, and nothing else.
+    /// One turn, of the client's host and of all that takes part. What waits in the outbox is sent
+    /// by this carriage, and what became of the last packet that came is left in `told`. The
+    /// client's own turn may wait for a datagram where `may_wait` allows it, as the pace says.
     ///
     /// # Errors
-    /// `LinkFault` where a link failed in the turn, which went on to its end.
+    /// `LinkFault` where a link failed in the turn, which went on to its end. `ClockFault` where
+    /// the clock can't be read.
     fn turn(
         &mut self,
         host: &mut Host,
@@ -91,14 +102,23 @@ pub trait Turns: Drop {
         may_wait: bool,
     ) -> Result<(), RunFault>
         requires { TURN_ROOM ≤ out.old.cap }
-        ensures turned { TakesTurn (Asks (asked self.old) (asked self.new)) ((pace (time self.old)).Waits may_wait) carriage now host.old host.new (queue self.old) (queue self.new) out.old out.new }
+        // A turn is a client's, over its link and by the carriage. The link is asked to send what
+        // waited, once to receive, for which it may wait as the pace says, and to send what the
+        // turn put out, and nothing else.
+        ensures turned { TakesTurn (Asks (asked self.old) (asked self.new))
+            ((pace (time self.old)).Waits may_wait) carriage now host.old host.new (queue self.old)
+            (queue self.new) out.old out.new }
+        // All that waited is sent.
         ensures sent { out.new ≡ record { packets = []; cap = out.old.cap } }
+        // The links and the clock stay.
         ensures same_links { links self.new ≡ links self.old }
         ensures same_time { time self.new ≡ time self.old }
+        // Turns that count their own moments stand at the next moment afterwards.
         ensures later { stands self.new ≡ option_map later (stands self.old) }
-        // It ends well only where no link's count rose.
+        // It ends well only if the links' count of failures didn't rise.
         ensures well { OnOk result (failures self.new ≤ failures self.old) }
-        // A fault of a link is told only where one failed, and failures were counted.
+        // It fails only by a clock that may fail, or by a link that failed in this turn and of
+        // which failures were counted.
         ensures faults { IfErr result (IsTurnFault (stops (time self.old)) (failures self.new)) }
         ensures failed { result ≡ Err RunFault.LinkFault → failed self.old self.new };
 }
