@@ -16,8 +16,9 @@ pub struct Path {
 }
 
 impl Path {
-    /// The first bytes of a text, which are all of a path that FILE takes.
+    /// The first 64 bytes of a text, which are the whole of any path that FILE takes.
     pub fn new(text: &[u8]) -> Self
+        // A path keeps the first 64 bytes of the text.
         ensures { result ≡ path_of text.now }
     {
         let count = text.len().min(MAX_PATH);
@@ -27,7 +28,7 @@ impl Path {
     }
 }
 
-/// Bytes that are no printing characters are told as two hexadecimal digits behind a `\`.
+/// A byte that is no printing character is written as two hexadecimal digits behind a `\`.
 impl Display for Path {
     fn fmt<W: fmt::Write>(&self, f: &mut Formatter<W>) -> fmt::Result {
         for byte in self.bytes.as_slice() {
@@ -105,8 +106,9 @@ pub enum Deed {
 }
 
 impl Deed {
-    /// What a line of it is about.
+    /// What a line about the deed is about.
     pub fn matter(&self) -> Matter
+        // A file that was read is one matter, a request that failed another, and a change a third.
         ensures { result ≡ matter_of self.now }
     {
         match self {

@@ -1,4 +1,4 @@
-//! Where what is told is written.
+//! Where the lines of a log are written.
 use crate::deed::{Attempt, Deed};
 use crate::ledger::{Asking, Ledger};
 use crate::level::{Level, Matter};
@@ -13,16 +13,19 @@ use std::io;
 use std::net::SocketAddrV4;
 use std::time::Clock;
 
-/// Writes the lines of a log to standard error, each with a time in front where that is asked for: UTC, as RFC 3339 has it. A line that
-/// can't be written is dropped.
+/// Writes the lines of a log to standard error, each with a time in front where that is asked for:
+/// UTC, as RFC 3339 has it. A line that can't be written is dropped.
 ///
-/// A [`Limiter`] says which lines are left out, so that nobody fills a disk by requests. How many lines about a matter were left out is
-/// reported with the first line about the matter in a later second, at the end of a turn in a later second, or at the end of the run.
-/// Where the clock can't be read, all lines count as lines of the last second that was read; the first such fault is logged.
+/// A [`Limiter`] says which lines are left out, so that nobody fills a disk by requests. How many
+/// lines about a matter were left out is reported with the first line about the matter in a later
+/// second, at the end of a turn in a later second, or at the end of the run. Where the clock can't
+/// be read, all lines count as lines of the last second that was read; the first such fault is
+/// logged.
 ///
-/// The link, the socket and the store of a server share it, so a clause knows nothing of what it holds. What was done to a file is kept
-/// until the next datagram is sent: the turn of a server sends the reply to a command right behind it, so that datagram goes to the host
-/// whose command it was.
+/// The link, the socket and the store of a server share it, so a clause knows nothing of what it
+/// holds. What was done to a file is kept until the next datagram is sent: the turn of a server
+/// sends the reply to a command right behind it, so that datagram goes to the host whose command it
+/// was.
 #[derive(Drop)]
 pub struct Journal<'a, R> {
     rt: &'a R,
@@ -36,7 +39,7 @@ pub struct Journal<'a, R> {
     is_clock_missed: Cell<bool>,
     /// What was done since a datagram was sent.
     deed: RefCell<Option<Deed>>,
-    /// From where the last datagram came, where nobody took note of whose it is.
+    /// Where the last datagram came from, until its host is known.
     source: Cell<Option<SocketAddrV4>>,
 }
 
@@ -103,7 +106,8 @@ impl<'a, R: Clock + Eprint> Journal<'a, R> {
         is_written
     }
 
-    /// Whether the limit has room for a line about this matter, which is counted as left out otherwise.
+    /// Whether the limit has room for a line about this matter, which is counted as left out
+    /// otherwise.
     fn takes_line(&self, matter: Matter, now: u64) -> bool {
         match self.limiter.try_borrow_mut() {
             Ok(mut limiter) => limiter.take_line(matter, now),
@@ -157,7 +161,7 @@ impl<'a, R: Clock + Eprint> Journal<'a, R> {
         };
     }
 
-    /// Tells that the server begins, to whom it answers, and what is wrong with that.
+    /// Logs that the server begins, which hosts it answers, and what is wrong with the peers.
     pub fn begin(&self, address: u16, socket: SocketAddrV4, folder: &str) {
         let Ok(ledger) = self.ledger.try_borrow() else {
             return;
@@ -184,18 +188,18 @@ impl<'a, R: Clock + Eprint> Journal<'a, R> {
         }
     }
 
-    /// A datagram came from this UDP address. Whose it is says who reads it.
+    /// A datagram came from this UDP address. Whoever reads the datagram says whose it is.
     pub fn note_source(&self, from: SocketAddrV4) {
         self.source.set(Some(from));
     }
 
-    /// From where the last datagram came. It is given once.
+    /// Where the last datagram came from. A second call gives nothing.
     pub fn take_source(&self) -> Option<SocketAddrV4> {
         self.source.replace(None)
     }
 
-    /// A datagram of this host came from this UDP address. What is wrong with that is logged once. Where the line was left out, the next
-    /// datagram from there is logged in its place.
+    /// A datagram of this host came from this UDP address. What is wrong with that is logged once.
+    /// If the line was left out, the next datagram from there is logged in its place.
     pub fn hear(&self, address: u16, from: SocketAddrV4) {
         let Ok(mut ledger) = self.ledger.try_borrow_mut() else {
             return;
@@ -234,7 +238,7 @@ impl<'a, R: Clock + Eprint> Journal<'a, R> {
         }
     }
 
-    /// A datagram goes to this host: what was done is told as its doing.
+    /// A datagram goes to this host: what was done is logged as the deed of this host.
     pub fn answer(&self, to: u16) {
         let Ok(Some(deed)) = self.deed.try_replace(None) else {
             return;
@@ -250,8 +254,8 @@ impl<'a, R: Clock + Eprint> Journal<'a, R> {
         }
     }
 
-    /// The turn is over: what was done and not answered is logged as the doing of `a host`, and what was left out in a second that is
-    /// over is reported.
+    /// The turn is over. What was done and not answered is logged as the deed of `a host`, and what
+    /// was left out in a second that is over is reported.
     pub fn end_turn(&self) {
         self.expire();
         if !self.has_left_out() {
@@ -263,8 +267,9 @@ impl<'a, R: Clock + Eprint> Journal<'a, R> {
         }
     }
 
-    /// The run is over, as this line says: what was done and not answered is logged as the doing of `a host`, and what was left out is
-    /// reported. The line itself is never left out where the level has such lines.
+    /// The run is over, as this line says. What was done and not answered is logged as the deed of
+    /// `a host`, and what was left out is reported. The line itself is never left out where the
+    /// level has such lines.
     pub fn end<D: Display>(&self, matter: Matter, line: &D) {
         self.expire();
         for matter in &Matter::EACH {

@@ -11,10 +11,10 @@ use std::net::SocketAddrV4;
 /// The Chaosnet addresses that there are, with 0.
 const ADDRESSES: usize = 65_536;
 
-/// What is to be told of where a host asks from. Each is told once for each Chaosnet address.
+/// What is to be reported of where a host asks from, once for each Chaosnet address.
 #[derive(Clone, Copy, Debug, PartialEq, Eq)]
 pub enum Asking {
-    /// Nothing: as its peer's, or told before.
+    /// Nothing: it asks from its peer's UDP address, or was reported before.
     AsKnown,
     /// The host is no peer, and no bridge leads to it.
     Stranger,
@@ -22,7 +22,8 @@ pub enum Asking {
     Elsewhere(SocketAddrV4),
 }
 
-/// What a server's log knows of hosts: its peers and the bridge, from which UDP address each was heard last, and what was told.
+/// What a server's log knows of hosts: its peers and the bridge, from which UDP address each was
+/// heard last, and what was reported.
 #[derive(Drop)]
 pub struct Ledger {
     peers: Peers,
@@ -36,10 +37,12 @@ impl Model for Ledger {
 
     ghost Value = { LedgerView };
 
-    ghost view = { λ s. record { peers = s.peers; heard = s.heard; stranger = s.stranger; told = s.told } };
+    ghost view = { λ s.
+        record { peers = s.peers; heard = s.heard; stranger = s.stranger; told = s.told } };
 }
 
-/// What is to be told of a host that is known at the one UDP address, where at any, and asks from the other.
+/// What is to be reported of a host that is known at the one UDP address, if at any, and asks from
+/// the other.
 fn asking_of(known: Option<SocketAddrV4>, from: SocketAddrV4) -> Asking
     ensures { IsAskingOf known from result }
 {
@@ -54,9 +57,12 @@ impl Ledger {
     ghost use Rattle.std.specs.Prelude.{◌↔◌, ◌⊎◌, false, IsTrue, None, Some, replicate};
     ghost use Rattle.std.specs.List.{Any};
 
-    /// Of a server that has heard nobody.
+    /// The ledger of a server that has heard nobody.
     pub fn new(peers: Peers) -> Self
-        ensures { result ≡ record { peers = peers; heard = replicate MAX_PEERS None; stranger = None; told = replicate 65536 false } }
+        // A new ledger has these peers, has heard nobody, and has reported nothing.
+        ensures { result
+            ≡ record { peers = peers; heard = replicate MAX_PEERS None; stranger = None;
+                told = replicate 65536 false } }
     {
         Ledger {
             peers,
@@ -66,8 +72,9 @@ impl Ledger {
         }
     }
 
-    /// The peers.
+    /// The peers, lent.
     pub fn peers(&self) -> &Peers
+        // The peers are those that the ledger was made of.
         ensures { result.now ≡ self.now.peers }
     {
         &self.peers
@@ -75,15 +82,25 @@ impl Ledger {
 
     /// Whether a peer or the bridge is at this UDP address.
     pub fn has_socket(&self, from: SocketAddrV4) -> bool
-        ensures { IsTrue result ↔ (Any (λ peer. peer.socket ≡ from) self.now.peers.hosts ⊎ (self.now.peers.bridge ≡ Some from)) }
+        // The result is true exactly where a peer or the bridge is at the UDP address.
+        ensures { IsTrue result
+            ↔ (Any (λ peer. peer.socket ≡ from) self.now.peers.hosts
+                ⊎ (self.now.peers.bridge ≡ Some from)) }
     {
         self.peers.hosts().iter().any(|peer| peer.socket == from)
             || self.peers.bridge() == Some(from)
     }
 
-    /// A datagram of this host came from this UDP address. The answer is what is to be told of that.
+    /// A datagram of this host came from this UDP address. The result says what is to be reported
+    /// of that.
     pub fn hear(&mut self, address: u16, from: SocketAddrV4) -> Asking
+        // A host is to be reported if it isn't answered, or if it asks from another UDP address
+        // than the one where it is answered, and if its Chaosnet address wasn't reported before. It
+        // is answered at its peer's UDP address, otherwise at the bridge's. The result then has the
+        // UDP address where it is answered.
         ensures asking { AsksAs address from self.old result }
+        // The ledger keeps the UDP address as the one where the host was heard last, and keeps that
+        // the host was reported.
         ensures ledger { self.new ≡ with_asked address from result self.old }
     {
         let known = self.peers.find(address);
@@ -96,8 +113,10 @@ impl Ledger {
         asking
     }
 
-    /// The line about where this host asks from was left out: the next datagram from there is reported again.
+    /// The line about where this host asks from was left out: the next datagram from there is
+    /// reported again.
     pub fn forget_told(&mut self, address: u16)
+        // A host that asks from elsewhere is to be reported again, and nothing else changes.
         ensures { self.new ≡ untold_of address self.old }
     {
         self.told[usize::from(address)] = false;
@@ -105,7 +124,9 @@ impl Ledger {
 
     /// Keeps from where the host was heard.
     fn note(&mut self, address: u16, from: SocketAddrV4)
-        ensures { self.new ≡ heard_at (place_of address self.old.peers.hosts) (record { address = address; socket = from }) self.old }
+        ensures { self.new
+            ≡ heard_at (place_of address self.old.peers.hosts)
+                (record { address = address; socket = from }) self.old }
     {
         match place_of(self.peers.hosts(), address) {
             Some(place) => self.heard[place] = Some(from),
@@ -118,8 +139,11 @@ impl Ledger {
         }
     }
 
-    /// The UDP address from which this host was heard last: of one that is no peer, where none of those was heard since.
+    /// The UDP address from which this host was heard last. The ledger keeps only the last host
+    /// that is no peer.
     pub fn source_of(&self, address: u16) -> Option<SocketAddrV4>
+        // The result is where the host was heard last. For a host that is no peer, there is a
+        // result only if it was the last such host.
         ensures { result ≡ source_at address self.now }
     {
         match place_of(self.peers.hosts(), address) {

@@ -6,7 +6,7 @@ ghost use Rattle.chaosd_log.specs.Level.{is_told_at, place_of_matter};
 use std::fmt;
 use std::fmt::{Display, Formatter};
 
-/// How much of what happens a log tells.
+/// How much of what happens is logged.
 #[derive(Clone, Copy, Debug, PartialEq, Eq)]
 pub enum Level {
     /// Mistakes and faults alone.
@@ -54,8 +54,9 @@ impl Matter {
         Matter::Read,
     ];
 
-    /// Its place in a table of all matters.
+    /// The place of the matter in a table of all matters.
     pub fn place(self) -> usize
+        // Each matter has its place in a table of eight.
         ensures place { result ≡ place_of_matter self }
         ensures bound { result < MATTERS }
     {
@@ -90,8 +91,10 @@ impl Display for Matter {
 }
 
 impl Level {
-    /// Whether a log of this level tells of it.
+    /// Whether a log of this level has lines about the matter.
     pub fn is_told(self, matter: Matter) -> bool
+        // Each level logs faults, errors of a socket and unknown hosts. `All` alone logs files that
+        // are read. Each level but `Quiet` logs the rest.
         ensures { result ≡ is_told_at self matter }
     {
         match (self, matter) {

@@ -1,8 +1,9 @@
-//! The log of a server: who asks, who opens and closes a connection, and which files were written, replaced, renamed or deleted,
-//! by which host from which UDP address.
+//! The log of a server: who asks, who opens and closes a connection, and which files were written,
+//! replaced, renamed or deleted, by which host from which UDP address.
 //!
-//! It opens nothing: a socket, a link and a store are handed in, and each is wrapped by one that takes note. What is noted of hosts is
-//! kept by a `Ledger`, which is plain data; `Journal` has it and writes lines.
+//! It opens nothing: a socket, a link and a store are handed in, and each is wrapped by one that
+//! takes note. What is noted of hosts is kept by a `Ledger`, which is plain data; `Journal` has it
+//! and writes lines.
 #![tactic(auto)]
 
 mod deed;

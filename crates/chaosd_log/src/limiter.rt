@@ -6,7 +6,8 @@ ghost use Rattle.chaosd_log.specs.Limiter.{has_room, in_second, is_below, is_due
 use crate::level::{MATTERS, Matter};
 use std::marker::Model;
 
-/// The lines about one matter: those that were written in a second of the clock, and those that were left out and not reported yet.
+/// The lines about one matter: those that were written in a second of the clock, and those that
+/// were left out and not reported yet.
 #[derive(Clone, Copy)]
 pub struct Tally {
     /// The second in which the last line came.
@@ -17,7 +18,8 @@ pub struct Tally {
     left_out: u64,
 }
 
-/// The most lines about a matter in a second. `None` is no limit: a line about a change is never left out.
+/// The most lines about a matter in a second. `None` is no limit: a line about a change is never
+/// left out.
 fn limit_of(matter: Matter) -> Option<u64>
     ensures { result ≡ limit_of matter }
 {
@@ -80,8 +82,8 @@ impl Tally {
     }
 }
 
-/// How many lines about each matter were written in a second of the clock, and how many were left out. A contract sees the tallies of
-/// all matters, in the order of their places.
+/// How many lines about each matter were written in a second of the clock, and how many were left
+/// out. A contract sees the tallies of all matters, in the order of their places.
 #[derive(Drop)]
 pub struct Limiter {
     tallies: [Tally; MATTERS],
@@ -100,8 +102,9 @@ impl Limiter {
     ghost use Rattle.std.specs.Prelude.{◌≡◌, ◌<◌, ◌↔◌, IsTrue, replicate};
     ghost use Rattle.std.specs.List.{Any};
 
-    /// Of a log that has written no line.
+    /// The limiter of a log that has written no line.
     pub fn new() -> Self
+        // A new limiter has counted no line.
         ensures { result ≡ replicate MATTERS no_lines }
     {
         Limiter {
@@ -109,17 +112,24 @@ impl Limiter {
         }
     }
 
-    /// A line about this matter comes in this second of the clock. Says whether the line is to be written; otherwise the line is counted
-    /// as left out.
+    /// A line about this matter comes in this second of the clock. Says whether the line is to be
+    /// written; otherwise the line is counted as left out.
     pub fn take_line(&mut self, matter: Matter, now: u64) -> bool
+        // A line is to be written exactly where fewer lines about its matter than the limit were
+        // written in its second. A second that isn't later than the last one counts as the last
+        // one. A line about a change is always written.
         ensures room { result ≡ has_room (limit_of matter) now (tally_of matter self.old) }
-        ensures tallies { self.new ≡ with_tally matter (with_line (limit_of matter) now (tally_of matter self.old)) self.old }
+        // The line is counted once, as written or as left out, in the tally of its matter alone.
+        ensures tallies { self.new
+            ≡ with_tally matter (with_line (limit_of matter) now (tally_of matter self.old))
+                self.old }
     {
         self.tallies[matter.place()].take_line(limit_of(matter), now)
     }
 
     /// Whether any line was left out that wasn't reported yet.
     pub fn has_left_out(&self) -> bool
+        // The result is true exactly where a matter has lines that were left out and not reported.
         ensures { IsTrue result ↔ Any (λ tally. 0 < tally.left_out) self.now }
     {
         self.tallies.iter().any(|tally| tally.left_out > 0)
@@ -127,16 +137,22 @@ impl Limiter {
 
     /// Whether lines about this matter were left out in a second that is over in this second.
     pub fn is_due(&self, matter: Matter, now: u64) -> bool
+        // A report of a matter is due exactly where lines were left out that weren't reported, and
+        // the last line came in an earlier second.
         ensures { result ≡ is_due now (tally_of matter self.now) }
     {
         let tally = &self.tallies[matter.place()];
         tally.left_out > 0 && tally.second < now
     }
 
-    /// How many lines about this matter were left out since this was asked last.
+    /// How many lines about this matter were left out since the last call.
     pub fn take_left_out(&mut self, matter: Matter) -> u64
+        // The number is that of all lines about the matter that were left out since the last
+        // report.
         ensures count { result ≡ (tally_of matter self.old).left_out }
-        ensures tallies { self.new ≡ with_tally matter (with_report (tally_of matter self.old)) self.old }
+        // None is left to report of that matter, and nothing else changes.
+        ensures tallies { self.new
+            ≡ with_tally matter (with_report (tally_of matter self.old)) self.old }
     {
         let tally = &mut self.tallies[matter.place()];
         let left_out = tally.left_out;

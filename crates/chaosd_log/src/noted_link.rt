@@ -4,8 +4,9 @@ use crate::source::source_of;
 use chaos_link::{LINK_ROOM, Link, Received, Sent};
 use std::time::Clock;
 
-/// A link that reports to a journal whose datagram came, and to whom a datagram goes. From where a datagram came says the journal's
-/// [`NotedSocket`](crate::NotedSocket) below. It claims what the link behind it claims.
+/// A link that reports to a journal whose datagram came, and to which host a datagram goes. Where a
+/// datagram came from is known to the journal's [`NotedSocket`](crate::NotedSocket) below. It
+/// promises what the link behind it promises.
 #[derive(Drop)]
 pub struct NotedLink<'a, R, L> {
     inner: L,

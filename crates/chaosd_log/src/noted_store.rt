@@ -11,8 +11,8 @@ use chaos_file::{DirStore, Got, Removed, Renamed, Store, Stored};
 use std::alloc::Global;
 use std::fs::{File, Files};
 
-/// The store of a folder, of which note is taken: what each call did, why a request failed, and what the system said where the system
-/// refused a call, which the reply to a command does not say.
+/// The store of a folder, of which note is taken: what each call did, why a request failed, and
+/// what the system said where the system refused a call, which the reply to a command does not say.
 #[derive(Drop)]
 pub struct NotedStore<'a, R: Files<File = File>, N> {
     inner: DirStore<&'a R>,
@@ -22,6 +22,7 @@ pub struct NotedStore<'a, R: Files<File = File>, N> {
 impl<'a, R: Files<File = File>, N: Notes> NotedStore<'a, R, N> {
     /// The store behind these notes.
     pub fn new(inner: DirStore<&'a R>, notes: N) -> Self
+        // A new store has the notes that it was given.
         ensures { N.noted result.notes ≡ N.noted notes }
     {
         NotedStore { inner, notes }
@@ -30,12 +31,13 @@ impl<'a, R: Files<File = File>, N: Notes> NotedStore<'a, R, N> {
     /// Notes a request that failed.
     fn refuse(&mut self, attempt: Attempt, why: Refusal)
         ensures inner { self.new.inner ≡ self.old.inner }
-        ensures noted { N.noted self.new.notes ≡ noted_with (Refused attempt why) (N.noted self.old.notes) }
+        ensures noted { N.noted self.new.notes
+            ≡ noted_with (Refused attempt why) (N.noted self.old.notes) }
     {
         self.notes.note(Deed::Refused(attempt, why));
     }
 
-    /// Tells what the system said of this.
+    /// Notes what the system said of this.
     fn fail(&mut self, attempt: Attempt)
         ensures inner { self.new.inner ≡ self.old.inner }
         ensures noted { N.noted self.new.notes ≡ N.noted self.old.notes }
@@ -47,7 +49,8 @@ impl<'a, R: Files<File = File>, N: Notes> NotedStore<'a, R, N> {
 
     /// Whether something has the path's name.
     fn has(&mut self, alloc: Global, path: &[u8]) -> bool
-        ensures inner { (self.new.inner ≡ self.old.inner) ⊎ (self.new.inner ≡ with_failure self.old.inner) }
+        ensures inner { (self.new.inner ≡ self.old.inner)
+            ⊎ (self.new.inner ≡ with_failure self.old.inner) }
         ensures notes { self.new.notes ≡ self.old.notes }
     {
         match self.inner.get(alloc, path, 0) {
@@ -67,10 +70,15 @@ impl<R: Files<File = File>, N: Notes> Store for NotedStore<'_, R, N> {
     ghost count = { λ s. s.inner };
 
     fn get(&mut self, alloc: Global, path: &[u8], limit: usize) -> Got
+        // A read fails only where the folder's count of failures rose.
         ensures failed { result ≡ Got.Failed → Rose self.old.inner self.new.inner }
+        // It gives at most so many bytes as the limit, and promises nothing of the files.
         ensures limit { Gives (λ bytes. length bytes ≤ limit) result }
         ensures gives { Gives (λ _. Unit {0}) result }
         ensures files { Unit {0} }
+        // A read that gives bytes is noted with its path and their number. A read of a file that
+        // isn't there or is too big, or for which there is no memory, is noted as a failed request,
+        // with the path and the reason. A read that the system refused adds no deed.
         ensures noted { NotesGet path.now result (N.noted self.old.notes) (N.noted self.new.notes) }
     {
         let got = self.inner.get(alloc, path, limit);
@@ -87,9 +95,14 @@ impl<R: Files<File = File>, N: Notes> Store for NotedStore<'_, R, N> {
     }
 
     fn put(&mut self, alloc: Global, path: &[u8], bytes: &[u8]) -> Stored
+        // A put fails only where the count of failures rose, and promises nothing of the files.
         ensures failed { result ≡ Stored.Failed → Rose self.old.inner self.new.inner }
         ensures files { Unit {0} }
-        ensures noted { NotesPut path.now (length bytes.now) result (N.noted self.old.notes) (N.noted self.new.notes) }
+        // A put that is `Done` is noted once, as written or as replaced, with its path and its
+        // number of bytes. A put for which there is no memory is noted once, as a failed request. A
+        // put that the system refused adds no deed.
+        ensures noted { NotesPut path.now (length bytes.now) result (N.noted self.old.notes)
+            (N.noted self.new.notes) }
     {
         let was_there = self.has(alloc, path);
         let stored = self.inner.put(alloc, path, bytes);
@@ -105,9 +118,14 @@ impl<R: Files<File = File>, N: Notes> Store for NotedStore<'_, R, N> {
     }
 
     fn remove(&mut self, alloc: Global, path: &[u8]) -> Removed
+        // A removal fails only where the count of failures rose, and promises nothing of the files.
         ensures failed { result ≡ Removed.Failed → Rose self.old.inner self.new.inner }
         ensures files { Unit {0} }
-        ensures noted { NotesRemove path.now result (N.noted self.old.notes) (N.noted self.new.notes) }
+        // A file that was removed is noted with its path. If no file was there, or there is no
+        // memory, that is noted as a failed request. A removal that the system refused adds no
+        // deed.
+        ensures noted { NotesRemove path.now result (N.noted self.old.notes)
+            (N.noted self.new.notes) }
     {
         let removed = self.inner.remove(alloc, path);
         match removed {
@@ -120,9 +138,15 @@ impl<R: Files<File = File>, N: Notes> Store for NotedStore<'_, R, N> {
     }
 
     fn rename(&mut self, alloc: Global, old: &[u8], new: &[u8]) -> Renamed
+        // A renaming fails only where the count of failures rose, and promises nothing of the
+        // files.
         ensures failed { result ≡ Renamed.Failed → Rose self.old.inner self.new.inner }
         ensures files { Unit {0} }
-        ensures noted { NotesRename old.now new.now result (N.noted self.old.notes) (N.noted self.new.notes) }
+        // A file that moved is noted with both paths. If no file was there, the new path is taken,
+        // or there is no memory, that is noted as a failed request, with both paths. A renaming
+        // that the system refused adds no deed.
+        ensures noted { NotesRename old.now new.now result (N.noted self.old.notes)
+            (N.noted self.new.notes) }
     {
         let renamed = self.inner.rename(alloc, old, new);
         match renamed {

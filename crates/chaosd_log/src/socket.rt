@@ -14,9 +14,10 @@ use std::io::ErrorKind;
 use std::net::{SocketAddr, SocketAddrV4, UdpSocket};
 use std::time::{Clock, Duration};
 
-/// A socket that tells from where a datagram came.
+/// A socket that says where a datagram came from.
 pub trait SourceSocket: DatagramSocket {
-    /// Receives a datagram into the front of the buffer, and says how many bytes it has there, and from where it came.
+    /// Receives a datagram into the front of the buffer, and says how many bytes it has there, and
+    /// from where it came.
     ///
     /// # Errors
     /// The socket's, also where nothing came.
@@ -24,7 +25,9 @@ pub trait SourceSocket: DatagramSocket {
         &mut self,
         buffer: &mut [u8; LINK_ROOM],
     ) -> io::Result<(usize, SocketAddr)>
+        // The socket gives no more bytes than the buffer has.
         ensures within { IfOk result (λ r. r.0 ≤ LINK_ROOM) }
+        // It is asked for one datagram.
         ensures asked { Asks (Self.asked self.old) (Self.asked self.new) (ReceiveOne ∷ []) };
 }
 
@@ -37,7 +40,8 @@ impl SourceSocket for UdpSocket {
     }
 }
 
-/// Whether an error of a socket says more than that nothing came, or that a socket that was sent to before is gone.
+/// Whether an error of a socket says more than that nothing came, or that a socket that was sent to
+/// before is gone.
 fn is_fault(kind: ErrorKind) -> bool
     ensures { result ≡ is_fault kind }
 {
@@ -50,8 +54,9 @@ fn is_fault(kind: ErrorKind) -> bool
     }
 }
 
-/// A socket of which note is taken: from where a datagram came, and why the system refused a call. Where that is asked for, a datagram
-/// that comes from no UDP address of a peer or the bridge is dropped, as if none had come. It asks the inner socket exactly what it is asked.
+/// A socket of which note is taken: from where a datagram came, and why the system refused a call.
+/// Where that is asked for, a datagram that comes from no UDP address of a peer or the bridge is
+/// dropped, as if none had come. It asks the inner socket exactly what it is asked.
 #[derive(Drop)]
 pub struct NotedSocket<'a, R, S> {
     inner: S,
@@ -90,12 +95,14 @@ impl<R: Clock + Eprint, S: SourceSocket> DatagramSocket for NotedSocket<'_, R, S
 
     ghost began = { λ socket. S.began socket.inner };
 
+    /// The socket behind this one is asked to send exactly this, once.
     fn send_datagram(&mut self, bytes: &[u8], to: SocketAddrV4) -> io::Result<()> {
         let sent = self.inner.send_datagram(bytes, to);
         self.note_fault(&format_args!("sending to {to}"), &sent);
         sent
     }
 
+    /// The socket behind this one is asked for one datagram, and to send nothing.
     fn receive_datagram(&mut self, buffer: &mut [u8; LINK_ROOM]) -> io::Result<usize> {
         let received = self.inner.receive_with_source(buffer);
         self.note_fault(&"receiving", &received);
@@ -109,12 +116,14 @@ impl<R: Clock + Eprint, S: SourceSocket> DatagramSocket for NotedSocket<'_, R, S
         Ok(count)
     }
 
+    /// The wait is set at the socket behind this one.
     fn set_wait(&mut self, wait: Duration) -> io::Result<()> {
         let set = self.inner.set_wait(wait);
         self.note_fault(&"setting how long to wait for a datagram", &set);
         set
     }
 
+    /// The socket behind this one waits or polls.
     fn set_waits(&mut self, waits: bool) -> io::Result<()> {
         let set = self.inner.set_waits(waits);
         self.note_fault(&"setting whether to wait for a datagram", &set);

@@ -27,6 +27,8 @@ pub enum Warning {
 
 /// What is wrong with a peer of the host with this Chaosnet address at this UDP address.
 pub fn warning_of(peer: &Peer, address: u16, socket: SocketAddrV4) -> Option<Warning>
+    // There is a warning of a peer exactly where the peer has the host's Chaosnet address or,
+    // otherwise, the host's UDP address.
     ensures { WarnsOf peer.now address socket result }
 {
     if peer.address == address {
@@ -40,6 +42,7 @@ pub fn warning_of(peer: &Peer, address: u16, socket: SocketAddrV4) -> Option<War
 
 /// What is wrong with the bridge of a host at this UDP address.
 pub fn bridge_warning_of(bridge: Option<SocketAddrV4>, socket: SocketAddrV4) -> Option<Warning>
+    // There is a warning exactly where the bridge is at the host's own UDP address.
     ensures { WarnsOfBridge bridge socket result }
 {
     if bridge == Some(socket) {
