@@ -13,16 +13,16 @@ use std::marker::Model;
 
 /// What didn't fit, or wasn't taken by the writer.
 ///
-/// It is the fault of all that writes here, in place of an `io::Error`: that one is some 90 bytes, which each call that may
-/// answer it has to fill.
+/// It is the fault of all that writes here, in place of an `io::Error`: that one is some 90 bytes,
+/// which each call that may answer it has to fill.
 #[derive(Clone, Copy)]
 pub struct NotWritten;
 
-/// Bytes that wait to be written: a writer of a fixed size, whose contents are handed on to another writer in one piece.
-/// A contract sees the bytes. It allocates nothing.
+/// Bytes that wait to be written: a writer of a fixed size, whose contents are handed on to another
+/// writer in one piece. A contract sees the bytes. It allocates nothing.
 ///
-/// An engine writes its text here, asks [`WriteBuffer::room`] before each text of bounded length, and hands on what waits
-/// where there is too little, before each read and at its end.
+/// An engine writes its text here, asks [`WriteBuffer::room`] before each text of bounded length,
+/// and hands on what waits where there is too little, before each read and at its end.
 ///
 /// Nothing is handed on when the value is dropped.
 #[derive(Drop)]
@@ -39,6 +39,7 @@ impl Model for WriteBuffer {
 impl WriteBuffer {
     /// An empty buffer.
     pub fn new() -> Self
+        // A new buffer is empty.
         ensures { result ≡ [] }
     {
         WriteBuffer {
@@ -46,19 +47,21 @@ impl WriteBuffer {
         }
     }
 
-    /// How many bytes fit before some have to be handed on.
+    /// How many bytes fit before some must be handed on.
     pub fn room(&self) -> usize
+        // The room and what waits in the buffer are 16,384 bytes together.
         ensures { result + length self.now ≡ BUFFER_LEN }
     {
         self.bytes.remaining_capacity()
     }
 
-    /// Takes all bytes where they fit.
+    /// Takes all bytes, if they fit.
     ///
     /// # Errors
-    /// `NotWritten` where they don't; nothing is taken then.
+    /// `NotWritten` if they don't fit; nothing is taken then.
     #[inline]
     pub fn put(&mut self, bytes: &[u8]) -> Result<(), NotWritten>
+        // A text is put into the buffer exactly where all of it fits, and otherwise nothing of it.
         ensures taken { OnOk result (self.new ≡ self.old ++ bytes.now) }
         ensures fits { IsOk result ↔ (length self.old + length bytes.now ≤ BUFFER_LEN) }
         ensures refused { OnErr result (self.new ≡ self.old) }
@@ -72,26 +75,38 @@ impl WriteBuffer {
     /// Hands on all bytes, and flushes the writer that takes them. The cost is the writer's.
     ///
     /// # Errors
-    /// The writer's first fault, or `WriteZero` where it takes nothing. Nothing is lost: what the writer didn't take is
-    /// still here.
+    /// The writer's first fault, or `WriteZero` where it takes nothing. Nothing is lost: what the
+    /// writer didn't take is still here.
     pub fn hand_on<W: Write>(&mut self, writer: &mut W) -> io::Result<()>
-        // What the writer holds, with what waits behind it, stays the same.
-        ensures kept { Keeps (written_of (W.contents writer.old) self.old) (written_of (W.contents writer.new) self.new) }
+        // No byte that waits is lost or doubled: what the writer holds, with what waits behind it,
+        // stays the same.
+        ensures kept { Keeps (written_of (W.contents writer.old) self.old)
+            (written_of (W.contents writer.new) self.new) }
+        // If it ends well, nothing waits in the buffer.
         ensures empty { OnOk result (self.new ≡ []) }
     {
         self.hand_on_by::<ByWrite, W>(writer)
     }
 
-    /// [`WriteBuffer::hand_on`] to a writer that is written in a way of its own. An interrupted write is made again.
+    /// [`WriteBuffer::hand_on`] to a writer that is written in a way of its own. An interrupted
+    /// write is made again.
     ///
     /// # Errors
-    /// The writer's first fault that is no interruption, or `WriteZero` where it takes nothing, or was interrupted 2^64 - 1
-    /// times in a row. Nothing is lost: what the writer didn't take is still here.
+    /// The writer's first fault that is no interruption, or `WriteZero` where it takes nothing, or
+    /// was interrupted 2^64 - 1 times in a row. Nothing is lost: what the writer didn't take is
+    /// still here.
     pub fn hand_on_by<T: WriteOnce<W>, W>(&mut self, writer: &mut W) -> io::Result<()>
-        ensures kept { Keeps (written_of (T.contents writer.old) self.old) (written_of (T.contents writer.new) self.new) }
+        // No byte that waits is lost or doubled: what the writer holds, with what waits behind it,
+        // stays the same.
+        ensures kept { Keeps (written_of (T.contents writer.old) self.old)
+            (written_of (T.contents writer.new) self.new) }
+        // If it ends well, nothing waits in the buffer.
         ensures empty { OnOk result (self.new ≡ []) }
+        // If it ends well, all that the writer took was flushed.
         ensures flushed { OnOk result (IfSome (T.is_flushed writer.new) IsTrue) }
-        ensures interrupted { IfSome (T.interruptions writer.old) (λ n. n < 2 ^ 64 - 1 → IsOk result) }
+        // Interruptions whose number is known are no fault, if they are fewer than 2^64 - 1.
+        ensures interrupted { IfSome (T.interruptions writer.old)
+            (λ n. n < 2 ^ 64 - 1 → IsOk result) }
     {
         let (count, end) = write_out::<T, W>(writer, self.bytes.as_slice());
         remove_front(&mut self.bytes, count);
@@ -105,7 +120,9 @@ impl Write for WriteBuffer {
 
     /// Takes what fits.
     fn write(&mut self, bytes: &[u8]) -> io::Result<usize>
+        // No more bytes are taken than there are.
         ensures bound { WritesAtMost result bytes.now }
+        // The buffer takes exactly what fits.
         ensures bytes { WriteAppends (Some self.old) (Some self.new) result bytes.now }
         ensures count { result ≡ Ok (min (length bytes.now) (BUFFER_LEN - length self.old)) }
     {
@@ -116,18 +133,20 @@ impl Write for WriteBuffer {
 
     /// Does nothing: only [`WriteBuffer::hand_on`] has a writer to hand on to.
     fn flush(&mut self) -> io::Result<()>
+        // A flush drops nothing, and ends well.
         ensures bytes { Keeps (Some self.old) (Some self.new) }
         ensures done { IsOk result }
     {
         Ok(())
     }
 
-    /// Takes all bytes where they fit.
+    /// Takes all bytes, if they fit.
     ///
     /// # Errors
-    /// `WriteZero` where they don't; nothing is taken then.
+    /// `WriteZero` if they don't fit; nothing is taken then.
     #[inline]
     fn write_all(&mut self, bytes: &[u8]) -> io::Result<()>
+        // A text is taken exactly where all of it fits, and otherwise nothing of it.
         ensures bytes { OnOk result (Appends (Some self.old) (Some self.new) bytes.now) }
         ensures fits { IsOk result ↔ (length self.old + length bytes.now ≤ BUFFER_LEN) }
         ensures refused { OnErr result (self.new ≡ self.old) }

@@ -1,5 +1,5 @@
-//! Bytes, written as text in the lines of scripts: `^` is byte 8D, `\` and two lower-case hexadecimal digits is that byte, and
-//! every other byte from 20 to 7E is itself.
+//! Bytes, written as text in the lines of scripts: `^` is byte 8D, `\` and two lower-case
+//! hexadecimal digits is that byte, and every other byte from 20 to 7E is itself.
 ghost use Rattle.std.specs.Prelude.{◌≡◌, ◌≤◌, ◌<◌, ◌++◌, length, None, option_map, IfSome, OnOk};
 ghost use Rattle.std.specs.List.{flat_map, list_all};
 ghost use Rattle.chaosd_io.specs.Escapes.{plain_byte, low_hex, escaped_byte, first_byte, bytes_of, with_front, within_packet, ReadsFront, data_of, low_hex_digit, is_escaped, is_plain, shown_byte, IsReadBack};
@@ -70,8 +70,8 @@ fn is_escaped(b: u8) -> bool
     b == b'^' || b == b'\\' || b < 0x20 || b > 0x7E
 }
 
-/// Whether each byte stands for itself, and is shown by itself. There is no way out between two bytes, so that many are looked at
-/// at once.
+/// Whether each byte stands for itself, and is shown by itself. There is no way out between two
+/// bytes, so that many are looked at at once.
 fn are_plain(bytes: &[u8]) -> bool
     ensures { result ≡ list_all is_plain bytes.now }
 {
@@ -82,13 +82,15 @@ fn are_plain(bytes: &[u8]) -> bool
     plain
 }
 
-/// Reads what the first byte of a text stands for, and answers how many bytes of the text stand for it.
+/// Reads what the first byte of a text stands for, and answers how many bytes of the text stand for
+/// it.
 fn read_byte(text: &[u8], bytes: &mut Data) -> Option<usize>
     requires some { 0 < length text.now }
     requires room { length bytes.old.items ≤ MAX_DATA }
     ensures read { IfSome result (λ n. ReadsFront bytes.old.items text.now bytes.new.items n) }
     ensures room { length bytes.new.items ≤ MAX_DATA }
-    ensures none { result ≡ None → within_packet (with_front bytes.old.items (bytes_of text.now)) ≡ None }
+    ensures none { result ≡ None →
+        within_packet (with_front bytes.old.items (bytes_of text.now)) ≡ None }
 {
     let (byte, count) = first_byte(text)?;
     if bytes.is_full() {
@@ -104,7 +106,8 @@ fn read_some(text: &[u8], bytes: &mut Data) -> Option<usize>
     requires room { length bytes.old.items ≤ MAX_DATA }
     ensures read { IfSome result (λ n. ReadsFront bytes.old.items text.now bytes.new.items n) }
     ensures room { length bytes.new.items ≤ MAX_DATA }
-    ensures none { result ≡ None → within_packet (with_front bytes.old.items (bytes_of text.now)) ≡ None }
+    ensures none { result ≡ None →
+        within_packet (with_front bytes.old.items (bytes_of text.now)) ≡ None }
 {
     let count = text.len().min(PIECE);
     let piece = &text[..count];
@@ -117,12 +120,15 @@ fn read_some(text: &[u8], bytes: &mut Data) -> Option<usize>
     }
 }
 
-/// Reads the bytes that a text stands for into a place of the caller's, where they are no more than the 488 that a packet has.
-/// None for any other text: one with a byte that isn't from 20 to 7E, or with a `\` without its two lower-case hexadecimal digits.
+/// Reads the bytes that a text stands for into a place of the caller's, if they are no more than
+/// the 488 that a packet has. The result is `None` for a text with a byte that isn't from 20 to 7E,
+/// or with a `\` without its two lower-case hexadecimal digits.
 ///
-/// The cost is a look at each byte, at 32 together where they stand for themselves, and zeros over the bytes that lay there; no
-/// memory is taken.
+/// The cost is a look at each byte, at 32 together where they stand for themselves, and zeros over
+/// the bytes that lay there. No memory is taken.
 pub fn read_data(text: &[u8], bytes: &mut Data) -> Option<()>
+    // The bytes that a text of a script stands for, at most 488, are left in the caller's place
+    // exactly where it is such a text.
     ensures { option_map (λ none. bytes.new.items) result ≡ data_of text.now }
 {
     bytes.clear();
@@ -178,11 +184,12 @@ fn put_piece(out: &mut WriteBuffer, piece: &[u8]) -> Result<(), NotWritten>
     put_bytes(out, piece)
 }
 
-/// Writes bytes as text: `^` for 8D, the byte itself from 20 to 7E but for `^` and `\`, and a `\` with two lower-case hexadecimal
-/// digits for every other.
+/// Writes bytes as text: `^` for 8D, the byte itself from 20 to 7E but for `^` and `\`, and a `\`
+/// with two lower-case hexadecimal digits for every other byte.
 ///
 /// The cost is a look at each byte, at 32 together where they are shown by themselves.
 pub fn put_text(out: &mut WriteBuffer, bytes: &[u8]) -> Result<(), NotWritten>
+    // If it ends well, the bytes were printed as such a text.
     ensures { OnOk result (out.new ≡ out.old ++ flat_map shown_byte bytes.now) }
 {
     let mut i = 0;
@@ -194,7 +201,8 @@ pub fn put_text(out: &mut WriteBuffer, bytes: &[u8]) -> Result<(), NotWritten>
     Ok(())
 }
 
-/// The law that what is printed of bytes stands for them again: what a script printed can be typed.
+/// What a script printed can be typed.
 pub fn law_read_back()
+    // What is printed of bytes stands for these bytes again.
     ensures { IsReadBack }
 {}

@@ -30,8 +30,9 @@ pub enum RunFault {
     ClockFault,
 }
 
-/// What wasn't written as the fault of a run.
+/// What wasn't written, as the fault of a run.
 pub fn written(end: Result<(), NotWritten>) -> Result<(), RunFault>
+    // What didn't fit into the buffer is a `WriteFault` of the run, and what fitted is no fault.
     ensures { MatchResult end (λ _. IsOk result) (λ _. result ≡ Err RunFault.WriteFault) }
 {
     match end {

@@ -1,7 +1,8 @@
-//! What the engines of the program `chaosd` share: a reader of lines, a buffer of text that waits to be written, bytes as
-//! text, and the faults of a run.
+//! What the engines of the program `chaosd` share: a reader of lines, a buffer of text that waits
+//! to be written, bytes as text, and the faults of a run.
 //!
-//! Each works on a reader or a writer that its caller hands in: no sockets, no files and no clock. Nothing is allocated.
+//! Each works on a reader or a writer that its caller hands in: no sockets, no files and no clock.
+//! Nothing is allocated.
 #![tactic(auto)]
 
 mod buffer;

@@ -6,15 +6,15 @@ use crate::output::WriteOnce;
 use std::io;
 use std::io::{Error, ErrorKind, Read};
 
-/// An input in memory, whose reads are interrupted so often before they give its bytes: by it the clauses of [`ReadOnce`] can be met
-/// where interruptions are known.
+/// An input in memory, whose reads are interrupted so often before they give its bytes: by it the
+/// clauses of [`ReadOnce`] can be met where interruptions are known.
 #[derive(Drop)]
 pub struct MemInput<'a> {
     pub rest: &'a [u8],
     pub interruptions: u64,
 }
 
-/// The way of an input in memory, which tells when it will be interrupted.
+/// The way of an input in memory, of which it is known when it will be interrupted.
 pub struct ByMemory;
 
 impl<'a> ReadOnce<MemInput<'a>> for ByMemory {
@@ -31,8 +31,8 @@ impl<'a> ReadOnce<MemInput<'a>> for ByMemory {
     }
 }
 
-/// An output that keeps none of its bytes, whose writes are interrupted so often before it takes some: by it the clauses of
-/// [`WriteOnce`] can be met where interruptions and flushes are known.
+/// An output that keeps none of its bytes, whose writes are interrupted so often before it takes
+/// some: by it the clauses of [`WriteOnce`] can be met where interruptions and flushes are known.
 #[derive(Drop)]
 pub struct MemSink {
     pub interruptions: u64,

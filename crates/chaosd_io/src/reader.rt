@@ -13,15 +13,18 @@ use crate::lines::cut_line;
 use std::io::Read;
 use std::marker::Model;
 
-/// How many bytes a reader of lines holds: what is kept of a line that has begun, and a chunk behind it.
+/// How many bytes a reader of lines holds: what is kept of a line that has begun, and a chunk
+/// behind it.
 const HELD_LEN: usize = 2 * CHUNK_LEN;
 
-/// Cuts lines from the chunks that a reader gives, and lends each where it lies. Of a line that began in an earlier chunk the first
-/// `KEPT` bytes are kept, which are moved to the front of the next chunk. It allocates nothing.
+/// Cuts lines from the chunks that a reader gives, and lends each where it lies. Of a line that
+/// began in an earlier chunk the first `KEPT` bytes are kept, which are moved to the front of the
+/// next chunk. It allocates nothing.
 ///
-/// An engine takes each line that [`LineReader::cut`] finds, hands on its output, and asks [`LineReader::refill`] for more, so that
-/// somebody who types lines sees what came of each before the next is asked for. At the end of the input it takes
-/// [`LineReader::last`], where there is one. A contract sees what a caller may know: the present line, and what is left.
+/// An engine takes each line that [`LineReader::cut`] finds, hands on its output, and asks
+/// [`LineReader::refill`] for more, so that somebody who types lines sees what came of each before
+/// the next is asked for. At the end of the input it takes [`LineReader::last`], where there is
+/// one. A contract sees what a caller may know: the present line, and what is left.
 #[derive(Drop)]
 pub struct LineReader<const KEPT: usize> {
     bytes: [u8; HELD_LEN],
@@ -53,14 +56,18 @@ impl<const KEPT: usize> Model for LineReader<KEPT> {
       interruptions = r.interruptions;
     } };
 
-    ghost invariant = { λ r. (r.start ≤ r.end) × (r.end ≤ HELD_LEN) × (r.begin ≤ r.from) × (r.from ≤ r.to) × (r.to ≤ HELD_LEN) };
+    ghost invariant = { λ r. (r.start ≤ r.end) × (r.end ≤ HELD_LEN) × (r.begin ≤ r.from)
+        × (r.from ≤ r.to) × (r.to ≤ HELD_LEN) };
 }
 
 impl<const KEPT: usize> LineReader<KEPT> {
     /// A reader of an input of at most `limit` bytes.
     pub fn new(limit: usize) -> Self
+        // At most so many bytes may come.
         ensures left { left_of result ≡ limit }
+        // The reader has not been interrupted.
         ensures interruptions { result.interruptions ≡ 0 }
+        // The reader has given no line yet, of an input of at most so many bytes.
         ensures given { (input : Option (List ℕ)) → Gives KEPT limit input input [] result }
     {
         LineReader {
@@ -78,21 +85,27 @@ impl<const KEPT: usize> LineReader<KEPT> {
     /// The present line, as much of it as is kept, or more.
     #[inline]
     pub fn line(&self) -> &[u8]
+        // What is kept of the present line is lent.
         ensures { result.now ≡ self.now.line }
     {
         &self.bytes[self.start..self.end]
     }
 
-    /// Makes the next line that ends in what came the present one, and says whether there is one. The cost is a look at each of
-    /// its bytes.
+    /// Makes the next line that ends in what came the present one, and says whether there is one.
+    /// The cost is a look at each of its bytes.
     #[inline]
     pub fn cut(&mut self) -> bool
+        // It leaves fewer bytes to look at each time.
         ensures less { result ≡ true → length self.new.waiting < length self.old.waiting }
+        // If it gives no line, nothing that came is left to cut.
         ensures none { result ≡ false → self.new.waiting ≡ [] }
+        // The limit and the interruptions stay as they are.
         ensures room { self.new.room ≡ self.old.room }
         ensures interruptions { self.new.interruptions ≡ self.old.interruptions }
-        ensures given { (limit : ℕ) (input rest : Option (List ℕ)) (given : List (List ℕ)) → Gives KEPT limit input rest given self.old
-            → GivesNext KEPT limit input rest given self.new result }
+        // It gives the next line that ends in what came, or all such lines were given.
+        ensures given { (limit : ℕ) (input rest : Option (List ℕ)) (given : List (List ℕ)) →
+            Gives KEPT limit input rest given self.old →
+            GivesNext KEPT limit input rest given self.new result }
     {
         self.cut_off()
     }
@@ -119,40 +132,60 @@ impl<const KEPT: usize> LineReader<KEPT> {
         }
     }
 
-    /// Reads the next chunk, and says whether something came: nothing only at the end. There is no present line then. The cost is
-    /// the reader's, and a copy of what is kept of a line that has begun.
+    /// Reads the next chunk, and says whether something came: nothing only at the end. There is no
+    /// present line then. The cost is the reader's, and a copy of what is kept of a line that has
+    /// begun.
     ///
     /// # Errors
-    /// `ReadFault` where the reader fails, or is interrupted 2,000,000 times in all, and `InputTooLong` where more than the limit
-    /// comes.
+    /// `ReadFault` where the reader fails, or is interrupted 2,000,000 times in all, and
+    /// `InputTooLong` where more than the limit comes.
     pub fn refill<R: Read>(&mut self, reader: &mut R) -> Result<bool, RunFault>
         requires kept { KEPT ≤ CHUNK_LEN }
         requires waiting { self.old.waiting ≡ [] }
+        // If something came, fewer bytes may come from here on.
         ensures less { IfOk result (λ more. more ≡ true → self.new.room < self.old.room) }
+        // If it ends well, no more of the input is left than before.
         ensures left { OnOk result (left_of self.new ≤ left_of self.old) }
-        ensures end { IfOk result (λ more. more ≡ false → (self.new.waiting ≡ []) × IsAtEnd (R.remaining reader.new)) }
-        ensures given { (limit : ℕ) (input : Option (List ℕ)) (given : List (List ℕ)) → Gives KEPT limit input (R.remaining reader.old) given self.old
-            → GivesMore KEPT limit input (R.remaining reader.new) given self.new result }
-        // What was counted stays counted.
+        // If nothing came, the input has ended, and nothing is left to cut.
+        ensures end { IfOk result
+            (λ more. more ≡ false → (self.new.waiting ≡ []) × IsAtEnd (R.remaining reader.new)) }
+        // More comes, or the input ends. If the reader fails or more than the limit comes, just the
+        // lines were given that ended in what came, or within the limit.
+        ensures given { (limit : ℕ) (input : Option (List ℕ)) (given : List (List ℕ)) →
+            Gives KEPT limit input (R.remaining reader.old) given self.old →
+            GivesMore KEPT limit input (R.remaining reader.new) given self.new result }
+        // No interruption is forgotten.
         ensures counted { self.old.interruptions ≤ self.new.interruptions }
     {
         self.refill_by::<ByRead, R>(reader)
     }
 
-    /// The same, of a reader that is read in a way of its own, which may tell when it will be interrupted.
+    /// [`LineReader::refill`] from a reader that is read in a way of its own, of which it may be
+    /// known when it will be interrupted.
     ///
     /// # Errors
     /// As [`LineReader::refill`].
     pub fn refill_by<T: ReadOnce<R>, R>(&mut self, reader: &mut R) -> Result<bool, RunFault>
         requires kept { KEPT ≤ CHUNK_LEN }
         requires waiting { self.old.waiting ≡ [] }
+        // If something came, fewer bytes may come from here on.
         ensures less { IfOk result (λ more. more ≡ true → self.new.room < self.old.room) }
+        // If it ends well, no more of the input is left than before.
         ensures left { OnOk result (left_of self.new ≤ left_of self.old) }
-        ensures end { IfOk result (λ more. more ≡ false → (self.new.waiting ≡ []) × IsAtEnd (T.remaining reader.new)) }
-        ensures given { (limit : ℕ) (input : Option (List ℕ)) (given : List (List ℕ)) → Gives KEPT limit input (T.remaining reader.old) given self.old
-            → GivesMore KEPT limit input (T.remaining reader.new) given self.new result }
+        // If nothing came, the input has ended, and nothing is left to cut.
+        ensures end { IfOk result
+            (λ more. more ≡ false → (self.new.waiting ≡ []) × IsAtEnd (T.remaining reader.new)) }
+        // More comes, or the input ends. If the reader fails or more than the limit comes, just the
+        // lines were given that ended in what came, or within the limit.
+        ensures given { (limit : ℕ) (input : Option (List ℕ)) (given : List (List ℕ)) →
+            Gives KEPT limit input (T.remaining reader.old) given self.old →
+            GivesMore KEPT limit input (T.remaining reader.new) given self.new result }
+        // No interruption is forgotten.
         ensures counted { self.old.interruptions ≤ self.new.interruptions }
-        ensures interrupted { Counts (T.interruptions reader.old) self.old.interruptions self.new.interruptions result }
+        // Interruptions that are known are all counted, and are a `ReadFault` exactly where the
+        // reader's count comes to 2,000,000.
+        ensures interrupted { Counts (T.interruptions reader.old) self.old.interruptions
+            self.new.interruptions result }
     {
         self.read_on::<T, R>(reader)
     }
@@ -161,9 +194,11 @@ impl<const KEPT: usize> LineReader<KEPT> {
     fn read_on<T: ReadOnce<R>, R>(&mut self, reader: &mut R) -> Result<bool, RunFault>
         requires kept { KEPT ≤ CHUNK_LEN }
         requires waiting { self.old.waiting ≡ [] }
-        ensures read { Refills KEPT (T.remaining reader.old) (T.remaining reader.new) self.old self.new result }
+        ensures read { Refills KEPT (T.remaining reader.old) (T.remaining reader.new) self.old
+            self.new result }
         ensures counted { self.old.interruptions ≤ self.new.interruptions }
-        ensures interrupted { Counts (T.interruptions reader.old) self.old.interruptions self.new.interruptions result }
+        ensures interrupted { Counts (T.interruptions reader.old) self.old.interruptions
+            self.new.interruptions result }
     {
         let len = (self.from - self.begin).min(KEPT);
         move_up(&mut self.bytes, self.begin, len);
@@ -185,12 +220,16 @@ impl<const KEPT: usize> LineReader<KEPT> {
         Ok(count > 0)
     }
 
-    /// What stands after the last end of a line, where that isn't empty: the last line of an input that has ended.
+    /// What stands after the last end of a line, if that isn't empty: the last line of an input
+    /// that has ended.
     pub fn last(&self) -> Option<&[u8]>
         requires kept { 0 < KEPT }
         requires waiting { self.now.waiting ≡ [] }
-        ensures { (limit : ℕ) (input rest : Option (List ℕ)) (given : List (List ℕ)) → Gives KEPT limit input rest given self.now → IsAtEnd rest
-            → GivesLast KEPT limit input rest given (option_map (λ line. line.now) result) }
+        // At the end the line without an end is given, if there is one. Then the lines that were
+        // given are all lines.
+        ensures { (limit : ℕ) (input rest : Option (List ℕ)) (given : List (List ℕ)) →
+            Gives KEPT limit input rest given self.now → IsAtEnd rest →
+            GivesLast KEPT limit input rest given (option_map (λ line. line.now) result) }
     {
         if self.begin == self.from {
             None

@@ -7,24 +7,36 @@ use crate::buffer::{NotWritten, WriteBuffer};
 use itoa::Buffer;
 
 /// Writes a text, and the end of its line.
+///
+/// # Errors
+/// `NotWritten` if not all of it fits.
 pub fn put_line(out: &mut WriteBuffer, text: &str) -> Result<(), NotWritten>
+    // If it ends well, the text and the end of its line were written.
     ensures { OnOk result (out.new ≡ out.old ++ line text.now) }
 {
     out.put(text.as_bytes())?;
     out.put(b"\n")
 }
 
-/// A number, decimal and without leading zeros.
+/// Writes a number in decimal, without leading zeros.
+///
+/// # Errors
+/// `NotWritten` if it doesn't fit.
 pub fn put_decimal(out: &mut WriteBuffer, n: usize) -> Result<(), NotWritten>
+    // If it ends well, the number was written in decimal.
     ensures { OnOk result (out.new ≡ out.old ++ decimal n) }
 {
     let mut digits = Buffer::new();
     out.put(digits.format(n).as_bytes())
 }
 
-/// Three octal digits.
+/// Writes a number below 512 as three octal digits.
+///
+/// # Errors
+/// `NotWritten` if they don't fit.
 pub fn put_octal_three(out: &mut WriteBuffer, n: u16) -> Result<(), NotWritten>
     requires { n < 512 }
+    // If it ends well, the number was written in three octal digits.
     ensures { OnOk result (out.new ≡ out.old ++ octal_three n) }
 {
     let digits = [n / 64, n / 8 % 8, n % 8];
