@@ -23,12 +23,14 @@ use std::io::{Read, Write};
 
 /// Runs a FILE script against the server of the host `to`, as the host `me`. Neither address is 0.
 ///
-/// It does what [`crate::run_loop`] does, but a turn is one of the client alone, and the clock tells the moments: milliseconds since
-/// the run began. The connection begins with the number that the low 16 bits of the clock's milliseconds since 1970 tell. Its
-/// index is one that a run before it from the same address is unlikely to have had: as many indices as the low 8 bits tell are
-/// passed over. What it sends goes out by the carriage; datagrams of both versions are read.
+/// It does what [`crate::run_loop`] does, with two differences: a turn is one of the client alone,
+/// and the clock shows the moments, which are milliseconds since the run began. The connection
+/// begins with the low 16 bits of the clock's milliseconds since 1970. As many indices as the low 8
+/// bits say are passed over, so a run before it from the same address is unlikely to have had the
+/// same index. What it sends goes out by the carriage; datagrams of both versions are read.
 ///
-/// In `why` it leaves what is wrong with a bad line, and why a command got no reply, in words for a user; no clause speaks of it.
+/// `why` gets what is wrong with a bad line, and why a command got no reply, in words for a user;
+/// no clause speaks of it.
 ///
 /// # Errors
 /// [`RunFault`] as for [`crate::run_loop`], and 7 where the clock can't be read.
@@ -44,15 +46,24 @@ pub fn run_ask<C: Dial, R: Read, W: Write, L: Link>(
     carriage: Carriage,
 ) -> Result<ScriptEnd, RunFault>
     requires { 0 < me }
-    // Which lines were commands, what was printed, and how it ended.
-    ensures runs { Runs (R.remaining reader.old) (R.remaining reader.new) (W.contents writer.old) (W.contents writer.new) result }
-    // What its connection wrote are the commands of these lines, in order, and, where it ended well, then an EOF, and what was printed
-    // are the data that it read, in order. It is closed however that ends, but where the clock can't be read or the link failed.
-    ensures talk { IfAsked result ((epoch : Epoch) × BeginsBy (C.shows clock.now) (C.dates clock.now) epoch
-        × Converses (clock_pace (C.shows clock.now) (usual_timing epoch)) (C.fails clock.now ⊎ (0 < L.count link.new)) (talker (new_caller me to usual_config carriage epoch.passed) (L.queue link.old)) (L.queue link.new) (R.remaining reader.old) (R.remaining reader.new) (W.contents writer.old) (W.contents writer.new) result) }
-    // It ends well only where the link's count of failures didn't rise.
+    // The lines that were commands, what was printed, and how the run ended are as in `run_loop`.
+    ensures runs { Runs (R.remaining reader.old) (R.remaining reader.new) (W.contents writer.old)
+        (W.contents writer.new) result }
+    // What the connection wrote and read is as in `run_loop`. The moments are those that the clock
+    // may show since the run began. The connection is asked for by the contact FILE, and begins
+    // with the low 16 bits of the milliseconds since 1970 at its moment. If no OPN came for 2
+    // seconds another connection is asked for, and so on, each waited for twice as long. After a
+    // fault the connection may also stay open where the clock is one that can't always be read.
+    ensures talk { IfAsked result
+        ((epoch : Epoch) × BeginsBy (C.shows clock.now) (C.dates clock.now) epoch
+            × Converses (clock_pace (C.shows clock.now) (usual_timing epoch))
+                (C.fails clock.now ⊎ (0 < L.count link.new))
+                (talker (new_caller me to usual_config carriage epoch.passed) (L.queue link.old))
+                (L.queue link.new) (R.remaining reader.old) (R.remaining reader.new)
+                (W.contents writer.old) (W.contents writer.new) result) }
+    // The run ends well only if the link's count of failures didn't rise.
     ensures well { OnOk result (L.count link.new ≤ L.count link.old) }
-    // It ends by a LinkFault only where the link counted failures.
+    // The run ends by `LinkFault` only if the link counted failures.
     ensures failed { result ≡ Err RunFault.LinkFault → 0 < L.count link.new }
 {
     let epoch = Epoch::new(clock)?;
@@ -67,8 +78,9 @@ pub fn run_ask<C: Dial, R: Read, W: Write, L: Link>(
     run_ask_by::<Unasked, C, R, W, L>(clock, alloc, reader, writer, link, why, &route, timing)
 }
 
-/// The same, by a route and a timing of the caller's, and of a reader that is asked whether it has something to give before each read:
-/// while it hasn't, and there is a connection, the client takes turns. So it answers the server's probes while somebody types.
+/// Runs a script as [`run_ask`] does, by a route and a timing of the caller's. Before each read the
+/// reader is asked whether it has something to give. While it hasn't, and there is a connection,
+/// the client takes turns. So it answers the server's probes while somebody types.
 ///
 /// # Errors
 /// As [`run_ask`].
@@ -83,14 +95,20 @@ pub fn run_ask_by<P: Ready<R>, C: Dial, R: Read, W: Write, L: Link>(
     timing: Timing,
 ) -> Result<ScriptEnd, RunFault>
     requires { 0 < route.now.me }
-    // Which lines were commands, what was printed, and how it ended.
-    ensures runs { Runs (R.remaining reader.old) (R.remaining reader.new) (W.contents writer.old) (W.contents writer.new) result }
-    // What its connection wrote are the commands of these lines, in order, and, where it ended well, then an EOF, and what was printed
-    // are the data that it read, in order. It is closed however that ends, but where the clock can't be read or the link failed.
-    ensures talk { IfAsked result (Converses (clock_pace (C.shows clock.now) timing) (C.fails clock.now ⊎ (0 < L.count link.new)) (talker (caller_by route.now timing.epoch.passed) (L.queue link.old)) (L.queue link.new) (R.remaining reader.old) (R.remaining reader.new) (W.contents writer.old) (W.contents writer.new) result) }
-    // It ends well only where the link's count of failures didn't rise.
+    // The lines that were commands, what was printed, and how the run ended are as in `run_loop`.
+    ensures runs { Runs (R.remaining reader.old) (R.remaining reader.new) (W.contents writer.old)
+        (W.contents writer.new) result }
+    // What the connection wrote and read is as in `run_ask`, and the connection is asked for by the
+    // contact of the route. While nothing more is there to read, only turns are taken.
+    ensures talk { IfAsked result
+        (Converses (clock_pace (C.shows clock.now) timing)
+            (C.fails clock.now ⊎ (0 < L.count link.new))
+            (talker (caller_by route.now timing.epoch.passed) (L.queue link.old)) (L.queue link.new)
+            (R.remaining reader.old) (R.remaining reader.new) (W.contents writer.old)
+            (W.contents writer.new) result) }
+    // The run ends well only if the link's count of failures didn't rise.
     ensures well { OnOk result (L.count link.new ≤ L.count link.old) }
-    // It ends by a LinkFault only where the link counted failures.
+    // The run ends by `LinkFault` only if the link counted failures.
     ensures failed { result ≡ Err RunFault.LinkFault → 0 < L.count link.new }
 {
     let mut turns = Timed::new(clock, link, timing);

@@ -4,7 +4,8 @@ ghost use Rattle.chaosd_file.specs.declared.limits.TheConstants.{LOOP_CLIENT, LO
 
 use chaos_packet::{Opcode, PktNum};
 
-/// No host's address. Of nobody no connection is asked for, so that a run ends at its first command.
+/// No host's address. Of nobody no connection is asked for, so that a run ends at its first
+/// command.
 pub const NOBODY: u16 = 0;
 
 /// The client's address in `loop`.
@@ -22,9 +23,12 @@ pub const LOOP_SERVER_START: PktNum = PktNum(65_530);
 /// The milliseconds of a turn in `loop`.
 pub const LOOP_TURN: u64 = 10;
 
-/// The numbers as numerals.
+/// The addresses and the turn of `loop` as numerals.
 pub fn law_limits()
+    // The client of `loop` has the address 401 octal.
     ensures client { LOOP_CLIENT ≡ 257 }
+    // The server of `loop` has the address 402 octal.
     ensures server { LOOP_SERVER ≡ 258 }
+    // A turn of `loop` takes 10 milliseconds.
     ensures turn { LOOP_TURN ≡ 10 }
 {}

@@ -44,7 +44,8 @@ impl FarEnd {
     }
 }
 
-/// A client's turns with a server in the same process, which keeps its files in memory. The moments are the turns times 10.
+/// A client's turns with a server in the same process, which keeps its files in memory. The moments
+/// are the turns times 10.
 #[derive(Drop)]
 struct Both<'a, A: Link, B: Link> {
     near: &'a mut A,
@@ -62,10 +63,11 @@ impl<A: Link, B: Link> Both<'_, A, B> {
     ghost use Rattle.chaos_packet.specs.Outbox.{room_of};
     ghost use Rattle.chaos_turn.specs.declared.limits.TheConstants.{TURN_ROOM};
 
-    /// Whether the client's turn waits for what is still on its way: where that is allowed, the turn before brought nothing, and nothing
-    /// is to be sent.
+    /// Whether the client's turn waits for what is still on its way: where that is allowed, the
+    /// turn before brought nothing, and nothing is to be sent.
     fn waits(&self, out: &Outbox, may_wait: bool) -> bool
-        ensures exact { result ≡ (may_wait && self.now.is_idle && nat_le TURN_ROOM (room_of out.now)) }
+        ensures exact { result
+            ≡ (may_wait && self.now.is_idle && nat_le TURN_ROOM (room_of out.now)) }
         ensures allowed { result ≡ true → may_wait ≡ true }
     {
         may_wait && self.is_idle && out.room() >= TURN_ROOM
@@ -94,7 +96,8 @@ impl<A: Link, B: Link> Turns for Both<'_, A, B> {
 
     ghost failures = { λ turns. A.count turns.near.now + B.count turns.far.now };
 
-    ghost failed = { λ before after. Rose (A.count before.near.now) (A.count after.near.now) ⊎ Rose (B.count before.far.now) (B.count after.far.now) };
+    ghost failed = { λ before after. Rose (A.count before.near.now) (A.count after.near.now)
+        ⊎ Rose (B.count before.far.now) (B.count after.far.now) };
 
     ghost links = { λ turns. turns.near.ghost_name ∷ turns.far.ghost_name ∷ [] };
 
@@ -122,8 +125,9 @@ impl<A: Link, B: Link> Turns for Both<'_, A, B> {
         0
     }
 
-    /// A turn of the client, and then one of the server. While one acts, the other can't: so both poll, but the client waits for
-    /// what is still on its way where the turn before brought nothing and nothing is to be sent.
+    /// A turn of the client, and then one of the server. While one acts, the other can't: so both
+    /// poll, but the client waits for what is still on its way where the turn before brought
+    /// nothing and nothing is to be sent.
     fn turn(
         &mut self,
         host: &mut Host,
@@ -155,26 +159,33 @@ impl<A: Link, B: Link> Turns for Both<'_, A, B> {
     }
 }
 
-/// Runs a FILE script between two hosts of this process: a client at 000401 over `link_a`, and a server at 000402 over `link_b`,
-/// which keeps its files in memory. What is sent over one link is to be received from the other.
+/// Runs a FILE script between two hosts of this process: a client at 000401 over `link_a`, and a
+/// server at 000402 over `link_b`, which keeps its files in memory. What is sent over one link is
+/// to be received from the other.
 ///
-/// Each line of the script is a command. It is sent where the one before it got its reply, and its reply is printed and handed on to
-/// the writer before more of the script is read, so that somebody who types commands sees each reply at once. A command waits for its
-/// reply, and before that for the connection to open and to have room, 1,000 turns at most; a turn is one of the client and then
-/// one of the server, and moments are turns times 10 milliseconds. Where a command gets no reply, also since the connection ended,
-/// `no reply` is printed and the run ends. Behind the last command an EOF is sent, which waits 100 turns at most to be
-/// acknowledged. The connection is then closed, also after a fault of the script, the reader or the writer. A script without
-/// lines asks for no connection. What both ends send goes out by the carriage; datagrams of both versions are read.
+/// Each line of the script is a command. A command is sent when the one before it got its reply.
+/// The reply is printed and handed on to the writer before more of the script is read, so somebody
+/// who types commands sees each reply at once. A command waits 1,000 turns at most: for the
+/// connection to open and to have room, and for its reply. A turn is one of the client and then one
+/// of the server, and moments are turns times 10 milliseconds. If a command gets no reply, `no
+/// reply` is printed and the run ends.
 ///
-/// The first fault is the answer. The cost is a look at each byte and the turns, of which a command mostly takes two; the hosts take
-/// their memory first, and later only the server's files take some.
+/// Behind the last command an EOF is sent, which waits 100 turns at most to be acknowledged. The
+/// connection is then closed, also after a fault of the script, the reader or the writer. A script
+/// without lines asks for no connection. What both ends send goes out by the carriage; datagrams of
+/// both versions are read.
 ///
-/// In `why` it leaves what is wrong with a bad line, and why a command got no reply, in words for a user; no clause speaks of it.
+/// The run ends by its first fault. The cost is a look at each byte and the turns, of which a
+/// command mostly takes two. The hosts take their memory first, and later only the server's files
+/// take some.
+///
+/// `why` gets what is wrong with a bad line, and why a command got no reply, in words for a user;
+/// no clause speaks of it.
 ///
 /// # Errors
-/// [`RunFault`]: 1 where the reader fails or is interrupted 2,000,000 times, 2 where the writer fails, 3 where more than 1,048,576
-/// bytes come, 4 where there is no memory for the hosts, 5 at a line that stands for no command, 6 where a link failed, after the
-/// turn in which it did.
+/// [`RunFault`]: 1 where the reader fails or is interrupted 2,000,000 times, 2 where the writer
+/// fails, 3 where more than 1,048,576 bytes come, 4 where there is no memory for the hosts, 5 at a
+/// line that stands for no command, 6 where a link failed, after the turn in which it did.
 pub fn run_loop<R: Read, W: Write, A: Link, B: Link>(
     alloc: Global,
     reader: &mut R,
@@ -184,14 +195,40 @@ pub fn run_loop<R: Read, W: Write, A: Link, B: Link>(
     why: &mut Option<Why>,
     carriage: Carriage,
 ) -> Result<ScriptEnd, RunFault>
-    // Which lines were commands, what was printed, and how it ended.
-    ensures runs { Runs (R.remaining reader.old) (R.remaining reader.new) (W.contents writer.old) (W.contents writer.new) result }
-    // What its connection wrote are the commands of these lines, in order, and, where it ended well, then an EOF, and what was printed
-    // are the data that it read, in order. It is closed however that ends, but where a link failed.
-    ensures talk { IfAsked result (Converses loop_pace (0 < A.count link_a.new + B.count link_b.new) (talker (new_caller LOOP_CLIENT LOOP_SERVER usual_config carriage 0) (A.queue link_a.old)) (A.queue link_a.new) (R.remaining reader.old) (R.remaining reader.new) (W.contents writer.old) (W.contents writer.new) result) }
-    // It ends well only where the links' counts of failures, together, didn't rise.
-    ensures well { OnOk result (A.count link_a.new + B.count link_b.new ≤ A.count link_a.old + B.count link_b.old) }
-    // It ends by a LinkFault only where a link counted failures.
+    // If the run ends well, as many commands were tried as were replied to, or one more. That many
+    // replies were printed, each on its line, and then `no reply` where the last command got none.
+    // The commands are the first lines of the input, and of an input above 1,048,576 bytes the
+    // first lines that end within these. If each command got a reply, the commands are all lines,
+    // and the input has at most so many bytes and was read to its end.
+    // `BadScript` has the first line that stands for no command, which ends within the limit, and
+    // replies to the lines before it were printed.
+    // `InputTooLong` comes only of an input that is too long. Then no line that ended within the
+    // limit is bad, and replies to all of them were printed.
+    // If the reader fails, no line that ended in what was consumed of it is bad, and replies to all
+    // of them were printed.
+    ensures runs { Runs (R.remaining reader.old) (R.remaining reader.new) (W.contents writer.old)
+        (W.contents writer.new) result }
+    // If the run ends well, the connection wrote the commands of these lines, in order, each once;
+    // the last is written at most once where it got no reply. If each got one, the EOF follows, and
+    // at most 100 turns went by until the server had read all. The EOF is left out where there was
+    // no line, where it wasn't taken in 100 turns, or where the connection had ended or there was
+    // none. Each turn was at a moment of so many turns times 10, and sent by the carriage.
+    // The replies that were printed are the data that the connection read, in order. A command got
+    // none only where 1,000 turns were made, or the connection had ended or there was none.
+    // If a line is bad, the reader fails or the input is too long, the connection wrote the
+    // commands of the lines before, in order and each once, and read the replies that were printed.
+    // However the run ends, the connection was then closed, if there was one, and what waited was
+    // sent, unless failures of a link were counted.
+    ensures talk { IfAsked result
+        (Converses loop_pace (0 < A.count link_a.new + B.count link_b.new)
+            (talker (new_caller LOOP_CLIENT LOOP_SERVER usual_config carriage 0)
+                (A.queue link_a.old))
+            (A.queue link_a.new) (R.remaining reader.old) (R.remaining reader.new)
+            (W.contents writer.old) (W.contents writer.new) result) }
+    // The run ends well only if the links' counts of failures, together, didn't rise.
+    ensures well { OnOk result
+        (A.count link_a.new + B.count link_b.new ≤ A.count link_a.old + B.count link_b.old) }
+    // The run ends by `LinkFault` only if failures of a link were counted.
     ensures failed { result ≡ Err RunFault.LinkFault → 0 < A.count link_a.new + B.count link_b.new }
 {
     let mut far_end = FarEnd {
@@ -212,9 +249,15 @@ fn run_between<R: Read, W: Write, A: Link, B: Link>(
     why: &mut Option<Why>,
     carriage: Carriage,
 ) -> Result<ScriptEnd, RunFault>
-    ensures runs { Runs (R.remaining reader.old) (R.remaining reader.new) (W.contents writer.old) (W.contents writer.new) result }
-    ensures talk { IfAsked result (Converses loop_pace (0 < A.count near.new + B.count far.new) (talker (new_caller LOOP_CLIENT LOOP_SERVER usual_config carriage 0) (A.queue near.old)) (A.queue near.new) (R.remaining reader.old) (R.remaining reader.new) (W.contents writer.old) (W.contents writer.new) result) }
-    ensures well { OnOk result (A.count near.new + B.count far.new ≤ A.count near.old + B.count far.old) }
+    ensures runs { Runs (R.remaining reader.old) (R.remaining reader.new) (W.contents writer.old)
+        (W.contents writer.new) result }
+    ensures talk { IfAsked result
+        (Converses loop_pace (0 < A.count near.new + B.count far.new)
+            (talker (new_caller LOOP_CLIENT LOOP_SERVER usual_config carriage 0) (A.queue near.old))
+            (A.queue near.new) (R.remaining reader.old) (R.remaining reader.new)
+            (W.contents writer.old) (W.contents writer.new) result) }
+    ensures well { OnOk result
+        (A.count near.new + B.count far.new ≤ A.count near.old + B.count far.old) }
     ensures failed { result ≡ Err RunFault.LinkFault → 0 < A.count near.new + B.count far.new }
 {
     let alloc = far_end.alloc;

@@ -3,11 +3,13 @@ ghost use Rattle.std.specs.Prelude.{◌≡◌};
 
 use std::io::Read;
 
-/// How a reader of the type `R` is asked whether it has something to give. std's `Read` can't be asked.
+/// How a reader of the type `R` is asked whether it has something to give. std's `Read` can't be
+/// asked.
 pub trait Ready<R: Read> {
-    /// Whether a read would be answered at once, by bytes, the end or a fault. Where it would not, the client of a script takes a turn,
-    /// which may wait a moment, and asks again.
+    /// Whether a read would be answered at once, by bytes, the end or a fault. Otherwise the client
+    /// of a script takes a turn, which may wait a moment, and asks again.
     fn is_ready(reader: &mut R) -> bool
+        // The question takes nothing of what the reader has to give.
         ensures { R.remaining reader.new ≡ R.remaining reader.old };
 }
 

@@ -21,7 +21,8 @@ const REPLY_ROOM: usize = 2_048;
 
 /// Prints what waits.
 pub fn hand_on<W: Write>(out: &mut WriteBuffer, writer: &mut W) -> Result<(), RunFault>
-    ensures kept { Keeps (written_of (W.contents writer.old) out.old) (written_of (W.contents writer.new) out.new) }
+    ensures kept { Keeps (written_of (W.contents writer.old) out.old)
+        (written_of (W.contents writer.new) out.new) }
     ensures empty { OnOk result (out.new ≡ []) }
     ensures faults { IfErr result (λ fault. fault ≡ RunFault.WriteFault) }
 {
@@ -33,7 +34,8 @@ pub fn hand_on<W: Write>(out: &mut WriteBuffer, writer: &mut W) -> Result<(), Ru
 
 /// Prints what waits where a line might not fit behind it.
 fn make_room<W: Write>(out: &mut WriteBuffer, writer: &mut W) -> Result<(), RunFault>
-    ensures kept { Keeps (written_of (W.contents writer.old) out.old) (written_of (W.contents writer.new) out.new) }
+    ensures kept { Keeps (written_of (W.contents writer.old) out.old)
+        (written_of (W.contents writer.new) out.new) }
     ensures faults { IfErr result (λ fault. fault ≡ RunFault.WriteFault) }
 {
     if out.room() < REPLY_ROOM {
@@ -48,7 +50,9 @@ pub fn print_reply<W: Write>(
     writer: &mut W,
     reply: &[u8],
 ) -> Result<(), RunFault>
-    ensures text { OnOk result (Appends (written_of (W.contents writer.old) out.old) (written_of (W.contents writer.new) out.new) (reply_line reply.now)) }
+    ensures text { OnOk result
+        (Appends (written_of (W.contents writer.old) out.old)
+            (written_of (W.contents writer.new) out.new) (reply_line reply.now)) }
     ensures faults { IfErr result (λ fault. fault ≡ RunFault.WriteFault) }
 {
     make_room(out, writer)?;
@@ -57,7 +61,9 @@ pub fn print_reply<W: Write>(
 
 /// Puts behind what waits that a command got no reply.
 pub fn print_none<W: Write>(out: &mut WriteBuffer, writer: &mut W) -> Result<(), RunFault>
-    ensures text { OnOk result (Appends (written_of (W.contents writer.old) out.old) (written_of (W.contents writer.new) out.new) no_reply_line) }
+    ensures text { OnOk result
+        (Appends (written_of (W.contents writer.old) out.old)
+            (written_of (W.contents writer.new) out.new) no_reply_line) }
     ensures faults { IfErr result (λ fault. fault ≡ RunFault.WriteFault) }
 {
     make_room(out, writer)?;

@@ -17,10 +17,12 @@ use chaosd_io::{Data, INPUT_LIMIT, KEPT_LEN, LineReader, RunFault, WriteBuffer};
 use file_client::{Client, Turns};
 use std::io::{Read, Write};
 
-/// Asks each command of a script, and closes the connection however that ends, but for a fault of a link or of the clock: no turn
-/// is taken after those. The first fault is the answer. Replies wait until the reader is asked for more, or to the end: somebody who
-/// types sees each at once, and a script that is there takes a call of the writer for many. While the reader has nothing to give, as
-/// `P` tells, turns go on. What is wrong with a bad line, and why no reply came, is left in `why`.
+/// Asks each command of a script, and closes the connection however the run ends, but for a fault
+/// of a link or of the clock: no turn is taken after those. The run ends by its first fault.
+/// Replies wait until the reader is asked for more, or to the end. So somebody who types sees each
+/// reply at once, and a script that is there takes one call of the writer for many replies. While
+/// the reader has nothing to give, as `P` says, turns go on. `why` gets what is wrong with a bad
+/// line, and why no reply came.
 pub fn run_script<P: Ready<R>, T: Turns, R: Read, W: Write>(
     client: &mut Client,
     turns: &mut T,
@@ -28,11 +30,16 @@ pub fn run_script<P: Ready<R>, T: Turns, R: Read, W: Write>(
     writer: &mut W,
     why: &mut Option<Why>,
 ) -> Result<ScriptEnd, RunFault>
-    ensures runs { Runs (R.remaining reader.old) (R.remaining reader.new) (W.contents writer.old) (W.contents writer.new) result }
-    ensures same_turns { (T.links turns.new ≡ T.links turns.old) × (T.time turns.new ≡ T.time turns.old) }
+    ensures runs { Runs (R.remaining reader.old) (R.remaining reader.new) (W.contents writer.old)
+        (W.contents writer.new) result }
+    ensures same_turns { (T.links turns.new ≡ T.links turns.old)
+        × (T.time turns.new ≡ T.time turns.old) }
     ensures failed { result ≡ Err RunFault.LinkFault → 0 < T.failures turns.new }
     ensures well { OnOk result (T.failures turns.new ≤ T.failures turns.old) }
-    ensures talk { Converses (T.pace (T.time turns.old)) (T.stops (T.time turns.old) ⊎ (0 < T.failures turns.new)) (talker client.old.caller (T.queue turns.old)) (T.queue turns.new) (R.remaining reader.old) (R.remaining reader.new) (W.contents writer.old) (W.contents writer.new) result }
+    ensures talk { Converses (T.pace (T.time turns.old))
+        (T.stops (T.time turns.old) ⊎ (0 < T.failures turns.new))
+        (talker client.old.caller (T.queue turns.old)) (T.queue turns.new) (R.remaining reader.old)
+        (R.remaining reader.new) (W.contents writer.old) (W.contents writer.new) result }
     ensures gone { IfAsked result (client.new.caller.id ≡ None) }
 {
     let end = ask_all::<P, T, R, W>(client, turns, reader, writer, why);
@@ -52,8 +59,8 @@ fn is_broken(end: &Result<ScriptEnd, RunFault>) -> bool
     matches!(end, Err(RunFault::LinkFault | RunFault::ClockFault))
 }
 
-/// Asks each command in turn and prints its reply, until one gets none. Behind the last an EOF is sent. What waits to be printed is
-/// handed on however that ends.
+/// Asks each command in turn and prints its reply, until one gets none. Behind the last an EOF is
+/// sent. What waits to be printed is handed on however that ends.
 fn ask_all<P: Ready<R>, T: Turns, R: Read, W: Write>(
     client: &mut Client,
     turns: &mut T,
@@ -61,11 +68,15 @@ fn ask_all<P: Ready<R>, T: Turns, R: Read, W: Write>(
     writer: &mut W,
     why: &mut Option<Why>,
 ) -> Result<ScriptEnd, RunFault>
-    ensures runs { Runs (R.remaining reader.old) (R.remaining reader.new) (W.contents writer.old) (W.contents writer.new) result }
-    ensures same_turns { (T.links turns.new ≡ T.links turns.old) × (T.time turns.new ≡ T.time turns.old) }
+    ensures runs { Runs (R.remaining reader.old) (R.remaining reader.new) (W.contents writer.old)
+        (W.contents writer.new) result }
+    ensures same_turns { (T.links turns.new ≡ T.links turns.old)
+        × (T.time turns.new ≡ T.time turns.old) }
     ensures failed { result ≡ Err RunFault.LinkFault → 0 < T.failures turns.new }
     ensures well { OnOk result (T.failures turns.new ≤ T.failures turns.old) }
-    ensures talk { Asks (T.pace (T.time turns.old)) (talker client.old.caller (T.queue turns.old)) (talker client.new.caller (T.queue turns.new)) (R.remaining reader.old) (R.remaining reader.new) (W.contents writer.old) (W.contents writer.new) result }
+    ensures talk { Asks (T.pace (T.time turns.old)) (talker client.old.caller (T.queue turns.old))
+        (talker client.new.caller (T.queue turns.new)) (R.remaining reader.old)
+        (R.remaining reader.new) (W.contents writer.old) (W.contents writer.new) result }
 {
     let mut out = WriteBuffer::new();
     let mut places = Places {
@@ -83,7 +94,8 @@ fn ask_all<P: Ready<R>, T: Turns, R: Read, W: Write>(
     end
 }
 
-/// Asks each command in turn, and puts its reply behind what waits to be printed, which is handed on before each read.
+/// Asks each command in turn, and puts its reply behind what waits to be printed, which is handed
+/// on before each read.
 fn ask_lines<P: Ready<R>, T: Turns, R: Read, W: Write>(
     client: &mut Client,
     turns: &mut T,
@@ -92,12 +104,17 @@ fn ask_lines<P: Ready<R>, T: Turns, R: Read, W: Write>(
     out: &mut WriteBuffer,
     writer: &mut W,
 ) -> Result<ScriptEnd, RunFault>
-    ensures runs { Runs (R.remaining reader.old) (R.remaining reader.new) (written_of (W.contents writer.old) out.old) (written_of (W.contents writer.new) out.new) result }
-    ensures same_turns { (T.links turns.new ≡ T.links turns.old) × (T.time turns.new ≡ T.time turns.old) }
+    ensures runs { Runs (R.remaining reader.old) (R.remaining reader.new)
+        (written_of (W.contents writer.old) out.old) (written_of (W.contents writer.new) out.new)
+        result }
+    ensures same_turns { (T.links turns.new ≡ T.links turns.old)
+        × (T.time turns.new ≡ T.time turns.old) }
     ensures failed { result ≡ Err RunFault.LinkFault → 0 < T.failures turns.new }
     ensures well { OnOk result (T.failures turns.new ≤ T.failures turns.old) }
-    ensures talk { Asks (T.pace (T.time turns.old)) (talker client.old.caller (T.queue turns.old)) (talker client.new.caller (T.queue turns.new)) (R.remaining reader.old) (R.remaining reader.new)
-        (written_of (W.contents writer.old) out.old) (written_of (W.contents writer.new) out.new) result }
+    ensures talk { Asks (T.pace (T.time turns.old)) (talker client.old.caller (T.queue turns.old))
+        (talker client.new.caller (T.queue turns.new)) (R.remaining reader.old)
+        (R.remaining reader.new) (written_of (W.contents writer.old) out.old)
+        (written_of (W.contents writer.new) out.new) result }
 {
     let mut lines: LineReader<KEPT_LEN> = LineReader::new(INPUT_LIMIT);
     let mut replied = 0;
@@ -134,17 +151,22 @@ fn ask_lines<P: Ready<R>, T: Turns, R: Read, W: Write>(
     })
 }
 
-/// Takes turns until the reader has something to give, or there is no connection: then a read may wait.
+/// Takes turns until the reader has something to give, or there is no connection: then a read may
+/// wait.
 fn wait_for_input<P: Ready<R>, T: Turns, R: Read>(
     client: &mut Client,
     turns: &mut T,
     reader: &mut R,
 ) -> Result<(), RunFault>
-    ensures idles { OnOk result (Idles (T.pace (T.time turns.old)) (talker client.old.caller (T.queue turns.old)) (talker client.new.caller (T.queue turns.new))) }
+    ensures idles { OnOk result
+        (Idles (T.pace (T.time turns.old)) (talker client.old.caller (T.queue turns.old))
+            (talker client.new.caller (T.queue turns.new))) }
     ensures input { R.remaining reader.new ≡ R.remaining reader.old }
-    ensures faults { IfErr result (IsTurnFault (T.stops (T.time turns.old)) (T.failures turns.new)) }
+    ensures faults { IfErr result
+        (IsTurnFault (T.stops (T.time turns.old)) (T.failures turns.new)) }
     ensures well { OnOk result (T.failures turns.new ≤ T.failures turns.old) }
-    ensures same_turns { (T.links turns.new ≡ T.links turns.old) × (T.time turns.new ≡ T.time turns.old) }
+    ensures same_turns { (T.links turns.new ≡ T.links turns.old)
+        × (T.time turns.new ≡ T.time turns.old) }
 {
     for turn in 0..u64::MAX {
         if client.is_over() {
@@ -169,9 +191,13 @@ fn ask_line<T: Turns, W: Write>(
     writer: &mut W,
 ) -> Result<bool, RunFault>
     requires few { replied ≤ INPUT_LIMIT }
-    ensures asks { AsksLine (T.pace (T.time turns.old)) (talker client.old.caller (T.queue turns.old)) (talker client.new.caller (T.queue turns.new)) replied line.now
-        (written_of (W.contents writer.old) out.old) (written_of (W.contents writer.new) out.new) result }
-    ensures same_turns { (T.links turns.new ≡ T.links turns.old) × (T.time turns.new ≡ T.time turns.old) }
+    ensures asks { AsksLine (T.pace (T.time turns.old))
+        (talker client.old.caller (T.queue turns.old))
+        (talker client.new.caller (T.queue turns.new)) replied line.now
+        (written_of (W.contents writer.old) out.old) (written_of (W.contents writer.new) out.new)
+        result }
+    ensures same_turns { (T.links turns.new ≡ T.links turns.old)
+        × (T.time turns.new ≡ T.time turns.old) }
     ensures failed { result ≡ Err RunFault.LinkFault → 0 < T.failures turns.new }
     ensures well { OnOk result (T.failures turns.new ≤ T.failures turns.old) }
 {

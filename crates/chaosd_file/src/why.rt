@@ -1,4 +1,5 @@
-//! What is said of a run besides its result: what is wrong with a bad line, and why a command got no reply.
+//! What is said of a run besides its result: what is wrong with a bad line, and why a command got
+//! no reply.
 use chaosd_io::{LINE_LIMIT, without_return};
 use file_client::NoReply;
 use thiserror::Error;

@@ -1,8 +1,10 @@
-//! Scripts: lines played one after another in a laboratory of any kind, and what came of each written.
+//! Scripts: lines played one after another in a laboratory of any kind, and what came of each
+//! written.
 //!
-//! A laboratory implements [`Stage`], which says what a line does and prints, and [`run_script`] plays a reader's lines in it.
-//! `standing` is where a script stands, `player` plays a line, `room` makes room for the text of an event, and `run` takes the lines of a reader one after another and hands on
-//! what waits. The engines `lab` and `filelab` stand on it.
+//! A laboratory implements [`Stage`], which says what a line does and prints, and [`run_script`]
+//! plays a reader's lines in it. `standing` is where a script stands, `player` plays a line, `room`
+//! makes room for the text of an event, and `run` takes the lines of a reader one after another and
+//! hands on what waits. The engines `lab` and `filelab` stand on it.
 #![tactic(auto)]
 
 mod player;

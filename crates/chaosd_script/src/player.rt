@@ -24,7 +24,8 @@ pub struct Player<S: Stage> {
 
 impl<S: Stage> Player<S> {
     pub fn new(alloc: Global) -> Self
-        ensures plays { (before : Option (List ℕ)) → PlaysLines S.script before (written_of before result.out) result.at [] }
+        ensures plays { (before : Option (List ℕ)) →
+            PlaysLines S.script before (written_of before result.out) result.at [] }
         ensures count { result.at.lines ≡ 0 }
     {
         Player {
@@ -40,7 +41,8 @@ impl<S: Stage> Player<S> {
 
     /// Hands on the text that waits.
     pub fn hand_on<W: Write>(&mut self, writer: &mut W) -> Result<(), RunFault>
-        ensures kept { Keeps (written_of (W.contents writer.old) self.old.out) (written_of (W.contents writer.new) self.new.out) }
+        ensures kept { Keeps (written_of (W.contents writer.old) self.old.out)
+            (written_of (W.contents writer.new) self.new.out) }
         ensures empty { OnOk result (self.new.out ≡ []) }
         ensures same { self.new.at ≡ self.old.at }
         ensures fault { IfErr result (λ fault. fault ≡ WriteFault) }
@@ -48,14 +50,21 @@ impl<S: Stage> Player<S> {
         hand_on(&mut self.out, writer)
     }
 
-    /// Plays the first line. A function of its own, so that a later line has no room for a laboratory to be made in.
+    /// Plays the first line. A function of its own, so that a later line has no room for a
+    /// laboratory to be made in.
     #[inline(never)]
     fn play_first(&mut self, raw: &[u8]) -> Result<(), RunFault>
         requires few { self.old.at.lines ≤ INPUT_LIMIT }
         requires first { self.old.at.lab ≡ None }
         requires short { length (strip_last 13 raw.now) ≤ LINE_LIMIT }
-        ensures plays { OnOk result ((held : Option (List ℕ)) → PlaysOn S.script (written_of held self.old.out) self.old.at raw.now (written_of held self.new.out) self.new.at) }
-        ensures stops { IfErr result (λ fault. (held : Option (List ℕ)) → StopsOn S.script (written_of held self.old.out) self.old.at raw.now (written_of held self.new.out) fault) }
+        ensures plays { OnOk result
+            ((held : Option (List ℕ)) →
+                PlaysOn S.script (written_of held self.old.out) self.old.at raw.now
+                    (written_of held self.new.out) self.new.at) }
+        ensures stops { IfErr result
+            (λ fault. (held : Option (List ℕ)) →
+                StopsOn S.script (written_of held self.old.out) self.old.at raw.now
+                    (written_of held self.new.out) fault) }
         ensures count { OnOk result (self.new.at.lines ≡ self.old.at.lines + 1) }
     {
         let first = without_return(raw);
@@ -69,8 +78,12 @@ impl<S: Stage> Player<S> {
     /// Plays a line.
     fn play_one<W: Write>(&mut self, writer: &mut W, raw: &[u8]) -> Result<(), RunFault>
         requires { self.old.at.lines ≤ INPUT_LIMIT }
-        ensures plays { OnOk result (PlaysOn S.script (written_of (W.contents writer.old) self.old.out) self.old.at raw.now (written_of (W.contents writer.new) self.new.out) self.new.at) }
-        ensures stops { IfErr result (StopsOn S.script (written_of (W.contents writer.old) self.old.out) self.old.at raw.now (written_of (W.contents writer.new) self.new.out)) }
+        ensures plays { OnOk result
+            (PlaysOn S.script (written_of (W.contents writer.old) self.old.out) self.old.at raw.now
+                (written_of (W.contents writer.new) self.new.out) self.new.at) }
+        ensures stops { IfErr result
+            (StopsOn S.script (written_of (W.contents writer.old) self.old.out) self.old.at raw.now
+                (written_of (W.contents writer.new) self.new.out)) }
         ensures count { OnOk result (self.new.at.lines ≡ self.old.at.lines + 1) }
     {
         let line = without_return(raw);
@@ -90,12 +103,18 @@ impl<S: Stage> Player<S> {
     /// Plays a line, and hands on what waits before it where its text might not fit.
     pub fn play_line<W: Write>(&mut self, writer: &mut W, raw: &[u8]) -> Result<(), RunFault>
         requires { self.old.at.lines ≤ INPUT_LIMIT }
-        ensures plays { OnOk result ((before : Option (List ℕ)) (ended : List (List ℕ))
-            → PlaysLines S.script before (written_of (W.contents writer.old) self.old.out) self.old.at ended
-            → PlaysLines S.script before (written_of (W.contents writer.new) self.new.out) self.new.at (ended ++ raw.now ∷ [])) }
-        ensures stops { IfErr result (λ fault. (before : Option (List ℕ)) (ended : List (List ℕ))
-            → PlaysLines S.script before (written_of (W.contents writer.old) self.old.out) self.old.at ended
-            → StopsLine S.script before (written_of (W.contents writer.new) self.new.out) ended raw.now fault) }
+        ensures plays { OnOk result
+            ((before : Option (List ℕ)) (ended : List (List ℕ)) →
+                PlaysLines S.script before (written_of (W.contents writer.old) self.old.out)
+                    self.old.at ended →
+                PlaysLines S.script before (written_of (W.contents writer.new) self.new.out)
+                    self.new.at (ended ++ raw.now ∷ [])) }
+        ensures stops { IfErr result
+            (λ fault. (before : Option (List ℕ)) (ended : List (List ℕ)) →
+                PlaysLines S.script before (written_of (W.contents writer.old) self.old.out)
+                    self.old.at ended →
+                StopsLine S.script before (written_of (W.contents writer.new) self.new.out) ended
+                    raw.now fault) }
         ensures count { OnOk result (self.new.at.lines ≡ self.old.at.lines + 1) }
     {
         make_room(&mut self.out, writer)?;
@@ -104,12 +123,19 @@ impl<S: Stage> Player<S> {
 
     /// Writes what is said at the end.
     pub fn finish<W: Write>(&mut self, writer: &mut W) -> Result<(), RunFault>
-        ensures plays { OnOk result ((input rest before : Option (List ℕ))
-            → PlaysDone S.script input rest before (written_of (W.contents writer.old) self.old.out) self.old.at
-            → IfSome input (PlaysWithin S.script before (written_of (W.contents writer.new) self.new.out) self.new.at.refused)) }
-        ensures stops { IfErr result (λ fault. (input rest before : Option (List ℕ))
-            → PlaysDone S.script input rest before (written_of (W.contents writer.old) self.old.out) self.old.at
-            → StopsRun S.script input rest before (written_of (W.contents writer.new) self.new.out) fault) }
+        ensures plays { OnOk result
+            ((input rest before : Option (List ℕ)) →
+                PlaysDone S.script input rest before
+                    (written_of (W.contents writer.old) self.old.out) self.old.at →
+                IfSome input
+                    (PlaysWithin S.script before (written_of (W.contents writer.new) self.new.out)
+                        self.new.at.refused)) }
+        ensures stops { IfErr result
+            (λ fault. (input rest before : Option (List ℕ)) →
+                PlaysDone S.script input rest before
+                    (written_of (W.contents writer.old) self.old.out) self.old.at →
+                StopsRun S.script input rest before
+                    (written_of (W.contents writer.new) self.new.out) fault) }
     {
         make_room(&mut self.out, writer)?;
         let Some(lab) = &self.at.lab else {

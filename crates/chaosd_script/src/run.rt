@@ -11,37 +11,57 @@ use chaosd_io::{INPUT_LIMIT, KEPT_LEN, LineReader, RunFault};
 use std::alloc::Global;
 use std::io::{Read, Write};
 
-/// Plays a script in a laboratory, to the end of the input, and writes what came of each line. The answer is how many events were
-/// refused.
+/// Plays a script in a laboratory, to the end of the input, and writes what came of each line. The
+/// result is how many events were refused.
 ///
-/// What came of the lines that were read is handed on to the writer before the next read. The first fault that is met is the
-/// answer, and what came of the lines before it was handed on. The cost is a look at each byte and what each line costs.
+/// What came of the lines that were read is handed on to the writer before the next read. The run
+/// ends by its first fault, and what came of the lines before it was handed on. The cost is a look
+/// at each byte and what each line costs.
 ///
 /// # Errors
-/// [`RunFault`]: 1 where the reader fails or is interrupted 2,000,000 times, 2 where the writer fails, 3 where more than
-/// 1,048,576 bytes come, 4 where a line or the start ran out of memory, 5 at a line that is of no form.
+/// [`RunFault`]: 1 where the reader fails or is interrupted 2,000,000 times, 2 where the writer
+/// fails, 3 where more than 1,048,576 bytes come, 4 where a line or the start ran out of memory, 5
+/// at a line that is of no form.
 pub fn run_script<S: Stage, R: Read, W: Write>(
     alloc: Global,
     reader: &mut R,
     writer: &mut W,
 ) -> Result<u64, RunFault>
-    // What was written is the text of all lines that were read, and the answer counts the events that were refused.
-    ensures text { IfOk result (λ refused. IfSome (R.remaining reader.old) (PlaysAll S.script (W.contents writer.old) (W.contents writer.new) refused)) }
+    // If the run ends well, what was written is the text of all lines that were read, as the
+    // laboratory's language has it, and the result counts the refused events. So no line was bad.
+    ensures text { IfOk result
+        (λ refused. IfSome (R.remaining reader.old)
+            (PlaysAll S.script (W.contents writer.old) (W.contents writer.new) refused)) }
+    // The run ends well only at the input's end.
     ensures ended { OnOk result (IsAtEnd (R.remaining reader.new)) }
-    ensures within { OnOk result (IfSome (R.remaining reader.old) (λ input. length input ≤ INPUT_LIMIT)) }
+    // The run never ends well where more than 1,048,576 bytes came.
+    ensures within { OnOk result
+        (IfSome (R.remaining reader.old) (λ input. length input ≤ INPUT_LIMIT)) }
 
-    // The line that is told is the first that is missing or of no form, it ends within the limit or the input does, and the text of the
-    // lines before it was written.
-    ensures bad { (number : ℕ) → result ≡ Err (RunFault.BadScript number) → IfSome (R.remaining reader.old) (StopsAt S.script (W.contents writer.old) (W.contents writer.new) number) }
+    // The number of a bad line is that of the first line that is missing or of no form, counted
+    // from 1. This line ends within the limit or the input does, and the text of the lines before
+    // it was written.
+    ensures bad { (number : ℕ) → result ≡ Err (RunFault.BadScript number) →
+        IfSome (R.remaining reader.old)
+            (StopsAt S.script (W.contents writer.old) (W.contents writer.new) number) }
 
-    // A script is refused as too long only where it is and each line that ended within the limit was played.
-    ensures too_long { result ≡ Err RunFault.InputTooLong → IfSome (R.remaining reader.old) (PlaysFront S.script (W.contents writer.old) (W.contents writer.new)) }
+    // `InputTooLong` comes only where the input is too long and each line that ended within the
+    // limit was played. None of these is bad.
+    ensures too_long { result ≡ Err RunFault.InputTooLong →
+        IfSome (R.remaining reader.old)
+            (PlaysFront S.script (W.contents writer.old) (W.contents writer.new)) }
 
-    // Where the reader failed, each line that ended in what it had given was played, and no more.
-    ensures unread { result ≡ Err RunFault.ReadFault → PlaysRead S.script (R.remaining reader.old) (R.remaining reader.new) (W.contents writer.old) (W.contents writer.new) }
+    // If the reader failed, each line that ended in what it had given was played, and no more. None
+    // of these is bad.
+    ensures unread { result ≡ Err RunFault.ReadFault →
+        PlaysRead S.script (R.remaining reader.old) (R.remaining reader.new) (W.contents writer.old)
+            (W.contents writer.new) }
 
-    // When memory runs out, the lines before were played, and what the language says of it is told; the line is of the form of its place.
-    ensures no_memory { result ≡ Err RunFault.NoMemory → IfSome (R.remaining reader.old) (Wants S.script (W.contents writer.old) (W.contents writer.new)) }
+    // If memory runs out, the lines before were played, the line that ran out of memory is of the
+    // form of its place, and what the language prints of that was written.
+    ensures no_memory { result ≡ Err RunFault.NoMemory →
+        IfSome (R.remaining reader.old)
+            (Wants S.script (W.contents writer.old) (W.contents writer.new)) }
 {
     let mut player: Player<S> = Player::new(alloc);
     let end = play_all(&mut player, reader, writer);
@@ -60,13 +80,20 @@ fn play_all<S: Stage, R: Read, W: Write>(
     writer: &mut W,
 ) -> Result<(), RunFault>
     requires { player.old.at.lines ≡ 0 }
-    ensures plays { OnOk result ((before : Option (List ℕ))
-        → PlaysLines S.script before (written_of (W.contents writer.old) player.old.out) player.old.at []
-        → IfSome (R.remaining reader.old) (PlaysWithin S.script before (written_of (W.contents writer.new) player.new.out) player.new.at.refused)) }
+    ensures plays { OnOk result
+        ((before : Option (List ℕ)) →
+            PlaysLines S.script before (written_of (W.contents writer.old) player.old.out)
+                player.old.at [] →
+            IfSome (R.remaining reader.old)
+                (PlaysWithin S.script before (written_of (W.contents writer.new) player.new.out)
+                    player.new.at.refused)) }
     ensures ended { OnOk result (IsAtEnd (R.remaining reader.new)) }
-    ensures stops { IfErr result (λ fault. (before : Option (List ℕ))
-        → PlaysLines S.script before (written_of (W.contents writer.old) player.old.out) player.old.at []
-        → StopsRun S.script (R.remaining reader.old) (R.remaining reader.new) before (written_of (W.contents writer.new) player.new.out) fault) }
+    ensures stops { IfErr result
+        (λ fault. (before : Option (List ℕ)) →
+            PlaysLines S.script before (written_of (W.contents writer.old) player.old.out)
+                player.old.at [] →
+            StopsRun S.script (R.remaining reader.old) (R.remaining reader.new) before
+                (written_of (W.contents writer.new) player.new.out) fault) }
 {
     let mut lines: LineReader<KEPT_LEN> = LineReader::new(INPUT_LIMIT);
     'reads: loop {
@@ -87,12 +114,18 @@ fn play_ended<S: Stage, W: Write>(
     writer: &mut W,
 ) -> Result<(), RunFault>
     requires { player.old.at.lines + left_of lines.old ≤ INPUT_LIMIT }
-    ensures plays { OnOk result ((input rest before : Option (List ℕ))
-        → PlaysGiven S.script input rest before (written_of (W.contents writer.old) player.old.out) player.old.at lines.old
-        → PlaysGiven S.script input rest before (written_of (W.contents writer.new) player.new.out) player.new.at lines.new) }
-    ensures stops { IfErr result (λ fault. (input rest before : Option (List ℕ))
-        → PlaysGiven S.script input rest before (written_of (W.contents writer.old) player.old.out) player.old.at lines.old
-        → StopsRun S.script input rest before (written_of (W.contents writer.new) player.new.out) fault) }
+    ensures plays { OnOk result
+        ((input rest before : Option (List ℕ)) →
+            PlaysGiven S.script input rest before
+                (written_of (W.contents writer.old) player.old.out) player.old.at lines.old →
+            PlaysGiven S.script input rest before
+                (written_of (W.contents writer.new) player.new.out) player.new.at lines.new) }
+    ensures stops { IfErr result
+        (λ fault. (input rest before : Option (List ℕ)) →
+            PlaysGiven S.script input rest before
+                (written_of (W.contents writer.old) player.old.out) player.old.at lines.old →
+            StopsRun S.script input rest before (written_of (W.contents writer.new) player.new.out)
+                fault) }
     ensures none { OnOk result (lines.new.waiting ≡ []) }
     ensures room { OnOk result (lines.new.room ≡ lines.old.room) }
     ensures count { OnOk result (player.new.at.lines + left_of lines.new ≤ INPUT_LIMIT) }
@@ -111,12 +144,20 @@ fn play_last<S: Stage, W: Write>(
 ) -> Result<(), RunFault>
     requires room { player.old.at.lines ≤ INPUT_LIMIT }
     requires none { lines.now.waiting ≡ [] }
-    ensures plays { OnOk result ((input rest before : Option (List ℕ))
-        → PlaysGiven S.script input rest before (written_of (W.contents writer.old) player.old.out) player.old.at lines.now → IsAtEnd rest
-        → PlaysDone S.script input rest before (written_of (W.contents writer.new) player.new.out) player.new.at) }
-    ensures stops { IfErr result (λ fault. (input rest before : Option (List ℕ))
-        → PlaysGiven S.script input rest before (written_of (W.contents writer.old) player.old.out) player.old.at lines.now → IsAtEnd rest
-        → StopsRun S.script input rest before (written_of (W.contents writer.new) player.new.out) fault) }
+    ensures plays { OnOk result
+        ((input rest before : Option (List ℕ)) →
+            PlaysGiven S.script input rest before
+                (written_of (W.contents writer.old) player.old.out) player.old.at lines.now →
+            IsAtEnd rest →
+            PlaysDone S.script input rest before (written_of (W.contents writer.new) player.new.out)
+                player.new.at) }
+    ensures stops { IfErr result
+        (λ fault. (input rest before : Option (List ℕ)) →
+            PlaysGiven S.script input rest before
+                (written_of (W.contents writer.old) player.old.out) player.old.at lines.now →
+            IsAtEnd rest →
+            StopsRun S.script input rest before (written_of (W.contents writer.new) player.new.out)
+                fault) }
 {
     let Some(line) = lines.last() else {
         return Ok(());
