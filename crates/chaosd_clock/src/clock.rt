@@ -20,12 +20,17 @@ pub struct Epoch {
 }
 
 impl Epoch {
-    /// Now. The first number is the milliseconds since 1970, and as many indices are passed over as their low 8 bits say.
+    /// The epoch that begins now. The first number is the milliseconds since 1970, and as many
+    /// indices are passed over as their low 8 bits say.
     ///
     /// # Errors
     /// `ClockFault` where the clock can't be read.
     pub fn new<C: Dial>(clock: &C) -> Result<Self, RunFault>
+        // An epoch has the clock's own time, and as first number the whole milliseconds since 1970,
+        // at most the greatest `u64`. As many indices are passed over as the low 8 bits of these
+        // say.
         ensures begins { IfOk result (BeginsBy (C.shows clock.now) (C.dates clock.now)) }
+        // It fails only by the clock, where that may fail.
         ensures faults { IfErr result (λ fault. (fault ≡ RunFault.ClockFault) × C.fails clock.now) }
     {
         match (clock.since_start(), clock.date()) {
@@ -41,13 +46,16 @@ impl Epoch {
         }
     }
 
-    /// Now, with this first number and so many indices to pass over: where both are drawn at random, who can't read the packets of
-    /// the run can't guess them.
+    /// The epoch that begins now, with this first number and so many indices to pass over. If both
+    /// are drawn at random, somebody who can't read the packets of the run can't guess them.
     ///
     /// # Errors
     /// `ClockFault` where the clock can't be read.
     pub fn drawn<C: Dial>(clock: &C, first: u16, passed: u8) -> Result<Self, RunFault>
+        // A drawn epoch has the clock's own time, with the first number and the count of indices
+        // that were handed to it.
         ensures begins { IfOk result (DrawnBy (C.shows clock.now) first passed) }
+        // It fails only by the clock, where that may fail.
         ensures faults { IfErr result (λ fault. (fault ≡ RunFault.ClockFault) × C.fails clock.now) }
     {
         match clock.since_start() {
@@ -60,9 +68,15 @@ impl Epoch {
         }
     }
 
-    /// The milliseconds since then.
+    /// The milliseconds since the epoch.
+    ///
+    /// # Errors
+    /// `ClockFault` where the clock can't be read.
     pub fn moment<C: Dial>(&self, clock: &C) -> Result<u64, RunFault>
+        // A moment is the whole milliseconds from the epoch's time to a time that the clock showed,
+        // and 0 where the clock went back.
         ensures moment { IfOk result (IsMoment (C.shows clock.now) self.now) }
+        // It fails only by the clock, where that may fail.
         ensures faults { IfErr result (λ fault. (fault ≡ RunFault.ClockFault) × C.fails clock.now) }
     {
         match clock.since_start() {
@@ -71,8 +85,9 @@ impl Epoch {
         }
     }
 
-    /// The number that a connection of this moment begins with: the low 16 bits of the first number and the moment's milliseconds.
+    /// The number that a connection of this moment begins with.
     pub fn number(&self, moment: u64) -> PktNum
+        // The number is the low 16 bits of the first number and the moment's milliseconds.
         ensures { result ≡ number_of self.now moment }
     {
         let low = self.first % 65_536 + moment % 65_536;
@@ -81,6 +96,7 @@ impl Epoch {
 
     /// How many indices the run passes over, which an older process may have had.
     pub fn passed(&self) -> u8
+        // The result is the count of indices that the epoch has.
         ensures { result ≡ self.now.passed }
     {
         self.passed

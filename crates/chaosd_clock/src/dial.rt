@@ -5,7 +5,8 @@ ghost use Rattle.std.specs.Duration.{as_nanos};
 use std::io;
 use std::time::{Clock, Duration};
 
-/// A clock that can be read. Any [`Clock`] is one, of which nothing is claimed, as nobody knows what the time is.
+/// A clock that can be read. Any [`Clock`] is one, of which nothing is claimed, as nobody knows
+/// what the time is.
 pub trait Dial {
     /// The nanoseconds, since a start of its own, that it may show.
     ghost shows: { Self → ℕ → Type 0 };
@@ -16,12 +17,14 @@ pub trait Dial {
     /// That it may be one that can't be read.
     ghost fails: { Self → Type 0 };
 
-    /// The time since a start of its own.
+    /// The time since a start of the clock's own.
     ///
     /// # Errors
     /// Where the clock can't be read.
     fn since_start(&self) -> io::Result<Duration>
+        // The clock shows only a time of its own that it may show.
         ensures shown { IfOk result (λ time. shows self.now (as_nanos time)) }
+        // It fails only where the clock is one that can't always be read.
         ensures fails { IfErr result (λ _. fails self.now) };
 
     /// The time since 1970.
@@ -29,7 +32,9 @@ pub trait Dial {
     /// # Errors
     /// Where the clock can't be read.
     fn date(&self) -> io::Result<Duration>
+        // The clock shows only a time since 1970 that it may show.
         ensures shown { IfOk result (λ time. dates self.now (as_nanos time)) }
+        // It fails only where the clock is one that can't always be read.
         ensures fails { IfErr result (λ _. fails self.now) };
 }
 

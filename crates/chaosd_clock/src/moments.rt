@@ -14,7 +14,8 @@ const MOST_FAILURES: u32 = 1_000;
 
 /// A source of moments. Each moment is read once, after the moment before.
 pub trait Moments {
-    /// What the moments are read from: a clock and its reading when the run began, where there is a clock.
+    /// What the moments are read from: a clock and its reading when the run began, where there is a
+    /// clock.
     ghost Time: { Type 0 };
 
     ghost time: { Self → Time };
@@ -36,17 +37,26 @@ pub trait Moments {
     /// # Errors
     /// `ClockFault` where it can't be read.
     fn next(&mut self) -> Result<u64, RunFault>
+        // The moment that is read comes behind all that were read since any earlier state, and no
+        // other moment does. If none can be read, none comes. By a clock, each moment that is read
+        // is one that the clock may show since the run began, also where a reading fails and the
+        // moment before counts once more.
         ensures reads { Reads (read self.old) (read self.new) (moments_in result) }
+        // What the moments are read from stays.
         ensures same_time { time self.new ≡ time self.old }
-        ensures faults { IfErr result (λ fault. (fault ≡ RunFault.ClockFault) × stops (time self.old)) };
+        // It fails only where the moment may be one that can't be read.
+        ensures faults { IfErr result
+            (λ fault. (fault ≡ RunFault.ClockFault) × stops (time self.old)) };
 
     /// The number with which a connection of this moment begins.
     fn start(&self, moment: u64) -> PktNum
+        // The number is the source's for this moment.
         ensures { result ≡ starts (time self.now) moment };
 }
 
-/// The moments of a run by a clock. Where the clock can't be read, the moment that it showed last counts once more; after 1,000
-/// such readings in a row the next one fails.
+/// The moments of a run by a clock. Where the clock can't be read, the moment that it showed last
+/// counts once more; after 1,000 such readings in a row the next reading fails. Only a test shows
+/// this number.
 #[derive(Drop)]
 pub struct ClockMoments<'a, C: Dial> {
     clock: &'a C,
@@ -58,12 +68,17 @@ pub struct ClockMoments<'a, C: Dial> {
 }
 
 impl<'a, C: Dial> ClockMoments<'a, C> {
-    /// The run begins now, by the clock.
+    /// A run that begins now, by the clock.
     ///
     /// # Errors
-    /// `ClockFault`.
+    /// `ClockFault` where the clock can't be read.
     pub fn new(clock: &'a C) -> Result<Self, RunFault>
-        ensures begins { IfOk result (λ moments. (moments.clock.now ≡ clock.now) × BeginsBy (C.shows clock.now) (C.dates clock.now) moments.epoch × (moments.last ≡ 0)) }
+        // The source begins with what the clock shows, at moment 0.
+        ensures begins { IfOk result
+            (λ moments. (moments.clock.now ≡ clock.now)
+                × BeginsBy (C.shows clock.now) (C.dates clock.now) moments.epoch
+                × (moments.last ≡ 0)) }
+        // It fails only by the clock, where that may fail.
         ensures faults { IfErr result (λ fault. (fault ≡ RunFault.ClockFault) × C.fails clock.now) }
     {
         Ok(ClockMoments {
@@ -89,9 +104,13 @@ impl<C: Dial> Moments for ClockMoments<'_, C> {
 
     ghost stops = { λ time. C.fails time.0 };
 
-    ghost read = { λ now start moments. (now.clock.now ≡ start.clock.now) × (now.epoch ≡ start.epoch) × ShownSince (C.shows start.clock.now) start.epoch start.last now.last moments };
+    ghost read = { λ now start moments. (now.clock.now ≡ start.clock.now)
+        × (now.epoch ≡ start.epoch)
+        × ShownSince (C.shows start.clock.now) start.epoch start.last now.last moments };
 
-    ghost began = { λ moments. (refl, refl, λ shown. (All-nil (IsMoment (C.shows moments.clock.now) moments.epoch), shown)) };
+    ghost began = { λ moments.
+        (refl, refl, λ shown.
+            (All-nil (IsMoment (C.shows moments.clock.now) moments.epoch), shown)) };
 
     fn next(&mut self) -> Result<u64, RunFault> {
         match self.epoch.moment(self.clock) {

@@ -11,9 +11,13 @@ use chaos_lab::{KeptItem, LabFault, Stamped, StepDone, Stepped};
 use chaos_packet::Opcode;
 use chaosd_io::{NotWritten, WriteBuffer, put_decimal, put_line, put_octal_three, put_text};
 
-/// A word or more, and a name.
+/// Writes a word or more, and a name, as a line.
+///
+/// # Errors
+/// `NotWritten` if not all of it fits.
 #[tactic(auto, unfolding(crate::specs::Answers::named_line))]
 pub fn put_named(out: &mut WriteBuffer, words: &str, name: &str) -> Result<(), NotWritten>
+    // If it ends well, the line of these words and this name was printed.
     ensures { OnOk result (out.new ≡ out.old ++ named_line words.now name.now) }
 {
     out.put(words.as_bytes())?;
@@ -92,8 +96,12 @@ fn put_ticked(out: &mut WriteBuffer, ticked: Ticked) -> Result<(), NotWritten>
     }
 }
 
-/// What an event did that was taken.
+/// Writes what an event did that was taken.
+///
+/// # Errors
+/// `NotWritten` if not all of it fits.
 pub fn put_stepped(out: &mut WriteBuffer, stepped: &Stepped) -> Result<(), NotWritten>
+    // If it ends well, what the language says of an event that was taken was printed.
     ensures { OnOk result (out.new ≡ out.old ++ stepped_text stepped.now) }
 {
     match stepped {
@@ -111,7 +119,8 @@ pub fn put_stepped(out: &mut WriteBuffer, stepped: &Stepped) -> Result<(), NotWr
 /// What an event did that was taken, where the user whom it let read has read these items.
 #[inline(always)]
 fn put_done(out: &mut WriteBuffer, done: StepDone, items: &[KeptItem]) -> Result<(), NotWritten>
-    ensures { (packet : PacketView) → OnOk result (out.new ≡ out.old ++ stepped_text (in_full packet items.now done)) }
+    ensures { (packet : PacketView) →
+        OnOk result (out.new ≡ out.old ++ stepped_text (in_full packet items.now done)) }
 {
     match done {
         StepDone::Wrote(num) => put_numbered(out, "wrote", usize::from(num.0)),
@@ -127,8 +136,12 @@ fn put_done(out: &mut WriteBuffer, done: StepDone, items: &[KeptItem]) -> Result
     }
 }
 
-/// Why an event was refused.
+/// Writes why an event was refused.
+///
+/// # Errors
+/// `NotWritten` if not all of it fits.
 pub fn put_refusal(out: &mut WriteBuffer, fault: LabFault) -> Result<(), NotWritten>
+    // If it ends well, what the language says of a refused event was printed.
     ensures { OnOk result (out.new ≡ out.old ++ refusal_text fault) }
 {
     match fault {
@@ -147,7 +160,8 @@ pub fn put_answer(
     answer: Result<StepDone, LabFault>,
     items: &[KeptItem],
 ) -> Result<(), NotWritten>
-    ensures { (packet : PacketView) → OnOk result (out.new ≡ out.old ++ answer_text (told packet items.now answer)) }
+    ensures { (packet : PacketView) →
+        OnOk result (out.new ≡ out.old ++ answer_text (told packet items.now answer)) }
 {
     match answer {
         Ok(done) => put_done(out, done, items),
@@ -190,8 +204,12 @@ fn put_pair(out: &mut WriteBuffer, num: u16, ack: u16) -> Result<(), NotWritten>
     out.put(b"\n")
 }
 
-/// The copies from this place on.
+/// Writes the copies from this place on.
+///
+/// # Errors
+/// `NotWritten` if not all of it fits.
 pub fn put_copies(out: &mut WriteBuffer, copies: &[Stamped], from: usize) -> Result<(), NotWritten>
+    // If it ends well, the lines of the copies from this place on were printed.
     ensures { OnOk result (out.new ≡ out.old ++ copies_text from (drop from copies.now)) }
 {
     let mut place = from;
@@ -202,9 +220,13 @@ pub fn put_copies(out: &mut WriteBuffer, copies: &[Stamped], from: usize) -> Res
     Ok(())
 }
 
-/// How many packets both ends store.
+/// Writes how many packets both ends store.
+///
+/// # Errors
+/// `NotWritten` if not all of it fits.
 #[tactic(auto, unfolding(crate::specs::Answers::stored_line))]
 pub fn put_stored(out: &mut WriteBuffer, a: usize, b: usize) -> Result<(), NotWritten>
+    // If it ends well, the line of what both ends store was printed.
     ensures { OnOk result (out.new ≡ out.old ++ stored_line a b) }
 {
     out.put(b"stored a ")?;

@@ -19,8 +19,9 @@ pub enum Command {
 }
 
 impl Command {
-    /// The event, with the bytes of its text.
+    /// The event of the command, with the bytes of its text.
     pub fn event<'a>(self, bytes: &'a [u8]) -> Event<'a>
+        // The result is the event that the command asks for with these bytes.
         ensures { happening_of result ≡ happening_said bytes.now self }
     {
         match self {

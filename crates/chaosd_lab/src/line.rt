@@ -71,7 +71,7 @@ impl Stage for LabStage {
     }
 }
 
-/// Whether a line is `settle`. Most lines are told from it by their length, without a call of the comparison.
+/// Whether a line is `settle`. Most lines differ from it in length, so no comparison is called.
 #[inline(always)]
 fn is_settle(line: &[u8]) -> bool
     ensures { result ≡ bytes_eq line.now settle_word }
@@ -82,7 +82,8 @@ fn is_settle(line: &[u8]) -> bool
 /// The laboratory of a first line, and the line of its first copy.
 ///
 /// # Errors
-/// `BadScript` with this number where the line is of no form, `NoMemory`, and `WriteFault` where the text doesn't fit.
+/// `BadScript` with this number where the line is of no form, `NoMemory`, and `WriteFault` where
+/// the text doesn't fit.
 #[inline(never)]
 fn begin(
     alloc: Global,
@@ -90,9 +91,13 @@ fn begin(
     line: &[u8],
     number: u64,
 ) -> Result<LabStage, RunFault>
-    ensures begun { IfOk result (λ stage. (first_of line.now ≡ Some stage) × (out.new ≡ out.old ++ copies_text 0 stage.copies)) }
-    ensures bad { (n : ℕ) → result ≡ Err (RunFault.BadScript n) → (n ≡ number) × (first_of line.now ≡ None) × (out.new ≡ out.old) }
-    ensures no_memory { result ≡ Err RunFault.NoMemory → (first_of line.now ≢ None) × (out.new ≡ out.old) }
+    ensures begun { IfOk result
+        (λ stage. (first_of line.now ≡ Some stage)
+            × (out.new ≡ out.old ++ copies_text 0 stage.copies)) }
+    ensures bad { (n : ℕ) → result ≡ Err (RunFault.BadScript n) →
+        (n ≡ number) × (first_of line.now ≡ None) × (out.new ≡ out.old) }
+    ensures no_memory { result ≡ Err RunFault.NoMemory →
+        (first_of line.now ≢ None) × (out.new ≡ out.old) }
     ensures faults { IfErr result (λ fault. IsLineFault fault) }
 {
     let Some(start) = start_of(line) else {
@@ -132,8 +137,8 @@ fn put_ends(out: &mut WriteBuffer, lab: &Lab) -> Result<(), NotWritten>
 /// Lets the event of a line happen, writes what came of it, and says whether it was refused.
 ///
 /// # Errors
-/// `BadScript` with this number where the line asks for no event, `NoMemory`, which is written too, and `WriteFault` where the
-/// text doesn't fit.
+/// `BadScript` with this number where the line asks for no event, `NoMemory`, which is written too,
+/// and `WriteFault` where the text doesn't fit.
 fn play(
     alloc: Global,
     lab: &mut Lab,
@@ -142,9 +147,14 @@ fn play(
     line: &[u8],
     number: u64,
 ) -> Result<bool, RunFault>
-    ensures played { IfOk result (λ refused. (event : Happening) × (event_of line.now ≡ Some event) × PlaysEvent event lab.old lab.new out.old out.new refused) }
-    ensures bad { (n : ℕ) → result ≡ Err (RunFault.BadScript n) → (n ≡ number) × (event_of line.now ≡ None) × (lab.new ≡ lab.old) × (out.new ≡ out.old) }
-    ensures no_memory { result ≡ Err RunFault.NoMemory → (event_of line.now ≢ None) × (lab.new ≡ lab.old) × (out.new ≡ out.old ++ refusal_text NoMemory) }
+    ensures played { IfOk result
+        (λ refused. (event : Happening) × (event_of line.now ≡ Some event)
+            × PlaysEvent event lab.old lab.new out.old out.new refused) }
+    ensures bad { (n : ℕ) → result ≡ Err (RunFault.BadScript n) →
+        (n ≡ number) × (event_of line.now ≡ None) × (lab.new ≡ lab.old) × (out.new ≡ out.old) }
+    ensures no_memory { result ≡ Err RunFault.NoMemory →
+        (event_of line.now ≢ None) × (lab.new ≡ lab.old)
+            × (out.new ≡ out.old ++ refusal_text NoMemory) }
     ensures faults { IfErr result (λ fault. IsLineFault fault) }
 {
     let Some(command) = event_of(line, body) else {
@@ -157,7 +167,8 @@ fn play(
 ///
 /// # Errors
 /// `NoMemory`, which is written too, and `WriteFault` where the text doesn't fit.
-// inlined although `settle` plays events too: a call for each line of a script takes some instructions more
+// inlined although `settle` plays events too: a call for each line of a script takes some
+// instructions more
 #[inline(always)]
 pub fn play_event(
     alloc: Global,
@@ -165,8 +176,10 @@ pub fn play_event(
     out: &mut WriteBuffer,
     event: &Event<'_>,
 ) -> Result<bool, RunFault>
-    ensures played { IfOk result (λ refused. PlaysEvent (happening_of event.now) lab.old lab.new out.old out.new refused) }
-    ensures no_memory { result ≡ Err RunFault.NoMemory → (lab.new ≡ lab.old) × (out.new ≡ out.old ++ refusal_text NoMemory) }
+    ensures played { IfOk result
+        (λ refused. PlaysEvent (happening_of event.now) lab.old lab.new out.old out.new refused) }
+    ensures no_memory { result ≡ Err RunFault.NoMemory →
+        (lab.new ≡ lab.old) × (out.new ≡ out.old ++ refusal_text NoMemory) }
     ensures faults { IfErr result (λ fault. (fault ≡ run.NoMemory) ⊎ (fault ≡ run.WriteFault)) }
 {
     let before = lab.copies().len();
@@ -176,8 +189,9 @@ pub fn play_event(
     is_refused(&answer)
 }
 
-/// Whether an event was refused; that there was no memory ends the run.
+/// Whether an event was refused. `NoMemory` is a refusal that ends the run.
 pub fn is_refused<T>(answer: &Result<T, LabFault>) -> Result<bool, RunFault>
+    // The result says whether the answer refuses, or is the `NoMemory` that ends the run.
     ensures { result ≡ refused_or_ended answer.now }
 {
     match answer {

@@ -16,7 +16,9 @@ pub fn side_name(side: Side) -> &'static str
     }
 }
 
+/// The name of a connection's state in what is printed.
 pub fn state_name(state: State) -> &'static str
+    // The name is the language's.
     ensures { result.now ≡ state_name state }
 {
     match state {

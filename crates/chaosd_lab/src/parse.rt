@@ -11,7 +11,8 @@ use chaos_packet::PktNum;
 use chaosd_io::{Data, read_data};
 
 /// `S OOO TEXT`, or without the text and the space before it.
-// what most lines of a script are read by is inlined where they are played: calls take some instructions more for each line
+// what most lines of a script are read by is inlined where they are played: calls take some
+// instructions more for each line
 #[inline(always)]
 fn write_of(rest: &[u8], body: &mut Data) -> Option<Command>
     ensures { option_map (happening_said body.new.items) result ≡ write_of rest.now }
@@ -81,11 +82,12 @@ fn deliver_of(rest: &[u8]) -> Option<Command>
     Some(Command::Deliver(copy as usize))
 }
 
-/// The event that a line asks for, where it is of the form of one, with the bytes of its text in `body`. A line without a text
-/// leaves them as they are.
+/// The event that a line asks for, if the line has the form of one, with the bytes of its text in
+/// `body`. A line without a text leaves `body` as it is.
 #[tactic(auto, unfolding(crate::specs::Event::event_of))]
 #[inline(always)]
 pub fn event_of(line: &[u8], body: &mut Data) -> Option<Command>
+    // The result is what the line asks for, and the bytes of its text are in the caller's place.
     ensures { option_map (happening_said body.new.items) result ≡ event_of line.now }
 {
     let (word, rest) = cut(line)?;

@@ -20,11 +20,12 @@ use chaosd_script::make_room;
 use std::alloc::Global;
 use std::io::Write;
 
-/// Lets both ends settle, writes the events as if they were typed, and says whether that was refused.
+/// Lets both ends settle, writes the events as if they were typed, and says whether that was
+/// refused.
 ///
 /// # Errors
-/// `NoMemory`, of which the events before are written and the line of the one that met it, and `WriteFault` where a text doesn't
-/// fit or the writer fails.
+/// `NoMemory`, of which the events before are written and the line of the one that met it, and
+/// `WriteFault` where a text doesn't fit or the writer fails.
 #[inline(never)]
 pub fn settle<W: Write>(
     alloc: Global,
@@ -32,10 +33,15 @@ pub fn settle<W: Write>(
     out: &mut WriteBuffer,
     writer: &mut W,
 ) -> Result<bool, RunFault>
-    ensures settled { IfOk result (λ refused. (lab.new ≡ (settle_done lab.old).lab) × (refused ≡ (settle_done lab.old).is_refused)
-        × Appends (written_of (W.contents writer.old) out.old) (written_of (W.contents writer.new) out.new) (settle_done lab.old).text) }
-    ensures no_memory { result ≡ Err RunFault.NoMemory → (text : List ℕ) × WantsSettling lab.old lab.new text
-        × Appends (written_of (W.contents writer.old) out.old) (written_of (W.contents writer.new) out.new) text }
+    ensures settled { IfOk result
+        (λ refused. (lab.new ≡ (settle_done lab.old).lab)
+            × (refused ≡ (settle_done lab.old).is_refused)
+            × Appends (written_of (W.contents writer.old) out.old)
+                (written_of (W.contents writer.new) out.new) (settle_done lab.old).text) }
+    ensures no_memory { result ≡ Err RunFault.NoMemory →
+        (text : List ℕ) × WantsSettling lab.old lab.new text
+            × Appends (written_of (W.contents writer.old) out.old)
+                (written_of (W.contents writer.new) out.new) text }
     ensures faults { IfErr result (λ fault. (fault ≡ run.NoMemory) ⊎ (fault ≡ run.WriteFault)) }
 {
     if !lab.can_settle() {
@@ -53,10 +59,15 @@ fn play_settling<W: Write>(
     out: &mut WriteBuffer,
     writer: &mut W,
 ) -> Result<(), RunFault>
-    ensures settled { OnOk result ((lab.new ≡ after_all lab.old (settling lab.old))
-        × Appends (written_of (W.contents writer.old) out.old) (written_of (W.contents writer.new) out.new) (typed_text lab.old (settling lab.old))) }
-    ensures no_memory { result ≡ Err RunFault.NoMemory → (text : List ℕ) × WantsEvents lab.old lab.new text
-        × Appends (written_of (W.contents writer.old) out.old) (written_of (W.contents writer.new) out.new) text }
+    ensures settled { OnOk result
+        ((lab.new ≡ after_all lab.old (settling lab.old))
+            × Appends (written_of (W.contents writer.old) out.old)
+                (written_of (W.contents writer.new) out.new)
+                (typed_text lab.old (settling lab.old))) }
+    ensures no_memory { result ≡ Err RunFault.NoMemory →
+        (text : List ℕ) × WantsEvents lab.old lab.new text
+            × Appends (written_of (W.contents writer.old) out.old)
+                (written_of (W.contents writer.new) out.new) text }
     ensures faults { IfErr result (λ fault. (fault ≡ run.NoMemory) ⊎ (fault ≡ run.WriteFault)) }
 {
     let mut events = Settling::new();
@@ -74,9 +85,15 @@ fn play_typed(
     out: &mut WriteBuffer,
     event: &Event<'_>,
 ) -> Result<(), RunFault>
-    ensures played { OnOk result ((lab.new ≡ (happen lab.old (happening_of event.now)).lab)
-        × (out.new ≡ out.old ++ (event_line (happening_of event.now) ++ event_text lab.old (happening_of event.now)))) }
-    ensures no_memory { result ≡ Err RunFault.NoMemory → (lab.new ≡ lab.old) × (out.new ≡ out.old ++ (event_line (happening_of event.now) ++ refusal_text NoMemory)) }
+    ensures played { OnOk result
+        ((lab.new ≡ (happen lab.old (happening_of event.now)).lab)
+            × (out.new ≡ out.old
+                    ++ (event_line (happening_of event.now)
+                        ++ event_text lab.old (happening_of event.now)))) }
+    ensures no_memory { result ≡ Err RunFault.NoMemory →
+        (lab.new ≡ lab.old)
+            × (out.new
+                ≡ out.old ++ (event_line (happening_of event.now) ++ refusal_text NoMemory)) }
     ensures faults { IfErr result (λ fault. (fault ≡ run.NoMemory) ⊎ (fault ≡ run.WriteFault)) }
 {
     written(put_event(out, event))?;

@@ -74,9 +74,10 @@ fn ends_of(rest: &[u8]) -> Option<Start>
     })
 }
 
-/// What the line `ends SA RA SB RB N` says, where it is of that form.
+/// What the line `ends SA RA SB RB N` says, if it is of that form.
 #[tactic(auto, unfolding(crate::specs::Start::start_of))]
 pub fn start_of(line: &[u8]) -> Option<Start>
+    // The result is what the first line says.
     ensures { result ≡ start_of line.now }
 {
     let (word, rest) = cut(line)?;

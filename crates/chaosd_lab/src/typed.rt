@@ -9,8 +9,12 @@ use chaos_lab::{Event, Side};
 use chaos_packet::Opcode;
 use chaosd_io::{NotWritten, WriteBuffer, put_octal_three};
 
-/// The line that asks for an event.
+/// Writes the line that asks for an event.
+///
+/// # Errors
+/// `NotWritten` if not all of it fits.
 pub fn put_event(out: &mut WriteBuffer, event: &Event<'_>) -> Result<(), NotWritten>
+    // If it ends well, the line that asks for the event was printed.
     ensures { OnOk result (out.new ≡ out.old ++ event_line (happening_of event.now)) }
 {
     match *event {
