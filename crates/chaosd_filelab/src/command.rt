@@ -13,7 +13,8 @@ pub enum FileCommand {
     Serve,
 }
 
-/// The event that a line asks for, where it is of the form of one, with the bytes of its text in `body`.
+/// The event that a line asks for, where it is of the form of one, with the bytes of its text in
+/// `body`.
 pub fn file_line_of(line: &[u8], body: &mut Data) -> Option<FileCommand>
     ensures { option_map (file_said body.new.items) result ≡ file_line_of line.now }
 {

@@ -18,11 +18,12 @@ use chaosd_script::make_room;
 use std::alloc::Global;
 use std::io::Write;
 
-/// Lets the laboratory settle, writes the events as if they were typed, and says whether that was refused.
+/// Lets the laboratory settle, writes the events as if they were typed, and says whether that was
+/// refused.
 ///
 /// # Errors
-/// `NoMemory`, of which the events before are written and what is written of the one that met it, and `WriteFault` where a text
-/// doesn't fit or the writer fails.
+/// `NoMemory`, of which the events before are written and what is written of the one that met it,
+/// and `WriteFault` where a text doesn't fit or the writer fails.
 #[inline(never)]
 pub fn settle<W: Write>(
     alloc: Global,
@@ -30,10 +31,16 @@ pub fn settle<W: Write>(
     out: &mut WriteBuffer,
     writer: &mut W,
 ) -> Result<bool, RunFault>
-    ensures settled { IfOk result (λ refused. (lab.new ≡ (settle_done lab.old).lab) × (refused ≡ (settle_done lab.old).is_refused)
-        × Appends (written_of (W.contents writer.old) out.old) (written_of (W.contents writer.new) out.new) (settle_done lab.old).text × (wrote_mem lab.old ≡ false → wrote_mem lab.new ≡ false)) }
-    ensures no_memory { result ≡ Err RunFault.NoMemory → (text : List ℕ) × WantsSettling lab.old lab.new text
-        × Appends (written_of (W.contents writer.old) out.old) (written_of (W.contents writer.new) out.new) text }
+    ensures settled { IfOk result
+        (λ refused. (lab.new ≡ (settle_done lab.old).lab)
+            × (refused ≡ (settle_done lab.old).is_refused)
+            × Appends (written_of (W.contents writer.old) out.old)
+                (written_of (W.contents writer.new) out.new) (settle_done lab.old).text
+            × (wrote_mem lab.old ≡ false → wrote_mem lab.new ≡ false)) }
+    ensures no_memory { result ≡ Err RunFault.NoMemory →
+        (text : List ℕ) × WantsSettling lab.old lab.new text
+            × Appends (written_of (W.contents writer.old) out.old)
+                (written_of (W.contents writer.new) out.new) text }
     ensures faults { IfErr result (λ fault. (fault ≡ run.NoMemory) ⊎ (fault ≡ run.WriteFault)) }
 {
     if !lab.can_settle() {
@@ -52,10 +59,15 @@ fn play_settling<W: Write>(
     writer: &mut W,
 ) -> Result<(), RunFault>
     requires { wrote_mem lab.old ≡ false }
-    ensures settled { OnOk result ((lab.new ≡ after_events lab.old (file_settling lab.old)) × (wrote_mem lab.new ≡ false)
-        × Appends (written_of (W.contents writer.old) out.old) (written_of (W.contents writer.new) out.new) (typed_text lab.old (file_settling lab.old))) }
-    ensures no_memory { result ≡ Err RunFault.NoMemory → (text : List ℕ) × WantsEvents lab.old lab.new text
-        × Appends (written_of (W.contents writer.old) out.old) (written_of (W.contents writer.new) out.new) text }
+    ensures settled { OnOk result
+        ((lab.new ≡ after_events lab.old (file_settling lab.old)) × (wrote_mem lab.new ≡ false)
+            × Appends (written_of (W.contents writer.old) out.old)
+                (written_of (W.contents writer.new) out.new)
+                (typed_text lab.old (file_settling lab.old))) }
+    ensures no_memory { result ≡ Err RunFault.NoMemory →
+        (text : List ℕ) × WantsEvents lab.old lab.new text
+            × Appends (written_of (W.contents writer.old) out.old)
+                (written_of (W.contents writer.new) out.new) text }
     ensures faults { IfErr result (λ fault. (fault ≡ run.NoMemory) ⊎ (fault ≡ run.WriteFault)) }
 {
     let mut events = FileSettling::new();
@@ -73,10 +85,14 @@ fn play_typed(
     out: &mut WriteBuffer,
     event: &FileEvent<'_>,
 ) -> Result<(), RunFault>
-    ensures played { OnOk result ((lab.new ≡ (file_happen lab.old (file_event event.now)).view) × (wrote_mem lab.new ≡ false)
-        × (out.new ≡ out.old ++ (file_line (file_event event.now) ++ event_text lab.old (file_event event.now)))) }
-    ensures no_memory { result ≡ Err RunFault.NoMemory → wrote_mem lab.old ≡ false
-        → (told : List ℕ) × WantsEvent lab.old (file_event event.now) lab.new told × (out.new ≡ out.old ++ (file_line (file_event event.now) ++ told)) }
+    ensures played { OnOk result
+        ((lab.new ≡ (file_happen lab.old (file_event event.now)).view) × (wrote_mem lab.new ≡ false)
+            × (out.new ≡ out.old
+                    ++ (file_line (file_event event.now)
+                        ++ event_text lab.old (file_event event.now)))) }
+    ensures no_memory { result ≡ Err RunFault.NoMemory → wrote_mem lab.old ≡ false →
+        (told : List ℕ) × WantsEvent lab.old (file_event event.now) lab.new told
+            × (out.new ≡ out.old ++ (file_line (file_event event.now) ++ told)) }
     ensures faults { IfErr result (λ fault. (fault ≡ run.NoMemory) ⊎ (fault ≡ run.WriteFault)) }
 {
     written(put_file_event(out, event))?;

@@ -77,7 +77,8 @@ impl Stage for FileStage {
 /// The laboratory of a first line, and the line of its first copy.
 ///
 /// # Errors
-/// `BadScript` with this number where the line is of no form, `NoMemory`, and `WriteFault` where the text doesn't fit.
+/// `BadScript` with this number where the line is of no form, `NoMemory`, and `WriteFault` where
+/// the text doesn't fit.
 #[inline(never)]
 fn begin(
     alloc: Global,
@@ -85,9 +86,13 @@ fn begin(
     line: &[u8],
     number: u64,
 ) -> Result<FileStage, RunFault>
-    ensures begun { IfOk result (λ stage. (first_of line.now ≡ Some stage) × (out.new ≡ out.old ++ copies_text 0 stage.lab.copies) × (wrote_mem stage ≡ false)) }
-    ensures bad { (n : ℕ) → result ≡ Err (RunFault.BadScript n) → (n ≡ number) × (first_of line.now ≡ None) × (out.new ≡ out.old) }
-    ensures no_memory { result ≡ Err RunFault.NoMemory → (first_of line.now ≢ None) × (out.new ≡ out.old) }
+    ensures begun { IfOk result
+        (λ stage. (first_of line.now ≡ Some stage)
+            × (out.new ≡ out.old ++ copies_text 0 stage.lab.copies) × (wrote_mem stage ≡ false)) }
+    ensures bad { (n : ℕ) → result ≡ Err (RunFault.BadScript n) →
+        (n ≡ number) × (first_of line.now ≡ None) × (out.new ≡ out.old) }
+    ensures no_memory { result ≡ Err RunFault.NoMemory →
+        (first_of line.now ≢ None) × (out.new ≡ out.old) }
     ensures faults { IfErr result (λ fault. IsLineFault fault) }
 {
     let Some(start) = start_of(line) else {
@@ -118,8 +123,9 @@ fn stage_of(alloc: Global, start: Start) -> Result<FileStage, RunFault>
 /// Lets the event of a line happen, writes what came of it, and says whether it was refused.
 ///
 /// # Errors
-/// `BadScript` with this number where the line asks for no event, `NoMemory`, and `WriteFault` where the text doesn't fit. Out of
-/// memory for the histories is written too; of an out-of-memory reply nothing is.
+/// `BadScript` with this number where the line asks for no event, `NoMemory`, and `WriteFault`
+/// where the text doesn't fit. Out of memory for the histories is written too; of an out-of-memory
+/// reply nothing is.
 fn play(
     alloc: Global,
     lab: &mut FileLab,
@@ -128,11 +134,17 @@ fn play(
     line: &[u8],
     number: u64,
 ) -> Result<bool, RunFault>
-    ensures played { IfOk result (λ refused. (event : FileHappening) × (file_line_of line.now ≡ Some event)
-        × PlaysFileEvent event lab.old lab.new out.old out.new refused × (wrote_mem lab.new ≡ false)) }
-    ensures bad { (n : ℕ) → result ≡ Err (RunFault.BadScript n) → (n ≡ number) × (file_line_of line.now ≡ None) × (out.new ≡ out.old) }
-    ensures no_memory { result ≡ Err RunFault.NoMemory → (event : FileHappening) × (file_line_of line.now ≡ Some event)
-        × (wrote_mem lab.old ≡ false → (text : List ℕ) × WantsEvent lab.old event lab.new text × (out.new ≡ out.old ++ text)) }
+    ensures played { IfOk result
+        (λ refused. (event : FileHappening) × (file_line_of line.now ≡ Some event)
+            × PlaysFileEvent event lab.old lab.new out.old out.new refused
+            × (wrote_mem lab.new ≡ false)) }
+    ensures bad { (n : ℕ) → result ≡ Err (RunFault.BadScript n) →
+        (n ≡ number) × (file_line_of line.now ≡ None) × (out.new ≡ out.old) }
+    ensures no_memory { result ≡ Err RunFault.NoMemory →
+        (event : FileHappening) × (file_line_of line.now ≡ Some event)
+            × (wrote_mem lab.old ≡ false →
+                (text : List ℕ) × WantsEvent lab.old event lab.new text
+                    × (out.new ≡ out.old ++ text)) }
     ensures faults { IfErr result (λ fault. IsLineFault fault) }
 {
     let Some(command) = file_line_of(line, body) else {
@@ -150,16 +162,20 @@ fn play(
 /// Lets an event happen, writes what came of it, and says whether it was refused.
 ///
 /// # Errors
-/// `NoMemory`, and `WriteFault` where the text doesn't fit. Out of memory for the histories is written too; of an out-of-memory
-/// reply nothing is.
+/// `NoMemory`, and `WriteFault` where the text doesn't fit. Out of memory for the histories is
+/// written too; of an out-of-memory reply nothing is.
 pub fn play_event(
     alloc: Global,
     lab: &mut FileLab,
     out: &mut WriteBuffer,
     event: &FileEvent<'_>,
 ) -> Result<bool, RunFault>
-    ensures played { IfOk result (λ refused. PlaysFileEvent (file_event event.now) lab.old lab.new out.old out.new refused × (wrote_mem lab.new ≡ false)) }
-    ensures no_memory { result ≡ Err RunFault.NoMemory → wrote_mem lab.old ≡ false → (text : List ℕ) × WantsEvent lab.old (file_event event.now) lab.new text × (out.new ≡ out.old ++ text) }
+    ensures played { IfOk result
+        (λ refused. PlaysFileEvent (file_event event.now) lab.old lab.new out.old out.new refused
+            × (wrote_mem lab.new ≡ false)) }
+    ensures no_memory { result ≡ Err RunFault.NoMemory → wrote_mem lab.old ≡ false →
+        (text : List ℕ) × WantsEvent lab.old (file_event event.now) lab.new text
+            × (out.new ≡ out.old ++ text) }
     ensures faults { IfErr result (λ fault. (fault ≡ run.NoMemory) ⊎ (fault ≡ run.WriteFault)) }
 {
     let before = lab.copies().len();
@@ -176,7 +192,8 @@ pub fn play_event(
 fn act(alloc: Global, lab: &mut FileLab, event: &FileEvent<'_>) -> Result<FileStepped, LabFault>
     ensures happens { FileHappens lab.old (file_event event.now) lab.new result }
     ensures refused { OnErr result (lab.new ≡ lab.old) }
-    ensures exact { IsExact lab.old (file_event event.now) lab.new result ⊎ Wants lab.old (file_event event.now) lab.new result }
+    ensures exact { IsExact lab.old (file_event event.now) lab.new result
+        ⊎ Wants lab.old (file_event event.now) lab.new result }
     // an out-of-memory reply is written by a serve alone
     ensures mem { (file_event event.now ≡ Serve) ⊎ (wrote_mem lab.new ≡ wrote_mem lab.old) }
 {

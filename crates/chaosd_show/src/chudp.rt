@@ -13,8 +13,10 @@ use chaosd_io::{NotWritten, WriteBuffer, put_line};
 /// Writes the report of a CHUDP datagram, and says whether it is a refusal.
 #[tactic(auto, unfolding(crate::specs::Entry::entry_text))]
 pub fn put_chudp(out: &mut WriteBuffer, bytes: &[u8]) -> Result<bool, NotWritten>
-    ensures text { OnOk result (out.new ≡ out.old ++ entry_text (entry_of_datagram Format.Chudp bytes.now)) }
-    ensures refused { IfOk result (λ refused. refused ≡ is_refusal (entry_of_datagram Format.Chudp bytes.now)) }
+    ensures text { OnOk result
+        (out.new ≡ out.old ++ entry_text (entry_of_datagram Format.Chudp bytes.now)) }
+    ensures refused { IfOk result
+        (λ refused. refused ≡ is_refusal (entry_of_datagram Format.Chudp bytes.now)) }
 {
     match from_chudp(bytes) {
         Ok(delivery) => {

@@ -15,8 +15,8 @@ use chaos_link::{LinkFault, from_datagram, open_datagram};
 use chaos_packet::PacketFault;
 use chaosd_io::{NotWritten, WriteBuffer, put_decimal, put_line, without_return};
 
-/// Writes the report of a line behind an empty line, or behind nothing where it is the first, and says whether it is a
-/// refusal.
+/// Writes the report of a line behind an empty line, or behind nothing where it is the first, and
+/// says whether it is a refusal.
 pub fn put_report(
     out: &mut WriteBuffer,
     is_first: bool,
@@ -33,7 +33,8 @@ pub fn put_report(
     put_entry(out, format, raw, datagram)
 }
 
-/// Writes the report of a line, and says whether it is a refusal. `datagram` holds the line's bytes meanwhile.
+/// Writes the report of a line, and says whether it is a refusal. `datagram` holds the line's bytes
+/// meanwhile.
 #[tactic(auto, using(crate::proofs::Steps::empty_text, crate::proofs::Steps::empty_refused), unfolding(crate::specs::Entry::entry_of, crate::specs::Entry::entry_text))]
 fn put_entry(
     out: &mut WriteBuffer,
@@ -45,7 +46,8 @@ fn put_entry(
     ensures refused { IfOk result (λ refused. refused ≡ is_refusal (entry_of format raw.now)) }
 {
     let line = without_return(raw);
-    // An empty line is the empty datagram: no place is made for a packet, as reading a datagram does.
+    // An empty line is the empty datagram: no place is made for a packet, as reading a datagram
+    // does.
     if line.is_empty() {
         put_empty(out, format)?;
         return Ok(true);
@@ -73,7 +75,8 @@ fn put_text(
     datagram: &mut [u8; MOST_BYTES],
 ) -> Result<bool, NotWritten>
     ensures text { OnOk result (out.new ≡ out.old ++ entry_text (entry_of_text format text.now)) }
-    ensures refused { IfOk result (λ refused. refused ≡ is_refusal (entry_of_text format text.now)) }
+    ensures refused { IfOk result
+        (λ refused. refused ≡ is_refusal (entry_of_text format text.now)) }
 {
     if text.len() > SHOW_LINE_LIMIT {
         out.put(b"fault 0 Line\n")?;
@@ -93,8 +96,10 @@ fn put_text(
 /// Writes the report of a datagram in the own format, and says whether it is a refusal.
 #[tactic(auto, unfolding(crate::specs::Entry::entry_text))]
 fn put_datagram(out: &mut WriteBuffer, bytes: &[u8]) -> Result<bool, NotWritten>
-    ensures text { OnOk result (out.new ≡ out.old ++ entry_text (entry_of_datagram Format.Own bytes.now)) }
-    ensures refused { IfOk result (λ refused. refused ≡ is_refusal (entry_of_datagram Format.Own bytes.now)) }
+    ensures text { OnOk result
+        (out.new ≡ out.old ++ entry_text (entry_of_datagram Format.Own bytes.now)) }
+    ensures refused { IfOk result
+        (λ refused. refused ≡ is_refusal (entry_of_datagram Format.Own bytes.now)) }
 {
     match from_datagram(bytes) {
         Ok(packet) => {
@@ -113,8 +118,10 @@ fn put_datagram(out: &mut WriteBuffer, bytes: &[u8]) -> Result<bool, NotWritten>
 #[tactic(auto, unfolding(crate::specs::Entry::entry_text))]
 fn put_of_another_version(out: &mut WriteBuffer, bytes: &[u8]) -> Result<bool, NotWritten>
     requires { fault_of bytes.now ≡ Some LinkFault.BadVersion }
-    ensures text { OnOk result (out.new ≡ out.old ++ entry_text (entry_of_datagram Format.Own bytes.now)) }
-    ensures refused { IfOk result (λ refused. refused ≡ is_refusal (entry_of_datagram Format.Own bytes.now)) }
+    ensures text { OnOk result
+        (out.new ≡ out.old ++ entry_text (entry_of_datagram Format.Own bytes.now)) }
+    ensures refused { IfOk result
+        (λ refused. refused ≡ is_refusal (entry_of_datagram Format.Own bytes.now)) }
 {
     match open_datagram(bytes) {
         Ok(packets) => {
@@ -154,7 +161,8 @@ fn put_packet_fault(out: &mut WriteBuffer, fault: PacketFault) -> Result<(), Not
 
 /// The report of a fault of one packet of several, by its place.
 fn put_fault_at(out: &mut WriteBuffer, place: u8, fault: PacketFault) -> Result<(), NotWritten>
-    ensures { OnOk result (out.new ≡ out.old ++ line (fault_text (LinkFault.PacketAt place fault))) }
+    ensures { OnOk result
+        (out.new ≡ out.old ++ line (fault_text (LinkFault.PacketAt place fault))) }
 {
     out.put(b"fault 8 PacketAt ")?;
     put_decimal(out, usize::from(place))?;

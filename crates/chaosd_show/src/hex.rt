@@ -44,8 +44,9 @@ fn is_blank(b: u8) -> bool
     b == b' ' || b == b'\t'
 }
 
-/// Puts the bytes that a line stands for at the front of `bytes`, and says how many they are, where the line is pairs of
-/// digits with blanks between them. The cost is that of one look at each byte of the line.
+/// Puts the bytes that a line stands for at the front of `bytes`, and says how many they are, where
+/// the line is pairs of digits with blanks between them. The cost is that of one look at each byte
+/// of the line.
 #[tactic(auto, using(crate::proofs::Digits::digit_is_no_blank, crate::proofs::Pairs::hex_bytes_blank, crate::proofs::Pairs::hex_bytes_pair, crate::proofs::Pairs::hex_bytes_odd, crate::proofs::Pairs::hex_bytes_end))]
 pub fn read_hex(line: &[u8], bytes: &mut [u8; MOST_BYTES]) -> Option<usize>
     requires { length line.now ≤ SHOW_LINE_LIMIT }

@@ -8,8 +8,9 @@ use chaos_link::Packets;
 use chaos_packet::{Opcode, Packet};
 use chaosd_io::{NotWritten, WriteBuffer, put_decimal, put_octal_three};
 
-/// Writes the lines of the packets of a datagram of version 2, which are so many. Each is written as it is taken out of the
-/// datagram, so the cost is that of their data bytes; nothing is allocated.
+/// Writes the lines of the packets of a datagram of version 2, which are so many. Each is written
+/// as it is taken out of the datagram, so the cost is that of their data bytes; nothing is
+/// allocated.
 #[tactic(auto, unfolding(crate::specs::Report::several_text))]
 pub fn put_several(
     out: &mut WriteBuffer,
@@ -44,8 +45,8 @@ fn put_packets(out: &mut WriteBuffer, mut packets: Packets<'_>) -> Result<(), No
     Ok(())
 }
 
-/// Writes the lines of the packet of a CHUDP datagram, and behind them those of its trailer. The cost is that of the data bytes;
-/// nothing is allocated.
+/// Writes the lines of the packet of a CHUDP datagram, and behind them those of its trailer. The
+/// cost is that of the data bytes; nothing is allocated.
 #[tactic(auto, unfolding(crate::specs::Report::delivery_text))]
 pub fn put_delivery(out: &mut WriteBuffer, delivery: &Delivery) -> Result<(), NotWritten>
     ensures { OnOk result (out.new ≡ out.old ++ delivery_text delivery.now) }
@@ -150,7 +151,7 @@ fn put_pair(
     out.put(b"\n")
 }
 
-/// The status that the packet tells, else its data, else nothing.
+/// The status that the packet has, otherwise its data, otherwise nothing.
 #[tactic(auto, unfolding(crate::specs::Report::body_text))]
 fn put_body(out: &mut WriteBuffer, packet: &Packet) -> Result<(), NotWritten>
     ensures { OnOk result (out.new ≡ out.old ++ body_text (status_of packet.now) packet.now.body) }

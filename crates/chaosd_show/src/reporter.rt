@@ -9,14 +9,16 @@ use crate::tally::Tally;
 use chaosd_io::{INPUT_LIMIT, NotWritten, WriteBuffer};
 use std::io::Write;
 
-/// No report has more bytes, with the empty line in front of it: those of n bytes have at most 426 + 3n, and no datagram that is
-/// read has more than 2,020.
+/// No report has more bytes, with the empty line in front of it: those of n bytes have at most 426
+/// + 3n, and no datagram that is read has more than 2,020.
 const REPORT_ROOM: usize = 8_192;
 
-/// Nor has that of a short line more, which stands for 540 bytes at most: a greatest packet's has 1,554, and with a trailer 1,593.
+/// Nor has that of a short line more, which stands for 540 bytes at most: a greatest packet's has
+/// 1,554, and with a trailer 1,593.
 const SHORT_REPORT_ROOM: usize = 2_048;
 
-/// How many bytes a short line has at most. A greatest packet takes 1,016, and by CHUDP 1,028, without blanks.
+/// How many bytes a short line has at most. A greatest packet takes 1,016, and by CHUDP 1,028,
+/// without blanks.
 const SHORT_LINE: usize = 1_080;
 
 /// The reports that wait to be written, and the count of all so far.
@@ -49,7 +51,8 @@ impl Reporter {
 
     /// Hands on the reports that wait.
     pub fn hand_on<W: Write>(&mut self, writer: &mut W) -> Result<(), NotWritten>
-        ensures kept { Keeps (written_of (W.contents writer.old) self.old.out) (written_of (W.contents writer.new) self.new.out) }
+        ensures kept { Keeps (written_of (W.contents writer.old) self.old.out)
+            (written_of (W.contents writer.new) self.new.out) }
         ensures empty { OnOk result (self.new.out ≡ []) }
         ensures tally { self.new.tally ≡ self.old.tally }
     {
@@ -59,10 +62,12 @@ impl Reporter {
         }
     }
 
-    /// Hands on the reports that wait where that of a line of so many bytes might not fit behind them.
+    /// Hands on the reports that wait where that of a line of so many bytes might not fit behind
+    /// them.
     #[inline]
     fn make_room<W: Write>(&mut self, writer: &mut W, line_len: usize) -> Result<(), NotWritten>
-        ensures kept { Keeps (written_of (W.contents writer.old) self.old.out) (written_of (W.contents writer.new) self.new.out) }
+        ensures kept { Keeps (written_of (W.contents writer.old) self.old.out)
+            (written_of (W.contents writer.new) self.new.out) }
         ensures tally { self.new.tally ≡ self.old.tally }
     {
         let needed = if line_len > SHORT_LINE {
@@ -84,8 +89,10 @@ impl Reporter {
         raw: &[u8],
     ) -> Result<(), NotWritten>
         requires { self.old.tally.reports ≤ INPUT_LIMIT }
-        ensures text { OnOk result (Appends (written_of (W.contents writer.old) self.old.out) (written_of (W.contents writer.new) self.new.out)
-            (gap (self.old.tally.reports == 0) ++ line_report format raw.now)) }
+        ensures text { OnOk result
+            (Appends (written_of (W.contents writer.old) self.old.out)
+                (written_of (W.contents writer.new) self.new.out)
+                (gap (self.old.tally.reports == 0) ++ line_report format raw.now)) }
         ensures tally { OnOk result (self.new.tally ≡ counted format self.old.tally raw.now) }
     {
         self.make_room(writer, raw.len())?;

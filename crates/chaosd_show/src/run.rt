@@ -14,56 +14,85 @@ use crate::tally::Tally;
 use chaosd_io::{INPUT_LIMIT, LineReader, NotWritten, RunFault, written};
 use std::io::{Read, Write};
 
-/// Reads lines of hexadecimal digits, one datagram a line, to the end of the input, and writes a report of each: [`run_show_by`] of
-/// the own format.
+/// Reads lines of hexadecimal digits, one datagram of the own format a line, to the end of the
+/// input, and writes a report of each, as [`run_show_by`] does.
 ///
 /// # Errors
 /// As those of [`run_show_by`].
 pub fn run_show<R: Read, W: Write>(reader: &mut R, writer: &mut W) -> Result<Tally, RunFault>
-    // What was written is the report of all that was read, and the tally counts it.
-    ensures report { OnOk result (IfSome (R.remaining reader.old) (λ input. Appends (W.contents writer.old) (W.contents writer.new) (report_of Format.Own input))) }
-    ensures tally { IfOk result (λ tally. IfSome (R.remaining reader.old) (λ input. tally ≡ tally_of Format.Own (lines_of input))) }
+    // If the run ends well, what was written is the report of all that was read, in the own format.
+    ensures report { OnOk result
+        (IfSome (R.remaining reader.old)
+            (λ input. Appends (W.contents writer.old) (W.contents writer.new)
+                (report_of Format.Own input))) }
+    // The tally counts the reports and the refusals among them.
+    ensures tally { IfOk result
+        (λ tally. IfSome (R.remaining reader.old)
+            (λ input. tally ≡ tally_of Format.Own (lines_of input))) }
+    // The run ends well only at the input's end.
     ensures ended { OnOk result (IsAtEnd (R.remaining reader.new)) }
-    ensures within { OnOk result (IfSome (R.remaining reader.old) (λ input. length input ≤ INPUT_LIMIT)) }
+    // The run never ends well where more than 1,048,576 bytes came.
+    ensures within { OnOk result
+        (IfSome (R.remaining reader.old) (λ input. length input ≤ INPUT_LIMIT)) }
 
-    // An input is refused as too long only where it is, and the lines that ended within the limit were reported.
-    ensures too_long { result ≡ Err RunFault.InputTooLong → IfSome (R.remaining reader.old) (λ input.
-        (INPUT_LIMIT < length input) × Appends (W.contents writer.old) (W.contents writer.new) (reports_of Format.Own (ended_lines (take INPUT_LIMIT input)))) }
+    // `InputTooLong` comes only where the input is too long, and the lines that ended within the
+    // limit were reported.
+    ensures too_long { result ≡ Err RunFault.InputTooLong →
+        IfSome (R.remaining reader.old)
+            (λ input. (INPUT_LIMIT < length input)
+                × Appends (W.contents writer.old) (W.contents writer.new)
+                    (reports_of Format.Own (ended_lines (take INPUT_LIMIT input)))) }
 
-    // Where the reader failed, the lines that ended in what it had given were reported, and no more.
-    ensures unread { result ≡ Err RunFault.ReadFault
-        → ReportsRead Format.Own (R.remaining reader.old) (R.remaining reader.new) (W.contents writer.old) (W.contents writer.new) }
+    // If the reader failed, the lines that ended in what it had given were reported, and no more.
+    ensures unread { result ≡ Err RunFault.ReadFault →
+        ReportsRead Format.Own (R.remaining reader.old) (R.remaining reader.new)
+            (W.contents writer.old) (W.contents writer.new) }
 {
     run_show_by(Format::Own, reader, writer)
 }
 
-/// Reads lines of hexadecimal digits, one datagram of the format a line, to the end of the input, and writes a report of each.
+/// Reads lines of hexadecimal digits, one datagram of the format a line, to the end of the input,
+/// and writes a report of each.
 ///
-/// Each report is handed on to the writer before the next read, so that somebody who types lines sees each at once. The
-/// first fault that is met is the answer. The cost is that of one look at each byte that comes and goes; no memory is
-/// taken.
+/// Each report is handed on to the writer before the next read, so somebody who types lines sees
+/// each report at once. The run ends by its first fault. The cost is one look at each byte that
+/// comes and goes. No memory is taken.
 ///
 /// # Errors
-/// [`RunFault`]: 1 where the reader fails or is interrupted 2,000,000 times, 2 where the writer fails, 3 where more than
-/// 1,048,576 bytes come.
+/// [`RunFault`]: 1 where the reader fails or is interrupted 2,000,000 times, 2 where the writer
+/// fails, 3 where more than 1,048,576 bytes come.
 pub fn run_show_by<R: Read, W: Write>(
     format: Format,
     reader: &mut R,
     writer: &mut W,
 ) -> Result<Tally, RunFault>
-    // What was written is the report of all that was read, and the tally counts it.
-    ensures report { OnOk result (IfSome (R.remaining reader.old) (λ input. Appends (W.contents writer.old) (W.contents writer.new) (report_of format input))) }
-    ensures tally { IfOk result (λ tally. IfSome (R.remaining reader.old) (λ input. tally ≡ tally_of format (lines_of input))) }
+    // If the run ends well, what was written is the report of all that was read, in this format.
+    ensures report { OnOk result
+        (IfSome (R.remaining reader.old)
+            (λ input. Appends (W.contents writer.old) (W.contents writer.new)
+                (report_of format input))) }
+    // The tally counts the reports and the refusals among them.
+    ensures tally { IfOk result
+        (λ tally. IfSome (R.remaining reader.old)
+            (λ input. tally ≡ tally_of format (lines_of input))) }
+    // The run ends well only at the input's end.
     ensures ended { OnOk result (IsAtEnd (R.remaining reader.new)) }
-    ensures within { OnOk result (IfSome (R.remaining reader.old) (λ input. length input ≤ INPUT_LIMIT)) }
+    // The run never ends well where more than 1,048,576 bytes came.
+    ensures within { OnOk result
+        (IfSome (R.remaining reader.old) (λ input. length input ≤ INPUT_LIMIT)) }
 
-    // An input is refused as too long only where it is, and the lines that ended within the limit were reported.
-    ensures too_long { result ≡ Err RunFault.InputTooLong → IfSome (R.remaining reader.old) (λ input.
-        (INPUT_LIMIT < length input) × Appends (W.contents writer.old) (W.contents writer.new) (reports_of format (ended_lines (take INPUT_LIMIT input)))) }
+    // `InputTooLong` comes only where the input is too long, and the lines that ended within the
+    // limit were reported.
+    ensures too_long { result ≡ Err RunFault.InputTooLong →
+        IfSome (R.remaining reader.old)
+            (λ input. (INPUT_LIMIT < length input)
+                × Appends (W.contents writer.old) (W.contents writer.new)
+                    (reports_of format (ended_lines (take INPUT_LIMIT input)))) }
 
-    // Where the reader failed, the lines that ended in what it had given were reported, and no more.
-    ensures unread { result ≡ Err RunFault.ReadFault
-        → ReportsRead format (R.remaining reader.old) (R.remaining reader.new) (W.contents writer.old) (W.contents writer.new) }
+    // If the reader failed, the lines that ended in what it had given were reported, and no more.
+    ensures unread { result ≡ Err RunFault.ReadFault →
+        ReportsRead format (R.remaining reader.old) (R.remaining reader.new) (W.contents writer.old)
+            (W.contents writer.new) }
 {
     let mut lines: LineReader<SHOW_KEPT_LEN> = LineReader::new(INPUT_LIMIT);
     let mut reporter = Reporter::new();
@@ -87,9 +116,12 @@ fn report_ended<W: Write>(
     writer: &mut W,
 ) -> Result<(), NotWritten>
     requires { reporter.old.tally.reports + left_of lines.old ≤ INPUT_LIMIT }
-    ensures shown { OnOk result ((input rest before : Option (List ℕ))
-        → Shows format input rest before (written_of (W.contents writer.old) reporter.old.out) reporter.old.tally lines.old
-        → Shows format input rest before (written_of (W.contents writer.new) reporter.new.out) reporter.new.tally lines.new) }
+    ensures shown { OnOk result
+        ((input rest before : Option (List ℕ)) →
+            Shows format input rest before (written_of (W.contents writer.old) reporter.old.out)
+                reporter.old.tally lines.old →
+            Shows format input rest before (written_of (W.contents writer.new) reporter.new.out)
+                reporter.new.tally lines.new) }
     ensures none { OnOk result (lines.new.waiting ≡ []) }
     ensures room { OnOk result (lines.new.room ≡ lines.old.room) }
     ensures count { OnOk result (reporter.new.tally.reports + left_of lines.new ≤ INPUT_LIMIT) }
@@ -109,9 +141,13 @@ fn report_last<W: Write>(
 ) -> Result<(), NotWritten>
     requires room { reporter.old.tally.reports ≤ INPUT_LIMIT }
     requires none { lines.now.waiting ≡ [] }
-    ensures shown { OnOk result ((input rest before : Option (List ℕ))
-        → Shows format input rest before (written_of (W.contents writer.old) reporter.old.out) reporter.old.tally lines.now → IsAtEnd rest
-        → ShowsAll format input rest before (written_of (W.contents writer.new) reporter.new.out) reporter.new.tally) }
+    ensures shown { OnOk result
+        ((input rest before : Option (List ℕ)) →
+            Shows format input rest before (written_of (W.contents writer.old) reporter.old.out)
+                reporter.old.tally lines.now →
+            IsAtEnd rest →
+            ShowsAll format input rest before (written_of (W.contents writer.new) reporter.new.out)
+                reporter.new.tally) }
 {
     let Some(line) = lines.last() else {
         return Ok(());

@@ -10,7 +10,8 @@ pub(crate) enum Kind {
     Either,
 }
 
-/// A word, what stands in front of each part behind it, where there is one, and the names of the parts.
+/// A word, what stands in front of each part behind it, where there is one, and the names of the
+/// parts.
 struct Form {
     kind: Kind,
     word: &'static [u8],
@@ -118,7 +119,7 @@ static FORMS: [Form; 16] = [
     },
 ];
 
-/// Whether a part is of the form that its name wants.
+/// Whether a part is of the form that its name needs.
 fn is_part(name: &str, bytes: &[u8]) -> bool {
     match name {
         "length" => !bytes.is_empty() && bytes.iter().all(|b| b.is_ascii_digit()),
@@ -206,7 +207,8 @@ fn is_name(bytes: &[u8]) -> bool {
     bytes.iter().all(|b| b.is_ascii_alphanumeric())
 }
 
-/// Writes a line that says what a packet's data are in FILE, where they are of the form of a command or a reply.
+/// Writes a line that says what a packet's data are in FILE, where they are of the form of a
+/// command or a reply.
 pub(crate) fn put_file(out: &mut WriteBuffer, body: &[u8]) -> Result<(), NotWritten> {
     let Some((tid, rest)) = parted(body, b' ') else {
         return Ok(());

@@ -6,8 +6,9 @@ use std::alloc::Global;
 use std::io;
 use std::io::Read;
 
-/// A reader that hands on what another one gives, and keeps the lines that came in the last read and the one that had begun before
-/// it, so that one of them can be shown. Where there is no memory it keeps none.
+/// A reader that hands on what another one gives, and keeps the lines that came in the last read
+/// and the one that had begun before it, so that one of them can be shown. Where there is no memory
+/// it keeps none.
 #[derive(Drop)]
 pub struct Kept<'a, R: Read> {
     inner: &'a mut R,
@@ -34,9 +35,11 @@ fn last_start(bytes: &[u8]) -> usize
 }
 
 impl<'a, R: Read> Kept<'a, R> {
-    /// Nothing was read yet: it holds the reader that is lent, as it was.
+    /// A reader that has kept no line yet, in front of this reader.
     pub fn new(alloc: Global, inner: &'a mut R) -> Self
-        ensures { (result.inner.ghost_name ≡ inner.entry.ghost_name) × (result.inner.now ≡ inner.old) }
+        // It holds the reader that is lent, of which nothing was read.
+        ensures { (result.inner.ghost_name ≡ inner.entry.ghost_name)
+            × (result.inner.now ≡ inner.old) }
     {
         Kept {
             inner,

@@ -100,7 +100,8 @@ fn bad_form(line: &[u8], word: &[u8]) -> Option<BadLine> {
     None
 }
 
-/// What is wrong with a bad line of a script of this laboratory, by its number from 1 on. The carriage return at its end is off.
+/// What is wrong with a bad line of a script of this laboratory, by its number from 1 on. The
+/// carriage return at its end is off.
 ///
 /// It is for a line that the laboratory's engine refused: of a good one it says something too.
 pub fn why_bad(line: &[u8], number: u64, laboratory: Laboratory) -> BadLine {

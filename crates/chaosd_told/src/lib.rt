@@ -1,9 +1,10 @@
-//! What a user is told beside what a run prints: why a line of a script is bad, what replies leave undone, and what the packets of a
-//! report say in FILE.
+//! Reports to a user beside what a run prints: why a line of a script is bad, what replies leave
+//! undone, and what the packets of a report say in FILE.
 //!
-//! `text` and `lab` say why a line is bad, and `kept` keeps the lines of a reader, of which one may be. `replies` looks at the
-//! replies that a writer is handed, and `report` adds to the reports that it is handed what their data say, which `file` reads.
-//! Each hands on every byte as it came.
+//! `text` and `lab` say why a line is bad, and `kept` keeps the lines of a reader, of which one may
+//! be. `replies` looks at the replies that a writer is handed, and `report` adds to the reports
+//! that it is handed what their data say, which `file` reads. Each hands on every byte as it came.
+//! No clause speaks of the words for a user; tests show them.
 #![tactic(auto)]
 
 mod file;

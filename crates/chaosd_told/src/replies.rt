@@ -24,12 +24,13 @@ pub type Name = ArrayVec<u8, MAX_NAME>;
 pub struct Notes {
     /// Whether one was an error.
     pub has_error: Cell<bool>,
-    /// Whether the last one was an error for a handle LOGIN: then a command had one space where two are wanted.
+    /// Whether the last one was an error for a handle LOGIN: then a command had one space where two
+    /// are wanted.
     pub is_login: Cell<bool>,
 }
 
 impl Notes {
-    /// Nothing was printed yet.
+    /// Notes of a run that has printed nothing yet.
     pub fn new() -> Self {
         Notes {
             has_error: Cell::new(false),
@@ -38,8 +39,8 @@ impl Notes {
     }
 }
 
-/// A writer of replies that hands them on to another, and looks at each one's front. Beside the other's work it costs a search for each
-/// line's end; it takes no memory.
+/// A writer of replies that hands them on to another, and looks at each one's front. Beside the
+/// other's work it costs a search for each line's end; it takes no memory.
 #[derive(Drop)]
 pub struct Replies<'a, W: Write> {
     inner: &'a mut W,
@@ -121,7 +122,8 @@ impl Watch<'_> {
         let _fits = self.front.try_extend_from_slice(&part[..count]);
     }
 
-    /// The front of these bytes was written: a line with its end, or all of them where none ends. Says how many they are.
+    /// The front of these bytes was written: a line with its end, or all of them where none ends.
+    /// Says how many they are.
     fn note_line(&mut self, bytes: &[u8]) -> usize
         requires some { 0 < length bytes.now }
         ensures within { (0 < result) × (result ≤ length bytes.now) }
@@ -145,9 +147,11 @@ impl Watch<'_> {
 }
 
 impl<'a, W: Write> Replies<'a, W> {
-    /// Nothing was printed yet: it holds the writer that is lent, as it was.
+    /// A writer of replies that has printed nothing yet, in front of this writer.
     pub fn new(inner: &'a mut W, notes: &'a Notes) -> Self
-        ensures { (result.inner.ghost_name ≡ inner.entry.ghost_name) × (result.inner.now ≡ inner.old) }
+        // It holds the writer that is lent, to which nothing was written.
+        ensures { (result.inner.ghost_name ≡ inner.entry.ghost_name)
+            × (result.inner.now ≡ inner.old) }
     {
         Replies {
             inner,

@@ -13,8 +13,8 @@ const LINE: usize = 2_048;
 /// No line of a report, with what is said beside it, has more bytes.
 const ROOM: usize = 8_192;
 
-/// A writer of reports that hands them on to another, and behind each line of data one that says them as a text, and where they are a
-/// command or a reply of FILE, one that says what it is.
+/// A writer of reports that hands them on to another, and behind each line of data one that says
+/// them as a text, and where they are a command or a reply of FILE, one that says what it is.
 #[derive(Drop)]
 pub struct Reports<'a, W: Write> {
     inner: &'a mut W,
@@ -58,9 +58,11 @@ fn full(_: NotWritten) -> io::Error {
 }
 
 impl<'a, W: Write> Reports<'a, W> {
-    /// Nothing was reported yet: it holds the writer that is lent, as it was.
+    /// A writer of reports that has printed nothing yet, in front of this writer.
     pub fn new(inner: &'a mut W) -> Self
-        ensures { (result.inner.ghost_name ≡ inner.entry.ghost_name) × (result.inner.now ≡ inner.old) }
+        // It holds the writer that is lent, to which nothing was written.
+        ensures { (result.inner.ghost_name ≡ inner.entry.ghost_name)
+            × (result.inner.now ≡ inner.old) }
     {
         Reports {
             inner,

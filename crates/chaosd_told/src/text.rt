@@ -37,8 +37,8 @@ fn count_of(text: &[u8]) -> Option<usize> {
     if wanted == 0 { Some(count) } else { None }
 }
 
-/// Why a text, which stands behind so many bytes of its line, stands for no bytes of a packet, where it doesn't. The cost is a walk
-/// over it.
+/// Why a text, which stands behind so many bytes of its line, stands for no bytes of a packet,
+/// where it doesn't. The cost is a walk over it.
 pub fn why_text(text: &[u8], front: usize) -> Option<BadText> {
     if text.len() > LINE_LIMIT {
         return Some(BadText::TooLong);
