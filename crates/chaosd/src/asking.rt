@@ -32,8 +32,10 @@ use std::time::Clock;
 /// The packets of the windows of `ask`.
 const USUAL_WINDOW: u16 = 13;
 
-/// The host that is asked: this one where it is a peer or there is a bridge, else a host that nobody has, which is reported.
+/// The host that is asked, and a report where the line's host can't be asked.
 fn asked_host<R: Eprint>(rt: &R, to: u16, peers: &Peers) -> u16
+    // The host is this one where it is a peer or there is a bridge, otherwise a host that nobody
+    // has.
     ensures { result ≡ asked_host to peers.now }
 {
     if peers.find(to).is_some() {
@@ -136,7 +138,7 @@ fn end_asked<R: Clock + Eprint + Print>(
         has_error,
     } = answered;
     match why {
-        // That the host is no peer was told.
+        // It was reported that the host is no peer.
         Some(Why::NoReply(_)) if asked.server.address == NOBODY => end_script(rt, &end, &None),
         Some(Why::NoReply(why)) => {
             let client = Peer {
@@ -150,7 +152,8 @@ fn end_asked<R: Clock + Eprint + Print>(
     }
 }
 
-/// The exit status of a run over a script, which is refused where it was to end by an error, and did.
+/// The exit status of a run over a script, which is refused where it was to end by an error, and
+/// did.
 fn strict_status(status: ExitStatus, was_error: bool) -> ExitStatus {
     if status == ExitStatus::Done && was_error {
         ExitStatus::Refused
@@ -159,14 +162,23 @@ fn strict_status(status: ExitStatus, was_error: bool) -> ExitStatus {
     }
 }
 
-/// Who is asked by this line. A host that can't be asked is reported.
+/// The server that this line asks, with its route and its UDP addresses. A host that can't be asked
+/// is reported.
 fn asked_of<R: Eprint>(rt: &R, line: &Ask<'_>) -> Asked
+    // The route leads from the line's host to the host that is asked, for the line's contact, by
+    // its carriage. What is kept is sent again after the time that the line gives.
     ensures route { IsAskedBy line.now result.route }
+    // A reply is waited for as long as the line says.
     ensures patience { result.patience ≡ patience_by line.now.timeout }
+    // The run ends by its first error exactly where the line is strict.
     ensures is_strict { result.is_strict ≡ line.now.is_strict }
+    // The client is at the line's UDP address.
     ensures socket { result.socket ≡ line.now.socket }
+    // The server is the host that is asked. Its UDP address is the one that the peers have for it,
+    // otherwise the line's own.
     ensures server { result.server.address ≡ result.route.to }
-    ensures server_socket { result.server.socket ≡ unwrap_or (socket_of result.route.to line.now.peers) line.now.socket }
+    ensures server_socket { result.server.socket
+        ≡ unwrap_or (socket_of result.route.to line.now.peers) line.now.socket }
 {
     let to = asked_host(rt, line.to, &line.peers);
     Asked {
@@ -247,7 +259,8 @@ fn end_unanswered<R: Eprint>(
     end_script(rt, end, &None)
 }
 
-/// Reports that nobody listens where the server is to be, so that the first command gets no reply, and gives the exit status.
+/// Reports that nobody listens where the server is to be, so that the first command gets no reply,
+/// and gives the exit status.
 fn end_refused<R: Eprint + Print>(rt: &R, server: Peer) -> ExitStatus {
     let _ = eprintln!(rt; "chaosd: no server listens at {}", server.socket);
     match println!(rt; "no reply") {

@@ -18,8 +18,10 @@ use std::io::Read;
 /// Where the system gives random bytes.
 const RANDOM: &str = "/dev/urandom";
 
-/// How long a client waits for a reply: so many seconds by the clock, or as long as usual.
+/// How long a client waits for a reply.
 pub(crate) fn patience_of(seconds: Option<u16>) -> Patience
+    // The patience is so many seconds by the clock where they are given, otherwise the usual
+    // patience.
     ensures { result ≡ patience_by seconds }
 {
     match seconds {
@@ -31,6 +33,7 @@ pub(crate) fn patience_of(seconds: Option<u16>) -> Patience
 /// The contact of this name.
 pub(crate) fn contact_of(name: &str) -> Contact
     requires { is_contact name.now ≡ true }
+    // The contact has exactly the bytes of the name.
     ensures { result ≡ name.now }
 {
     match Contact::new(name.as_bytes()) {
@@ -47,8 +50,8 @@ fn drawn<R: Files<File = File>>(rt: &R) -> io::Result<(u16, u8)> {
     Ok((u16::from_le_bytes([low, high]), passed))
 }
 
-/// A run that begins now, with first numbers and indices that nobody can guess. Where the system gives no random bytes, they come from
-/// the clock.
+/// A run that begins now, with first numbers and indices that nobody can guess. Where the system
+/// gives no random bytes, they come from the clock.
 fn epoch_of<R: Dial + Files<File = File>>(rt: &R) -> Result<Epoch, RunFault> {
     match drawn(rt) {
         Ok((first, passed)) => Epoch::drawn(rt, first, passed),
@@ -57,10 +60,14 @@ fn epoch_of<R: Dial + Files<File = File>>(rt: &R) -> Result<Epoch, RunFault> {
 }
 
 /// The numbers and the patience of a copy.
+///
+/// # Errors
+/// `ClockFault` where the clock can't be read.
 pub(crate) fn timing_of<R: Dial + Files<File = File>>(
     rt: &R,
     calling: &Calling<'_>,
 ) -> Result<Timing, RunFault>
+    // A reply is waited for as long as the line says.
     ensures { IfOk result (λ timing. timing.patience ≡ patience_by calling.now.timeout) }
 {
     Ok(Timing {
@@ -69,14 +76,16 @@ pub(crate) fn timing_of<R: Dial + Files<File = File>>(
     })
 }
 
-/// From whom to whom a line calls, by windows of the line's. What is kept is sent again after a time that goes by the round trip, which
-/// is measured first.
+/// From whom to whom a line calls. The time after which what is kept is sent again goes by the
+/// round trip, which is measured first.
 pub(crate) fn route_of<R: AllocGlobal + Dial, L: Link>(
     rt: &R,
     link: &mut L,
     calling: &Calling<'_>,
     timing: Timing,
 ) -> Result<Route, RunFault>
+    // The route leads from the line's host to its server, for its contact, by its carriage and
+    // windows. What is kept is sent again after the time that goes by a round trip.
     ensures { IfOk result (IsRouteOf calling.now) }
 {
     let usual = Route {

@@ -4,9 +4,11 @@ ghost use Rattle.chaosd.specs.Config.{config_by};
 
 use chaos_conn::ConnConfig;
 
-/// Both windows of so many packets, which are sent again after so many milliseconds, and the usual other times. The usual configuration
-/// stands for one that can't be.
+/// The configuration of the connections of a line.
 pub(crate) fn config_of(window: u16, retransmit: u64) -> ConnConfig
+    // Both windows have so many packets, which are sent again after so many milliseconds, and the
+    // other times are the usual ones. The usual configuration stands for a configuration that can't
+    // be.
     ensures { result ≡ config_by window retransmit }
 {
     let usual = ConnConfig::usual();

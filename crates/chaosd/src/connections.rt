@@ -7,7 +7,8 @@ use file_client::Shown;
 use file_server::{Ending, Log};
 use std::time::Clock;
 
-/// Reports each connection that opens and each that ends, but no host that isn't a peer, since such a host isn't answered.
+/// Reports each connection that opens and each that ends, but no host that isn't a peer, since such
+/// a host isn't answered.
 #[derive(Drop)]
 pub(crate) struct Connections<'a, R>(pub(crate) &'a Journal<'a, R>);
 

@@ -25,7 +25,7 @@ fn is_told(copying: &Copying<'_>, is_terminal: bool) -> bool {
     copying.is_verbose || (is_terminal && !copying.is_quiet)
 }
 
-/// Whoever is shown how far a file has come.
+/// Shows how far a file has come.
 fn progress_of<'a, R: AllocGlobal + Eprint>(
     rt: &'a R,
     copying: &Copying<'_>,
@@ -103,7 +103,8 @@ struct Paths<'a> {
 }
 
 impl Naming for Paths<'_> {
-    ghost path = { λ paths local. path_under (option_map (λ t. t.now) paths.given) paths.is_renaming local };
+    ghost path = { λ paths local. path_under (option_map (λ t. t.now) paths.given) paths.is_renaming
+        local };
 
     fn path(&self, local: &str) -> Option<FilePath> {
         match self.given {

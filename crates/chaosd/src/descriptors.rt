@@ -12,8 +12,9 @@ fn open_nowhere<R: Files<File = File>>(rt: &R, is_written: bool) -> Option<File>
     how.open(rt, NOWHERE).ok()
 }
 
-/// Files in the place of those of the three descriptors that are closed, so that no socket gets the number of one: what is written for
-/// a user would go into it. As a closed one does, they fail: that of standard input at each read, and the others at each write.
+/// Files in the place of those of the three descriptors that are closed, so that no socket gets the
+/// number of one: what is written for a user would go into it. As a closed one does, they fail:
+/// that of standard input at each read, and the others at each write.
 pub(crate) fn fill_descriptors<R: Files<File = File>>(rt: &R) -> [Option<File>; 3] {
     let mut held = [None, None, None];
     for place in &mut held {

@@ -13,8 +13,8 @@ use chaosd_io::RunFault;
 use chaosd_line::Calling;
 use file_client::{Call, Route, Timing};
 
-/// A dialog with a server over a talk, a call in a dialog of files. It claims what the talk does, and is over too where nobody listens
-/// where the server is to be.
+/// A dialog with a server over a talk, a call in a dialog of files. It claims what the talk does,
+/// and is over too where nobody listens where the server is to be.
 #[derive(Drop)]
 pub(crate) struct CallDialog<'a, 'r, C, T: Talk> {
     call: T,
@@ -106,7 +106,8 @@ impl<'a, C: Dial + Eprint, L: Link> Dialog for CallDialog<'_, '_, C, Call<'a, C,
         self.call.connect()
     }
 
-    /// Says farewell first, where every reply was received: so no connection is left at the server where a CLS is lost.
+    /// Says farewell first, where every reply was received: so no connection is left at the server
+    /// where a CLS is lost.
     fn end(&mut self) {
         if self.unreceived == 0 && !self.is_refused {
             let _ = self.call.end();

@@ -18,13 +18,15 @@ use std::net::Net;
 
 /// What a line asks of a server's files.
 pub(crate) trait Work<R> {
-    /// Does it over a dialog, which it ends, and reports what came of each file. The answer is the exit status.
+    /// Does it over a dialog, which it ends, and reports what came of each file. The answer is the
+    /// exit status.
     fn run<D: Dialog + Drop>(&self, rt: &R, dialog: D) -> ExitStatus
     where
         D::Why: Display;
 }
 
-/// Calls a server and does the work over that. Where a user asked for more, it reports that it waits for the server.
+/// Calls a server and does the work over that. Where a user asked for more, it reports that it
+/// waits for the server.
 pub(crate) fn run_work<R, W: Work<R>>(
     rt: &R,
     calling: &Calling<'_>,

@@ -6,10 +6,11 @@ ghost use Rattle.chaosd.specs.Framed.{hops_by};
 use chaos_chudp::Hops;
 use chaos_link::Peer;
 
-/// The hops of a host that reaches these hosts directly, and all others through the bridge with this Chaosnet address, where the address
-/// is known.
+/// The hops over which packets of CHUDP leave a host.
 pub(crate) fn hops_of(hosts: &[Peer], bridge: Option<u16>) -> Hops
     requires { length hosts.now ≤ MAX_PEERS }
+    // If the bridge's Chaosnet address is known, these hosts are reached directly, and all others
+    // through the bridge. Otherwise the hops name no host and no bridge.
     ensures { result ≡ hops_by hosts.now bridge }
 {
     match bridge {

@@ -1,7 +1,7 @@
-//! `chaosd`: a thin main over the command line (`chaosd_line`) and the engines (`chaosd_show`, `chaosd_lab`,
-//! `chaosd_filelab`, `chaosd_file`, `file_server`, `chaosd_copies` over `file_client`).
-//! It hands the words to the one, opens the folder and the sockets that they name, hands these with standard input and output to
-//! the others, and ends with their status.
+//! `chaosd`: a thin main over the command line (`chaosd_line`) and the engines (`chaosd_show`,
+//! `chaosd_lab`, `chaosd_filelab`, `chaosd_file`, `file_server`, `chaosd_copies` over
+//! `file_client`). It hands the words to the one, opens the folder and the sockets that they name,
+//! hands these with standard input and output to the others, and ends with their status.
 #![tactic(auto)]
 
 mod asking;
@@ -88,7 +88,8 @@ fn tell_unread<R: Eprint>(rt: &R, fault: WordsFault) -> ExitStatus {
     fault.status()
 }
 
-/// Does what the line asks for. It skips and reports the files that are named by words which are no text. The answer is the exit status.
+/// Does what the line asks for. It skips and reports the files that are named by words which are no
+/// text. The answer is the exit status.
 fn run_readable<R>(rt: &R, line: Line<'_>, marks: &[Mark], terminals: Terminals) -> ExitStatus
 where
     R: AllocGlobal + Clock + Eprint + Files<File = File> + Input + Net + Print,

@@ -23,8 +23,9 @@ pub(crate) fn link_to_server<'a, R: Eprint + Net>(
     Ok(link_to(PeerSocket::new(rt, bound, heard), calling.server))
 }
 
-/// The UDP address that a client hears alone: its server's. Where anybody is to be heard, there is none.
+/// The UDP address that a client hears alone.
 pub(crate) fn heard_alone(server: Peer, hears_anybody: bool) -> Option<SocketAddrV4>
+    // The address is the server's. There is none where anybody is to be heard.
     ensures { result ≡ alone_heard server hears_anybody }
 {
     if hears_anybody {
@@ -66,7 +67,8 @@ fn own_links<R: Net>(rt: &R) -> io::Result<(UdpLink, UdpLink)> {
     Ok((link_to(near, to_server), link_to(far, to_client)))
 }
 
-/// Whether standard input can be read. It is asked before a socket is opened, which would take the place of one that is closed.
+/// Whether standard input can be read. It is asked before a socket is opened, which would take the
+/// place of one that is closed.
 pub(crate) fn has_input<R: Input>(rt: &R) -> bool {
     rt.reader().read(&mut []).is_ok()
 }

@@ -9,9 +9,10 @@ use std::io::ErrorKind;
 use std::net::{SocketAddr, SocketAddrV4, UdpSocket};
 use std::time::Duration;
 
-/// A client's socket. It drops a datagram that comes from another UDP address than its server's, as if none had come: an attacker who
-/// can't send from the server's address has nothing received, whatever the attacker guesses. Where the system's socket is gone, it
-/// reports why. It asks the inner socket exactly what it is asked.
+/// A client's socket. It drops a datagram that comes from another UDP address than its server's, as
+/// if none had come: an attacker who can't send from the server's address has nothing received,
+/// whatever the attacker guesses. Where the system's socket is gone, it reports why. It asks the
+/// inner socket exactly what it is asked.
 #[derive(Drop)]
 pub(crate) struct PeerSocket<'a, R, S = UdpSocket> {
     rt: &'a R,
@@ -27,6 +28,8 @@ impl<'a, R: Eprint, S> PeerSocket<'a, R, S> {
 
     /// Whether a datagram from there is taken.
     fn hears(&self, from: SocketAddr) -> bool
+        // A datagram is taken exactly where it came from the UDP address that is heard alone, or
+        // where anybody is heard.
         ensures { IsTrue result ↔ IsHeard self.now.heard from }
     {
         match (self.heard, from) {

@@ -9,7 +9,7 @@ pub(crate) struct ProgressLine<'a, R: Eprint> {
     rt: &'a R,
     /// The file's name.
     name: String,
-    /// Whether the user is shown anything: standard error is a terminal, and nobody wants quiet.
+    /// Whether the user is shown anything: standard error is a terminal, and the line isn't quiet.
     is_shown: bool,
     /// Whether nothing but mistakes is reported.
     is_quiet: bool,

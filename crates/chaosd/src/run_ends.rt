@@ -8,8 +8,8 @@ use chaosd_io::RunFault;
 use std::fmt::Display;
 use std::io;
 
-/// Reports the fault that a run ended by, where there was one. A bad line of a script is reported in words of its own, without
-/// the program's name.
+/// Reports the fault that a run ended by, where there was one. A bad line of a script is reported
+/// in words of its own, without the program's name.
 pub(crate) fn tell_end<R: Eprint, T>(rt: &R, end: &Result<T, RunFault>) {
     if let Err(fault) = end {
         let _ = match fault {
@@ -19,7 +19,8 @@ pub(crate) fn tell_end<R: Eprint, T>(rt: &R, end: &Result<T, RunFault>) {
     }
 }
 
-/// Reports how a run over a script ended: as [`tell_end`] does, and what is wrong with a bad line, and why a command got no reply.
+/// Reports how a run over a script ended: as [`tell_end`] does, and what is wrong with a bad line,
+/// and why a command got no reply.
 pub(crate) fn tell_script<R: Eprint>(rt: &R, end: &Result<ScriptEnd, RunFault>, why: &Option<Why>) {
     let _ = match (end, why) {
         (Err(fault @ RunFault::BadScript(_)), Some(Why::BadLine(bad))) => {
@@ -33,12 +34,14 @@ pub(crate) fn tell_script<R: Eprint>(rt: &R, end: &Result<ScriptEnd, RunFault>, 
     };
 }
 
-/// Reports what could not be opened, and why. The answer is the status of a program that ends by it.
+/// Reports what could not be opened, and why. The result is the status of a program that ends by
+/// it.
 pub(crate) fn tell_unopened<R: Eprint, D: Display>(
     rt: &R,
     what: &D,
     error: &io::Error,
 ) -> ExitStatus
+    // The status is that of a fault or of memory that ran out.
     ensures { (result ≡ ExitStatus.Fault) ⊎ (result ≡ ExitStatus.NoMemory) }
 {
     if error.kind() == io::ErrorKind::OutOfMemory {
@@ -49,8 +52,9 @@ pub(crate) fn tell_unopened<R: Eprint, D: Display>(
     ExitStatus::Fault
 }
 
-/// Reports the fault by which a run over files could not begin. The answer is its status.
+/// Reports the fault by which a run over files could not begin.
 pub(crate) fn tell_unbegun<R: Eprint>(rt: &R, fault: RunFault) -> ExitStatus
+    // The status is that of the fault.
     ensures { result ≡ status_of_fault fault }
 {
     let _ = eprintln!(rt; "chaosd: no file: {fault}");

@@ -15,6 +15,7 @@ use std::io::Read;
 
 /// The form of the datagrams that are reported.
 fn format_of(show: Show) -> Format
+    // The format is CHUDP where the line asks for CHUDP, otherwise the own format.
     ensures { result ≡ format_by show }
 {
     if show.is_chudp {
@@ -24,7 +25,8 @@ fn format_of(show: Show) -> Format
     }
 }
 
-/// Runs `show` from standard input to standard output. Where it is asked for, what data say stands in the reports too.
+/// Runs `show` from standard input to standard output. Where it is asked for, what data say stands
+/// in the reports too.
 #[inline(never)]
 pub(crate) fn run_show_line<R: Input + Print + Eprint>(rt: &R, show: Show) -> ExitStatus {
     let format = format_of(show);
@@ -38,7 +40,8 @@ pub(crate) fn run_show_line<R: Input + Print + Eprint>(rt: &R, show: Show) -> Ex
     ExitStatus::of_run(end.map(|tally| tally.refused == 0))
 }
 
-/// Reports how a run over a laboratory's script ended: as [`tell_end`] does, and what is wrong with a bad line.
+/// Reports how a run over a laboratory's script ended: as [`tell_end`] does, and what is wrong with
+/// a bad line.
 fn tell_lab<R: Eprint, I: Read, T>(
     rt: &R,
     end: &Result<T, RunFault>,

@@ -104,11 +104,15 @@ fn serve_store<R: AllocGlobal + Clock + Eprint, L: Link, S: Store + Drop>(
     }
 }
 
-/// What a server is asked for.
+/// The options of the service that a line asks for.
 fn options_of(line: &Serve<'_>) -> ServeOptions
+    // The host has the line's address.
     ensures me { result.me ≡ line.now.address }
+    // The connections have the line's windows and its time to send again.
     ensures config { result.config ≡ config_by line.now.window line.now.retransmit }
+    // The service makes as many turns as the line says.
     ensures turns { result.turns ≡ line.now.turns }
+    // Packets go out in the carriage of the line's framing.
     ensures carriage { result.carriage ≡ carriage_of line.now.framing }
 {
     ServeOptions {

@@ -6,9 +6,9 @@ ghost use Rattle.chaosd.specs.Status.{refused_status_of};
 use chaosd_copies::ExitStatus;
 use chaosd_line::LineFault;
 
-/// The status after a refused line, by whether the user could be shown its text: that of the
-/// fault, but 1 for help that could not be written.
+/// The status after a refused line, by whether the user could be shown its text.
 pub(crate) fn refused_status(fault: LineFault, is_shown: bool) -> ExitStatus
+    // The status is that of the refusal. Help that could not be written ends by 1, as a fault does.
     ensures { number_of result ≡ refused_status_of fault is_shown }
 {
     match fault {

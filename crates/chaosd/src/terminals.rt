@@ -15,8 +15,9 @@ pub(crate) struct Terminals {
 }
 
 impl Terminals {
-    /// The terminal at which somebody types, where there is one, to be read without waiting. It is opened anew, since standard input is
-    /// shared with the program that started this one, and would be read so by that too.
+    /// The terminal at which somebody types, where there is one, to be read without waiting. It is
+    /// opened anew, since standard input is shared with the program that started this one, and
+    /// would be read so by that too.
     pub(crate) fn open_input<R: Files<File = File>>(self, rt: &R) -> Option<File> {
         if !self.input {
             return None;

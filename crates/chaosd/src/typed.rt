@@ -9,7 +9,8 @@ use std::fs::File;
 use std::io;
 use std::io::{ErrorKind, Read};
 
-/// The bytes that are asked of a reader at a time. A terminal gives a line at a time, of at most 4,096 bytes.
+/// The bytes that are asked of a reader at a time. A terminal gives a line at a time, of at most
+/// 4,096 bytes.
 const CHUNK: usize = 4_096;
 
 /// Where somebody types.
@@ -20,9 +21,10 @@ pub(crate) struct Typing {
     pub(crate) terminal: Option<File>,
 }
 
-/// A script that is read from standard input. On a terminal it asks for each line by a prompt, and leaves out and reports a line that
-/// stands for no command. Where a run is to end by its first error, it gives a line at a time, and none behind an error. It can be asked
-/// whether a line was typed.
+/// A script that is read from standard input. On a terminal it asks for each line by a prompt, and
+/// leaves out and reports a line that stands for no command. Where a run is to end by its first
+/// error, it gives a line at a time, and none behind an error. It can be asked whether a line was
+/// typed.
 #[derive(Drop)]
 pub(crate) struct Typed<'a, R: Eprint, I: Read> {
     rt: &'a R,
@@ -46,6 +48,7 @@ pub(crate) struct Typed<'a, R: Eprint, I: Read> {
 
 /// How long the first line is, with what ends it.
 fn line_length(bytes: &[u8]) -> usize
+    // The length is at most that of the bytes.
     ensures { result ≤ length bytes.now }
 {
     for i in 0..bytes.len() {
@@ -116,8 +119,9 @@ impl<'a, R: Eprint, I: Read> Typed<'a, R, I> {
         }
     }
 
-    /// Reads once.
+    /// Reads up to 4,096 bytes once.
     fn read_once(&mut self, may_wait: bool) -> io::Result<usize>
+        // At most 4,096 bytes come.
         ensures bound { IfOk result (λ n. n ≤ 4096) }
     {
         match &mut self.typing.terminal {
@@ -147,6 +151,7 @@ impl<'a, R: Eprint, I: Read> Typed<'a, R, I> {
 
     /// How long the next line is, or as much of it as so many bytes hold: nothing at the end.
     fn find(&mut self, most: usize, may_wait: bool) -> io::Result<usize>
+        // The length is at most what was asked for, and the line lies in what came.
         ensures bound { IfOk result (λ n. (n ≤ most) × (self.new.given + n ≤ self.new.came)) }
     {
         for _ in 0..u64::MAX {
@@ -167,6 +172,7 @@ impl<'a, R: Eprint, I: Read> Typed<'a, R, I> {
 
     /// Gives the next line, or as much of it as there is room for.
     fn give(&mut self, buf: &mut [u8]) -> io::Result<usize>
+        // No more bytes are given than there is room for.
         ensures bound { IfOk result (λ n. IsPrefixLen n buf.new) }
     {
         let length = self.find(buf.len(), true)?;
@@ -198,7 +204,8 @@ impl<R: Eprint, I: Read> Read for Typed<'_, R, I> {
     }
 }
 
-/// The way of a script that is typed: at a terminal that can be read without waiting it is asked whether a line was typed.
+/// The way of a script that is typed: at a terminal that can be read without waiting it is asked
+/// whether a line was typed.
 pub(crate) struct ByLook;
 
 impl<R: Eprint, I: Read> Ready<Typed<'_, R, I>> for ByLook {

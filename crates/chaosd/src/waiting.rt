@@ -9,10 +9,12 @@ use std::time::{Clock, Duration};
 /// After so many milliseconds without an answer a client reports whom it waits for.
 const TOLD_AFTER: u64 = 1_000;
 
-/// After so many the system is asked whether anybody listens there, and then again each time that as many have passed.
+/// After so many the system is asked whether anybody listens there, and then again each time that
+/// as many have passed.
 const ASKED_EVERY: u64 = 250;
 
-/// A server that was refused for so many milliseconds isn't there: one that only begins again is there by then.
+/// A server that was refused for so many milliseconds isn't there: one that only begins again is
+/// there by then.
 const GONE_AFTER: u64 = 1_000;
 
 /// What a wait has come to. Moments are milliseconds.
@@ -41,11 +43,13 @@ impl Wait {
     };
 }
 
-/// A client's wait for a server, up to its first answer. After a second the wait is reported, where a user asked for more.
+/// A client's wait for a server, up to its first answer. After a second the wait is reported, where
+/// a user asked for more.
 ///
-/// The system says of a connected UDP socket alone that nobody listens where it sends to. A client's own socket isn't connected, since
-/// a server of several addresses may answer from another one; so a second socket, the probe, is. By it an empty datagram, which no host
-/// takes for a packet, is sent to a server that doesn't answer.
+/// The system says of a connected UDP socket alone that nobody listens where it sends to. A
+/// client's own socket isn't connected, since a server of several addresses may answer from another
+/// one; so a second socket, the probe, is. By it an empty datagram, which no host takes for a
+/// packet, is sent to a server that doesn't answer.
 #[derive(Drop)]
 pub(crate) struct Waiting<'a, R> {
     rt: &'a R,
@@ -150,8 +154,8 @@ impl<'a, R: Eprint> Waiting<'a, R> {
     }
 }
 
-/// A client's socket, whose receives fail once nobody listens where the server is to be. It asks the inner
-/// socket exactly what it is asked.
+/// A client's socket, whose receives fail once nobody listens where the server is to be. It asks
+/// the inner socket exactly what it is asked.
 #[derive(Drop)]
 pub(crate) struct WaitingSocket<'a, R, S = UdpSocket> {
     inner: S,

@@ -21,8 +21,9 @@ pub(crate) enum WordsFault {
 }
 
 impl WordsFault {
-    /// The exit status of a program that ends by this fault: that of the line's fault.
+    /// The exit status of a program that ends by this fault.
     pub(crate) fn status(self) -> ExitStatus
+        // Words that can't be had end the program by the status of the line's own fault.
         ensures { number_of result ≡ words_status self }
     {
         match self {
@@ -43,8 +44,8 @@ impl From<AllocError> for WordsFault {
 pub(crate) struct Mark {
     /// The word's place: the first behind the program's name is at 1.
     pub(crate) place: usize,
-    /// A legal path of FILE, which may therefore stand for each file of a line. It begins with a hyphen where the word does, so that
-    /// a word that would be an option stands for no file.
+    /// A legal path of FILE, which may therefore stand for each file of a line. It begins with a
+    /// hyphen where the word does, so that a word that would be an option stands for no file.
     pub(crate) text: String,
 }
 
