@@ -41,7 +41,7 @@ impl<R: AllocGlobal + Eprint> Work<R> for Delete<'_> {
     }
 }
 
-/// Runs `delete`.
+/// Runs `delete`, and gives the exit status.
 #[inline(never)]
 pub(crate) fn run_delete_line<R>(rt: &R, line: &Delete<'_>, is_terminal: bool) -> ExitStatus
 where
@@ -74,7 +74,7 @@ impl<R: AllocGlobal + Eprint> Work<R> for Rename<'_> {
     }
 }
 
-/// Runs `rename`.
+/// Runs `rename`, and gives the exit status.
 #[inline(never)]
 pub(crate) fn run_rename_line<R>(rt: &R, line: &Rename<'_>, is_terminal: bool) -> ExitStatus
 where

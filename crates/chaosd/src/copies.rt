@@ -78,7 +78,7 @@ where
     }
 }
 
-/// Runs `get`.
+/// Runs `get`, and gives the exit status.
 #[inline(never)]
 pub(crate) fn run_get_line<R>(rt: &R, line: &Get<'_>, is_terminal: bool) -> ExitStatus
 where
@@ -152,7 +152,7 @@ fn lacks_input<R: Input>(rt: &R, locals: &[&str]) -> bool {
     locals.iter().any(|local| *local == STREAM) && !has_input(rt)
 }
 
-/// Runs `put`.
+/// Runs `put`, and gives the exit status.
 #[inline(never)]
 pub(crate) fn run_put_line<R>(rt: &R, line: &Put<'_>, is_terminal: bool) -> ExitStatus
 where

@@ -13,8 +13,8 @@ use chaosd_io::RunFault;
 use chaosd_line::Calling;
 use file_client::{Call, Route, Timing};
 
-/// A dialog with a server over a talk, a call in a dialog of files. It claims what the talk does,
-/// and is over too where nobody listens where the server is to be.
+/// A dialog with a server over a talk, a call in a dialog of files. It promises what the talk
+/// promises, and is over too where nobody listens where the server is to be.
 #[derive(Drop)]
 pub(crate) struct CallDialog<'a, 'r, C, T: Talk> {
     call: T,
@@ -27,7 +27,7 @@ pub(crate) struct CallDialog<'a, 'r, C, T: Talk> {
 }
 
 impl<'a, 'r, C: AllocGlobal + Dial + Eprint, L: Link> CallDialog<'a, 'r, C, Call<'a, C, L>> {
-    /// Nothing is sent yet.
+    /// A dialog by a new call of this route and timing. Nothing is sent yet.
     pub(crate) fn new(
         rt: &'a C,
         link: &'a mut L,

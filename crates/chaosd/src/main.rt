@@ -130,7 +130,7 @@ where
     }
 }
 
-/// The program.
+/// Reads the command line, does what it asks for, and ends with the exit status.
 fn main(rt: HostRuntime) -> ExitCode {
     let _held = fill_descriptors(&rt);
     let terminals = Terminals {

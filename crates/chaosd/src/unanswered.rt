@@ -12,7 +12,7 @@ pub(crate) struct Unanswered {
     /// Whether nobody listens where the server is to be.
     pub(crate) is_refused: bool,
     pub(crate) server: Peer,
-    /// Who asked.
+    /// The client that waits.
     pub(crate) client: Peer,
 }
 

@@ -6,11 +6,11 @@ use std::io::ErrorKind;
 use std::net::{Ipv4Addr, Net, SocketAddr, SocketAddrV4, UdpSocket};
 use std::time::{Clock, Duration};
 
-/// After so many milliseconds without an answer a client reports whom it waits for.
+/// After so many milliseconds without an answer a client reports that it waits for the server.
 const TOLD_AFTER: u64 = 1_000;
 
-/// After so many the system is asked whether anybody listens there, and then again each time that
-/// as many have passed.
+/// After so many milliseconds the system is asked whether anybody listens there, and then again
+/// each time that as many have passed.
 const ASKED_EVERY: u64 = 250;
 
 /// A server that was refused for so many milliseconds isn't there: one that only begins again is
@@ -20,7 +20,7 @@ const GONE_AFTER: u64 = 1_000;
 /// What a wait has come to. Moments are milliseconds.
 #[derive(Clone, Copy)]
 struct Wait {
-    /// Since when it lasts.
+    /// The moment at which the wait began.
     since: Option<u64>,
     /// When the system was asked last, or the wait began.
     asked: u64,

@@ -7,6 +7,7 @@ ghost use Rattle.chaosd_lab.specs.Names.{side_name, state_name, why_name, delive
 use chaos_conn::{ConnFault, Delivered, Disposition, State, Why};
 use chaos_lab::Side;
 
+/// The name of a side in scripts and in what is printed.
 pub fn side_name(side: Side) -> &'static str
     ensures { result.now ≡ side_name side }
 {

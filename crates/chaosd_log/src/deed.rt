@@ -95,7 +95,7 @@ pub enum Deed {
     Wrote(Path, usize),
     /// A file was replaced.
     Replaced(Path, usize),
-    /// A file was taken out.
+    /// A file was deleted.
     Deleted(Path),
     /// A file moved from the first path to the second.
     Renamed(Path, Path),

@@ -14,6 +14,7 @@ pub struct NotedLink<'a, R, L> {
 }
 
 impl<'a, R: Clock + Eprint, L> NotedLink<'a, R, L> {
+    /// This link, with the journal that its reports go to.
     pub fn new(inner: L, journal: &'a Journal<'a, R>) -> Self {
         NotedLink { inner, journal }
     }

@@ -23,6 +23,7 @@ pub struct Player<S: Stage> {
 }
 
 impl<S: Stage> Player<S> {
+    /// A player that has played no line yet.
     pub fn new(alloc: Global) -> Self
         ensures plays { (before : Option (List ℕ)) →
             PlaysLines S.script before (written_of before result.out) result.at [] }
@@ -75,7 +76,7 @@ impl<S: Stage> Player<S> {
         Ok(())
     }
 
-    /// Plays a line.
+    /// Plays a line, the first line or a later one.
     fn play_one<W: Write>(&mut self, writer: &mut W, raw: &[u8]) -> Result<(), RunFault>
         requires { self.old.at.lines ≤ INPUT_LIMIT }
         ensures plays { OnOk result

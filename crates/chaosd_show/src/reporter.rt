@@ -35,6 +35,7 @@ impl Reporter {
     ghost use Rattle.chaosd_io.specs.Buffer.{written_of};
     ghost use Rattle.chaosd_show.specs.Show.{line_report, gap, counted};
 
+    /// A reporter that has reported no line yet.
     pub fn new() -> Self
         ensures out { result.out ≡ [] }
         ensures tally { result.tally ≡ record { reports = 0; refused = 0 } }

@@ -6,9 +6,9 @@ use thiserror::Error;
 /// Which laboratory a script is of.
 #[derive(Clone, Copy, Debug, PartialEq, Eq)]
 pub enum Laboratory {
-    /// `lab`.
+    /// The laboratory of `lab`, with two ends of a connection.
     Ends,
-    /// `filelab`.
+    /// The laboratory of `filelab`, with a server of FILE.
     Files,
 }
 
@@ -29,7 +29,7 @@ pub enum BadLine {
     Serve,
     #[error("it is none of write, read, window, tick, close, accept, deliver, and settle, serve in `filelab`")]
     NoWord,
-    /// Its form.
+    /// It isn't of this form, which its first word needs.
     #[error("wanted is `{0}`, with one space between fields")]
     Form(&'static str),
     #[error("the text: {0}")]

@@ -137,7 +137,7 @@ impl Watch<'_> {
         end + 1
     }
 
-    /// These bytes were written.
+    /// Looks at bytes that were written, line by line.
     fn note(&mut self, bytes: &[u8]) {
         let mut at = 0;
         while at < bytes.len() {

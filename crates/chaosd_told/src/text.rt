@@ -10,7 +10,7 @@ const MOST: usize = 488;
 pub enum BadText {
     #[error("it has more than 4096 bytes")]
     TooLong,
-    /// Counted from 1.
+    /// The place of the byte, counted from 1.
     #[error("its byte {0} is no printing character of ASCII")]
     NotPrinting(usize),
     #[error("two lower-case hexadecimal digits are wanted behind each \\")]

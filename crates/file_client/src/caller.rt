@@ -26,11 +26,11 @@ use std::marker::Model;
 pub(crate) struct Caller {
     host: Host,
     out: Outbox,
-    /// The server's address.
+    /// The server's Chaosnet address.
     to: u16,
     /// What the server is asked for.
     contact: Contact,
-    /// How packets are sent.
+    /// The form of the datagrams in which packets go out.
     carriage: Carriage,
     id: Option<ConnId>,
     /// The moment at which a connection was asked for last.

@@ -428,7 +428,7 @@ impl Client {
         self.reply_timer.no_reply()
     }
 
-    /// Looks at the clock.
+    /// Reads the clock, and keeps its moment for what is done next.
     pub(crate) fn look<T: Turns>(&mut self, turns: &T) -> Result<(), RunFault>
         ensures faults { IfErr result
             (λ fault. (fault ≡ RunFault.ClockFault) × T.stops (T.time turns.now)) }

@@ -32,9 +32,10 @@ pub const TRAINS_OF_A_WINDOW: u64 = 4;
 pub const TRIP_MILLIS: u64 = 1_000;
 
 /// A client that measured the round trip sends again what it keeps after so many milliseconds at
-/// least, and at most.
+/// least.
 pub const LEAST_RETRANSMIT: u64 = 20;
 
+/// It sends again what it keeps after so many milliseconds at most.
 pub const MOST_RETRANSMIT: u64 = 500;
 
 /// The times and numbers of a client as numerals.

@@ -1,14 +1,14 @@
-//! Who calls whom.
+//! From whom to whom a client calls, and how.
 use crate::contact::Contact;
 use chaos_conn::ConnConfig;
 use chaos_link::Carriage;
 
-/// Who calls whom, and how.
+/// Two hosts, the contact, and how packets go between them.
 #[derive(Clone, Copy)]
 pub struct Route {
     /// The client's own Chaosnet address, which isn't 0.
     pub me: u16,
-    /// The server's.
+    /// The server's Chaosnet address.
     pub to: u16,
     /// The contact that the server is asked for.
     pub contact: Contact,

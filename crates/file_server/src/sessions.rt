@@ -195,7 +195,7 @@ impl Kept {
         self.may_hold
     }
 
-    /// Gives its files back.
+    /// Gives the files back that its session has open.
     fn drop_files(&mut self)
         ensures { self.new ≡ without_files self.old }
     {

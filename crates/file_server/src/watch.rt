@@ -108,7 +108,7 @@ fn is_same(was: &Option<Seen>, there: &Option<Seen>) -> bool
     }
 }
 
-/// Why a connection ended.
+/// Why a connection ended, by the first of these that is so.
 fn ending_of(is_down: bool, eof: bool, is_unacknowledged: bool) -> Ending
     ensures { result ≡ ending_of is_down eof is_unacknowledged }
 {
