@@ -18,7 +18,7 @@ use std::net::Net;
 
 /// What a line asks of a server's files.
 pub(crate) trait Work<R> {
-    /// Does it over a dialog, which it ends, and reports what came of each file. The answer is the
+    /// Does it over a dialog, which it ends, and reports what came of each file. The result is the
     /// exit status.
     fn run<D: Dialog + Drop>(&self, rt: &R, dialog: D) -> ExitStatus
     where

@@ -51,7 +51,7 @@ use std::process::ExitCode;
 use std::rt::Env;
 use std::time::Clock;
 
-/// Does what the line asks for. On terminals more is reported. The answer is the exit status.
+/// Does what the line asks for. On terminals more is reported. The result is the exit status.
 ///
 /// No run is inlined here, so that none takes the stack of all.
 fn run_line<R>(rt: &R, line: Line<'_>, terminals: Terminals) -> ExitStatus
@@ -82,14 +82,14 @@ fn refuse<R: Print + Eprint>(rt: &R, error: &Error) -> ExitStatus {
     refused_status(LineFault::from(error.kind()), is_shown)
 }
 
-/// Reports why the line can't be had. The answer is the status.
+/// Reports why the line can't be had. The result is the status.
 fn tell_unread<R: Eprint>(rt: &R, fault: WordsFault) -> ExitStatus {
     let _ = eprintln!(rt; "chaosd: {fault}");
     fault.status()
 }
 
 /// Does what the line asks for. It skips and reports the files that are named by words which are no
-/// text. The answer is the exit status.
+/// text. The result is the exit status.
 fn run_readable<R>(rt: &R, line: Line<'_>, marks: &[Mark], terminals: Terminals) -> ExitStatus
 where
     R: AllocGlobal + Clock + Eprint + Files<File = File> + Input + Net + Print,
@@ -110,7 +110,7 @@ where
     status
 }
 
-/// Reads the command line and does what it asks for. The answer is the exit status.
+/// Reads the command line and does what it asks for. The result is the exit status.
 fn run<R>(rt: &R, terminals: Terminals) -> ExitStatus
 where
     R: AllocGlobal + Clock + Env + Eprint + Files<File = File> + Input + Net + Print,

@@ -14,9 +14,9 @@ pub struct Places {
     pub why: Option<Why>,
 }
 
-/// Reads the bytes of the command that a line stands for into a place of the caller's, where it is
-/// a text of at most 4,096 bytes that stands for no more than a packet has. A carriage return at
-/// its end is ignored.
+/// Reads the command that a line stands for into a place of the caller's. The line is a text of at
+/// most 4,096 bytes that stands for no more than a packet has. A carriage return at its end is
+/// ignored.
 #[tactic(auto, unfolding(crate::specs::Command::command_of))]
 pub fn read_command(raw: &[u8], command: &mut Data) -> Option<()>
     ensures { option_map (λ none. command.new.items) result ≡ command_of raw.now }

@@ -1,9 +1,9 @@
 //! The engines of the program `chaosd` that run a script of FILE: `loop` and `ask`.
 //!
 //! They work on readers, writers, links and a clock that their callers hand in. `command` reads a
-//! line of a script, `replies` prints, `ready` has how a reader is asked whether it has something
-//! to give, `script` runs a script by a client, and `loop_run` and `ask_run` are the engines. `why`
-//! has why a line is bad and why no reply came.
+//! line of a script, and `replies` prints. `ready` has how a reader is asked whether it has
+//! something to give. `script` runs a script by a client, and `loop_run` and `ask_run` are the
+//! engines. `why` has why a line is bad and why no reply came.
 #![tactic(auto)]
 
 mod ask_run;

@@ -183,9 +183,13 @@ impl<A: Link, B: Link> Turns for Both<'_, A, B> {
 /// no clause speaks of it.
 ///
 /// # Errors
-/// [`RunFault`]: 1 where the reader fails or is interrupted 2,000,000 times, 2 where the writer
-/// fails, 3 where more than 1,048,576 bytes come, 4 where there is no memory for the hosts, 5 at a
-/// line that stands for no command, 6 where a link failed, after the turn in which it did.
+/// [`RunFault`], by its number:
+/// - 1: the reader fails or is interrupted 2,000,000 times.
+/// - 2: the writer fails.
+/// - 3: more than 1,048,576 bytes come.
+/// - 4: there is no memory for the hosts.
+/// - 5: a line stands for no command.
+/// - 6: a link failed; the run ends after that turn.
 pub fn run_loop<R: Read, W: Write, A: Link, B: Link>(
     alloc: Global,
     reader: &mut R,

@@ -22,10 +22,13 @@ use std::io::{Read, Write};
 /// file.
 ///
 /// # Errors
-/// [`RunFault`]: 1 where the reader fails or is interrupted 2,000,000 times, 2 where the writer
-/// fails, 3 where more than 1,048,576 bytes come, 4 where an event or the start ran out of memory,
-/// or where a `serve` wrote an out-of-memory reply, of which nothing is printed, 5 at a line that
-/// is of no form.
+/// [`RunFault`], by its number:
+/// - 1: the reader fails or is interrupted 2,000,000 times.
+/// - 2: the writer fails.
+/// - 3: more than 1,048,576 bytes come.
+/// - 4: an event or the start ran out of memory, or a `serve` wrote an out-of-memory reply, of
+///   which nothing is printed.
+/// - 5: a line is of no form.
 pub fn run_filelab<R: Read, W: Write>(
     alloc: Global,
     reader: &mut R,

@@ -95,11 +95,11 @@ impl<const KEPT: usize> LineReader<KEPT> {
     /// The cost is a look at each of its bytes.
     #[inline]
     pub fn cut(&mut self) -> bool
-        // It leaves fewer bytes to look at each time.
+        // If it gives a line, fewer bytes wait to be cut.
         ensures less { result ≡ true → length self.new.waiting < length self.old.waiting }
-        // If it gives no line, nothing that came is left to cut.
+        // If it gives no line, nothing waits to be cut.
         ensures none { result ≡ false → self.new.waiting ≡ [] }
-        // The limit and the interruptions stay as they are.
+        // How much more may come, and the interruptions, stay as they are.
         ensures room { self.new.room ≡ self.old.room }
         ensures interruptions { self.new.interruptions ≡ self.old.interruptions }
         // It gives the next line that ends in what came, or all such lines were given.

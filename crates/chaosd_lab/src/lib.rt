@@ -3,9 +3,9 @@
 //!
 //! It works on a reader and a writer that its caller hands in, with the laboratory of `chaos_lab`,
 //! and `chaosd_script` plays its lines. `fields` divides a line, `numbers` reads what a field says,
-//! `command` is what a line asks for and `parse` reads it, `start` reads the first line, `names`
-//! and `answers` print what came of a line, `line` plays it, `typed` prints the line that asks for
-//! an event, `settle` lets both ends settle, and `run` is the whole.
+//! `command` is what a line asks for and `parse` reads it. `start` reads the first line, and `line`
+//! plays a later one. `names` and `answers` print what came of a line, and `typed` prints the line
+//! that asks for an event. `settle` lets both ends settle, and `run` is the whole.
 #![tactic(auto)]
 
 mod answers;

@@ -16,16 +16,14 @@ use std::time::Clock;
 /// Writes the lines of a log to standard error, each with a time in front where that is asked for:
 /// UTC, as RFC 3339 has it. A line that can't be written is dropped.
 ///
-/// A [`Limiter`] says which lines are left out, so that nobody fills a disk by requests. How many
-/// lines about a matter were left out is reported with the first line about the matter in a later
-/// second, at the end of a turn in a later second, or at the end of the run. Where the clock can't
-/// be read, all lines count as lines of the last second that was read; the first such fault is
-/// logged.
+/// A [`Limiter`] says which lines are left out, so that nobody fills a disk by requests. The number
+/// of lines that were left out about a matter is reported in a later second, with the first line
+/// about the matter or at the end of a turn, or at the end of the run. Where the clock can't be
+/// read, all lines count as lines of the last second that was read; the first such fault is logged.
 ///
 /// The link, the socket and the store of a server share it, so a clause knows nothing of what it
-/// holds. What was done to a file is kept until the next datagram is sent: the turn of a server
-/// sends the reply to a command right behind it, so that datagram goes to the host whose command it
-/// was.
+/// holds. What was done to a file is kept until the next datagram is sent. The turn of a server
+/// sends the reply right behind a command, so that datagram goes to the host whose command it was.
 #[derive(Drop)]
 pub struct Journal<'a, R> {
     rt: &'a R,
@@ -92,7 +90,7 @@ impl<'a, R: Clock + Eprint> Journal<'a, R> {
         let _ = self.is_logged(matter, line);
     }
 
-    /// Logs a line as [`Journal::tell`] does. The answer is whether the line was written.
+    /// Logs a line as [`Journal::tell`] does. Says whether the line was written.
     fn is_logged<D: Display>(&self, matter: Matter, line: &D) -> bool {
         if !self.level.is_told(matter) {
             return false;
@@ -293,7 +291,7 @@ impl<'a, R: Clock + Eprint> Journal<'a, R> {
     }
 }
 
-/// The notes of a store in a journal, which claim nothing.
+/// The notes of a store in a journal, which promise nothing.
 #[derive(Drop)]
 pub struct Pages<'a, R>(pub &'a Journal<'a, R>);
 

@@ -11,8 +11,8 @@ use chaos_file::{DirStore, Got, Removed, Renamed, Store, Stored};
 use std::alloc::Global;
 use std::fs::{File, Files};
 
-/// The store of a folder, of which note is taken: what each call did, why a request failed, and
-/// what the system said where the system refused a call, which the reply to a command does not say.
+/// The store of a folder, with notes of what each call did and why a request failed. If the system
+/// refused a call, it notes what the system said, which the reply to the command doesn't say.
 #[derive(Drop)]
 pub struct NotedStore<'a, R: Files<File = File>, N> {
     inner: DirStore<&'a R>,
@@ -62,7 +62,7 @@ impl<'a, R: Files<File = File>, N: Notes> NotedStore<'a, R, N> {
 }
 
 impl<R: Files<File = File>, N: Notes> Store for NotedStore<'_, R, N> {
-    // It claims no files, as the store of a folder does not.
+    // It promises nothing of files, as the store of a folder does not.
     ghost contents = { λ _. None };
 
     ghost may_give = { λ _ _ _ _. Unit {0} };

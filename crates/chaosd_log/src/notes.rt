@@ -8,7 +8,7 @@ use std::io;
 
 /// Takes note of what a store did, and of what it could not do.
 pub trait Notes {
-    /// What was done so far, in order. `None` for one that claims nothing.
+    /// What was done so far, in order. `None` for notes that promise nothing.
     ghost noted: { Self → Option (List Deed) };
 
     /// Notes what was done.

@@ -19,9 +19,12 @@ use std::io::{Read, Write};
 /// at each byte and what each line costs.
 ///
 /// # Errors
-/// [`RunFault`]: 1 where the reader fails or is interrupted 2,000,000 times, 2 where the writer
-/// fails, 3 where more than 1,048,576 bytes come, 4 where a line or the start ran out of memory, 5
-/// at a line that is of no form.
+/// [`RunFault`], by its number:
+/// - 1: the reader fails or is interrupted 2,000,000 times.
+/// - 2: the writer fails.
+/// - 3: more than 1,048,576 bytes come.
+/// - 4: a line or the start ran out of memory.
+/// - 5: a line is of no form.
 pub fn run_script<S: Stage, R: Read, W: Write>(
     alloc: Global,
     reader: &mut R,

@@ -1,8 +1,8 @@
 //! The engine `show` of the program `chaosd`: lines of hexadecimal digits in, a report of each out.
 //!
-//! `run` takes the lines of an input one after another, `reporter` reports a line and counts it,
-//! `entry` says what a line is, `chudp` what a CHUDP datagram is, `hex` reads the digits of a line,
-//! and `report` prints a packet. It allocates nothing.
+//! `run` takes the lines of an input one after another, and `reporter` reports a line and counts
+//! it. `entry` says what a line is, and `chudp` what a CHUDP datagram is. `hex` reads the digits of
+//! a line, and `report` prints a packet. It allocates nothing.
 #![tactic(auto)]
 
 mod chudp;

@@ -59,8 +59,10 @@ pub fn run_show<R: Read, W: Write>(reader: &mut R, writer: &mut W) -> Result<Tal
 /// comes and goes. No memory is taken.
 ///
 /// # Errors
-/// [`RunFault`]: 1 where the reader fails or is interrupted 2,000,000 times, 2 where the writer
-/// fails, 3 where more than 1,048,576 bytes come.
+/// [`RunFault`], by its number:
+/// - 1: the reader fails or is interrupted 2,000,000 times.
+/// - 2: the writer fails.
+/// - 3: more than 1,048,576 bytes come.
 pub fn run_show_by<R: Read, W: Write>(
     format: Format,
     reader: &mut R,

@@ -13,8 +13,9 @@ const LINE: usize = 2_048;
 /// No line of a report, with what is said beside it, has more bytes.
 const ROOM: usize = 8_192;
 
-/// A writer of reports that hands them on to another, and behind each line of data one that says
-/// them as a text, and where they are a command or a reply of FILE, one that says what it is.
+/// A writer of reports that hands them on to another writer. Behind each line of data it adds a
+/// line that says them as a text. If they are a command or a reply of FILE, it adds a line that
+/// says what it is.
 #[derive(Drop)]
 pub struct Reports<'a, W: Write> {
     inner: &'a mut W,

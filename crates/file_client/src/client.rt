@@ -205,7 +205,7 @@ impl Client {
         // The client's moment is one that its turns may show.
         ensures moment { OnOk result ((T.pace (T.time turns.old)).Shows self.new.now) }
         // However a turn ends, its link was asked just what a turn asks: to send what waited, once
-        // to receive, for which it may wait as the pace says, and to send what the turn put out. If
+        // to receive, and to send what the turn put out. The receive may wait as the pace says. If
         // the clock couldn't be read, the link was asked nothing.
         ensures went { TurnsOrStops (T.pace (T.time turns.old))
             (Asks (T.asked turns.old) (T.asked turns.new)) self.old.now self.new.now

@@ -2,10 +2,10 @@
 ghost use Rattle.std.specs.Prelude.{◌≡◌};
 ghost use Rattle.file_client.specs.declared.limits.TheConstants.{COMMAND_TURNS, END_TURNS, LEAST_RETRANSMIT, MOST_RETRANSMIT, MOST_TURNS, OPEN_MILLIS, OPEN_SHARE, TRAIN, TRAINS_OF_A_WINDOW, TRIP_MILLIS};
 
-/// The most milliseconds for which a client waits for the OPN of the first connection that it asks
-/// for, before it asks for another: its server may still have a connection of this address and
-/// index, of a client that was killed, and drops a request for that with another number. Each
-/// further wait is twice as long, so that a connection opens over a network of any delay.
+/// For how many milliseconds a client waits at most for the OPN of its first connection, before it
+/// asks for another connection. Its server may still hold this address and index for a client that
+/// was killed, and drops a request for them with another number. Each further wait is twice as
+/// long, so that a connection opens over a network of any delay.
 pub const OPEN_MILLIS: u64 = 2_000;
 
 /// The first OPN is waited for at most this part of the time for which a reply is waited for: a

@@ -103,8 +103,8 @@ pub trait Turns: Drop {
     ) -> Result<(), RunFault>
         requires { TURN_ROOM ≤ out.old.cap }
         // A turn is a client's, over its link and by the carriage. The link is asked to send what
-        // waited, once to receive, for which it may wait as the pace says, and to send what the
-        // turn put out, and nothing else.
+        // waited, once to receive, and to send what the turn put out, and nothing else. The receive
+        // may wait as the pace says.
         ensures turned { TakesTurn (Asks (asked self.old) (asked self.new))
             ((pace (time self.old)).Waits may_wait) carriage now host.old host.new (queue self.old)
             (queue self.new) out.old out.new }

@@ -40,8 +40,10 @@ pub struct ServeOptions {
 /// versions are read. The host takes its memory first, and later only files take some.
 ///
 /// # Errors
-/// [`RunFault`]: 4 where there is no memory for the host, 6 where the link failed, after the turn
-/// in which it did, 7 where the clock can't be read.
+/// [`RunFault`], by its number:
+/// - 4: there is no memory for the host.
+/// - 6: the link failed; the run ends after that turn.
+/// - 7: the clock can't be read.
 pub fn run_serve<C: Dial, L: Link, S: Store>(
     clock: &C,
     alloc: Global,

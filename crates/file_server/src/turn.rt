@@ -96,8 +96,8 @@ pub(crate) fn make_turn<S: Store, L: Link>(
 /// next turn wait.
 ///
 /// `LinkFault` exactly where the link's count of failures rose in the turn, or stands at its
-/// greatest; a packet whose send failed is lost, and the turn goes on to its end. Else `Worked`
-/// where a datagram came or a packet was sent, else `Idle`.
+/// greatest; a packet whose send failed is lost, and the turn goes on to its end. Otherwise
+/// the turn ends by `Worked` where a datagram came or a packet was sent, and by `Idle` where not.
 ///
 /// The sessions are as many as the host's slots, and the outbox has room for [`TURN_ROOM`] packets
 /// at least. A turn walks over the slots five times, and an RFC once more. No memory is taken but
@@ -125,12 +125,12 @@ pub fn run_turn<S: Store, L: Link>(
     // datagram of either version are delivered in order, and a request for FILE is accepted before
     // the next packet is delivered. Each slot in use is served once. At the end the open files of
     // each slot without a connection are given back, and the name of its user stays. `Worked` or
-    // `Idle` says whether packets waited, a datagram came or a packet was sent. Whatever the link
-    // is and answers, the turn asks of it exactly this, in this order: to send what waited; once to
-    // receive, waiting or not as `may_wait` says; to send the packets of the turn, lot by lot, each
-    // to its destination. By carriage 1 a packet is sent as its canonical datagram. By carriage 2
-    // the packets that are sent at once go as the datagrams of their loads. Over a queue they go
-    // out so.
+    // `Idle` says whether packets waited, a datagram came or a packet was sent.
+    // Whatever the link is and answers, the turn asks of it exactly three things, in this order. It
+    // asks to send what waited. It asks once to receive, waiting or not as `may_wait` says. It asks
+    // to send the packets of the turn, lot by lot, each to its destination. By carriage 1 a packet
+    // is sent as its canonical datagram. By carriage 2 the packets that are sent at once go as the
+    // datagrams of their loads. Over a queue they go out so.
     ensures turn { RunsTurn (change S.contents S.may_give S.count) None
         (Asks (L.asked link.old) (L.asked link.new)) may_wait carriage start now
         (station (server host.old sessions.old store.old) (L.queue link.old) out.old)
