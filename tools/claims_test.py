@@ -345,9 +345,7 @@ def example(folder):
     (top / "crates/demo/specs").mkdir()
     for name, text in SPECS.items():
         (top / f"crates/demo/specs/{name}.antt").write_text(text)
-    (top / "crates/demo_second_bodies/src").mkdir(parents=True)
-    (top / "crates/demo_second_bodies/src/lib.rt").write_text("pub fn helper() {}\n")
-    (top / "crates.txt").write_text("# crates\ndemo: thiserror\ndemo_second_bodies: demo # of another\n")
+    (top / "crates.txt").write_text("# crates\ndemo: thiserror # of another\n")
     (top / "crates/demo/CALLING.md").write_text(TOLD)
     (top / "docs/PROVED.md").write_text(SAID)
     return top, top / "crates/demo/CALLING.md"

@@ -106,8 +106,8 @@ class Crate:
         self.types, self.ghosts = {}, {}
         self.traits = set()
         self.exports = set()
-        # not a program, and not what second bodies stand in
-        self.is_library = (folder / "src/lib.rt").is_file() and not folder.name.endswith("_second_bodies")
+        # not a program
+        self.is_library = (folder / "src/lib.rt").is_file()
         for file in sorted((folder / "src").rglob("*.rt")):
             if file.stem == "tests" or "tests" in file.parts:
                 continue
