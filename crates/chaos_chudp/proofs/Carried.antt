@@ -22,9 +22,6 @@ use Rattle.chaos_chudp.proofs.Summed.{IsWord, words_small, self_checked}
 -- ---- the parts of what carries a packet
 
 module _ {p : PacketView} {to from : ℕ} {bs : List ℕ} (c : CarriesChudp p to from bs) where
-  abbrev tail_words : List ℕ
-  tail_words = to ∷ from ∷ c.check ∷ []
-
   pub behind_head : drop 4 bs ≡ wire c.words ++ wire (to ∷ from ∷ c.check ∷ [])
   behind_head = ap (drop 4) c.bytes ∙ wire-append c.words (to ∷ from ∷ c.check ∷ [])
 

@@ -8,7 +8,7 @@ use Rattle.chaos_link.proofs.Carried.{all_below}
 use Rattle.chaos_link.specs.Link.{Addressed, QueueView, HandsOut, ReceivesFrom}
 use Rattle.chaos_link.specs.declared.link.Received.{Received}
 use Rattle.chaos_link.specs.declared.link.Received.TheVariants as receiving
-use Rattle.chaos_chudp.specs.Link.{HandsUp, HandsUpOldest, HandsUpSome, HandedUp, HearsFrom, IsHandedUpAsSent, handed_by}
+use Rattle.chaos_chudp.specs.Link.{HandsUp, HandsUpOldest, HandedUp, HearsFrom, IsHandedUpAsSent, handed_by}
 use Rattle.chaos_chudp.specs.Chudp.{chudp_form}
 use Rattle.chaos_chudp.proofs.Carried.{form_carries, form_plain, no_fault}
 
@@ -30,23 +30,6 @@ pub heard : (before after : Option QueueView) (old came new : List ℕ) (receive
 heard None after old came new received result queued handed = tt
 heard (Some queue) after old came new received result queued handed =
     (oldest_handed queue.datagrams old came new received result queued.0 handed, queued.1)
-
-pub some_handed : (came new : List ℕ) (received result : Received) → HandedUp came received new result
-    → HandsUpSome new result
-some_handed came new (receiving.Got count) result handed = rw handed.0 (take count came, (refl, handed.1))
-some_handed came new receiving.Nothing result handed = rw handed tt
-some_handed came new receiving.Failed result handed = rw handed tt
-
--- It failed where the link beneath failed, and nowhere else.
-pub failed_beneath : (came new : List ℕ) (received result : Received) → HandedUp came received new result
-    → result ≡ receiving.Failed → received ≡ receiving.Failed
-failed_beneath came new (receiving.Got count) result handed failed = let both = handed.0 in cc (both, failed)
-failed_beneath came new receiving.Nothing result handed failed = cc
-failed_beneath came new receiving.Failed result handed failed = refl
-
-pub failed_above : (came new : List ℕ) (received result : Received) → HandedUp came received new result
-    → received ≡ receiving.Failed → result ≡ receiving.Failed
-failed_above came new received result handed failed = rw failed at handed
 
 -- What was sent is handed up.
 pub same_datagram : IsHandedUpAsSent

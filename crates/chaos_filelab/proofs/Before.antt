@@ -2,7 +2,6 @@
 use Rattle.std.proofs.Common.{◌≡◌, List, [], ◌∷◌, ◌++◌, length, take, true, false, Result, Ok, Err, OnErr, refl, sym, ap, ◌∙◌, inl, inr, arith, append_assoc, length-append}
 use Rattle.std.specs.Prelude.{is_err}
 use Rattle.std.proofs.lemmas.Bool.{false≢true}
-use Rattle.std.proofs.lemmas.List.{append-nil}
 use Rattle.chaos_lab.specs.declared.fault.LabFault.{LabFault}
 use Rattle.chaos_filelab.specs.View.{FileLabView}
 use Rattle.chaos_filelab.specs.declared.event.FileStepped.{FileStepped}
@@ -16,9 +15,6 @@ pub record Before (start : FileLabView) (whole : List FileHappening) (now : File
   pub done : List FileHappening
   pub at : now ≡ after_events start done
   pub all : whole ≡ done ++ rest
-
-pub before_none : (l : FileLabView) (whole rest : List FileHappening) → rest ≡ whole → Before l whole l rest
-before_none l whole rest same = record { done = []; at = refl; all = sym same }
 
 after_both : (l : FileLabView) (es fs : List FileHappening)
     → after_events l (es ++ fs) ≡ after_events (after_events l es) fs
@@ -34,11 +30,6 @@ before_one l whole now next event rest others b is goes =
       at = goes ∙ ap (λ (m : FileLabView). (file_happen m event).view) b.at ∙ sym (after_both l b.done (event ∷ []));
       all = b.all ∙ ap (λ es. b.done ++ es) is ∙ sym (append_assoc b.done (event ∷ []) others);
     }
-
-pub before_all : (l : FileLabView) (whole : List FileHappening) (now : FileLabView) (rest : List FileHappening)
-    → Before l whole now rest → rest ≡ [] → now ≡ after_events l whole
-before_all l whole now rest b none =
-    b.at ∙ ap (after_events l) (sym (b.all ∙ ap (λ es. b.done ++ es) none ∙ append-nil b.done))
 
 first_of : (done rest : List FileHappening) → take (length done) (done ++ rest) ≡ done
 first_of [] rest = refl

@@ -100,14 +100,8 @@ pub record SameBodies (e f : List ItemView × List ItemView) : Type 0 where
   pub written : data_bodies f.0 ≡ data_bodies e.0
   pub read : data_bodies f.1 ≡ data_bodies e.1
 
-lists_of : Plain → List ItemView × List ItemView
-lists_of e = (e.written, e.read)
-
 stays_bodies : (e f : Plain) → Stays e f → SameBodies (e.written, e.read) (f.written, f.read)
 stays_bodies e f s = record { written = ap data_bodies s.written; read = ap data_bodies s.read }
-
-some_is : {X : Type 0} → {x y : X} → Some x ≡ Some y → x ≡ y
-some_is h = cc
 
 -- an item 0 that isn't data adds no body
 first_read : (p e : Plain) (o : Option ItemView) → length e.read ≡ 0 → ((item : ItemView) → o ≡ Some item → item.op ≡ 1)

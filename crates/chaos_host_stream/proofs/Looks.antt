@@ -1,10 +1,8 @@
 -- Looks at a stream, and consuming, by the calls of a host.
-use Rattle.std.proofs.Common.{◌≡◌, ℕ, ◌+◌, ◌≤◌, true, false, if◌then◌else◌, List, [], drop, length, Option, Some, None, Ok, Err, refl, ap, sym, ◌∙◌, subst, arith, append-nil}
+use Rattle.std.proofs.Common.{◌≡◌, ℕ, ◌+◌, ◌≤◌, true, false, if◌then◌else◌, List, [], drop, length, Option, Some, None, Ok, refl, ap, sym, ◌∙◌, subst, arith, append-nil}
 use Rattle.std.proofs.Math.Seq.{drop-nil}
-use Rattle.std.proofs.lemmas.List.{length-drop}
 use Rattle.chaos_packet.specs.Opcode.{kind_of}
 use Rattle.chaos_packet.specs.Outbox.{OutboxView, with_put}
-use Rattle.chaos_packet.specs.declared.limits.TheConstants.{MAX_DATA}
 use Rattle.chaos_packet.specs.declared.opcode.Kind.{Kind}
 use Rattle.chaos_packet.specs.declared.opcode.Kind.TheVariants as kind
 use Rattle.chaos_conn.specs.View.{ConnView}
@@ -13,14 +11,13 @@ use Rattle.chaos_conn.specs.Act.{FinishRead, act}
 use Rattle.chaos_conn.proofs.ConfigStays.{config_stays}
 use Rattle.chaos_conn.specs.declared.answers.ReadEnd.{ReadEnd}
 use Rattle.chaos_conn.specs.declared.answers.ReadEnd.TheVariants as end
-use Rattle.chaos_host.specs.declared.fault.CallFault.{CallFault}
 use Rattle.chaos_host.specs.declared.slot.Slot.{Slot}
 use Rattle.chaos_host.specs.Slot.{named_slot}
 use Rattle.chaos_host.specs.View.{HostView, look_slot}
 use Rattle.chaos_host.specs.Acted.{HostDoes}
 use Rattle.chaos_host.specs.Calls.{HostReply, call_slot, host_call}
 use Rattle.chaos_host.proofs.InUse.{stays_in_use}
-use Rattle.chaos_stream.specs.Reading.{Sight, Bytes, Eof, Nothing, Ended, item_sight, read_sight, peek_of, lent_by, uses_up, after_item, at_place}
+use Rattle.chaos_stream.specs.Reading.{Sight, Bytes, Eof, Nothing, Ended, item_sight, read_sight, peek_of, uses_up, after_item, at_place}
 use Rattle.chaos_host_stream.specs.Stream.{StreamView}
 use Rattle.chaos_host_stream.specs.Reading.{sight_from, peek_at, ConsumesBytes, ConsumesFound, ConsumesAt}
 use Rattle.chaos_host_stream.proofs.Named.{with_same, named_used, became}
@@ -48,19 +45,6 @@ peek_found None v place sight e shown = absurd (cc)
 peek_found (Some slot) v place sight e shown =
     let same : v ≡ slot.conn = cc in
     ap Ok (shown ∙ peek_from v place ∙ ap (λ conn. peek_of conn place) same)
-
-pub peek_refused : {A B : Type 0} (look : ConnView → A) (other : ConnView → B) (found : Option Slot) (fault : CallFault)
-    → Err fault ≡ look_slot look found → Err fault ≡ look_slot other found
-peek_refused look other None fault e = cc
-peek_refused look other (Some slot) fault e = absurd (cc)
-
--- what is lent from a place on ends within a packet's bytes
-pub lent_fits : (whole : Sight) (place : ℕ) → place ≤ MAX_DATA → lent_by whole ≤ MAX_DATA
-    → place + lent_by (sight_from whole place) ≤ MAX_DATA
-lent_fits (Bytes bytes) place within fits = omega (arith, within, fits, length-drop place bytes)
-lent_fits Eof place within fits = omega (arith, within)
-lent_fits Nothing place within fits = omega (arith, within)
-lent_fits Ended place within fits = omega (arith, within)
 
 -- ---- consuming
 

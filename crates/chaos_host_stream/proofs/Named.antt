@@ -1,5 +1,5 @@
 -- A host with another connection in the slot that an own index names.
-use Rattle.std.proofs.Common.{◌≡◌, ℕ, ◌==◌, Bool, true, false, not, List, length, slice_get, slice_set, Option, Some, None, Ok, Err, refl, ap, sym, ◌∙◌}
+use Rattle.std.proofs.Common.{◌≡◌, ℕ, ◌==◌, Bool, true, false, not, List, length, slice_get, slice_set, Option, Some, None, Ok, refl, ap, sym, ◌∙◌}
 use Rattle.std.proofs.lemmas.List.{length-set, set-set, set-get_or}
 use Rattle.std.proofs.lemmas.Option.{slice_get_within, get_or_from_slice_get}
 use Rattle.std.proofs.lemmas.Bool.{eq-eqb}
@@ -7,7 +7,6 @@ use Rattle.chaos_packet.specs.Outbox.{OutboxView}
 use Rattle.chaos_conn.specs.State.{is_inactive}
 use Rattle.chaos_conn.specs.View.{ConnView}
 use Rattle.chaos_conn.specs.Act.{Call, act}
-use Rattle.chaos_host.specs.declared.fault.CallFault.{CallFault}
 use Rattle.chaos_host.specs.declared.slot.Slot.{Slot}
 use Rattle.chaos_host.specs.Slot.{index_of, place_of, named_slot}
 use Rattle.chaos_host.specs.View.{HostView, look_slot}
@@ -72,12 +71,6 @@ module _ {A : Type 0} (look : ConnView → A) where
   pub looked_there : (found : Option Slot) (a : A) → Ok a ≡ look_slot look found → is_there found ≡ true
   looked_there None a e = absurd (cc)
   looked_there (Some slot) a e = refl
-
-module _ {A B : Type 0} (does : ConnView → ConnView → A → Type 0) (old : HostView) (id : ℕ) where
-  pub refused_found : (look : ConnView → B) (found : Option Slot) (out : OutboxView) (fault : CallFault)
-      → Err fault ≡ look_slot look found → DoesFound does old id found old out out (Err fault)
-  refused_found look None out fault e = record { view = refl; out = refl; answers = cc }
-  refused_found look (Some slot) out fault e = absurd (cc)
 
 module _ {A : Type 0} (does : ConnView → ConnView → A → Type 0) (old : HostView) (id : ℕ) (new : HostView)
     (before after : OutboxView) (answer : A) where

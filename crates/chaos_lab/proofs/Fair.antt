@@ -269,12 +269,6 @@ after_event y w l event events t h = by (event_ties w l event t)
           stays = λ may. step_stays w (plain_event l event) s.machine y s.step (unclosed_event y l event events h) may;
         }
 
--- what events keep
-abbrev pub MoreRead : Side → LabView → LabView → Type 0
-MoreRead x l m =
-    (length (lab_end l x).read ≤ length (lab_end m x).read)
-    × (length (lab_end l x).written ≤ length (lab_end m x).written)
-
 -- where it ended it is ended after all of them
 ended_stays : (y : Side) (events : List Happening) (w : Machine) (l : LabView) → Ties w l → IsCalm y events
     → (end_of w y).phase ≡ Ended → (conn_at (after_all l events) y).state ≡ st.Open → ⊥

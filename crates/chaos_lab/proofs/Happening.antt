@@ -73,11 +73,6 @@ pub passed : (old : LabView) (event : Happening) (new : LabView) (answer : Resul
 passed old event new answer (inl h) is = absurd (no_memory old event (sym h.1 ∙ is))
 passed old event new answer (inr h) is = h.0
 
-pub unmet : (old : LabView) (event : Happening) (new : LabView) (answer : Result Stepped LabFault)
-    → Happens old event new answer → (answer ≡ Err fault.NoMemory → ⊥) → new ≡ (happen old event).lab
-unmet old event new answer (inl h) isnt = h.0
-unmet old event new answer (inr h) isnt = absurd (isnt h.2)
-
 -- a fresh copy comes by a call at the end that it was sent to: as the request, where it asks, or else as a packet
 pub copy_comes : (l m : LabView) (k : ℕ) (s : Stamped) (x : Side) (p : PacketView) (asks : Bool)
     (answer : Result StepDone LabFault) → slice_get l.copies k ≡ Some s → is_fresh l.a l.b s ≡ true

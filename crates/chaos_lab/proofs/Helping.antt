@@ -396,9 +396,6 @@ pub stands_to : (y : Side) (w : Machine) (l : LabView) (pk : PacketView) (kind :
 stands_to A w l pk kind told s = s
 stands_to B w l pk kind told s = s
 
-other_apart : (x y : Side) → other x ≡ y → other y ≡ x
-other_apart x y is = ap other (sym is) ∙ other_other x
-
 -- the STS of the end at y comes to that at x
 pub hears_at : (y : Side) (w : Machine) (l : LabView) (n r f v : ℕ) (c : Copy) → Ties w l → CopyAt w y n c
     → c.kind ≡ Sts → c.told ≡ Status r f v → (end_of w (other y)).phase ≡ Open → Hears y (other y) w l n r v

@@ -1,5 +1,5 @@
 -- What is known where a fresh copy comes to an end.
-use Rattle.std.proofs.Common.{◌≡◌, ℕ, ◌+◌, ◌<◌, ◌≤◌, length, ◌&&◌, leb, ltb, Some, refl, ap, arith}
+use Rattle.std.proofs.Common.{◌≡◌, ℕ, ◌+◌, ◌<◌, ◌≤◌, length, ◌&&◌, leb, ltb, Some, refl, arith}
 use Rattle.std.specs.Prelude.{slice_get, ⊤}
 use Rattle.std.specs.FinSet.{insert}
 use Rattle.std.proofs.lemmas.Bool.{cond_both}
@@ -8,16 +8,14 @@ use Rattle.chaos_lab.specs.declared.side.Side.TheVariants.{A, B}
 use Rattle.chaos_lab.specs.Machine.{PlainEnd as Plain}
 use Rattle.chaos_lab.specs.Machine.Kind.{Nth, Cls}
 use Rattle.chaos_lab.specs.Machine.Told.{Nothing, Acknowledges, Status}
-use Rattle.chaos_packet.specs.declared.opcode.Kind.TheVariants as k
 use Rattle.chaos_lab.specs.Machine.{Kind, Told, other, hear, take_in}
 use Rattle.chaos_lab.proofs.Directions.{Sound}
 use Rattle.chaos_lab.proofs.Ends.{EndOk}
 use Rattle.chaos_lab.proofs.Copies.{KindOk}
 use Rattle.chaos_packet.specs.Item.{ItemView}
-use Rattle.chaos_packet.specs.Opcode.{kind_of}
 use Rattle.chaos_window.specs.Receive.{after_arrival}
 use Rattle.chaos_packet.specs.Number.{num}
-use Rattle.chaos_lab.specs.Shown.{recv_view, HasItems, IsFirst}
+use Rattle.chaos_lab.specs.Shown.{recv_view, HasItems}
 use Rattle.chaos_lab.proofs.SendTie.{read_within}
 use Rattle.chaos_lab.proofs.RecvTie.{arrived_is, took_in_before}
 
@@ -42,23 +40,6 @@ other_other B = refl
 
 -- ---- what hearing keeps
 
-pub record SameButTold (e f : Plain) : Type 0 where
-  pub phase : f.phase ≡ e.phase
-  pub written : f.written ≡ e.written
-  pub read : f.read ≡ e.read
-  pub arrived : f.arrived ≡ e.arrived
-  pub send_cap : f.send_cap ≡ e.send_cap
-  pub announced : f.announced ≡ e.announced
-  pub recv_cap : f.recv_cap ≡ e.recv_cap
-
-pub heard_keeps : (told : Told) (e : Plain) → SameButTold e (hear told e)
-heard_keeps Nothing e =
-    record { phase = refl; written = refl; read = refl; arrived = refl; send_cap = refl; announced = refl; recv_cap = refl }
-heard_keeps (Acknowledges read) e =
-    record { phase = refl; written = refl; read = refl; arrived = refl; send_cap = refl; announced = refl; recv_cap = refl }
-heard_keeps (Status read arrived window) e =
-    record { phase = refl; written = refl; read = refl; arrived = refl; send_cap = refl; announced = refl; recv_cap = refl }
-
 pub took_phase : (i : ℕ) (e : Plain) → (take_in i e).phase ≡ e.phase
 took_phase i e =
     cond_both (leb (length e.read) i && ltb i (length e.read + e.announced)) (record e { arrived = insert e.arrived i })
@@ -80,10 +61,3 @@ item_arrives b i r item e p len d most cap fits h fresh at =
     let within = read_within e p d in
     arrived_is b i item p (hear (Acknowledges r) e) at h.0 (omega (arith, d.room, d.acked_read)) within
     (omega (arith, h.1)) cap fits
-
--- the kinds of opcode
-pub first_of_a_kind : (b cap : ℕ) (item : ItemView) → IsFirst A b cap item → kind_of item.op ≡ k.Rfc
-first_of_a_kind b cap item h = ap kind_of h
-
-pub first_of_b_kind : (b cap : ℕ) (item : ItemView) → IsFirst B b cap item → kind_of item.op ≡ k.Opn
-first_of_b_kind b cap item h = ap kind_of h.0

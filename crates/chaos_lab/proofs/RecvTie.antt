@@ -48,21 +48,12 @@ took_in_past i e h = cond-false _ _ _ (and_right _ _ (le-ltb i (length e.read + 
 
 -- ---- the slots
 
-pub length-slots_from : (p e : Plain) (i n : ℕ) → length (slots_from p e i n) ≡ n
-length-slots_from p e i zero = refl
-length-slots_from p e i (suc n) = ap suc (length-slots_from p e (suc i) n)
-
 pub slots_at : (p e : Plain) (i n k : ℕ) → k < n → slice_get (slots_from p e i n) k ≡ Some (there_at p e (i + k))
 slots_at p e i zero k h = absurd (omega arith)
 slots_at p e i (suc n) zero h = ap (λ j. Some (there_at p e j)) (let s : i ≡ i + 0 = omega arith in s)
 slots_at p e i (suc n) (suc k) h =
     slots_at p e (suc i) n k (omega arith)
     ∙ ap (λ j. Some (there_at p e j)) (let s : suc i + k ≡ i + suc k = omega arith in s)
-
-pub slots_past : (p e : Plain) (i n k : ℕ) → n ≤ k → slice_get (slots_from p e i n) k ≡ None
-slots_past p e i zero k h = refl
-slots_past p e i (suc n) zero h = absurd (omega arith)
-slots_past p e i (suc n) (suc k) h = slots_past p e (suc i) n k (omega arith)
 
 pub same_slots : (p e q f : Plain) (i n : ℕ) → ((k : ℕ) → k < n → there_at p e (i + k) ≡ there_at q f (i + k))
     → slots_from p e i n ≡ slots_from q f i n

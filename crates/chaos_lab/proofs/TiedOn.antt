@@ -1,5 +1,5 @@
 -- A call of one connection keeps the tie.
-use Rattle.std.proofs.Common.{◌≡◌, ℕ, zero, suc, ◌+◌, ◌<◌, ◌≤◌, List, [], ◌∷◌, ◌++◌, length, map, true, false, cond, Some, None, refl, sym, ap, ◌∙◌, subst, inl, inr, ⊎_elim, arith}
+use Rattle.std.proofs.Common.{◌≡◌, ℕ, zero, suc, ◌+◌, ◌<◌, ◌≤◌, List, [], ◌∷◌, ◌++◌, length, map, true, false, cond, None, refl, sym, ap, ◌∙◌, subst, inl, inr, ⊎_elim, arith}
 use Rattle.std.specs.Prelude.{slice_get}
 use Rattle.std.specs.List.{All, AllZip, AllByRecursion}
 use Rattle.std.specs.FinSet.{contains}
@@ -41,14 +41,6 @@ module _ {X Y : Type 0} where
   AllZip-append R [] (y ∷ ys) us vs h k = absurd h
   AllZip-append R (x ∷ xs) [] us vs h k = absurd h
   AllZip-append R (x ∷ xs) (y ∷ ys) us vs h k = (h.0, AllZip-append R xs ys us vs h.1 k)
-
-  pub AllZip-at : (R : X → Y → Type 0) (xs : List X) (ys : List Y) (k : ℕ) (x : X) (y : Y) → AllZip R xs ys
-      → slice_get xs k ≡ Some x → slice_get ys k ≡ Some y → R x y
-  AllZip-at R [] ys k x y h p q = absurd (cc)
-  AllZip-at R (a ∷ xs) [] k x y h p q = absurd (cc)
-  AllZip-at R (a ∷ xs) (c ∷ ys) zero x y h p q =
-      let e : a ≡ x = cc in let f : c ≡ y = cc in subst (λ (z : X × Y). R z.0 z.1) (λ i. (e i, f i)) h.0
-  AllZip-at R (a ∷ xs) (c ∷ ys) (suc k) x y h p q = AllZip-at R xs ys k x y h.1 p q
 
 -- ---- the end that doesn't act
 

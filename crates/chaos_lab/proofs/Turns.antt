@@ -22,7 +22,7 @@ use Rattle.chaos_lab.specs.declared.stamped.Stamped.{Stamped as Sent}
 use Rattle.chaos_lab.specs.declared.user.Turned.{Turned}
 use Rattle.chaos_lab.specs.declared.user.Turned.TheVariants as turned
 use Rattle.chaos_lab.specs.Laboratory.{EndView, LabView, stamp, with_given, after_call, after_all, call_effect, refusal_of}
-use Rattle.chaos_lab.specs.Turn.{Turn, Rests, Reads, Replies, HasFront, IsTaken, TakesTurn, turn_done, turn_events, turn_packets, turn_view}
+use Rattle.chaos_lab.specs.Turn.{Turn, Rests, Reads, Replies, HasFront, IsTaken, turn_done, turn_events, turn_packets, turn_view}
 use Rattle.chaos_lab.specs.Tied.{HasMachine}
 use Rattle.chaos_lab.specs.Turns.{TurnHappens}
 use Rattle.chaos_lab.specs.Turning.{EndTurns, read_in_turn, stamped_reply, reply_items}
@@ -95,20 +95,6 @@ items_last : (status : List PacketView) (reply : PacketView) → length status �
 items_last [] reply h = refl
 items_last (x ∷ []) reply h = refl
 items_last (x ∷ y ∷ status) reply h = absurd (omega arith)
-
-length_last : (status : List PacketView) (reply : PacketView) → length status ≤ 1 → length (status ++ reply ∷ []) ≤ 2
-length_last [] reply h = omega arith
-length_last (x ∷ []) reply h = omega arith
-length_last (x ∷ y ∷ status) reply h = absurd (omega arith)
-
--- a turn puts two packets out at most
-pub few_in_turn : (turn : Turn) (v : ConnView) (now : ℕ) → IsTaken v now turn → length (turn_packets v now turn) ≤ 2
-few_in_turn Rests v now h = omega arith
-few_in_turn Reads v now h = omega (arith, few_read v h)
-few_in_turn (Replies op bytes) v now h =
-    let put = puts_item (act v FinishRead).view op bytes now h.1.0 h.1.1 in
-    subst (λ ps. length ((act v FinishRead).packets ++ ps) ≤ 2) (sym put.one)
-    (length_last (act v FinishRead).packets put.packet (few_read v h.0))
 
 -- ---- the laboratory after it
 
@@ -193,14 +179,6 @@ turned_lab l m turn result e before after t empty is =
       copies = l.copies ++ sent_in_turn (t.conn.done j) (length l.a.written) (length (t.written j)) (packets j);
     })
     ∙ turn_is l turn t.conn.taken
-
-pub few_put : (v w : ConnView) (now : ℕ) (turn : Turn) (before after : OutboxView) (result : Turned)
-    → TakesTurn v now turn w before after result → before.packets ≡ [] → length after.packets ≤ 2
-few_put v w now turn before after result t empty =
-    let packets : after.packets ≡ turn_packets v now turn =
-    ap (λ o. o.packets) t.packets ∙ ap (λ ps. ps ++ turn_packets v now turn) empty in
-    let few = few_in_turn turn v now t.taken in
-    subst (λ ps. length ps ≤ 2) (sym packets) few
 
 -- ---- so it stands for a plain machine still
 

@@ -1,5 +1,5 @@
 -- A load that is built in a buffer.
-use Rattle.std.proofs.Common.{◌≡◌, ℕ, ◌+◌, ◌*◌, ◌<◌, ◌≤◌, true, false, List, [], ◌∷◌, ◌++◌, length, get_or, set, take, drop, refl, arith, ap, ◌∙◌, sym, subst, not, ◌&&◌, eqb, leb, nat_lt, append-nil, length-append}
+use Rattle.std.proofs.Common.{◌≡◌, ℕ, ◌+◌, ◌*◌, ◌<◌, ◌≤◌, true, List, [], ◌∷◌, ◌++◌, length, get_or, set, take, drop, refl, arith, ap, ◌∙◌, sym, subst, not, ◌&&◌, eqb, leb, nat_lt, length-append}
 use Rattle.std.proofs.Math.Seq.{take-set-lt}
 use Rattle.std.proofs.lemmas.List.{get_or-take}
 use Rattle.std.proofs.lemmas.List.Elements.{All-append, All-cons, All-head, All-nil}
@@ -48,17 +48,6 @@ one_fits p small =
     let bytes : 4 + bytes_for (p ∷ []) ≤ 2020 = omega arith in
     grind (arith, nat_tests)
 
-pub first_built : (p : PacketView) (end : ℕ) (bytes : List ℕ) → length p.body ≤ 488 → Spells p (spelling_of p)
-    → end ≡ 4 + 2 * (8 + words_for (length p.body))
-    → take end bytes ≡ mark_of 1 ++ wire (spelling_of p) → IsBuilt (p ∷ []) p.dst end bytes
-first_built p end bytes small spelled size front = record {
-  fit = one_fits p small;
-  one = All-cons (λ q. q.dst ≡ p.dst) p [] refl (All-nil (λ q. q.dst ≡ p.dst));
-  spelled = (spelled, tt);
-  size = omega arith;
-  front = front ∙ ap (λ ws. mark_of 1 ++ wire ws) (sym (append-nil (spelling_of p)));
-}
-
 -- ---- one more
 
 -- whether a packet joins shows in where the load goes, in byte 3, and in the bytes
@@ -106,21 +95,7 @@ joined_built (first ∷ others) p to end new_end bytes new built h spelled size 
           (sym (wire-append (spelling_of_all load) (spelling_of p)) ∙ ap wire (sym (spelling_behind load p)));
     }
 
--- so it doesn't join where it goes elsewhere, or the load is full
-pub elsewhere : (load : List PacketView) (p : PacketView) (to end : ℕ) (bytes : List ℕ) → IsBuilt load to end bytes
-    → (p.dst ≡ to → ⊥) → joins load p ≡ false
-elsewhere load p to end bytes built other =
-    let no : eqb p.dst to ≡ false = grind (arith, nat_tests) in
-    joins_is load p to end _ bytes built refl ∙ rw no refl
-
-pub full : (load : List PacketView) (p : PacketView) (to end : ℕ) (bytes : List ℕ) → IsBuilt load to end bytes
-    → p.dst ≡ to → get_or bytes 3 0 ≡ 8 → joins load p ≡ false
-full load p to end bytes built same eight =
-    let yes : eqb p.dst to ≡ true = grind (arith, nat_tests) in
-    let no : nat_lt (get_or bytes 3 0) 8 ≡ false = grind (arith, nat_tests) in
-    joins_is load p to end _ bytes built refl ∙ rw (yes, no) refl
-
--- else the bytes tell
+-- where the load has room for one more, whether a packet joins is read off the bytes
 pub in_bytes : (load : List PacketView) (p : PacketView) (to end n : ℕ) (bytes : List ℕ) → IsBuilt load to end bytes
     → n ≡ 2 * (8 + words_for (length p.body))
     → p.dst ≡ to → (get_or bytes 3 0 ≡ 8 → ⊥) → leb (end + n) 2020 ≡ joins load p

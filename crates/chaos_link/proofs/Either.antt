@@ -189,11 +189,6 @@ pub none_carried_all : (r : Result (List PacketView) LinkFault) (ps : List Packe
     → packets_read bs ≡ Err f → CarriesAll ps bs → r ≡ Ok ps
 none_carried_all r ps bs f e carried = apart r ps f (sym e ∙ read_carried_all ps bs carried)
 
--- either version carries 8 packets at most
-pub few_carried : (ps : List PacketView) (bs : List ℕ) → CarriesAll ps bs → length ps ≤ 8
-few_carried ps bs (inl one) = omega (arith, ap length one.1)
-few_carried ps bs (inr two) = two.few
-
 -- ---- the packets that lie behind the mark
 
 pub opened_one : (bs words : List ℕ) → is_two bs ≡ false → fault_of bs ≡ None → words ≡ drop 4 bs

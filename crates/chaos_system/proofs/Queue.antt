@@ -17,10 +17,6 @@ use Rattle.chaos_turn.specs.Turn.{client_phases, queue_after}
 use Rattle.chaos_system.specs.Queue.{IsLaid, IsCarried, QueuesCarry, SocketsPost, TurnsAreSteps}
 use Rattle.chaos_system.specs.System.{Hands, handed}
 
--- a queue with these datagrams
-abbrev holding : QueueView → List Addressed → QueueView
-holding queue ds = record { datagrams = ds; cap = queue.cap }
-
 -- one that has room takes all
 all_taken : (cap : ℕ) (xs ds : List Addressed) → length xs + length ds ≤ cap
     → sent_into (record { datagrams = xs; cap = cap }) ds ≡ record { datagrams = xs ++ ds; cap = cap }

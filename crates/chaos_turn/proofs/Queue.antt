@@ -319,14 +319,6 @@ module _ (out : OutboxView) (none : slice_get out.packets 0 ≡ None) where
   pub none_empty : out ≡ record { packets = []; cap = out.cap }
   none_empty = ap (λ (ps : List PacketView). record { packets = ps; cap = out.cap }) (none_left out.packets none)
 
-  pub none_told : false ≡ has_packets (out.packets ∷ [])
-  none_told = ap (λ (ps : List PacketView). has_packets (ps ∷ [])) (sym (none_left out.packets none))
-
--- there was a first packet
-pub some_told : (ps : List PacketView) (p : PacketView) → slice_get ps 0 ≡ Some p → true ≡ has_packets (ps ∷ [])
-some_told [] p e = absurd (cc)
-some_told (x ∷ ps) p e = refl
-
 pub some_told_each : (ps : List PacketView) (lent : Option (Bor PacketView)) (told : Bool) → is_some lent ≡ not told → told ≡ false
     → option_copied lent ≡ slice_get ps 0 → true ≡ has_packets (singly ps)
 some_told_each (p ∷ ps) lent told e false-told first = refl

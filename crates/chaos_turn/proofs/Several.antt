@@ -1,6 +1,5 @@
 -- A phase over packets, while they are taken one after the other.
-use Rattle.std.proofs.Common.{◌≡◌, ℕ, Bool, true, false, if◌then◌else◌, List, [], ◌∷◌, drop, slice_get, Option, Some, None, refl, ap, sym, ◌∙◌, subst, append_assoc}
-use Rattle.std.proofs.lemmas.List.{append-nil}
+use Rattle.std.proofs.Common.{◌≡◌, ℕ, Bool, true, false, if◌then◌else◌, List, [], ◌∷◌, drop, slice_get, Option, Some, refl, ap, ◌∙◌, append_assoc}
 use Rattle.chaos_packet.specs.Packet.{PacketView}
 use Rattle.chaos_host.specs.View.{HostView}
 use Rattle.chaos_host.specs.Deliver.{host_deliver}
@@ -11,7 +10,7 @@ use Rattle.chaos_turn.specs.Arrive.{told_after}
 use Rattle.chaos_turn.specs.Phase.{Effect, DoesPhase, and_then, no_effect_on, over_packets}
 use Rattle.chaos_turn.specs.Station.{Station}
 use Rattle.chaos_turn.proofs.Phase.{one_after}
-use Rattle.chaos_turn.proofs.Queue.{lots_nothing, first_and_rest, none_left}
+use Rattle.chaos_turn.proofs.Queue.{lots_nothing, first_and_rest}
 
 -- Of these packets some were taken, and the others are left: what was done and what is left make the whole.
 pub record TakenSoFar (asked : List Ask → Type 0) (carriage : Carriage) (phase : PacketView → HostView → Effect) (all rest : List PacketView)
@@ -56,16 +55,6 @@ module _ (carriage : Carriage) (phase : PacketView → HostView → Effect) wher
             ∙ (ap (λ (ps : List PacketView). and_then so.done (over_packets phase ps)) (first_and_rest rest p first)
             ∙ so.whole);
       }
-
-  -- where none is left, the phase is done over all
-  pub all_taken : {asked : List Ask → Type 0} (all rest : List PacketView) (a b : Station HostView) (sent : Bool)
-      → TakenSoFar asked carriage phase all rest a b sent → slice_get rest 0 ≡ None
-      → DoesPhase asked carriage (over_packets phase all a.node) a b sent
-  all_taken {asked} all rest a b sent so none =
-      let over : and_then so.done (over_packets phase rest) ≡ so.done
-      = ap (λ (ps : List PacketView). and_then so.done (over_packets phase ps)) (none_left rest none)
-      ∙ ap (λ (lots : List (List PacketView)). record { host = so.done.host; lots = lots }) (append-nil so.done.lots) in
-      subst (λ (x : Effect). DoesPhase asked carriage x a b sent) (sym over ∙ so.whole) so.does
 
 -- ---- whether packets went out, where a loop asks one phase first
 

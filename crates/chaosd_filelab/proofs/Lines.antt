@@ -1,6 +1,6 @@
 -- What one line does.
 use Rattle.std.proofs.Common.{◌≡◌, ◌≢◌, ℕ, ◌≤◌, Bool, true, false, cond, List, [], ◌++◌, length, drop, append_assoc, append-nil, refl, ap, subst, ◌∙◌, sym, inl, inr, arith}
-use Rattle.std.specs.Prelude.{◌⊎◌, Option, Some, None, Result, Ok, Err, is_err, IfOk, IfErr, OnErr, option_map}
+use Rattle.std.specs.Prelude.{◌⊎◌, Option, Some, None, Result, Ok, Err, is_err, IfOk, OnErr, option_map}
 use Rattle.std.proofs.lemmas.List.{drop_all}
 use Rattle.chaos_lab.specs.declared.stamped.Stamped.{Stamped}
 use Rattle.chaos_lab.specs.declared.fault.LabFault.{LabFault}
@@ -100,20 +100,6 @@ event_wants before after old mid new answer result refused first last same wants
           ∙ ap (λ l. mid ++ l) (no_copies before.lab.copies n (omega arith)) ∙ append-nil mid
           ∙ first ∙ ap (λ a. old ++ file_answer_text a) none,
     )
-
-by_fault : (answer : Result FileStepped LabFault)
-    → IfErr (refused_or_ended answer) (λ fault. (fault ≡ run.NoMemory) ⊎ (fault ≡ run.WriteFault))
-by_fault (Ok stepped) = tt
-by_fault (Err NoSuchCopy) = tt
-by_fault (Err Stale) = tt
-by_fault (Err (Refused why)) = tt
-by_fault (Err NoMemory) = inl refl
-by_fault (Err ByServer) = tt
-
-pub event_faults : (answer : Result FileStepped LabFault) (result : Result Bool RunFault)
-    → result ≡ refused_or_ended answer → IfErr result (λ fault. (fault ≡ run.NoMemory) ⊎ (fault ≡ run.WriteFault))
-event_faults answer result same =
-    subst (λ r. IfErr r (λ fault. (fault ≡ run.NoMemory) ⊎ (fault ≡ run.WriteFault))) (sym same) (by_fault answer)
 
 -- a serve wrote an out-of-memory reply
 pub serve_wants : (event : FileHappening) (before after : FileLabView) (old : List ℕ)

@@ -11,7 +11,7 @@ use Rattle.chaos_filelab.specs.View.{FileLabView, wrote_mem}
 use Rattle.chaosd_lab.specs.Settle.{can_settle, unsettled_text}
 use Rattle.chaosd_lab.proofs.Settling.{both_true, and_true, alike, can_settle_said, said_can_settle}
 use Rattle.chaosd_filelab.specs.Happen.{event_text, WantsEvent}
-use Rattle.chaosd_filelab.specs.Settle.{file_line, can_serve, typed_text, settle_by, settle_done, WantsEvents, WantsSettling}
+use Rattle.chaosd_filelab.specs.Settle.{file_line, can_serve, typed_text, settle_by, settle_done, WantsEvents}
 
 -- ---- whether it can settle
 
@@ -89,13 +89,6 @@ typed_one start now next event rest others old mid ready new t is keeps goes tex
       (Appends-trans old ready new _ _ (Appends-kept old mid ready _ t.text keeps) text);
 }
 
-pub typed_all : (start now : FileLabView) (rest : List FileHappening) (old new : Option (List ℕ))
-    → Typed start now rest old new → rest ≡ []
-    → (now ≡ after_events start (file_settling start)) × Appends old new (typed_text start (file_settling start))
-typed_all start now rest old new t none =
-    let whole : file_settling start ≡ t.done = t.all ∙ ap (λ es. t.done ++ es) none ∙ append-nil t.done in
-    (t.at ∙ ap (after_events start) (sym whole), subst (λ es. Appends old new (typed_text start es)) (sym whole) t.text)
-
 next_is : (done others : List FileHappening) (event : FileHappening)
     → slice_get (done ++ event ∷ others) (length done) ≡ Some event
 next_is [] others event = refl
@@ -141,21 +134,3 @@ refused_line l said old new is cannot text =
     (λ b. (l ≡ (settle_by b l).lab) × (true ≡ (settle_by b l).is_refused) × Appends old new (settle_by b l).text
     × (wrote_mem l ≡ false → wrote_mem l ≡ false))
     (sym test) (refl, refl, text, λ ready. ready)
-
--- they settled
-pub settled_line : (l m : FileLabView) (said : Bool) (old new : Option (List ℕ)) → IsTrue said ↔ CanServe l
-    → said ≡ true
-    → (m ≡ after_events l (file_settling l)) × (wrote_mem m ≡ false) × Appends old new (typed_text l (file_settling l))
-    → (m ≡ (settle_done l).lab) × (false ≡ (settle_done l).is_refused) × Appends old new (settle_done l).text
-    × (wrote_mem l ≡ false → wrote_mem m ≡ false)
-settled_line l m said old new is so (after, none, text) =
-    let can : can_serve l ≡ true = sym (says_can_serve l said is) ∙ so in
-    let done : (m ≡ (settle_done l).lab) × (false ≡ (settle_done l).is_refused) × Appends old new (settle_done l).text =
-    subst (λ b. (m ≡ (settle_by b l).lab) × (false ≡ (settle_by b l).is_refused) × Appends old new (settle_by b l).text)
-    (sym can) (after, refl, text) in
-    (done.0, done.1, done.2, λ ready. none)
-
-pub wants_line : (l after : FileLabView) (said : Bool) (old new : Option (List ℕ)) → IsTrue said ↔ CanServe l
-    → said ≡ true → (text : List ℕ) × WantsEvents l after text × Appends old new text
-    → (text : List ℕ) × WantsSettling l after text × Appends old new text
-wants_line l after said old new is so (text, wants, more) = (text, (sym (says_can_serve l said is) ∙ so, wants), more)

@@ -168,11 +168,6 @@ pub front_read : (text front after : List ℕ) (i n : ℕ)
 front_read text front after i n read so_far =
     ap (λ l. with_front after (bytes_of l)) (sym (rest_of text i n)) ∙ read ∙ so_far
 
--- its end where the rest stands for nothing, or for too much
-pub front_stops : (text front : List ℕ) (i : ℕ) → within_packet (with_front front (bytes_of (drop i text))) ≡ None
-    → with_front front (bytes_of (drop i text)) ≡ bytes_of text → None ≡ data_of text
-front_stops text front i none so_far = sym none ∙ ap within_packet so_far
-
 within : (front : List ℕ) → length front ≤ MAX_DATA → Some front ≡ within_packet (Some front)
 within front le =
     let few : ltb MAX_DATA (length front) ≡ false = grind (arith, nat_tests) in

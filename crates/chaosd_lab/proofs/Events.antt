@@ -1,6 +1,6 @@
 -- What an event does.
 use Rattle.std.proofs.Common.{◌≡◌, ◌≢◌, ℕ, ◌≤◌, Bool, List, [], ◌++◌, length, drop, append_assoc, append-nil, refl, ap, subst, ◌∙◌, sym, inl, inr, arith}
-use Rattle.std.specs.Prelude.{◌⊎◌, Option, Some, None, Result, Ok, Err, is_err, IfOk, IfErr}
+use Rattle.std.specs.Prelude.{◌⊎◌, Option, Some, None, Result, Ok, Err, is_err, IfOk}
 use Rattle.std.proofs.lemmas.List.{drop_all}
 use Rattle.chaos_lab.specs.declared.stamped.Stamped.{Stamped}
 use Rattle.chaos_packet.specs.Item.{ItemView}
@@ -100,17 +100,3 @@ some_said (Some e) event h none = cc
 pub line_fault : (fault : RunFault) → (fault ≡ run.NoMemory) ⊎ (fault ≡ run.WriteFault) → IsLineFault fault
 line_fault fault (inl is) = subst IsLineFault (sym is) tt
 line_fault fault (inr is) = subst IsLineFault (sym is) tt
-
-by_fault : (answer : Result Stepped LabFault)
-    → IfErr (refused_or_ended answer) (λ fault. (fault ≡ run.NoMemory) ⊎ (fault ≡ run.WriteFault))
-by_fault (Ok stepped) = tt
-by_fault (Err NoSuchCopy) = tt
-by_fault (Err Stale) = tt
-by_fault (Err (Refused why)) = tt
-by_fault (Err NoMemory) = inl refl
-by_fault (Err ByServer) = tt
-
-pub event_faults : (answer : Result Stepped LabFault) (result : Result Bool RunFault) → result ≡ refused_or_ended answer
-    → IfErr result (λ fault. (fault ≡ run.NoMemory) ⊎ (fault ≡ run.WriteFault))
-event_faults answer result same =
-    subst (λ r. IfErr r (λ fault. (fault ≡ run.NoMemory) ⊎ (fault ≡ run.WriteFault))) (sym same) (by_fault answer)

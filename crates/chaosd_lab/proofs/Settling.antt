@@ -17,7 +17,7 @@ use Rattle.chaosd_io.specs.declared.fault.RunFault.{RunFault}
 use Rattle.chaosd_lab.specs.Answers.{refusal_text}
 use Rattle.chaosd_lab.specs.Happen.{event_text}
 use Rattle.chaosd_lab.specs.Typed.{event_line}
-use Rattle.chaosd_lab.specs.Settle.{is_in_time, can_settle, typed_text, unsettled_text, settle_by, settle_done, WantsEvents, WantsSettling}
+use Rattle.chaosd_lab.specs.Settle.{is_in_time, can_settle, typed_text, unsettled_text, settle_by, settle_done, WantsEvents}
 
 -- ---- whether both ends can settle
 
@@ -137,12 +137,6 @@ typed_one start now next event rest others old mid ready new t is keeps goes tex
       (Appends-trans old ready new _ _ (Appends-kept old mid ready _ t.text keeps) text);
 }
 
-pub typed_all : (start now : LabView) (rest : List Happening) (old new : Option (List ℕ)) → Typed start now rest old new
-    → rest ≡ [] → (now ≡ after_all start (settling start)) × Appends old new (typed_text start (settling start))
-typed_all start now rest old new t none =
-    let whole : settling start ≡ t.done = t.all ∙ ap (λ es. t.done ++ es) none ∙ append-nil t.done in
-    (t.at ∙ ap (after_all start) (sym whole), subst (λ es. Appends old new (typed_text start es)) (sym whole) t.text)
-
 next_is : (done others : List Happening) (event : Happening)
     → slice_get (done ++ event ∷ others) (length done) ≡ Some event
 next_is [] others event = refl
@@ -186,20 +180,6 @@ refused_line l said old new is cannot text =
     let test : can_settle l ≡ false = sym (says_can_settle l said is) ∙ cannot in
     subst (λ b. (l ≡ (settle_by b l).lab) × (true ≡ (settle_by b l).is_refused) × Appends old new (settle_by b l).text)
     (sym test) (refl, refl, text)
-
--- they settled
-pub settled_line : (l m : LabView) (said : Bool) (old new : Option (List ℕ)) → IsTrue said ↔ CanSettle l → said ≡ true
-    → (m ≡ after_all l (settling l)) × Appends old new (typed_text l (settling l))
-    → (m ≡ (settle_done l).lab) × (false ≡ (settle_done l).is_refused) × Appends old new (settle_done l).text
-settled_line l m said old new is so (after, text) =
-    let can : can_settle l ≡ true = sym (says_can_settle l said is) ∙ so in
-    subst (λ b. (m ≡ (settle_by b l).lab) × (false ≡ (settle_by b l).is_refused) × Appends old new (settle_by b l).text)
-    (sym can) (after, refl, text)
-
-pub wants_line : (l after : LabView) (said : Bool) (old new : Option (List ℕ)) → IsTrue said ↔ CanSettle l → said ≡ true
-    → (text : List ℕ) × WantsEvents l after text × Appends old new text
-    → (text : List ℕ) × WantsSettling l after text × Appends old new text
-wants_line l after said old new is so (text, wants, more) = (text, (sym (says_can_settle l said is) ∙ so, wants), more)
 
 -- what was told is the fault
 pub err_told : {X Y : Type 0} (r : Result X RunFault) (e f : RunFault) → IsErrAnd r (λ y. y ≡ e) → r ≡ Err f

@@ -1,5 +1,5 @@
 -- What clients say and hear, step after step.
-use Rattle.std.proofs.Common.{◌≡◌, ◌≤◌, ◌⊎◌, ℕ, ◌+◌, Bool, true, false, List, [], ◌∷◌, ◌++◌, refl, sym, ap, ◌∙◌, subst, append_assoc, append-nil, add_assoc, add-zero, arith, inl, inr}
+use Rattle.std.proofs.Common.{◌≡◌, ◌⊎◌, ℕ, ◌+◌, Bool, true, false, List, [], ◌∷◌, ◌++◌, refl, sym, ap, ◌∙◌, subst, append_assoc, append-nil, add_assoc, add-zero, arith, inl, inr}
 use Rattle.std.specs.Prelude.{Option, None, Some, is_some, OnOk, Result}
 use Rattle.chaosd_io.specs.declared.fault.RunFault.{RunFault}
 use Rattle.chaos_link.specs.Link.{Ask, AskedSince, Asks, QueueView}
@@ -7,12 +7,11 @@ use Rattle.chaos_link.proofs.Asked.{asks_both}
 use Rattle.chaos_packet.specs.Item.{ItemView}
 use Rattle.chaos_host.specs.View.{HostView}
 use Rattle.file_client.specs.Calls.{is_over}
-use Rattle.file_client.specs.Caller.{CallerView, Connects, HangsUpBy, TurnsAt, asked, asked_again, all_read}
+use Rattle.file_client.specs.Caller.{CallerView, Connects, HangsUpBy, TurnsAt, asked, asked_again}
 use Rattle.file_client.specs.Pace.{Pace}
 use Rattle.file_client.specs.Patience.{IsSpent}
-use Rattle.file_client.specs.Talk.{Talker, Talk, Step, Calls, Writes, Reads, Turns, Does, Goes, Talks, WritesAndTurns, Exchanges, SendsFarewell, and_later, and_then, command_item, eof_item, receiving, newly_sent, silence, talk_of, talker}
+use Rattle.file_client.specs.Talk.{Talker, Talk, Step, Calls, Writes, Reads, Turns, Does, Goes, Talks, WritesAndTurns, Exchanges, SendsFarewell, and_later, and_then, command_item, receiving, newly_sent, silence, talk_of, talker}
 use Rattle.file_client.proofs.Asked.{asks_of, well_by}
-use Rattle.file_client.specs.declared.limits.TheConstants.{END_TURNS}
 
 pub talks_none : (p : Pace) (c : Talker) → Talks p c silence c
 talks_none p c = record { steps = []; goes = refl; same = refl }
@@ -72,14 +71,6 @@ talks_same : (p : Pace) (first last : Talker) (talk other : Talk) → talk ≡ o
     → Talks p first other last
 talks_same p first last talk other e t = subst (λ k. Talks p first k last) e t
 
--- nothing was sent or received before
-pub talks_behind : (p : Pace) (first between last : Talker) (talk : Talk) → Talks p first silence between
-    → Talks p between talk last → Talks p first talk last
-talks_behind p first between last talk t u =
-    let none : 0 + talk.turns ≡ talk.turns = omega arith in
-    talks_same p first last (and_later silence talk) talk (ap (λ (n : ℕ). talk_by talk.sent talk.received n talk.asks) none)
-    (talks_on p first between last silence talk t u)
-
 -- ---- the steps of a client
 
 calls_by : (p : Pace) (Asked : List Ask → Type 0) (now : ℕ) (id : Option ℕ) (queue queue' : Option QueueView)
@@ -132,17 +123,6 @@ talks_writing p c d item now true does =
 talks_writing p c d item now false does =
     (λ e. e, [], refl, talks_step p c c d silence (Writes item now false) (talks_none p c) does)
 
--- it had written before
-pub talks_written : (p : Pace) (c : Talker) (item : ItemView) (was : Bool) → was ≡ true
-    → WritesAndTurns p (λ asks. asks ≡ []) 0 c item was true c
-talks_written p c item true e = (λ e. e, [], refl, talks_none p c)
-talks_written p c item false e = absurd (let no : ⊥ = cc in no)
-
--- it has written nothing yet
-pub talks_waiting : (p : Pace) (Asked : List Ask → Type 0) (c d : Talker) (item : ItemView) → Asked []
-    → Talks p c silence d → WritesAndTurns p Asked 0 c item false false d
-talks_waiting p Asked c d item none talk = (λ e. e, [], none, talk)
-
 -- a turn behind a write
 pub talks_turning : (p : Pace) (Asked : List Ask → Type 0) (c d e : Talker) (item : ItemView) (was is : Bool) (now : ℕ)
     → WritesAndTurns p (λ asks. asks ≡ []) 0 c item was is d → p.Shows now
@@ -191,15 +171,6 @@ pub exchange_none : (p : Pace) (Asked : List Ask → Type 0) (c d : Talker) (com
     → IsSpent p.Shows p.patience turns ⊎ (is_over d.caller.host d.caller.id ≡ true) → Exchanges p Asked c command None d
 exchange_none p Asked c d command is turns (kept, xs, asked, talk) ends
     = (talk_by (newly_sent false is (command_item command)) [] turns xs, talk, asked, (is, refl, refl, ends))
-
--- the EOF's wait has ended
-pub farewell_by : (p : Pace) (Asked : List Ask → Type 0) (c d : Talker) (is : Bool) (turns : ℕ)
-    → WritesAndTurns p Asked turns c eof_item false is d → turns ≤ END_TURNS
-    → ((turns ≡ END_TURNS) ⊎ (is_over d.caller.host d.caller.id ≡ true))
-    ⊎ ((is ≡ true) × (all_read d.caller.host d.caller.id ≡ true))
-    → SendsFarewell p Asked c d
-farewell_by p Asked c d is turns (kept, xs, asked, talk) within ends =
-    (talk_by (newly_sent false is eof_item) [] turns xs, talk, asked, record { is_written = is; sent = refl; received = refl; within = within; ends = ends })
 
 over_none : (h : HostView) (id : Option ℕ) → is_some id ≡ false → is_over h id ≡ true
 over_none h None none = refl

@@ -125,10 +125,6 @@ pub serving_others : (sessions : List Serving) (place p : ℕ) (serving : Servin
     → serving_at (slice_set sessions place serving) p ≡ serving_at sessions p
 serving_others sessions place p serving apart = get_or-set_other sessions place p serving new_serving apart
 
--- what is given back: a slot in use keeps all, and each its index
-pub record IsLike (a b : Serving) : Type 0 where
-  pub id : b.id ≡ a.id
-
 pub given_size : (h : HostView) (n : ℕ) (sessions : List Serving) → length (given_back h n sessions) ≡ length sessions
 given_size h zero sessions = refl
 given_size h (suc n) sessions = by (id_at h n) ∙ given_size h n sessions

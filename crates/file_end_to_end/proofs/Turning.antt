@@ -174,9 +174,6 @@ BeginsNone (Does place call) = begins call ≡ false
 module _ (own far : Station) (h : IsStation own far) (sessions : Name → SessionView) (place : ℕ) (call : Call)
     (from : Option Name) (slot : Slot) (there : slice_get own.host.slots place ≡ Some slot)
     (in_use : is_free slot ≡ false) where
-  next : Station
-  next = after_slot own place call from (Some slot)
-
   -- another slot
   other_kept : (p : ℕ) (serving : Serving) → (p == place) ≡ false → IsKept own.turn own.story sessions p serving
       → IsKept (after_slot own place call from (Some slot)).turn (after_slot own place call from (Some slot)).story sessions p serving

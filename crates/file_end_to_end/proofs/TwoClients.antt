@@ -479,15 +479,6 @@ last_sent m = (refl, (refl, (refl, (refl, (refl, (refl, tt))))))
 last_replied : (m : Files) → AreSame (packets_sent ((last_net m).net B)) (read_all (last_of (start m) two_logins).server.posts ++ (last_of (start m) two_logins).server.waiting)
 last_replied m = (refl, (refl, (refl, (refl, (refl, tt)))))
 
-last_kept : (m : Files) → ((last_net m).service.files ≡ m) × ((last_of (start m) two_logins).server.program.store ≡ m) × (length (last_of (start m) two_logins).server.program.host.slots ≡ 2) × (length (last_of (start m) two_logins).server.program.sessions ≡ 2)
-last_kept m = (refl, refl, refl, refl)
-
-last_first : (m : Files) → IsKeptAt (last_of (start m) two_logins) (last_net m) 0 1 (with_name new_session (codes "BOB"))
-last_first m = (refl, refl, refl, refl)
-
-last_second : (m : Files) → IsKeptAt (last_of (start m) two_logins) (last_net m) 1 2 (with_name new_session (codes "ANN"))
-last_second m = (refl, refl, refl, refl)
-
 all_sent : (m : Files) (x : Side) → packets_sent ((last_net m).net x)
     ≡ read_all (system (last_of (start m) two_logins) x).posts ++ (system (last_of (start m) two_logins) x).waiting
 all_sent m = both_sent (last_of (start m) two_logins) (last_net m) (last_sent m) (last_replied m)
