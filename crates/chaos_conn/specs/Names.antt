@@ -187,13 +187,6 @@ PutsItsNames =
     (v : ConnView) (call : Call) → begins call ≡ false
     → AllByRecursion (IsFrom v (act v call).view.peer_index) (act v call).packets
 
--- and those that begin it
-abbrev pub RequestHasNames : Type 0
-RequestHasNames = (v : ConnView) (me : End) (peer : ℕ) (contact : List ℕ) (start now : ℕ)
-    → AllByRecursion
-    (λ p. (p.src ≡ me.address) × (p.src_index ≡ me.index) × (p.dst ≡ peer) × (is_rfc (kind_of p.op) ≡ true))
-    (act v (Request me peer contact start now)).packets
-
 -- No call changes a connection's configuration.
 abbrev pub ConfigStays : Type 0
 ConfigStays = (v : ConnView) (call : Call) → (act v call).view.config ≡ v.config

@@ -1,5 +1,5 @@
 -- How packets that wait are cut into datagrams of version 2.
-use Rattle.std.specs.Prelude.{◌≡◌, ℕ, ◌+◌, ◌≤◌, List, [], ◌∷◌, ◌++◌, length, take, drop, map, All, slice_index, Bool, true, false, ◌==◌, ◌&&◌, if◌then◌else◌}
+use Rattle.std.specs.Prelude.{◌≡◌, ℕ, ◌+◌, ◌≤◌, List, [], ◌∷◌, ◌++◌, length, take, drop, All, slice_index, Bool, true, false, ◌==◌, ◌&&◌, if◌then◌else◌}
 use Rattle.chaos_packet.specs.Packet.{PacketView}
 use Rattle.chaos_packet.specs.Words.{Spells, spelling_of}
 use Rattle.chaos_packet.specs.declared.limits.TheConstants.{MAX_DATA}
@@ -27,10 +27,6 @@ loads_from load (p ∷ ps) = if joins load p then loads_from (load ++ p ∷ []) 
 abbrev pub loads_of : List PacketView → List (List PacketView)
 loads_of [] = []
 loads_of (p ∷ ps) = loads_from (p ∷ []) ps
-
--- their datagrams
-abbrev pub datagrams2_of : List PacketView → List (List ℕ)
-datagrams2_of ps = map datagram_of_all (loads_of ps)
 
 -- ---- What is true of the loads
 
