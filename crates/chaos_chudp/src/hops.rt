@@ -41,14 +41,6 @@ impl Hops {
         }
     }
 
-    /// The hops of a host whose packets all go through the bridge with this address.
-    pub fn through(bridge: u16) -> Self
-        // No address is reached directly, and all are reached through this bridge.
-        ensures { result ≡ record { near = []; bridge = Some bridge } }
-    {
-        Hops::beside(&[], bridge)
-    }
-
     /// The hops of a host that reaches these hosts directly, and all others through the bridge with
     /// this address.
     pub fn beside(hosts: &[Peer], bridge: u16) -> Self

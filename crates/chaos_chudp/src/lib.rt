@@ -21,4 +21,4 @@ pub use limits::{HEAD_BYTES, MAX_CHUDP, TRAILER_BYTES, law_limits};
 pub use link::{ChudpLink, law_same_datagram, law_sockets};
 pub use read::{from_chudp, law_carries_chudp};
 pub use sum::{checksum_of, law_one_word};
-pub use write::{law_form, to_chudp, write_chudp};
+pub use write::{law_form, to_chudp};

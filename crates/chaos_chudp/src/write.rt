@@ -40,7 +40,7 @@ pub fn to_chudp(packet: &Packet, to: u16, me: u16) -> ArrayVec<u8, MAX_CHUDP>
 /// Writes the datagram of [`to_chudp`] to the front of the caller's buffer, and answers where the
 /// datagram ends.
 #[inline(always)]
-pub fn write_chudp(packet: &Packet, to: u16, me: u16, buffer: &mut [u8]) -> usize
+fn write_chudp(packet: &Packet, to: u16, me: u16, buffer: &mut [u8]) -> usize
     requires { MAX_CHUDP ≤ length buffer.old }
     // What is written has 514 bytes at most, carries the packet and the hops, and is canonical.
     ensures fits { result ≤ MAX_CHUDP }

@@ -66,7 +66,7 @@ impl State {
     }
 
     /// Whether the end is free for a request.
-    pub fn is_inactive(self) -> bool
+    pub(crate) fn is_inactive(self) -> bool
         // The answer is whether there is no connection.
         ensures { result ≡ is_inactive self }
     {

@@ -110,7 +110,7 @@ impl KeptPacket {
     }
 
     /// Writes the packet into a place of the caller's, by a copy of the data over what lay there.
-    pub fn write_into(&self, packet: &mut Packet)
+    pub(crate) fn write_into(&self, packet: &mut Packet)
         // The packet is written over whatever packet lay there.
         ensures { packet.new ≡ self.now }
     {

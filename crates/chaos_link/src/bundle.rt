@@ -28,7 +28,6 @@ pub fn fits(packets: &[Packet]) -> bool
 
 /// The datagram of version 2 of the packets, which must fit ([`fits`]). Its free halves are zero
 /// (own profile). The data bytes are copied once, by whole words, and nothing is allocated.
-/// [`write_datagram2`] also saves moving the datagram.
 pub fn to_datagram2(packets: &[Packet]) -> ArrayVec<u8, MAX_BUNDLE>
     requires { fit_together packets.now ≡ true }
 
@@ -50,7 +49,7 @@ pub fn to_datagram2(packets: &[Packet]) -> ArrayVec<u8, MAX_BUNDLE>
 /// Writes the datagram of [`to_datagram2`] to the front of the caller's buffer, and answers where
 /// the datagram ends. Of the bytes behind the end nothing is promised. The data bytes are copied
 /// once, and no datagram is moved.
-pub fn write_datagram2(packets: &[Packet], buffer: &mut [u8]) -> usize
+fn write_datagram2(packets: &[Packet], buffer: &mut [u8]) -> usize
     requires fit { fit_together packets.now ≡ true }
     requires room { MAX_BUNDLE ≤ length buffer.old }
 

@@ -24,7 +24,7 @@ mod peers;
 mod socket;
 mod udp;
 
-pub use bundle::{fits, to_datagram2, write_datagram2};
+pub use bundle::{fits, to_datagram2};
 pub use carriage::Carriage;
 pub use datagram::{from_datagram, law_carries};
 pub use encode::{to_datagram, write_datagram};
@@ -37,7 +37,7 @@ pub use limits::{
 pub use link::{Link, Received, Sent};
 pub use loads::{Load, law_loads};
 pub use mem::MemLink;
-pub use packets::{Packets, is_version_two, law_carries2, open_datagram, read_datagram};
+pub use packets::{Packets, law_carries2, open_datagram, read_datagram};
 pub use pair::{MemPair, PairEnd, Side};
 pub use peers::{Peer, Peers};
 pub use socket::DatagramSocket;

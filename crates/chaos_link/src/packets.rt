@@ -165,7 +165,7 @@ pub fn read_datagram(bytes: &[u8]) -> Result<ArrayVec<Packet, MAX_PACKETS>, Link
 }
 
 /// Whether the bytes begin as a datagram of version 2 does.
-pub fn is_version_two(bytes: &[u8]) -> bool
+fn is_version_two(bytes: &[u8]) -> bool
     // The mark is there, and the third byte is 2. Nothing else is looked at: the bytes may have any
     // fault behind these.
     ensures { result ≡ is_two bytes.now }

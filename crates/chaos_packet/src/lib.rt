@@ -29,4 +29,4 @@ pub use packet::Packet;
 pub use reading::{from_words, law_spells};
 pub use request::{arguments_in, contact_in};
 pub use ring::{Place, Ring};
-pub use writing::{to_words, write_words};
+pub use writing::to_words;

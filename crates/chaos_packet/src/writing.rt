@@ -26,7 +26,7 @@ pub fn to_words(packet: &Packet) -> ArrayVec<u16, MAX_WORDS>
 
 /// Writes the words of [`to_words`] to the front of the caller's buffer, and returns how many there
 /// are. The data bytes are copied by whole words.
-pub fn write_words(packet: &Packet, words: &mut [u16; MAX_WORDS]) -> usize
+fn write_words(packet: &Packet, words: &mut [u16; MAX_WORDS]) -> usize
     // The packet needs at most 252 words.
     ensures count { result ≤ MAX_WORDS }
     // The words that are written spell the packet.

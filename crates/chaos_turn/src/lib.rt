@@ -26,6 +26,5 @@ pub use end::{TurnEnd, any_of, end_of};
 pub use half::Half;
 pub use limits::TURN_ROOM;
 pub use node::Node;
-pub use receiving::receive;
 pub use sending::{law_read_back, law_sends_one, send_all, send_singly};
 pub use ticking::tick_slots;

@@ -8,10 +8,8 @@ use chaos_link::{LINK_ROOM, Link, LinkFault, Packets, Received, open_datagram};
 /// Receives at most one datagram into the buffer, for which the link may wait where `may_wait` says
 /// so. The answer is the packets that the datagram carries, of either version, which lie in the
 /// buffer, or why it carries none. The answer is `None` where no datagram came or the link failed,
-/// as its count of failures shows.
-///
-/// This is how a turn receives, for those who build a turn of their own. It takes no memory.
-pub fn receive<'a, L: Link>(
+/// as its count of failures shows. It takes no memory.
+pub(crate) fn receive<'a, L: Link>(
     link: &mut L,
     buffer: &'a mut [u8; LINK_ROOM],
     may_wait: bool,

@@ -20,5 +20,5 @@ pub use ask_run::{run_ask, run_ask_by};
 pub use end::ScriptEnd;
 pub use limits::{LOOP_CLIENT, LOOP_SERVER, NOBODY, law_limits};
 pub use loop_run::run_loop;
-pub use ready::{Ready, Unasked};
+pub use ready::Ready;
 pub use why::{BadLine, Why};

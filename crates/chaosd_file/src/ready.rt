@@ -14,7 +14,7 @@ pub trait Ready<R: Read> {
 }
 
 /// The way of readers that aren't asked: a read may wait, and no turns are taken while it does.
-pub struct Unasked;
+pub(crate) struct Unasked;
 
 impl<R: Read> Ready<R> for Unasked {
     fn is_ready(_reader: &mut R) -> bool {

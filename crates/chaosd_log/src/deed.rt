@@ -107,7 +107,7 @@ pub enum Deed {
 
 impl Deed {
     /// What a line about the deed is about.
-    pub fn matter(&self) -> Matter
+    pub(crate) fn matter(&self) -> Matter
         // A file that was read is one matter, a request that failed another, and a change a third.
         ensures { result ≡ matter_of self.now }
     {

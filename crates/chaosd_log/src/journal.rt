@@ -187,12 +187,12 @@ impl<'a, R: Clock + Eprint> Journal<'a, R> {
     }
 
     /// A datagram came from this UDP address. Whoever reads the datagram says whose it is.
-    pub fn note_source(&self, from: SocketAddrV4) {
+    pub(crate) fn note_source(&self, from: SocketAddrV4) {
         self.source.set(Some(from));
     }
 
     /// Where the last datagram came from. A second call gives nothing.
-    pub fn take_source(&self) -> Option<SocketAddrV4> {
+    pub(crate) fn take_source(&self) -> Option<SocketAddrV4> {
         self.source.replace(None)
     }
 
@@ -221,7 +221,7 @@ impl<'a, R: Clock + Eprint> Journal<'a, R> {
     }
 
     /// Whether a peer or the bridge is at this UDP address.
-    pub fn is_known_at(&self, from: SocketAddrV4) -> bool {
+    pub(crate) fn is_known_at(&self, from: SocketAddrV4) -> bool {
         match self.ledger.try_borrow() {
             Ok(ledger) => ledger.has_socket(from),
             Err(_) => false,

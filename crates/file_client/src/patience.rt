@@ -25,7 +25,7 @@ impl Patience {
     /// The milliseconds for which an OPN is waited for before another connection is asked for:
     /// [`OPEN_MILLIS`], or a share of what a reply is waited for, where that is less. So a client
     /// of little patience asks again in time, too.
-    pub fn first_wait(self) -> u64
+    pub(crate) fn first_wait(self) -> u64
         // The first OPN is waited for as long as the definition says for this patience.
         ensures { result ≡ first_wait_of self }
     {

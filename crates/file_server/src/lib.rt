@@ -26,7 +26,7 @@ mod waiting;
 mod watch;
 
 pub use limits::law_limits;
-pub use log::{Ending, Log, Silent};
+pub use log::{Ending, Log};
 pub use serve_run::{ServeOptions, run_serve, run_serve_by};
 pub use server::Server;
 pub use sessions::Sessions;

@@ -39,7 +39,7 @@ pub trait Log {
 
 /// A log that keeps nothing, and promises nothing.
 #[derive(Drop)]
-pub struct Silent;
+pub(crate) struct Silent;
 
 impl Log for Silent {
     ghost use Rattle.std.specs.Prelude.{None};
