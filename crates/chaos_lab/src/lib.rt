@@ -34,6 +34,7 @@ pub use kept_item::KeptItem;
 pub use kept_packet::KeptPacket;
 pub use lab::Lab;
 pub use law::{law_delivery, law_kept, law_limits, law_numbers, law_phases, law_plays};
+pub use rig::FRESH_SPAN;
 pub use settling::Settling;
 pub use side::Side;
 pub use stamped::Stamped;

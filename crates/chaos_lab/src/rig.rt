@@ -31,7 +31,7 @@ use std::alloc::{AllocError, Global};
 use std::marker::Model;
 
 /// How many items either end may write before a copy is stale.
-const FRESH_SPAN: usize = 32_640;
+pub const FRESH_SPAN: usize = 32_640;
 
 /// Two ends of one connection, and every packet that was ever sent between them.
 #[derive(Drop)]

@@ -17,15 +17,12 @@ use crate::net::Net;
 use crate::seat::Seat;
 use crate::station::{KeptStation, place_of};
 use chaos_host::{ConnId, HostDelivered};
-use chaos_lab::Side;
+use chaos_lab::{FRESH_SPAN, Side};
 use chaos_packet::Kind;
 use std::alloc::Global;
 
 /// So many connections of one slot have different generations.
 const NEAR_SPAN: u64 = 256;
-
-/// So many items have different numbers, also those of the other end's window.
-const FRESH_SPAN: u64 = 32_640;
 
 impl Net {
     /// The packet with this number that the other side sent comes to this one.
@@ -93,7 +90,7 @@ fn may_come(events: u64, seats: &Vec<Seat>, kept: &KeptSent) -> bool
     let place = place_of(ConnId(kept.packet.dst_index()));
     match seats.get(place) {
         Some(seat) => {
-            let few = events.saturating_sub(kept.at) < FRESH_SPAN;
+            let few = events.saturating_sub(kept.at) < FRESH_SPAN as u64;
             let is_meant = are_near(Some(seat.turn), kept.meant);
             let is_peer = are_near(kept.by, seat.peer);
             few && is_meant && is_peer
