@@ -10,7 +10,7 @@ use chaos_packet::{Header, Kind, MAX_DATA, Opcode, Outbox, PktNum};
 
 /// The number of a packet without a number, and the acknowledgement of a packet without an
 /// acknowledgement.
-const NO_NUMBER: PktNum = PktNum(0);
+pub const NO_NUMBER: PktNum = PktNum(0);
 
 impl Conn {
     /// The header of a packet from this end to its peer.

@@ -3,10 +3,8 @@ ghost use Rattle.std.specs.Prelude.{◌≡◌, ◌≤◌, length};
 ghost use Rattle.chaos_host.specs.Deliver.{refusal, no_server, table_full, los_packet};
 
 use crate::host::Host;
-use chaos_packet::{MAX_DATA, Opcode, Packet, PktNum, body_of};
-
-/// The number and the acknowledgement of these packets.
-const NO_NUMBER: PktNum = PktNum(0);
+use chaos_conn::NO_NUMBER;
+use chaos_packet::{MAX_DATA, Opcode, Packet, body_of};
 
 impl Host {
     /// The refusal of a request for a contact that nobody listens to.
