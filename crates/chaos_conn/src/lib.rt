@@ -26,7 +26,7 @@ pub use config::ConnConfig;
 pub use conn::Conn;
 pub use fault::{ConfigFault, ConnFault};
 pub use law::{law_foreign, law_held, law_names, law_over};
-pub use limits::{MAX_PACKET_BYTES, law_limits};
+pub use limits::{MAX_PACKET_BYTES, USUAL_WINDOW, law_limits};
 pub use next_due::{earlier, law_quiet};
 pub use sending::NO_NUMBER;
 pub use state::{End, State};

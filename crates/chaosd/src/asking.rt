@@ -15,6 +15,7 @@ use crate::typed::{ByLook, Typed, Typing};
 use crate::unanswered::Unanswered;
 use crate::waiting::{Waiting, WaitingSocket};
 use chaos_chudp::ChudpLink;
+use chaos_conn::USUAL_WINDOW;
 use chaos_link::{Link, Peer, Peers, UdpLink};
 use chaosd_clock::Epoch;
 use chaosd_copies::ExitStatus;
@@ -28,9 +29,6 @@ use std::io;
 use std::io::{Read, Write};
 use std::net::{Net, SocketAddr, SocketAddrV4, UdpSocket};
 use std::time::Clock;
-
-/// The packets of the windows of `ask`.
-const USUAL_WINDOW: u16 = 13;
 
 /// The host that is asked, and a report where the line's host can't be asked.
 fn asked_host<R: Eprint>(rt: &R, to: u16, peers: &Peers) -> u16
