@@ -8,7 +8,7 @@ use crate::network::has_input;
 use crate::progress::ProgressLine;
 use chaosd_clock::Dial;
 use chaosd_copies::{
-    Dialog, Disk, ExitStatus, FilePath, Gets, Naming, Puts, Session, Target, run_copies,
+    Dialog, Disk, ExitStatus, FilePath, Gets, Naming, Puts, STREAM, Session, Target, run_copies,
 };
 use chaosd_io::RunFault;
 use chaosd_line::{Copying, Get, Put, path_for};
@@ -16,9 +16,6 @@ use std::fmt::Display;
 use std::fs::File;
 use std::net::Net;
 use std::rt::Files;
-
-/// The name of standard input.
-const STREAM: &str = "-";
 
 /// Whether each file that was copied is reported.
 fn is_told(copying: &Copying<'_>, is_terminal: bool) -> bool {

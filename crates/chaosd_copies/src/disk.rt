@@ -11,7 +11,7 @@ use std::io;
 use std::rt::Files;
 
 /// The name of standard input and output.
-const STREAM: &str = "-";
+pub const STREAM: &str = "-";
 
 /// The name of a device that is written as such, as standard output is.
 const NOWHERE: &str = "/dev/null";

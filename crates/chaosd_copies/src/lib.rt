@@ -27,7 +27,7 @@ mod whole;
 pub use copier::{Copier, Teller, run_copies};
 pub use deletes::Deletes;
 pub use dialog::Dialog;
-pub use disk::Disk;
+pub use disk::{Disk, STREAM};
 pub use gets::Gets;
 pub use local::Locals;
 pub use naming::{FilePath, Naming, Target};
