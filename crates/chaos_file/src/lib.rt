@@ -42,4 +42,4 @@ pub use printed::PrintedName;
 pub use session::Session;
 pub use store::{Got, Removed, Renamed, Store, Stored};
 pub use want::is_want;
-pub use whole::write_whole;
+pub use whole::{require_room, write_whole};

@@ -23,8 +23,11 @@ fn most_bytes() -> u64 {
 }
 
 /// A file of more bytes than the process may write is refused: the system would end the process at its write.
-fn require_room(bytes: &[u8]) -> io::Result<()> {
-    if bytes.len() as u64 > most_bytes() {
+///
+/// # Errors
+/// The system's fault for a file that is too large. The limit is the system's, so nothing is promised of it.
+pub fn require_room(bytes: u64) -> io::Result<()> {
+    if bytes > most_bytes() {
         return Err(io::Error::from_raw_os_error(EFBIG));
     }
     Ok(())
@@ -70,7 +73,7 @@ pub fn write_whole<R: Files>(
     mode: Option<Permissions>,
     bytes: &[u8],
 ) -> io::Result<()> {
-    require_room(bytes)?;
+    require_room(bytes.len() as u64)?;
     if let Err(fault) = write_and_rename(rt, fresh, place, mode, bytes) {
         let _ = fs::remove_file(rt, fresh);
         return Err(fault);
