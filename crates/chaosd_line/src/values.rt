@@ -4,6 +4,7 @@ ghost use Rattle.chaosd_line.specs.Values.{Finds, HasSides, IsAddress, IsCarriag
 
 use crate::line::LogLevel;
 use chaos_link::{Carriage, Peer};
+use chaos_window::MAX_WINDOW;
 use std::net::SocketAddrV4;
 
 /// The most digits of an address.
@@ -11,9 +12,6 @@ const ADDRESS_DIGITS: usize = 6;
 
 /// The most turns that may be asked for.
 const MAX_TURNS: u32 = 1_000_000_000;
-
-/// The most packets of a window.
-const MAX_WINDOW: u16 = 64;
 
 /// The fewest milliseconds after which packets may be sent again.
 const MIN_RETRANSMIT: u64 = 20;
