@@ -4,7 +4,8 @@ ghost use Rattle.std.specs.Counts.{IsPrefixLen};
 
 use crate::terminals::Terminals;
 use chaosd_file::Ready;
-use chaosd_told::{Notes, why_text};
+use chaosd_io::why_text;
+use chaosd_told::Notes;
 use std::fs::File;
 use std::io;
 use std::io::{ErrorKind, Read};

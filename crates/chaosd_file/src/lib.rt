@@ -21,4 +21,4 @@ pub use end::ScriptEnd;
 pub use limits::{LOOP_CLIENT, LOOP_SERVER, NOBODY, law_limits};
 pub use loop_run::run_loop;
 pub use ready::Ready;
-pub use why::{BadLine, Why};
+pub use why::Why;

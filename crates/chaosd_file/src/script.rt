@@ -202,7 +202,7 @@ fn ask_line<T: Turns, W: Write>(
     ensures well { OnOk result (T.failures turns.new ≤ T.failures turns.old) }
 {
     let Some(()) = read_command(line, &mut places.command) else {
-        places.why = Some(Why::BadLine(bad_line(line)));
+        places.why = bad_line(line);
         return Err(RunFault::BadScript(replied + 1));
     };
     if !client.ask(turns, places.command.as_slice(), &mut places.reply)? {

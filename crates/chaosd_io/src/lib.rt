@@ -5,6 +5,7 @@
 //! Nothing is allocated.
 #![tactic(auto)]
 
+mod bad_text;
 mod buffer;
 mod escapes;
 mod fault;
@@ -16,6 +17,7 @@ mod output;
 mod reader;
 mod texts;
 
+pub use bad_text::{BadText, why_text};
 pub use buffer::{NotWritten, WriteBuffer};
 pub use escapes::{Data, law_read_back, put_text, read_data};
 pub use fault::{RunFault, written};

@@ -1,6 +1,5 @@
 //! Why a line of a laboratory's script is bad.
-use crate::text::{BadText, why_text};
-use chaosd_io::LINE_LIMIT;
+use chaosd_io::{BadText, LINE_LIMIT, why_text};
 use thiserror::Error;
 
 /// Which laboratory a script is of.

@@ -1,9 +1,7 @@
 //! Why a text of a script stands for no bytes.
-use chaosd_io::LINE_LIMIT;
+use crate::limits::LINE_LIMIT;
+use chaos_packet::MAX_DATA;
 use thiserror::Error;
-
-/// The most bytes that a text may stand for.
-const MOST: usize = 488;
 
 /// Why a text stands for no bytes of a packet.
 #[derive(Clone, Copy, Debug, PartialEq, Eq, Error)]
@@ -51,7 +49,7 @@ pub fn why_text(text: &[u8], front: usize) -> Option<BadText> {
     }
     match count_of(text) {
         None => Some(BadText::NoDigits),
-        Some(count) if count > MOST => Some(BadText::TooMany),
+        Some(count) if count > MAX_DATA => Some(BadText::TooMany),
         Some(_) => None,
     }
 }
