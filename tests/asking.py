@@ -61,14 +61,14 @@ class Typing(Case):
                 status = terminal.process.wait(PATIENCE)
             finally:
                 terminal.end()
-        hint = b"chaosd: LOGIN was taken for a handle: two spaces stand where a command has none, as in `T1  LOGIN LISPM`\n"
+        hint = b"chaosd: LOGIN was read as a handle: a command without a handle has two spaces before its word, as in `T1  LOGIN LISPM`\n"
         wanted = [
             b"> ",
             b"T1 LOGIN ERROR UKC Unknown command.\n" + hint + b"> ",
-            b"chaosd: not sent: its byte 6 is no printing character of ASCII\n" + hint + b"> ",
+            b"chaosd: not sent: byte 6 is not a printable character of ASCII\n" + hint + b"> ",
             LOGIN + b"> ",
             b"T2 H OPEN 0\n> ",
-            b"chaosd: not sent: two lower-case hexadecimal digits are wanted behind each \\\n> ",
+            b"chaosd: not sent: each \\ needs two lower-case hexadecimal digits behind it\n> ",
             b"T4 H WRITE 3\n> ",
             NOT_KEPT % b"H",
         ]

@@ -249,16 +249,16 @@ class Limits(Case):
         self.check("a bad last line without its end", ended.problems(BAD_LINE, START_TEXT + b"read nothing\n" * 9_999, [b"line 10001: bad: "]))
 
     def test_what_is_wrong_with_a_bad_line_is_told(self):
-        words = b"it is none of write, read, window, tick, close, accept, deliver, and settle, serve in `filelab`"
-        first = b"the first line is `ends SA RA SB RB N`: four windows from 1 to 64, and a number up to 65535"
+        words = b"a line begins with write, read, window, tick, close, accept, deliver or settle, in `filelab` also with serve"
+        first = b"the first line must be `ends SA RA SB RB N`: four windows from 1 to 64, and a number up to 65535"
         for script, number, why in [
             (b"ends 99 4 4 4 1\n", 1, first), (b"", 1, first), (b"# comment\n", 1, b"a script has no comments"),
             (START + b"# comment\n", 2, b"a script has no comments"), (START + b"\r\n", 2, b"a script has no empty lines"),
-            (START + b"read a\n" * 5_000 + b"delivr 0\n", 5_002, words), (START + START, 2, b"`ends` is the first line alone"),
-            (START + b"write a 200 \t", 2, b"the text: its byte 13 is no printing character of ASCII"),
-            (START + b"write a 200 \\8D", 2, b"the text: two lower-case hexadecimal digits are wanted behind each \\"),
+            (START + b"read a\n" * 5_000 + b"delivr 0\n", 5_002, words), (START + START, 2, b"only the first line is `ends`"),
+            (START + b"write a 200 \t", 2, b"the text: byte 13 is not a printable character of ASCII"),
+            (START + b"write a 200 \\8D", 2, b"the text: each \\ needs two lower-case hexadecimal digits behind it"),
             (START + b"close a " + b"x" * 489, 2, b"the text: it stands for more than 488 bytes"),
-            (START + b"tick a 01\r\n", 2, b"wanted is `tick SIDE MOMENT (a or b; milliseconds)`, with one space between fields"),
+            (START + b"tick a 01\r\n", 2, b"expected `tick SIDE MOMENT (a or b; milliseconds)`, with one space between fields"),
             (START + b"read a" + b" " * 50_000 + b"\nread a\n", 2, b"it has more than 4096 bytes"),
         ]:  # fmt: skip
             for command in ["lab", "filelab"]:

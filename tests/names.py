@@ -70,7 +70,7 @@ class Names(Case):
             self.check("put --text of É: its place, status 3", ended.problems(REFUSED, b"", wanted))
             (here / "DOS").write_bytes(b"a\r\nb\r\n")
             ended = copied(server, "put", "DOS", options=["--text"], cwd=here)
-            told = b"chaosd: DOS has lines that end in CR LF, whose CRs are kept by --text as they are\n"
+            told = b"chaosd: DOS has lines that end in CR LF; --text keeps the CRs\n"
             problems = ended.problems(DONE, b"", told) + stored_problems(server.folder / "DOS", b"a\r\x8db\r\x8d")
             self.check("put --text of CR LF: told, and kept", problems)
             ended = copied(server, "put", "DOS", options=["--text", "--quiet"], cwd=here)
@@ -95,7 +95,7 @@ class Printed(Case):
             ended = copied(server, "put", WILD, cwd=here)
             self.check("skipped", ended.problems(FAULT, b"", SKIPPED % PRINTED))
             ended = copied(server, "put", WILD, options=["--as", "A", "--verbose", "--text"], cwd=here)
-            told = b"chaosd: " + PRINTED + b" has lines that end in CR LF, whose CRs are kept by --text as they are\n"
+            told = b"chaosd: " + PRINTED + b" has lines that end in CR LF; --text keeps the CRs\n"
             self.check("--verbose and --text", ended.problems(DONE, b"", [told, b"\n" + PRINTED + b" 3 bytes, SHA-256 "]))
             (here / "sub").mkdir()
             (here / "sub" / WILD).write_bytes(b"b")

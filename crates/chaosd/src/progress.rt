@@ -60,7 +60,7 @@ impl<R: Eprint> Viewer for ProgressLine<'_, R> {
         if !self.is_quiet {
             let name = PrintedName(name);
             let _ = eprintln!(self.rt;
-                "chaosd: {name} has lines that end in CR LF, whose CRs are kept by --text as they are"
+                "chaosd: {name} has lines that end in CR LF; --text keeps the CRs"
             );
         }
     }

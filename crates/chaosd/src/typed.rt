@@ -97,7 +97,7 @@ impl<'a, R: Eprint, I: Read> Typed<'a, R, I> {
         }
         if self.notes.is_login.get() {
             let _ = eprintln!(self.rt;
-                "chaosd: LOGIN was taken for a handle: two spaces stand where a command has none, as in `T1  LOGIN LISPM`"
+                "chaosd: LOGIN was read as a handle: a command without a handle has two spaces before its word, as in `T1  LOGIN LISPM`"
             );
         }
         let _ = eprint!(self.rt; "> ");

@@ -9,9 +9,9 @@ pub enum BadText {
     #[error("it has more than 4096 bytes")]
     TooLong,
     /// The place of the byte, counted from 1.
-    #[error("its byte {0} is no printing character of ASCII")]
+    #[error("byte {0} is not a printable character of ASCII")]
     NotPrinting(usize),
-    #[error("two lower-case hexadecimal digits are wanted behind each \\")]
+    #[error("each \\ needs two lower-case hexadecimal digits behind it")]
     NoDigits,
     #[error("it stands for more than 488 bytes")]
     TooMany,

@@ -20,16 +20,16 @@ pub enum BadLine {
     Comment,
     #[error("it has more than 4096 bytes")]
     TooLong,
-    #[error("the first line is `ends SA RA SB RB N`: four windows from 1 to 64, and a number up to 65535")]
+    #[error("the first line must be `ends SA RA SB RB N`: four windows from 1 to 64, and a number up to 65535")]
     NoEnds,
-    #[error("`ends` is the first line alone")]
+    #[error("only the first line is `ends`")]
     EndsAgain,
     #[error("`serve` is a line of `filelab`")]
     Serve,
-    #[error("it is none of write, read, window, tick, close, accept, deliver, and settle, serve in `filelab`")]
+    #[error("a line begins with write, read, window, tick, close, accept, deliver or settle, in `filelab` also with serve")]
     NoWord,
     /// It isn't of this form, which its first word needs.
-    #[error("wanted is `{0}`, with one space between fields")]
+    #[error("expected `{0}`, with one space between fields")]
     Form(&'static str),
     #[error("the text: {0}")]
     Text(BadText),
