@@ -72,8 +72,10 @@ impl<L: Link> Link for ChudpLink<L> {
         // else, to send the CHUDP form to the same address. The trailer has the next hop there, and
         // the own address. Where the link beneath is a queue, the queue takes exactly that.
         ensures over { fault_of bytes.now ≡ None →
-            Asks (L.asked self.old.inner) (L.asked self.new.inner) (Send (record { to = to_address;
-            bytes = form_to self.old.hops self.old.me to_address bytes.now }) ∷ []) }
+            Asks (L.asked self.old.inner) (L.asked self.new.inner) (Send (record {
+              to = to_address;
+              bytes = form_to self.old.hops self.old.me to_address bytes.now;
+            }) ∷ []) }
         ensures into { fault_of bytes.now ≡ None → IfSome (L.queue self.old.inner)
             (SendsInto to_address (form_to self.old.hops self.old.me to_address bytes.now) result
             (L.queue self.new.inner)) }

@@ -50,8 +50,12 @@ fn write_chudp(packet: &Packet, to: u16, me: u16, buffer: &mut [u8]) -> usize
     ensures only { (bs : List ℕ) → CarriesChudp packet.now to me bs → IsCanonical bs →
         bs ≡ take result buffer.new }
     // What is read of it is the packet and the hops.
-    ensures read { chudp_read (take result buffer.new) ≡ Ok (record { packet = packet.now; to = to;
-        from = me; sum = sum_in (take result buffer.new) }) }
+    ensures read { chudp_read (take result buffer.new) ≡ Ok (record {
+      packet = packet.now;
+      to = to;
+      from = me;
+      sum = sum_in (take result buffer.new);
+    }) }
     // For callers that compute: the datagram is a function of the packet and the hops.
     ensures exact { take result buffer.new ≡ chudp_of packet.now to me }
 {

@@ -275,7 +275,7 @@ impl Conn {
         requires fits { length bytes.now ≤ MAX_DATA }
         ensures { Acts self.old
             (after_item_came self.old packet.now.num
-                (record { op = packet.now.op; body = bytes.now }))
+            (record { op = packet.now.op; body = bytes.now }))
             self.new out.old out.new (with_packet result packet.now) }
     {
         match self.recv.arrive_lent(packet.num, packet.op, bytes) {

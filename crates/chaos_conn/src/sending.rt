@@ -73,7 +73,7 @@ impl Conn {
         requires fits { length body.now ≤ MAX_DATA }
         ensures { out.new
             ≡ with_put out.old
-                (item_packet self.now num (record { op = op; body = body.now }) ∷ []) }
+            (item_packet self.now num (record { op = op; body = body.now }) ∷ []) }
     {
         let ack = if carries_ack(op.kind()) {
             self.recv.read_num()
@@ -95,8 +95,8 @@ impl Conn {
         ensures view { self.new ≡ after_item self.old (record { op = op; body = body.now }) }
         ensures packets { out.new
             ≡ with_put out.old
-                (item_packet self.old (next_of self.old.send) (record { op = op; body = body.now })
-                    ∷ []) }
+            (item_packet self.old (next_of self.old.send) (record { op = op; body = body.now })
+            ∷ []) }
     {
         self.put_item(self.send.last().next(), op, body, out);
         if self.send.unreceipted() == 0 {

@@ -66,8 +66,12 @@ impl FileLab {
         start_a: PktNum,
     ) -> Result<Self, AllocError>
         // A has asked B for the contact `FILE` at moment 0. B has a new session and no files.
-        ensures { IfOk result (λ l. l ≡ record { lab = start_for (codes "FILE") config_a config_b
-            start_a; session = new_session; files = files.empty }) }
+        ensures { IfOk result (λ l. l ≡ record {
+          lab = start_for (codes "FILE") config_a config_b
+              start_a;
+          session = new_session;
+          files = files.empty;
+        }) }
     {
         let lab = Lab::asking_for(alloc, config_a, config_b, CONTACT, start_a)?;
         let server = Server {

@@ -64,7 +64,7 @@ impl Host {
         requires room { 0 < room_of out.old }
         ensures does { HostDoes self.old 1
             (connect_slot self.old place peer contact.now start now
-                (slice_get self.old.slots place))
+            (slice_get self.old.slots place))
             self.new out.old out.new (Ok result) }
         ensures asks { named_state self.new.slots result ≡ Some State.RfcSent }
     {

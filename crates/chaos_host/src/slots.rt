@@ -29,7 +29,7 @@ pub fn named(slots: &Vec<Slot>, id: ConnId) -> Result<&Slot, CallFault>
 pub fn named_place(slots: &Vec<Slot>, id: ConnId) -> Option<usize>
     ensures found { IfSome result
         (λ i. (i ≡ place_of id) × (i < length slots.now.items)
-            × (named_slot slots.now.items id ≡ slice_get slots.now.items i)) }
+        × (named_slot slots.now.items id ≡ slice_get slots.now.items i)) }
     ensures none { IfNone result (named_slot slots.now.items id ≡ None) }
 {
     let place = usize::from(id.0 % 256).saturating_sub(1);

@@ -75,8 +75,12 @@ impl LabEnd {
         requires empty { out.old.packets ≡ [] }
         requires fits { 0 < out.old.cap }
         ensures end { IfOk result
-            (λ e. end_view e ≡ record { conn = (request_for contact.now config start).view;
-            first = start; written = rfc_item contact.now ∷ []; read = [] }) }
+            (λ e. end_view e ≡ record {
+              conn = (request_for contact.now config start).view;
+              first = start;
+              written = rfc_item contact.now ∷ [];
+              read = [];
+            }) }
         ensures number { IfOk result (λ e. start < 65536) }
         ensures packets { IfOk result (λ e. out.new
             ≡ record out.old { packets = (request_for contact.now config start).packets }) }
@@ -192,8 +196,10 @@ impl LabEnd {
     #[inline(never)]
     fn keep_read(&mut self, packet: &Packet)
         requires { HasPlace self.old.read }
-        ensures { end_view self.new ≡ record (end_view self.old) { read = self.old.read.list.items
-            ++ item_of packet.now ∷ [] } }
+        ensures { end_view self.new ≡ record (end_view self.old) {
+          read = self.old.read.list.items
+              ++ item_of packet.now ∷ [];
+        } }
     {
         self.read.keep(packet.op, packet.bytes());
     }

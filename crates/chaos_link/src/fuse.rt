@@ -31,7 +31,7 @@ impl<L> Model for FuseLink<L> {
     ghost view = { λ fuse. record {
       inner = fuse.inner;
       calls_left = fuse.calls_left;
-      own_failures = fuse.own_failures
+      own_failures = fuse.own_failures;
     } };
 }
 

@@ -49,8 +49,10 @@ impl MemPair {
     /// No memory for the datagrams.
     pub fn new(alloc: Global, cap: usize) -> Result<Self, AllocError>
         // Nothing waits for either end of a new pair, and each end has room for `cap` datagrams.
-        ensures { IfOk result (λ pair. pair ≡ record { near = record { datagrams = []; cap = cap };
-            far = record { datagrams = []; cap = cap } }) }
+        ensures { IfOk result (λ pair. pair ≡ record {
+          near = record { datagrams = []; cap = cap };
+          far = record { datagrams = []; cap = cap };
+        }) }
     {
         let near = MemLink::new(alloc, cap)?;
         let far = MemLink::new(alloc, cap)?;

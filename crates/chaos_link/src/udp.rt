@@ -50,7 +50,7 @@ impl<S> Model for UdpLink<S> {
       socket = link.socket;
       peers = link.peers;
       failures = link.failures;
-      waits = link.waits
+      waits = link.waits;
     } };
 }
 
@@ -80,7 +80,7 @@ impl<S: DatagramSocket> Link for UdpLink<S> {
       peers = refl;
       socket_asks = [];
       socket_asked = S.began link.socket;
-      outgoing = refl
+      outgoing = refl;
     } };
 
     /// Sends a datagram to the socket of the peer with this address, otherwise to the bridge. What

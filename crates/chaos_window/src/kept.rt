@@ -41,7 +41,7 @@ impl Kept {
         requires room { length self.old.items < self.old.cap }
         requires fits { length bytes.now ≤ MAX_DATA }
         ensures { self.new ≡ record self.old {
-            items = self.old.items ++ (record { op = op; body = bytes.now }) ∷ []
+          items = self.old.items ++ (record { op = op; body = bytes.now }) ∷ [];
         } }
     {
         if let Some(mut place) = self.held.take_spare() {

@@ -76,8 +76,8 @@ impl<'a, C: Dial> ClockMoments<'a, C> {
         // The source begins with what the clock shows, at moment 0.
         ensures begins { IfOk result
             (λ moments. (moments.clock.now ≡ clock.now)
-                × BeginsBy (C.shows clock.now) (C.dates clock.now) moments.epoch
-                × (moments.last ≡ 0)) }
+            × BeginsBy (C.shows clock.now) (C.dates clock.now) moments.epoch
+            × (moments.last ≡ 0)) }
         // It fails only by the clock, where that may fail.
         ensures faults { IfErr result (λ fault. (fault ≡ RunFault.ClockFault) × C.fails clock.now) }
     {
@@ -108,9 +108,12 @@ impl<C: Dial> Moments for ClockMoments<'_, C> {
         × (now.epoch ≡ start.epoch)
         × ShownSince (C.shows start.clock.now) start.epoch start.last now.last moments };
 
-    ghost began = { λ moments.
-        (refl, refl, λ shown.
-            (All-nil (IsMoment (C.shows moments.clock.now) moments.epoch), shown)) };
+    ghost began = { λ moments. (
+      refl,
+      refl,
+      λ shown.
+          (All-nil (IsMoment (C.shows moments.clock.now) moments.epoch), shown),
+    ) };
 
     fn next(&mut self) -> Result<u64, RunFault> {
         match self.epoch.moment(self.clock) {

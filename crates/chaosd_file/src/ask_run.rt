@@ -56,11 +56,11 @@ pub fn run_ask<C: Dial, R: Read, W: Write, L: Link>(
     // fault the connection may also stay open where the clock is one that can't always be read.
     ensures talk { IfAsked result
         ((epoch : Epoch) × BeginsBy (C.shows clock.now) (C.dates clock.now) epoch
-            × Converses (clock_pace (C.shows clock.now) (usual_timing epoch))
-                (C.fails clock.now ⊎ (0 < L.count link.new))
-                (talker (new_caller me to usual_config carriage epoch.passed) (L.queue link.old))
-                (L.queue link.new) (R.remaining reader.old) (R.remaining reader.new)
-                (W.contents writer.old) (W.contents writer.new) result) }
+        × Converses (clock_pace (C.shows clock.now) (usual_timing epoch))
+        (C.fails clock.now ⊎ (0 < L.count link.new))
+        (talker (new_caller me to usual_config carriage epoch.passed) (L.queue link.old))
+        (L.queue link.new) (R.remaining reader.old) (R.remaining reader.new)
+        (W.contents writer.old) (W.contents writer.new) result) }
     // The run ends well only if the link's count of failures didn't rise.
     ensures well { OnOk result (L.count link.new ≤ L.count link.old) }
     // The run ends by `LinkFault` only if the link counted failures.
@@ -102,10 +102,10 @@ pub fn run_ask_by<P: Ready<R>, C: Dial, R: Read, W: Write, L: Link>(
     // contact of the route. While nothing more is there to read, only turns are taken.
     ensures talk { IfAsked result
         (Converses (clock_pace (C.shows clock.now) timing)
-            (C.fails clock.now ⊎ (0 < L.count link.new))
-            (talker (caller_by route.now timing.epoch.passed) (L.queue link.old)) (L.queue link.new)
-            (R.remaining reader.old) (R.remaining reader.new) (W.contents writer.old)
-            (W.contents writer.new) result) }
+        (C.fails clock.now ⊎ (0 < L.count link.new))
+        (talker (caller_by route.now timing.epoch.passed) (L.queue link.old)) (L.queue link.new)
+        (R.remaining reader.old) (R.remaining reader.new) (W.contents writer.old)
+        (W.contents writer.new) result) }
     // The run ends well only if the link's count of failures didn't rise.
     ensures well { OnOk result (L.count link.new ≤ L.count link.old) }
     // The run ends by `LinkFault` only if the link counted failures.

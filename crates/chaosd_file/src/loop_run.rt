@@ -225,10 +225,10 @@ pub fn run_loop<R: Read, W: Write, A: Link, B: Link>(
     // sent, unless failures of a link were counted.
     ensures talk { IfAsked result
         (Converses loop_pace (0 < A.count link_a.new + B.count link_b.new)
-            (talker (new_caller LOOP_CLIENT LOOP_SERVER usual_config carriage 0)
-                (A.queue link_a.old))
-            (A.queue link_a.new) (R.remaining reader.old) (R.remaining reader.new)
-            (W.contents writer.old) (W.contents writer.new) result) }
+        (talker (new_caller LOOP_CLIENT LOOP_SERVER usual_config carriage 0)
+        (A.queue link_a.old))
+        (A.queue link_a.new) (R.remaining reader.old) (R.remaining reader.new)
+        (W.contents writer.old) (W.contents writer.new) result) }
     // The run ends well only if the links' counts of failures, together, didn't rise.
     ensures well { OnOk result
         (A.count link_a.new + B.count link_b.new ≤ A.count link_a.old + B.count link_b.old) }
@@ -257,9 +257,9 @@ fn run_between<R: Read, W: Write, A: Link, B: Link>(
         (W.contents writer.new) result }
     ensures talk { IfAsked result
         (Converses loop_pace (0 < A.count near.new + B.count far.new)
-            (talker (new_caller LOOP_CLIENT LOOP_SERVER usual_config carriage 0) (A.queue near.old))
-            (A.queue near.new) (R.remaining reader.old) (R.remaining reader.new)
-            (W.contents writer.old) (W.contents writer.new) result) }
+        (talker (new_caller LOOP_CLIENT LOOP_SERVER usual_config carriage 0) (A.queue near.old))
+        (A.queue near.new) (R.remaining reader.old) (R.remaining reader.new)
+        (W.contents writer.old) (W.contents writer.new) result) }
     ensures well { OnOk result
         (A.count near.new + B.count far.new ≤ A.count near.old + B.count far.old) }
     ensures failed { result ≡ Err RunFault.LinkFault → 0 < A.count near.new + B.count far.new }

@@ -52,7 +52,7 @@ pub fn print_reply<W: Write>(
 ) -> Result<(), RunFault>
     ensures text { OnOk result
         (Appends (written_of (W.contents writer.old) out.old)
-            (written_of (W.contents writer.new) out.new) (reply_line reply.now)) }
+        (written_of (W.contents writer.new) out.new) (reply_line reply.now)) }
     ensures faults { IfErr result (λ fault. fault ≡ RunFault.WriteFault) }
 {
     make_room(out, writer)?;
@@ -63,7 +63,7 @@ pub fn print_reply<W: Write>(
 pub fn print_none<W: Write>(out: &mut WriteBuffer, writer: &mut W) -> Result<(), RunFault>
     ensures text { OnOk result
         (Appends (written_of (W.contents writer.old) out.old)
-            (written_of (W.contents writer.new) out.new) no_reply_line) }
+        (written_of (W.contents writer.new) out.new) no_reply_line) }
     ensures faults { IfErr result (λ fault. fault ≡ RunFault.WriteFault) }
 {
     make_room(out, writer)?;

@@ -160,7 +160,7 @@ fn wait_for_input<P: Ready<R>, T: Turns, R: Read>(
 ) -> Result<(), RunFault>
     ensures idles { OnOk result
         (Idles (T.pace (T.time turns.old)) (talker client.old.caller (T.queue turns.old))
-            (talker client.new.caller (T.queue turns.new))) }
+        (talker client.new.caller (T.queue turns.new))) }
     ensures input { R.remaining reader.new ≡ R.remaining reader.old }
     ensures faults { IfErr result
         (IsTurnFault (T.stops (T.time turns.old)) (T.failures turns.new)) }

@@ -33,14 +33,14 @@ pub fn settle<W: Write>(
 ) -> Result<bool, RunFault>
     ensures settled { IfOk result
         (λ refused. (lab.new ≡ (settle_done lab.old).lab)
-            × (refused ≡ (settle_done lab.old).is_refused)
-            × Appends (written_of (W.contents writer.old) out.old)
-                (written_of (W.contents writer.new) out.new) (settle_done lab.old).text
-            × (wrote_mem lab.old ≡ false → wrote_mem lab.new ≡ false)) }
+        × (refused ≡ (settle_done lab.old).is_refused)
+        × Appends (written_of (W.contents writer.old) out.old)
+        (written_of (W.contents writer.new) out.new) (settle_done lab.old).text
+        × (wrote_mem lab.old ≡ false → wrote_mem lab.new ≡ false)) }
     ensures no_memory { result ≡ Err RunFault.NoMemory →
         (text : List ℕ) × WantsSettling lab.old lab.new text
-            × Appends (written_of (W.contents writer.old) out.old)
-                (written_of (W.contents writer.new) out.new) text }
+        × Appends (written_of (W.contents writer.old) out.old)
+        (written_of (W.contents writer.new) out.new) text }
     ensures faults { IfErr result (λ fault. (fault ≡ run.NoMemory) ⊎ (fault ≡ run.WriteFault)) }
 {
     if !lab.can_settle() {
@@ -61,13 +61,13 @@ fn play_settling<W: Write>(
     requires { wrote_mem lab.old ≡ false }
     ensures settled { OnOk result
         ((lab.new ≡ after_events lab.old (file_settling lab.old)) × (wrote_mem lab.new ≡ false)
-            × Appends (written_of (W.contents writer.old) out.old)
-                (written_of (W.contents writer.new) out.new)
-                (typed_text lab.old (file_settling lab.old))) }
+        × Appends (written_of (W.contents writer.old) out.old)
+        (written_of (W.contents writer.new) out.new)
+        (typed_text lab.old (file_settling lab.old))) }
     ensures no_memory { result ≡ Err RunFault.NoMemory →
         (text : List ℕ) × WantsEvents lab.old lab.new text
-            × Appends (written_of (W.contents writer.old) out.old)
-                (written_of (W.contents writer.new) out.new) text }
+        × Appends (written_of (W.contents writer.old) out.old)
+        (written_of (W.contents writer.new) out.new) text }
     ensures faults { IfErr result (λ fault. (fault ≡ run.NoMemory) ⊎ (fault ≡ run.WriteFault)) }
 {
     let mut events = FileSettling::new();
@@ -87,12 +87,12 @@ fn play_typed(
 ) -> Result<(), RunFault>
     ensures played { OnOk result
         ((lab.new ≡ (file_happen lab.old (file_event event.now)).view) × (wrote_mem lab.new ≡ false)
-            × (out.new ≡ out.old
-                    ++ (file_line (file_event event.now)
-                        ++ event_text lab.old (file_event event.now)))) }
+        × (out.new ≡ out.old
+        ++ (file_line (file_event event.now)
+        ++ event_text lab.old (file_event event.now)))) }
     ensures no_memory { result ≡ Err RunFault.NoMemory → wrote_mem lab.old ≡ false →
         (told : List ℕ) × WantsEvent lab.old (file_event event.now) lab.new told
-            × (out.new ≡ out.old ++ (file_line (file_event event.now) ++ told)) }
+        × (out.new ≡ out.old ++ (file_line (file_event event.now) ++ told)) }
     ensures faults { IfErr result (λ fault. (fault ≡ run.NoMemory) ⊎ (fault ≡ run.WriteFault)) }
 {
     written(put_file_event(out, event))?;

@@ -88,7 +88,7 @@ fn begin(
 ) -> Result<FileStage, RunFault>
     ensures begun { IfOk result
         (λ stage. (first_of line.now ≡ Some stage)
-            × (out.new ≡ out.old ++ copies_text 0 stage.lab.copies) × (wrote_mem stage ≡ false)) }
+        × (out.new ≡ out.old ++ copies_text 0 stage.lab.copies) × (wrote_mem stage ≡ false)) }
     ensures bad { (n : ℕ) → result ≡ Err (RunFault.BadScript n) →
         (n ≡ number) × (first_of line.now ≡ None) × (out.new ≡ out.old) }
     ensures no_memory { result ≡ Err RunFault.NoMemory →
@@ -136,15 +136,15 @@ fn play(
 ) -> Result<bool, RunFault>
     ensures played { IfOk result
         (λ refused. (event : FileHappening) × (file_line_of line.now ≡ Some event)
-            × PlaysFileEvent event lab.old lab.new out.old out.new refused
-            × (wrote_mem lab.new ≡ false)) }
+        × PlaysFileEvent event lab.old lab.new out.old out.new refused
+        × (wrote_mem lab.new ≡ false)) }
     ensures bad { (n : ℕ) → result ≡ Err (RunFault.BadScript n) →
         (n ≡ number) × (file_line_of line.now ≡ None) × (out.new ≡ out.old) }
     ensures no_memory { result ≡ Err RunFault.NoMemory →
         (event : FileHappening) × (file_line_of line.now ≡ Some event)
-            × (wrote_mem lab.old ≡ false →
-                (text : List ℕ) × WantsEvent lab.old event lab.new text
-                    × (out.new ≡ out.old ++ text)) }
+        × (wrote_mem lab.old ≡ false →
+        (text : List ℕ) × WantsEvent lab.old event lab.new text
+        × (out.new ≡ out.old ++ text)) }
     ensures faults { IfErr result (λ fault. IsLineFault fault) }
 {
     let Some(command) = file_line_of(line, body) else {
@@ -172,10 +172,10 @@ pub fn play_event(
 ) -> Result<bool, RunFault>
     ensures played { IfOk result
         (λ refused. PlaysFileEvent (file_event event.now) lab.old lab.new out.old out.new refused
-            × (wrote_mem lab.new ≡ false)) }
+        × (wrote_mem lab.new ≡ false)) }
     ensures no_memory { result ≡ Err RunFault.NoMemory → wrote_mem lab.old ≡ false →
         (text : List ℕ) × WantsEvent lab.old (file_event event.now) lab.new text
-            × (out.new ≡ out.old ++ text) }
+        × (out.new ≡ out.old ++ text) }
     ensures faults { IfErr result (λ fault. (fault ≡ run.NoMemory) ⊎ (fault ≡ run.WriteFault)) }
 {
     let before = lab.copies().len();

@@ -9,7 +9,7 @@ use memchr::memchr;
 fn first_end(bytes: &[u8]) -> Option<usize>
     ensures { MatchOption result (All (λ b. is_newline b ≡ false) bytes.now)
         (λ at. (at < length bytes.now)
-            × IsCut bytes.now (take at bytes.now) (drop (at + 1) bytes.now)) }
+        × IsCut bytes.now (take at bytes.now) (drop (at + 1) bytes.now)) }
 {
     memchr(b'\n', bytes)
 }
@@ -19,7 +19,7 @@ fn first_end(bytes: &[u8]) -> Option<usize>
 fn line_end(bytes: &[u8]) -> Option<usize>
     ensures { MatchOption result (All (λ b. is_newline b ≡ false) bytes.now)
         (λ at. (at < length bytes.now)
-            × IsCut bytes.now (take at bytes.now) (drop (at + 1) bytes.now)) }
+        × IsCut bytes.now (take at bytes.now) (drop (at + 1) bytes.now)) }
 {
     if bytes.len() > 0 && bytes[0] == b'\n' {
         return Some(0);

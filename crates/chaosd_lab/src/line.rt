@@ -93,7 +93,7 @@ fn begin(
 ) -> Result<LabStage, RunFault>
     ensures begun { IfOk result
         (λ stage. (first_of line.now ≡ Some stage)
-            × (out.new ≡ out.old ++ copies_text 0 stage.copies)) }
+        × (out.new ≡ out.old ++ copies_text 0 stage.copies)) }
     ensures bad { (n : ℕ) → result ≡ Err (RunFault.BadScript n) →
         (n ≡ number) × (first_of line.now ≡ None) × (out.new ≡ out.old) }
     ensures no_memory { result ≡ Err RunFault.NoMemory →
@@ -149,12 +149,12 @@ fn play(
 ) -> Result<bool, RunFault>
     ensures played { IfOk result
         (λ refused. (event : Happening) × (event_of line.now ≡ Some event)
-            × PlaysEvent event lab.old lab.new out.old out.new refused) }
+        × PlaysEvent event lab.old lab.new out.old out.new refused) }
     ensures bad { (n : ℕ) → result ≡ Err (RunFault.BadScript n) →
         (n ≡ number) × (event_of line.now ≡ None) × (lab.new ≡ lab.old) × (out.new ≡ out.old) }
     ensures no_memory { result ≡ Err RunFault.NoMemory →
         (event_of line.now ≢ None) × (lab.new ≡ lab.old)
-            × (out.new ≡ out.old ++ refusal_text NoMemory) }
+        × (out.new ≡ out.old ++ refusal_text NoMemory) }
     ensures faults { IfErr result (λ fault. IsLineFault fault) }
 {
     let Some(command) = event_of(line, body) else {

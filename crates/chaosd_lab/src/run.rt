@@ -38,10 +38,10 @@ pub fn run_lab<R: Read, W: Write>(
     // bad.
     ensures text { IfOk result
         (λ refused. IfSome (R.remaining reader.old)
-            (λ input. (p : Played LabView) × (play_of lab_script (lines_of input) ≡ Some p)
-                × (refused ≡ p.refused)
-                × Appends (W.contents writer.old) (W.contents writer.new)
-                    (p.text ++ end_text p.lab))) }
+        (λ input. (p : Played LabView) × (play_of lab_script (lines_of input) ≡ Some p)
+        × (refused ≡ p.refused)
+        × Appends (W.contents writer.old) (W.contents writer.new)
+        (p.text ++ end_text p.lab))) }
     // The run ends well only at the input's end.
     ensures ended { OnOk result (IsAtEnd (R.remaining reader.new)) }
     // The run never ends well where more than 1,048,576 bytes came.
@@ -53,31 +53,31 @@ pub fn run_lab<R: Read, W: Write>(
     // it was written.
     ensures bad { (number : ℕ) → result ≡ Err (RunFault.BadScript number) →
         IfSome (R.remaining reader.old)
-            (λ input. IsFirstBad lab_script number (lines_of input) × IsMet INPUT_LIMIT number input
-                × Appends (W.contents writer.old) (W.contents writer.new)
-                    (text_of (play_of lab_script (take (number - 1) (lines_of input))))) }
+        (λ input. IsFirstBad lab_script number (lines_of input) × IsMet INPUT_LIMIT number input
+        × Appends (W.contents writer.old) (W.contents writer.new)
+        (text_of (play_of lab_script (take (number - 1) (lines_of input))))) }
 
     // `InputTooLong` comes only where the input is too long and no line that ended within the limit
     // is of no form. Those lines were played.
     ensures too_long { result ≡ Err RunFault.InputTooLong →
         IfSome (R.remaining reader.old)
-            (λ input. (INPUT_LIMIT < length input)
-                × NoneBad lab_script (ended_lines (take INPUT_LIMIT input))
-                × Appends (W.contents writer.old) (W.contents writer.new)
-                    (text_of (play_of lab_script (ended_lines (take INPUT_LIMIT input))))) }
+        (λ input. (INPUT_LIMIT < length input)
+        × NoneBad lab_script (ended_lines (take INPUT_LIMIT input))
+        × Appends (W.contents writer.old) (W.contents writer.new)
+        (text_of (play_of lab_script (ended_lines (take INPUT_LIMIT input))))) }
 
     // If the reader failed, no line that ended in what it had given is of no form. Those lines were
     // played, and no more.
     ensures unread { result ≡ Err RunFault.ReadFault →
         PlaysRead lab_script (R.remaining reader.old) (R.remaining reader.new)
-            (W.contents writer.old) (W.contents writer.new) }
+        (W.contents writer.old) (W.contents writer.new) }
 
     // If memory runs out, the lines before were played, and the event that ran out of memory is
     // printed. For a line `settle`, the events before it and its own line are printed too. The line
     // is of the form of its place, and it ends within the limit or the input does.
     ensures no_memory { result ≡ Err RunFault.NoMemory →
         IfSome (R.remaining reader.old)
-            (Wants lab_script (W.contents writer.old) (W.contents writer.new)) }
+        (Wants lab_script (W.contents writer.old) (W.contents writer.new)) }
 {
     run_script::<LabStage, R, W>(alloc, reader, writer)
 }

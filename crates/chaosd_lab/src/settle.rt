@@ -35,13 +35,13 @@ pub fn settle<W: Write>(
 ) -> Result<bool, RunFault>
     ensures settled { IfOk result
         (λ refused. (lab.new ≡ (settle_done lab.old).lab)
-            × (refused ≡ (settle_done lab.old).is_refused)
-            × Appends (written_of (W.contents writer.old) out.old)
-                (written_of (W.contents writer.new) out.new) (settle_done lab.old).text) }
+        × (refused ≡ (settle_done lab.old).is_refused)
+        × Appends (written_of (W.contents writer.old) out.old)
+        (written_of (W.contents writer.new) out.new) (settle_done lab.old).text) }
     ensures no_memory { result ≡ Err RunFault.NoMemory →
         (text : List ℕ) × WantsSettling lab.old lab.new text
-            × Appends (written_of (W.contents writer.old) out.old)
-                (written_of (W.contents writer.new) out.new) text }
+        × Appends (written_of (W.contents writer.old) out.old)
+        (written_of (W.contents writer.new) out.new) text }
     ensures faults { IfErr result (λ fault. (fault ≡ run.NoMemory) ⊎ (fault ≡ run.WriteFault)) }
 {
     if !lab.can_settle() {
@@ -61,13 +61,13 @@ fn play_settling<W: Write>(
 ) -> Result<(), RunFault>
     ensures settled { OnOk result
         ((lab.new ≡ after_all lab.old (settling lab.old))
-            × Appends (written_of (W.contents writer.old) out.old)
-                (written_of (W.contents writer.new) out.new)
-                (typed_text lab.old (settling lab.old))) }
+        × Appends (written_of (W.contents writer.old) out.old)
+        (written_of (W.contents writer.new) out.new)
+        (typed_text lab.old (settling lab.old))) }
     ensures no_memory { result ≡ Err RunFault.NoMemory →
         (text : List ℕ) × WantsEvents lab.old lab.new text
-            × Appends (written_of (W.contents writer.old) out.old)
-                (written_of (W.contents writer.new) out.new) text }
+        × Appends (written_of (W.contents writer.old) out.old)
+        (written_of (W.contents writer.new) out.new) text }
     ensures faults { IfErr result (λ fault. (fault ≡ run.NoMemory) ⊎ (fault ≡ run.WriteFault)) }
 {
     let mut events = Settling::new();
@@ -87,13 +87,13 @@ fn play_typed(
 ) -> Result<(), RunFault>
     ensures played { OnOk result
         ((lab.new ≡ (happen lab.old (happening_of event.now)).lab)
-            × (out.new ≡ out.old
-                    ++ (event_line (happening_of event.now)
-                        ++ event_text lab.old (happening_of event.now)))) }
+        × (out.new ≡ out.old
+        ++ (event_line (happening_of event.now)
+        ++ event_text lab.old (happening_of event.now)))) }
     ensures no_memory { result ≡ Err RunFault.NoMemory →
         (lab.new ≡ lab.old)
-            × (out.new
-                ≡ out.old ++ (event_line (happening_of event.now) ++ refusal_text NoMemory)) }
+        × (out.new
+        ≡ out.old ++ (event_line (happening_of event.now) ++ refusal_text NoMemory)) }
     ensures faults { IfErr result (λ fault. (fault ≡ run.NoMemory) ⊎ (fault ≡ run.WriteFault)) }
 {
     written(put_event(out, event))?;

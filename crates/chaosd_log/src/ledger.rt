@@ -61,8 +61,12 @@ impl Ledger {
     pub fn new(peers: Peers) -> Self
         // A new ledger has these peers, has heard nobody, and has reported nothing.
         ensures { result
-            ≡ record { peers = peers; heard = replicate MAX_PEERS None; stranger = None;
-                told = replicate 65536 false } }
+            ≡ record {
+              peers = peers;
+              heard = replicate MAX_PEERS None;
+              stranger = None;
+              told = replicate 65536 false;
+            } }
     {
         Ledger {
             peers,
@@ -85,7 +89,7 @@ impl Ledger {
         // The result is true exactly where a peer or the bridge is at the UDP address.
         ensures { IsTrue result
             ↔ (Any (λ peer. peer.socket ≡ from) self.now.peers.hosts
-                ⊎ (self.now.peers.bridge ≡ Some from)) }
+            ⊎ (self.now.peers.bridge ≡ Some from)) }
     {
         self.peers.hosts().iter().any(|peer| peer.socket == from)
             || self.peers.bridge() == Some(from)
@@ -126,7 +130,7 @@ impl Ledger {
     fn note(&mut self, address: u16, from: SocketAddrV4)
         ensures { self.new
             ≡ heard_at (place_of address self.old.peers.hosts)
-                (record { address = address; socket = from }) self.old }
+            (record { address = address; socket = from }) self.old }
     {
         match place_of(self.peers.hosts(), address) {
             Some(place) => self.heard[place] = Some(from),

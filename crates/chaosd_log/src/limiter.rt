@@ -122,7 +122,7 @@ impl Limiter {
         // The line is counted once, as written or as left out, in the tally of its matter alone.
         ensures tallies { self.new
             ≡ with_tally matter (with_line (limit_of matter) now (tally_of matter self.old))
-                self.old }
+            self.old }
     {
         self.tallies[matter.place()].take_line(limit_of(matter), now)
     }

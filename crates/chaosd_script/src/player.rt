@@ -60,12 +60,12 @@ impl<S: Stage> Player<S> {
         requires short { length (strip_last 13 raw.now) ≤ LINE_LIMIT }
         ensures plays { OnOk result
             ((held : Option (List ℕ)) →
-                PlaysOn S.script (written_of held self.old.out) self.old.at raw.now
-                    (written_of held self.new.out) self.new.at) }
+            PlaysOn S.script (written_of held self.old.out) self.old.at raw.now
+            (written_of held self.new.out) self.new.at) }
         ensures stops { IfErr result
             (λ fault. (held : Option (List ℕ)) →
-                StopsOn S.script (written_of held self.old.out) self.old.at raw.now
-                    (written_of held self.new.out) fault) }
+            StopsOn S.script (written_of held self.old.out) self.old.at raw.now
+            (written_of held self.new.out) fault) }
         ensures count { OnOk result (self.new.at.lines ≡ self.old.at.lines + 1) }
     {
         let first = without_return(raw);
@@ -81,10 +81,10 @@ impl<S: Stage> Player<S> {
         requires { self.old.at.lines ≤ INPUT_LIMIT }
         ensures plays { OnOk result
             (PlaysOn S.script (written_of (W.contents writer.old) self.old.out) self.old.at raw.now
-                (written_of (W.contents writer.new) self.new.out) self.new.at) }
+            (written_of (W.contents writer.new) self.new.out) self.new.at) }
         ensures stops { IfErr result
             (StopsOn S.script (written_of (W.contents writer.old) self.old.out) self.old.at raw.now
-                (written_of (W.contents writer.new) self.new.out)) }
+            (written_of (W.contents writer.new) self.new.out)) }
         ensures count { OnOk result (self.new.at.lines ≡ self.old.at.lines + 1) }
     {
         let line = without_return(raw);
@@ -106,16 +106,16 @@ impl<S: Stage> Player<S> {
         requires { self.old.at.lines ≤ INPUT_LIMIT }
         ensures plays { OnOk result
             ((before : Option (List ℕ)) (ended : List (List ℕ)) →
-                PlaysLines S.script before (written_of (W.contents writer.old) self.old.out)
-                    self.old.at ended →
-                PlaysLines S.script before (written_of (W.contents writer.new) self.new.out)
-                    self.new.at (ended ++ raw.now ∷ [])) }
+            PlaysLines S.script before (written_of (W.contents writer.old) self.old.out)
+            self.old.at ended →
+            PlaysLines S.script before (written_of (W.contents writer.new) self.new.out)
+            self.new.at (ended ++ raw.now ∷ [])) }
         ensures stops { IfErr result
             (λ fault. (before : Option (List ℕ)) (ended : List (List ℕ)) →
-                PlaysLines S.script before (written_of (W.contents writer.old) self.old.out)
-                    self.old.at ended →
-                StopsLine S.script before (written_of (W.contents writer.new) self.new.out) ended
-                    raw.now fault) }
+            PlaysLines S.script before (written_of (W.contents writer.old) self.old.out)
+            self.old.at ended →
+            StopsLine S.script before (written_of (W.contents writer.new) self.new.out) ended
+            raw.now fault) }
         ensures count { OnOk result (self.new.at.lines ≡ self.old.at.lines + 1) }
     {
         make_room(&mut self.out, writer)?;
@@ -126,17 +126,17 @@ impl<S: Stage> Player<S> {
     pub fn finish<W: Write>(&mut self, writer: &mut W) -> Result<(), RunFault>
         ensures plays { OnOk result
             ((input rest before : Option (List ℕ)) →
-                PlaysDone S.script input rest before
-                    (written_of (W.contents writer.old) self.old.out) self.old.at →
-                IfSome input
-                    (PlaysWithin S.script before (written_of (W.contents writer.new) self.new.out)
-                        self.new.at.refused)) }
+            PlaysDone S.script input rest before
+            (written_of (W.contents writer.old) self.old.out) self.old.at →
+            IfSome input
+            (PlaysWithin S.script before (written_of (W.contents writer.new) self.new.out)
+            self.new.at.refused)) }
         ensures stops { IfErr result
             (λ fault. (input rest before : Option (List ℕ)) →
-                PlaysDone S.script input rest before
-                    (written_of (W.contents writer.old) self.old.out) self.old.at →
-                StopsRun S.script input rest before
-                    (written_of (W.contents writer.new) self.new.out) fault) }
+            PlaysDone S.script input rest before
+            (written_of (W.contents writer.old) self.old.out) self.old.at →
+            StopsRun S.script input rest before
+            (written_of (W.contents writer.new) self.new.out) fault) }
     {
         make_room(&mut self.out, writer)?;
         let Some(lab) = &self.at.lab else {

@@ -34,7 +34,7 @@ pub fn run_script<S: Stage, R: Read, W: Write>(
     // laboratory's language has it, and the result counts the refused events. So no line was bad.
     ensures text { IfOk result
         (λ refused. IfSome (R.remaining reader.old)
-            (PlaysAll S.script (W.contents writer.old) (W.contents writer.new) refused)) }
+        (PlaysAll S.script (W.contents writer.old) (W.contents writer.new) refused)) }
     // The run ends well only at the input's end.
     ensures ended { OnOk result (IsAtEnd (R.remaining reader.new)) }
     // The run never ends well where more than 1,048,576 bytes came.
@@ -46,25 +46,25 @@ pub fn run_script<S: Stage, R: Read, W: Write>(
     // it was written.
     ensures bad { (number : ℕ) → result ≡ Err (RunFault.BadScript number) →
         IfSome (R.remaining reader.old)
-            (StopsAt S.script (W.contents writer.old) (W.contents writer.new) number) }
+        (StopsAt S.script (W.contents writer.old) (W.contents writer.new) number) }
 
     // `InputTooLong` comes only where the input is too long and each line that ended within the
     // limit was played. None of these is bad.
     ensures too_long { result ≡ Err RunFault.InputTooLong →
         IfSome (R.remaining reader.old)
-            (PlaysFront S.script (W.contents writer.old) (W.contents writer.new)) }
+        (PlaysFront S.script (W.contents writer.old) (W.contents writer.new)) }
 
     // If the reader failed, each line that ended in what it had given was played, and no more. None
     // of these is bad.
     ensures unread { result ≡ Err RunFault.ReadFault →
         PlaysRead S.script (R.remaining reader.old) (R.remaining reader.new) (W.contents writer.old)
-            (W.contents writer.new) }
+        (W.contents writer.new) }
 
     // If memory runs out, the lines before were played, the line that ran out of memory is of the
     // form of its place, and what the language prints of that was written.
     ensures no_memory { result ≡ Err RunFault.NoMemory →
         IfSome (R.remaining reader.old)
-            (Wants S.script (W.contents writer.old) (W.contents writer.new)) }
+        (Wants S.script (W.contents writer.old) (W.contents writer.new)) }
 {
     let mut player: Player<S> = Player::new(alloc);
     let end = play_all(&mut player, reader, writer);
@@ -85,18 +85,18 @@ fn play_all<S: Stage, R: Read, W: Write>(
     requires { player.old.at.lines ≡ 0 }
     ensures plays { OnOk result
         ((before : Option (List ℕ)) →
-            PlaysLines S.script before (written_of (W.contents writer.old) player.old.out)
-                player.old.at [] →
-            IfSome (R.remaining reader.old)
-                (PlaysWithin S.script before (written_of (W.contents writer.new) player.new.out)
-                    player.new.at.refused)) }
+        PlaysLines S.script before (written_of (W.contents writer.old) player.old.out)
+        player.old.at [] →
+        IfSome (R.remaining reader.old)
+        (PlaysWithin S.script before (written_of (W.contents writer.new) player.new.out)
+        player.new.at.refused)) }
     ensures ended { OnOk result (IsAtEnd (R.remaining reader.new)) }
     ensures stops { IfErr result
         (λ fault. (before : Option (List ℕ)) →
-            PlaysLines S.script before (written_of (W.contents writer.old) player.old.out)
-                player.old.at [] →
-            StopsRun S.script (R.remaining reader.old) (R.remaining reader.new) before
-                (written_of (W.contents writer.new) player.new.out) fault) }
+        PlaysLines S.script before (written_of (W.contents writer.old) player.old.out)
+        player.old.at [] →
+        StopsRun S.script (R.remaining reader.old) (R.remaining reader.new) before
+        (written_of (W.contents writer.new) player.new.out) fault) }
 {
     let mut lines: LineReader<KEPT_LEN> = LineReader::new(INPUT_LIMIT);
     'reads: loop {
@@ -119,16 +119,16 @@ fn play_ended<S: Stage, W: Write>(
     requires { player.old.at.lines + left_of lines.old ≤ INPUT_LIMIT }
     ensures plays { OnOk result
         ((input rest before : Option (List ℕ)) →
-            PlaysGiven S.script input rest before
-                (written_of (W.contents writer.old) player.old.out) player.old.at lines.old →
-            PlaysGiven S.script input rest before
-                (written_of (W.contents writer.new) player.new.out) player.new.at lines.new) }
+        PlaysGiven S.script input rest before
+        (written_of (W.contents writer.old) player.old.out) player.old.at lines.old →
+        PlaysGiven S.script input rest before
+        (written_of (W.contents writer.new) player.new.out) player.new.at lines.new) }
     ensures stops { IfErr result
         (λ fault. (input rest before : Option (List ℕ)) →
-            PlaysGiven S.script input rest before
-                (written_of (W.contents writer.old) player.old.out) player.old.at lines.old →
-            StopsRun S.script input rest before (written_of (W.contents writer.new) player.new.out)
-                fault) }
+        PlaysGiven S.script input rest before
+        (written_of (W.contents writer.old) player.old.out) player.old.at lines.old →
+        StopsRun S.script input rest before (written_of (W.contents writer.new) player.new.out)
+        fault) }
     ensures none { OnOk result (lines.new.waiting ≡ []) }
     ensures room { OnOk result (lines.new.room ≡ lines.old.room) }
     ensures count { OnOk result (player.new.at.lines + left_of lines.new ≤ INPUT_LIMIT) }
@@ -149,18 +149,18 @@ fn play_last<S: Stage, W: Write>(
     requires none { lines.now.waiting ≡ [] }
     ensures plays { OnOk result
         ((input rest before : Option (List ℕ)) →
-            PlaysGiven S.script input rest before
-                (written_of (W.contents writer.old) player.old.out) player.old.at lines.now →
-            IsAtEnd rest →
-            PlaysDone S.script input rest before (written_of (W.contents writer.new) player.new.out)
-                player.new.at) }
+        PlaysGiven S.script input rest before
+        (written_of (W.contents writer.old) player.old.out) player.old.at lines.now →
+        IsAtEnd rest →
+        PlaysDone S.script input rest before (written_of (W.contents writer.new) player.new.out)
+        player.new.at) }
     ensures stops { IfErr result
         (λ fault. (input rest before : Option (List ℕ)) →
-            PlaysGiven S.script input rest before
-                (written_of (W.contents writer.old) player.old.out) player.old.at lines.now →
-            IsAtEnd rest →
-            StopsRun S.script input rest before (written_of (W.contents writer.new) player.new.out)
-                fault) }
+        PlaysGiven S.script input rest before
+        (written_of (W.contents writer.old) player.old.out) player.old.at lines.now →
+        IsAtEnd rest →
+        StopsRun S.script input rest before (written_of (W.contents writer.new) player.new.out)
+        fault) }
 {
     let Some(line) = lines.last() else {
         return Ok(());

@@ -30,7 +30,7 @@ pub trait Stage: Drop {
         // language prints of the first line was printed.
         ensures begun { IfOk result
             (λ lab. (script.first line.now ≡ Some lab) × (out.new ≡ out.old ++ script.begun lab)
-                × script.ready lab) }
+            × script.ready lab) }
         // `BadScript` comes only of a line that isn't of the form, and nothing was printed.
         ensures bad { (n : ℕ) → result ≡ Err (RunFault.BadScript n) →
             (n ≡ number) × (script.first line.now ≡ None) × (out.new ≡ out.old) }
@@ -59,23 +59,23 @@ pub trait Stage: Drop {
         // says.
         ensures played { IfOk result
             (λ refused. script.ready self.old →
-                PlaysLine script line.now self.old self.new
-                        (written_of (W.contents writer.old) out.old)
-                        (written_of (W.contents writer.new) out.new) refused
-                    × script.ready self.new) }
+            PlaysLine script line.now self.old self.new
+            (written_of (W.contents writer.old) out.old)
+            (written_of (W.contents writer.new) out.new) refused
+            × script.ready self.new) }
         // `BadScript` comes only of a line of no form, and nothing was printed.
         ensures bad { (n : ℕ) → result ≡ Err (RunFault.BadScript n) →
             (n ≡ number) × (script.event line.now ≡ None)
-                × Keeps (written_of (W.contents writer.old) out.old)
-                    (written_of (W.contents writer.new) out.new) }
+            × Keeps (written_of (W.contents writer.old) out.old)
+            (written_of (W.contents writer.new) out.new) }
         // `NoMemory` comes only of a line of the form. Then the line left of the laboratory, and
         // printed, what the language says of that.
         ensures no_memory { result ≡ Err RunFault.NoMemory →
             (script.event line.now ≢ None)
-                × (script.ready self.old →
-                    (text : List ℕ) × script.wants self.old line.now self.new text
-                        × Appends (written_of (W.contents writer.old) out.old)
-                            (written_of (W.contents writer.new) out.new) text) }
+            × (script.ready self.old →
+            (text : List ℕ) × script.wants self.old line.now self.new text
+            × Appends (written_of (W.contents writer.old) out.old)
+            (written_of (W.contents writer.new) out.new) text) }
         // Only these and a `WriteFault` end it.
         ensures faults { IfErr result (λ fault. IsLineFault fault) };
 

@@ -92,8 +92,8 @@ impl Reporter {
         requires { self.old.tally.reports ≤ INPUT_LIMIT }
         ensures text { OnOk result
             (Appends (written_of (W.contents writer.old) self.old.out)
-                (written_of (W.contents writer.new) self.new.out)
-                (gap (self.old.tally.reports == 0) ++ line_report format raw.now)) }
+            (written_of (W.contents writer.new) self.new.out)
+            (gap (self.old.tally.reports == 0) ++ line_report format raw.now)) }
         ensures tally { OnOk result (self.new.tally ≡ counted format self.old.tally raw.now) }
     {
         self.make_room(writer, raw.len())?;

@@ -23,12 +23,12 @@ pub fn run_show<R: Read, W: Write>(reader: &mut R, writer: &mut W) -> Result<Tal
     // If the run ends well, what was written is the report of all that was read, in the own format.
     ensures report { OnOk result
         (IfSome (R.remaining reader.old)
-            (λ input. Appends (W.contents writer.old) (W.contents writer.new)
-                (report_of Format.Own input))) }
+        (λ input. Appends (W.contents writer.old) (W.contents writer.new)
+        (report_of Format.Own input))) }
     // The tally counts the reports and the refusals among them.
     ensures tally { IfOk result
         (λ tally. IfSome (R.remaining reader.old)
-            (λ input. tally ≡ tally_of Format.Own (lines_of input))) }
+        (λ input. tally ≡ tally_of Format.Own (lines_of input))) }
     // The run ends well only at the input's end.
     ensures ended { OnOk result (IsAtEnd (R.remaining reader.new)) }
     // The run never ends well where more than 1,048,576 bytes came.
@@ -39,14 +39,14 @@ pub fn run_show<R: Read, W: Write>(reader: &mut R, writer: &mut W) -> Result<Tal
     // limit were reported.
     ensures too_long { result ≡ Err RunFault.InputTooLong →
         IfSome (R.remaining reader.old)
-            (λ input. (INPUT_LIMIT < length input)
-                × Appends (W.contents writer.old) (W.contents writer.new)
-                    (reports_of Format.Own (ended_lines (take INPUT_LIMIT input)))) }
+        (λ input. (INPUT_LIMIT < length input)
+        × Appends (W.contents writer.old) (W.contents writer.new)
+        (reports_of Format.Own (ended_lines (take INPUT_LIMIT input)))) }
 
     // If the reader failed, the lines that ended in what it had given were reported, and no more.
     ensures unread { result ≡ Err RunFault.ReadFault →
         ReportsRead Format.Own (R.remaining reader.old) (R.remaining reader.new)
-            (W.contents writer.old) (W.contents writer.new) }
+        (W.contents writer.old) (W.contents writer.new) }
 {
     run_show_by(Format::Own, reader, writer)
 }
@@ -71,12 +71,12 @@ pub fn run_show_by<R: Read, W: Write>(
     // If the run ends well, what was written is the report of all that was read, in this format.
     ensures report { OnOk result
         (IfSome (R.remaining reader.old)
-            (λ input. Appends (W.contents writer.old) (W.contents writer.new)
-                (report_of format input))) }
+        (λ input. Appends (W.contents writer.old) (W.contents writer.new)
+        (report_of format input))) }
     // The tally counts the reports and the refusals among them.
     ensures tally { IfOk result
         (λ tally. IfSome (R.remaining reader.old)
-            (λ input. tally ≡ tally_of format (lines_of input))) }
+        (λ input. tally ≡ tally_of format (lines_of input))) }
     // The run ends well only at the input's end.
     ensures ended { OnOk result (IsAtEnd (R.remaining reader.new)) }
     // The run never ends well where more than 1,048,576 bytes came.
@@ -87,14 +87,14 @@ pub fn run_show_by<R: Read, W: Write>(
     // limit were reported.
     ensures too_long { result ≡ Err RunFault.InputTooLong →
         IfSome (R.remaining reader.old)
-            (λ input. (INPUT_LIMIT < length input)
-                × Appends (W.contents writer.old) (W.contents writer.new)
-                    (reports_of format (ended_lines (take INPUT_LIMIT input)))) }
+        (λ input. (INPUT_LIMIT < length input)
+        × Appends (W.contents writer.old) (W.contents writer.new)
+        (reports_of format (ended_lines (take INPUT_LIMIT input)))) }
 
     // If the reader failed, the lines that ended in what it had given were reported, and no more.
     ensures unread { result ≡ Err RunFault.ReadFault →
         ReportsRead format (R.remaining reader.old) (R.remaining reader.new) (W.contents writer.old)
-            (W.contents writer.new) }
+        (W.contents writer.new) }
 {
     let mut lines: LineReader<SHOW_KEPT_LEN> = LineReader::new(INPUT_LIMIT);
     let mut reporter = Reporter::new();
@@ -120,10 +120,10 @@ fn report_ended<W: Write>(
     requires { reporter.old.tally.reports + left_of lines.old ≤ INPUT_LIMIT }
     ensures shown { OnOk result
         ((input rest before : Option (List ℕ)) →
-            Shows format input rest before (written_of (W.contents writer.old) reporter.old.out)
-                reporter.old.tally lines.old →
-            Shows format input rest before (written_of (W.contents writer.new) reporter.new.out)
-                reporter.new.tally lines.new) }
+        Shows format input rest before (written_of (W.contents writer.old) reporter.old.out)
+        reporter.old.tally lines.old →
+        Shows format input rest before (written_of (W.contents writer.new) reporter.new.out)
+        reporter.new.tally lines.new) }
     ensures none { OnOk result (lines.new.waiting ≡ []) }
     ensures room { OnOk result (lines.new.room ≡ lines.old.room) }
     ensures count { OnOk result (reporter.new.tally.reports + left_of lines.new ≤ INPUT_LIMIT) }
@@ -145,11 +145,11 @@ fn report_last<W: Write>(
     requires none { lines.now.waiting ≡ [] }
     ensures shown { OnOk result
         ((input rest before : Option (List ℕ)) →
-            Shows format input rest before (written_of (W.contents writer.old) reporter.old.out)
-                reporter.old.tally lines.now →
-            IsAtEnd rest →
-            ShowsAll format input rest before (written_of (W.contents writer.new) reporter.new.out)
-                reporter.new.tally) }
+        Shows format input rest before (written_of (W.contents writer.old) reporter.old.out)
+        reporter.old.tally lines.now →
+        IsAtEnd rest →
+        ShowsAll format input rest before (written_of (W.contents writer.new) reporter.new.out)
+        reporter.new.tally) }
 {
     let Some(line) = lines.last() else {
         return Ok(());

@@ -74,9 +74,9 @@ impl<'a, C: Dial, L: Link> Call<'a, C, L> {
         // is the timing's for that moment.
         ensures well { OnOk result
             (Connects (clock_pace (C.shows self.old.turns.clock.now) self.old.turns.timing)
-                (Asks (L.asked self.old.turns.link.now) (L.asked self.new.turns.link.now))
-                self.new.client.now (L.queue self.old.turns.link.now)
-                (L.queue self.new.turns.link.now) self.old.client.caller self.new.client.caller) }
+            (Asks (L.asked self.old.turns.link.now) (L.asked self.new.turns.link.now))
+            self.new.client.now (L.queue self.old.turns.link.now)
+            (L.queue self.new.turns.link.now) self.old.client.caller self.new.client.caller) }
         // If it ends well, the link's count of failures didn't rise.
         ensures unfailed { OnOk result
             (L.count self.new.turns.link.now ≤ L.count self.old.turns.link.now) }
@@ -102,9 +102,9 @@ impl<'a, C: Dial, L: Link> Call<'a, C, L> {
         // A call says farewell as its client does.
         ensures talk { OnOk result
             (SendsFarewell (clock_pace (C.shows self.old.turns.clock.now) self.old.turns.timing)
-                (Asks (L.asked self.old.turns.link.now) (L.asked self.new.turns.link.now))
-                (talker self.old.client.caller (L.queue self.old.turns.link.now))
-                (talker self.new.client.caller (L.queue self.new.turns.link.now))) }
+            (Asks (L.asked self.old.turns.link.now) (L.asked self.new.turns.link.now))
+            (talker self.old.client.caller (L.queue self.old.turns.link.now))
+            (talker self.new.client.caller (L.queue self.new.turns.link.now))) }
         // If it ends well, the link's count of failures didn't rise.
         ensures unfailed { OnOk result
             (L.count self.new.turns.link.now ≤ L.count self.old.turns.link.now) }
@@ -123,9 +123,9 @@ impl<'a, C: Dial, L: Link> Call<'a, C, L> {
         // A call hangs up as its client does.
         ensures well { OnOk result
             (HangsUp (clock_pace (C.shows self.old.turns.clock.now) self.old.turns.timing)
-                (Asks (L.asked self.old.turns.link.now) (L.asked self.new.turns.link.now))
-                (L.queue self.old.turns.link.now) (L.queue self.new.turns.link.now)
-                self.old.client.caller self.new.client.caller) }
+            (Asks (L.asked self.old.turns.link.now) (L.asked self.new.turns.link.now))
+            (L.queue self.old.turns.link.now) (L.queue self.new.turns.link.now)
+            self.old.client.caller self.new.client.caller) }
         // If it ends well, the link's count of failures didn't rise.
         ensures unfailed { OnOk result
             (L.count self.new.turns.link.now ≤ L.count self.old.turns.link.now) }
@@ -157,24 +157,30 @@ impl<C: Dial, L: Link> Talk for Call<'_, C, L> {
     ghost talked = { λ now start talk. (now.turns.clock.now ≡ start.turns.clock.now)
         × (now.turns.timing ≡ start.turns.timing)
         × Told (clock_pace (C.shows start.turns.clock.now) start.turns.timing)
-            (L.asked now.turns.link.now start.turns.link.now)
-            (talker start.client.caller (L.queue start.turns.link.now)) start.client.now talk
-            (talker now.client.caller (L.queue now.turns.link.now)) now.client.now };
+        (L.asked now.turns.link.now start.turns.link.now)
+        (talker start.client.caller (L.queue start.turns.link.now)) start.client.now talk
+        (talker now.client.caller (L.queue now.turns.link.now)) now.client.now };
 
-    ghost began = { λ call.
-        (refl, refl, told_none (clock_pace (C.shows call.turns.clock.now) call.turns.timing)
-            (L.asked call.turns.link.now call.turns.link.now)
-            (talker call.client.caller (L.queue call.turns.link.now)) call.client.now
-            (L.began call.turns.link.now)) };
+    ghost began = { λ call. (
+      refl,
+      refl,
+      told_none (clock_pace (C.shows call.turns.clock.now) call.turns.timing)
+          (L.asked call.turns.link.now call.turns.link.now)
+          (talker call.client.caller (L.queue call.turns.link.now)) call.client.now
+          (L.began call.turns.link.now),
+    ) };
 
     ghost ready = { λ _. None };
 
     /// It counts turns as far as they can be.
     ghost course = { λ call.
-        record { turns = counted call.client.count; moment = call.client.now;
-            is_over = is_over call.client.caller.host call.client.caller.id;
-            patience = millis_waited call.turns.timing.patience;
-            failures = L.count call.turns.link.now } };
+        record {
+          turns = counted call.client.count;
+          moment = call.client.now;
+          is_over = is_over call.client.caller.host call.client.caller.id;
+          patience = millis_waited call.turns.timing.patience;
+          failures = L.count call.turns.link.now;
+        } };
 
     /// A fault of the clock, where that may fail, or of the link, where it counts a failure.
     ghost failed_by = { λ call. IsTurnFault (C.fails call.turns.clock.now)
@@ -221,16 +227,16 @@ impl<C: Dial, L: Link> Talk for Call<'_, C, L> {
         // If an OPN had been waited for long enough, another connection was asked for first.
         ensures well { OnOk result
             (TurnsAt (Asks (L.asked self.old.turns.link.now) (L.asked self.new.turns.link.now))
-                ((clock_pace (C.shows self.old.turns.clock.now) self.old.turns.timing).Waits true)
-                self.new.client.now (L.queue self.old.turns.link.now)
-                (L.queue self.new.turns.link.now)
-                (asked_again (clock_pace (C.shows self.old.turns.clock.now) self.old.turns.timing)
-                    self.new.client.now self.old.client.caller)
-                self.new.client.caller) }
+            ((clock_pace (C.shows self.old.turns.clock.now) self.old.turns.timing).Waits true)
+            self.new.client.now (L.queue self.old.turns.link.now)
+            (L.queue self.new.turns.link.now)
+            (asked_again (clock_pace (C.shows self.old.turns.clock.now) self.old.turns.timing)
+            self.new.client.now self.old.client.caller)
+            self.new.client.caller) }
         // The turn was at a moment that the clock showed.
         ensures moment { OnOk result
             ((clock_pace (C.shows self.old.turns.clock.now) self.old.turns.timing).Shows
-                self.new.client.now) }
+            self.new.client.now) }
         // However a turn ends, the link was asked exactly what such a turn asks. A turn that fails
         // was taken at a moment that the clock showed. Otherwise the clock showed none, and nothing
         // was done.

@@ -47,8 +47,16 @@ impl Model for Caller {
     ghost Value = { CallerView };
 
     ghost view = { λ c.
-        record { host = c.host; to = c.to; contact = c.contact; carriage = c.carriage; id = c.id;
-            since = c.since; wait = c.wait; out = c.out } };
+        record {
+          host = c.host;
+          to = c.to;
+          contact = c.contact;
+          carriage = c.carriage;
+          id = c.id;
+          since = c.since;
+          wait = c.wait;
+          out = c.out;
+        } };
 
     ghost invariant = { λ c. c.out.cap ≡ TURN_ROOM };
 }

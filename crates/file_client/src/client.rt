@@ -73,8 +73,8 @@ impl Client {
         // the request it did nothing.
         ensures well { OnOk result
             (Connects (T.pace (T.time turns.old)) (Asks (T.asked turns.old) (T.asked turns.new))
-                self.new.now (T.queue turns.old) (T.queue turns.new) self.old.caller
-                self.new.caller) }
+            self.new.now (T.queue turns.old) (T.queue turns.new) self.old.caller
+            self.new.caller) }
         // If it ends well, the links' count of failures didn't rise.
         ensures unfailed { OnOk result (T.failures turns.new ≤ T.failures turns.old) }
         // The server, the contact, the carriage, the links and the clock stay.
@@ -109,7 +109,7 @@ impl Client {
         // was done, and the link was asked nothing.
         ensures well { OnOk result
             (HangsUp (T.pace (T.time turns.old)) (Asks (T.asked turns.old) (T.asked turns.new))
-                (T.queue turns.old) (T.queue turns.new) self.old.caller self.new.caller) }
+            (T.queue turns.old) (T.queue turns.new) self.old.caller self.new.caller) }
         // If it ends well, the links' count of failures didn't rise.
         ensures unfailed { OnOk result (T.failures turns.new ≤ T.failures turns.old) }
         // However it ends, the client has no connection afterwards.
@@ -198,10 +198,10 @@ impl Client {
         // contact, whose OPN is waited for twice as long.
         ensures well { OnOk result
             (TurnsAt (Asks (T.asked turns.old) (T.asked turns.new))
-                ((T.pace (T.time turns.old)).Waits true) self.new.now (T.queue turns.old)
-                (T.queue turns.new)
-                (asked_again (T.pace (T.time turns.old)) self.new.now self.old.caller)
-                self.new.caller) }
+            ((T.pace (T.time turns.old)).Waits true) self.new.now (T.queue turns.old)
+            (T.queue turns.new)
+            (asked_again (T.pace (T.time turns.old)) self.new.now self.old.caller)
+            self.new.caller) }
         // The client's moment is one that its turns may show.
         ensures moment { OnOk result ((T.pace (T.time turns.old)).Shows self.new.now) }
         // However a turn ends, its link was asked just what a turn asks: to send what waited, once
@@ -261,9 +261,9 @@ impl Client {
         // what these turns ask, in order.
         ensures talk { IfOk result
             (λ came. Exchanges (T.pace (T.time turns.old))
-                (Asks (T.asked turns.old) (T.asked turns.new))
-                (talker self.old.caller (T.queue turns.old)) command.now
-                (taken came reply.new.items) (talker self.new.caller (T.queue turns.new))) }
+            (Asks (T.asked turns.old) (T.asked turns.new))
+            (talker self.old.caller (T.queue turns.old)) command.now
+            (taken came reply.new.items) (talker self.new.caller (T.queue turns.new))) }
         // If it ends well, the links' count of failures didn't rise.
         ensures unfailed { OnOk result (T.failures turns.new ≤ T.failures turns.old) }
         // The links and the clock stay.
@@ -305,9 +305,9 @@ impl Client {
         // ask, in order.
         ensures talk { OnOk result
             (SendsFarewell (T.pace (T.time turns.old))
-                (Asks (T.asked turns.old) (T.asked turns.new))
-                (talker self.old.caller (T.queue turns.old))
-                (talker self.new.caller (T.queue turns.new))) }
+            (Asks (T.asked turns.old) (T.asked turns.new))
+            (talker self.old.caller (T.queue turns.old))
+            (talker self.new.caller (T.queue turns.new))) }
         // If it ends well, the links' count of failures didn't rise.
         ensures unfailed { OnOk result (T.failures turns.new ≤ T.failures turns.old) }
         // The links and the clock stay.
@@ -334,7 +334,7 @@ impl Client {
             (IsTurnFault (T.stops (T.time turns.old)) (T.failures turns.new)) }
         ensures talk { OnOk result
             (Talks (T.pace (T.time turns.old)) (talker self.old.caller (T.queue turns.old)) silence
-                (talker self.new.caller (T.queue turns.new))) }
+            (talker self.new.caller (T.queue turns.new))) }
         ensures asked { OnOk result (Asks (T.asked turns.old) (T.asked turns.new) []) }
         ensures unfailed { OnOk result (T.failures turns.new ≤ T.failures turns.old) }
         ensures same_turns { (T.links turns.new ≡ T.links turns.old)
@@ -365,8 +365,8 @@ impl Client {
     fn is_parted(&self, is_written: bool) -> bool
         ensures { result ≡ true
             ↔ ((is_over self.entry.now.caller.host self.entry.now.caller.id ≡ true)
-                ⊎ ((is_written ≡ true)
-                    × (all_read self.entry.now.caller.host self.entry.now.caller.id ≡ true))) }
+            ⊎ ((is_written ≡ true)
+            × (all_read self.entry.now.caller.host self.entry.now.caller.id ≡ true))) }
     {
         self.caller.is_over() || (is_written && self.caller.is_drained())
     }
@@ -385,9 +385,9 @@ impl Client {
             (IsTurnFault (T.stops (T.time turns.old)) (T.failures turns.new)) }
         ensures talk { IfOk result
             (λ is. WritesAndTurns (T.pace (T.time turns.old))
-                (Asks (T.asked turns.old) (T.asked turns.new)) 1
-                (talker self.old.caller (T.queue turns.old)) (record { op = op; body = bytes.now })
-                is_written is (talker self.new.caller (T.queue turns.new))) }
+            (Asks (T.asked turns.old) (T.asked turns.new)) 1
+            (talker self.old.caller (T.queue turns.old)) (record { op = op; body = bytes.now })
+            is_written is (talker self.new.caller (T.queue turns.new))) }
         ensures moment { OnOk result ((T.pace (T.time turns.old)).Shows self.new.now) }
         ensures unfailed { OnOk result (T.failures turns.new ≤ T.failures turns.old) }
         ensures same_turns { (T.links turns.new ≡ T.links turns.old)

@@ -143,7 +143,7 @@ pub fn round_trip<T: Turns>(
     // were counted.
     ensures faults { IfErr result
         (λ fault. (fault ≡ RunFault.NoMemory)
-            ⊎ IsTurnFault (T.stops (T.time turns.old)) (T.failures turns.new) fault) }
+        ⊎ IsTurnFault (T.stops (T.time turns.old)) (T.failures turns.new) fault) }
     // The links and the clock stay.
     ensures same_turns { (T.links turns.new ≡ T.links turns.old)
         × (T.time turns.new ≡ T.time turns.old) }

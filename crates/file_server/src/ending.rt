@@ -75,7 +75,7 @@ pub(crate) fn close_slots<L: Link>(
     requires empty { out.old.packets ≡ [] }
     ensures { DoesPhase (Asks (L.asked link.old) (L.asked link.new)) terms.now.carriage
         (over_slots (close_at terms.now.silence terms.now.moment sessions.now)
-            (length host.old.slots) host.old)
+        (length host.old.slots) host.old)
         (station host.old (L.queue link.old) out.old) (station host.new (L.queue link.new) out.new)
         result }
 {

@@ -62,8 +62,8 @@ pub fn run_serve<C: Dial, L: Link, S: Store>(
     // moment of its request. The link was asked exactly what these turns ask.
     ensures turns { OnOk result
         (Serves (change S.contents S.may_give S.count) carriage
-            (Asks (L.asked link.old) (L.asked link.new)) (C.shows clock.now) (C.dates clock.now)
-            turns me store.old store.new (L.queue link.old) (L.queue link.new)) }
+        (Asks (L.asked link.old) (L.asked link.new)) (C.shows clock.now) (C.dates clock.now)
+        turns me store.old store.new (L.queue link.old) (L.queue link.new)) }
     // The run ends well only if the link's count of failures didn't rise. It ends by `LinkFault`
     // only if failures were counted.
     ensures well { OnOk result (L.count link.new ≤ L.count link.old) }

@@ -131,8 +131,8 @@ impl Server {
     pub(crate) fn watch<G: Log>(&self, watch: &mut Watch, log: &mut G)
         ensures { watched watch.new.seen (G.told log.new)
             ≡ watched_slots self.now.node.host self.now.sessions
-                (min SERVER_CONNS (length self.now.node.host.slots))
-                (watched watch.old.seen (G.told log.old)) }
+            (min SERVER_CONNS (length self.now.node.host.slots))
+            (watched watch.old.seen (G.told log.old)) }
     {
         for place in 0..SERVER_CONNS.min(self.node.host.conns()) {
             watch.look(&self.node.host, &self.sessions, place, log);

@@ -86,7 +86,7 @@ pub fn serve_slots<S: Store, L: Link>(
     requires empty { out.old.packets ≡ [] }
     ensures { ServerDoes (Asks (L.asked link.old) (L.asked link.new)) terms.now.carriage
         (ServesSlots (change S.contents S.may_give S.count) terms.now.moment
-            (length host.old.slots))
+        (length host.old.slots))
         (station (server host.old sessions.old store.old) (L.queue link.old) out.old)
         (station (server host.new sessions.new store.new) (L.queue link.new) out.new) result }
 {

@@ -35,7 +35,7 @@ fn take_turn<S: Store, L: Link>(
     requires empty { out.old.packets ≡ [] }
     ensures { ServerDoes (Asks (L.asked link.old) (L.asked link.new)) terms.now.carriage
         (IsTurn (change S.contents S.may_give S.count) terms.now.silence came.entry terms.now.start
-            terms.now.moment)
+        terms.now.moment)
         (station (server host.old sessions.old store.old) (L.queue link.old) out.old)
         (station (server host.new sessions.new store.new) (L.queue link.new) out.new) result }
 {
