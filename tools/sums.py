@@ -1,6 +1,4 @@
-"""Sums of what the refusal of a wrong body rests on, kept in docs/wrong-bodies.sums by whoever saw it refused.
-
-A line is a crate, a wrong body of it, and eight hexadecimal digits over what the proof of its crate reads, and its own text.
+"""Sums of what the refusal of a wrong body rests on: what the proof of its crate reads, and its own text.
 
 A proof reads src/, specs/ and proofs/ of its crate; of the crates below it the definitions, types and constants that these cite, with
 all that they stand on, and the contracts of the public functions that they name. A function of a type counts where
@@ -37,20 +35,13 @@ def words_below(folder, parts):
 
 
 class Sums:
-    """The sums of a repository's wrong bodies: what they are now, and those that are kept."""
+    """The sums of a repository's crates and of their wrong bodies, as they are when each is first asked for."""
 
     def __init__(self, top):
-        self.top, self.file = top, top / "docs/wrong-bodies.sums"
         self.sources = Sources(top)
         lines = [it.partition("#")[0] for it in (top / "crates.txt").read_text().split("\n")]
         self.below = {it.partition(":")[0].split()[0]: it.partition(":")[2].split() for it in lines if it.strip()}
         self.definitions, self.crates = Definitions(self.sources), {}
-        self.kept = self.read()
-
-    def read(self):
-        """The sums that are kept, by crate and name."""
-        lines = self.file.read_text().split("\n") if self.file.exists() else []
-        return {(crate, name): kept for crate, name, kept in (it.split() for it in lines if it)}
 
     def all_below(self, crate):
         """The crates of this repository that a crate stands on."""
@@ -103,16 +94,6 @@ class Sums:
             self.crates[name] = sum_of(words)
         return self.crates[name]
 
-    def of(self, crate, edit):
-        """The sum of a wrong body of a crate."""
-        return sum_of([self.of_crate(crate), *edit.text.split("\n")])
-
-    def is_kept(self, crate, edit):
-        return self.kept.get((crate, edit.name)) == self.of(crate, edit)
-
-    def note(self, crate, edits):
-        """Notes that these wrong bodies of a crate were refused, and drops the lines of those that are gone."""
-        kept = self.read() | {(crate, it.name): self.of(crate, it) for it in edits}
-        there = lambda crate, name: (self.top / "crates" / crate / "wrong-bodies" / f"{name}.edit").is_file()
-        lines = [f"{crate} {name} {kept_sum}\n" for (crate, name), kept_sum in sorted(kept.items()) if there(crate, name)]
-        self.file.write_text("".join(lines))
+    def of(self, crate, edits):
+        """The sum of some wrong bodies of a crate."""
+        return sum_of([self.of_crate(crate), *(line for it in edits for line in (it.name, *it.text.split("\n")))])

@@ -19,17 +19,15 @@ from sums import Sums
 from verdicts import Verdict, refused_alone
 
 TOOLS = pathlib.Path(__file__).resolve().parent
-SAID = TOOLS / "said"
+LOW_FILE, HIGH_FILE, SPECS = "crates/low/src/lib.rt", "crates/high/src/lib.rt", "crates/low/specs/Words.antt"
+LINES = "docs/wrong-bodies.txt"
 
 LOW = """pub struct Count(pub u8); // a count
-
-/// The next number.
 pub fn next(n: u8) -> u8
     ensures { result ≡ n + 1 }
 {
     n + 1
 }
-
 pub fn other(n: u8) -> u8
     ensures { result ≡ n }
 {
@@ -38,20 +36,17 @@ pub fn other(n: u8) -> u8
 """
 
 HIGH = """pub const MOST: u8 = twice(8);
-
 const fn twice(n: u8) -> u8
     ensures { result ≡ n + n }
 {
     n + n
 }
-
 pub fn first(n: u8) -> u8
     ensures { result ≡ n }
 {
     let one = n;
     one
 }
-
 impl Link for Queue {
     fn second(&self) -> u8
         ensures { result ≡ 2 }
@@ -59,13 +54,10 @@ impl Link for Queue {
         2
     }
 }
-
 fn silent() {
     let nothing = 0;
 }
-
 use low::Count;
-
 fn after(n: u8) -> u8 {
     low::next(Count(n).0)
 }
@@ -91,16 +83,20 @@ EDITS = {
     "const": ("    n + n", "    WRONG"),
     "harmless": ("    let one = n;", "    let one = n + 0;"),
     "broken": ("    let one = n;", "    let one = BROKEN;"),
+    # by this one another function fails than the one that it changes
     "far": ("    let one = n;", "    let one = FAR;"),
 }
 
 RT = """#!/usr/bin/env python3
 import pathlib
 import sys
+import time
 
-with open(pathlib.Path(__file__).parent / "asked", "a") as log:
+top, here = pathlib.Path(__file__).parent, pathlib.Path.cwd()
+with open(top / "asked", "a") as log:
     log.write(sys.argv[1] + "\\n")
-here = pathlib.Path.cwd()
+if (top / "slow").exists():
+    time.sleep(600)
 if sys.argv[1] == "must-fail":
     for edit in sorted((here / "crates" / sys.argv[2] / "must-fail").glob("*.edit")):
         is_wrong = "WRONG" in edit.read_text() or "FAR" in edit.read_text()
@@ -109,281 +105,193 @@ if sys.argv[1] == "must-fail":
 (here / "out/incremental").mkdir(parents=True, exist_ok=True)
 text = (here / "src/lib.rt").read_text()
 if "BROKEN" in text:
-    sys.exit("error[name]: src/lib.rt:11:15: there is no BROKEN")
-lines = text.split("\\n")
-wrong = [number for number, line in enumerate(lines, 1) if "WRONG" in line] + [6] * ("FAR" in text)
+    sys.exit("error[name]: src/lib.rt:9:15: there is no BROKEN")
+wrong = [number for number, line in enumerate(text.split("\\n"), 1) if "WRONG" in line] + [4] * ("FAR" in text)
 for number in wrong:
     print(f"note: src/lib.rt:{number}:5: it is not proved that what the function ensures holds")
 print("logic=not-proved" if wrong else "logic=proved functions=4")
 """
 
 
-SLOW_RT = """#!/usr/bin/env python3
-import pathlib
-import time
-
-(pathlib.Path(__file__).parent / "asked").touch()
-time.sleep(600)
-"""
-
-
-def example(folder, names):
-    """A repository of two crates, with these wrong bodies of the upper one and a program in the place of `rt`."""
-    for crate, text in ("low", LOW), ("high", HIGH):
-        (folder / "crates" / crate / "src").mkdir(parents=True)
-        (folder / "crates" / crate / "src/lib.rt").write_text(text)
-    (folder / "crates/low/specs").mkdir()
-    (folder / "crates/low/specs/Words.antt").write_text(WORDS)
-    (folder / "crates/high/specs").mkdir()
-    (folder / "crates/high/specs/Words.antt").write_text("use Rattle.low.specs.Words.{word}\n")
-    (folder / "crates.txt").write_text("low: arrayvec\nhigh: low # the upper one\n")
-    (folder / "HANDLES").write_text("Handles allowed: none.\n")
-    (folder / "docs").mkdir()
-    (folder / "crates/high/wrong-bodies").mkdir()
-    for name in names:
-        old, new = EDITS[name]
-        (folder / f"crates/high/wrong-bodies/{name}.edit").write_text(f"file: src/lib.rt\nold: {old}\nnew: {new}\n")
-    (folder / "rt").write_text(RT)
-    (folder / "rt").chmod(0o755)
-    shutil.copytree(TOOLS, folder / "tools", ignore=shutil.ignore_patterns("__pycache__"))
-
-
 class Example(unittest.TestCase):
-    names = ()
+    """A repository of two crates, with wrong bodies of the upper one and a program in the place of `rt`."""
 
     def setUp(self):
         room = tempfile.TemporaryDirectory()
         self.addCleanup(room.cleanup)
         self.top = pathlib.Path(room.name)
-        example(self.top, self.names)
+        files = {LOW_FILE: LOW, HIGH_FILE: HIGH, SPECS: WORDS, "crates/high/specs/Words.antt": "use Rattle.low.specs.Words.{word}\n"}
+        files |= {"crates.txt": "low: arrayvec\nhigh: low # the upper one\n", "HANDLES": "Handles allowed: none.\n", LINES: "gone 0 2026-11-27\n", "rt": RT}
+        for path, text in files.items():
+            self.write(path, text)
+        (self.top / "rt").chmod(0o755)
+        shutil.copytree(TOOLS, self.top / "tools", ignore=shutil.ignore_patterns("__pycache__"))
+        self.environment = {**os.environ, "RT": str(self.top / "rt"), "XDG_CACHE_HOME": str(self.top / "cache")}
 
-    def edit(self, name):
-        return Edit(self.top / f"crates/high/wrong-bodies/{name}.edit")
+    def write(self, path, text):
+        (self.top / path).parent.mkdir(parents=True, exist_ok=True)
+        (self.top / path).write_text(text)
+
+    def change(self, path, old, new):
+        text = (self.top / path).read_text()
+        self.assertIn(old, text)
+        self.write(path, text.replace(old, new))
+
+    def edits(self, *names):
+        """Writes these wrong bodies, and gives them."""
+        paths = {it: f"crates/high/wrong-bodies/{it}.edit" for it in names}
+        for name, path in paths.items():
+            self.write(path, "file: src/lib.rt\nold: {}\nnew: {}\n".format(*EDITS[name]))
+        return [Edit(self.top / it) for it in paths.values()]
 
     def tried(self, *words):
-        """Runs tools/wrong-bodies. Gives its status, the lines that it wrote, and the words that `rt` was run with."""
-        how = {"env": {**os.environ, "RT": str(self.top / "rt")}, "stdout": subprocess.PIPE, "text": True}
-        ran = subprocess.run([sys.executable, self.top / "tools/wrong-bodies", *words], **how)
+        """Runs tools/wrong-bodies. Gives its status, its last line, what `rt` was asked for, and the crates that have a line then."""
+        ran = subprocess.run([sys.executable, self.top / "tools/wrong-bodies", *words], env=self.environment, stdout=subprocess.PIPE, text=True)
+        self.said = ran.stdout.splitlines()
         asked = self.top / "asked"
         words = asked.read_text().split() if asked.exists() else []
         asked.unlink(missing_ok=True)
-        return ran.returncode, ran.stdout.split("\n")[:-1], words
+        lines = (self.top / LINES).read_text().splitlines()
+        return ran.returncode, self.said[-1], words, [it.split()[0] for it in lines if it[:4] != "gone"]
 
 
 class Outputs(unittest.TestCase):
     """What is read of outputs of `rt` that were kept."""
 
     def test_a_check_tells_whose_goals_are_not_proved(self):
-        verdict = Verdict((SAID / "check.txt").read_text())
-        self.assertTrue(verdict.is_there)
-        self.assertFalse(verdict.is_proved)
+        verdict = Verdict((TOOLS / "said/check.txt").read_text())
+        self.assertEqual((True, False), (verdict.is_there, verdict.is_proved))
         lines = {("src/number.rt", 21), ("src/number.rt", 28), ("src/number.rt", 35), ("src/outbox.rt", 61), ("src/writing.rt", 10)}
         self.assertEqual(lines, verdict.lines)
         self.assertEqual({f"proofs/{it}" for it in ("writing/pack", "reading/data_of", "reading/from_words")}, verdict.folders)
 
-    def test_what_calls_a_function_that_is_not_proved_is_not_told(self):
-        said = "fn low::after: no proof: it calls `low::off`, which is not proved\nlogic=not-proved\n"
-        self.assertEqual((set(), set()), (Verdict(said).lines, Verdict(said).folders))
-
-    def test_an_answer_that_names_what_is_gone_tells_nothing(self):
-        said = "./proofs/first/Answers.antt:3:5: error: `returns`: `c.one` has no field `two`\nlogic=not-proved\n"
-        self.assertEqual(set(), Verdict(said).folders)
-
-    def test_a_check_without_a_verdict_is_told(self):
+    def test_what_tells_nothing_of_a_contract(self):
+        calls = "fn low::after: no proof: it calls `low::off`, which is not proved\nlogic=not-proved\n"
+        names_what_is_gone = "./proofs/first/Answers.antt:3:5: error: `returns`: `c.one` has no field `two`\nlogic=not-proved\n"
+        for said in calls, names_what_is_gone:
+            self.assertEqual((set(), set()), (Verdict(said).lines, Verdict(said).folders))
         self.assertFalse(Verdict("error[type]: src/lib.rt:3:5: these types differ\n").is_there)
 
     def test_the_names_that_must_fail_saw_refused(self):
-        line = "rt: must-fail low/{}.edit: {}\n"
-        said = line.format("one", "refused, as it must be: src/lib.rt:3:1: it is not proved that what the function ensures holds")
-        said += line.format("two", "NOT REFUSED: the crate is still proved with this edit")
-        said += line.format("three", "BAD EDIT: it changes nothing") + line.format("four", "NOT TRIED: run this again")
+        ends = {"one": "refused, as it must be: src/lib.rt:3:1: why", "two": "NOT REFUSED", "three": "BAD EDIT", "four": "NOT TRIED"}
+        said = "".join(f"rt: must-fail low/{name}.edit: {end}\n" for name, end in ends.items())
         self.assertEqual({"one"}, refused_alone(said))
 
 
 class Spans(Example):
     """Which function a wrong body changes."""
 
-    names = tuple(EDITS)
-
-    def span(self, name):
-        folder = self.top / "crates/high"
-        return self.edit(name).span(Sources(self.top).crate("high"), folder, {"src/lib.rt": HIGH})
+    def span(self, edit):
+        return edit.span(Sources(self.top).crate("high"), self.top / "crates/high", {"src/lib.rt": HIGH})
 
     def test_the_function_whose_body_it_changes(self):
-        span = self.span("one")
-        self.assertEqual(("src/lib.rt", 9, 14, "proofs/first"), (span.path, span.first, span.last, span.folder))
-        self.assertEqual("proofs/QueueLink/second", self.span("two").folder)
-
-    def test_a_types_function_may_stand_in_another_file_than_the_type(self):
+        one, two = self.edits("one", "two")
+        span = self.span(one)
+        self.assertEqual(("src/lib.rt", 7, 12, "proofs/first"), (span.path, span.first, span.last, span.folder))
+        self.assertEqual("proofs/QueueLink/second", self.span(two).folder)
+        # a type's function may stand in another file than the type
         (self.top / "crates/high/proofs/queue/QueueLink/second").mkdir(parents=True)
-        self.assertEqual("proofs/queue/QueueLink/second", self.span("two").folder)
+        self.assertEqual("proofs/queue/QueueLink/second", self.span(two).folder)
 
-    def test_none_where_others_may_see_what_it_changes(self):
-        for name in "silent", "limit", "const":
-            self.assertIsNone(self.span(name), name)
+    def test_none_where_others_may_see_what_it_changes_or_where_it_changes_two(self):
+        one, two, *seen = self.edits("one", "two", "silent", "limit", "const")
+        one.changes += two.changes
+        self.assertEqual([None] * 4, [self.span(it) for it in (one, *seen)])
+        self.assertIsNone(two.applied({"src/lib.rt": HIGH + HIGH}))
 
-    def test_none_where_it_changes_two_functions(self):
-        two = self.edit("one")
-        two.changes += self.edit("two").changes
-        self.assertIsNone(two.span(Sources(self.top).crate("high"), self.top / "crates/high", {"src/lib.rt": HIGH}))
-
-    def test_a_text_that_stands_there_twice_is_not_changed(self):
-        self.assertIsNone(self.edit("one").applied({"src/lib.rt": HIGH + HIGH}))
+    def test_its_attributes_are_of_a_function_and_another_is_not_blamed(self):
+        self.change(HIGH_FILE, "pub fn first", "#[inline]\npub fn first")
+        first = Sources(self.top).crate("high").functions[None, "first"][0]
+        span = Span("src/lib.rt", "first", first, (self.top / HIGH_FILE).read_text())
+        self.assertEqual((7, 13), (span.first, span.last))
+        said = "note: src/lib.rt:{}:5: it is not proved that it holds\nlogic=not-proved\n"
+        self.assertTrue(Verdict(said.format(9)).blames([span]))
+        self.assertFalse(Verdict(said.format(9) + said.format(17)).blames([span]))
 
 
 class SumsOfCrates(Example):
     """What a sum covers."""
 
-    names = ("one", "two")
+    def is_covered(self, *change):
+        edit = "crates/high/wrong-bodies/one.edit"
+        before = Sums(self.top).of("high", [Edit(self.top / edit)])
+        self.change(*change)
+        return before != Sums(self.top).of("high", [Edit(self.top / edit)])
 
-    def sum_after(self, path, old, new):
-        file = self.top / path
-        text = file.read_text()
-        self.assertIn(old, text)
-        file.write_text(text.replace(old, new))
-        return Sums(self.top).of("high", self.edit("one"))
-
-    def test_comments_layout_and_bodies_below_are_not_covered(self):
-        before = Sums(self.top).of("high", self.edit("one"))
-        for path, old, new in (
-            ("crates/high/src/lib.rt", "    let one", "    // why\n        let  one"),
-            ("crates/low/src/lib.rt", "    n + 1\n", "    1 + n\n"),
-            ("crates/low/src/lib.rt", "/// The next number.", "/// The number after this one."),
-            ("crates/low/specs/Words.antt", "-- a word", "-- some word"),
-            ("crates/high/wrong-bodies/two.edit", "WRONG", "3"),
+    def test_what_the_proof_reads_and_its_own_text_are_covered_and_nothing_else(self):
+        self.edits("one", "two")
+        for is_covered, *change in (
+            (True, HIGH_FILE, "    2\n", "    1 + 1\n"),
+            (True, LOW_FILE, "result ≡ n + 1", "result ≡ 1 + n"),
+            (True, LOW_FILE, "Count(pub u8)", "Count(pub u16)"),
+            (True, SPECS, "below = 1", "below = 2"),
+            (True, "crates/high/wrong-bodies/one.edit", "WRONG", "3"),
+            (False, "crates/high/wrong-bodies/two.edit", "WRONG", "3"),
+            (False, HIGH_FILE, "    let one", "    // why\n        let  one"),
+            (False, LOW_FILE, "    n + 1\n", "    1 + n\n"),
+            (False, LOW_FILE, "// a count", "// how many"),
+            (False, LOW_FILE, "result ≡ n }", "result ≡ n + 0 }"),
+            (False, SPECS, "-- a word", "-- some word"),
+            (False, SPECS, "spare = 0", "spare = 1"),
         ):
-            self.assertEqual(before, self.sum_after(path, old, new), new)
-
-    def test_what_it_does_not_name_is_not_covered(self):
-        before = Sums(self.top).of("high", self.edit("one"))
-        for path, old, new in (
-            ("crates/low/src/lib.rt", "result ≡ n }", "result ≡ n + 0 }"),
-            ("crates/low/specs/Words.antt", "spare = 0", "spare = 1"),
-        ):
-            self.assertEqual(before, self.sum_after(path, old, new), new)
-
-    def test_sources_contracts_definitions_and_its_own_text_are_covered(self):
-        for path, old, new in (
-            ("crates/high/src/lib.rt", "    2\n", "    1 + 1\n"),
-            ("crates/low/src/lib.rt", "result ≡ n + 1", "result ≡ 1 + n"),
-            ("crates/low/src/lib.rt", "Count(pub u8)", "Count(pub u16)"),
-            ("crates/low/specs/Words.antt", "below = 1", "below = 2"),
-            ("crates/high/wrong-bodies/one.edit", "WRONG", "3"),
-        ):
-            before = Sums(self.top).of("high", self.edit("one"))
-            self.assertNotEqual(before, self.sum_after(path, old, new), new)
+            self.assertEqual(is_covered, self.is_covered(*change), change)
 
 
-class Refused(Example):
-    """Wrong bodies that are all refused."""
-
-    names = ("one", "two", "again", "silent", "limit")
+class Trials(Example):
+    """How wrong bodies are tried, and what is noted."""
 
     def test_those_of_different_functions_are_tried_by_one_check(self):
-        status, lines, asked = self.tried("high")
-        self.assertEqual((0, "5 passed, 0 failed"), (status, lines[-1]))
+        self.edits("one", "two", "again", "silent", "limit")
         # the crate as it stands; one and two; again; and the others alone
-        self.assertEqual(["check", "check", "check", "must-fail"], asked)
+        self.assertEqual((0, "5 passed, 0 failed", ["check", "check", "check", "must-fail"], ["high"]), self.tried("high"))
 
-    def test_what_was_refused_is_not_tried_again_where_nothing_changed(self):
+    def test_what_the_line_or_the_machine_knows_is_not_tried_again(self):
+        self.edits("one", "two")
         self.tried()
-        lines = ["5 were refused before, and nothing that they stand on has changed", "0 passed, 0 failed"]
-        self.assertEqual((0, lines, []), self.tried("--changed"))
+        known = (0, "0 passed, 0 failed", [], ["high"])
+        self.write(LINES, "")
+        self.assertEqual(known, self.tried("--changed"))
+        shutil.rmtree(self.top / "cache")
+        self.assertEqual(known, self.tried("--changed"))
+        self.edits("silent")
+        self.assertEqual((0, "3 passed, 0 failed"), self.tried("--changed")[:2])
+        self.edits("limit")
+        self.assertEqual((0, "1 passed, 0 failed", ["must-fail"], ["high"]), self.tried("--changed"))
+        self.change(HIGH_FILE, "use low::Count;", "use low::Count; pub fn third() {}")
+        self.assertEqual((0, "4 passed, 0 failed"), self.tried("--changed")[:2])
 
-    def test_what_was_refused_is_tried_again_where_its_crate_changed(self):
-        self.tried()
-        (self.top / "crates/high/src/lib.rt").write_text(HIGH + "pub fn third() {}\n")
-        status, lines, _ = self.tried("--changed")
-        self.assertEqual((0, "5 passed, 0 failed"), (status, lines[-1]))
+    def test_one_that_is_broken_or_far_is_tried_alone_and_the_others_without_it(self):
+        for name, status, last in ("far", 0, "2 passed, 0 failed"), ("broken", 1, "1 passed, 1 failed"):
+            self.edits("two", name)
+            # the crate as it stands; both; each of the two; and this one alone
+            self.assertEqual((status, last, ["check"] * 4 + ["must-fail"], ["high"] * (not status)), self.tried())
+            (self.top / f"crates/high/wrong-bodies/{name}.edit").unlink()
+        self.assertIn("high/broken: NOT REFUSED", self.said)
 
-    def test_a_sum_of_what_is_gone_goes(self):
-        self.tried()
-        (self.top / "crates/high/wrong-bodies/one.edit").unlink()
-        self.tried()
-        self.assertNotIn("high one ", (self.top / "docs/wrong-bodies.sums").read_text())
+    def test_one_that_is_let_through_fails_again_and_its_crate_has_no_line(self):
+        self.edits("two", "silent", "harmless")
+        for words, last in ((), "2 passed, 1 failed"), (("--changed",), "0 passed, 1 failed"):
+            status, said, _, lines = self.tried(*words)
+            self.assertEqual((1, last, []), (status, said, lines))
+            self.assertIn("high/harmless: NOT REFUSED", self.said)
 
-
-class SideBySide(Example):
-    """Wrong bodies of two crates."""
-
-    names = ("one", "two")
-
-    def setUp(self):
-        super().setUp()
-        (self.top / "crates/low/wrong-bodies").mkdir()
-        (self.top / "crates/low/wrong-bodies/lower.edit").write_text("file: src/lib.rt\nold:     n + 1\nnew:     WRONG\n")
-
-    def test_those_of_both_are_tried_and_noted(self):
-        status, lines, _ = self.tried()
-        self.assertEqual((0, "3 passed, 0 failed"), (status, lines[-1]))
-        kept = (self.top / "docs/wrong-bodies.sums").read_text()
-        self.assertEqual(["high one", "high two", "low lower"], [" ".join(it.split()[:2]) for it in kept.split("\n") if it])
+    def test_those_of_two_crates_are_tried_side_by_side(self):
+        self.edits("one", "two")
+        self.write("crates/low/wrong-bodies/lower.edit", "file: src/lib.rt\nold:     n + 1\nnew:     WRONG\n")
+        status, last, _, lines = self.tried()
+        self.assertEqual((0, "3 passed, 0 failed", ["high", "low"]), (status, last, lines))
 
     def test_a_run_that_is_ended_ends_its_checks_and_removes_its_copies(self):
-        (self.top / "rt").write_text(SLOW_RT)
+        self.edits("one", "two")
+        self.write("slow", "")
         (self.top / "rooms").mkdir()
-        how = {"env": {**os.environ, "RT": str(self.top / "rt"), "TMPDIR": str(self.top / "rooms")}, "stdout": subprocess.PIPE}
+        how = {"env": {**self.environment, "TMPDIR": str(self.top / "rooms")}, "stdout": subprocess.PIPE}
         with subprocess.Popen([sys.executable, self.top / "tools/wrong-bodies"], **how) as ran:
             while not (self.top / "asked").exists():
                 time.sleep(0.01)
             ran.terminate()
             ran.communicate(timeout=60)
-        self.assertEqual(143, ran.returncode)
-        self.assertEqual([], list((self.top / "rooms").iterdir()))
-
-
-class Unread(Example):
-    """One that can't be compiled, beside others."""
-
-    names = ("two", "broken")
-
-    def test_it_fails_and_the_others_are_tried_without_it(self):
-        status, lines, asked = self.tried()
-        self.assertEqual((1, "1 passed, 1 failed"), (status, lines[-1]))
-        self.assertIn("high/broken: NOT REFUSED", lines)
-        # the crate as it stands; both; each of the two; and broken alone
-        self.assertEqual(["check"] * 4 + ["must-fail"], asked)
-
-
-class Far(Example):
-    """One by which another function fails than the one that it changes."""
-
-    names = ("two", "far")
-
-    def test_it_is_tried_alone_and_the_others_without_it(self):
-        status, lines, asked = self.tried()
-        self.assertEqual((0, "2 passed, 0 failed"), (status, lines[-1]))
-        # the crate as it stands; both; each of the two; and the far one alone
-        self.assertEqual(["check"] * 4 + ["must-fail"], asked)
-
-
-class Passed(Example):
-    """One that the prover lets through."""
-
-    names = ("two", "silent", "harmless")
-
-    def test_it_fails_and_its_sum_is_not_noted(self):
-        for words in ((), ("--changed",)):
-            status, lines, _ = self.tried(*words)
-            self.assertEqual(1, status)
-            self.assertIn("high/harmless: NOT REFUSED", lines)
-        self.assertEqual("0 passed, 1 failed", lines[-1])
-        kept = (self.top / "docs/wrong-bodies.sums").read_text()
-        self.assertEqual(["silent", "two"], [it.split()[1] for it in kept.split("\n") if it])
-
-    def test_its_attributes_are_of_a_function(self):
-        text = HIGH.replace("pub fn first", "#[inline]\npub fn first")
-        (self.top / "crates/high/src/lib.rt").write_text(text)
-        it = Sources(self.top).crate("high").functions[None, "first"][0]
-        span = Span("src/lib.rt", "first", it, text)
-        self.assertEqual((9, 15), (span.first, span.last))
-
-    def test_nothing_is_known_where_another_function_fails_too(self):
-        span = Sources(self.top).crate("high").functions[None, "first"][0]
-        first = Span("src/lib.rt", "first", span, HIGH)
-        said = "note: src/lib.rt:{}:5: it is not proved that it holds\nlogic=not-proved\n"
-        self.assertTrue(Verdict(said.format(12)).blames([first]))
-        self.assertFalse(Verdict(said.format(12) + said.format(19)).blames([first]))
+        self.assertEqual((143, []), (ran.returncode, list((self.top / "rooms").iterdir())))
 
 
 def self_test():
