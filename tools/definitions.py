@@ -22,14 +22,10 @@ def sum_of(words):
 
 
 class Definition:
-    """A definition: where it stands, its words, how many lines they take, and the definitions that it cites."""
+    """A definition: its words, and the definitions that it cites."""
 
-    def __init__(self, place, text, cites):
-        self.place, self.words, self.cites = place, text.split(), cites
-        self.lines = sum(bool(line.strip()) and not WITHIN.match(line) for line in text.split("\n"))
-
-    def sum(self):
-        return sum_of(self.words)
+    def __init__(self, text, cites):
+        self.words, self.cites = text.split(), cites
 
 
 def made(line):
@@ -39,24 +35,24 @@ def made(line):
 
 
 class Module:
-    """A file of specs/: the text of each of its definitions, with the number of its first line, and whose the constructors are."""
+    """A file of specs/: the text of each of its definitions, and whose the constructors are."""
 
     def __init__(self, file):
-        self.file, self.texts, self.makes = file, {}, {}
+        self.texts, self.makes = {}, {}
         text = re.sub(r"--(?=\s|-|$)[^\n]*", "", file.read_text())
         self.text, name, around = text, None, ""
-        for number, line in enumerate(text.split("\n"), 1):
+        for line in text.split("\n"):
             found = HEAD.match(line)
             if found:
                 name = found.group(2)
-                self.texts.setdefault(name, [number, around if found.group(1) else ""])[1] += f"\n{line}"
+                self.texts[name] = f"{self.texts.get(name, around if found.group(1) else '')}\n{line}"
             elif WITHIN.match(line):
                 name, around = None, line
             elif ELSE.match(line):
                 name = None
             elif name:
-                self.texts[name][1] += f"\n{line}"
-                self.makes |= {word: name for word in made(line)} if "pub data" in self.texts[name][1] else {}
+                self.texts[name] += f"\n{line}"
+                self.makes |= {word: name for word in made(line)} if "pub data" in self.texts[name] else {}
 
     def name_of(self, word):
         """The definition that a word names: itself, or the datum that it constructs; None where it names none."""
@@ -150,10 +146,9 @@ class Definitions:
         module = self.module(crate, name)
         if module is None or key not in module.texts:
             return None
-        number, text = module.texts[key]
-        uses = self.uses(module.text)
+        text, uses = module.texts[key], self.uses(module.text)
         cites = self.cited(text, uses, lambda word: (crate, name, module.name_of(word)) if module.name_of(word) else None)
-        return Definition((module.file, number), text, cites)
+        return Definition(text, cites)
 
     def of_source(self, crate, name):
         """A type, a constant or a trait of the sources. Where contracts see it by ghost members, those; else as it is declared."""
@@ -165,9 +160,7 @@ class Definitions:
         for file, text in texts:
             uses, named = self.of_file(crate, file)
             cites |= self.cited(text, uses, named)
-        file, text = texts[0]
-        number = file.read_text().partition(text.split("\n")[0])[0].count("\n") + 1
-        return Definition((file, number), "\n".join(text for _, text in texts), cites - {(crate, "src", name)})
+        return Definition("\n".join(text for _, text in texts), cites - {(crate, "src", name)})
 
     def definition(self, key):
         """The definition that is named so, or None where it is the kit's or no definition."""
@@ -191,7 +184,7 @@ class Definitions:
         head = NAME.match(clause.text.partition("{")[2].lstrip())
         for key in self.cited(head.group(), *self.of_file(crate, file)) if head else ():
             module = self.module(key[0], key[1]) if key[1] != "src" else None
-            text = module.texts.get(key[2], (0, ""))[1] if module else ""
+            text = module.texts.get(key[2], "") if module else ""
             if re.match(r"\s*pub record", text):
                 return re.findall(r"^\s+pub ([\w']+)\s*:", text, re.M)
         return []

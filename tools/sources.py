@@ -1,7 +1,4 @@
-"""Reads the sources of crates: which functions they have, with which clauses, what is exported, and what stands for a type.
-
-`tools/claims` holds its tables against it.
-"""
+"""Reads the sources of crates: which functions they have, with which clauses, what is exported, and what stands for a type."""
 
 import re
 
@@ -15,10 +12,10 @@ GHOST = re.compile(r"\bghost\s+\w+\s*[=:]\s*\{")
 
 
 class Clause:
-    """A clause of a contract: `requires` or `ensures`, its name or None, and its text."""
+    """A clause of a contract: `requires` or `ensures`, its name or None, its text, and the number of its first line."""
 
-    def __init__(self, word, name, text):
-        self.word, self.name, self.text = word, name, text
+    def __init__(self, word, name, text, line=0):
+        self.word, self.name, self.text, self.line = word, name, text, line
 
 
 class Function:
@@ -106,7 +103,6 @@ class Crate:
         self.types, self.ghosts = {}, {}
         self.traits = set()
         self.exports = set()
-        # not a program
         self.is_library = (folder / "src/lib.rt").is_file()
         for file in sorted((folder / "src").rglob("*.rt")):
             if file.stem == "tests" or "tests" in file.parts:
@@ -197,7 +193,8 @@ class Crate:
                 begins = text.rfind("\n", 0, clause.start()) + 1
                 begins = clause.start() if text[begins : clause.start()].strip() else begins
                 said = self.readable[begins:at]
-                function.clauses.append(Clause(clause.group("word"), clause.group("name"), said))
+                line = text.count("\n", 0, clause.start("word")) + 1
+                function.clauses.append(Clause(clause.group("word"), clause.group("name"), said, line))
 
     @staticmethod
     def behind(text, at):
@@ -239,25 +236,24 @@ class Sources:
                 return declared
         return function
 
-    def contracts(self, crate, call):
-        """What holds of a public call, or None where the crate has no such call."""
+    def public(self, crate, call):
+        """The functions of a crate that have this name and that others may call; of a program none is exported, and all are."""
         owner, _, name = call.rpartition("::")
-        public = [each for each in self.crate(crate).functions.get((owner or None, name), []) if each.is_public]
-        if not public or (owner or name) not in self.crate(crate).exports:
-            return None
-        return [self.contract(each, name) for each in public]
+        found = self.crate(crate)
+        is_exported = not found.is_library or (owner or name) in found.exports
+        return [it for it in found.functions.get((owner or None, name), []) if it.is_public and is_exported]
+
+    def contracts(self, crate, call):
+        """The functions whose clauses hold of a public call; none where the crate has no such call."""
+        return [self.contract(it, call.rpartition("::")[2]) for it in self.public(crate, call)]
 
     def is_hidden(self, trait):
         """Whether a trait is one of a crate here that doesn't export it."""
         owners = [self.crate(crate) for crate in self.names() if trait in self.crate(crate).traits]
         return bool(owners) and not any(trait in crate.exports for crate in owners)
 
-    def calls(self, crate):
-        """The public calls of a library, each with the function that its row is about."""
-        found = self.crate(crate)
-        for (owner, name), functions in found.functions.items() if found.is_library else ():
-            for function in functions:
-                is_own = function.trait is None or (function.ensures() and not self.is_hidden(function.trait))
-                if function.is_public and (owner or name) in found.exports and is_own:
-                    yield f"{owner}::{name}" if owner else name, function
-                    break
+    def ensuring(self, crate):
+        """The functions of a crate that others may call and that have clauses of their own, each behind its name."""
+        for owner, name in self.crate(crate).functions:
+            call = f"{owner}::{name}" if owner else name
+            yield from ((call, it) for it in self.public(crate, call) if it.ensures() and not self.is_hidden(it.trait))
