@@ -51,9 +51,9 @@ dialogues: ## play random dialogues between two hosts, a million packets from a 
 	@RT=$(RT) tools/checked random_dialogues
 	@$(DIALOGUES) $(SEED) $(PACKETS)
 
-pictures: ## draw the pictures of the documents again (python3)
+pictures: ## draw the pictures of the documents again (python3, graphviz)
 	@tools/ladder --pictures docs/pictures
-	@tools/layers > docs/pictures/layers.svg.new && mv docs/pictures/layers.svg.new docs/pictures/layers.svg
+	@tools/layers | tred | dot -Tsvg -o docs/pictures/layers.svg
 
 bench: bin/chaosd ## time everything beside the same work in plain Rust, and write docs/SPEED.md; bench-show, bench-lab and so on run one bench
 	@RT=$(RT) python3 bench/speed.py

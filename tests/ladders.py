@@ -1,4 +1,5 @@
-"""Tests tools/ladder and tools/layers: draws the pictures of the documents again, and counts what stands in each ladder."""
+"""Tests tools/ladder: draws the pictures of the documents again, and counts what stands in each ladder. The picture of the crates, which
+graphviz draws, has those of crates.txt."""
 
 import collections
 import re
@@ -30,6 +31,15 @@ def classes(svg):
     """How often each class stands in it."""
     elements = ElementTree.fromstring(svg).iter()
     return collections.Counter(name for each in elements for name in each.get("class", "").split())
+
+
+def closed(arrows):
+    """All crates of these arrows, each with all that it stands on."""
+    below = {name: set() for arrow in arrows for name in arrow}
+    for _ in below:
+        for upper, lower in arrows:
+            below[upper] |= {lower, *below[lower]}
+    return below
 
 
 ALL_FORMS = """ends 2 1 3 2 7
@@ -81,11 +91,9 @@ class Ladders(Case):
             ended = drawn("--pictures", here)
             self.check("the tool draws all pictures", [ended.stderr] * bool(ended.returncode or ended.stderr))
             made = {path.name: path.read_text() for path in here.iterdir()}
-        layers = subprocess.run([LAYERS], capture_output=True, text=True, timeout=PATIENCE)
-        self.check("the layers are drawn as crates.txt has them", [layers.stderr] * bool(layers.returncode or layers.stderr))
         there = {path.name for path in PICTURES.iterdir()}
         self.check("there is a picture of each script", [] if len(made) == len(SCRIPTS) + 1 else [f"{sorted(made)} of {len(SCRIPTS)} scripts"])
-        made["layers.svg"] = layers.stdout
+        made["layers.svg"] = (PICTURES / "layers.svg").read_text()
         self.check("no others are there", [f"{name}" for name in sorted(there ^ set(made))])
         for name in sorted(there & set(made)):
             same = (PICTURES / name).read_text() == made[name]
@@ -93,6 +101,15 @@ class Ladders(Case):
         shown = {name for document in DOCUMENTS for name in re.findall(r"\]\((?:docs/)?pictures/([\w.]+)\)", document.read_text())}
         self.check("documents show pictures that are there", sorted(shown - there))
         self.check("each picture stands in a document", sorted(there - shown))
+
+    def test_the_picture_of_the_crates_has_those_of_crates_txt(self):
+        """docs/pictures/layers.svg has the crates of crates.txt, and says of each on which others it stands."""
+        lines = subprocess.run([LAYERS], stdout=subprocess.PIPE, text=True, timeout=PATIENCE).stdout.splitlines()
+        wanted = closed([(line.split()[0], it) for line in lines if "->" in line for it in line.split()[3:-1]])
+        titles = ElementTree.parse(PICTURES / "layers.svg").iter("{http://www.w3.org/2000/svg}title")
+        seen = closed([it.text.split("->") for it in titles if "->" in it.text])
+        other = [name for name in {**seen, **wanted} if seen.get(name) != wanted.get(name)]
+        self.check("layers.svg has the crates of crates.txt", [f"not {', '.join(other)}: `make pictures`"] if other else [])
 
     def test_a_picture_has_each_delivery_each_loss_and_each_text(self):
         """Each picture has an arrow for each delivery, a cross for each copy that never comes, and what was written and read."""
