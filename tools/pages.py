@@ -96,11 +96,6 @@ def lacking(page):
     return found
 
 
-def held(page):
-    """The words of a page that its number is of: all but a crate's rows."""
-    return page.words - page.rows
-
-
 def rounded(words):
     """The number of a page that has so many words."""
     return -(-words // STEP) * STEP
@@ -110,7 +105,7 @@ def problems_of_page(page, line):
     if not line:
         yield f"{page.name} has no line in {NUMBERS}: tools/words --set"
         return
-    words, found = held(page), lacking(page)
+    words, found = page.words, lacking(page)
     if words > line.most:
         yield f"{page.name} has {words} words, and not at most {line.most}: cut it, or tools/words --set, and name the page that shrank"
     if words <= line.most - ROOM:
@@ -157,7 +152,7 @@ def problems(pages, lines, old=None):
 
 def mended(page, line):
     """The line of a page as it is now: with another number only where it must be, and without the rules that it keeps."""
-    words, lacks = held(page), tuple(it for it in line.lacks if it in lacking(page))
+    words, lacks = page.words, tuple(it for it in line.lacks if it in lacking(page))
     if line.most - ROOM < words <= line.most:
         return replace(line, lacks=lacks)
     return replace(line, most=rounded(words), lacks=lacks, why=line.why if words > line.most else "")
@@ -166,7 +161,7 @@ def mended(page, line):
 def first(page):
     """The line of a page where no page has one: what it lacks is noted, and crates' pages are rewritten later."""
     later = page.name.startswith("crates/")
-    return Line(rounded(held(page)), () if later else tuple(lacking(page)), later)
+    return Line(rounded(page.words), () if later else tuple(lacking(page)), later)
 
 
 def lines_of(pages, lines):

@@ -4,9 +4,6 @@ import re
 from dataclasses import dataclass
 from functools import cached_property
 
-CRATE_PAGE = "CALLING.md"
-# the sections of a crate's page with a row for each call, as tools/claims asks, and for each file of proofs, as tools/maps asks
-OF_ROWS = {"What is proved", "How it is proved"}
 FEWEST = 3  # words of a sentence
 FENCE = re.compile(r"^[ \t]*```.*?^[ \t]*```[ \t]*$", re.M | re.S)
 COMMENT = re.compile(r"<!--.*?-->", re.S)
@@ -63,12 +60,6 @@ class Page:
     def words(self):
         """How many words it has, as `wc -w` counts them."""
         return len(self.text.split())
-
-    @cached_property
-    def rows(self):
-        """How many of the words are in a crate's sections of rows."""
-        parts = re.split(r"^## (.*)$", FENCE.sub("", self.text), flags=re.M) if self.name.endswith(CRATE_PAGE) else []
-        return sum(len(body.split()) for head, body in zip(parts[1::2], parts[2::2]) if head.strip() in OF_ROWS)
 
     @cached_property
     def sentences(self):

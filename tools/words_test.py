@@ -52,7 +52,6 @@ WORDS = READER + "\n\n".join(["| w |"] * 50) + "\n"  # 155 words
 NO_READER = "no reader in its first paragraph: `for you ..`, `for whoever ..`, `for .. who ..` or `This page is for ..`"
 LONG_ONE = "a sentence of 36 words, and not at most 35: w w w w w w w w .."
 GREW = f"a.md grew by 50 words: write in {NUMBERS}, behind `<`, the page that shrank, or a new reason"
-ROWS = "# A\n\n## What is proved\n\n" + "w " * 900 + "\n\n## Types\n\nw w\n\n## How it is proved\n\n" + "w " * 90
 
 # a page, the line of it, what is wrong with the page, and the line that `--set` writes
 PAGES = [
@@ -74,10 +73,6 @@ PAGES = [
     ("a.md", READER + LONG, "50 a.md lacks longest", [], None),
     ("a.md", f"{READER}{LONG} {LONG}", "100 a.md lacks longest", ["a.md has 25.0 words a sentence, and not at most 20"], None),
     ("a.md", READER + TWENTY, "50 a.md lacks reader, longest", ["a.md no longer lacks reader, longest: tools/words --set"], "50 a.md"),
-    ("crates/x/CALLING.md", ROWS, "50 crates/x/CALLING.md later", [], None),
-    ("crates/x/README.md", ROWS, "50 crates/x/README.md later", [
-        "crates/x/README.md has 1005 words, and not at most 50: cut it, or tools/words --set, and name the page that shrank",
-    ], "1050 crates/x/README.md later"),
     ("crates/x/CALLING.md", READER + TWENTY, "50 crates/x/CALLING.md later", [], None),
 ]
 
@@ -119,8 +114,6 @@ def check_text(checks):
         checks.same(f"the sentences of {text[:30]!r}", [it for each in paragraphs(text) for it in sentences(each)], wanted)
     for text, wanted in READERS:
         checks.same(f"the reader is {wanted}", Page("a.md", text).reader, wanted)
-    page = Page("crates/x/CALLING.md", ROWS)
-    checks.same("rows of a crate's page are counted by themselves", (page.words, page.rows, page.longest), (1005, 990, 900))
 
 
 def check_pages(checks):
