@@ -1,12 +1,12 @@
-"""Tests the command line of `chaosd`: what help says, and what is told of words that are not of their form."""
+"""Tests the command line of `chaosd`: help, and the messages about words that are not of their form."""
 
 from tests.support import BAD_LINE, DONE, Case, at, folder, free_ports, run
 
 ADDRESS_FORM = "1 to 6 octal digits, from 1 to 177777"
-SOCKET_FORM = "a.b.c.d:port in decimal without leading zeros, the port from 1 to 65535"
-TURNS_FORM = "a decimal number without leading zeros, at most 1000000000"
-PEER_FORM = "an address, `=` and a socket, as 402=127.0.0.1:9002"
-ENTRY_FORM = "an address or `*`, `=` and a socket, as 402=127.0.0.1:9002"
+SOCKET_FORM = "a.b.c.d:port in decimal, without leading zeros, with a port from 1 to 65535"
+TURNS_FORM = "a decimal number from 0 to 1000000000, without leading zeros"
+PEER_FORM = "a Chaosnet address, `=` and a UDP address, such as 402=127.0.0.1:9002"
+ENTRY_FORM = "a Chaosnet address or `*`, then `=` and a UDP address, such as 402=127.0.0.1:9002"
 
 BAD_ADDRESSES = [
     "", "0", "000000", "0000401", "8", "19", "401x", "x", "+1", " 1", "1 ", "0o1", "200000", "777777", "1000000", "4.1",
@@ -24,22 +24,20 @@ BAD_PEERS = [
 ]
 
 CARRIAGE_FORM = "1 or 2"
-PLAIN_FORM = "1 beside --chudp, since a datagram of CHUDP has one packet"
-NEEDS_CHUDP_FORM = "--chudp beside it, since only CHUDP names a bridge"
-BRIDGE_ONCE_FORM = "one bridge at most"
-CONTACT_FORM = "1 to 64 printable characters of ASCII, none of them a space"
-WINDOW_FORM = "a decimal number without leading zeros, from 1 to 64"
+ONE_PACKET = "can't be used with '--chudp', because a CHUDP datagram carries one packet"
+NEEDS_CHUDP = "needs '--chudp', because only CHUDP names a bridge"
+BRIDGE_ONCE_FORM = "at most one bridge"
+CONTACT_FORM = "1 to 64 printable ASCII characters, without a space"
+WINDOW_FORM = "a decimal number from 1 to 64, without leading zeros"
 LOGIN_FORM = "1 to 16 letters and digits"
-PATH_FORM = "(1 to 64 letters, digits, dots, hyphens and underscores, no dot in front)"
-ONE_PATH_FORM = f"a path of FILE {PATH_FORM}"
-PATHS_FORM = f"paths of FILE {PATH_FORM}, each once"
-AS_FORM = f"a path of FILE {PATH_FORM}, and one LOCAL alone"
-LOCALS_FORM = "a name for standard input, by --as"
-CLASH_FORM = "a path for each file, but '%s' goes under the same; name one by --as"
-OTHER_FORM = "another Chaosnet address than this host's own"
-RETRANSMIT_FORM = "a decimal number of milliseconds without leading zeros, from 20 to 60000"
-TIMEOUT_FORM = "a decimal number without leading zeros, from 1 to 3600"
-OUTPUT_FORM = "one PATH alone, or a folder that ends with /"
+PATH_FORM = "a path of FILE: 1 to 64 letters, digits, dots, hyphens and underscores, without a leading dot"
+PATH_ONCE_FORM = "each path once"
+ONE_LOCAL = "takes one LOCAL alone"
+LOCALS_FORM = "a name for standard input, given with --as"
+OTHER_FORM = "a Chaosnet address other than this host's own"
+RETRANSMIT_FORM = "a decimal number of milliseconds from 20 to 60000, without leading zeros"
+TIMEOUT_FORM = "a decimal number of seconds from 1 to 3600, without leading zeros"
+ONE_PATH = "takes one PATH alone, unless it ends with /"
 
 BAD_CARRIAGES = ["", "0", "3", "01", "02", "+1", "1 ", " 2", "one", "12"]
 BAD_WINDOWS = ["", "0", "00", "01", "65", "+1", "x", "1x", " 1", "1.5", "0x1", "65536", "65600"]
@@ -52,24 +50,24 @@ BAD_PATHS = ["", ".", ".A", "..", "A/B", "/A", "A B", "A*", "č", "A" * 65]
 HELP = {
     "--help": [
         "Usage: chaosd <COMMAND>\n",
-        "  show     Decode datagrams, given as lines of hexadecimal digits on standard input\n",
-        "  lab      Simulate the two ends of a connection, from a script on standard input\n",
-        "  filelab  Simulate a FILE client and its server, from a script on standard input\n",
-        "  loop     Run a FILE script from standard input between two hosts in this process, and print the replies\n",
+        "  show     Decode datagrams, given as lines of hex on standard input\n",
+        "  lab      Simulate both ends of a connection, from a script on standard input\n",
+        "  filelab  Simulate a FILE client and server, from a script on standard input\n",
+        "  loop     Run a FILE script from standard input between two hosts in this\n           process, and print the replies\n",
         "  serve    Serve the files of a folder to other hosts\n",
-        "  ask      Send a FILE script from standard input to another host, and print the replies\n",
-        "  get      Copy files of another host into local files of their names\n",
-        "  put      Copy local files to another host under their names\n",
-        "  delete   Delete files of another host\n",
-        "  rename   Rename a file of another host\n",
+        "  ask      Send a FILE script from standard input to another host, and print\n           the replies\n",
+        "  get      Copy files from another host\n",
+        "  put      Copy local files to another host\n",
+        "  delete   Delete files on another host\n",
+        "  rename   Rename a file on another host\n",
         "  0  done, or help or the version was shown\n",
         "  3  something was refused, or no reply came\n",
         "  -V, --version  Print version\n",
     ],
     "help show": [
         "Usage: chaosd show [OPTIONS]\n",
-        "--file   Also print what the data say as text, and in a packet of FILE the command or reply\n",
-        "--chudp  Decode datagrams of CHUDP, the framing of cbridge and other Chaosnet programs\n",
+        "--file   Also print the data as text, and decode the commands and replies\n",
+        "--chudp  Decode datagrams of CHUDP, the framing of cbridge and other\n",
     ],
     "help lab": ["Usage: chaosd lab\n"],
     "help filelab": ["Usage: chaosd filelab\n"],
@@ -79,74 +77,94 @@ HELP = {
     "help get": ["Usage: chaosd get [OPTIONS] <ADDRESS> <UDP> <SERVER> <PATH>...\n"],
     "help put": ["Usage: chaosd put [OPTIONS] <ADDRESS> <UDP> <SERVER> <LOCAL>...\n"],
     "serve --help": [
-        "  <ADDRESS>  Chaosnet address of this host: 1 to 6 octal digits, from 1 to 177777\n",
-        "  <UDP>      UDP address that this host receives at: a.b.c.d:port in decimal, the port from 1 to 65535\n",
-        "  <FOLDER>   Folder whose files are served\n",
-        "  [PEER]...  Another host, as ADDRESS=UDP in the forms above: at most 32, each Chaosnet address once; *=UDP is a bridge to all others\n",
-        "--turns <N>         End the server after N turns, 0 to 1000000000; one that waits takes some 10 ms [default: 1000000000]\n",
-        "--chudp             Send and take packets in CHUDP, the framing of cbridge and other Chaosnet programs; not with --carriage 2\n",
-        "--bridge <ADDRESS>  Name ADDRESS, the bridge's own Chaosnet address, as the next hop of packets that go through it; needs --chudp\n",
-        "--window <N>        Keep N packets in each window of a connection, 1 to 64: so many commands may be in flight [default: 13]\n",
-        "--retransmit <MS>   Send packets that aren't acknowledged again after MS milliseconds, 20 to 60000 [default: 500]\n",
-        "--quiet             Log only what fails\n",
-        "--log-time          Begin each line with the time, in UTC\n",
-        "--only-peers        Drop datagrams that come from no PEER's UDP address\n",
-        "--read-only         Change no file: what would write one is a store fault\n",
+        "  <ADDRESS>  Chaosnet address of this host: 1 to 6 octal digits, from 1 to\n             177777\n",
+        "  <UDP>      UDP address to receive at: a.b.c.d:port in decimal, with a port\n             from 1 to 65535\n",
+        "  <FOLDER>   Folder to serve\n",
+        "  [PEER]...  Another host, as ADDRESS=UDP in the forms above: at most 32, each\n",
+        "             Chaosnet address once. *=UDP is a bridge to all other hosts\n",
+        "--turns <N>         End the server after N turns, 0 to 1000000000; an idle\n",
+        "                    turn takes some 10 ms [default: 1000000000]\n",
+        "--chudp             Use CHUDP, the framing of cbridge and other Chaosnet\n",
+        "--bridge <ADDRESS>  Name ADDRESS, the bridge's own Chaosnet address, as\n",
+        "--window <N>        Give each connection windows of N packets, 1 to 64:\n",
+        "                    a client may have N commands in flight [default: 13]\n",
+        "--retransmit <MS>   Retransmit unacknowledged packets after MS\n                          milliseconds, 20 to 60000 [default: 500]\n",
+        "--quiet             Log only errors, as --log quiet does\n",
+        "--log-time          Begin each log line with the time, in UTC\n",
+        "--only-peers        Accept datagrams only from the UDP address of a PEER\n",
+        "--read-only         Refuse all changes: a client that writes, renames or\n",
         "  chaosd serve 401 127.0.0.1:9001 files 402=127.0.0.1:9002\n",
         "  chaosd serve --chudp --bridge 3040 401 0.0.0.0:42042 files '*=192.0.2.1:42042'\n",
     ],
     "ask --help": [
-        "--contact <NAME>     Ask the server for the contact NAME, 1 to 64 printable characters of ASCII, none of them a space [default: FILE]\n",
-        "--timeout <SECONDS>  Wait for each reply SECONDS by the clock, 1 to 3600; without it 1000 turns (10 to 17 seconds)\n",
-        "--retransmit <MS>    Send packets that aren't acknowledged again after MS milliseconds, 20 to 60000 [default: 500]\n",
-        "--any-source         Take datagrams from any UDP address, for a server with several interfaces\n",
-        "--strict             End the run at the first reply that is an ERROR, with status 3\n",
+        "--contact <NAME>     Ask for the contact NAME: 1 to 64 printable ASCII\n                           characters without a space [default: FILE]\n",
+        "--timeout <SECONDS>  Wait up to SECONDS for each reply, 1 to 3600\n",
+        "                     (otherwise 1000 turns, which take 10 to 17 seconds)\n",
+        "--retransmit <MS>    Retransmit unacknowledged packets after MS\n",
+        "--any-source         Accept datagrams from any UDP address, for a server\n                           with several interfaces\n",
+        "--strict             End the run at the first ERROR reply, with status 3\n",
         "  <TO>       Chaosnet address of the host to ask, in the form of ADDRESS\n",
     ],
     "loop --help": [
-        "--carriage <N>  Send packets in datagrams of version N: 1 has one packet, 2 has several [default: 1]\n",
+        "--carriage <N>  Send datagrams of version N: 1 carries one packet,\n                      2 carries several [default: 1]\n",
     ],
     "get --help": [
-        "  <SERVER>   Host that has or takes the files, as ADDRESS=UDP in the forms above\n",
-        "  <PATH>...  Server's files: 1 to 64 letters, digits, dots, hyphens and underscores, no dot in front\n",
-        "--bridge <ADDRESS>   Name ADDRESS, the bridge's own Chaosnet address, as the next hop of packets that go through it; needs --chudp\n",
-        "--contact <NAME>     Ask the server for the contact NAME, 1 to 64 printable characters of ASCII, none of them a space [default: FILE]\n",
-        "--login <NAME>       Log in as NAME, 1 to 16 letters and digits [default: CHAOSD]\n",
-        "--window <N>         Send up to N commands ahead of their replies, 1 to 64, as far as the server's own window allows [default: 64]\n",
-        "--timeout <SECONDS>  Wait for each reply SECONDS by the clock, 1 to 3600; without it 1000 turns and 10 seconds at least\n",
-        "--any-source         Take datagrams from any UDP address, for a server with several interfaces\n",
-        "--output <LOCAL>     Write the one file to LOCAL, or all files into a folder that ends with /; - is standard output\n",
-        "--text               Translate a text of ASCII or the Lisp machine's set: newline, tab, backspace and page are 8D, 89, 88 and 8C ",
-        "--verbose            Print a line for each file with its SHA-256, also where standard error is no terminal, and the server's address\n",
+        "  <SERVER>   Host to call, as ADDRESS=UDP in the forms above\n",
+        "  <PATH>...  Files on the server, each of 1 to 64 letters, digits, dots,\n             hyphens and underscores, without a leading dot\n",
+        "--bridge <ADDRESS>   Name ADDRESS, the bridge's own Chaosnet address, as\n",
+        "--contact <NAME>     Ask for the contact NAME: 1 to 64 printable ASCII\n",
+        "--login <NAME>       Log in as the user NAME:\n                           1 to 16 letters and digits [default: CHAOSD]\n",
+        "--window <N>         Keep up to N commands in flight, 1 to 64; the\n                           server's window may allow fewer [default: 64]\n",
+        "                     (otherwise 1000 turns and at least 10 seconds)\n",
+        "--any-source         Accept datagrams from any UDP address, for a server\n",
+        "--output <LOCAL>     Write the file to LOCAL, where - is standard output;\n",
+        "--text               Translate a text between ASCII and the Lisp machine's\n",
+        "--verbose            Print the server's address, and a line with the\n",
     ],
     "put --help": [
-        "  <LOCAL>...  Local files, each put under its last name where that is a PATH of get, else skipped and reported; ",
-        "- is standard input, and needs --as\n",
-        "--rename             Rename a file whose name is no PATH: _ stands for each byte that no PATH has, and for a dot in front\n",
-        "--as <PATH>          Put the one local file under PATH\n",
+        "  <LOCAL>...  Local files, each put under its last name if that is a PATH: 1 to\n",
+        "standard input, and needs --as\n",
+        "--rename             Rename a file whose name is no PATH: write _ for each\n",
+        "--as <PATH>          Put the one local file under the name PATH\n",
     ],
     "delete --help": [
-        "--any-source         Take datagrams from any UDP address, for a server with several interfaces\n",
+        "--any-source         Accept datagrams from any UDP address, for a server\n",
         "  chaosd delete 402 127.0.0.1:9002 401=127.0.0.1:9001 A.LISP B.LISP\n",
     ],
     "rename --help": [
         "Usage: chaosd rename [OPTIONS] <ADDRESS> <UDP> <SERVER> <OLD> <NEW>\n",
-        "--any-source         Take datagrams from any UDP address, for a server with several interfaces\n",
+        "--any-source         Accept datagrams from any UDP address, for a server\n",
     ],
     "ask nonsense -h": ["Usage: chaosd ask"],
-    "--version": ["chaosd 0.1.0\n", "\nBuilt as chaosd.stamp says, beside the program or in ../share/chaosd. "],
+    "--version": ["chaosd 0.1.0\n", "\nchaosd.stamp, beside the program or in ../share/chaosd, says how it was built.\n"],
     "-V": ["chaosd 0.1.0\n"],
 }
 
+WIDEST = 80
 
-def is_told(case, words, text, place, form):
-    """A line whose one bad word is this text at this place: what is told begins with it, the place and what is wanted."""
+
+def is_refused(case, words, message):
+    """A bad line, whose error output begins with this message."""
     ended = run(words)
     problems = ended.problems(BAD_LINE, b"", None)
-    wanted = f"error: invalid value '{text}' for '{place}': wanted {form}\n"
-    if not ended.err.startswith(wanted.encode()):
+    if not ended.err.startswith(f"error: {message}\n".encode()):
         problems.append(f"error output {ended.err!r}")
-    case.check(f"{text!r} at {place} of {words[0]} is told, status 2", problems)
+    case.check(f"{message!r} of {words[0]}, status 2", problems)
+
+
+def is_bad(case, words, text, place, form):
+    """A line whose one bad word is this text at this place: the message names the text, the place and the form."""
+    is_refused(case, words, f"invalid value '{text}' for '{place}': expected {form}")
+
+
+def is_misfit(case, words, argument, reason):
+    """A line with this argument that doesn't go with the others, for this reason."""
+    is_refused(case, words, f"the argument '{argument}' {reason}")
+
+
+def clash(first, second):
+    """The message about two local files that would go under one path."""
+    return f"the files '{first}' and '{second}' would go under one path: put one of them alone, with '--as'"
 
 
 ADDRESSES = ["402", "127.0.0.1:9002", "401=127.0.0.1:9001"]
@@ -157,82 +175,83 @@ class Line(Case):
 
     seconds = 4
 
-    def test_a_word_out_of_form_is_named_with_what_is_wanted(self):
-        """Each word that is not of its form is named, with its place and what is wanted."""
+    def test_a_word_out_of_form_is_named_with_its_form(self):
+        """The message names a word that is not of its form, its place and the form."""
         for text in BAD_ADDRESSES:
-            is_told(self, ["serve", text, "127.0.0.1:1", "d"], text, "ADDRESS", ADDRESS_FORM)
-            is_told(self, ["ask", text, "127.0.0.1:1", "401"], text, "ADDRESS", ADDRESS_FORM)
-            is_told(self, ["ask", "402", "127.0.0.1:1", text], text, "TO", ADDRESS_FORM)
+            is_bad(self, ["serve", text, "127.0.0.1:1", "d"], text, "ADDRESS", ADDRESS_FORM)
+            is_bad(self, ["ask", text, "127.0.0.1:1", "401"], text, "ADDRESS", ADDRESS_FORM)
+            is_bad(self, ["ask", "402", "127.0.0.1:1", text], text, "TO", ADDRESS_FORM)
         for text in BAD_SOCKETS:
-            is_told(self, ["serve", "401", text, "d"], text, "UDP", SOCKET_FORM)
-            is_told(self, ["ask", "402", text, "401"], text, "UDP", SOCKET_FORM)
+            is_bad(self, ["serve", "401", text, "d"], text, "UDP", SOCKET_FORM)
+            is_bad(self, ["ask", "402", text, "401"], text, "UDP", SOCKET_FORM)
         for text in BAD_TURNS:
-            is_told(self, ["serve", "--turns", text, "401", "127.0.0.1:1", "d"], text, "--turns", TURNS_FORM)
+            is_bad(self, ["serve", "--turns", text, "401", "127.0.0.1:1", "d"], text, "--turns", TURNS_FORM)
         for text in BAD_WINDOWS:
-            is_told(self, ["serve", "--window", text, "401", "127.0.0.1:1", "d"], text, "--window", WINDOW_FORM)
+            is_bad(self, ["serve", "--window", text, "401", "127.0.0.1:1", "d"], text, "--window", WINDOW_FORM)
 
     def test_a_peer_out_of_form_is_named_and_so_is_one_too_many(self):
-        """Likewise peers, one too many, and a second one of an address."""
+        """The same for peers, for one peer too many, and for a second peer of an address."""
         for text in BAD_PEERS:
-            is_told(self, ["serve", "401", "127.0.0.1:1", "d", text], text, "PEER", ENTRY_FORM)
-            is_told(self, ["ask", "402", "127.0.0.1:1", "401", "403=127.0.0.1:3", "*=127.0.0.1:4", text], text, "PEER", ENTRY_FORM)
+            is_bad(self, ["serve", "401", "127.0.0.1:1", "d", text], text, "PEER", ENTRY_FORM)
+            is_bad(self, ["ask", "402", "127.0.0.1:1", "401", "403=127.0.0.1:3", "*=127.0.0.1:4", text], text, "PEER", ENTRY_FORM)
         for words in [
             ["serve", "401", "127.0.0.1:1", "d", "402=127.0.0.1:2", "000402=127.0.0.1:3"],
             ["ask", "402", "127.0.0.1:1", "401", "401=127.0.0.1:2", "401=127.0.0.1:2"],
         ]:
-            is_told(self, words, words[-1], "PEER", "each Chaosnet address once")
+            is_bad(self, words, words[-1], "PEER", "each Chaosnet address once")
         words = ["serve", "401", "127.0.0.1:1", "d", "*=127.0.0.1:2", "402=127.0.0.1:3", "*=127.0.0.1:4"]
-        is_told(self, words, words[-1], "PEER", BRIDGE_ONCE_FORM)
+        is_bad(self, words, words[-1], "PEER", BRIDGE_ONCE_FORM)
         many = [f"{address:o}=127.0.0.1:9002" for address in range(1, 34)]
-        is_told(self, ["serve", "401", "127.0.0.1:9001", "d", *many], "41=127.0.0.1:9002", "PEER", "at most 32 peers")
+        is_bad(self, ["serve", "401", "127.0.0.1:9001", "d", *many], "41=127.0.0.1:9002", "PEER", "at most 32 peers")
         for text in ["*=127.0.0.1:1", "*"]:
-            is_told(self, ["get", *ADDRESSES[:2], text, "A"], text, "SERVER", PEER_FORM)
+            is_bad(self, ["get", *ADDRESSES[:2], text, "A"], text, "SERVER", PEER_FORM)
 
     def test_a_word_of_a_copy_out_of_form_is_named(self):
-        """Likewise the words of `get` and `put`."""
+        """The same for the words of `get` and `put`."""
         for command in ["get", "put"]:
             for text in BAD_ADDRESSES:
-                is_told(self, [command, text, *ADDRESSES[1:], "A"], text, "ADDRESS", ADDRESS_FORM)
+                is_bad(self, [command, text, *ADDRESSES[1:], "A"], text, "ADDRESS", ADDRESS_FORM)
             for text in BAD_SOCKETS:
-                is_told(self, [command, "402", text, ADDRESSES[2], "A"], text, "UDP", SOCKET_FORM)
+                is_bad(self, [command, "402", text, ADDRESSES[2], "A"], text, "UDP", SOCKET_FORM)
             for text in BAD_PEERS:
-                is_told(self, [command, *ADDRESSES[:2], text, "A"], text, "SERVER", PEER_FORM)
+                is_bad(self, [command, *ADDRESSES[:2], text, "A"], text, "SERVER", PEER_FORM)
             for text in BAD_WINDOWS:
-                is_told(self, [command, "--window", text, *ADDRESSES, "A"], text, "--window", WINDOW_FORM)
+                is_bad(self, [command, "--window", text, *ADDRESSES, "A"], text, "--window", WINDOW_FORM)
             for text in BAD_LOGINS:
-                is_told(self, [command, "--login", text, *ADDRESSES, "A"], text, "--login", LOGIN_FORM)
+                is_bad(self, [command, "--login", text, *ADDRESSES, "A"], text, "--login", LOGIN_FORM)
         for text in BAD_PATHS:
-            is_told(self, ["get", *ADDRESSES, text], text, "PATH", PATHS_FORM)
-            is_told(self, ["get", *ADDRESSES, "A", text, "B"], text, "PATH", PATHS_FORM)
-            is_told(self, ["put", "--as", text, *ADDRESSES, "A"], text, "--as", AS_FORM)
-        is_told(self, ["get", *ADDRESSES, "B", "A", "C", "A"], "A", "PATH", PATHS_FORM)
-        is_told(self, ["get", "--output", "x", *ADDRESSES, "A", "B"], "x", "--output", OUTPUT_FORM)
-        is_told(self, ["put", *ADDRESSES, "-"], "-", "LOCAL", LOCALS_FORM)
-        is_told(self, ["put", "--rename", *ADDRESSES, "A", "-", "B"], "-", "LOCAL", LOCALS_FORM)
-        is_told(self, ["put", "--as", "X", *ADDRESSES, "A", "B"], "X", "--as", AS_FORM)
+            is_bad(self, ["get", *ADDRESSES, text], text, "PATH", PATH_FORM)
+            is_bad(self, ["get", *ADDRESSES, "A", text, "B"], text, "PATH", PATH_FORM)
+            is_bad(self, ["put", "--as", text, *ADDRESSES, "A"], text, "--as", PATH_FORM)
+        is_bad(self, ["get", *ADDRESSES, "B", "A", "C", "A"], "A", "PATH", PATH_ONCE_FORM)
+        is_misfit(self, ["get", "--output", "x", *ADDRESSES, "A", "B"], "--output x", ONE_PATH)
+        is_bad(self, ["put", *ADDRESSES, "-"], "-", "LOCAL", LOCALS_FORM)
+        is_bad(self, ["put", "--rename", *ADDRESSES, "A", "-", "B"], "-", "LOCAL", LOCALS_FORM)
+        is_misfit(self, ["put", "--as", "X", *ADDRESSES, "A", "B"], "--as X", ONE_LOCAL)
+        is_bad(self, ["put", "--as", "X Y", *ADDRESSES, "A", "B"], "X Y", "--as", PATH_FORM)
 
-    def test_of_two_files_that_go_under_one_path_the_later_is_named_and_the_other_told(self):
-        is_told(self, ["put", *ADDRESSES, "a/Y", "a/X", "b c", "b/X"], "b/X", "LOCAL", CLASH_FORM % "a/X")
-        is_told(self, ["put", *ADDRESSES, "sub/inner.txt", "inner.txt"], "inner.txt", "LOCAL", CLASH_FORM % "sub/inner.txt")
+    def test_two_files_that_go_under_one_path_are_both_named(self):
+        is_refused(self, ["put", *ADDRESSES, "a/Y", "a/X", "b c", "b/X"], clash("a/X", "b/X"))
+        is_refused(self, ["put", *ADDRESSES, "sub/inner.txt", "inner.txt"], clash("sub/inner.txt", "inner.txt"))
         for first, second in [("a+b", "a_b"), ("a_b", "d/a b"), (".A", "_A"), ("č", "__")]:
-            is_told(self, ["put", "--rename", *ADDRESSES, "A", first, second], second, "LOCAL", CLASH_FORM % first)
+            is_refused(self, ["put", "--rename", *ADDRESSES, "A", first, second], clash(first, second))
 
     def test_the_own_address_is_not_the_servers(self):
         for address in ["401", "000401"]:
             server = f"{address}=127.0.0.1:9001"
             for words in [["get", "A"], ["put", "A"], ["delete", "A"], ["rename", "A", "B"]]:
-                is_told(self, [words[0], "401", "127.0.0.1:9002", server, *words[1:]], server, "SERVER", OTHER_FORM)
-            is_told(self, ["ask", "401", "127.0.0.1:9002", address, server], address, "TO", OTHER_FORM)
+                is_bad(self, [words[0], "401", "127.0.0.1:9002", server, *words[1:]], server, "SERVER", OTHER_FORM)
+            is_bad(self, ["ask", "401", "127.0.0.1:9002", address, server], address, "TO", OTHER_FORM)
 
     def test_a_timeout_is_so_many_seconds(self):
         for text in BAD_TIMEOUTS:
             for words in [["get", *ADDRESSES, "A"], ["put", *ADDRESSES, "A"], ["ask", "402", "127.0.0.1:1", "401"]]:
-                is_told(self, [words[0], "--timeout", text, *words[1:]], text, "--timeout", TIMEOUT_FORM)
+                is_bad(self, [words[0], "--timeout", text, *words[1:]], text, "--timeout", TIMEOUT_FORM)
 
     def test_a_retransmission_comes_after_so_many_milliseconds(self):
         for text in BAD_RETRANSMITS:
             for words in [["serve", "401", "127.0.0.1:1", "d"], ["ask", "402", "127.0.0.1:1", "401"]]:
-                is_told(self, [words[0], "--retransmit", text, *words[1:]], text, "--retransmit", RETRANSMIT_FORM)
+                is_bad(self, [words[0], "--retransmit", text, *words[1:]], text, "--retransmit", RETRANSMIT_FORM)
         for words in [["get", *ADDRESSES, "A"], ["put", *ADDRESSES, "A"], ["delete", *ADDRESSES, "A"], ["rename", *ADDRESSES, "A", "B"]]:
             ended = run([words[0], "--retransmit", "20", *words[1:]])
             self.check(f"{words[0]} chooses it by itself", ended.problems(BAD_LINE, b"", [b"unexpected argument '--retransmit' found"]))
@@ -251,13 +270,13 @@ class Line(Case):
 
     def test_paths_of_delete_and_rename_are_paths_of_file(self):
         for text in BAD_PATHS:
-            is_told(self, ["delete", *ADDRESSES, "A", text], text, "PATH", PATHS_FORM)
-            is_told(self, ["rename", *ADDRESSES, text, "A"], text, "OLD", ONE_PATH_FORM)
-            is_told(self, ["rename", *ADDRESSES, "A", text], text, "NEW", ONE_PATH_FORM)
-        is_told(self, ["delete", *ADDRESSES, "B", "A", "A"], "A", "PATH", PATHS_FORM)
+            is_bad(self, ["delete", *ADDRESSES, "A", text], text, "PATH", PATH_FORM)
+            is_bad(self, ["rename", *ADDRESSES, text, "A"], text, "OLD", PATH_FORM)
+            is_bad(self, ["rename", *ADDRESSES, "A", text], text, "NEW", PATH_FORM)
+        is_bad(self, ["delete", *ADDRESSES, "B", "A", "A"], "A", "PATH", PATH_ONCE_FORM)
 
     def test_a_carriage_is_1_or_2(self):
-        """Likewise the carriage, of each command that has one."""
+        """The same for the carriage of each command that has it."""
         for text in BAD_CARRIAGES:
             for words in [
                 ["loop"],
@@ -266,15 +285,15 @@ class Line(Case):
                 ["get", *ADDRESSES, "A"],
                 ["put", *ADDRESSES, "A"],
             ]:
-                is_told(self, [words[0], "--carriage", text, *words[1:]], text, "--carriage", CARRIAGE_FORM)
+                is_bad(self, [words[0], "--carriage", text, *words[1:]], text, "--carriage", CARRIAGE_FORM)
 
     def test_chudp_has_no_bundles_and_a_bridges_address_needs_it(self):
         served = ["serve", "401", "127.0.0.1:1", "d"]
         for words in [served, ["ask", "402", "127.0.0.1:1", "401"], ["get", *ADDRESSES, "A"], ["delete", *ADDRESSES, "A"]]:
-            is_told(self, [words[0], "--chudp", "--carriage", "2", *words[1:]], "2", "--carriage", PLAIN_FORM)
-            is_told(self, [words[0], "--bridge", "3040", *words[1:]], "3040", "--bridge", NEEDS_CHUDP_FORM)
+            is_misfit(self, [words[0], "--chudp", "--carriage", "2", *words[1:]], "--carriage 2", ONE_PACKET)
+            is_misfit(self, [words[0], "--bridge", "3040", *words[1:]], "--bridge 3040", NEEDS_CHUDP)
             for text in BAD_ADDRESSES:
-                is_told(self, [words[0], "--chudp", "--bridge", text, *words[1:]], text, "--bridge", ADDRESS_FORM)
+                is_bad(self, [words[0], "--chudp", "--bridge", text, *words[1:]], text, "--bridge", ADDRESS_FORM)
         for option in [["--chudp"], ["--bridge", "3040"]]:
             ended = run(["loop", *option])
             self.check(f"loop has no {option[0]}", ended.problems(BAD_LINE, b"", [f"unexpected argument '{option[0]}' found".encode()]))
@@ -282,18 +301,18 @@ class Line(Case):
     def test_a_contact_is_printable_and_short(self):
         for text in BAD_CONTACTS:
             for words in [["ask", "402", "127.0.0.1:1", "401"], ["get", *ADDRESSES, "A"], ["rename", *ADDRESSES, "A", "B"]]:
-                is_told(self, [words[0], "--contact", text, *words[1:]], text, "--contact", CONTACT_FORM)
+                is_bad(self, [words[0], "--contact", text, *words[1:]], text, "--contact", CONTACT_FORM)
         ended = run(["serve", "--contact", "FILE", "401", "127.0.0.1:1", "d"])
         self.check("serve has no --contact", ended.problems(BAD_LINE, b"", [b"unexpected argument '--contact' found"]))
 
-    def test_the_first_mistake_is_told_with_the_usage(self):
-        """The first bad word is told with the usage of its subcommand; what clap finds is told in its words."""
+    def test_the_first_mistake_is_reported_with_the_usage(self):
+        """The first bad word is reported with the usage of its subcommand; clap reports its own mistakes."""
         wanted = (
-            f"error: invalid value 'x' for '--turns': wanted {TURNS_FORM}\n\n"
+            f"error: invalid value 'x' for '--turns': expected {TURNS_FORM}\n\n"
             "Usage: chaosd serve [OPTIONS] <ADDRESS> <UDP> <FOLDER> [PEER]...\n\nFor more information, try '--help'.\n"
         )
         ended = run(["serve", "--turns", "x", "0", "u", "d", "p"])
-        self.check("the first bad word is told with its usage", ended.problems(BAD_LINE, b"", wanted.encode()))
+        self.check("the first bad word is reported with its usage", ended.problems(BAD_LINE, b"", wanted.encode()))
         for words, piece in [
             (["nonsense"], b"unrecognized subcommand 'nonsense'"),
             (["serve", "401", "127.0.0.1:1"], b"  <FOLDER>\n"),
@@ -301,10 +320,19 @@ class Line(Case):
             (["put", *ADDRESSES], b"  <LOCAL>...\n"),
             (["get", "--version"], b"unexpected argument '--version' found"),
         ]:
-            self.check(f"`chaosd {' '.join(words)}`: a mistake is told", run(words).problems(BAD_LINE, b"", [piece]))
+            self.check(f"`chaosd {' '.join(words)}`: a mistake is reported", run(words).problems(BAD_LINE, b"", [piece]))
 
     def test_help_says_what_each_subcommand_does_and_what_each_word_is(self):
         """Help says what each subcommand does, and what each word is."""
         for words, pieces in HELP.items():
             ended = run(words.split())
             self.check(f"`chaosd {words}` says it", ended.problems(DONE, [piece.encode() for piece in pieces], b""))
+
+    def test_no_line_of_help_is_wider_than_80_columns(self):
+        for name in ["", "show", "lab", "filelab", "loop", "serve", "ask", "get", "put", "delete", "rename"]:
+            for form in ["-h", "--help"]:
+                ended = run([*name.split(), form])
+                wide = [line for line in ended.out.decode().splitlines() if len(line) > WIDEST]
+                self.check(f"`chaosd {name} {form}` fits", ended.problems(DONE) + wide)
+        ended = run(["--version"])
+        self.check("the version fits", [line for line in ended.out.decode().splitlines() if len(line) > WIDEST])

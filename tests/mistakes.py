@@ -95,7 +95,7 @@ class Unknown(Case):
     def test_the_own_address_as_the_servers_is_a_bad_line(self):
         own, other = free_ports(2)
         ended = run(["put", "401", at(own), f"401={at(other)}", "A"])
-        self.check("the own address", ended.problems(BAD_LINE, b"", [b"another Chaosnet address"]))
+        self.check("the own address", ended.problems(BAD_LINE, b"", [b"a Chaosnet address other than this host's own"]))
 
 
 def shown(words, wanted, patience=LONG):

@@ -100,7 +100,7 @@ class Printed(Case):
             (here / "sub").mkdir()
             (here / "sub" / WILD).write_bytes(b"b")
             ended = copied(server, "put", WILD, f"sub/{WILD}", options=["--rename"], cwd=here)
-            self.check("two of one path", ended.problems(BAD_LINE, b"", [b"invalid value 'sub/" + PRINTED + b"'", b"but '" + PRINTED + b"' goes"]))
+            self.check("two of one path", ended.problems(BAD_LINE, b"", [b"the files '" + PRINTED + b"' and 'sub/" + PRINTED + b"' would go"]))
             for output, path in [(f"no/{WILD}", "A"), (f"{WILD}/", "A")]:
                 ended = copied(server, "get", path, options=["--output", output], cwd=here)
                 told = b"chaosd: can't write " + output.encode().replace(WILD.encode(), PRINTED) + (b"A" if output.endswith("/") else b"")

@@ -27,11 +27,11 @@ A PEER or SERVER is ADDRESS=UDP; the PEER *=UDP is the place of all other hosts.
                (cond ((string= word "--") (setf others (revappend words others) words '()))
                      ((not (begins-p "--" word)) (push word others))
                      ((not (member word (rest subcommand) :test #'string=))
-                      (wanted word (join "an option of " (first subcommand))))
+                      (expected word (join "an option of " (first subcommand))))
                      ((member word '("--text" "--quiet" "--chudp") :test #'string=)
                       (push (cons word t) options))
                      (words (push (cons word (pop words)) options))
-                     (t (wanted word "a word behind it")))))
+                     (t (expected word "a value after it")))))
     (values options (nreverse others))))
 
 (defun option (name options &optional default)
@@ -42,8 +42,8 @@ A PEER or SERVER is ADDRESS=UDP; the PEER *=UDP is the place of all other hosts.
   (let ((carriage (option "--carriage" options))
         (chudp (option "--chudp" options))
         (bridge (option "--bridge" options)))
-    (when (and chudp carriage) (wanted carriage "no --carriage beside --chudp"))
-    (when (and bridge (not chudp)) (wanted bridge "--chudp beside --bridge"))
+    (when (and chudp carriage) (expected carriage "no --carriage with --chudp"))
+    (when (and bridge (not chudp)) (expected bridge "--chudp with --bridge"))
     (list :carriage (if chudp :chudp (number-word (or carriage "1") 1 2 "1 or 2"))
           :bridge (and bridge (address-word bridge))
           :contact (contact-word (option "--contact" options "FILE"))
@@ -100,18 +100,18 @@ A PEER or SERVER is ADDRESS=UDP; the PEER *=UDP is the place of all other hosts.
 (defun run-copies (copy options words)
   "GET-ONE or PUT-ONE of all files that WORDS name."
   (destructuring-bind (&optional address place server &rest names) words
-    (unless names (wanted (format nil "~{~a~^ ~}" words) "ADDRESS UDP SERVER and a file"))
+    (unless names (expected (format nil "~{~a~^ ~}" words) "ADDRESS UDP SERVER and a file"))
     (let* ((output (option "--output" options)) (as (option "--as" options))
            (login (option "--login" options "CHAOSD"))
            (*patience* (* 1000 (number-word (option "--timeout" options "15") 1 3600 "1 to 3600")))
            (paths (cond (as (list as))
                         ((eq copy 'get-one) names)
                         (t (mapcar #'last-name (substitute "" "-" names :test #'string=))))))
-      (unless (name-p login 1 16) (wanted login "1 to 16 letters and digits"))
-      (when (and (or as output) (rest names)) (wanted (or as output) "one file"))
+      (unless (name-p login 1 16) (expected login "1 to 16 letters and digits"))
+      (when (and (or as output) (rest names)) (expected (or as output) "one file"))
       (dolist (path paths)
         (unless (and (path-p path) (= 1 (count path paths :test #'string=)))
-          (wanted path "a path, each once")))
+          (expected path "a path, each once")))
       (let ((client (apply #'open-client :address (address-word address) :place place
                                          :server server :login login (host-options options 64))))
         (unwind-protect (copy-files client names copy options)
@@ -119,7 +119,7 @@ A PEER or SERVER is ADDRESS=UDP; the PEER *=UDP is the place of all other hosts.
 
 (defun run-serve (options words)
   (destructuring-bind (&optional address place folder &rest peers) words
-    (unless folder (wanted (format nil "~{~a~^ ~}" words) "ADDRESS UDP FOLDER"))
+    (unless folder (expected (format nil "~{~a~^ ~}" words) "ADDRESS UDP FOLDER"))
     (let ((turns (option "--turns" options)))
       (apply #'serve :address (address-word address) :place place :peers peers
                      :folder (join (string-right-trim "/" folder) "/")
@@ -134,7 +134,7 @@ A PEER or SERVER is ADDRESS=UDP; the PEER *=UDP is the place of all other hosts.
     (handler-case
         (cond ((intersection words '("--help" "-h" "help") :test #'string=)
                (prog1 0 (write-string *usage*)))
-              ((null subcommand) (wanted (or (first words) "") "serve, get or put; --help tells"))
+              ((null subcommand) (expected (or (first words) "") "serve, get or put; --help tells"))
               (t
                (multiple-value-bind (options others) (parse-line subcommand (rest words))
                  (cond ((string= (first words) "serve") (run-serve options others))

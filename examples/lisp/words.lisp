@@ -2,7 +2,7 @@
 
 (in-package :chaosnet)
 
-(defun wanted (word what) (fail 'bad-word "invalid value '" word "': wanted " what))
+(defun expected (word what) (fail 'bad-word "invalid value '" word "': expected " what))
 
 (defun pieces (divider string)
   "What stands between the DIVIDERs of STRING."
@@ -19,28 +19,28 @@
   (let ((number (and (digits-p word 10 10)
                      (or (= 1 (length word)) (char/= #\0 (char word 0)))
                      (parse-integer word))))
-    (if (and number (<= least number most)) number (wanted word what))))
+    (if (and number (<= least number most)) number (expected word what))))
 
 (defun address-word (word)
   "A Chaosnet address, in octal."
   (let ((address (and (digits-p word 8 6) (parse-integer word :radix 8))))
     (if (and address (<= 1 address 65535))
         address
-        (wanted word "1 to 6 octal digits, from 1 to 177777"))))
+        (expected word "1 to 6 octal digits, from 1 to 177777"))))
 
 (defun place-word (word)
   "A UDP address a.b.c.d:port, as a list of the four octets and the port."
   (let* ((what "a.b.c.d:port, in decimal without leading zeros")
          (halves (pieces #\: word))
          (parts (pieces #\. (first halves))))
-    (unless (and (= 2 (length halves)) (= 4 (length parts))) (wanted word what))
+    (unless (and (= 2 (length halves)) (= 4 (length parts))) (expected word what))
     (list (map 'vector (lambda (part) (number-word part 0 255 what)) parts)
           (number-word (second halves) 1 65535 what))))
 
 (defun peer-word (word &optional (address #'address-word))
   "A host and its place, ADDRESS=UDP, as a list of the address, the octets and the port."
   (let ((halves (pieces #\= word)))
-    (unless (= 2 (length halves)) (wanted word "ADDRESS=UDP, as 401=127.0.0.1:9001"))
+    (unless (= 2 (length halves)) (expected word "ADDRESS=UDP, as 401=127.0.0.1:9001"))
     (cons (funcall address (first halves)) (place-word (second halves)))))
 
 (defun peer-words (words)
@@ -60,7 +60,7 @@
   "The name of a contact."
   (if (and (<= 1 (length word) 64) (every (lambda (char) (char< #\Space char #\Rubout)) word))
       word
-      (wanted word "a contact: 1 to 64 characters of ASCII, none of them a space")))
+      (expected word "a contact: 1 to 64 characters of ASCII, none of them a space")))
 
 (defun path-p (string)
   "May a file of FILE have this path?"

@@ -1,84 +1,88 @@
-//! A word that is not of the form that its place wants.
+//! Words that are not of their form, and words that don't go with the others.
+ghost use Rattle.std.specs.Prelude.{◌≡◌};
 
 use chaos_file::PrintedName;
 use std::alloc::{AllocError, Global};
 
-/// What is wanted of an address.
+/// The form of an address.
 pub(crate) const ADDRESS_FORM: &str = "1 to 6 octal digits, from 1 to 177777";
 
-/// What is wanted of a number of turns.
-pub(crate) const TURNS_FORM: &str = "a decimal number without leading zeros, at most 1000000000";
+/// The form of a number of turns.
+pub(crate) const TURNS_FORM: &str =
+    "a decimal number from 0 to 1000000000, without leading zeros";
 
-/// What is wanted of a carriage.
+/// The form of a carriage.
 pub(crate) const CARRIAGE_FORM: &str = "1 or 2";
 
-/// What is wanted of a carriage beside `--chudp`.
-pub(crate) const PLAIN_FORM: &str = "1 beside --chudp, since a datagram of CHUDP has one packet";
+/// The form of a contact name.
+pub(crate) const CONTACT_FORM: &str = "1 to 64 printable ASCII characters, without a space";
 
-/// What is wanted of a bridge's address without `--chudp`.
-pub(crate) const NEEDS_CHUDP_FORM: &str = "--chudp beside it, since only CHUDP names a bridge";
-
-/// What is wanted of a contact name.
-pub(crate) const CONTACT_FORM: &str = "1 to 64 printable characters of ASCII, none of them a space";
-
-/// What is wanted of a log's level.
+/// The form of a log's level.
 pub(crate) const LOG_FORM: &str = "quiet, normal or all";
 
-/// What is wanted of a socket.
+/// The form of a socket.
 pub(crate) const SOCKET_FORM: &str =
-    "a.b.c.d:port in decimal without leading zeros, the port from 1 to 65535";
+    "a.b.c.d:port in decimal, without leading zeros, with a port from 1 to 65535";
 
-/// What is wanted of a server.
-pub(crate) const PEER_FORM: &str = "an address, `=` and a socket, as 402=127.0.0.1:9002";
+/// The form of a server.
+pub(crate) const PEER_FORM: &str =
+    "a Chaosnet address, `=` and a UDP address, such as 402=127.0.0.1:9002";
 
-/// What is wanted of a peer.
-pub(crate) const ENTRY_FORM: &str = "an address or `*`, `=` and a socket, as 402=127.0.0.1:9002";
+/// The form of a peer.
+pub(crate) const ENTRY_FORM: &str =
+    "a Chaosnet address or `*`, then `=` and a UDP address, such as 402=127.0.0.1:9002";
 
-/// What is wanted of the bridge among the peers.
-pub(crate) const BRIDGE_ONCE_FORM: &str = "one bridge at most";
+/// The form of the peers where two are a bridge.
+pub(crate) const BRIDGE_ONCE_FORM: &str = "at most one bridge";
 
-/// What is wanted of all the peers.
+/// The form of the peers where there are too many.
 pub(crate) const PEERS_FORM: &str = "at most 32 peers";
 
-/// What is wanted of a peer's address.
+/// The form of the peers where two have one address.
 pub(crate) const ONCE_FORM: &str = "each Chaosnet address once";
 
-/// What is wanted of a user's name.
+/// The form of a user's name.
 pub(crate) const LOGIN_FORM: &str = "1 to 16 letters and digits";
 
-/// What is wanted of a window.
-pub(crate) const WINDOW_FORM: &str = "a decimal number without leading zeros, from 1 to 64";
+/// The form of a window.
+pub(crate) const WINDOW_FORM: &str = "a decimal number from 1 to 64, without leading zeros";
 
-/// What is wanted of a number of milliseconds after which packets are sent again.
+/// The form of the time after which packets are retransmitted.
 pub(crate) const RETRANSMIT_FORM: &str =
-    "a decimal number of milliseconds without leading zeros, from 20 to 60000";
+    "a decimal number of milliseconds from 20 to 60000, without leading zeros";
 
-/// What is wanted of a flag, which no words can fail.
+/// The form of a flag, which no words can fail.
 pub(crate) const FLAG_FORM: &str = "no value";
 
-/// What is wanted of the paths of the server's files.
-pub(crate) const PATHS_FORM: &str =
-    "paths of FILE (1 to 64 letters, digits, dots, hyphens and underscores, no dot in front), each once";
-
-/// What is wanted of one path of the server.
+/// The form of a path of the server.
 pub(crate) const PATH_FORM: &str =
-    "a path of FILE (1 to 64 letters, digits, dots, hyphens and underscores, no dot in front)";
+    "a path of FILE: 1 to 64 letters, digits, dots, hyphens and underscores, without a leading dot";
 
-/// What is wanted of local files that are put under their own names.
-pub(crate) const LOCALS_FORM: &str = "a name for standard input, by --as";
+/// The form of the paths of the server where one stands there twice.
+pub(crate) const PATH_ONCE_FORM: &str = "each path once";
 
-/// What is wanted of the host that is called.
-pub(crate) const OTHER_FORM: &str = "another Chaosnet address than this host's own";
+/// The form of local files that are put under their own names.
+pub(crate) const LOCALS_FORM: &str = "a name for standard input, given with --as";
 
-/// What is wanted of a number of seconds.
-pub(crate) const TIMEOUT_FORM: &str = "a decimal number without leading zeros, from 1 to 3600";
+/// The form of the host that is called.
+pub(crate) const OTHER_FORM: &str = "a Chaosnet address other than this host's own";
 
-/// What is wanted of the local file that a single file is got into.
-pub(crate) const OUTPUT_FORM: &str = "one PATH alone, or a folder that ends with /";
+/// The form of a timeout.
+pub(crate) const TIMEOUT_FORM: &str =
+    "a decimal number of seconds from 1 to 3600, without leading zeros";
 
-/// What is wanted of the name that a single file is put under.
-pub(crate) const AS_FORM: &str =
-    "a path of FILE (1 to 64 letters, digits, dots, hyphens and underscores, no dot in front), and one LOCAL alone";
+/// Why a carriage doesn't go with the other words.
+pub(crate) const ONE_PACKET: &str =
+    "can't be used with '--chudp', because a CHUDP datagram carries one packet";
+
+/// Why a bridge's address doesn't go with the other words.
+pub(crate) const NEEDS_CHUDP: &str = "needs '--chudp', because only CHUDP names a bridge";
+
+/// Why a local file that is no folder doesn't go with the other words.
+pub(crate) const ONE_PATH: &str = "takes one PATH alone, unless it ends with /";
+
+/// Why a name to put a file under doesn't go with the other words.
+pub(crate) const ONE_LOCAL: &str = "takes one LOCAL alone";
 
 /// Two local files that would go under one path.
 #[derive(Clone, Copy)]
@@ -90,32 +94,68 @@ pub(crate) struct Clash<'a> {
 }
 
 impl Clash<'_> {
-    /// What the user is told of it.
+    /// The message to the user.
     pub(crate) fn message(&self, alloc: Global) -> Result<String, AllocError> {
         let first = PrintedName(self.first);
         let second = PrintedName(self.second);
         format!(in alloc;
-            "invalid value '{second}' for 'LOCAL': wanted a path for each file, but '{first}' goes under the same; name one by --as"
+            "the files '{first}' and '{second}' would go under one path: put one of them alone, with '--as'"
         )
     }
 }
 
-/// A word that is not of the form that its place wants.
+/// What is wrong with a word.
+#[derive(Clone, Copy)]
+pub(crate) enum Problem<'a> {
+    /// The word is not of this form.
+    Form(&'a str),
+    /// The word is of its form, but it doesn't go with the others, for this reason.
+    Misfit(&'a str),
+}
+
+/// A word that is not of its form, or that doesn't go with the others.
 #[derive(Clone, Copy)]
 pub(crate) struct BadWord<'a> {
     /// The word as it was given.
     pub(crate) text: &'a str,
     /// The place, as the help calls it.
     pub(crate) place: &'a str,
-    /// What the place wants.
-    pub(crate) form: &'a str,
+    /// What is wrong with the word.
+    pub(crate) problem: Problem<'a>,
 }
 
-impl BadWord<'_> {
-    /// What the user is told of it: all three.
+impl<'a> BadWord<'a> {
+    /// A word that is not of the form of its place.
+    pub(crate) fn new(text: &'a str, place: &'a str, form: &'a str) -> BadWord<'a>
+        ensures { result.text ≡ text.entry }
+    {
+        BadWord {
+            text,
+            place,
+            problem: Problem::Form(form),
+        }
+    }
+
+    /// A word of an option that doesn't go with the other words.
+    pub(crate) fn misfit(text: &'a str, option: &'a str, reason: &'a str) -> BadWord<'a> {
+        BadWord {
+            text,
+            place: option,
+            problem: Problem::Misfit(reason),
+        }
+    }
+
+    /// The message to the user.
     pub(crate) fn message(&self, alloc: Global) -> Result<String, AllocError> {
-        let BadWord { place, form, .. } = *self;
+        let place = self.place;
         let text = PrintedName(self.text);
-        format!(in alloc; "invalid value '{text}' for '{place}': wanted {form}")
+        match self.problem {
+            Problem::Form(form) => {
+                format!(in alloc; "invalid value '{text}' for '{place}': expected {form}")
+            }
+            Problem::Misfit(reason) => {
+                format!(in alloc; "the argument '{place} {text}' {reason}")
+            }
+        }
     }
 }

@@ -6,7 +6,8 @@ ghost use Rattle.chaosd_line.specs.Files.{GivesFiles, IfBad, IsCalling, IsDelete
 ghost use Rattle.chaosd_line.specs.Values.{IsContact, IsLogin, IsPeer, IsTimeout, Reads};
 
 use crate::bad_word::{
-    BadWord, CONTACT_FORM, LOGIN_FORM, OTHER_FORM, PATH_FORM, PATHS_FORM, PEER_FORM, TIMEOUT_FORM,
+    BadWord, CONTACT_FORM, LOGIN_FORM, OTHER_FORM, PATH_FORM, PATH_ONCE_FORM, PEER_FORM,
+    TIMEOUT_FORM,
 };
 use crate::files::{are_paths, bad_path};
 use crate::framings::given_framing;
@@ -27,11 +28,7 @@ fn given_login<'a>(matches: &ArgMatches<'a>) -> Result<&'a str, BadWord<'a>>
     if is_user(text.as_bytes()) {
         Ok(text)
     } else {
-        Err(BadWord {
-            text,
-            place: "--login",
-            form: LOGIN_FORM,
-        })
+        Err(BadWord::new(text, "--login", LOGIN_FORM))
     }
 }
 
@@ -43,11 +40,7 @@ pub(crate) fn given_contact<'a>(matches: &ArgMatches<'a>) -> Result<&'a str, Bad
     if is_contact(text.as_bytes()) {
         Ok(text)
     } else {
-        Err(BadWord {
-            text,
-            place: "--contact",
-            form: CONTACT_FORM,
-        })
+        Err(BadWord::new(text, "--contact", CONTACT_FORM))
     }
 }
 
@@ -67,11 +60,7 @@ pub(crate) fn given_timeout<'a>(matches: &ArgMatches<'a>) -> Result<Option<u16>,
     };
     match seconds_of(text) {
         Some(seconds) => Ok(Some(seconds)),
-        None => Err(BadWord {
-            text,
-            place: "--timeout",
-            form: TIMEOUT_FORM,
-        }),
+        None => Err(BadWord::new(text, "--timeout", TIMEOUT_FORM)),
     }
 }
 
@@ -82,21 +71,17 @@ fn given_server<'a>(matches: &ArgMatches<'a>) -> Result<Peer, BadWord<'a>>
     let text = given(matches, "SERVER")?;
     match peer_of(text) {
         Some(peer) => Ok(peer),
-        None => Err(BadWord {
-            text,
-            place: "SERVER",
-            form: PEER_FORM,
-        }),
+        None => Err(BadWord::new(text, "SERVER", PEER_FORM)),
     }
 }
 
 /// What is wrong with the word at a place that names this host itself.
 pub(crate) fn own_host<'a>(matches: &ArgMatches<'a>, place: &'a str) -> BadWord<'a> {
-    BadWord {
-        text: optional(matches, place).unwrap_or(""),
+    BadWord::new(
+        optional(matches, place).unwrap_or(""),
         place,
-        form: OTHER_FORM,
-    }
+        OTHER_FORM,
+    )
 }
 
 /// What the callers of a server have in common.
@@ -141,11 +126,13 @@ pub(crate) fn kept<'a>(alloc: Global, words: &[&'a str]) -> Result<Vec<&'a str>,
 pub(crate) fn bad_paths<'a>(words: &[&'a str]) -> BadWord<'a>
     ensures { result.text.now ≡ bad_path (map (λ t. t.now) words.now) }
 {
-    BadWord {
-        text: bad_path(words),
-        place: "PATH",
-        form: PATHS_FORM,
-    }
+    let text = bad_path(words);
+    let form = if is_path(text.as_bytes()) {
+        PATH_ONCE_FORM
+    } else {
+        PATH_FORM
+    };
+    BadWord::new(text, "PATH", form)
 }
 
 /// What `delete` is asked for with these words.
@@ -188,11 +175,7 @@ fn given_path<'a>(matches: &ArgMatches<'a>, place: &'a str) -> Result<&'a str, B
     if is_path(text.as_bytes()) {
         Ok(text)
     } else {
-        Err(BadWord {
-            text,
-            place,
-            form: PATH_FORM,
-        })
+        Err(BadWord::new(text, place, PATH_FORM))
     }
 }
 

@@ -4,7 +4,7 @@ ghost use Rattle.clap.specs.Words.{found_of, rows_of};
 ghost use Rattle.chaosd_line.specs.Files.{IfBad, IsGet, IsGetOf, IsPut, IsPutOf, IsCopying, are_named, are_paths, fits_output, is_folder, GivesFiles};
 ghost use Rattle.chaosd_line.specs.Values.{Reads};
 
-use crate::bad_word::{AS_FORM, BadWord, OUTPUT_FORM};
+use crate::bad_word::{BadWord, ONE_LOCAL, ONE_PATH, PATH_FORM};
 use crate::calls::{bad_paths, calling_of, kept, optional};
 use crate::files::are_paths;
 use crate::given::given_flag;
@@ -65,11 +65,8 @@ fn get_with<'a>(
         return Err(Unread::Bad(bad_paths(words)));
     }
     if !fits_output(output, words) {
-        return Err(Unread::Bad(BadWord {
-            text: output.unwrap_or(""),
-            place: "--output",
-            form: OUTPUT_FORM,
-        }));
+        let text = output.unwrap_or("");
+        return Err(Unread::Bad(BadWord::misfit(text, "--output", ONE_PATH)));
     }
     match kept(alloc, words) {
         Ok(paths) => Ok(Get {
@@ -106,11 +103,10 @@ fn are_named(is_renaming: bool, path: Option<&str>, locals: &[&str]) -> bool
 /// What is wrong with local files that go under no such paths.
 fn bad_names<'a>(is_renaming: bool, path: Option<&'a str>, locals: &[&'a str]) -> Unread<'a> {
     match path {
-        Some(text) => Unread::Bad(BadWord {
-            text,
-            place: "--as",
-            form: AS_FORM,
-        }),
+        Some(text) if is_path(text.as_bytes()) => {
+            Unread::Bad(BadWord::misfit(text, "--as", ONE_LOCAL))
+        }
+        Some(text) => Unread::Bad(BadWord::new(text, "--as", PATH_FORM)),
         None => bad_locals(locals, is_renaming),
     }
 }

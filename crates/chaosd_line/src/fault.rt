@@ -8,10 +8,10 @@ use thiserror::Error;
 /// Why a command line asks for nothing. Cast to an integer, a fault is its number, 1 to 3.
 #[derive(Clone, Copy, Debug, PartialEq, Eq, Error)]
 pub enum LineFault {
-    /// The words are no line of the program.
+    /// The words are not a command line of the program.
     #[error("the command line is not understood; try --help")]
     BadLine = 1,
-    /// The words ask for help or for the version, which is shown in place of a run.
+    /// The words ask for help or for the version, which the program then shows.
     #[error("help or the version was asked for")]
     Help = 2,
     /// Memory ran out while the words were read.

@@ -4,7 +4,7 @@ ghost use Rattle.clap.specs.Words.{first_of, found_of, rows_of};
 ghost use Rattle.chaosd_line.specs.Framings.{IsFraming};
 ghost use Rattle.chaosd_line.specs.Values.{IsBridge, Reads};
 
-use crate::bad_word::{ADDRESS_FORM, BadWord, NEEDS_CHUDP_FORM, PLAIN_FORM};
+use crate::bad_word::{ADDRESS_FORM, BadWord, NEEDS_CHUDP, ONE_PACKET};
 use crate::calls::optional;
 use crate::framing::Framing;
 use crate::given::{given_carriage, given_flag};
@@ -21,21 +21,18 @@ fn given_bridge<'a>(matches: &ArgMatches<'a>) -> Result<Option<u16>, BadWord<'a>
     };
     match address_of(text) {
         Some(address) => Ok(Some(address)),
-        None => Err(BadWord {
-            text,
-            place: "--bridge",
-            form: ADDRESS_FORM,
-        }),
+        None => Err(BadWord::new(text, "--bridge", ADDRESS_FORM)),
     }
 }
 
 /// What is wrong with the word of an option that doesn't fit the others.
-fn misfit<'a>(matches: &ArgMatches<'a>, id: &str, place: &'a str, form: &'a str) -> BadWord<'a> {
-    BadWord {
-        text: optional(matches, id).unwrap_or(""),
-        place,
-        form,
-    }
+fn misfit<'a>(
+    matches: &ArgMatches<'a>,
+    id: &str,
+    option: &'a str,
+    reason: &'a str,
+) -> BadWord<'a> {
+    BadWord::misfit(optional(matches, id).unwrap_or(""), option, reason)
 }
 
 /// How packets stand in datagrams: CHUDP has one packet in each, and only CHUDP names a bridge.
@@ -47,8 +44,8 @@ pub(crate) fn given_framing<'a>(matches: &ArgMatches<'a>) -> Result<Framing, Bad
     let bridge = given_bridge(matches)?;
     match (is_chudp, carriage, bridge) {
         (true, Carriage::One, bridge) => Ok(Framing::Chudp(bridge)),
-        (true, Carriage::Two, _) => Err(misfit(matches, "carriage", "--carriage", PLAIN_FORM)),
+        (true, Carriage::Two, _) => Err(misfit(matches, "carriage", "--carriage", ONE_PACKET)),
         (false, carriage, None) => Ok(Framing::Own(carriage)),
-        (false, _, Some(_)) => Err(misfit(matches, "bridge", "--bridge", NEEDS_CHUDP_FORM)),
+        (false, _, Some(_)) => Err(misfit(matches, "bridge", "--bridge", NEEDS_CHUDP)),
     }
 }

@@ -31,11 +31,7 @@ pub(crate) fn given<'a>(matches: &ArgMatches<'a>, place: &'a str) -> Result<&'a 
 {
     match matches.get_str(place) {
         Some(text) => Ok(text),
-        None => Err(BadWord {
-            text: "",
-            place,
-            form: "a word",
-        }),
+        None => Err(BadWord::new("", place, "a value")),
     }
 }
 
@@ -49,11 +45,7 @@ pub(crate) fn given_address<'a>(
     let text = given(matches, place)?;
     match address_of(text) {
         Some(address) => Ok(address),
-        None => Err(BadWord {
-            text,
-            place,
-            form: ADDRESS_FORM,
-        }),
+        None => Err(BadWord::new(text, place, ADDRESS_FORM)),
     }
 }
 
@@ -64,11 +56,7 @@ fn given_turns<'a>(matches: &ArgMatches<'a>) -> Result<u32, BadWord<'a>>
     let text = given(matches, "turns")?;
     match turns_of(text) {
         Some(turns) => Ok(turns),
-        None => Err(BadWord {
-            text,
-            place: "--turns",
-            form: TURNS_FORM,
-        }),
+        None => Err(BadWord::new(text, "--turns", TURNS_FORM)),
     }
 }
 
@@ -79,11 +67,7 @@ pub(crate) fn given_carriage<'a>(matches: &ArgMatches<'a>) -> Result<Carriage, B
     let text = given(matches, "carriage")?;
     match carriage_of(text) {
         Some(carriage) => Ok(carriage),
-        None => Err(BadWord {
-            text,
-            place: "--carriage",
-            form: CARRIAGE_FORM,
-        }),
+        None => Err(BadWord::new(text, "--carriage", CARRIAGE_FORM)),
     }
 }
 
@@ -94,11 +78,7 @@ fn given_log<'a>(matches: &ArgMatches<'a>) -> Result<LogLevel, BadWord<'a>>
     let text = given(matches, "log")?;
     match log_of(text) {
         Some(log) => Ok(log),
-        None => Err(BadWord {
-            text,
-            place: "--log",
-            form: LOG_FORM,
-        }),
+        None => Err(BadWord::new(text, "--log", LOG_FORM)),
     }
 }
 
@@ -109,11 +89,7 @@ pub(crate) fn given_socket<'a>(matches: &ArgMatches<'a>) -> Result<SocketAddrV4,
     let text = given(matches, "UDP")?;
     match socket_of(text) {
         Some(socket) => Ok(socket),
-        None => Err(BadWord {
-            text,
-            place: "UDP",
-            form: SOCKET_FORM,
-        }),
+        None => Err(BadWord::new(text, "UDP", SOCKET_FORM)),
     }
 }
 
@@ -124,11 +100,7 @@ pub(crate) fn given_window<'a>(matches: &ArgMatches<'a>) -> Result<u16, BadWord<
     let text = given(matches, "window")?;
     match window_of(text) {
         Some(window) => Ok(window),
-        None => Err(BadWord {
-            text,
-            place: "--window",
-            form: WINDOW_FORM,
-        }),
+        None => Err(BadWord::new(text, "--window", WINDOW_FORM)),
     }
 }
 
@@ -139,11 +111,7 @@ fn given_retransmit<'a>(matches: &ArgMatches<'a>) -> Result<u64, BadWord<'a>>
     let text = given(matches, "retransmit")?;
     match retransmit_of(text) {
         Some(millis) => Ok(millis),
-        None => Err(BadWord {
-            text,
-            place: "--retransmit",
-            form: RETRANSMIT_FORM,
-        }),
+        None => Err(BadWord::new(text, "--retransmit", RETRANSMIT_FORM)),
     }
 }
 
@@ -154,11 +122,7 @@ pub(crate) fn given_flag<'a>(matches: &ArgMatches<'a>, place: &'a str) -> Result
     let text = given(matches, place)?;
     match flag_of(text) {
         Some(is_given) => Ok(is_given),
-        None => Err(BadWord {
-            text,
-            place,
-            form: FLAG_FORM,
-        }),
+        None => Err(BadWord::new(text, place, FLAG_FORM)),
     }
 }
 
@@ -302,13 +266,9 @@ fn rename_line<'a>(matches: &ArgMatches<'a>) -> Result<Line<'a>, Unread<'a>>
     Ok(Line::Rename(rename_of(matches)?))
 }
 
-/// That a subcommand is wanted.
+/// That there is no subcommand.
 fn no_subcommand<'a>() -> Unread<'a> {
-    Unread::Bad(BadWord {
-        text: "",
-        place: "COMMAND",
-        form: "a subcommand",
-    })
+    Unread::Bad(BadWord::new("", "COMMAND", "a subcommand"))
 }
 
 /// What the values of the subcommand of this name ask for. That there is one of this name is clap's care.

@@ -1,190 +1,226 @@
-//! The words of help.
+//! The texts of help. clap adds them to a column and wraps no line, so each text has its own line ends: no line of any help is
+//! wider than 80 columns.
 
-/// What the program's version is, and where its stamp stands: the program can't have the sum of its own sources.
+/// The program's version, and where the program's stamp is: a program can't contain the sum of its own sources.
 pub(crate) const VERSION: &str = "0.1.0
-Built as chaosd.stamp says, beside the program or in ../share/chaosd. Without a stamp take it for not proved.";
+chaosd.stamp, beside the program or in ../share/chaosd, says how it was built.
+Without that file, assume that the program is not proved.";
 
-/// What the program's help begins with.
+/// The first line of the program's help.
 pub(crate) const ABOUT: &str = "A Chaosnet host, after MIT AI Memo 628";
 
-/// What the program's help ends with.
+/// The end of the program's help.
 pub(crate) const STATUSES: &str = "\
 Exit status:
   0  done, or help or the version was shown
   1  reading, writing, a socket, the clock or the store failed
-  2  the command line or the script is not understood
+  2  a mistake in the command line or in the script
   3  something was refused, or no reply came
   4  out of memory";
 
-/// What the help says of `show`.
-pub(crate) const SHOW: &str =
-    "Decode datagrams, given as lines of hexadecimal digits on standard input";
+/// Help of `show`.
+pub(crate) const SHOW: &str = "Decode datagrams, given as lines of hex on standard input";
 
-/// What a FILE command or reply says.
-pub(crate) const SHOW_FILE: &str =
-    "Also print what the data say as text, and in a packet of FILE the command or reply";
+/// Help of `show --file`.
+pub(crate) const SHOW_FILE: &str = "\
+Also print the data as text, and decode the commands and replies
+of FILE";
 
-/// What the help says of `lab`.
-pub(crate) const LAB: &str =
-    "Simulate the two ends of a connection, from a script on standard input";
+/// Help of `show --chudp`.
+pub(crate) const SHOW_CHUDP: &str = "\
+Decode datagrams of CHUDP, the framing of cbridge and other
+Chaosnet programs";
 
-/// What the help says of `filelab`.
+/// Help of `lab`.
+pub(crate) const LAB: &str = "Simulate both ends of a connection, from a script on standard input";
+
+/// Help of `filelab`.
 pub(crate) const FILELAB: &str =
-    "Simulate a FILE client and its server, from a script on standard input";
+    "Simulate a FILE client and server, from a script on standard input";
 
-/// What the help says of `loop`.
-pub(crate) const LOOP: &str =
-    "Run a FILE script from standard input between two hosts in this process, and print the replies";
+/// Help of `loop`.
+pub(crate) const LOOP: &str = "\
+Run a FILE script from standard input between two hosts in this
+process, and print the replies";
 
-/// What the help says of `serve`.
+/// Help of `serve`.
 pub(crate) const SERVE: &str = "Serve the files of a folder to other hosts";
 
-/// What the help says of `ask`.
-pub(crate) const ASK: &str =
-    "Send a FILE script from standard input to another host, and print the replies";
+/// Help of `ask`.
+pub(crate) const ASK: &str = "\
+Send a FILE script from standard input to another host, and print
+the replies";
 
-/// What the help says of `get`.
-pub(crate) const GET: &str = "Copy files of another host into local files of their names";
+/// Help of `get`.
+pub(crate) const GET: &str = "Copy files from another host";
 
-/// What the help says of `put`.
-pub(crate) const PUT: &str = "Copy local files to another host under their names";
+/// Help of `put`.
+pub(crate) const PUT: &str = "Copy local files to another host";
 
-/// What the help says of `delete`.
-pub(crate) const DELETE: &str = "Delete files of another host";
+/// Help of `delete`.
+pub(crate) const DELETE: &str = "Delete files on another host";
 
-/// What the help says of `rename`.
-pub(crate) const RENAME: &str = "Rename a file of another host";
+/// Help of `rename`.
+pub(crate) const RENAME: &str = "Rename a file on another host";
 
-/// The user's name.
-pub(crate) const LOGIN: &str = "Log in as NAME, 1 to 16 letters and digits";
+/// Help of `--login`.
+pub(crate) const LOGIN: &str = "\
+Log in as the user NAME:
+1 to 16 letters and digits";
 
-/// The packets of the windows.
-pub(crate) const WINDOW: &str =
-    "Send up to N commands ahead of their replies, 1 to 64, as far as the server's own window allows";
+/// Help of `--window` of the commands that call a server.
+pub(crate) const WINDOW: &str = "\
+Keep up to N commands in flight, 1 to 64; the
+server's window may allow fewer";
 
-/// The packets of a server's windows.
-pub(crate) const SERVE_WINDOW: &str =
-    "Keep N packets in each window of a connection, 1 to 64: so many commands may be in flight";
+/// Help of `serve --window`.
+pub(crate) const SERVE_WINDOW: &str = "\
+Give each connection windows of N packets, 1 to 64:
+a client may have N commands in flight";
 
-/// What the help says of a server that logs only what fails.
-pub(crate) const SERVE_QUIET: &str = "Log only what fails";
+/// Help of `serve --quiet`.
+pub(crate) const SERVE_QUIET: &str = "Log only errors, as --log quiet does";
 
-/// The seconds that each reply is waited for by `get`, `put`, `delete` and `rename`.
-pub(crate) const TIMEOUT: &str =
-    "Wait for each reply SECONDS by the clock, 1 to 3600; without it 1000 turns and 10 seconds at least";
+/// Help of `--timeout` of the commands that call a server.
+pub(crate) const TIMEOUT: &str = "\
+Wait up to SECONDS for each reply, 1 to 3600
+(otherwise 1000 turns and at least 10 seconds)";
 
-/// The seconds that each reply is waited for by `ask`.
-pub(crate) const ASK_TIMEOUT: &str =
-    "Wait for each reply SECONDS by the clock, 1 to 3600; without it 1000 turns (10 to 17 seconds)";
+/// Help of `ask --timeout`.
+pub(crate) const ASK_TIMEOUT: &str = "\
+Wait up to SECONDS for each reply, 1 to 3600
+(otherwise 1000 turns, which take 10 to 17 seconds)";
 
-/// The milliseconds after which packets are sent again.
-pub(crate) const RETRANSMIT: &str =
-    "Send packets that aren't acknowledged again after MS milliseconds, 20 to 60000";
+/// Help of `--retransmit`.
+pub(crate) const RETRANSMIT: &str = "\
+Retransmit unacknowledged packets after MS
+milliseconds, 20 to 60000";
 
-/// Datagrams from anywhere.
-pub(crate) const ANY_SOURCE: &str =
-    "Take datagrams from any UDP address, for a server with several interfaces";
+/// Help of `--any-source`.
+pub(crate) const ANY_SOURCE: &str = "\
+Accept datagrams from any UDP address, for a server
+with several interfaces";
 
-/// The first error ends a run.
-pub(crate) const STRICT: &str = "End the run at the first reply that is an ERROR, with status 3";
+/// Help of `ask --strict`.
+pub(crate) const STRICT: &str = "End the run at the first ERROR reply, with status 3";
 
-/// What the help says of how much a server logs.
-pub(crate) const LOG: &str =
-    "Log what fails (quiet), also connections and changes of files (normal), or also files that are read (all)";
+/// Help of `serve --log`.
+pub(crate) const LOG: &str = "\
+Log quiet (errors only), normal (also connections,
+changed files and failed requests) or all (also files
+that are read)";
 
-/// What the help says of the time in front of what a server logs.
-pub(crate) const LOG_TIME: &str = "Begin each line with the time, in UTC";
+/// Help of `serve --log-time`.
+pub(crate) const LOG_TIME: &str = "Begin each log line with the time, in UTC";
 
-/// A server that hears its peers alone.
-pub(crate) const ONLY_PEERS: &str = "Drop datagrams that come from no PEER's UDP address";
+/// Help of `serve --only-peers`.
+pub(crate) const ONLY_PEERS: &str = "Accept datagrams only from the UDP address of a PEER";
 
-/// A server whose files don't change.
-pub(crate) const READ_ONLY: &str = "Change no file: what would write one is a store fault";
+/// Help of `serve --read-only`.
+pub(crate) const READ_ONLY: &str = "\
+Refuse all changes: a client that writes, renames or
+deletes a file gets the error STF";
 
-/// Texts.
+/// Help of `--text`.
 pub(crate) const TEXT: &str = "\
-Translate a text of ASCII or the Lisp machine's set: newline, tab, backspace and page are 8D, 89, 88 and 8C at the server; \
-a text that has those bytes on the way there, or 0A, 09, 08 and 0C on the way back, is refused";
+Translate a text between ASCII and the Lisp machine's
+character set: newline, tab, backspace and page are
+8D, 89, 88 and 8C at the server. A file that would
+not translate back is refused";
 
-/// What the help says of a copy that prints little.
-pub(crate) const QUIET: &str = "Report only files that were not copied";
+/// Help of `--quiet` of a copy.
+pub(crate) const QUIET: &str = "Report only files that could not be copied";
 
-/// What the help says of a copy that prints more.
-pub(crate) const VERBOSE: &str =
-    "Print a line for each file with its SHA-256, also where standard error is no terminal, and the server's address";
+/// Help of `--verbose`.
+pub(crate) const VERBOSE: &str = "\
+Print the server's address, and a line with the
+SHA-256 of each file, even if standard error is not a
+terminal";
 
-/// The local file of `get`.
-pub(crate) const OUTPUT: &str =
-    "Write the one file to LOCAL, or all files into a folder that ends with /; - is standard output";
+/// Help of `get --output`.
+pub(crate) const OUTPUT: &str = "\
+Write the file to LOCAL, where - is standard output;
+a LOCAL that ends with / is a folder for all files";
 
-/// The server's file of `put`.
-pub(crate) const AS: &str = "Put the one local file under PATH";
+/// Help of `put --as`.
+pub(crate) const AS: &str = "Put the one local file under the name PATH";
 
-/// Names that FILE doesn't take.
-pub(crate) const RENAMING: &str =
-    "Rename a file whose name is no PATH: _ stands for each byte that no PATH has, and for a dot in front";
+/// Help of `put --rename`.
+pub(crate) const RENAMING: &str = "\
+Rename a file whose name is no PATH: write _ for each
+byte that a PATH can't have, and for a leading dot";
 
-/// The server's file of `rename`.
-pub(crate) const OLD: &str = "Server's file, in the form of a PATH of get";
+/// Help of `rename OLD`.
+pub(crate) const OLD: &str = "\
+File on the server, of 1 to 64 letters, digits, dots, hyphens and
+underscores, without a leading dot";
 
-/// Its new name.
-pub(crate) const NEW: &str = "Its new path, which no file has";
+/// Help of `rename NEW`.
+pub(crate) const NEW: &str = "New name of the file, in the same form, which no file has yet";
 
-/// The server.
-pub(crate) const SERVER: &str =
-    "Host that has or takes the files, as ADDRESS=UDP in the forms above";
+/// Help of `SERVER`.
+pub(crate) const SERVER: &str = "Host to call, as ADDRESS=UDP in the forms above";
 
-/// The server's files.
-pub(crate) const PATH: &str =
-    "Server's files: 1 to 64 letters, digits, dots, hyphens and underscores, no dot in front";
+/// Help of `PATH`.
+pub(crate) const PATH: &str = "\
+Files on the server, each of 1 to 64 letters, digits, dots,
+hyphens and underscores, without a leading dot";
 
-/// The local files.
+/// Help of `LOCAL`.
 pub(crate) const LOCAL: &str = "\
-Local files, each put under its last name where that is a PATH of get, else skipped and reported; - is standard input, and needs --as";
+Local files, each put under its last name if that is a PATH: 1 to
+64 letters, digits, dots, hyphens and underscores, without a
+leading dot. Other files are skipped and reported. A LOCAL of - is
+standard input, and needs --as";
 
-/// The turns to serve.
-pub(crate) const TURNS: &str =
-    "End the server after N turns, 0 to 1000000000; one that waits takes some 10 ms";
+/// Help of `serve --turns`.
+pub(crate) const TURNS: &str = "\
+End the server after N turns, 0 to 1000000000; an idle
+turn takes some 10 ms";
 
-/// The version of the datagrams.
-pub(crate) const CARRIAGE: &str =
-    "Send packets in datagrams of version N: 1 has one packet, 2 has several";
+/// Help of `--carriage`.
+pub(crate) const CARRIAGE: &str = "\
+Send datagrams of version N: 1 carries one packet,
+2 carries several";
 
-/// CHUDP in place of this program's own datagrams.
-pub(crate) const CHUDP: &str =
-    "Send and take packets in CHUDP, the framing of cbridge and other Chaosnet programs; not with --carriage 2";
+/// Help of `--chudp`.
+pub(crate) const CHUDP: &str = "\
+Use CHUDP, the framing of cbridge and other Chaosnet
+programs; not with --carriage 2";
 
-/// The next hop of what goes through a bridge.
-pub(crate) const BRIDGE: &str =
-    "Name ADDRESS, the bridge's own Chaosnet address, as the next hop of packets that go through it; needs --chudp";
+/// Help of `--bridge`.
+pub(crate) const BRIDGE: &str = "\
+Name ADDRESS, the bridge's own Chaosnet address, as
+the next hop of packets that go through the bridge;
+needs --chudp";
 
-/// Datagrams of CHUDP that are decoded.
-pub(crate) const SHOW_CHUDP: &str =
-    "Decode datagrams of CHUDP, the framing of cbridge and other Chaosnet programs";
+/// Help of `--contact`.
+pub(crate) const CONTACT: &str = "\
+Ask for the contact NAME: 1 to 64 printable ASCII
+characters without a space";
 
-/// The contact name that is asked for.
-pub(crate) const CONTACT: &str =
-    "Ask the server for the contact NAME, 1 to 64 printable characters of ASCII, none of them a space";
+/// Help of `ADDRESS`.
+pub(crate) const ADDRESS: &str = "\
+Chaosnet address of this host: 1 to 6 octal digits, from 1 to
+177777";
 
-/// The host's own address.
-pub(crate) const ADDRESS: &str =
-    "Chaosnet address of this host: 1 to 6 octal digits, from 1 to 177777";
+/// Help of `UDP`.
+pub(crate) const UDP: &str = "\
+UDP address to receive at: a.b.c.d:port in decimal, with a port
+from 1 to 65535";
 
-/// The host's own socket.
-pub(crate) const UDP: &str =
-    "UDP address that this host receives at: a.b.c.d:port in decimal, the port from 1 to 65535";
+/// Help of `FOLDER`.
+pub(crate) const FOLDER: &str = "Folder to serve";
 
-/// The folder to serve.
-pub(crate) const FOLDER: &str = "Folder whose files are served";
-
-/// The host to ask.
+/// Help of `ask TO`.
 pub(crate) const TO: &str = "Chaosnet address of the host to ask, in the form of ADDRESS";
 
-/// The hosts to send to.
-pub(crate) const PEER: &str =
-    "Another host, as ADDRESS=UDP in the forms above: at most 32, each Chaosnet address once; *=UDP is a bridge to all others";
+/// Help of `PEER`.
+pub(crate) const PEER: &str = "\
+Another host, as ADDRESS=UDP in the forms above: at most 32, each
+Chaosnet address once. *=UDP is a bridge to all other hosts";
 
-/// What the help of `serve` ends with.
+/// The end of the help of `serve`.
 pub(crate) const SERVE_EXAMPLE: &str = "\
 Examples:
   chaosd serve 401 127.0.0.1:9001 files 402=127.0.0.1:9002
@@ -193,39 +229,39 @@ Examples:
 
   chaosd serve --chudp --bridge 3040 401 0.0.0.0:42042 files '*=192.0.2.1:42042'
 
-  Host 401 serves them through the bridge 3040, which is at 192.0.2.1.";
+  Host 401 serves the same files through the bridge 3040, at 192.0.2.1.";
 
-/// What the help of `ask` ends with.
+/// The end of the help of `ask`.
 pub(crate) const ASK_EXAMPLE: &str = "\
 Example:
   chaosd ask 402 127.0.0.1:9002 401 401=127.0.0.1:9001 < script
 
-  Host 402 puts the commands of `script` to host 401.";
+  Host 402 sends the commands of `script` to host 401.";
 
-/// What the help of `get` ends with.
+/// The end of the help of `get`.
 pub(crate) const GET_EXAMPLE: &str = "\
 Example:
   chaosd get 402 127.0.0.1:9002 401=127.0.0.1:9001 A.LISP B.LISP
 
-  Host 402 gets two files of host 401 into this folder.";
+  Host 402 copies two files of host 401 into this folder.";
 
-/// What the help of `put` ends with.
+/// The end of the help of `put`.
 pub(crate) const PUT_EXAMPLE: &str = "\
 Example:
   chaosd put 402 127.0.0.1:9002 401=127.0.0.1:9001 src/A.LISP src/B.LISP
 
-  Host 402 puts two files to host 401, as A.LISP and B.LISP.";
+  Host 402 copies two files to host 401, as A.LISP and B.LISP.";
 
-/// What the help of `delete` ends with.
+/// The end of the help of `delete`.
 pub(crate) const DELETE_EXAMPLE: &str = "\
 Example:
   chaosd delete 402 127.0.0.1:9002 401=127.0.0.1:9001 A.LISP B.LISP
 
-  Host 401 deletes two of its files, asked by host 402.";
+  Host 402 deletes two files on host 401.";
 
-/// What the help of `rename` ends with.
+/// The end of the help of `rename`.
 pub(crate) const RENAME_EXAMPLE: &str = "\
 Example:
   chaosd rename 402 127.0.0.1:9002 401=127.0.0.1:9001 A.LISP B.LISP
 
-  The file A.LISP of host 401 is B.LISP from now on.";
+  Host 402 renames A.LISP on host 401 to B.LISP.";

@@ -167,9 +167,5 @@ pub(crate) fn bad_locals<'a>(texts: &[&'a str], is_renaming: bool) -> Unread<'a>
             return Unread::Clash(files);
         }
     }
-    Unread::Bad(BadWord {
-        text: STREAM,
-        place: "LOCAL",
-        form: LOCALS_FORM,
-    })
+    Unread::Bad(BadWord::new(STREAM, "LOCAL", LOCALS_FORM))
 }

@@ -7,7 +7,7 @@ use crate::bad_word::{BRIDGE_ONCE_FORM, BadWord, ENTRY_FORM, ONCE_FORM, PEERS_FO
 use crate::values::{bridge_peer_of, peer_of};
 use chaos_link::{PeerFault, Peers};
 
-/// What a table that refuses a peer would have wanted of it.
+/// The form of a peer that a table refuses.
 fn form_of(fault: PeerFault) -> &'static str {
     match fault {
         PeerFault::TooMany => PEERS_FORM,
@@ -17,11 +17,7 @@ fn form_of(fault: PeerFault) -> &'static str {
 
 /// The word that is no peer to be added.
 fn bad_peer<'a>(text: &'a str, form: &'a str) -> BadWord<'a> {
-    BadWord {
-        text,
-        place: "PEER",
-        form,
-    }
+    BadWord::new(text, "PEER", form)
 }
 
 /// Adds the host that the text writes.
