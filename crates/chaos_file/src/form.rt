@@ -4,8 +4,8 @@ ghost use Rattle.chaos_file.specs.Grammar.{space, after_front, cut, login_form, 
 ghost use Rattle.chaos_file.specs.Views.{form_view, FormFits};
 
 use crate::command::{Command, Word};
-use crate::limits::{MAX_CHUNK, MAX_NAME, NL};
-use crate::names::{is_name, is_path};
+use crate::limits::{MAX_CHUNK, NL};
+use crate::names::{is_path, is_user};
 use crate::parse::cut;
 
 /// What stands behind a word.
@@ -28,7 +28,7 @@ fn login_form(bare: bool, rest: &[u8]) -> Form<'_>
     ensures fits { FormFits (form_view result) }
 {
     match after_front(b" ", rest) {
-        Some(name) if bare && is_name(1, MAX_NAME, name) => Form::Formed(Command::Login(name)),
+        Some(name) if bare && is_user(name) => Form::Formed(Command::Login(name)),
         _ => Form::Malformed,
     }
 }

@@ -6,6 +6,7 @@ ghost use Rattle.chaos_file.specs.Session.{HandleView, blank_handle, is_named, r
 use crate::answer::{Reply, kept, tell_bytes};
 use crate::file_bytes::FileBytes;
 use crate::limits::{MAX_CHUNK, MAX_FRONT, MAX_HANDLE, MAX_PATH};
+use crate::names::FilePath;
 use arrayvec::ArrayVec;
 use std::alloc::{AllocError, Global};
 use std::marker::Model;
@@ -15,7 +16,7 @@ use std::marker::Model;
 #[derive(Drop)]
 pub(crate) struct Handle {
     name: ArrayVec<u8, MAX_HANDLE>,
-    path: ArrayVec<u8, MAX_PATH>,
+    path: FilePath,
     writes: bool,
     bytes: FileBytes,
     position: usize,
@@ -44,7 +45,7 @@ impl Default for Handle {
     {
         Handle {
             name: ArrayVec::new(),
-            path: ArrayVec::new(),
+            path: FilePath::new(),
             writes: false,
             bytes: FileBytes::new(),
             position: 0,

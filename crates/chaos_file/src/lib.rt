@@ -37,6 +37,7 @@ pub use limits::{
     law_limits,
 };
 pub use mem_store::MemStore;
+pub use names::{FilePath, is_path, is_path_byte, is_user};
 pub use parse::parse_command;
 pub use printed::PrintedName;
 pub use session::Session;

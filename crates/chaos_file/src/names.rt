@@ -4,7 +4,11 @@ ghost use Rattle.std.specs.List.{list_all};
 ghost use Rattle.std.specs.Char.{is_ascii_alphanumeric};
 ghost use Rattle.chaos_file.specs.Names.{is_name, is_path_byte, begins_with_dot, is_path};
 
-use crate::limits::MAX_PATH;
+use crate::limits::{MAX_NAME, MAX_PATH};
+use arrayvec::ArrayVec;
+
+/// A path, in bytes of its own.
+pub type FilePath = ArrayVec<u8, MAX_PATH>;
 
 fn all_alphanumeric(bytes: &[u8]) -> bool
     ensures { result ≡ list_all is_ascii_alphanumeric bytes.now }
@@ -20,7 +24,16 @@ pub(crate) fn is_name(least: usize, most: usize, bytes: &[u8]) -> bool
     least <= bytes.len() && bytes.len() <= most && all_alphanumeric(bytes)
 }
 
-fn is_path_byte(b: u8) -> bool
+/// Whether the bytes are a user's name: 1 to 16 letters and digits.
+pub fn is_user(bytes: &[u8]) -> bool
+    ensures value { result ≡ is_name 1 MAX_NAME bytes.now }
+    ensures fits { result ≡ true → length bytes.now ≤ MAX_NAME }
+{
+    is_name(1, MAX_NAME, bytes)
+}
+
+/// Whether a byte may stand in a path: a letter, a digit, a dot, a hyphen or an underscore.
+pub fn is_path_byte(b: u8) -> bool
     ensures { result ≡ is_path_byte b }
 {
     b.is_ascii_alphanumeric() || b == b'.' || b == b'-' || b == b'_'
@@ -42,7 +55,7 @@ fn begins_with_dot(bytes: &[u8]) -> bool
 }
 
 /// Whether the bytes are a legal path: 1 to 64 of letters, digits, dots, hyphens and underscores, the first no dot.
-pub(crate) fn is_path(bytes: &[u8]) -> bool
+pub fn is_path(bytes: &[u8]) -> bool
     ensures value { result ≡ is_path bytes.now }
     ensures fits { result ≡ true → length bytes.now ≤ MAX_PATH }
 {

@@ -6,9 +6,10 @@ use crate::dialogs::{Work, run_work};
 use crate::file_words::{FileWords, PUT_UNKNOWN};
 use crate::network::has_input;
 use crate::progress::ProgressLine;
+use chaos_file::FilePath;
 use chaosd_clock::Dial;
 use chaosd_copies::{
-    Dialog, Disk, ExitStatus, FilePath, Gets, Naming, Puts, STREAM, Session, Target, run_copies,
+    Dialog, Disk, ExitStatus, Gets, Naming, Puts, STREAM, Session, Target, run_copies,
 };
 use chaosd_io::RunFault;
 use chaosd_line::{Copying, Get, Put, path_for};

@@ -30,7 +30,7 @@ pub use dialog::Dialog;
 pub use disk::{Disk, STREAM};
 pub use gets::Gets;
 pub use local::Locals;
-pub use naming::{FilePath, Naming, Target};
+pub use naming::{Naming, Target};
 pub use outcome::{Contents, Outcome};
 pub use progress::Share;
 pub use puts::Puts;

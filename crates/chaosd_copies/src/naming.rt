@@ -2,8 +2,7 @@
 ghost use Rattle.std.specs.Prelude.{◌≡◌, ℕ, List, Option, IfOk, option_map, string_bytes};
 ghost use Rattle.chaosd_copies.specs.Naming.{local_of};
 
-use arrayvec::ArrayVec;
-use chaos_file::MAX_PATH;
+use chaos_file::FilePath;
 use std::alloc::{AllocError, Global};
 
 /// Where files that are got go.
@@ -43,9 +42,6 @@ impl<'a> Target<'a> {
         Ok(name)
     }
 }
-
-/// A path of FILE.
-pub type FilePath = ArrayVec<u8, MAX_PATH>;
 
 /// Which path each local file goes to.
 pub trait Naming {

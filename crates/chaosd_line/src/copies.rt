@@ -9,9 +9,9 @@ use crate::calls::{bad_paths, calling_of, kept, optional};
 use crate::files::are_paths;
 use crate::given::given_flag;
 use crate::line::{Copying, Get, Put};
-use crate::names::is_path;
 use crate::paths::{are_locals, bad_locals};
 use crate::unread::Unread;
+use chaos_file::is_path;
 use clap::ArgMatches;
 use std::alloc::Global;
 

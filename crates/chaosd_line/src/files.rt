@@ -5,7 +5,7 @@ ghost use Rattle.std.specs.Str.{bytes_eq};
 ghost use Rattle.chaos_file.specs.Names.{is_path};
 ghost use Rattle.chaosd_line.specs.Files.{are_distinct, are_paths, bad_path, first_repeated, last_of};
 
-use crate::names::is_path;
+use chaos_file::is_path;
 
 /// What stands behind a text's last slash, and the whole where it has none.
 pub(crate) fn last_name(text: &[u8]) -> &[u8]

@@ -34,4 +34,4 @@ pub use framing::Framing;
 pub use law::law_one_line;
 pub use line::{Ask, Calling, Copying, Delete, Get, Line, LogLevel, Put, Rename, Serve, Show};
 pub use parse::{parse_line, read_line};
-pub use paths::{FilePath, path_for};
+pub use paths::path_for;
