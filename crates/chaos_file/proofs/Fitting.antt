@@ -2,7 +2,7 @@
 use Rattle.std.proofs.Common.{◌≡◌, ◌≤◌, ℕ, zero, suc, Bool, true, false, List, [], ◌∷◌, ◌++◌, length, take, drop, ◌+◌, Option, Some, None, Result, Ok, Err, refl, sym, subst, arith, length-append}
 use Rattle.std.specs.Prelude.{◌&&◌, nat_lt, nat_le, if◌then◌else◌, slice_set, position, codes}
 use Rattle.std.specs.Fmt.{decimal}
-use Rattle.std.proofs.lemmas.Bool.{ltb-false, leb-true}
+use Rattle.std.proofs.lemmas.Bool.{ltb-false, leb-true, le-leb}
 use Rattle.std.proofs.lemmas.List.{length-take}
 use Rattle.std.proofs.lemmas.Fmt.{length-decimal-le}
 use Rattle.chaos_file.specs.declared.limits.TheConstants.{MAX_TID, MAX_HANDLE, MAX_NAME, MAX_CHUNK, MAX_FILE}
@@ -13,12 +13,13 @@ use Rattle.chaos_file.specs.Names.{is_name}
 use Rattle.chaos_file.specs.Spelling.{is_legal}
 use Rattle.chaos_file.specs.Command.{CommandView, Login, OpenRead, OpenWrite, Read, Write, Close, Rename, Delete, ParsedView, BadHead, NoWord, Unknown, BadForm, BadPath, Good, word_said, tid_of, handle_of}
 use Rattle.chaos_file.specs.Grammar.{Head, space, cut, is_nil, head_of, parse_of, parse_of_head}
-use Rattle.chaos_file.specs.Answer.{Answer, Given, AtEnd, Wrote, answer_text, reply_front}
+use Rattle.chaos_file.specs.Answer.{Answer, LoggedIn, Opened, Given, AtEnd, Wrote, Closed, Renamed, Deleted, answer_text, reply_front}
 use Rattle.chaos_file.specs.Session.{HandleView, SessionView, next_bytes, handle_at, handle_with_place, handle_named, is_named}
 use Rattle.chaos_file.specs.Store.{Files, Look, Missing, Over, Found, look_within, look_for, is_there}
 use Rattle.chaos_file.specs.Plan.{Request, GetFile, PutFile, RenameFile, RemoveFile, Plan, Refuse, Tell, Grow, Ask, plan_read, plan_write, plan_close, open_error, plan_unless, plan_command, may_say, plan_of}
 use Rattle.chaos_file.specs.Step.{Left, outcome_of_look, outcome_of_request, outcome_of, step_of, file_step}
 use Rattle.chaos_file.specs.Replies.{session_after}
+use Rattle.chaos_file.specs.Reply.{is_answer}
 use Rattle.std.specs.FinMap as map
 use Rattle.chaos_file.proofs.Spelling.{both_left, both_right}
 use Rattle.chaos_file.proofs.Reading.{IsHead, head_parts, read_good}
@@ -68,20 +69,41 @@ small_place hs (Some place) s = small_at hs place s
 
 -- ---- answers
 
-abbrev AnswerFits : Answer → Type 0
-AnswerFits answer = length (answer_text answer) ≤ 470
-
-count_fits : (front : List ℕ) (n : ℕ) → length front ≤ 6 → n ≤ MAX_FILE → length (front ++ decimal n) ≤ 470
-count_fits front n short small =
-    let digits = length-decimal-le 20 n (omega arith) (omega arith) (omega arith) in
-    let all = length-append front (decimal n) in
-    omega arith
+abbrev pub AnswerFits : Answer → Type 0
+AnswerFits answer = is_answer answer ≡ true
 
 given_fits : (h : HandleView) → AnswerFits (Given (next_bytes h))
 given_fits h =
     let n = length-take MAX_CHUNK (drop h.position h.bytes) in
-    let all = length-append (codes "READ") (141 ∷ next_bytes h) in
+    le-leb (length (next_bytes h)) MAX_CHUNK (omega arith)
+
+name_short : (least most : ℕ) (name : List ℕ) → is_name least most name ≡ true → length name ≤ most
+name_short least most name h =
+    leb-true (length name) most
+    (both_right (nat_le least (length name)) (nat_le (length name) most)
+    (both_left (nat_le least (length name) && nat_le (length name) most) _ h))
+
+count_short : (front : List ℕ) (n : ℕ) → length front ≤ 6 → n ≤ MAX_FILE → length (front ++ decimal n) ≤ 470
+count_short front n short small =
+    let digits = length-decimal-le 20 n (omega arith) (omega arith) (omega arith) in
+    let all = length-append front (decimal n) in
     omega arith
+
+answer_short : (answer : Answer) → AnswerFits answer → length (answer_text answer) ≤ 470
+answer_short (LoggedIn name) k =
+    let short = name_short 1 MAX_NAME name k in
+    let all = length-append (codes "LOGIN ") name in
+    omega arith
+answer_short (Opened n) k = count_short (codes "OPEN ") n (omega arith) (leb-true n MAX_FILE k)
+answer_short (Given bytes) k =
+    let short = leb-true (length bytes) MAX_CHUNK k in
+    let all = length-append (codes "READ") (141 ∷ bytes) in
+    omega arith
+answer_short AtEnd k = omega arith
+answer_short (Wrote n) k = count_short (codes "WRITE ") n (omega arith) (leb-true n MAX_FILE k)
+answer_short (Closed n) k = count_short (codes "CLOSE ") n (omega arith) (leb-true n MAX_FILE k)
+answer_short Renamed k = omega arith
+answer_short Deleted k = omega arith
 
 pub error_fits : (error : FileError) → length (error_text error) ≤ 470
 error_fits e.Syntax = omega arith
@@ -118,7 +140,7 @@ read_fits : (s : SessionView) (o : Option (ℕ × HandleView)) → AreSmall s.ha
 read_fits s None small k = tt
 read_fits s (Some f) small k =
     by_if PlanFits f.1.writes _ _ tt
-    (small_set s.handles f.0 _ small k, by_if AnswerFits (is_nil (next_bytes f.1)) AtEnd (Given (next_bytes f.1)) (omega arith) (given_fits f.1))
+    (small_set s.handles f.0 _ small k, by_if AnswerFits (is_nil (next_bytes f.1)) AtEnd (Given (next_bytes f.1)) refl (given_fits f.1))
 
 write_more : (bytes : List ℕ) (s : SessionView) (f : ℕ × HandleView) → AreSmall s.handles → (b : Bool)
     → nat_lt MAX_FILE (length f.1.bytes + length bytes) ≡ b
@@ -130,7 +152,7 @@ write_more bytes s f small true is = tt
 write_more bytes s f small false is =
     let within = ltb-false MAX_FILE (length f.1.bytes + length bytes) is in
     let all = length-append f.1.bytes bytes in
-    (small_set s.handles f.0 _ small (omega arith), count_fits (codes "WRITE ") (length f.1.bytes + length bytes) (omega arith) (omega arith))
+    (small_set s.handles f.0 _ small (omega arith), le-leb (length f.1.bytes + length bytes) MAX_FILE (omega arith))
 
 write_fits : (bytes : List ℕ) (s : SessionView) (o : Option (ℕ × HandleView)) → AreSmall s.handles
     → PlanFits (plan_write bytes s o)
@@ -144,28 +166,19 @@ close_fits : (s : SessionView) (o : Option (ℕ × HandleView)) → AreSmall s.h
 close_fits s None small k = tt
 close_fits s (Some f) small k =
     let rest = small_remove s.handles f.0 small in
-    by_if PlanFits f.1.writes _ _ (k, rest) (rest, count_fits (codes "CLOSE ") (length f.1.bytes) (omega arith) k)
+    by_if PlanFits f.1.writes _ _ (k, rest) (rest, le-leb (length f.1.bytes) MAX_FILE k)
 
 unless_fits : (o : Option FileError) (plan : Plan) → PlanFits plan → PlanFits (plan_unless o plan)
 unless_fits None plan k = k
 unless_fits (Some error) plan k = tt
 
-name_short : (least most : ℕ) (name : List ℕ) → is_name least most name ≡ true → length name ≤ most
-name_short least most name h =
-    leb-true (length name) most
-    (both_right (nat_le least (length name)) (nat_le (length name) most)
-    (both_left (nat_le least (length name) && nat_le (length name) most) _ h))
-
 command_fits : (s : SessionView) (bare : Bool) (handle : List ℕ) (command : CommandView) → is_legal bare command ≡ true
     → AreSmall s.handles → PlanFits (plan_command s handle command)
-command_fits s bare handle (Login name) legal small =
-    let short = name_short 1 MAX_NAME name (both_right bare (is_name 1 MAX_NAME name) legal) in
-    let all = length-append (codes "LOGIN ") name in
-    (small, omega arith)
+command_fits s bare handle (Login name) legal small = (small, both_right bare (is_name 1 MAX_NAME name) legal)
 command_fits s bare handle (OpenRead path) legal small = unless_fits (open_error s (handle_named handle s.handles)) _ tt
 command_fits s bare handle (OpenWrite path) legal small =
     unless_fits (open_error s (handle_named handle s.handles)) _
-    (small_more s.handles _ small (omega arith), count_fits (codes "OPEN ") 0 (omega arith) (omega arith))
+    (small_more s.handles _ small (omega arith), refl)
 command_fits s bare handle Read legal small =
     read_fits s (handle_named handle s.handles) small
     (small_place s.handles (position (is_named handle) s.handles) small)
@@ -192,7 +205,7 @@ planned_fits s c (Good tid handle command) is small =
 
 -- ---- outcomes
 
-abbrev LeftFits : Result Left FileError → Type 0
+abbrev pub LeftFits : Result Left FileError → Type 0
 LeftFits (Ok l) = AreSmall l.session.handles × AnswerFits l.answer
 LeftFits (Err error) = Unit {0}
 
@@ -215,16 +228,16 @@ look_fits : (m : Files) (s : SessionView) (name path : List ℕ) (look : Look) �
 look_fits m s name path Missing k small = tt
 look_fits m s name path Over k small = tt
 look_fits m s name path (Found bytes) k small =
-    (small_more s.handles _ small k, count_fits (codes "OPEN ") (length bytes) (omega arith) k)
+    (small_more s.handles _ small k, le-leb (length bytes) MAX_FILE k)
 
 request_fits : (m : Files) (s : SessionView) (request : Request) → RequestFits request → AreSmall s.handles
     → LeftFits (outcome_of_request m s request)
 request_fits m s (GetFile name path) k small =
     look_fits m s name path (look_for m path MAX_FILE) (found_fits (map.get m path)) small
-request_fits m s (PutFile path bytes t) k small = (k.1, count_fits (codes "CLOSE ") (length bytes) (omega arith) k.0)
+request_fits m s (PutFile path bytes t) k small = (k.1, le-leb (length bytes) MAX_FILE k.0)
 request_fits m s (RenameFile old new) k small =
-    by_if LeftFits (is_there m old) _ _ (by_if LeftFits (is_there m new) _ _ tt (small, omega arith)) tt
-request_fits m s (RemoveFile path) k small = by_if LeftFits (is_there m path) _ _ (small, omega arith) tt
+    by_if LeftFits (is_there m old) _ _ (by_if LeftFits (is_there m new) _ _ tt (small, refl)) tt
+request_fits m s (RemoveFile path) k small = by_if LeftFits (is_there m path) _ _ (small, refl) tt
 
 outcome_fits : (m : Files) (s : SessionView) (plan : Plan) → PlanFits plan → AreSmall s.handles
     → LeftFits (outcome_of m s plan)
@@ -273,7 +286,8 @@ step_fits m s c (Ok l) k small =
     let p : ParsedView = parse_of c in
     let all = length-append (reply_front (tid_of p) (handle_of p)) (answer_text l.answer) in
     let front = front_fits c in
-    record { reply = omega (arith, k.1); small = k.0 }
+    let text = answer_short l.answer k.1 in
+    record { reply = omega arith; small = k.0 }
 step_fits m s c (Err error) k small =
     let p : ParsedView = parse_of c in
     let all = length-append (reply_front (tid_of p) (handle_of p)) (error_text error) in
@@ -281,12 +295,14 @@ step_fits m s c (Err error) k small =
     let text = error_fits error in
     record { reply = omega arith; small = small }
 
+-- what a command leaves in such a session
+pub left_fits : (m : Files) (s : SessionView) (c : List ℕ) → AreSmall s.handles
+    → LeftFits (outcome_of m s (plan_of s (parse_of c)))
+left_fits m s c small = outcome_fits m s (plan_of s (parse_of c)) (planned_fits s c (parse_of c) refl small) small
+
 pub fits : (m : Files) (s : SessionView) (c : List ℕ) → AreSmall s.handles → Fits m s c
 fits m s c small =
-    let plan : Plan = plan_of s (parse_of c) in
-    let r =
-    step_fits m s c (outcome_of m s plan) (outcome_fits m s plan (planned_fits s c (parse_of c) refl small) small)
-    small in
+    let r = step_fits m s c (outcome_of m s (plan_of s (parse_of c))) (left_fits m s c small) small in
     record { reply = r.reply; small = r.small }
 
 pub small_after : (commands : List (List ℕ)) (m : Files) (s : SessionView) → AreSmall s.handles

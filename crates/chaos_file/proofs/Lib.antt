@@ -7,3 +7,4 @@ pub mod Reading
 pub mod NoMemory
 pub mod Fitting
 pub mod AllRead
+pub mod ReadReplies

@@ -1,5 +1,5 @@
 -- The out-of-memory reply is told as such, and no other.
-use Rattle.std.proofs.Common.{◌≡◌, ℕ, Bool, true, false, List, [], ◌∷◌, ◌++◌, length, ◌+◌, Option, Some, None, Result, Ok, Err, refl, ap, ◌∙◌, append_assoc}
+use Rattle.std.proofs.Common.{◌≡◌, ℕ, Bool, true, false, List, [], ◌∷◌, ◌++◌, length, ◌+◌, Option, Some, None, Result, Ok, Err, refl, ap, ◌∙◌}
 use Rattle.std.specs.Prelude.{not, ◌==◌, take, drop, nat_lt, if◌then◌else◌}
 use Rattle.std.specs.Str.{bytes_eq}
 use Rattle.std.specs.List.{list_all}
@@ -17,7 +17,7 @@ use Rattle.chaos_file.specs.Store.{Files, Look, Missing, Over, Found, look_for, 
 use Rattle.chaos_file.specs.Plan.{Request, GetFile, PutFile, RenameFile, RemoveFile, Plan, Refuse, Tell, Grow, Ask, plan_read, plan_write, plan_close, open_error, plan_unless, plan_command, may_say, if_known, plan_of}
 use Rattle.chaos_file.specs.Step.{Left, outcome_of_look, outcome_of_request, outcome_of, step_of, file_step}
 use Rattle.chaos_file.specs.Want.{want_text, want_after, is_want, is_no_memory}
-use Rattle.chaos_file.proofs.Spelling.{cut_front, without, name_letters}
+use Rattle.chaos_file.proofs.Spelling.{cut_front, front_apart, without, name_letters}
 use Rattle.chaos_file.proofs.Reading.{IsHead, head_parts}
 
 -- the names that are given back
@@ -85,10 +85,7 @@ named_want : (tid handle : List ℕ) (p : ParsedView) (outcome : Result Answer F
 named_want tid handle p outcome g t h =
     let text : List ℕ = outcome_text outcome in
     ap is_want
-    ((λ j. g.tid j ++ (space ∷ []) ++ g.handle j ++ (space ∷ []) ++ text)
-    ∙ append_assoc (tid ++ (space ∷ []) ++ handle) (space ∷ []) text
-    ∙ append_assoc (tid ++ (space ∷ [])) handle (space ∷ text)
-    ∙ append_assoc tid (space ∷ []) (handle ++ space ∷ text))
+    ((λ j. g.tid j ++ (space ∷ []) ++ g.handle j ++ (space ∷ []) ++ text) ∙ front_apart tid handle text)
     ∙ want_of tid handle text t h ∙ text_told outcome
 
 by_head : (c : List ℕ) (outcome : Result Answer FileError) (o : Option Head) → head_of c ≡ o

@@ -16,7 +16,7 @@ use Rattle.chaos_file.specs.Spelling.{spelling_of_command, spelling_of, is_legal
 use Rattle.chaos_file.proofs.Files.{bytes_same}
 use Rattle.chaos_file.proofs.Spelling.{both_left, both_right}
 
-both : (a b : Bool) → a ≡ true → b ≡ true → (a && b) ≡ true
+pub both : (a b : Bool) → a ≡ true → b ≡ true → (a && b) ≡ true
 both a b h k = ap (λ v. v && b) h ∙ k
 
 -- ---- the bytes before the first `stop`, and those after it
@@ -44,7 +44,7 @@ cut_inner : (f : ℕ → List ℕ × List ℕ) (v : Bool) (n : ℕ) (q : List �
 cut_inner f true n q h = (refl, cc)
 cut_inner f false n q h = (cc, cc)
 
-cut_parts : (stop : ℕ) (xs : List ℕ) (q : List ℕ × List ℕ) → cut stop xs ≡ Some q → xs ≡ q.0 ++ stop ∷ q.1
+pub cut_parts : (stop : ℕ) (xs : List ℕ) (q : List ℕ × List ℕ) → cut stop xs ≡ Some q → xs ≡ q.0 ++ stop ∷ q.1
 cut_parts stop xs q h =
     let n : ℕ = prefix_len (λ x. not (x == stop)) xs in
     let c : (ltb n (length xs) ≡ true) × ((take n xs, drop (n + 1) xs) ≡ q) = cut_inner (λ i. (take i xs, drop (i + 1) xs)) (ltb n (length xs)) n q h in
@@ -59,7 +59,7 @@ front_inner : (v : Bool) (d rest : List ℕ) → (if v then Some d else None) �
 front_inner true d rest h = (refl, cc)
 front_inner false d rest h = (cc, cc)
 
-front_parts : (front bytes rest : List ℕ) → after_front front bytes ≡ Some rest → bytes ≡ front ++ rest
+pub front_parts : (front bytes rest : List ℕ) → after_front front bytes ≡ Some rest → bytes ≡ front ++ rest
 front_parts front bytes rest h =
     let c : (starts_with nat_eq bytes front ≡ true) × (drop (length front) bytes ≡ rest) =
     front_inner (starts_with nat_eq bytes front) (drop (length front) bytes) rest h in
@@ -67,7 +67,7 @@ front_parts front bytes rest h =
     ∙ ap (λ x. x ++ drop (length front) bytes) (sym (bytes_same front (take (length front) bytes) c.0))
     ∙ ap (λ r. front ++ r) c.1
 
-nil_parts : (bytes : List ℕ) → is_nil bytes ≡ true → bytes ≡ []
+pub nil_parts : (bytes : List ℕ) → is_nil bytes ≡ true → bytes ≡ []
 nil_parts [] h = refl
 nil_parts (b ∷ bytes) h = let e : length (b ∷ bytes) ≡ 0 = eqb-true (length (b ∷ bytes)) 0 h in absurd (omega arith)
 
@@ -170,7 +170,7 @@ delete_parts rest c (Some path) e h =
     (ap (λ r. codes "DELETE" ++ r) (front_parts (NL ∷ []) rest path e)) p.0
 
 -- the letters of a word
-letters : Word → List ℕ
+unfoldable pub letters : Word → List ℕ
 letters w.Login = codes "LOGIN"
 letters w.Open = codes "OPEN"
 letters w.Read = codes "READ"
@@ -224,7 +224,7 @@ word_next bytes name a word others s g h =
 no_word : (bytes : List ℕ) (word : Word) → ◌≡◌ {A = Option Word} None (Some word) → bytes ≡ letters word
 no_word bytes word h = cc
 
-word_parts : (bytes : List ℕ) (word : Word) → word_of bytes ≡ Some word → bytes ≡ letters word
+pub word_parts : (bytes : List ℕ) (word : Word) → word_of bytes ≡ Some word → bytes ≡ letters word
 unfolding letters
 word_parts bytes word h =
     word_next bytes (codes "LOGIN") w.Login word _ refl

@@ -1,5 +1,5 @@
 -- What is spelled is read as it was meant.
-use Rattle.std.proofs.Common.{◌≡◌, ℕ, ◌+◌, ◌<◌, Bool, true, false, cond, List, [], ◌∷◌, ◌++◌, length, drop, Some, None, refl, ap, ◌∙◌, sym, arith, rules, length-append}
+use Rattle.std.proofs.Common.{◌≡◌, ℕ, ◌+◌, ◌<◌, Bool, true, false, cond, List, [], ◌∷◌, ◌++◌, length, drop, Some, None, refl, ap, ◌∙◌, sym, arith, rules, append_assoc, length-append}
 use Rattle.std.specs.Prelude.{not, ◌&&◌, ◌==◌, nat_le, if◌then◌else◌, position, codes}
 use Rattle.std.specs.List.{list_all, prefix_len}
 use Rattle.std.specs.Char.{is_ascii_alphanumeric}
@@ -11,6 +11,7 @@ use Rattle.chaos_file.specs.declared.command.Word.TheVariants as w
 use Rattle.chaos_file.specs.Names.{is_name, is_path, is_path_byte, begins_with_dot}
 use Rattle.chaos_file.specs.Command.{CommandView, Login, OpenRead, OpenWrite, Read, Write, Close, Rename, Delete, FormView, Malformed, Formed, Good}
 use Rattle.chaos_file.specs.Grammar.{is_nil, space, cut, head_of, head_after, named_head, ends_word, word_end, formed_if, legal_if, paths_form, parse_of_form, parse_of_tail, parse_of_head, parse_of}
+use Rattle.chaos_file.specs.Answer.{reply_front}
 use Rattle.chaos_file.specs.Spelling.{spelling_of_command, spelling_of, is_legal, is_good}
 
 pub both_left : (a b : Bool) → (a && b) ≡ true → a ≡ true
@@ -81,6 +82,14 @@ path_bytes path h =
 
 -- ---- the head
 
+-- two names, each with a space behind it, and what stands behind both
+pub front_apart : (tid handle text : List ℕ)
+    → reply_front tid handle ++ text ≡ tid ++ space ∷ (handle ++ space ∷ text)
+front_apart tid handle text =
+    append_assoc (tid ++ (space ∷ []) ++ handle) (space ∷ []) text
+    ∙ append_assoc (tid ++ (space ∷ [])) handle (space ∷ text)
+    ∙ append_assoc tid (space ∷ []) (handle ++ space ∷ text)
+
 head_spelled : (tid handle tail : List ℕ) → is_name 1 MAX_TID tid ≡ true → is_name 0 MAX_HANDLE handle ≡ true → head_of (tid ++ space ∷ (handle ++ space ∷ tail)) ≡ Some (record { tid = tid; handle = handle; tail = tail })
 head_spelled tid handle tail t h =
     let first : cut space (tid ++ space ∷ (handle ++ space ∷ tail)) ≡ Some (tid, handle ++ space ∷ tail) = cut_front space tid (handle ++ space ∷ tail) (without is_ascii_alphanumeric space refl tid (name_letters 1 MAX_TID tid t)) in
@@ -91,7 +100,7 @@ head_spelled tid handle tail t h =
 -- ---- the word and what stands behind it
 
 -- the word ends where the byte behind it does not belong to it
-ended_word : (front rest : List ℕ) (b : ℕ) → list_all (λ x. not (ends_word x)) front ≡ true → ends_word b ≡ true
+pub ended_word : (front rest : List ℕ) (b : ℕ) → list_all (λ x. not (ends_word x)) front ≡ true → ends_word b ≡ true
     → word_end (front ++ b ∷ rest) ≡ length front
 ended_word front rest b h e = rw (position_front ends_word front rest b h e)
 

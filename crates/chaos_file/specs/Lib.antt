@@ -17,3 +17,4 @@ pub mod Apply
 pub mod Replies
 pub mod Spelling
 pub mod Want
+pub mod Reply

@@ -17,7 +17,7 @@ pub(crate) enum Form<'a> {
 }
 
 /// What follows this front, where the bytes begin with it.
-fn after_front<'a>(front: &[u8], bytes: &'a [u8]) -> Option<&'a [u8]>
+pub(crate) fn after_front<'a>(front: &[u8], bytes: &'a [u8]) -> Option<&'a [u8]>
     ensures { option_map (λ x. x.now) result ≡ after_front front.now bytes.now }
 {
     bytes.strip_prefix(front)

@@ -10,6 +10,7 @@ ghost use Rattle.chaos_file.specs.Answer.{Answer, reply_to};
 ghost use Rattle.chaos_file.specs.Step.{file_step};
 ghost use Rattle.chaos_file.specs.Apply.{IsApplied, IsStep};
 ghost use Rattle.chaos_file.specs.Replies.{memory_change, replies_of, replies_from, files_after, session_after};
+ghost use Rattle.chaos_file.specs.Reply.{ReplyView, is_reply, reading_of, reply_text, step_reply};
 ghost use Rattle.chaos_file.specs.Want.{is_want, is_no_memory};
 ghost use Rattle.chaos_file.specs.declared.error.FileError.{FileError};
 ghost use Rattle.chaos_file.specs.declared.error.FileError.TheVariants.{NoMemory};
@@ -52,6 +53,22 @@ pub fn law_honest<S: Store>()
 pub fn law_memory()
     ensures { (m n : Files) (s t : SessionView) (c reply : List ℕ) → IsApplied (memory_change m n) s t c reply →
         ¬ (reply ≡ reply_to (parse_of c) (Err NoMemory)) → IsStep (memory_change m n) (file_step m s c) reply t }
+{}
+
+/// A reply's bytes are read as what they say, and the definition's reply to each command, after whatever commands, is read
+/// as the outcome that it tells, with the names that it gives back.
+#[tactic(auto, using(crate::proofs::ReadReplies::reply_read, crate::proofs::ReadReplies::reply_spelled, crate::proofs::ReadReplies::reply_legal, crate::proofs::ReadReplies::replies_read))]
+pub fn law_read_replies()
+    // Bytes that spell a reply are read as this reply.
+    ensures read { (r : ReplyView) → is_reply r ≡ true → reading_of (reply_text r) ≡ Some r }
+    // Bytes that are read as a reply spell it.
+    ensures spelled { (bytes : List ℕ) (r : ReplyView) → reading_of bytes ≡ Some r → bytes ≡ reply_text r }
+    // The names, chunks and counts of a reply that was read are such as FILE has.
+    ensures legal { (bytes : List ℕ) (r : ReplyView) → reading_of bytes ≡ Some r → is_reply r ≡ true }
+    // The definition's reply to a command is read as the names that it gives back, and the outcome.
+    ensures defined { (m : Files) (before : List (List ℕ)) (command : List ℕ) →
+        reading_of (file_step (files_after m new_session before) (session_after m new_session before) command).reply
+        ≡ Some (step_reply (files_after m new_session before) (session_after m new_session before) command) }
 {}
 
 /// [`is_want`](crate::is_want) is told of a reply exactly where the command's outcome is out of memory. So no bytes that a READ

@@ -20,6 +20,7 @@ mod mem_store;
 mod names;
 mod parse;
 mod printed;
+mod reply;
 mod session;
 mod store;
 mod want;
@@ -31,7 +32,7 @@ pub use dir_store::DirStore;
 pub use error::FileError;
 pub use file_bytes::FileBytes;
 pub use fuse_store::FuseStore;
-pub use laws::{law_honest, law_memory, law_replies, law_spelling, law_want};
+pub use laws::{law_honest, law_memory, law_read_replies, law_replies, law_spelling, law_want};
 pub use limits::{
     MAX_CHUNK, MAX_FILE, MAX_HANDLE, MAX_HANDLES, MAX_NAME, MAX_PATH, MAX_REPLY, MAX_TID, NL,
     law_limits,
@@ -40,6 +41,7 @@ pub use mem_store::MemStore;
 pub use names::{FilePath, is_path, is_path_byte, is_user};
 pub use parse::parse_command;
 pub use printed::PrintedName;
+pub use reply::{ReplyParts, Said, read_reply};
 pub use session::Session;
 pub use store::{Got, Removed, Renamed, Store, Stored};
 pub use want::is_want;

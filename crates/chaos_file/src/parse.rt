@@ -46,7 +46,7 @@ fn front_of(bytes: &[u8]) -> Option<Front<'_>>
 }
 
 /// The word that these bytes spell.
-fn word_of(bytes: &[u8]) -> Option<Word>
+pub(crate) fn word_of(bytes: &[u8]) -> Option<Word>
     ensures { result ≡ word_of bytes.now }
 {
     if bytes == b"LOGIN".as_slice() {
@@ -82,7 +82,7 @@ fn first_end(tail: &[u8]) -> Option<usize>
 }
 
 /// Where the word that the bytes begin with ends.
-fn word_end(tail: &[u8]) -> usize
+pub(crate) fn word_end(tail: &[u8]) -> usize
     ensures value { result ≡ word_end tail.now }
     ensures within { result ≤ length tail.now }
 {

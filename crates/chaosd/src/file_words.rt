@@ -1,7 +1,7 @@
 //! Reports what came of each file.
 ghost use Rattle.std.specs.Prelude.{None};
 
-use chaos_file::{MAX_FILE, MAX_PATH, PrintedName, Reply};
+use chaos_file::{MAX_FILE, MAX_PATH, PrintedName, Reply, read_reply};
 use chaosd_copies::{Contents, Lost, Outcome, Target, Teller};
 use file_client::Shown;
 use std::fmt::{Display, Formatter};
@@ -109,11 +109,11 @@ fn told_unwritten<R: Eprint>(
 /// What the server says of an error: its code and text.
 fn error_text(reply: &Reply) -> &[u8] {
     let bytes = reply.as_slice();
-    let mut words = bytes.splitn(4, |b| *b == b' ');
-    let _name = words.next();
-    let _handle = words.next();
-    let _error = words.next();
-    words.next().unwrap_or(bytes)
+    let refused = match read_reply(bytes) {
+        Some(parts) => parts.said.refused(),
+        None => None,
+    };
+    refused.unwrap_or(bytes)
 }
 
 impl<W: Display, R: Eprint> Teller<W> for FileWords<'_, '_, R> {

@@ -1,5 +1,5 @@
 //! How far a file has come.
-use chaos_file::{MAX_CHUNK, Reply};
+use chaos_file::{MAX_CHUNK, Reply, read_reply};
 
 /// How much of a file was copied.
 #[derive(Drop)]
@@ -39,7 +39,7 @@ impl Progress {
     pub(crate) fn note(&mut self, reply: &Reply) {
         self.replies = self.replies.saturating_add(1);
         if self.whole.is_none() {
-            self.whole = Some(last_number(reply.as_slice()));
+            self.whole = Some(opened_length(reply));
         }
     }
 
@@ -58,18 +58,13 @@ impl Progress {
     }
 }
 
-/// The decimal number at the end of a reply, which is a file's length in that to OPEN.
-fn last_number(bytes: &[u8]) -> usize {
-    let mut number: usize = 0;
-    for byte in bytes {
-        number = match *byte {
-            b'0'..=b'9' => number
-                .saturating_mul(10)
-                .saturating_add(usize::from(*byte - b'0')),
-            _ => 0,
-        };
-    }
-    number
+/// The file's length in the reply to OPEN, and 0 in any other.
+fn opened_length(reply: &Reply) -> usize {
+    let opened = match read_reply(reply.as_slice()) {
+        Some(parts) => parts.said.opened(),
+        None => None,
+    };
+    opened.unwrap_or(0)
 }
 
 /// A part of a whole in hundredths, and 100 of nothing.

@@ -1,46 +1,22 @@
 -- How a copy ended that wasn't done.
-use Rattle.std.proofs.Common.{◌≡◌, ℕ, ◌+◌, ◌-◌, ◌*◌, ◌<◌, ◌≤◌, Bool, true, false, List, [], ◌∷◌, ◌++◌, length, take, drop, Option, Some, None, refl, ap, ◌∙◌, sym, subst, arith, inl, inr}
-use Rattle.std.specs.Prelude.{min, codes, Decides, Result, Ok, Err, IfOk}
+use Rattle.std.proofs.Common.{◌≡◌, ℕ, ◌+◌, ◌-◌, ◌*◌, ◌<◌, ◌≤◌, Bool, true, false, List, [], ◌∷◌, ◌++◌, length, Option, Some, None, refl, ap, ◌∙◌, sym, subst, arith, inl, inr}
+use Rattle.std.specs.Prelude.{min, Decides, Result, Ok, Err, IfOk}
 use Rattle.std.specs.Fmt.{decimal}
-use Rattle.std.proofs.lemmas.List.{append_assoc, append-nil, take-append-drop}
-use Rattle.std.proofs.lemmas.Slice.Eq.{bytes_eq-Decides}
-use Rattle.std.proofs.Math.Seq.{take-append_seam}
-use Rattle.std.specs.Str.{bytes_eq}
+use Rattle.std.proofs.lemmas.List.{append-nil}
 use Rattle.chaos_file.specs.declared.limits.TheConstants.{MAX_CHUNK, MAX_FILE}
 use Rattle.chaos_file.specs.Command.{OpenWrite, Close}
 use Rattle.chaos_file.specs.Spelling.{spelling_of}
-use Rattle.chaos_file.specs.Answer.{AtEnd, Opened, Wrote, Closed, read_answer, reply_front}
+use Rattle.chaos_file.specs.Answer.{AtEnd, Opened, Wrote, Closed, read_answer}
 use Rattle.chaosd_copy.specs.declared.end.CopyEnd.{CopyEnd}
 use Rattle.chaosd_copy.specs.declared.end.CopyEnd.TheVariants as e
 use Rattle.chaosd_copy.specs.Copy.{upto, chunk, chunk_count, reply_of, put_reply, put_front, put_front_replies, get_front_replies}
 use Rattle.chaosd_copy.specs.Talk.{received_in, History, Since, Received, sent_if, taken}
 use Rattle.chaosd_copy.specs.Row.{file_handle}
-use Rattle.chaosd_copy.specs.Ends.{UnlessCopied, IsErrorTo, EndedBy, EndedAt, WritesEnded, PutEnded, IsOpened, IsGiven, IsPiece, ReadsEnded, GetEnded, tids_from, unanswered, write_sent, write_received, read_received}
+use Rattle.chaosd_copy.specs.Ends.{UnlessCopied, EndedBy, EndedAt, WritesEnded, PutEnded, IsOpened, IsGiven, IsPiece, ReadsEnded, GetEnded, tids_from, unanswered, write_sent, write_received, read_received}
 use Rattle.chaosd_copy.proofs.Talks.{since_then, none_some}
 use Rattle.chaosd_copy.proofs.Begun.{open_named, put_written}
 use Rattle.chaosd_copy.proofs.Joined.{upto_same, next_tid}
 use Rattle.chaosd_copy.proofs.Growing.{given}
-
--- whether a reply begins so
-pub error_decides : (tid handle reply s p : List ℕ) (r : Bool) → s ≡ reply
-    → p ≡ reply_front tid handle ++ (codes "ERROR " ++ []) → r ≡ bytes_eq p (take (length p) s)
-    → Decides r (IsErrorTo tid handle reply)
-error_decides tid handle reply s p r whole front told =
-    let d = bytes_eq-Decides p (take (length p) s) in (
-      λ t. (
-        drop (length p) s,
-        sym whole ∙ sym (take-append-drop (length p) s) ∙ ap (λ l. l ++ drop (length p) s) (sym (d.0 (sym told ∙ t)))
-            ∙ ap (λ l. l ++ drop (length p) s) front
-            ∙ append_assoc (reply_front tid handle) (codes "ERROR " ++ []) (drop (length p) s),
-      ),
-      λ h. told
-          ∙ d.1
-          (sym
-          (ap (take (length p))
-          (whole ∙ h.1 ∙ sym (append_assoc (reply_front tid handle) (codes "ERROR " ++ []) h.0)
-          ∙ ap (λ l. l ++ h.0) (sym front))
-          ∙ take-append_seam p h.0)),
-    )
 
 pub unless : (end : CopyEnd) (P : CopyEnd → Type 0) → P end → UnlessCopied end P
 unless e.Done P h = tt
@@ -309,16 +285,6 @@ piece_not_done a b cs first len i size xs ys last end inside same h =
 pub no_length : (found : Option ℕ) (reply : Option (List ℕ)) (tid : List ℕ) → ((n : ℕ) → n ≤ MAX_FILE → reply ≡ Some (reply_of tid file_handle (Opened n)) → found ≡ Some n) → found ≡ None
     → (x : List ℕ) → reply ≡ Some x → IsOpened tid file_handle x → ⊥
 no_length found reply tid all none x e (n, fits, is) = let both : None ≡ Some n = sym none ∙ all n fits (e ∙ ap Some is) in cc
-
--- nor another than the one that was found
-pub one_length : (found : Option ℕ) (reply : Option (List ℕ)) (tid : List ℕ) (len : ℕ) (wanted : List ℕ)
-    → ((n : ℕ) → n ≤ MAX_FILE → reply ≡ Some (reply_of tid file_handle (Opened n)) → found ≡ Some n)
-    → found ≡ Some len → wanted ≡ reply_of tid file_handle (Opened len) → (x : List ℕ) → reply ≡ Some x
-    → IsOpened tid file_handle x → x ≡ wanted
-one_length found reply tid len wanted all some same x e (n, fits, is) =
-    let both : Some n ≡ Some len = sym (all n fits (e ∙ ap Some is)) ∙ some in
-    let one : n ≡ len = cc in
-    is ∙ ap (λ m. reply_of tid file_handle (Opened m)) one ∙ sym same
 
 pub get_not_opened : {T : Type 0} (a b : History T) (first : ℕ) (bytes : List ℕ) (V : List ℕ → Type 0) (last : Option (List ℕ))
     (end : CopyEnd)

@@ -39,7 +39,7 @@ named_by true false c e f g = cc
 named_by true true false e f g = cc
 named_by true true true e f g = refl
 
-number_named : (n : ℕ) → n < 100000000 → is_name 1 MAX_TID (decimal n) ≡ true
+pub number_named : (n : ℕ) → n < 100000000 → is_name 1 MAX_TID (decimal n) ≡ true
 number_named n l =
     let few : length (decimal n) ≤ 8 = search (rules, length-decimal-le 8) in
     let some : 0 < length (decimal n) = decimal_nonempty n (omega arith) in

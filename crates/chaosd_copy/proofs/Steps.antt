@@ -1,13 +1,11 @@
 -- One command of a user who has logged in, with one file open or none.
 use Rattle.std.proofs.Common.{◌≡◌, ℕ, ◌+◌, ◌≤◌, Bool, true, false, cond, List, [], ◌∷◌, ◌++◌, length, take, drop, Some, None, Ok, refl, ap, ◌∙◌, rules}
 use Rattle.std.specs.Prelude.{not, ◌&&◌, nat_lt, nat_le, position, if◌then◌else◌}
-use Rattle.std.specs.Str.{bytes_eq}
 use Rattle.std.specs.FinMap as map
 use Rattle.std.specs.List.{list_all}
 use Rattle.std.specs.Char.{is_ascii_alphanumeric}
 use Rattle.std.proofs.Math.Dec.{ltb}
 use Rattle.std.proofs.lemmas.Bool.{le-ltb}
-use Rattle.std.proofs.lemmas.Slice.Eq.{bytes_eq-Decides}
 use Rattle.chaos_file.specs.declared.limits.TheConstants.{MAX_CHUNK, MAX_FILE, MAX_TID, MAX_HANDLE}
 use Rattle.chaos_file.specs.declared.error.FileError.TheVariants as e
 use Rattle.chaos_file.specs.Names.{is_name}
@@ -20,6 +18,7 @@ use Rattle.chaos_file.specs.Store.{Files, Over, Found, look_within}
 use Rattle.chaos_file.specs.Plan.{Refuse, Grow, plan_of, plan_read, plan_write, plan_close}
 use Rattle.chaos_file.specs.Step.{Left, file_step, step_of, outcome_of, outcome_of_look}
 use Rattle.chaos_file.proofs.Spelling.{parsed_spelled, both_left, both_right}
+use Rattle.chaos_file.proofs.ReadReplies.{same_bytes}
 use Rattle.chaosd_copy.specs.Copy.{reply_of, logged_in}
 use Rattle.chaosd_copy.proofs.Runs.{StepIs}
 
@@ -36,9 +35,6 @@ step_good m s tid handle command l good done =
     ap (λ p. step_of m s p (outcome_of m s (plan_of s p))) (parsed_spelled tid handle command good)
     ∙ ap (step_of m s (Good tid handle command)) done in
     record { files = ap (λ x. x.files) e; session = ap (λ x. x.session) e; reply_is = ap (λ x. x.reply) e }
-
-same_bytes : (xs : List ℕ) → bytes_eq xs xs ≡ true
-same_bytes xs = search (rules, bytes_eq-Decides)
 
 -- the one file that is open
 pub named_one : (h : HandleView) → handle_named h.name (h ∷ []) ≡ Some (0, h)

@@ -5,3 +5,4 @@ pub mod Ends
 pub mod Text
 pub mod Memory
 pub mod Local
+pub mod Said

@@ -1,11 +1,13 @@
 //! Getting a file.
-ghost use Rattle.std.specs.Prelude.{◌≡◌, ◌≢◌, ◌⊎◌, ◌≤◌, ◌<◌, ◌+◌, ◌++◌, [], ℕ, List, Some, true, false, length, IfOk, IfErr, IfSome, MatchOption, OnOk};
+ghost use Rattle.std.specs.Prelude.{◌≡◌, ◌≢◌, ◌⊎◌, ◌≤◌, ◌<◌, ◌+◌, ◌++◌, [], ℕ, List, Some, true, false, length, option_map, IfOk, IfErr, IfSome, MatchOption, OnOk};
 ghost use Rattle.std.specs.Fmt.{decimal};
 ghost use Rattle.chaos_file.specs.declared.limits.TheConstants.{MAX_FILE, MAX_PATH, MAX_CHUNK};
 ghost use Rattle.chaos_file.specs.Answer.{Given, Opened};
+ghost use Rattle.chaos_file.specs.Reply.{reading_of};
 ghost use Rattle.chaosd_copy.specs.declared.limits.TheConstants.{MAX_FIRST};
 ghost use Rattle.chaosd_copy.specs.Copy.{upto, chunk_count, reply_of, get_commands, get_replies};
 ghost use Rattle.chaosd_copy.specs.Row.{file_handle};
+ghost use Rattle.chaosd_copy.specs.Said.{said_to, opened_of, given_of};
 ghost use Rattle.chaosd_copy.specs.Talk.{Since, SentUpTo, InVain, taken};
 ghost use Rattle.chaosd_copy.specs.Ends.{IfDone, IfUnanswered, UnlessDone, IsGiven, ReadsEnded, GetBegun, GetEnded, tids_from, read_sent, read_received};
 
@@ -13,84 +15,87 @@ use crate::end::CopyEnd;
 use crate::limits::HANDLE;
 use crate::put::chunk_count;
 use crate::request::Request;
+use crate::said::said_to;
 use crate::talk::Talk;
 use crate::window::{Flight, Row, ask_one, next_reply, refusal, settled};
 use crate::words::{spell, spell_count};
-use chaos_file::{MAX_CHUNK, MAX_FILE, Reply};
+use chaos_file::{MAX_CHUNK, Reply};
 use chaosd_io::RunFault;
-use std::str;
 
-/// The length of a file that decimal digits write.
-fn number_of(digits: &[u8]) -> Option<usize>
-    ensures within { IfSome result (λ n. n ≤ MAX_FILE) }
-    ensures all { (n : ℕ) → n ≤ MAX_FILE → digits.now ≡ decimal n → result ≡ Some n }
+/// The length that a reply to OPEN says.
+fn length_said(reply: &Reply, tid: u32) -> Option<usize>
+    ensures { result ≡ opened_of (said_to (decimal tid) file_handle (reading_of reply.now.items)) }
 {
-    let Ok(text) = str::from_utf8(digits) else {
-        return None;
-    };
-    match text.parse::<usize>() {
-        Ok(n) if n <= MAX_FILE => Some(n),
-        _ => None,
-    }
-}
-
-/// What stands behind a front.
-fn behind<'a>(reply: &'a Reply, front: &Reply) -> Option<&'a [u8]>
-    ensures { MatchOption result ((more : List ℕ) → reply.now.items ≢ front.now.items ++ more) (λ more. reply.now.items ≡ front.now.items ++ more.now) }
-{
-    reply.as_slice().strip_prefix(front.as_slice())
-}
-
-/// The length that OPEN may have been answered by.
-fn opened_length(came: bool, reply: &Reply, tid: u32) -> Option<usize>
-    requires { tid < 100000000 }
-    ensures within { IfSome result (λ n. n ≤ MAX_FILE) }
-    ensures all { (n : ℕ) → n ≤ MAX_FILE → taken came reply.now.items ≡ Some (reply_of (decimal tid) file_handle (Opened n)) → result ≡ Some n }
-{
-    if !came {
-        return None;
-    }
-    let mut front = Reply::new();
-    spell(&mut front, tid, HANDLE, b"OPEN ", b"");
-    match behind(reply, &front) {
-        Some(digits) => number_of(digits),
+    match said_to(reply, tid, HANDLE) {
+        Some(said) => said.opened(),
         None => None,
     }
 }
 
-/// What stands behind a front, where it has so many bytes.
-fn behind_front<'a>(reply: &'a Reply, front: &Reply, len: usize) -> Option<&'a [u8]>
-    ensures { MatchOption result ((more : List ℕ) → length more ≡ len → reply.now.items ≢ front.now.items ++ more)
-        (λ more. (length more.now ≡ len) × (reply.now.items ≡ front.now.items ++ more.now)) }
+/// The length that OPEN was answered by.
+fn opened_length(came: bool, reply: &Reply, tid: u32) -> Option<usize>
+    requires { tid < 100000000 }
+    // The reply says this length, and FILE allows it.
+    ensures is { IfSome result (λ n. (n ≤ MAX_FILE)
+        × (taken came reply.now.items ≡ Some (reply_of (decimal tid) file_handle (Opened n)))) }
+    // Where the reply says a length that FILE allows, it is found.
+    ensures all { (n : ℕ) → n ≤ MAX_FILE →
+        taken came reply.now.items ≡ Some (reply_of (decimal tid) file_handle (Opened n)) → result ≡ Some n }
 {
-    match behind(reply, front) {
-        Some(more) if more.len() == len => Some(more),
+    if came {
+        length_said(reply, tid)
+    } else {
+        None
+    }
+}
+
+/// The bytes that a reply to READ says.
+fn bytes_said(reply: &Reply, tid: u32) -> Option<&[u8]>
+    ensures { option_map (λ bytes. bytes.now) result
+        ≡ given_of (said_to (decimal tid) file_handle (reading_of reply.now.items)) }
+{
+    match said_to(reply, tid, HANDLE) {
+        Some(said) => said.given(),
+        None => None,
+    }
+}
+
+/// The bytes that READ was answered by, where they are so many.
+fn given_piece(came: bool, reply: &Reply, tid: u32, len: usize) -> Option<&[u8]>
+    requires tid { tid < 100000000 }
+    requires len { len ≤ MAX_CHUNK }
+    ensures { MatchOption result
+        ((piece : List ℕ) → length piece ≡ len →
+            taken came reply.now.items ≢ Some (reply_of (decimal tid) file_handle (Given piece)))
+        (λ piece. (length piece.now ≡ len)
+            × (taken came reply.now.items ≡ Some (reply_of (decimal tid) file_handle (Given piece.now)))) }
+{
+    if !came {
+        return None;
+    }
+    match bytes_said(reply, tid) {
+        Some(piece) if piece.len() == len => Some(piece),
         _ => None,
     }
 }
 
-/// Adds the bytes of the reply to a READ, where one came and has so many, and says so. The front of such a reply is spelled in a place
-/// that is lent.
+/// Adds the bytes of the reply to a READ, where one came and has so many, and says so.
 fn take_piece(
     came: bool,
     reply: &Reply,
     tid: u32,
     len: usize,
-    front: &mut Reply,
     bytes: &mut Vec<u8>,
 ) -> Result<bool, RunFault>
-    requires { tid < 100000000 }
+    requires tid { tid < 100000000 }
+    requires len { len ≤ MAX_CHUNK }
     ensures done { IfOk result (λ is_given. is_given ≡ true → (more : List ℕ) × (length more ≡ len) × (bytes.new.items ≡ bytes.old.items ++ more)
         × (taken came reply.now.items ≡ Some (reply_of (decimal tid) file_handle (Given more)))) }
     ensures left { IfOk result (λ is_given. is_given ≡ false → (bytes.new.items ≡ bytes.old.items)
         × ((x : List ℕ) → taken came reply.now.items ≡ Some x → IsGiven (decimal tid) file_handle len x → ⊥)) }
     ensures faults { IfErr result (λ fault. fault ≡ RunFault.NoMemory) }
 {
-    if !came {
-        return Ok(false);
-    }
-    spell(front, tid, HANDLE, b"READ\x8d", b"");
-    let Some(more) = behind_front(reply, front, len) else {
+    let Some(more) = given_piece(came, reply, tid, len) else {
         return Ok(false);
     };
     match bytes.extend_from_slice(more) {
@@ -126,18 +131,18 @@ fn read_all<T: Talk>(
     };
     let mut flight = Flight::new();
     let mut reply = Reply::new();
-    let mut wanted = Reply::new();
     for i in 0..count {
         let came = next_reply(talk, &row, &mut flight, &mut reply)?;
         let tid = first + i as u32;
         let size = (len - MAX_CHUNK * i).min(MAX_CHUNK);
-        let is_given = take_piece(came, &reply, tid, size, &mut wanted, bytes)?;
+        let is_given = take_piece(came, &reply, tid, size, bytes)?;
         if !is_given {
             return Ok(refusal(came, &reply, tid, HANDLE));
         }
     }
     let came = next_reply(talk, &row, &mut flight, &mut reply)?;
     let tid = first + count as u32;
+    let mut wanted = Reply::new();
     spell(&mut wanted, tid, HANDLE, b"EOF", b"");
     Ok(settled(came, &reply, &wanted, tid, HANDLE))
 }
@@ -177,18 +182,13 @@ pub fn get_file<T: Talk>(
     let Some(len) = opened_length(came, &reply, first) else {
         return Ok(refusal(came, &reply, first, HANDLE));
     };
-    let mut wanted = Reply::new();
-    spell_count(&mut wanted, first, HANDLE, b"OPEN ", len);
-    match settled(came, &reply, &wanted, first, HANDLE) {
-        CopyEnd::Done => {}
-        end => return Ok(end),
-    }
     match read_all(talk, first + 1, len, bytes)? {
         CopyEnd::Done => {}
         end => return Ok(end),
     }
     let last = first + 2 + chunk_count(len) as u32;
     let came = ask_one(talk, Request::Close, last, &mut reply)?;
+    let mut wanted = Reply::new();
     spell_count(&mut wanted, last, HANDLE, b"CLOSE ", len);
     Ok(settled(came, &reply, &wanted, last, HANDLE))
 }

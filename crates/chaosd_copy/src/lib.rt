@@ -10,6 +10,7 @@ mod local;
 mod mem_talk;
 mod put;
 mod request;
+mod said;
 mod talk;
 mod text;
 mod window;

@@ -5,12 +5,16 @@ ghost use Rattle.chaosd_copy.specs.Copy.{upto};
 ghost use Rattle.chaosd_copy.specs.Talk.{Since, Received, SentOrNot, InVain, IsLate, Unheard, received_in, sent_if, taken};
 ghost use Rattle.chaosd_copy.specs.Row.{RequestFits, request_command, row_command};
 ghost use Rattle.chaosd_copy.specs.declared.limits.TheConstants.{MAX_FIRST};
-ghost use Rattle.chaos_file.specs.declared.limits.TheConstants.{MAX_NAME};
+ghost use Rattle.chaos_file.specs.declared.limits.TheConstants.{MAX_NAME, MAX_HANDLE};
+ghost use Rattle.chaos_file.specs.Names.{is_name};
+ghost use Rattle.chaos_file.specs.Reply.{reading_of};
+ghost use Rattle.chaosd_copy.specs.Said.{is_refused, said_to};
 ghost use Rattle.chaosd_copy.specs.Ends.{IfCopied, IfDone, IfUnanswered, UnlessCopied, UnlessDone, IsErrorTo, EndedBy, EndedAt, login_command, login_reply};
 
 use crate::end::CopyEnd;
 use crate::limits::{MOST_TURNS, REPLY_MILLIS, REPLY_TURNS};
 use crate::request::Request;
+use crate::said::said_to;
 use crate::talk::Talk;
 use crate::words::{copied, spell};
 use chaos_file::Reply;
@@ -261,21 +265,29 @@ pub fn ask_one<T: Talk>(
     ask_telling(talk, request, tid, reply, &mut is_sent)
 }
 
+/// Whether a reply says an error of the command with this number.
+fn is_refused(reply: &Reply, tid: u32, handle: &[u8]) -> bool
+    ensures { result ≡ is_refused (said_to (decimal tid) handle.now (reading_of reply.now.items)) }
+{
+    match said_to(reply, tid, handle) {
+        Some(said) => said.refused().is_some(),
+        None => false,
+    }
+}
+
 /// Whether a reply tells of an error of the command of this name.
 fn is_error(reply: &Reply, tid: u32, handle: &[u8]) -> bool
     requires tid { tid < 100000000 }
-    requires handle { length handle.now ≤ 8 }
+    requires handle { is_name 0 MAX_HANDLE handle.now ≡ true }
     ensures { Decides result (IsErrorTo (decimal tid) handle.now reply.now.items) }
 {
-    let mut error = Reply::new();
-    spell(&mut error, tid, handle, b"ERROR ", b"");
-    reply.as_slice().starts_with(error.as_slice())
+    is_refused(reply, tid, handle)
 }
 
 /// Why a reply, where one came, isn't the one that was hoped for.
 pub fn refusal(came: bool, reply: &Reply, tid: u32, handle: &[u8]) -> CopyEnd
     requires tid { tid < 100000000 }
-    requires handle { length handle.now ≤ 8 }
+    requires handle { is_name 0 MAX_HANDLE handle.now ≡ true }
     ensures { EndedBy (decimal tid) handle.now (λ _. ⊥) (taken came reply.now.items) result }
 {
     if !came {
@@ -299,7 +311,7 @@ pub fn is_wanted(came: bool, reply: &Reply, wanted: &Reply) -> bool
 /// `Done` where a reply came that is the one that was hoped for, else why it isn't.
 pub fn settled(came: bool, reply: &Reply, wanted: &Reply, tid: u32, handle: &[u8]) -> CopyEnd
     requires tid { tid < 100000000 }
-    requires handle { length handle.now ≤ 8 }
+    requires handle { is_name 0 MAX_HANDLE handle.now ≡ true }
     ensures done { IfCopied result (taken came reply.now.items ≡ Some wanted.now.items) }
     ensures ended { UnlessCopied result (EndedBy (decimal tid) handle.now (λ r. r ≡ wanted.now.items) (taken came reply.now.items)) }
 {

@@ -1,228 +1,101 @@
-//! What a FILE command or reply says, by the form of its words.
+//! What a FILE command or reply says, by its parts.
+use chaos_file::{Command, Parsed, ReplyParts, Said, parse_command, read_reply};
 use chaosd_io::{NotWritten, WriteBuffer, put_decimal, put_text};
+use memchr::memchr;
 
-/// A command or a reply.
-#[derive(Clone, Copy, PartialEq, Eq)]
-pub(crate) enum Kind {
-    Command,
-    Reply,
-    /// LOGIN, whose reply says what it does.
-    Either,
+/// Writes words, and bytes behind them as a text.
+fn put_words(out: &mut WriteBuffer, words: &[u8], bytes: &[u8]) -> Result<(), NotWritten> {
+    out.put(words)?;
+    put_text(out, bytes)
 }
 
-/// A word, what stands in front of each part behind it, where there is one, and the names of the
-/// parts.
-struct Form {
-    kind: Kind,
-    word: &'static [u8],
-    fronts: [&'static [u8]; 2],
-    parts: [&'static str; 2],
+/// Writes words, and a number behind them.
+fn put_count(out: &mut WriteBuffer, words: &[u8], count: usize) -> Result<(), NotWritten> {
+    out.put(words)?;
+    put_decimal(out, count)
 }
 
-/// The forms of commands and replies.
-static FORMS: [Form; 16] = [
-    Form {
-        kind: Kind::Either,
-        word: b"LOGIN",
-        fronts: [b" ", b""],
-        parts: ["user", ""],
-    },
-    Form {
-        kind: Kind::Command,
-        word: b"OPEN READ",
-        fronts: [b"\x8d", b""],
-        parts: ["path", ""],
-    },
-    Form {
-        kind: Kind::Command,
-        word: b"OPEN WRITE",
-        fronts: [b"\x8d", b""],
-        parts: ["path", ""],
-    },
-    Form {
-        kind: Kind::Reply,
-        word: b"OPEN",
-        fronts: [b" ", b""],
-        parts: ["length", ""],
-    },
-    Form {
-        kind: Kind::Reply,
-        word: b"READ",
-        fronts: [b"\x8d", b""],
-        parts: ["bytes", ""],
-    },
-    Form {
-        kind: Kind::Command,
-        word: b"READ",
-        fronts: [b"", b""],
-        parts: ["", ""],
-    },
-    Form {
-        kind: Kind::Command,
-        word: b"WRITE",
-        fronts: [b"\x8d", b""],
-        parts: ["bytes", ""],
-    },
-    Form {
-        kind: Kind::Reply,
-        word: b"WRITE",
-        fronts: [b" ", b""],
-        parts: ["length", ""],
-    },
-    Form {
-        kind: Kind::Reply,
-        word: b"CLOSE",
-        fronts: [b" ", b""],
-        parts: ["length", ""],
-    },
-    Form {
-        kind: Kind::Command,
-        word: b"CLOSE",
-        fronts: [b"", b""],
-        parts: ["", ""],
-    },
-    Form {
-        kind: Kind::Command,
-        word: b"RENAME",
-        fronts: [b"\x8d", b"\x8d"],
-        parts: ["path", "new path"],
-    },
-    Form {
-        kind: Kind::Command,
-        word: b"DELETE",
-        fronts: [b"\x8d", b""],
-        parts: ["path", ""],
-    },
-    Form {
-        kind: Kind::Reply,
-        word: b"RENAME",
-        fronts: [b"", b""],
-        parts: ["", ""],
-    },
-    Form {
-        kind: Kind::Reply,
-        word: b"DELETE",
-        fronts: [b"", b""],
-        parts: ["", ""],
-    },
-    Form {
-        kind: Kind::Reply,
-        word: b"EOF",
-        fronts: [b"", b""],
-        parts: ["", ""],
-    },
-    Form {
-        kind: Kind::Reply,
-        word: b"ERROR",
-        fronts: [b" ", b" "],
-        parts: ["code", "text"],
-    },
-];
-
-/// Whether a part is of the form that its name needs.
-fn is_part(name: &str, bytes: &[u8]) -> bool {
-    match name {
-        "length" => !bytes.is_empty() && bytes.iter().all(|b| b.is_ascii_digit()),
-        "code" => !bytes.is_empty() && bytes.iter().all(|b| b.is_ascii_uppercase()),
-        "user" => !bytes.is_empty() && bytes.iter().all(|b| b.is_ascii_alphanumeric()),
-        _ => true,
-    }
-}
-
-/// What stands before the first of these bytes, and behind it.
-fn parted(bytes: &[u8], by: u8) -> Option<(&[u8], &[u8])> {
-    for i in 0..bytes.len() {
-        if bytes[i] == by {
-            return Some((&bytes[..i], &bytes[i + 1..]));
+/// Writes a command's words and parts: of bytes of a file how many they are.
+fn put_command(out: &mut WriteBuffer, command: Command<'_>) -> Result<(), NotWritten> {
+    match command {
+        Command::Login(name) => put_words(out, b" LOGIN user ", name),
+        Command::OpenRead(path) => put_words(out, b" OPEN READ path ", path),
+        Command::OpenWrite(path) => put_words(out, b" OPEN WRITE path ", path),
+        Command::Read => out.put(b" READ"),
+        Command::Write(bytes) => put_count(out, b" WRITE bytes ", bytes.len()),
+        Command::Close => out.put(b" CLOSE"),
+        Command::Rename(old, new) => {
+            put_words(out, b" RENAME path ", old)?;
+            put_words(out, b" new path ", new)
         }
+        Command::Delete(path) => put_words(out, b" DELETE path ", path),
     }
-    None
 }
 
-impl Form {
-    /// The parts of a text of this form.
-    fn parts_of<'a>(&self, text: &'a [u8]) -> Option<(&'a [u8], &'a [u8])> {
-        let rest = text.strip_prefix(self.word)?;
-        let rest = rest.strip_prefix(self.fronts[0])?;
-        let (first, second) = match self.fronts[1] {
-            [by] => parted(rest, *by)?,
-            _ => (rest, b"".as_slice()),
-        };
-        let has_parts = !self.parts[0].is_empty() || rest.is_empty();
-        if has_parts && is_part(self.parts[0], first) && is_part(self.parts[1], second) {
-            Some((first, second))
-        } else {
-            None
+/// Writes an error: its code, where a space ends one, and its text.
+fn put_error(out: &mut WriteBuffer, error: &[u8]) -> Result<(), NotWritten> {
+    out.put(b" ERROR")?;
+    match memchr(b' ', error) {
+        Some(end) => {
+            put_words(out, b" code ", &error[..end])?;
+            put_words(out, b" text ", &error[end + 1..])
         }
+        None => put_words(out, b" text ", error),
     }
 }
 
-/// Writes a part behind its name, where there is one: of bytes of a file how many they are.
-fn put_part(out: &mut WriteBuffer, name: &str, bytes: &[u8]) -> Result<(), NotWritten> {
-    if name.is_empty() {
-        return Ok(());
-    }
-    out.put(b" ")?;
-    out.put(name.as_bytes())?;
-    out.put(b" ")?;
-    if name == "bytes" {
-        put_decimal(out, bytes.len())
-    } else {
-        put_text(out, bytes)
-    }
-}
-
-/// The words in front of a line.
-fn kind_text(kind: Kind) -> &'static [u8] {
-    match kind {
-        Kind::Command => b"file command tid ",
-        Kind::Reply => b"file reply tid ",
-        Kind::Either => b"file command or reply tid ",
+/// Writes a reply's words and parts: of bytes of a file how many they are.
+fn put_said(out: &mut WriteBuffer, said: Said<'_>) -> Result<(), NotWritten> {
+    match said {
+        Said::LoggedIn(name) => put_words(out, b" LOGIN user ", name),
+        Said::Opened(count) => put_count(out, b" OPEN length ", count),
+        Said::Given(bytes) => put_count(out, b" READ bytes ", bytes.len()),
+        Said::AtEnd => out.put(b" EOF"),
+        Said::Wrote(count) => put_count(out, b" WRITE length ", count),
+        Said::Closed(count) => put_count(out, b" CLOSE length ", count),
+        Said::Renamed => out.put(b" RENAME"),
+        Said::Deleted => out.put(b" DELETE"),
+        Said::Refused(error) => put_error(out, error),
     }
 }
 
-/// Writes the line of a text of this form.
-fn put_formed(
+/// Writes the front of a line: these words, and the two names.
+fn put_names(
     out: &mut WriteBuffer,
-    form: &Form,
+    words: &[u8],
     tid: &[u8],
     handle: &[u8],
-    parts: (&[u8], &[u8]),
 ) -> Result<(), NotWritten> {
-    out.put(kind_text(form.kind))?;
-    put_text(out, tid)?;
-    if !handle.is_empty() {
-        out.put(b" handle ")?;
-        put_text(out, handle)?;
+    put_words(out, words, tid)?;
+    if handle.is_empty() {
+        return Ok(());
     }
-    out.put(b" ")?;
-    out.put(form.word)?;
-    put_part(out, form.parts[0], parts.0)?;
-    put_part(out, form.parts[1], parts.1)?;
+    put_words(out, b" handle ", handle)
+}
+
+/// Writes the line of a reply.
+fn put_reply(out: &mut WriteBuffer, reply: &ReplyParts<'_>) -> Result<(), NotWritten> {
+    put_names(out, b"file reply tid ", reply.tid, reply.handle)?;
+    put_said(out, reply.said)?;
     out.put(b"\n")
 }
 
-/// Whether a name of a command or of a handle is of letters and digits.
-fn is_name(bytes: &[u8]) -> bool {
-    bytes.iter().all(|b| b.is_ascii_alphanumeric())
-}
-
-/// Writes a line that says what a packet's data are in FILE, where they are of the form of a
-/// command or a reply.
+/// Writes a line that says what a packet's data are in FILE, where they are a command or a reply. A
+/// LOGIN and the reply to a LOGIN are alike.
 pub(crate) fn put_file(out: &mut WriteBuffer, body: &[u8]) -> Result<(), NotWritten> {
-    let Some((tid, rest)) = parted(body, b' ') else {
-        return Ok(());
+    let reply = read_reply(body);
+    let Parsed::Good(tid, handle, command) = parse_command(body) else {
+        return match reply {
+            Some(reply) => put_reply(out, &reply),
+            None => Ok(()),
+        };
     };
-    let Some((handle, text)) = parted(rest, b' ') else {
-        return Ok(());
+    let words = if reply.is_some() {
+        b"file command or reply tid ".as_slice()
+    } else {
+        b"file command tid ".as_slice()
     };
-    if !is_name(tid) || !is_name(handle) {
-        return Ok(());
-    }
-    for form in FORMS.as_slice() {
-        if let Some(parts) = form.parts_of(text) {
-            return put_formed(out, form, tid, handle, parts);
-        }
-    }
-    Ok(())
+    put_names(out, words, tid, handle)?;
+    put_command(out, command)?;
+    out.put(b"\n")
 }

@@ -2,22 +2,18 @@
 ghost use Rattle.std.specs.Prelude.{◌≡◌, ◌<◌, ◌≤◌, length};
 
 use arrayvec::ArrayVec;
+use chaos_file::{MAX_HANDLE, MAX_HANDLES, ReplyParts, Said, read_reply};
 use memchr::memchr;
 use std::cell::Cell;
 use std::io;
 use std::io::Write;
+use std::mem;
 
-/// The most bytes of a handle's name.
-const MAX_NAME: usize = 8;
-
-/// The most handles of a session.
-const MAX_HANDLES: usize = 8;
-
-/// As many bytes of a reply's front as its name, its handle and the word of its answer may have.
+/// As many bytes as the longest reply that says a count. Of an error they are enough to see that it is one.
 const FRONT: usize = 32;
 
 /// A handle's name.
-pub type Name = ArrayVec<u8, MAX_NAME>;
+pub type Name = ArrayVec<u8, MAX_HANDLE>;
 
 /// What was seen in the replies that were printed so far.
 #[derive(Drop)]
@@ -64,33 +60,6 @@ fn name_of(handle: &[u8]) -> Name {
     name
 }
 
-/// What a reply says.
-#[derive(Clone, Copy, PartialEq, Eq)]
-enum Answer {
-    Error,
-    Wrote,
-    Closed,
-    Other,
-}
-
-/// The handle of a reply, and what it says, by the front of its line.
-fn read_front(front: &[u8]) -> (Name, Answer) {
-    let mut fields = front.splitn(4, |b| *b == b' ');
-    let _tid = fields.next();
-    let handle = name_of(fields.next().unwrap_or(b""));
-    let word = fields.next().unwrap_or(b"");
-    let answer = if word == b"ERROR".as_slice() {
-        Answer::Error
-    } else if word == b"WRITE".as_slice() {
-        Answer::Wrote
-    } else if word == b"CLOSE".as_slice() {
-        Answer::Closed
-    } else {
-        Answer::Other
-    };
-    (handle, answer)
-}
-
 impl Watch<'_> {
     /// A handle was written.
     fn note_write(&mut self, handle: &[u8]) {
@@ -101,18 +70,20 @@ impl Watch<'_> {
 
     /// A reply was written, of whose line the front is there.
     fn note_reply(&mut self) {
-        let (handle, answer) = read_front(self.front.as_slice());
-        self.front.clear();
-        let handle = handle.as_slice();
-        let is_error = answer == Answer::Error;
+        let front = mem::replace(&mut self.front, ArrayVec::new());
+        let Some(ReplyParts { handle, said, .. }) = read_reply(front.as_slice()) else {
+            self.notes.is_login.set(false);
+            return;
+        };
+        let is_error = said.refused().is_some();
         self.notes
             .is_login
             .set(is_error && handle == b"LOGIN".as_slice());
-        match answer {
-            Answer::Error => self.notes.has_error.set(true),
-            Answer::Wrote => self.note_write(handle),
-            Answer::Closed => self.written.retain(|name| name.as_slice() != handle),
-            Answer::Other => {}
+        match said {
+            Said::Refused(_) => self.notes.has_error.set(true),
+            Said::Wrote(_) => self.note_write(handle),
+            Said::Closed(_) => self.written.retain(|name| name.as_slice() != handle),
+            _ => {}
         }
     }
 

@@ -1,8 +1,7 @@
-use Rattle.std.proofs.Common.{◌∙◌}
-use Rattle.chaosd_copy.proofs.Ended.{error_decides}
+use Rattle.chaosd_copy.proofs.ReadBack.{error_decides}
 use Rattle.chaosd_copy.proofs.window.is_error.Goals as goal
 
 pub returns : goal.returns
 returns c =
-    error_decides _ _ _ _ _ _ c.as_slice.ensures.value (c.as_slice-2.ensures.value ∙ c.spell.ensures)
-    c.starts_with.ensures.value
+    error_decides c.args.tid c.args.handle.now c.args.reply.now.items c.is_refused.result c.requires.tid
+    c.requires.handle c.is_refused.ensures
