@@ -1,5 +1,5 @@
 -- Replies, read: what stands behind the two names of a reply.
-use Rattle.std.specs.Prelude.{ℕ, Bool, true, ◌&&◌, nat_le, if◌then◌else◌, List, [], ◌∷◌, ◌++◌, length, take, drop, Option, Some, None, option_map, Result, Ok, Err, codes}
+use Rattle.std.specs.Prelude.{ℕ, Bool, true, ◌&&◌, nat_le, if◌then◌else◌, List, [], ◌∷◌, ◌++◌, ◌≤◌, length, take, drop, Option, Some, None, option_map, Result, Ok, Err, codes}
 use Rattle.std.specs.Fmt.{decimal}
 use Rattle.std.specs.Str.{bytes_eq}
 use Rattle.std.specs.Str.Parse.{digits_value}
@@ -84,6 +84,20 @@ outcome_reply p (Err error) = record { tid = tid_of p; handle = handle_of p; sai
 -- what the definition's reply to a command says, over these files and in this session
 abbrev pub step_reply : Files → SessionView → List ℕ → ReplyView
 step_reply m s command = outcome_reply (parse_of command) (outcome_of m s (plan_of s (parse_of command)))
+
+-- ---- lengths
+
+-- what a reply says is no longer than it may be
+abbrev pub SaidFits : SaidView → Type 0
+SaidFits (Answered (LoggedIn name)) = length name ≤ MAX_NAME
+SaidFits (Answered (Given bytes)) = length bytes ≤ MAX_CHUNK
+SaidFits (Refused text) = length text ≤ MAX_CHUNK
+SaidFits _ = Unit {0}
+
+abbrev pub ReplyFits : ReplyView → Type 0
+ReplyFits r = (length r.tid ≤ MAX_TID) × (length r.handle ≤ MAX_HANDLE) × SaidFits r.said
+
+-- ---- which replies FILE has
 
 -- names, chunks and counts are such as FILE has
 abbrev pub is_answer : Answer → Bool

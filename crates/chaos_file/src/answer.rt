@@ -67,7 +67,7 @@ pub(crate) fn end(reply: &mut Reply, done: Result<(), FileError>)
 #[tactic(auto, using(std::proofs::Common::append_assoc))]
 pub(crate) fn tell(reply: &mut Reply, word: &[u8], bytes: &[u8])
     requires room { length reply.old.items ≤ MAX_FRONT }
-    requires word { length word.now ≤ 8 }
+    requires word { length word.now ≤ 11 }
     requires bytes { length bytes.now ≤ MAX_CHUNK }
     ensures { reply.new.items ≡ reply.old.items ++ (word.now ++ bytes.now) }
 {

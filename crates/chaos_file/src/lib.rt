@@ -25,6 +25,7 @@ mod session;
 mod store;
 mod want;
 mod whole;
+mod writing;
 
 pub use answer::Reply;
 pub use command::{Command, Parsed, Word};
@@ -46,3 +47,4 @@ pub use session::Session;
 pub use store::{Got, Removed, Renamed, Store, Stored};
 pub use want::is_want;
 pub use whole::{require_room, write_whole};
+pub use writing::{CommandBytes, write_command, write_reply};

@@ -4,7 +4,6 @@ pub mod Pieces
 pub mod ReadBack
 pub mod Whole
 pub mod Talks
-pub mod Spelled
 pub mod Joined
 pub mod Growing
 pub mod Got

@@ -7,11 +7,10 @@ ghost use Rattle.chaosd_copy.specs.Talk.{Since, SentOrNot, InVain};
 ghost use Rattle.chaosd_copy.specs.Ends.{IfDone, IfUnanswered, UnlessDone, EndedAt, delete_command, delete_reply, rename_command, rename_reply};
 
 use crate::end::CopyEnd;
-use crate::request::Request;
+use crate::said::write_wanted;
 use crate::talk::Talk;
 use crate::window::{ask_one, settled};
-use crate::words::spell;
-use chaos_file::Reply;
+use chaos_file::{Command, Reply, Said};
 use chaosd_io::RunFault;
 
 /// Renames a file, by a RENAME of this name. Where the answer is `Done`, that was sent and answered.
@@ -44,9 +43,9 @@ pub fn rename_file<T: Talk>(
     ensures faults { IfErr result (T.failed_by talk.new) }
 {
     let mut reply = Reply::new();
-    let came = ask_one(talk, Request::Rename(old, new), tid, &mut reply)?;
+    let came = ask_one(talk, Command::Rename(old, new), tid, &mut reply)?;
     let mut wanted = Reply::new();
-    spell(&mut wanted, tid, b"", b"RENAME", b"");
+    write_wanted(&mut wanted, tid, b"", Said::Renamed);
     Ok(settled(came, &reply, &wanted, tid, b""))
 }
 
@@ -74,8 +73,8 @@ pub fn delete_file<T: Talk>(talk: &mut T, tid: u32, path: &[u8]) -> Result<CopyE
     ensures faults { IfErr result (T.failed_by talk.new) }
 {
     let mut reply = Reply::new();
-    let came = ask_one(talk, Request::Delete(path), tid, &mut reply)?;
+    let came = ask_one(talk, Command::Delete(path), tid, &mut reply)?;
     let mut wanted = Reply::new();
-    spell(&mut wanted, tid, b"", b"DELETE", b"");
+    write_wanted(&mut wanted, tid, b"", Said::Deleted);
     Ok(settled(came, &reply, &wanted, tid, b""))
 }

@@ -14,12 +14,11 @@ ghost use Rattle.chaosd_copy.specs.Ends.{IfDone, IfUnanswered, UnlessDone, IsGiv
 use crate::end::CopyEnd;
 use crate::limits::HANDLE;
 use crate::put::chunk_count;
-use crate::request::Request;
-use crate::said::said_to;
+use crate::row::Row;
+use crate::said::{said_to, write_wanted};
 use crate::talk::Talk;
-use crate::window::{Flight, Row, ask_one, next_reply, refusal, settled};
-use crate::words::{spell, spell_count};
-use chaos_file::{MAX_CHUNK, Reply};
+use crate::window::{Flight, ask_one, next_reply, refusal, settled};
+use chaos_file::{Command, MAX_CHUNK, Reply, Said};
 use chaosd_io::RunFault;
 
 /// The length that a reply to OPEN says.
@@ -127,7 +126,7 @@ fn read_all<T: Talk>(
     let row = Row {
         first,
         count: 1 + count,
-        request: Request::Read,
+        command: Command::Read,
     };
     let mut flight = Flight::new();
     let mut reply = Reply::new();
@@ -143,7 +142,7 @@ fn read_all<T: Talk>(
     let came = next_reply(talk, &row, &mut flight, &mut reply)?;
     let tid = first + count as u32;
     let mut wanted = Reply::new();
-    spell(&mut wanted, tid, HANDLE, b"EOF", b"");
+    write_wanted(&mut wanted, tid, HANDLE, Said::AtEnd);
     Ok(settled(came, &reply, &wanted, tid, HANDLE))
 }
 
@@ -178,7 +177,7 @@ pub fn get_file<T: Talk>(
     ensures faults { IfErr result (λ fault. (fault ≡ RunFault.NoMemory) ⊎ T.failed_by talk.new fault) }
 {
     let mut reply = Reply::new();
-    let came = ask_one(talk, Request::OpenRead(path), first, &mut reply)?;
+    let came = ask_one(talk, Command::OpenRead(path), first, &mut reply)?;
     let Some(len) = opened_length(came, &reply, first) else {
         return Ok(refusal(came, &reply, first, HANDLE));
     };
@@ -187,8 +186,8 @@ pub fn get_file<T: Talk>(
         end => return Ok(end),
     }
     let last = first + 2 + chunk_count(len) as u32;
-    let came = ask_one(talk, Request::Close, last, &mut reply)?;
+    let came = ask_one(talk, Command::Close, last, &mut reply)?;
     let mut wanted = Reply::new();
-    spell_count(&mut wanted, last, HANDLE, b"CLOSE ", len);
+    write_wanted(&mut wanted, last, HANDLE, Said::Closed(len));
     Ok(settled(came, &reply, &wanted, last, HANDLE))
 }

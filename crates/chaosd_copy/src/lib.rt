@@ -1,6 +1,7 @@
 //! Whole files over FILE: the commands by which one is put and got, and the end that says them, many at a time.
 #![tactic(auto)]
 
+mod bytes;
 mod change;
 mod end;
 mod get;
@@ -9,12 +10,11 @@ mod limits;
 mod local;
 mod mem_talk;
 mod put;
-mod request;
+mod row;
 mod said;
 mod talk;
 mod text;
 mod window;
-mod words;
 
 pub use change::{delete_file, rename_file};
 pub use end::CopyEnd;

@@ -12,9 +12,9 @@ ghost use Rattle.chaosd_copy.specs.Copy.{Does};
 ghost use Rattle.chaosd_copy.specs.Memory.{Answered, StepsOrStays, nothing_more, told};
 ghost use Rattle.chaosd_copy.specs.Talk.{Talked, counted, silence, with_received, with_sent};
 
+use crate::bytes::{copied, fill};
 use crate::talk::Talk;
-use crate::words::{copied, fill, put};
-use chaos_file::{MemStore, Reply, Session, parse_command};
+use chaos_file::{MemStore, Reply, ReplyParts, Said, Session, parse_command, write_reply};
 use chaosd_io::RunFault;
 use std::alloc::Global;
 
@@ -39,12 +39,13 @@ fn want_of(command: &[u8]) -> Reply
     ensures { result.items ≡ reply_to (parse_of command.now) (Err NoMemory) }
 {
     let parsed = parse_command(command);
+    let parts = ReplyParts {
+        tid: parsed.tid(),
+        handle: parsed.handle(),
+        said: Said::Refused(b"MEM No memory."),
+    };
     let mut reply = Reply::new();
-    put(&mut reply, parsed.tid());
-    put(&mut reply, b" ");
-    put(&mut reply, parsed.handle());
-    put(&mut reply, b" ");
-    put(&mut reply, b"ERROR MEM No memory.");
+    write_reply(parts, &mut reply);
     reply
 }
 

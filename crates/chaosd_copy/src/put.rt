@@ -9,11 +9,11 @@ ghost use Rattle.chaosd_copy.specs.Ends.{IfDone, IfUnanswered, UnlessDone, unans
 
 use crate::end::CopyEnd;
 use crate::limits::HANDLE;
-use crate::request::Request;
+use crate::row::Row;
+use crate::said::write_wanted;
 use crate::talk::Talk;
-use crate::window::{Flight, Row, ask_one, ask_telling, is_wanted, next_reply, refusal, settled};
-use crate::words::spell_count;
-use chaos_file::{MAX_CHUNK, Reply};
+use crate::window::{Flight, ask_one, ask_telling, is_wanted, next_reply, refusal, settled};
+use chaos_file::{Command, MAX_CHUNK, Reply, Said};
 use chaosd_io::RunFault;
 
 /// How many pieces a file of so many bytes has.
@@ -42,7 +42,7 @@ fn write_all<T: Talk>(talk: &mut T, first: u32, bytes: &[u8]) -> Result<CopyEnd,
     let row = Row {
         first,
         count,
-        request: Request::Write(bytes),
+        command: Command::Write(bytes),
     };
     let mut flight = Flight::new();
     let mut reply = Reply::new();
@@ -51,7 +51,7 @@ fn write_all<T: Talk>(talk: &mut T, first: u32, bytes: &[u8]) -> Result<CopyEnd,
         let came = next_reply(talk, &row, &mut flight, &mut reply)?;
         let tid = first + i as u32;
         let written = (MAX_CHUNK * (1 + i)).min(bytes.len());
-        spell_count(&mut wanted, tid, HANDLE, b"WRITE ", written);
+        write_wanted(&mut wanted, tid, HANDLE, Said::Wrote(written));
         if !is_wanted(came, &reply, &wanted) {
             return Ok(refusal(came, &reply, tid, HANDLE));
         }
@@ -101,9 +101,9 @@ pub fn put_file<T: Talk>(
     ensures faults { IfErr result (T.failed_by talk.new) }
 {
     let mut reply = Reply::new();
-    let came = ask_one(talk, Request::OpenWrite(path), first, &mut reply)?;
+    let came = ask_one(talk, Command::OpenWrite(path), first, &mut reply)?;
     let mut wanted = Reply::new();
-    spell_count(&mut wanted, first, HANDLE, b"OPEN ", 0);
+    write_wanted(&mut wanted, first, HANDLE, Said::Opened(0));
     match settled(came, &reply, &wanted, first, HANDLE) {
         CopyEnd::Done => {}
         end => return Ok(end),
@@ -114,10 +114,10 @@ pub fn put_file<T: Talk>(
     }
     let last = first + 1 + chunk_count(bytes.len()) as u32;
     let mut is_sent = false;
-    let came = ask_telling(talk, Request::Close, last, &mut reply, &mut is_sent)?;
+    let came = ask_telling(talk, Command::Close, last, &mut reply, &mut is_sent)?;
     if !came {
         return Ok(unanswered(is_sent));
     }
-    spell_count(&mut wanted, last, HANDLE, b"CLOSE ", bytes.len());
+    write_wanted(&mut wanted, last, HANDLE, Said::Closed(bytes.len()));
     Ok(settled(came, &reply, &wanted, last, HANDLE))
 }

@@ -8,28 +8,21 @@ ghost use Rattle.chaosd_copy.specs.declared.limits.TheConstants.{MAX_FIRST};
 ghost use Rattle.chaos_file.specs.declared.limits.TheConstants.{MAX_NAME, MAX_HANDLE};
 ghost use Rattle.chaos_file.specs.Names.{is_name};
 ghost use Rattle.chaos_file.specs.Reply.{reading_of};
+ghost use Rattle.chaos_file.specs.Views.{command_view};
 ghost use Rattle.chaosd_copy.specs.Said.{is_refused, said_to};
 ghost use Rattle.chaosd_copy.specs.Ends.{IfCopied, IfDone, IfUnanswered, UnlessCopied, UnlessDone, IsErrorTo, EndedBy, EndedAt, login_command, login_reply};
 
+use crate::bytes::copied;
 use crate::end::CopyEnd;
 use crate::limits::{MOST_TURNS, REPLY_MILLIS, REPLY_TURNS};
-use crate::request::Request;
-use crate::said::said_to;
+use crate::row::{Row, spell_at};
+use crate::said::{said_to, write_wanted};
 use crate::talk::Talk;
-use crate::words::{copied, spell};
-use chaos_file::Reply;
+use chaos_file::{Command, CommandBytes, Reply, Said};
 use chaosd_io::RunFault;
 
 /// As many commands without a reply as there is room for.
 const NO_LIMIT: usize = usize::MAX;
-
-/// A row of commands, named by numbers from `first` on.
-#[derive(Clone, Copy)]
-pub struct Row<'a> {
-    pub first: u32,
-    pub count: usize,
-    pub request: Request<'a>,
-}
 
 /// How far a row of commands has come.
 #[derive(Drop)]
@@ -41,7 +34,7 @@ pub struct Flight {
     /// At most so many commands are without a reply: as many as there was room for at first.
     limit: usize,
     /// The place where each command is spelled.
-    command: Reply,
+    command: CommandBytes,
 }
 
 impl Flight {
@@ -54,7 +47,7 @@ impl Flight {
             sent: 0,
             received: 0,
             limit: NO_LIMIT,
-            command: Reply::new(),
+            command: CommandBytes::new(),
         }
     }
 
@@ -91,7 +84,7 @@ fn send_on<T: Talk>(talk: &mut T, row: &Row<'_>, flight: &mut Flight)
     requires sent { flight.old.sent ≤ row.now.count }
     requires first { row.now.first ≤ MAX_FIRST + 9000 }
     requires count { row.now.count ≤ 9000 }
-    requires fits { RequestFits row.now.request }
+    requires fits { RequestFits (command_view row.now.command) }
     ensures within { flight.new.sent ≤ row.now.count }
     ensures place { flight.new.received ≡ flight.old.received }
     ensures talk { (start : T) (replies : List (List ℕ)) → Since (T.talked start) (T.talked talk.old) (upto (row_command row.now) flight.old.sent) replies
@@ -113,13 +106,13 @@ fn send_more<T: Talk>(
     row: &Row<'_>,
     sent: usize,
     most: usize,
-    command: &mut Reply,
+    command: &mut CommandBytes,
 ) -> usize
     requires sent { sent ≤ most }
     requires most { most ≤ row.now.count }
     requires first { row.now.first ≤ MAX_FIRST + 9000 }
     requires count { row.now.count ≤ 9000 }
-    requires fits { RequestFits row.now.request }
+    requires fits { RequestFits (command_view row.now.command) }
     ensures within { result ≤ row.now.count }
     ensures talk { (start : T) (replies : List (List ℕ)) → Since (T.talked start) (T.talked talk.old) (upto (row_command row.now) sent) replies
         → Since (T.talked start) (T.talked talk.new) (upto (row_command row.now) result) replies }
@@ -129,7 +122,7 @@ fn send_more<T: Talk>(
     ensures patient { (T.course talk.new).patience ≡ (T.course talk.old).patience }
 {
     for i in sent..most {
-        row.request.command(i, row.first + i as u32, command);
+        spell_at(row.command, i, row.first + i as u32, command);
         if !talk.send(command.as_slice()) {
             return i;
         }
@@ -175,7 +168,7 @@ pub fn next_reply<T: Talk>(
     requires sent { flight.old.sent ≤ row.now.count }
     requires first { row.now.first ≤ MAX_FIRST + 9000 }
     requires count { row.now.count ≤ 9000 }
-    requires fits { RequestFits row.now.request }
+    requires fits { RequestFits (command_view row.now.command) }
     ensures within { flight.new.sent ≤ row.now.count }
     // A reply is received only where its command was sent.
     ensures asked { IfOk result (λ came. IfSome (taken came reply.new.items) (λ _. (flight.old.received < flight.new.sent) × (flight.new.received ≡ flight.old.received + 1))) }
@@ -208,20 +201,20 @@ pub fn next_reply<T: Talk>(
 /// The reply to one command, left in the caller's place where one came, and whether the command was sent.
 pub fn ask_telling<T: Talk>(
     talk: &mut T,
-    request: Request<'_>,
+    command: Command<'_>,
     tid: u32,
     reply: &mut Reply,
     is_sent: &mut bool,
 ) -> Result<bool, RunFault>
     requires tid { tid ≤ MAX_FIRST + 9000 }
-    requires fits { RequestFits request }
+    requires fits { RequestFits (command_view command) }
     ensures received { IfOk result (λ came. IfSome (taken came reply.new.items) (λ text. Since (T.talked talk.old) (T.talked talk.new)
-        (request_command request.entry 0 tid ∷ []) (text ∷ []))) }
-    ensures sent { SentOrNot (T.talked talk.old) (T.talked talk.new) (request_command request.entry 0 tid) }
+        (request_command (command_view command.entry) 0 tid ∷ []) (text ∷ []))) }
+    ensures sent { SentOrNot (T.talked talk.old) (T.talked talk.new) (request_command (command_view command.entry) 0 tid) }
     // What was received is the reply, or nothing.
     ensures all { IfOk result (λ came. Received (T.talked talk.old) (T.talked talk.new) (received_in (taken came reply.new.items))) }
     // Where none was, it is told whether the command was sent.
-    ensures known { IfOk result (λ came. MatchOption (taken came reply.new.items) (Since (T.talked talk.old) (T.talked talk.new) (sent_if is_sent.new (request_command request.entry 0 tid)) []) (λ _. Unit {0})) }
+    ensures known { IfOk result (λ came. MatchOption (taken came reply.new.items) (Since (T.talked talk.old) (T.talked talk.new) (sent_if is_sent.new (request_command (command_view command.entry) 0 tid)) []) (λ _. Unit {0})) }
     ensures waited { IfOk result (λ came. MatchOption (taken came reply.new.items) (InVain (T.talked talk.old) (T.course talk.old) (T.talked talk.new) (T.course talk.new)) (λ _. Unit {0})) }
     ensures unfailed { OnOk result ((T.course talk.new).failures ≤ (T.course talk.old).failures) }
     ensures patient { (T.course talk.new).patience ≡ (T.course talk.old).patience }
@@ -230,13 +223,13 @@ pub fn ask_telling<T: Talk>(
     let row = Row {
         first: tid,
         count: 1,
-        request,
+        command,
     };
     let mut flight = Flight {
         sent: 0,
         received: 0,
         limit: NO_LIMIT,
-        command: Reply::new(),
+        command: CommandBytes::new(),
     };
     let came = next_reply(talk, &row, &mut flight, reply);
     *is_sent = flight.sent > 0;
@@ -246,15 +239,15 @@ pub fn ask_telling<T: Talk>(
 /// The reply to one command, left in the caller's place where one came.
 pub fn ask_one<T: Talk>(
     talk: &mut T,
-    request: Request<'_>,
+    command: Command<'_>,
     tid: u32,
     reply: &mut Reply,
 ) -> Result<bool, RunFault>
     requires tid { tid ≤ MAX_FIRST + 9000 }
-    requires fits { RequestFits request }
+    requires fits { RequestFits (command_view command) }
     ensures received { IfOk result (λ came. IfSome (taken came reply.new.items) (λ text. Since (T.talked talk.old) (T.talked talk.new)
-        (request_command request.entry 0 tid ∷ []) (text ∷ []))) }
-    ensures sent { SentOrNot (T.talked talk.old) (T.talked talk.new) (request_command request.entry 0 tid) }
+        (request_command (command_view command.entry) 0 tid ∷ []) (text ∷ []))) }
+    ensures sent { SentOrNot (T.talked talk.old) (T.talked talk.new) (request_command (command_view command.entry) 0 tid) }
     ensures all { IfOk result (λ came. Received (T.talked talk.old) (T.talked talk.new) (received_in (taken came reply.new.items))) }
     ensures waited { IfOk result (λ came. MatchOption (taken came reply.new.items) (InVain (T.talked talk.old) (T.course talk.old) (T.talked talk.new) (T.course talk.new)) (λ _. Unit {0})) }
     ensures unfailed { OnOk result ((T.course talk.new).failures ≤ (T.course talk.old).failures) }
@@ -262,7 +255,7 @@ pub fn ask_one<T: Talk>(
     ensures faults { IfErr result (T.failed_by talk.new) }
 {
     let mut is_sent = false;
-    ask_telling(talk, request, tid, reply, &mut is_sent)
+    ask_telling(talk, command, tid, reply, &mut is_sent)
 }
 
 /// Whether a reply says an error of the command with this number.
@@ -343,8 +336,8 @@ pub fn log_in<T: Talk>(talk: &mut T, name: &[u8]) -> Result<CopyEnd, RunFault>
     ensures faults { IfErr result (T.failed_by talk.new) }
 {
     let mut reply = Reply::new();
-    let came = ask_one(talk, Request::Login(name), 0, &mut reply)?;
+    let came = ask_one(talk, Command::Login(name), 0, &mut reply)?;
     let mut wanted = Reply::new();
-    spell(&mut wanted, 0, b"", b"LOGIN ", name);
+    write_wanted(&mut wanted, 0, b"", Said::LoggedIn(name));
     Ok(settled(came, &reply, &wanted, 0, b""))
 }

@@ -13,7 +13,7 @@ returns-clause-done g c =
     copied_then _ _ _ (λ e. wanted_received
     (λ x. Since (g.T.Talk.talked c.args.talk.now) (g.T.Talk.talked c.ask_one.new.talk)
     (delete_command c.args.tid c.args.path.now ∷ []) (x ∷ []))
-    (taken c.in_ok-came.came c.ask_one.new.reply.items) _ _ e c.spell.ensures c.in_ok-came.ensures.received) c.settled.ensures.done
+    (taken c.in_ok-came.came c.ask_one.new.reply.items) _ _ e c.write_wanted.ensures c.in_ok-came.ensures.received) c.settled.ensures.done
 
 pub returns-clause-waited : goal.returns-clause-waited
 returns-clause-waited g c =
@@ -26,5 +26,5 @@ returns-clause-ended g c =
     let b = g.T.Talk.talked c.ask_one.new.talk in
     unless_then c.settled.result _ (EndedAt a b [] (decimal c.args.tid) [] (λ x. x ≡ delete_reply c.args.tid))
     (λ e.
-    (taken c.in_ok-came.came c.ask_one.new.reply.items, c.in_ok-came.ensures.all, unwanted _ _ _ _ _ _ (λ x _ w. w ∙ sym c.spell.ensures) e))
+    (taken c.in_ok-came.came c.ask_one.new.reply.items, c.in_ok-came.ensures.all, unwanted _ _ _ _ _ _ (λ x _ w. w ∙ sym c.write_wanted.ensures) e))
     c.settled.ensures.ended

@@ -43,7 +43,7 @@ returns-clause-done g c =
     (wanted_received
     (λ x. Since m d (spelling_of (decimal (c.args.first + 2 + c.chunk_count.result)) file_handle Close ∷ [])
     (x ∷ []))
-    (taken c.in_ok-came-2.came c.ask_one-2.new.reply.items) _ _ e c.spell_count.ensures c.in_ok-came-2.ensures.received)))) c.settled.ensures.done
+    (taken c.in_ok-came-2.came c.ask_one-2.new.reply.items) _ _ e c.write_wanted.ensures c.in_ok-came-2.ensures.received)))) c.settled.ensures.done
 
 pub returns-in_err-end-clause-begun : goal.returns-in_err-end-clause-begun
 returns-in_err-end-clause-begun g c =
@@ -117,7 +117,7 @@ pub returns-clause-ended : goal.returns-clause-ended
 returns-clause-ended g c =
     let fits : c.in-Some.len ≤ MAX_FILE = search rules in
     get_not_closed _ _ _ _ c.args.first c.in-Some.len c.chunk_count.result c.read_all.new.bytes.items _ _ _ _
-    c.settled.result fits c.chunk_count.ensures.value c.spell_count.ensures
+    c.settled.result fits c.chunk_count.ensures.value c.write_wanted.ensures
     (wanted_received
     (λ x. Since (g.T.Talk.talked c.args.talk.now) (g.T.Talk.talked c.ask_one.new.talk)
     (spelling_of (decimal c.args.first) file_handle (OpenRead c.args.path.now) ∷ []) (x ∷ []))

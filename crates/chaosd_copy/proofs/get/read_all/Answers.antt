@@ -85,7 +85,7 @@ returns-clause-done g c =
           c.loop-i.i _ (omega arith)
           (e
           ∙ ap Some
-          (c.spell.ensures
+          (c.write_wanted.ensures
           ∙ ap (λ m. reply_of (decimal (c.args.first + m)) file_handle AtEnd) (sym n)))
           (c.in_ok-came-2.ensures.talk _ _ c.loop-i.invariant.talk))),
     ))
@@ -141,7 +141,7 @@ pub returns-clause-ended : goal.returns-clause-ended
 returns-clause-ended g c =
     let n : c.loop-i.i ≡ c.chunk_count-count.result = search rules in
     reads_not_done _ _ _ c.args.first c.args.len c.chunk_count-count.result c.loop-i.bytes.items _ _ c.settled.result
-    c.chunk_count-count.ensures.value c.spell.ensures
+    c.chunk_count-count.ensures.value c.write_wanted.ensures
     (subst
     (λ m. Since (g.T.Talk.talked c.args.talk.now) (g.T.Talk.talked c.next_reply-2.new.talk)
     (upto (read_sent c.args.first) c.next_reply-2.new.flight.sent)

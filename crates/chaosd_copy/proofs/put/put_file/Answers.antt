@@ -22,7 +22,7 @@ returns-clause-done g c =
     copied_then _ _ _ (λ e. put_joined a b m d c.args.first c.args.path.now c.args.bytes.now
     (wanted_received
     (λ x. Since a b (spelling_of (decimal c.args.first) file_handle (OpenWrite c.args.path.now) ∷ []) (x ∷ []))
-    (taken c.in_ok-came.came c.ask_one.new.reply.items) _ _ c.in-Done.ensures.done c.spell_count.ensures c.in_ok-came.ensures.received)
+    (taken c.in_ok-came.came c.ask_one.new.reply.items) _ _ c.in-Done.ensures.done c.write_wanted.ensures c.in_ok-came.ensures.received)
     (when_copied _ _ c.in-Done-2.is c.in_ok-end.ensures.done)
     (subst
     (λ n. Since m d (spelling_of (decimal (c.args.first + 1 + n)) file_handle Close ∷ [])
@@ -31,7 +31,7 @@ returns-clause-done g c =
     (wanted_received
     (λ x. Since m d (spelling_of (decimal (c.args.first + 1 + c.chunk_count.result)) file_handle Close ∷ [])
     (x ∷ []))
-    (taken c.in_ok-came-2.came c.ask_telling.new.reply.items) _ _ e c.spell_count-2.ensures c.in_ok-came-2.ensures.received))) c.settled-2.ensures.done
+    (taken c.in_ok-came-2.came c.ask_telling.new.reply.items) _ _ e c.write_wanted-2.ensures c.in_ok-came-2.ensures.received))) c.settled-2.ensures.done
 
 pub returns-in_err-came-clause-begun : goal.returns-in_err-came-clause-begun
 returns-in_err-came-clause-begun g c =
@@ -43,7 +43,7 @@ returns-in_err-end-clause-begun g c =
     (wanted_received
     (λ x. Since (g.T.Talk.talked c.args.talk.now) (g.T.Talk.talked c.ask_one.new.talk)
     (spelling_of (decimal c.args.first) file_handle (OpenWrite c.args.path.now) ∷ []) (x ∷ []))
-    (taken c.in_ok-came.came c.ask_one.new.reply.items) _ _ c.in-Done.ensures.done c.spell_count.ensures c.in_ok-came.ensures.received)
+    (taken c.in_ok-came.came c.ask_one.new.reply.items) _ _ c.in-Done.ensures.done c.write_wanted.ensures c.in_ok-came.ensures.received)
     c.write_all.ensures.sent
 
 pub returns-in_default-2 : goal.returns-in_default-2
@@ -53,7 +53,7 @@ returns-in_default-2 g c = record {
       (wanted_received
       (λ x. Since (g.T.Talk.talked c.args.talk.now) (g.T.Talk.talked c.ask_one.new.talk)
       (spelling_of (decimal c.args.first) file_handle (OpenWrite c.args.path.now) ∷ []) (x ∷ []))
-      (taken c.in_ok-came.came c.ask_one.new.reply.items) _ _ c.in-Done.ensures.done c.spell_count.ensures c.in_ok-came.ensures.received)
+      (taken c.in_ok-came.came c.ask_one.new.reply.items) _ _ c.in-Done.ensures.done c.write_wanted.ensures c.in_ok-came.ensures.received)
       c.in_ok-end.ensures.ended;
   waited = c.in_ok-end.ensures.waited;
   unfailed = omega (arith, c.in_ok-end.ensures.unfailed, c.in_ok-came.ensures.unfailed);
@@ -63,7 +63,7 @@ returns-in_default-2 g c = record {
       (wanted_received
       (λ x. Since (g.T.Talk.talked c.args.talk.now) (g.T.Talk.talked c.ask_one.new.talk)
       (spelling_of (decimal c.args.first) file_handle (OpenWrite c.args.path.now) ∷ []) (x ∷ []))
-      (taken c.in_ok-came.came c.ask_one.new.reply.items) _ _ c.in-Done.ensures.done c.spell_count.ensures c.in_ok-came.ensures.received)
+      (taken c.in_ok-came.came c.ask_one.new.reply.items) _ _ c.in-Done.ensures.done c.write_wanted.ensures c.in_ok-came.ensures.received)
       c.write_all.ensures.sent;
 }
 
@@ -73,7 +73,7 @@ returns-in_err-came-2-clause-begun g c =
     (wanted_received
     (λ x. Since (g.T.Talk.talked c.args.talk.now) (g.T.Talk.talked c.ask_one.new.talk)
     (spelling_of (decimal c.args.first) file_handle (OpenWrite c.args.path.now) ∷ []) (x ∷ []))
-    (taken c.in_ok-came.came c.ask_one.new.reply.items) _ _ c.in-Done.ensures.done c.spell_count.ensures c.in_ok-came.ensures.received)
+    (taken c.in_ok-came.came c.ask_one.new.reply.items) _ _ c.in-Done.ensures.done c.write_wanted.ensures c.in_ok-came.ensures.received)
     (when_copied _ _ c.in-Done-2.is c.in_ok-end.ensures.done)
     (subst
     (λ n. SentOrNot (g.T.Talk.talked c.write_all.new.talk) (g.T.Talk.talked c.ask_telling.new.talk)
@@ -86,7 +86,7 @@ returns-then-not-came-clause-begun g c =
     (wanted_received
     (λ x. Since (g.T.Talk.talked c.args.talk.now) (g.T.Talk.talked c.ask_one.new.talk)
     (spelling_of (decimal c.args.first) file_handle (OpenWrite c.args.path.now) ∷ []) (x ∷ []))
-    (taken c.in_ok-came.came c.ask_one.new.reply.items) _ _ c.in-Done.ensures.done c.spell_count.ensures c.in_ok-came.ensures.received)
+    (taken c.in_ok-came.came c.ask_one.new.reply.items) _ _ c.in-Done.ensures.done c.write_wanted.ensures c.in_ok-came.ensures.received)
     (when_copied _ _ c.in-Done-2.is c.in_ok-end.ensures.done)
     (subst
     (λ n. SentOrNot (g.T.Talk.talked c.write_all.new.talk) (g.T.Talk.talked c.ask_telling.new.talk)
@@ -99,7 +99,7 @@ returns-clause-begun g c =
     (wanted_received
     (λ x. Since (g.T.Talk.talked c.args.talk.now) (g.T.Talk.talked c.ask_one.new.talk)
     (spelling_of (decimal c.args.first) file_handle (OpenWrite c.args.path.now) ∷ []) (x ∷ []))
-    (taken c.in_ok-came.came c.ask_one.new.reply.items) _ _ c.in-Done.ensures.done c.spell_count.ensures c.in_ok-came.ensures.received)
+    (taken c.in_ok-came.came c.ask_one.new.reply.items) _ _ c.in-Done.ensures.done c.write_wanted.ensures c.in_ok-came.ensures.received)
     (when_copied _ _ c.in-Done-2.is c.in_ok-end.ensures.done)
     (subst
     (λ n. SentOrNot (g.T.Talk.talked c.write_all.new.talk) (g.T.Talk.talked c.ask_telling.new.talk)
@@ -108,7 +108,7 @@ returns-clause-begun g c =
 
 pub returns-in_default-clause-ended : goal.returns-in_default-clause-ended
 returns-in_default-clause-ended g c =
-    put_not_opened _ _ c.args.first c.args.path.now c.args.bytes.now _ _ c.settled.result c.spell_count.ensures
+    put_not_opened _ _ c.args.first c.args.path.now c.args.bytes.now _ _ c.settled.result c.write_wanted.ensures
     c.in_ok-came.ensures.all c.settled.ensures.ended
 
 pub returns-then-not-came-clause-ended : goal.returns-then-not-came-clause-ended
@@ -122,7 +122,7 @@ returns-then-not-came-clause-ended g c =
     (wanted_received
     (λ x. Since (g.T.Talk.talked c.args.talk.now) (g.T.Talk.talked c.ask_one.new.talk)
     (spelling_of (decimal c.args.first) file_handle (OpenWrite c.args.path.now) ∷ []) (x ∷ []))
-    (taken c.in_ok-came.came c.ask_one.new.reply.items) _ _ c.in-Done.ensures.done c.spell_count.ensures c.in_ok-came.ensures.received)
+    (taken c.in_ok-came.came c.ask_one.new.reply.items) _ _ c.in-Done.ensures.done c.write_wanted.ensures c.in_ok-came.ensures.received)
     (when_copied _ _ c.in-Done-2.is c.in_ok-end.ensures.done)
     (where_none c.in_ok-came-2.came c.ask_telling.new.reply.items _ none c.in_ok-came-2.ensures.known)))
 
@@ -147,11 +147,11 @@ returns-clause-ended g c =
     let yes : c.in_ok-came-2.came ≡ true = search rules in
     put_not_closed _ _ _ _ c.args.first c.chunk_count.result c.args.path.now c.args.bytes.now _ _ _ _ c.settled-2.result
     (is_received c.in_ok-came-2.came _ yes)
-    c.chunk_count.ensures.value c.spell_count-2.ensures
+    c.chunk_count.ensures.value c.write_wanted-2.ensures
     (wanted_received
     (λ x. Since (g.T.Talk.talked c.args.talk.now) (g.T.Talk.talked c.ask_one.new.talk)
     (spelling_of (decimal c.args.first) file_handle (OpenWrite c.args.path.now) ∷ []) (x ∷ []))
-    (taken c.in_ok-came.came c.ask_one.new.reply.items) _ _ c.in-Done.ensures.done c.spell_count.ensures c.in_ok-came.ensures.received)
+    (taken c.in_ok-came.came c.ask_one.new.reply.items) _ _ c.in-Done.ensures.done c.write_wanted.ensures c.in_ok-came.ensures.received)
     (when_copied _ _ c.in-Done-2.is c.in_ok-end.ensures.done) c.in_ok-came-2.ensures.all c.settled-2.ensures.ended
 
 pub returns-in_default-clause-begun : goal.returns-in_default-clause-begun

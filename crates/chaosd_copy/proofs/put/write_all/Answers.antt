@@ -28,7 +28,7 @@ loop-i-preserved g c =
       patient = c.next_reply.ensures.patient ∙ c.loop-i.invariant.patient;
       place = h.1 ∙ ap (λ n. n + 1) c.loop-i.invariant.place;
       talk = received_at _ _ _ (write_received c.args.first c.args.bytes.now) c.loop-i.i _ _ is
-          (c.spell_count.ensures
+          (c.write_wanted.ensures
           ∙ ap (λ n. reply_of (decimal (c.args.first + c.loop-i.i)) file_handle (Wrote n)) c.min-written.ensures)
           (c.in_ok-came.ensures.talk _ _ c.loop-i.invariant.talk);
     }
@@ -49,13 +49,13 @@ pub returns-then-not-is_wanted-clause-ended : goal.returns-then-not-is_wanted-cl
 returns-then-not-is_wanted-clause-ended g c =
     let no : c.is_wanted.result ≡ false = search rules in
     let last = taken c.in_ok-came.came c.next_reply.new.reply.items in
-    writes_not_done _ _ _ c.args.first c.loop-i.i c.args.bytes.now c.spell_count.new.text.items last c.refusal.result
+    writes_not_done _ _ _ c.args.first c.loop-i.i c.args.bytes.now c.write_wanted.new.wanted.items last c.refusal.result
     (omega (arith, c.loop-i-test.true, c.chunk_count-count.ensures.value))
-    (c.spell_count.ensures
+    (c.write_wanted.ensures
     ∙ ap (λ n. reply_of (decimal (c.args.first + c.loop-i.i)) file_handle (Wrote n)) c.min-written.ensures)
     (c.in_ok-came.ensures.talk _ _ c.loop-i.invariant.talk)
     (unless c.refusal.result _
-    (refused_wanted _ _ c.spell_count.new.text.items last c.refusal.result c.is_wanted.result c.is_wanted.ensures no
+    (refused_wanted _ _ c.write_wanted.new.wanted.items last c.refusal.result c.is_wanted.result c.is_wanted.ensures no
     c.refusal.ensures))
 
 pub returns-then-not-is_wanted-clause-waited : goal.returns-then-not-is_wanted-clause-waited

@@ -11,7 +11,7 @@ returns-clause-done g c =
     copied_then _ _ _ (λ e. wanted_received
     (λ x. Since (g.T.Talk.talked c.args.talk.now) (g.T.Talk.talked c.ask_one.new.talk)
     (login_command c.args.name.now ∷ []) (x ∷ []))
-    (taken c.in_ok-came.came c.ask_one.new.reply.items) _ _ e c.spell.ensures c.in_ok-came.ensures.received) c.settled.ensures.done
+    (taken c.in_ok-came.came c.ask_one.new.reply.items) _ _ e c.write_wanted.ensures c.in_ok-came.ensures.received) c.settled.ensures.done
 
 pub returns-clause-waited : goal.returns-clause-waited
 returns-clause-waited g c =

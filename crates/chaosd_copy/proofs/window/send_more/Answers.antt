@@ -17,7 +17,7 @@ loop-i-preserved g c = record {
       let yes : c.send.result ≡ true = search rules in
       sent_next _ _ _ (row_command c.args.row.now) c.loop-i.i replies c.send.result _
       (c.loop-i.invariant.talk start replies h) c.send.ensures.sent yes
-      (c.as_slice.ensures.value ∙ c.command.ensures);
+      (c.as_slice.ensures.value ∙ c.spell_at.ensures);
   quiet = quiet_send _ _ _ _ _ c.loop-i.invariant.quiet c.send.ensures.sent;
   still = c.send.ensures.still ∙ c.loop-i.invariant.still;
   unfailed = c.send.ensures.unfailed ∙ c.loop-i.invariant.unfailed;
