@@ -16,6 +16,7 @@ pub trait Copier {
 
     /// Tries to copy the file of this name.
     fn copy(&mut self, name: &str) -> Outcome<Self::Why>
+        // A try comes to what the copier says that it may come to.
         ensures { tries self.old name.now result self.new };
 }
 
@@ -26,7 +27,9 @@ pub trait Teller<W> {
 
     /// This came of the file of this name.
     fn tell(&mut self, name: &str, outcome: &Outcome<W>)
-        ensures { told self.new ≡ told_after (record { name = name.now; outcome = outcome.now } ∷ []) (told self.old) };
+        // What was told before is followed by what came of this file, under its name.
+        ensures { told self.new
+            ≡ told_after (record { name = name.now; outcome = outcome.now } ∷ []) (told self.old) };
 }
 
 /// What came of the files so far.
@@ -52,8 +55,10 @@ fn copy_next<C: Copier>(copier: &mut C, goes_on: bool, name: &str) -> Outcome<C:
 /// Takes one file more, and tells what came of it.
 fn run_next<C: Copier, T: Teller<C::Why>>(copier: &mut C, teller: &mut T, run: &mut Run, name: &str)
     ensures { (start : C) (told : Option (List (Told C.Why))) (names : List (List ℕ)) →
-        Runs C.tries start told names run.old.status run.old.goes_on copier.old (T.told teller.old) →
-        Runs C.tries start told (names ++ name.now ∷ []) run.new.status run.new.goes_on copier.new (T.told teller.new) }
+        Runs C.tries start told names run.old.status run.old.goes_on copier.old
+            (T.told teller.old) →
+        Runs C.tries start told (names ++ name.now ∷ []) run.new.status run.new.goes_on copier.new
+            (T.told teller.new) }
 {
     let outcome = copy_next(copier, run.goes_on, name);
     run.status = run.status.worse(outcome.status());
@@ -61,14 +66,19 @@ fn run_next<C: Copier, T: Teller<C::Why>>(copier: &mut C, teller: &mut T, run: &
     teller.tell(name, &outcome);
 }
 
-/// Copies the files of these names, one after another, and tells what came of each. The answer is the worst status, which is `Done`
-/// exactly where all were copied.
+/// Copies the files of these names, one after another, and tells what came of each. The answer is
+/// the worst status, which is `Done` exactly where all were copied.
 pub fn run_copies<C: Copier, T: Teller<C::Why>>(
     copier: &mut C,
     teller: &mut T,
     names: &[&str],
 ) -> ExitStatus
-    ensures { (goes_on : Bool) × Runs C.tries copier.old (T.told teller.old) (map (λ name. name.now) names.now) result goes_on copier.new (T.told teller.new) }
+    // Each file is tried in its turn until one ends the run, and those behind it are told as not
+    // tried. What came of each is told under its name, in order. The status is the worst of theirs,
+    // so it is Done exactly where what was asked for was done with each.
+    ensures { (goes_on : Bool)
+        × Runs C.tries copier.old (T.told teller.old) (map (λ name. name.now) names.now) result
+        goes_on copier.new (T.told teller.new) }
 {
     let mut run = Run {
         status: ExitStatus::Done,

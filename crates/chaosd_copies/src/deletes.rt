@@ -20,8 +20,10 @@ pub struct Deletes<'a, D: Dialog, V: Viewer> {
 impl<D: Dialog, V: Viewer> Copier for Deletes<'_, D, V> {
     type Why = D::Why;
 
-    /// A file is told as changed only where the server said that it deleted it.
-    ghost tries = { λ _ path outcome new. IfChanged outcome (HasDeleted path (D.talked new.session.watched.inner)) };
+    /// A file is told as changed only where the last that was sent and received is its DELETE, and
+    /// that it was done.
+    ghost tries = { λ _ path outcome new. IfChanged outcome
+        (HasDeleted path (D.talked new.session.watched.inner)) };
 
     fn copy(&mut self, path: &str) -> Outcome<D::Why> {
         if path.len() > MAX_PATH {

@@ -37,8 +37,9 @@ fn place_of(name: &str) -> Place {
     }
 }
 
-/// The files of the system. `-` is standard input, or standard output, as is `/dev/stdout`; what is written to `/dev/null` is gone, and
-/// nothing is read from there. A fifo, a socket and a device are read by no other name.
+/// The files of the system. `-` is standard input, or standard output, as is `/dev/stdout`; what is
+/// written to `/dev/null` is gone, and nothing is read from there. A fifo, a socket and a device
+/// are read by no other name.
 ///
 /// No clause says what a disk has, so it tells nothing of what it wrote and has.
 #[derive(Drop)]

@@ -40,11 +40,14 @@ impl<D: Dialog, L: Locals, V: Viewer> Gets<'_, D, L, V> {
     /// The bytes of a file, as a text where that is asked for.
     fn bytes_of(&mut self, path: &str) -> Result<Vec<u8>, Outcome<D::Why>>
         requires { length path.now ≤ MAX_PATH }
-        ensures got { IfOk result (λ v. (bytes : List ℕ) × HasGot path.now bytes (D.talked self.new.session.watched.inner)
+        ensures got { IfOk result
+            (λ v. (bytes : List ℕ) × HasGot path.now bytes (D.talked self.new.session.watched.inner)
             × (v.items ≡ bytes_in Charset.Ascii self.old.is_text bytes)) }
         ensures missed { IfErr result (λ outcome. is_well outcome ≡ false) }
-        ensures same { (self.new.locals ≡ self.old.locals) × (self.new.is_digested ≡ self.old.is_digested) }
-        ensures same_target { (self.new.target ≡ self.old.target) × (self.new.is_text ≡ self.old.is_text) }
+        ensures same { (self.new.locals ≡ self.old.locals)
+            × (self.new.is_digested ≡ self.old.is_digested) }
+        ensures same_target { (self.new.target ≡ self.old.target)
+            × (self.new.is_text ≡ self.old.is_text) }
     {
         let mut bytes = Vec::new(self.alloc);
         self.session.get(path, &mut bytes)?;
@@ -56,12 +59,15 @@ impl<D: Dialog, L: Locals, V: Viewer> Gets<'_, D, L, V> {
 
     /// Writes a local file.
     fn keep(&mut self, local: &str, bytes: &[u8]) -> Result<Contents, Outcome<D::Why>>
-        ensures kept { IfOk result (λ contents. (contents ≡ contents_of self.old.is_digested bytes.now)
+        ensures kept { IfOk result
+            (λ contents. (contents ≡ contents_of self.old.is_digested bytes.now)
             × (L.kept self.new.locals ≡ kept_after local.now bytes.now (L.kept self.old.locals))) }
         ensures failed { OnErr result (L.kept self.new.locals ≡ L.kept self.old.locals) }
         ensures missed { IfErr result (λ outcome. is_well outcome ≡ false) }
         ensures still { self.new.session ≡ self.old.session }
-        ensures same_target { (self.new.target ≡ self.old.target) × (self.new.is_text ≡ self.old.is_text) × (self.new.is_digested ≡ self.old.is_digested) }
+        ensures same_target { (self.new.target ≡ self.old.target)
+            × (self.new.is_text ≡ self.old.is_text)
+            × (self.new.is_digested ≡ self.old.is_digested) }
     {
         match self.locals.keep(local, bytes) {
             Ok(()) => Ok(Contents::of(bytes, self.is_digested)),
@@ -69,13 +75,18 @@ impl<D: Dialog, L: Locals, V: Viewer> Gets<'_, D, L, V> {
         }
     }
 
-    /// Gets a file into a local one, of which it is made sure before anything is said that it can be written.
+    /// Gets a file into a local one, of which it is made sure before anything is said that it can
+    /// be written.
     fn get_into(&mut self, path: &str, local: &str) -> Result<Contents, Outcome<D::Why>>
-        ensures got { IfOk result (λ contents. GetsWhole path.now local.now self.old.is_text self.old.is_digested contents
-            (D.talked self.new.session.watched.inner) (L.kept self.old.locals) (L.kept self.new.locals)) }
+        ensures got { IfOk result
+            (λ contents. GetsWhole path.now local.now self.old.is_text self.old.is_digested contents
+            (D.talked self.new.session.watched.inner) (L.kept self.old.locals)
+                (L.kept self.new.locals)) }
         ensures failed { OnErr result (L.kept self.new.locals ≡ L.kept self.old.locals) }
         ensures missed { IfErr result (λ outcome. is_well outcome ≡ false) }
-        ensures same_target { (self.new.target ≡ self.old.target) × (self.new.is_text ≡ self.old.is_text) × (self.new.is_digested ≡ self.old.is_digested) }
+        ensures same_target { (self.new.target ≡ self.old.target)
+            × (self.new.is_text ≡ self.old.is_text)
+            × (self.new.is_digested ≡ self.old.is_digested) }
     {
         if path.len() > MAX_PATH {
             return Err(Outcome::TooLong);
@@ -93,11 +104,16 @@ impl<D: Dialog, L: Locals, V: Viewer> Gets<'_, D, L, V> {
 impl<D: Dialog, L: Locals, V: Viewer> Copier for Gets<'_, D, L, V> {
     type Why = D::Why;
 
-    /// A file is told as copied only where it was got and is written whole; else no local file changes.
+    /// A file is told as copied only where the last that was sent and received is all that gets
+    /// this path's bytes, and exactly these, as a text where that is asked for, were then written
+    /// to the local file that the path goes to. The count and the digest that are told are theirs.
+    /// Where it isn't told as copied, no local file changed.
     ghost tries = { λ old path outcome new. MatchCopied outcome
-        (λ contents. GetsWhole path (local_of old.target path) old.is_text old.is_digested contents (D.talked new.session.watched.inner) (L.kept old.locals) (L.kept new.locals))
+        (λ contents. GetsWhole path (local_of old.target path) old.is_text old.is_digested contents
+            (D.talked new.session.watched.inner) (L.kept old.locals) (L.kept new.locals))
         (L.kept new.locals ≡ L.kept old.locals)
-        × ((new.target ≡ old.target) × (new.is_text ≡ old.is_text) × (new.is_digested ≡ old.is_digested)) };
+        × ((new.target ≡ old.target) × (new.is_text ≡ old.is_text)
+            × (new.is_digested ≡ old.is_digested)) };
 
     fn copy(&mut self, path: &str) -> Outcome<D::Why> {
         let Ok(local) = self.target.local(self.alloc, path) else {

@@ -1,8 +1,9 @@
-//! Files that are copied, one after another, between local ones and another host's: which goes where, what is told of each, and how a
-//! run ends.
+//! Files that are copied, one after another, between local ones and another host's: which goes
+//! where, what is told of each, and how a run ends.
 //!
-//! It stands on no socket and prints nothing: its user hands in the connection ([`Dialog`]), the local files ([`Locals`]), whom to tell
-//! ([`Teller`]) and whom to show how far a file has come ([`Viewer`]).
+//! It stands on no socket and prints nothing: its user hands in the connection ([`Dialog`]), the
+//! local files ([`Locals`]), whom to tell ([`Teller`]) and whom to show how far a file has come
+//! ([`Viewer`]).
 #![tactic(auto)]
 
 mod copier;

@@ -18,6 +18,7 @@ pub trait Locals {
     /// # Errors
     /// Those of the system, and where something else than a file has the name.
     fn check(&mut self, name: &str) -> io::Result<()>
+        // To make sure that a file can be written writes none.
         ensures { kept self.new ≡ kept self.old };
 
     /// Writes a file of this name whole, in place of one that has it.
@@ -25,7 +26,10 @@ pub trait Locals {
     /// # Errors
     /// Those of the system: nothing changes then, and nothing is left.
     fn keep(&mut self, name: &str, bytes: &[u8]) -> io::Result<()>
-        ensures written { OnOk result (kept self.new ≡ kept_after name.now bytes.now (kept self.old)) }
+        // A file is written whole.
+        ensures written { OnOk result
+            (kept self.new ≡ kept_after name.now bytes.now (kept self.old)) }
+        // Otherwise nothing is written.
         ensures failed { OnErr result (kept self.new ≡ kept self.old) };
 
     /// All bytes of a file, or None where they are more than a file of FILE may have.
@@ -33,6 +37,9 @@ pub trait Locals {
     /// # Errors
     /// Those of the system.
     fn read(&mut self, name: &str) -> io::Result<Option<Vec<u8>>>
+        // What is read is no more than a file of FILE may have.
         ensures fits { IfOk result (λ o. IfSome o (λ v. length v.items ≤ MAX_FILE)) }
-        ensures whole { IfOk result (λ o. IfSome o (λ v. IfSome (held self.old name.now) (λ all. v.items ≡ all))) };
+        // What is read is all that the file has, where that is known.
+        ensures whole { IfOk result
+            (λ o. IfSome o (λ v. IfSome (held self.old name.now) (λ all. v.items ≡ all))) };
 }

@@ -28,6 +28,8 @@ impl<'a> Target<'a> {
 
     /// The local file that a path goes to.
     pub fn local(self, alloc: Global, path: &str) -> Result<String, AllocError>
+        // A path goes to the local file of its own name, to the file that was given, or to that
+        // name behind the folder.
         ensures { IfOk result (λ name. string_bytes name ≡ local_of self.entry path.now) }
     {
         let mut name = String::new(alloc);
@@ -50,5 +52,6 @@ pub trait Naming {
 
     /// The path that the local file of this name goes to, where there is one.
     fn path(&self, local: &str) -> Option<FilePath>
+        // A local file goes to the path that the naming says.
         ensures { option_map (λ p. p.items) result ≡ path self.now local.now };
 }

@@ -99,6 +99,8 @@ fn status_of_error(fault: &io::Error) -> ExitStatus
 impl<W> Outcome<W> {
     /// The status of a run over this file alone.
     pub fn status(&self) -> ExitStatus
+        // Only a file that was copied or changed is Done. Any other status is that of what came of
+        // the file.
         ensures { result ≡ status_of self.now }
     {
         match self {
@@ -119,7 +121,8 @@ impl<W> Outcome<W> {
 
     /// What came of a file that was copied, or else of one that wasn't.
     pub(crate) fn of(tried: Result<Contents, Self>) -> Self
-        ensures { MatchResult tried (λ contents. result ≡ Outcome.Copied contents) (λ outcome. result ≡ outcome) }
+        ensures { MatchResult tried (λ contents. result ≡ Outcome.Copied contents)
+            (λ outcome. result ≡ outcome) }
     {
         match tried {
             Ok(contents) => Outcome::Copied(contents),
@@ -129,6 +132,7 @@ impl<W> Outcome<W> {
 
     /// What came of a change that was made, or else of one that wasn't.
     pub fn of_change(tried: Result<(), Self>) -> Self
+        // A change that was made is told as such, and what came of any other stays.
         ensures { MatchResult tried (λ _. result ≡ Outcome.Changed) (λ outcome. result ≡ outcome) }
     {
         match tried {
@@ -139,6 +143,8 @@ impl<W> Outcome<W> {
 
     /// Whether the next file is tried.
     pub fn goes_on(&self) -> bool
+        // The next file is tried, but not after a fault of the run, a reply that answers no such
+        // command, or a missing reply.
         ensures { result ≡ goes_on self.now }
     {
         match self {

@@ -6,7 +6,8 @@ use chaos_file::{MAX_CHUNK, Reply, read_reply};
 pub(crate) struct Progress {
     /// The file's bytes, where they are known.
     whole: Option<usize>,
-    /// The replies that came: the first is that to OPEN, and each further one stands for a piece of the file.
+    /// The replies that came: the first is that to OPEN, and each further one stands for a piece of
+    /// the file.
     replies: usize,
     /// The moment when the copy began.
     since: u64,

@@ -33,10 +33,13 @@ pub struct Puts<'a, D: Dialog, L: Locals, V: Viewer, N: Naming> {
 impl<D: Dialog, L: Locals, V: Viewer, N: Naming> Puts<'_, D, L, V, N> {
     /// All bytes of a local file.
     fn bytes_of(&mut self, local: &str) -> Result<Vec<u8>, Outcome<D::Why>>
-        ensures whole { IfOk result (λ v. IfSome (L.held self.old.locals local.now) (λ all. v.items ≡ all)) }
+        ensures whole { IfOk result
+            (λ v. IfSome (L.held self.old.locals local.now) (λ all. v.items ≡ all)) }
         ensures fits { IfOk result (λ v. length v.items ≤ MAX_FILE) }
         ensures missed { IfErr result (λ outcome. is_well outcome ≡ false) }
-        ensures same { (self.new.session ≡ self.old.session) × (self.new.naming ≡ self.old.naming) × (self.new.is_text ≡ self.old.is_text) × (self.new.is_digested ≡ self.old.is_digested) }
+        ensures same { (self.new.session ≡ self.old.session) × (self.new.naming ≡ self.old.naming)
+            × (self.new.is_text ≡ self.old.is_text)
+            × (self.new.is_digested ≡ self.old.is_digested) }
     {
         match self.locals.read(local) {
             Ok(Some(bytes)) => Ok(bytes),
@@ -47,10 +50,13 @@ impl<D: Dialog, L: Locals, V: Viewer, N: Naming> Puts<'_, D, L, V, N> {
 
     /// Puts a local file, which is read whole before anything is sent.
     fn put_from(&mut self, local: &str, path: &[u8]) -> Result<Contents, Outcome<D::Why>>
-        ensures put { IfOk result (λ contents. PutsWhole path.now (L.held self.old.locals local.now) self.old.is_text self.old.is_digested contents
+        ensures put { IfOk result
+            (λ contents. PutsWhole path.now (L.held self.old.locals local.now) self.old.is_text
+            self.old.is_digested contents
             (D.talked self.new.session.watched.inner)) }
         ensures missed { IfErr result (λ outcome. is_well outcome ≡ false) }
-        ensures same { (self.new.naming ≡ self.old.naming) × (self.new.is_text ≡ self.old.is_text) × (self.new.is_digested ≡ self.old.is_digested) }
+        ensures same { (self.new.naming ≡ self.old.naming) × (self.new.is_text ≡ self.old.is_text)
+            × (self.new.is_digested ≡ self.old.is_digested) }
     {
         if path.len() > MAX_PATH {
             return Err(Outcome::TooLong);
@@ -71,12 +77,15 @@ impl<D: Dialog, L: Locals, V: Viewer, N: Naming> Puts<'_, D, L, V, N> {
 impl<D: Dialog, L: Locals, V: Viewer, N: Naming> Copier for Puts<'_, D, L, V, N> {
     type Why = D::Why;
 
-    /// A file is told as copied only where all of it was put, to the path that it goes to.
+    /// A file is told as copied only where the last that was sent and received is all that puts
+    /// what the local file has, as a text where that is asked for, to the path that it goes to.
     ghost tries = { λ old local outcome new. MatchCopied outcome
         (λ contents. (path : List ℕ) × (N.path old.naming local ≡ Some path)
-        × PutsWhole path (L.held old.locals local) old.is_text old.is_digested contents (D.talked new.session.watched.inner))
+        × PutsWhole path (L.held old.locals local) old.is_text old.is_digested contents
+            (D.talked new.session.watched.inner))
         (Unit {0})
-        × ((new.naming ≡ old.naming) × (new.is_text ≡ old.is_text) × (new.is_digested ≡ old.is_digested)) };
+        × ((new.naming ≡ old.naming) × (new.is_text ≡ old.is_text)
+            × (new.is_digested ≡ old.is_digested)) };
 
     fn copy(&mut self, local: &str) -> Outcome<D::Why> {
         match self.naming.path(local) {

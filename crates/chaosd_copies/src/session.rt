@@ -11,12 +11,13 @@ use crate::watched::{Viewer, Watched};
 use chaosd_copy::{CopyEnd, delete_file, get_file, log_in, put_file, rename_file};
 use chaosd_io::RunFault;
 
-/// The number from which on a file's commands are named. Each file begins with it: a reply that is still on its way finds a
-/// connection that is gone, since one is made anew after each file whose replies were not all received.
+/// The number from which on a file's commands are named. Each file begins with it: a reply that is
+/// still on its way finds a connection that is gone, since one is made anew after each file whose
+/// replies were not all received.
 const FIRST: u32 = 1;
 
-/// A user who copies files over a connection, which is made anew after a file that wasn't copied: then replies may still be on their
-/// way.
+/// A user who copies files over a connection, which is made anew after a file that wasn't copied:
+/// then replies may still be on their way.
 #[derive(Drop)]
 pub struct Session<'a, D: Dialog, V: Viewer> {
     /// The dialog with the server, and whoever is shown how far a file has come.
@@ -31,6 +32,7 @@ impl<'a, D: Dialog, V: Viewer> Session<'a, D, V> {
     /// Nothing is sent yet.
     pub fn new(dialog: D, viewer: V, login: &'a str) -> Self
         requires { length login.now ≤ MAX_NAME }
+        // The session has the dialog that was handed in.
         ensures { result.watched.inner ≡ dialog }
     {
         Session {
@@ -77,7 +79,8 @@ impl<'a, D: Dialog, V: Viewer> Session<'a, D, V> {
     fn get_on(&mut self, path: &[u8], bytes: &mut Vec<u8>) -> Result<CopyEnd, RunFault>
         requires path { length path.now ≤ MAX_PATH }
         requires empty { bytes.old.items ≡ [] }
-        ensures { IfDone result (HasGot path.now bytes.new.items (D.talked self.new.watched.inner)) }
+        ensures { IfDone result
+            (HasGot path.now bytes.new.items (D.talked self.new.watched.inner)) }
     {
         let end = get_file(&mut self.watched, FIRST, path, bytes);
         self.watched.end();
@@ -89,7 +92,8 @@ impl<'a, D: Dialog, V: Viewer> Session<'a, D, V> {
     pub(crate) fn get(&mut self, path: &str, bytes: &mut Vec<u8>) -> Result<(), Outcome<D::Why>>
         requires path { length path.now ≤ MAX_PATH }
         requires empty { bytes.old.items ≡ [] }
-        ensures got { OnOk result (HasGot path.now bytes.new.items (D.talked self.new.watched.inner)) }
+        ensures got { OnOk result
+            (HasGot path.now bytes.new.items (D.talked self.new.watched.inner)) }
         ensures missed { IfErr result (λ outcome. is_well outcome ≡ false) }
     {
         self.enter()?;
@@ -128,7 +132,8 @@ impl<'a, D: Dialog, V: Viewer> Session<'a, D, V> {
         self.settled(end)
     }
 
-    /// How a change ended that was asked for: where no reply came it isn't known whether it was made.
+    /// How a change ended that was asked for: where no reply came it isn't known whether it was
+    /// made.
     fn settled_change(&mut self, end: Result<CopyEnd, RunFault>) -> Result<(), Outcome<D::Why>>
         ensures done { OnOk result (end ≡ Ok CopyEnd.Done) }
         ensures missed { IfErr result (λ outcome. is_well outcome ≡ false) }
@@ -149,10 +154,14 @@ impl<'a, D: Dialog, V: Viewer> Session<'a, D, V> {
     /// Has the server delete a file.
     ///
     /// # Errors
-    /// What came of it otherwise: it is `Unknown` whether that was done where the command got no reply.
+    /// What came of it otherwise: it is `Unknown` whether that was done where the command got no
+    /// reply.
     pub fn delete(&mut self, path: &[u8]) -> Result<(), Outcome<D::Why>>
         requires { length path.now ≤ MAX_PATH }
+        // Where it is done, the last that was sent is the DELETE of this path, and the last that
+        // was received says that it was done.
         ensures done { OnOk result (HasDeleted path.now (D.talked self.new.watched.inner)) }
+        // Otherwise what came of it is no success.
         ensures missed { IfErr result (λ outcome. is_well outcome ≡ false) }
     {
         self.enter()?;
@@ -163,11 +172,15 @@ impl<'a, D: Dialog, V: Viewer> Session<'a, D, V> {
     /// Has the server rename a file.
     ///
     /// # Errors
-    /// What came of it otherwise: it is `Unknown` whether that was done where the command got no reply.
+    /// What came of it otherwise: it is `Unknown` whether that was done where the command got no
+    /// reply.
     pub fn rename(&mut self, old: &[u8], new: &[u8]) -> Result<(), Outcome<D::Why>>
         requires old { length old.now ≤ MAX_PATH }
         requires new { length new.now ≤ MAX_PATH }
+        // Where it is done, the last that was sent is the RENAME of these paths, and the last that
+        // was received says that it was done.
         ensures done { OnOk result (HasRenamed old.now new.now (D.talked self.new.watched.inner)) }
+        // Otherwise what came of it is no success.
         ensures missed { IfErr result (λ outcome. is_well outcome ≡ false) }
     {
         self.enter()?;

@@ -10,8 +10,8 @@ use std::{fs, io};
 /// So many links are followed from a name to a pipe: the system's own names need two.
 const MAX_LINKS: usize = 8;
 
-/// Whether a name is one of the system's for a pipe that this process has open, as `/dev/fd/63` of a shell's `<(..)` and `/dev/stdin`: it
-/// is a link, whose text is no path and names the pipe.
+/// Whether a name is one of the system's for a pipe that this process has open, as `/dev/fd/63` of
+/// a shell's `<(..)` and `/dev/stdin`: it is a link, whose text is no path and names the pipe.
 fn leads_to_pipe<R: Files>(rt: &R, alloc: Global, name: &str, info: &Metadata) -> io::Result<bool> {
     let inode = info.ino();
     let pipe = format!(in alloc; "pipe:[{inode}]")?;
@@ -28,8 +28,8 @@ fn leads_to_pipe<R: Files>(rt: &R, alloc: Global, name: &str, info: &Metadata) -
     Ok(place.as_str() == pipe.as_str())
 }
 
-/// What is named is to be a file, or a pipe that this process has open. Nothing else is opened: who opens a fifo waits for whoever writes
-/// into it, and a device may do as it likes.
+/// What is named is to be a file, or a pipe that this process has open. Nothing else is opened: who
+/// opens a fifo waits for whoever writes into it, and a device may do as it likes.
 ///
 /// # Errors
 /// The system's, and what has the name where that is neither.

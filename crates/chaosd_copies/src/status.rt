@@ -22,6 +22,7 @@ pub enum ExitStatus {
 impl ExitStatus {
     /// The number that the program ends with.
     pub fn number(self) -> u8
+        // From well to worst the numbers are 0, 3, 2, 1 and 4.
         ensures { result ≡ number_of self }
     {
         match self {
@@ -42,6 +43,7 @@ impl ExitStatus {
 
     /// The worse of two.
     pub fn worse(self, other: ExitStatus) -> ExitStatus
+        // Of the two statuses it is the worse.
         ensures { result ≡ worse self other }
     {
         if self.rank() < other.rank() {
@@ -53,7 +55,9 @@ impl ExitStatus {
 
     /// That of a run which ended by this fault.
     pub fn of_fault(fault: RunFault) -> ExitStatus
+        // Out of memory is NoMemory, a bad line is BadLine, and every other fault is Fault.
         ensures value { result ≡ status_of_fault fault }
+        // The status has the number that `fault_status` gives the fault.
         ensures number { number_of result ≡ fault_status fault }
     {
         match fault {
@@ -69,6 +73,8 @@ impl ExitStatus {
 
     /// That of a run which ended well, in which something was refused, or by a fault.
     pub fn of_run(end: Result<bool, RunFault>) -> ExitStatus
+        // A run that did all is Done, a run in which something was refused is Refused, and a run
+        // that failed has the status of its fault.
         ensures { result ≡ status_of_run end }
     {
         match end {

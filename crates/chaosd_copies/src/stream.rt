@@ -15,8 +15,9 @@ fn file_len<R: Files>(rt: &R) -> Option<u64> {
     }
 }
 
-/// Where standard output leads into a file, so many bytes more than the process may write are refused: the system would end the process
-/// at its write. They are taken to go behind what the file has.
+/// Where standard output leads into a file, so many bytes more than the process may write are
+/// refused: the system would end the process at its write. They are taken to go behind what the
+/// file has.
 fn require_room_behind<R: Files>(rt: &R, bytes: &[u8]) -> io::Result<()> {
     match file_len(rt) {
         Some(len) => require_room(len.saturating_add(bytes.len() as u64)),
@@ -27,7 +28,8 @@ fn require_room_behind<R: Files>(rt: &R, bytes: &[u8]) -> io::Result<()> {
 /// Writes to standard output.
 ///
 /// # Errors
-/// Those of the system, and where a file that it leads into would be longer than the process may write: then nothing is written.
+/// Those of the system, and where a file that it leads into would be longer than the process may
+/// write: then nothing is written.
 pub(crate) fn write_stream<R: Files + Print>(rt: &R, bytes: &[u8]) -> io::Result<()> {
     require_room_behind(rt, bytes)?;
     let mut writer = io::writer(rt);

@@ -48,7 +48,8 @@ pub(crate) fn has_returns(text: &[u8]) -> bool {
     false
 }
 
-/// Puts a file's bytes into this character set, where they are a text. The error is the first byte that would not come back.
+/// Puts a file's bytes into this character set, where they are a text. The error is the first byte
+/// that would not come back.
 fn put_in(set: Charset, is_text: bool, bytes: &mut [u8]) -> Result<(), u8>
     ensures { OnOk result (bytes.new ≡ bytes_in set is_text bytes.old) }
 {

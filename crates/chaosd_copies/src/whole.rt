@@ -24,8 +24,8 @@ fn part_of(alloc: Global, path: &str, mark: u16) -> io::Result<String> {
     Ok(format!(in alloc; "{folder}/.{name}.{mark}.part")?)
 }
 
-/// The file that has a name, where one has it. A folder, a link, a fifo, a socket and a device are refused, since a rename would take
-/// their place.
+/// The file that has a name, where one has it. A folder, a link, a fifo, a socket and a device are
+/// refused, since a rename would take their place.
 fn replaced_at<R: Files>(rt: &R, path: &str) -> io::Result<Option<Metadata>> {
     match rt.symlink_metadata(path) {
         Ok(info) if info.is_file() => Ok(Some(info)),
@@ -35,7 +35,8 @@ fn replaced_at<R: Files>(rt: &R, path: &str) -> io::Result<Option<Metadata>> {
     }
 }
 
-/// Makes sure that a file of this name can be written: its name beside is taken for a moment, and nothing is left.
+/// Makes sure that a file of this name can be written: its name beside is taken for a moment, and
+/// nothing is left.
 pub(crate) fn check_whole<R: Files>(
     rt: &R,
     alloc: Global,
@@ -49,13 +50,14 @@ pub(crate) fn check_whole<R: Files>(
     fs::remove_file(rt, part.as_str())
 }
 
-/// Writes a file whole: beside its place first, under a name with a dot in front and this mark; then it is flushed, and then it gets its
-/// name, in place of a file that had it, whose mode it has. So no half file ever has the name. The mark is one that no other writer of
-/// this folder has.
+/// Writes a file whole: beside its place first, under a name with a dot in front and this mark;
+/// then it is flushed, and then it gets its name, in place of a file that had it, whose mode it
+/// has. So no half file ever has the name. The mark is one that no other writer of this folder has.
 ///
 /// # Errors
-/// Those of the system, and where it is longer than the process may write: then what had the name has it still, but where the last flush
-/// of the folder failed; and nothing is left beside it, but where that could not be removed either.
+/// Those of the system, and where it is longer than the process may write: then what had the name
+/// has it still, but where the last flush of the folder failed; and nothing is left beside it, but
+/// where that could not be removed either.
 pub(crate) fn write_at<R: Files>(
     rt: &R,
     alloc: Global,
