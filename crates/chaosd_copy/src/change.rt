@@ -13,7 +13,8 @@ use crate::window::{ask_one, settled};
 use chaos_file::{Command, Reply, Said};
 use chaosd_io::RunFault;
 
-/// Renames a file, by a RENAME of this name. Where the answer is `Done`, that was sent and answered.
+/// Renames a file, by a RENAME of this name. Where the answer is `Done`, that was sent and
+/// answered.
 ///
 /// Where no reply came it isn't known whether the server did so: the command may have reached it.
 ///
@@ -28,13 +29,22 @@ pub fn rename_file<T: Talk>(
     requires tid { tid ≤ MAX_FIRST }
     requires old { length old.now ≤ MAX_PATH }
     requires new { length new.now ≤ MAX_PATH }
-    ensures done { IfDone result (Since (T.talked talk.old) (T.talked talk.new) (rename_command tid old.now new.now ∷ []) (rename_reply tid ∷ [])) }
-    // Where it wasn't done, it ended by the reply, which was another, or by none.
-    ensures ended { UnlessDone result (EndedAt (T.talked talk.old) (T.talked talk.new) [] (decimal tid) [] (λ r. r ≡ rename_reply tid)) }
-    // However it ended, nothing but this command was sent.
-    ensures begun { SentOrNot (T.talked talk.old) (T.talked talk.new) (rename_command tid old.now new.now) }
-    // It got no reply only where one was waited for long enough, or no more come.
-    ensures waited { IfUnanswered result ((t : T) × InVain (T.talked t) (T.course t) (T.talked talk.new) (T.course talk.new)) }
+    // Where it was done, this RENAME was sent and answered, and nothing else.
+    ensures done { IfDone result
+        (Since (T.talked talk.old) (T.talked talk.new) (rename_command tid old.now new.now ∷ [])
+        (rename_reply tid ∷ [])) }
+    // Otherwise `Refused` is an error reply to the RENAME, `Strange` is neither such a reply nor
+    // the one that was hoped for, and each is the one reply that was received. With `NoReply` none
+    // was.
+    ensures ended { UnlessDone result
+        (EndedAt (T.talked talk.old) (T.talked talk.new) [] (decimal tid) []
+        (λ r. r ≡ rename_reply tid)) }
+    // However it ended, nothing but this RENAME was sent, and once at most.
+    ensures begun { SentOrNot (T.talked talk.old) (T.talked talk.new)
+        (rename_command tid old.now new.now) }
+    // It got no reply only after such a wait as a login.
+    ensures waited { IfUnanswered result
+        ((t : T) × InVain (T.talked t) (T.course t) (T.talked talk.new) (T.course talk.new)) }
     // It ends well only where no failure was counted.
     ensures unfailed { OnOk result ((T.course talk.new).failures ≤ (T.course talk.old).failures) }
     // The talk stays as patient as it was.
@@ -49,7 +59,8 @@ pub fn rename_file<T: Talk>(
     Ok(settled(came, &reply, &wanted, tid, b""))
 }
 
-/// Deletes a file, by a DELETE of this name. Where the answer is `Done`, that was sent and answered.
+/// Deletes a file, by a DELETE of this name. Where the answer is `Done`, that was sent and
+/// answered.
 ///
 /// Where no reply came it isn't known whether the server did so: the command may have reached it.
 ///
@@ -58,13 +69,22 @@ pub fn rename_file<T: Talk>(
 pub fn delete_file<T: Talk>(talk: &mut T, tid: u32, path: &[u8]) -> Result<CopyEnd, RunFault>
     requires tid { tid ≤ MAX_FIRST }
     requires path { length path.now ≤ MAX_PATH }
-    ensures done { IfDone result (Since (T.talked talk.old) (T.talked talk.new) (delete_command tid path.now ∷ []) (delete_reply tid ∷ [])) }
-    // Where it wasn't done, it ended by the reply, which was another, or by none.
-    ensures ended { UnlessDone result (EndedAt (T.talked talk.old) (T.talked talk.new) [] (decimal tid) [] (λ r. r ≡ delete_reply tid)) }
-    // However it ended, nothing but this command was sent.
-    ensures begun { SentOrNot (T.talked talk.old) (T.talked talk.new) (delete_command tid path.now) }
-    // It got no reply only where one was waited for long enough, or no more come.
-    ensures waited { IfUnanswered result ((t : T) × InVain (T.talked t) (T.course t) (T.talked talk.new) (T.course talk.new)) }
+    // Where it was done, this DELETE was sent and answered, and nothing else.
+    ensures done { IfDone result
+        (Since (T.talked talk.old) (T.talked talk.new) (delete_command tid path.now ∷ [])
+        (delete_reply tid ∷ [])) }
+    // Otherwise `Refused` is an error reply to the DELETE, `Strange` is neither such a reply nor
+    // the one that was hoped for, and each is the one reply that was received. With `NoReply` none
+    // was.
+    ensures ended { UnlessDone result
+        (EndedAt (T.talked talk.old) (T.talked talk.new) [] (decimal tid) []
+        (λ r. r ≡ delete_reply tid)) }
+    // However it ended, nothing but this DELETE was sent, and once at most.
+    ensures begun { SentOrNot (T.talked talk.old) (T.talked talk.new)
+        (delete_command tid path.now) }
+    // It got no reply only after such a wait as a login.
+    ensures waited { IfUnanswered result
+        ((t : T) × InVain (T.talked t) (T.course t) (T.talked talk.new) (T.course talk.new)) }
     // It ends well only where no failure was counted.
     ensures unfailed { OnOk result ((T.course talk.new).failures ≤ (T.course talk.old).failures) }
     // The talk stays as patient as it was.

@@ -39,7 +39,8 @@ fn opened_length(came: bool, reply: &Reply, tid: u32) -> Option<usize>
         × (taken came reply.now.items ≡ Some (reply_of (decimal tid) file_handle (Opened n)))) }
     // Where the reply says a length that FILE allows, it is found.
     ensures all { (n : ℕ) → n ≤ MAX_FILE →
-        taken came reply.now.items ≡ Some (reply_of (decimal tid) file_handle (Opened n)) → result ≡ Some n }
+        taken came reply.now.items ≡ Some (reply_of (decimal tid) file_handle (Opened n)) →
+            result ≡ Some n }
 {
     if came {
         length_said(reply, tid)
@@ -67,7 +68,8 @@ fn given_piece(came: bool, reply: &Reply, tid: u32, len: usize) -> Option<&[u8]>
         ((piece : List ℕ) → length piece ≡ len →
             taken came reply.now.items ≢ Some (reply_of (decimal tid) file_handle (Given piece)))
         (λ piece. (length piece.now ≡ len)
-            × (taken came reply.now.items ≡ Some (reply_of (decimal tid) file_handle (Given piece.now)))) }
+            × (taken came reply.now.items
+                ≡ Some (reply_of (decimal tid) file_handle (Given piece.now)))) }
 {
     if !came {
         return None;
@@ -88,10 +90,13 @@ fn take_piece(
 ) -> Result<bool, RunFault>
     requires tid { tid < 100000000 }
     requires len { len ≤ MAX_CHUNK }
-    ensures done { IfOk result (λ is_given. is_given ≡ true → (more : List ℕ) × (length more ≡ len) × (bytes.new.items ≡ bytes.old.items ++ more)
+    ensures done { IfOk result
+        (λ is_given. is_given ≡ true →
+        (more : List ℕ) × (length more ≡ len) × (bytes.new.items ≡ bytes.old.items ++ more)
         × (taken came reply.now.items ≡ Some (reply_of (decimal tid) file_handle (Given more)))) }
     ensures left { IfOk result (λ is_given. is_given ≡ false → (bytes.new.items ≡ bytes.old.items)
-        × ((x : List ℕ) → taken came reply.now.items ≡ Some x → IsGiven (decimal tid) file_handle len x → ⊥)) }
+        × ((x : List ℕ) → taken came reply.now.items ≡ Some x →
+            IsGiven (decimal tid) file_handle len x → ⊥)) }
     ensures faults { IfErr result (λ fault. fault ≡ RunFault.NoMemory) }
 {
     let Some(more) = given_piece(came, reply, tid, len) else {
@@ -113,14 +118,20 @@ fn read_all<T: Talk>(
     requires first { first ≤ MAX_FIRST + 1 }
     requires fits { len ≤ MAX_FILE }
     requires empty { bytes.old.items ≡ [] }
-    ensures sent { SentUpTo (T.talked talk.old) (T.talked talk.new) (read_sent first) (1 + chunk_count len) }
-    ensures done { IfDone result ((length bytes.new.items ≡ len) × Since (T.talked talk.old) (T.talked talk.new)
-        (upto (read_sent first) (1 + chunk_count len)) (upto (read_received first bytes.new.items) (1 + chunk_count len))) }
-    ensures ended { UnlessDone result (ReadsEnded (T.talked talk.old) (T.talked talk.new) first len bytes.new.items) }
-    ensures waited { IfUnanswered result ((t : T) × InVain (T.talked t) (T.course t) (T.talked talk.new) (T.course talk.new)) }
+    ensures sent { SentUpTo (T.talked talk.old) (T.talked talk.new) (read_sent first)
+        (1 + chunk_count len) }
+    ensures done { IfDone result
+        ((length bytes.new.items ≡ len) × Since (T.talked talk.old) (T.talked talk.new)
+        (upto (read_sent first) (1 + chunk_count len))
+            (upto (read_received first bytes.new.items) (1 + chunk_count len))) }
+    ensures ended { UnlessDone result
+        (ReadsEnded (T.talked talk.old) (T.talked talk.new) first len bytes.new.items) }
+    ensures waited { IfUnanswered result
+        ((t : T) × InVain (T.talked t) (T.course t) (T.talked talk.new) (T.course talk.new)) }
     ensures unfailed { OnOk result ((T.course talk.new).failures ≤ (T.course talk.old).failures) }
     ensures patient { (T.course talk.new).patience ≡ (T.course talk.old).patience }
-    ensures faults { IfErr result (λ fault. (fault ≡ RunFault.NoMemory) ⊎ T.failed_by talk.new fault) }
+    ensures faults { IfErr result
+        (λ fault. (fault ≡ RunFault.NoMemory) ⊎ T.failed_by talk.new fault) }
 {
     let count = chunk_count(len);
     let row = Row {
@@ -146,8 +157,9 @@ fn read_all<T: Talk>(
     Ok(settled(came, &reply, &wanted, tid, HANDLE))
 }
 
-/// Gets a file. Where the answer is `Done`, the commands that were sent are OPEN, READs up to the one answered EOF, and CLOSE, and
-/// the bytes are those of the replies, joined, as many as OPEN and CLOSE told.
+/// Gets a file. Where the answer is `Done`, the commands that were sent are OPEN, READs up to the
+/// one answered EOF, and CLOSE, and the bytes are those of the replies, joined, as many as OPEN and
+/// CLOSE told.
 ///
 /// # Errors
 /// Those of the talk's turns, and `NoMemory`.
@@ -160,21 +172,33 @@ pub fn get_file<T: Talk>(
     requires first { first ≤ MAX_FIRST }
     requires path { length path.now ≤ MAX_PATH }
     requires empty { bytes.old.items ≡ [] }
+    // Where it was done, exactly the commands that get a file of these bytes were sent, and exactly
+    // the replies of a server that has it were received.
     ensures done { IfDone result (Since (T.talked talk.old) (T.talked talk.new)
-        (get_commands (tids_from first) file_handle path.now (length bytes.new.items)) (get_replies (tids_from first) file_handle bytes.new.items)) }
-    // Where it wasn't done, some READs gave bytes, with which these begin, and it ended by the reply to the next command, which was
-    // another than a file's, or by none.
-    ensures ended { UnlessDone result (GetEnded (T.talked talk.old) (T.talked talk.new) (tids_from first) file_handle bytes.new.items) }
-    // However it ended, what was sent begins the commands that get a file of some length.
-    ensures begun { GetBegun (T.talked talk.old) (T.talked talk.new) (tids_from first) file_handle path.now }
-    // It got no reply only where one was waited for long enough, or no more come.
-    ensures waited { IfUnanswered result ((t : T) × InVain (T.talked t) (T.course t) (T.talked talk.new) (T.course talk.new)) }
+        (get_commands (tids_from first) file_handle path.now (length bytes.new.items))
+            (get_replies (tids_from first) file_handle bytes.new.items)) }
+    // Otherwise the replies that were received are those to OPEN and to some READs, whose pieces
+    // these bytes begin with, or none yet, and then at most one, to the next command. `Refused` is
+    // an error reply to it. `Strange` is neither such a reply nor one that a file of FILE has: to
+    // OPEN a length of at most 1,048,576, to a READ as many bytes as a file of that length has
+    // there, EOF behind the last, and to CLOSE that length. With `NoReply` none came.
+    ensures ended { UnlessDone result
+        (GetEnded (T.talked talk.old) (T.talked talk.new) (tids_from first) file_handle
+        bytes.new.items) }
+    // However it ended, nothing was sent, or OPEN and some READs, or all the commands that get a
+    // file of some length, of 1,048,576 bytes at most.
+    ensures begun { GetBegun (T.talked talk.old) (T.talked talk.new) (tids_from first) file_handle
+        path.now }
+    // It got no reply only after such a wait as a login.
+    ensures waited { IfUnanswered result
+        ((t : T) × InVain (T.talked t) (T.course t) (T.talked talk.new) (T.course talk.new)) }
     // It ends well only where no failure was counted.
     ensures unfailed { OnOk result ((T.course talk.new).failures ≤ (T.course talk.old).failures) }
     // The talk stays as patient as it was.
     ensures patient { (T.course talk.new).patience ≡ (T.course talk.old).patience }
     // It fails when out of memory, or by a turn that did, by the same fault.
-    ensures faults { IfErr result (λ fault. (fault ≡ RunFault.NoMemory) ⊎ T.failed_by talk.new fault) }
+    ensures faults { IfErr result
+        (λ fault. (fault ≡ RunFault.NoMemory) ⊎ T.failed_by talk.new fault) }
 {
     let mut reply = Reply::new();
     let came = ask_one(talk, Command::OpenRead(path), first, &mut reply)?;

@@ -12,48 +12,67 @@ ghost use Rattle.chaosd_copy.specs.Row.{file_handle};
 ghost use Rattle.chaosd_copy.specs.Ends.{tids_from, login_command, login_reply};
 ghost use Rattle.chaosd_copy.specs.Copy.{Tids, CanCopy, Does, upto, chunk, chunk_count, logged_in, put_front, put_commands, put_replies, get_commands, get_replies};
 
-/// A new session's LOGIN gives the user's name, and changes no file.
+/// A login, by the definition of FILE.
 pub fn law_login()
+    // A new session's LOGIN gives the user's name, and changes no file.
     ensures { (m : Files) (name : List ℕ) → is_name 1 MAX_NAME name ≡ true →
         Does m new_session (login_command name ∷ []) m (logged_in name) (login_reply name ∷ []) }
 {}
 
-/// The commands that put a file leave exactly that file at its path, whatever was there, and no handle open. Every other file stays.
+/// A put, by the definition of FILE, in a session that has logged in and has no file open.
 pub fn law_put()
-    ensures { (m : Files) (tid : Tids) (name handle path bytes : List ℕ) → CanCopy tid (2 + chunk_count (length bytes)) handle path bytes →
-        Does m (logged_in name) (put_commands tid handle path bytes) (map.insert m path bytes) (logged_in name) (put_replies tid handle bytes) }
+    // The commands that put a file leave exactly that file at its path, whatever was there, every
+    // other file as it was, and no handle open. They are answered by OPEN 0, the bytes so far, and
+    // the whole length.
+    ensures { (m : Files) (tid : Tids) (name handle path bytes : List ℕ) →
+        CanCopy tid (2 + chunk_count (length bytes)) handle path bytes →
+        Does m (logged_in name) (put_commands tid handle path bytes) (map.insert m path bytes)
+            (logged_in name) (put_replies tid handle bytes) }
 {}
 
-/// The commands that get a file are answered by its length, its bytes in pieces, EOF, and its length again, and change nothing.
+/// A get, by the definition of FILE, in a session that has logged in and has no file open.
 pub fn law_get()
-    ensures { (m : Files) (tid : Tids) (name handle path bytes : List ℕ) → CanCopy tid (3 + chunk_count (length bytes)) handle path bytes →
+    // The commands that get a file are answered by its length, its bytes in pieces, EOF, and its
+    // length again, and change nothing.
+    ensures { (m : Files) (tid : Tids) (name handle path bytes : List ℕ) →
+        CanCopy tid (3 + chunk_count (length bytes)) handle path bytes →
         map.get m path ≡ Some bytes →
-        Does m (logged_in name) (get_commands tid handle path (length bytes)) m (logged_in name) (get_replies tid handle bytes) }
+        Does m (logged_in name) (get_commands tid handle path (length bytes)) m (logged_in name)
+            (get_replies tid handle bytes) }
 {}
 
-/// The pieces of a file, joined, are the file.
+/// A file in pieces.
 #[tactic(auto, using(crate::proofs::Whole::pieces_joined))]
 pub fn law_pieces()
-    ensures { (bytes : List ℕ) → flat_map (λ p. p) (upto (chunk bytes) (chunk_count (length bytes))) ≡ bytes }
+    // The pieces of a file, joined, are the file.
+    ensures { (bytes : List ℕ) →
+        flat_map (λ p. p) (upto (chunk bytes) (chunk_count (length bytes))) ≡ bytes }
 {}
 
-/// Before its CLOSE a put changes no file: one that is broken off, wherever, leaves what was there.
+/// A put that is broken off, by the definition of FILE.
 pub fn law_put_broken()
-    ensures { (m : Files) (tid : Tids) (name handle path bytes : List ℕ) (k : ℕ) → CanCopy tid (2 + chunk_count (length bytes)) handle path bytes →
+    // Before its CLOSE a put changes no file, wherever it is broken off.
+    ensures { (m : Files) (tid : Tids) (name handle path bytes : List ℕ) (k : ℕ) →
+        CanCopy tid (2 + chunk_count (length bytes)) handle path bytes →
         k ≤ chunk_count (length bytes) →
         files_after m (logged_in name) (put_front tid handle path bytes k) ≡ m }
 {}
 
-/// Where the commands that get a file were answered as a file of these bytes is, the server's file at the path has these bytes: the
-/// replies alone show it.
+/// What the replies to a get show, by the definition of FILE.
 pub fn law_got()
-    ensures { (m : Files) (tid : Tids) (name handle path bytes : List ℕ) → CanCopy tid (3 + chunk_count (length bytes)) handle path bytes →
-        replies_from m (logged_in name) (get_commands tid handle path (length bytes)) ≡ get_replies tid handle bytes →
+    // Where the commands that get a file were answered as a file of these bytes is, the server's
+    // file at the path has these bytes. The replies alone show it.
+    ensures { (m : Files) (tid : Tids) (name handle path bytes : List ℕ) →
+        CanCopy tid (3 + chunk_count (length bytes)) handle path bytes →
+        replies_from m (logged_in name) (get_commands tid handle path (length bytes))
+            ≡ get_replies tid handle bytes →
         map.get m path ≡ Some bytes }
 {}
 
-/// The engines' own names are such as the laws ask for: commands that are numbered from a `first` of at most `MAX_FIRST` on.
+/// The engines' own names: commands are numbered from a `first` of at most `MAX_FIRST` on.
 pub fn law_tids()
-    ensures { (first : ℕ) (path bytes : List ℕ) → first ≤ MAX_FIRST → is_path path ≡ true → length bytes ≤ MAX_FILE →
+    // The numbers by which the engines name their commands are names such as the laws ask for.
+    ensures { (first : ℕ) (path bytes : List ℕ) → first ≤ MAX_FIRST → is_path path ≡ true →
+        length bytes ≤ MAX_FILE →
         CanCopy (tids_from first) (3 + chunk_count (length bytes)) file_handle path bytes }
 {}

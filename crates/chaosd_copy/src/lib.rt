@@ -1,4 +1,5 @@
-//! Whole files over FILE: the commands by which one is put and got, and the end that says them, many at a time.
+//! Whole files over FILE: the commands by which one is put and got, and the end that says them,
+//! many at a time.
 #![tactic(auto)]
 
 mod bytes;

@@ -19,8 +19,11 @@ pub const HANDLE: &[u8] = b"F";
 
 /// The numbers as numerals.
 pub fn law_limits()
+    // A reply is waited for in 1,000 turns and 10 seconds at least, where the talk has no patience
+    // of its own, and in 4,294,967,295 turns at most.
     ensures turns { REPLY_TURNS ≡ 1000 }
     ensures millis { REPLY_MILLIS ≡ 10000 }
     ensures most { MOST_TURNS ≡ 4294967295 }
+    // The numbers of a file's commands begin with 99,900,000 at most.
     ensures first { MAX_FIRST ≡ 99900000 }
 {}

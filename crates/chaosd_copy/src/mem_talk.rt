@@ -18,8 +18,9 @@ use chaos_file::{MemStore, Reply, ReplyParts, Said, Session, parse_command, writ
 use chaosd_io::RunFault;
 use std::alloc::Global;
 
-/// A talk with a FILE server in memory, which begins without files and answers each command at once, as FILE's definition says. It
-/// keeps all that was sent and answered, so that a test can look at it.
+/// A talk with a FILE server in memory, which begins without files and answers each command at
+/// once, as FILE's definition says. It keeps all that was sent and answered, so that a test can
+/// look at it.
 #[derive(Drop)]
 pub struct MemTalk {
     alloc: Global,
@@ -56,7 +57,8 @@ fn applied(
     session: &mut Session,
     command: &[u8],
 ) -> Option<Reply>
-    ensures { StepsOrStays (file_step store.old session.old command.now) store.old session.old store.new session.new (option_map (λ v. v.items) result) }
+    ensures { StepsOrStays (file_step store.old session.old command.now) store.old session.old
+        store.new session.new (option_map (λ v. v.items) result) }
 {
     let reply = session.apply(alloc, store, command);
     if reply.as_slice() == want_of(command).as_slice() {
@@ -69,7 +71,10 @@ fn applied(
 impl MemTalk {
     /// A server without files, and nothing sent yet. It takes no memory.
     pub fn new(alloc: Global) -> Self
-        ensures talked { (told (map (λ v. v.items) result.sent.items) (map (λ v. v.items) result.replies.items) result.received) ≡ silence }
+        // Nothing was sent or received yet.
+        ensures talked { (told (map (λ v. v.items) result.sent.items)
+            (map (λ v. v.items) result.replies.items) result.received) ≡ silence }
+        // No reply is there.
         ensures ready { ⟦<MemTalk as Talk>⟧.ready result ≡ Some [] }
     {
         MemTalk {
@@ -83,22 +88,35 @@ impl MemTalk {
         }
     }
 
-    /// What was sent is answered as FILE's definition says, by what was received and then by what is there to be received. It does nothing
-    /// when it runs.
+    /// The replies of a talk in memory. It does nothing when it runs.
     pub fn law_replies(&self)
-        ensures { Answered (told (map (λ v. v.items) self.now.sent.items) (map (λ v. v.items) self.now.replies.items) self.now.received) (⟦<MemTalk as Talk>⟧.ready self.now) }
+        // What was sent is answered as FILE's definition says, by what was received and then by
+        // what is there.
+        ensures { Answered
+            (told (map (λ v. v.items) self.now.sent.items)
+            (map (λ v. v.items) self.now.replies.items) self.now.received)
+            (⟦<MemTalk as Talk>⟧.ready self.now) }
     {}
 }
 
 impl Talk for MemTalk {
-    ghost talked = { λ now start talk. (told (map (λ v. v.items) now.sent.items) (map (λ v. v.items) now.replies.items) now.received) ≡ with_received talk.received (with_sent talk.sent (told (map (λ v. v.items) start.sent.items) (map (λ v. v.items) start.replies.items) start.received)) };
+    ghost talked = { λ now start talk. (told (map (λ v. v.items) now.sent.items)
+        (map (λ v. v.items) now.replies.items) now.received)
+        ≡ with_received talk.received
+        (with_sent talk.sent
+        (told (map (λ v. v.items) start.sent.items) (map (λ v. v.items) start.replies.items)
+        start.received)) };
 
-    ghost began = { λ talk. nothing_more (told (map (λ v. v.items) talk.sent.items) (map (λ v. v.items) talk.replies.items) talk.received) };
+    ghost began = { λ talk. nothing_more
+        (told (map (λ v. v.items) talk.sent.items) (map (λ v. v.items) talk.replies.items)
+        talk.received) };
 
     ghost ready = { λ t. Some (drop t.received (map (λ v. v.items) t.replies.items)) };
 
     /// It never ends. It counts turns as far as they can be.
-    ghost course = { λ t. record { turns = counted t.turns; moment = min (t.turns * 10) max_count; is_over = false; failures = 0; patience = None } };
+    ghost course = { λ t. record
+        { turns = counted t.turns; moment = min (t.turns * 10) max_count; is_over = false; failures
+        = 0; patience = None } };
 
     /// No turn fails.
     ghost failed_by = { λ _ _. ⊥ };

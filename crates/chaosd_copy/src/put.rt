@@ -29,11 +29,15 @@ pub fn chunk_count(length: usize) -> usize
 fn write_all<T: Talk>(talk: &mut T, first: u32, bytes: &[u8]) -> Result<CopyEnd, RunFault>
     requires first { first ≤ MAX_FIRST + 1 }
     requires fits { length bytes.now ≤ MAX_FILE }
-    ensures sent { SentUpTo (T.talked talk.old) (T.talked talk.new) (write_sent first bytes.now) (chunk_count (length bytes.now)) }
+    ensures sent { SentUpTo (T.talked talk.old) (T.talked talk.new) (write_sent first bytes.now)
+        (chunk_count (length bytes.now)) }
     ensures done { IfDone result (Since (T.talked talk.old) (T.talked talk.new)
-        (upto (write_sent first bytes.now) (chunk_count (length bytes.now))) (upto (write_received first bytes.now) (chunk_count (length bytes.now)))) }
-    ensures ended { UnlessDone result (WritesEnded (T.talked talk.old) (T.talked talk.new) first bytes.now) }
-    ensures waited { IfUnanswered result ((t : T) × InVain (T.talked t) (T.course t) (T.talked talk.new) (T.course talk.new)) }
+        (upto (write_sent first bytes.now) (chunk_count (length bytes.now)))
+            (upto (write_received first bytes.now) (chunk_count (length bytes.now)))) }
+    ensures ended { UnlessDone result
+        (WritesEnded (T.talked talk.old) (T.talked talk.new) first bytes.now) }
+    ensures waited { IfUnanswered result
+        ((t : T) × InVain (T.talked t) (T.course t) (T.talked talk.new) (T.course talk.new)) }
     ensures unfailed { OnOk result ((T.course talk.new).failures ≤ (T.course talk.old).failures) }
     ensures patient { (T.course talk.new).patience ≡ (T.course talk.old).patience }
     ensures faults { IfErr result (T.failed_by talk.new) }
@@ -70,9 +74,10 @@ fn unanswered(is_sent: bool) -> CopyEnd
     }
 }
 
-/// Puts a file. Where the answer is `Done`, the commands that were sent are OPEN, the file in WRITEs and CLOSE, and the server
-/// answered that it has the whole file. Where the CLOSE was sent and got no reply it is `Unknown` whether the file was put; CLOSE is sent only after
-/// each WRITE was answered by its count.
+/// Puts a file. Where the answer is `Done`, the commands that were sent are OPEN, the file in
+/// WRITEs and CLOSE, and the server answered that it has the whole file. Where the CLOSE was sent
+/// and got no reply it is `Unknown` whether the file was put; CLOSE is sent only after each WRITE
+/// was answered by its count.
 ///
 /// # Errors
 /// Those of the talk's turns.
@@ -85,14 +90,26 @@ pub fn put_file<T: Talk>(
     requires first { first ≤ MAX_FIRST }
     requires path { length path.now ≤ MAX_PATH }
     requires fits { length bytes.now ≤ MAX_FILE }
+    // Where it was done, exactly the commands that put the file were sent, in order, and exactly
+    // the replies were received that say that the server has it whole.
     ensures done { IfDone result (Since (T.talked talk.old) (T.talked talk.new)
-        (put_commands (tids_from first) file_handle path.now bytes.now) (put_replies (tids_from first) file_handle bytes.now)) }
-    // Where it wasn't done, it ended by the first reply that was another than those, or by none.
-    ensures ended { UnlessDone result (PutEnded (T.talked talk.old) (T.talked talk.new) (tids_from first) file_handle path.now bytes.now) }
-    // However it ended, what was sent begins those commands, and CLOSE was sent only where all before it was answered as it should be.
-    ensures begun { PutBegun (T.talked talk.old) (T.talked talk.new) (tids_from first) file_handle path.now bytes.now }
-    // It got no reply only where one was waited for long enough, or no more come.
-    ensures waited { IfUnanswered result ((t : T) × InVain (T.talked t) (T.course t) (T.talked talk.new) (T.course talk.new)) }
+        (put_commands (tids_from first) file_handle path.now bytes.now)
+            (put_replies (tids_from first) file_handle bytes.now)) }
+    // Otherwise the replies that were received are the right ones to the commands before some
+    // command, and then at most one. `Refused` is an error reply to that command, and `Strange` is
+    // neither such a reply nor the one that was hoped for. With `NoReply` none came to OPEN or to a
+    // WRITE, or CLOSE could not be sent. With `Unknown` CLOSE was sent, after all else was answered
+    // as it should be, and got none.
+    ensures ended { UnlessDone result
+        (PutEnded (T.talked talk.old) (T.talked talk.new) (tids_from first) file_handle path.now
+        bytes.now) }
+    // However it ended, nothing was sent, or OPEN and some of the WRITEs, in order, which change no
+    // file, or all. CLOSE was sent only where OPEN and each WRITE were answered as they should be.
+    ensures begun { PutBegun (T.talked talk.old) (T.talked talk.new) (tids_from first) file_handle
+        path.now bytes.now }
+    // It got no reply only after such a wait as a login.
+    ensures waited { IfUnanswered result
+        ((t : T) × InVain (T.talked t) (T.course t) (T.talked talk.new) (T.course talk.new)) }
     // It ends well only where no failure was counted.
     ensures unfailed { OnOk result ((T.course talk.new).failures ≤ (T.course talk.old).failures) }
     // The talk stays as patient as it was.

@@ -13,7 +13,8 @@ use itoa::Buffer;
 pub struct Row<'a> {
     pub first: u32,
     pub count: usize,
-    /// The command that is sent at each place. A WRITE holds the whole file here, and at each place its piece is sent.
+    /// The command that is sent at each place. A WRITE holds the whole file here, and at each place
+    /// its piece is sent.
     pub command: Command<'a>,
 }
 
@@ -73,7 +74,8 @@ fn handle_of(command: &Command<'_>) -> &'static [u8]
     }
 }
 
-/// Writes the command that is sent at a place of the row, which is named by this number, in place of what was there.
+/// Writes the command that is sent at a place of the row, which is named by this number, in place
+/// of what was there.
 pub fn spell_at(command: Command<'_>, i: usize, tid: u32, out: &mut CommandBytes)
     requires place { i ≤ 1000000 }
     requires tid { tid < 100000000 }

@@ -11,7 +11,8 @@ use itoa::Buffer;
 
 /// What a reply says, where it is one to the command with this number and handle.
 pub fn said_to<'a>(reply: &'a Reply, tid: u32, handle: &[u8]) -> Option<Said<'a>>
-    ensures { option_map said_view result ≡ said_to (decimal tid) handle.now (reading_of reply.now.items) }
+    ensures { option_map said_view result
+        ≡ said_to (decimal tid) handle.now (reading_of reply.now.items) }
 {
     let parts = read_reply(reply.as_slice())?;
     let mut digits = Buffer::new();
@@ -22,12 +23,14 @@ pub fn said_to<'a>(reply: &'a Reply, tid: u32, handle: &[u8]) -> Option<Said<'a>
     }
 }
 
-/// Writes the reply that says this to the command with this number and handle, in place of what was there.
+/// Writes the reply that says this to the command with this number and handle, in place of what was
+/// there.
 pub fn write_wanted(wanted: &mut Reply, tid: u32, handle: &[u8], said: Said<'_>)
     requires tid { tid < 100000000 }
     requires handle { length handle.now ≤ MAX_HANDLE }
     requires said { SaidFits (said_view said) }
-    ensures { wanted.new.items ≡ reply_front (decimal tid) handle.now ++ said_text (said_view said.entry) }
+    ensures { wanted.new.items
+        ≡ reply_front (decimal tid) handle.now ++ said_text (said_view said.entry) }
 {
     let mut digits = Buffer::new();
     let tid = digits.format(tid as usize).as_bytes();

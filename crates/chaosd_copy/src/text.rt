@@ -50,7 +50,8 @@ impl Charset {
         }
     }
 
-    /// Whether a byte stands for another one in this set, so that it can't be in a text of the other.
+    /// Whether a byte stands for another one in this set, so that it can't be in a text of the
+    /// other.
     fn loses(self, b: u8) -> bool
         ensures { result ≡ is_lost self b }
     {
@@ -67,13 +68,17 @@ impl Charset {
         bytes.iter().copied().find(|b| self.loses(*b))
     }
 
-    /// Puts a text of the other set into this one, byte by byte and in place; what comes out is as long.
+    /// Puts a text of the other set into this one, byte by byte and in place; what comes out is as
+    /// long.
     ///
     /// # Errors
     /// The first byte that would not come back: then nothing changed.
     pub fn translate(self, bytes: &mut [u8]) -> Result<(), u8>
+        // It is refused for the first byte that would not come back, where there is one.
         ensures refused { result ≡ refused_for (find (is_lost self) bytes.old) }
+        // Each byte is put into this set.
         ensures ok { OnOk result (bytes.new ≡ map (byte_in self) bytes.old) }
+        // Where it is refused, nothing changed.
         ensures err { OnErr result (bytes.new ≡ bytes.old) }
     {
         if let Some(lost) = self.first_lost(bytes) {
@@ -86,9 +91,12 @@ impl Charset {
     }
 }
 
-/// A text that was put into a set comes back from it byte for byte, where it was not refused; and a byte for which it is refused would
-/// come back as another.
+/// A text that was put into a set, put back.
 pub fn law_text()
-    ensures back { (set : Charset) (bytes : List ℕ) → find (is_lost set) bytes ≡ None → map (byte_in (other_set set)) (map (byte_in set) bytes) ≡ bytes }
-    ensures lost { (set : Charset) (bytes : List ℕ) (b : ℕ) → find (is_lost set) bytes ≡ Some b → ¬ (map (byte_in (other_set set)) (map (byte_in set) bytes) ≡ bytes) }
+    // A text that was not refused comes back byte for byte.
+    ensures back { (set : Charset) (bytes : List ℕ) → find (is_lost set) bytes ≡ None →
+        map (byte_in (other_set set)) (map (byte_in set) bytes) ≡ bytes }
+    // A text that is refused would not come back.
+    ensures lost { (set : Charset) (bytes : List ℕ) (b : ℕ) → find (is_lost set) bytes ≡ Some b →
+        ¬ (map (byte_in (other_set set)) (map (byte_in set) bytes) ≡ bytes) }
 {}

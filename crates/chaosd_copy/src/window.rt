@@ -87,8 +87,11 @@ fn send_on<T: Talk>(talk: &mut T, row: &Row<'_>, flight: &mut Flight)
     requires fits { RequestFits (command_view row.now.command) }
     ensures within { flight.new.sent ≤ row.now.count }
     ensures place { flight.new.received ≡ flight.old.received }
-    ensures talk { (start : T) (replies : List (List ℕ)) → Since (T.talked start) (T.talked talk.old) (upto (row_command row.now) flight.old.sent) replies
-        → Since (T.talked start) (T.talked talk.new) (upto (row_command row.now) flight.new.sent) replies }
+    ensures talk { (start : T) (replies : List (List ℕ)) →
+        Since (T.talked start) (T.talked talk.old) (upto (row_command row.now) flight.old.sent)
+        replies
+        → Since (T.talked start) (T.talked talk.new) (upto (row_command row.now) flight.new.sent)
+            replies }
     ensures quiet { Unheard (T.talked talk.old) (T.talked talk.new) }
     ensures still { (T.course talk.new).turns ≡ (T.course talk.old).turns }
     ensures unfailed { (T.course talk.new).failures ≡ (T.course talk.old).failures }
@@ -99,8 +102,8 @@ fn send_on<T: Talk>(talk: &mut T, row: &Row<'_>, flight: &mut Flight)
     flight.note(sent);
 }
 
-/// Sends more of the commands, up to so many and as there is room for, and answers how many were sent in all. Each is spelled in the
-/// place that is lent.
+/// Sends more of the commands, up to so many and as there is room for, and answers how many were
+/// sent in all. Each is spelled in the place that is lent.
 fn send_more<T: Talk>(
     talk: &mut T,
     row: &Row<'_>,
@@ -114,7 +117,8 @@ fn send_more<T: Talk>(
     requires count { row.now.count ≤ 9000 }
     requires fits { RequestFits (command_view row.now.command) }
     ensures within { result ≤ row.now.count }
-    ensures talk { (start : T) (replies : List (List ℕ)) → Since (T.talked start) (T.talked talk.old) (upto (row_command row.now) sent) replies
+    ensures talk { (start : T) (replies : List (List ℕ)) →
+        Since (T.talked start) (T.talked talk.old) (upto (row_command row.now) sent) replies
         → Since (T.talked start) (T.talked talk.new) (upto (row_command row.now) result) replies }
     ensures quiet { Unheard (T.talked talk.old) (T.talked talk.new) }
     ensures still { (T.course talk.new).turns ≡ (T.course talk.old).turns }
@@ -133,7 +137,8 @@ fn send_more<T: Talk>(
 /// The next reply, where its command was sent and it is there.
 fn receive_asked<T: Talk>(talk: &mut T, is_asked: bool, reply: &mut Reply) -> bool
     ensures asked { result ≡ true → is_asked ≡ true }
-    ensures talk { Since (T.talked talk.old) (T.talked talk.new) [] (received_in (taken result reply.new.items)) }
+    ensures talk { Since (T.talked talk.old) (T.talked talk.new) []
+        (received_in (taken result reply.new.items)) }
     ensures still { (T.course talk.new).turns ≡ (T.course talk.old).turns }
     ensures unfailed { (T.course talk.new).failures ≡ (T.course talk.old).failures }
     ensures patient { (T.course talk.new).patience ≡ (T.course talk.old).patience }
@@ -141,10 +146,12 @@ fn receive_asked<T: Talk>(talk: &mut T, is_asked: bool, reply: &mut Reply) -> bo
     is_asked && talk.receive(reply)
 }
 
-/// Whether a reply has been waited for long enough: for the talk's patience by the clock alone; where the talk has none, by turns and by
-/// the clock, since a turn that gets a stranger's datagram doesn't wait.
+/// Whether a reply has been waited for long enough: for the talk's patience by the clock alone;
+/// where the talk has none, by turns and by the clock, since a turn that gets a stranger's datagram
+/// doesn't wait.
 fn is_late<T: Talk>(talk: &T, turns: u32, since: u64) -> bool
-    ensures { Decides result (IsLate (T.course talk.now).patience turns ((T.course talk.now).moment - since)) }
+    ensures { Decides result
+        (IsLate (T.course talk.now).patience turns ((T.course talk.now).moment - since)) }
 {
     let millis = talk.moment().saturating_sub(since);
     match talk.patience() {
@@ -153,12 +160,12 @@ fn is_late<T: Talk>(talk: &T, turns: u32, since: u64) -> bool
     }
 }
 
-/// The next reply, waited for as long as the talk's patience; where the talk has none, for at least 1,000 turns and 10 seconds. It is
-/// left in the caller's place, and it is said whether one came.
+/// The next reply, waited for as long as the talk's patience; where the talk has none, for at least
+/// 1,000 turns and 10 seconds. It is left in the caller's place, and it is said whether one came.
 ///
-/// The first commands are sent at once, as many as there is room for, and from then on never more are without a reply, even where the
-/// server told that it has read some of them. A command tells which replies were read: so what comes to the server last leaves it room for
-/// the next reply.
+/// The first commands are sent at once, as many as there is room for, and from then on never more
+/// are without a reply, even where the server told that it has read some of them. A command tells
+/// which replies were read: so what comes to the server last leaves it room for the next reply.
 pub fn next_reply<T: Talk>(
     talk: &mut T,
     row: &Row<'_>,
@@ -171,14 +178,29 @@ pub fn next_reply<T: Talk>(
     requires fits { RequestFits (command_view row.now.command) }
     ensures within { flight.new.sent ≤ row.now.count }
     // A reply is received only where its command was sent.
-    ensures asked { IfOk result (λ came. IfSome (taken came reply.new.items) (λ _. (flight.old.received < flight.new.sent) × (flight.new.received ≡ flight.old.received + 1))) }
-    ensures talk { (start : T) (replies : List (List ℕ)) → Since (T.talked start) (T.talked talk.old) (upto (row_command row.now) flight.old.sent) replies
-        → IfOk result (λ came. Since (T.talked start) (T.talked talk.new) (upto (row_command row.now) flight.new.sent) (replies ++ received_in (taken came reply.new.items))) }
+    ensures asked { IfOk result
+        (λ came. IfSome (taken came reply.new.items)
+        (λ _. (flight.old.received < flight.new.sent)
+        × (flight.new.received ≡ flight.old.received + 1))) }
+    ensures talk { (start : T) (replies : List (List ℕ)) →
+        Since (T.talked start) (T.talked talk.old) (upto (row_command row.now) flight.old.sent)
+        replies
+        → IfOk result
+            (λ came. Since (T.talked start) (T.talked talk.new)
+            (upto (row_command row.now) flight.new.sent)
+            (replies ++ received_in (taken came reply.new.items))) }
     // Where a turn fails, what was sent before it was, and nothing more was received.
-    ensures fault { (start : T) (replies : List (List ℕ)) → Since (T.talked start) (T.talked talk.old) (upto (row_command row.now) flight.old.sent) replies
-        → OnErr result (Since (T.talked start) (T.talked talk.new) (upto (row_command row.now) flight.new.sent) replies) }
+    ensures fault { (start : T) (replies : List (List ℕ)) →
+        Since (T.talked start) (T.talked talk.old) (upto (row_command row.now) flight.old.sent)
+        replies
+        → OnErr result
+            (Since (T.talked start) (T.talked talk.new) (upto (row_command row.now) flight.new.sent)
+            replies) }
     // It gives up only where it was waited for long enough, or no more replies come.
-    ensures waited { IfOk result (λ came. MatchOption (taken came reply.new.items) (InVain (T.talked talk.old) (T.course talk.old) (T.talked talk.new) (T.course talk.new)) (λ _. Unit {0})) }
+    ensures waited { IfOk result
+        (λ came. MatchOption (taken came reply.new.items)
+        (InVain (T.talked talk.old) (T.course talk.old) (T.talked talk.new) (T.course talk.new))
+        (λ _. Unit {0})) }
     ensures unfailed { OnOk result ((T.course talk.new).failures ≤ (T.course talk.old).failures) }
     ensures patient { (T.course talk.new).patience ≡ (T.course talk.old).patience }
     ensures faults { IfErr result (T.failed_by talk.new) }
@@ -198,7 +220,8 @@ pub fn next_reply<T: Talk>(
     Ok(false)
 }
 
-/// The reply to one command, left in the caller's place where one came, and whether the command was sent.
+/// The reply to one command, left in the caller's place where one came, and whether the command was
+/// sent.
 pub fn ask_telling<T: Talk>(
     talk: &mut T,
     command: Command<'_>,
@@ -208,14 +231,26 @@ pub fn ask_telling<T: Talk>(
 ) -> Result<bool, RunFault>
     requires tid { tid ≤ MAX_FIRST + 9000 }
     requires fits { RequestFits (command_view command) }
-    ensures received { IfOk result (λ came. IfSome (taken came reply.new.items) (λ text. Since (T.talked talk.old) (T.talked talk.new)
+    ensures received { IfOk result
+        (λ came. IfSome (taken came reply.new.items)
+        (λ text. Since (T.talked talk.old) (T.talked talk.new)
         (request_command (command_view command.entry) 0 tid ∷ []) (text ∷ []))) }
-    ensures sent { SentOrNot (T.talked talk.old) (T.talked talk.new) (request_command (command_view command.entry) 0 tid) }
+    ensures sent { SentOrNot (T.talked talk.old) (T.talked talk.new)
+        (request_command (command_view command.entry) 0 tid) }
     // What was received is the reply, or nothing.
-    ensures all { IfOk result (λ came. Received (T.talked talk.old) (T.talked talk.new) (received_in (taken came reply.new.items))) }
+    ensures all { IfOk result
+        (λ came. Received (T.talked talk.old) (T.talked talk.new)
+        (received_in (taken came reply.new.items))) }
     // Where none was, it is told whether the command was sent.
-    ensures known { IfOk result (λ came. MatchOption (taken came reply.new.items) (Since (T.talked talk.old) (T.talked talk.new) (sent_if is_sent.new (request_command (command_view command.entry) 0 tid)) []) (λ _. Unit {0})) }
-    ensures waited { IfOk result (λ came. MatchOption (taken came reply.new.items) (InVain (T.talked talk.old) (T.course talk.old) (T.talked talk.new) (T.course talk.new)) (λ _. Unit {0})) }
+    ensures known { IfOk result
+        (λ came. MatchOption (taken came reply.new.items)
+        (Since (T.talked talk.old) (T.talked talk.new)
+        (sent_if is_sent.new (request_command (command_view command.entry) 0 tid)) [])
+        (λ _. Unit {0})) }
+    ensures waited { IfOk result
+        (λ came. MatchOption (taken came reply.new.items)
+        (InVain (T.talked talk.old) (T.course talk.old) (T.talked talk.new) (T.course talk.new))
+        (λ _. Unit {0})) }
     ensures unfailed { OnOk result ((T.course talk.new).failures ≤ (T.course talk.old).failures) }
     ensures patient { (T.course talk.new).patience ≡ (T.course talk.old).patience }
     ensures faults { IfErr result (T.failed_by talk.new) }
@@ -245,11 +280,19 @@ pub fn ask_one<T: Talk>(
 ) -> Result<bool, RunFault>
     requires tid { tid ≤ MAX_FIRST + 9000 }
     requires fits { RequestFits (command_view command) }
-    ensures received { IfOk result (λ came. IfSome (taken came reply.new.items) (λ text. Since (T.talked talk.old) (T.talked talk.new)
+    ensures received { IfOk result
+        (λ came. IfSome (taken came reply.new.items)
+        (λ text. Since (T.talked talk.old) (T.talked talk.new)
         (request_command (command_view command.entry) 0 tid ∷ []) (text ∷ []))) }
-    ensures sent { SentOrNot (T.talked talk.old) (T.talked talk.new) (request_command (command_view command.entry) 0 tid) }
-    ensures all { IfOk result (λ came. Received (T.talked talk.old) (T.talked talk.new) (received_in (taken came reply.new.items))) }
-    ensures waited { IfOk result (λ came. MatchOption (taken came reply.new.items) (InVain (T.talked talk.old) (T.course talk.old) (T.talked talk.new) (T.course talk.new)) (λ _. Unit {0})) }
+    ensures sent { SentOrNot (T.talked talk.old) (T.talked talk.new)
+        (request_command (command_view command.entry) 0 tid) }
+    ensures all { IfOk result
+        (λ came. Received (T.talked talk.old) (T.talked talk.new)
+        (received_in (taken came reply.new.items))) }
+    ensures waited { IfOk result
+        (λ came. MatchOption (taken came reply.new.items)
+        (InVain (T.talked talk.old) (T.course talk.old) (T.talked talk.new) (T.course talk.new))
+        (λ _. Unit {0})) }
     ensures unfailed { OnOk result ((T.course talk.new).failures ≤ (T.course talk.old).failures) }
     ensures patient { (T.course talk.new).patience ≡ (T.course talk.old).patience }
     ensures faults { IfErr result (T.failed_by talk.new) }
@@ -306,7 +349,9 @@ pub fn settled(came: bool, reply: &Reply, wanted: &Reply, tid: u32, handle: &[u8
     requires tid { tid < 100000000 }
     requires handle { is_name 0 MAX_HANDLE handle.now ≡ true }
     ensures done { IfCopied result (taken came reply.now.items ≡ Some wanted.now.items) }
-    ensures ended { UnlessCopied result (EndedBy (decimal tid) handle.now (λ r. r ≡ wanted.now.items) (taken came reply.now.items)) }
+    ensures ended { UnlessCopied result
+        (EndedBy (decimal tid) handle.now (λ r. r ≡ wanted.now.items)
+        (taken came reply.now.items)) }
 {
     if is_wanted(came, reply, wanted) {
         CopyEnd::Done
@@ -315,19 +360,29 @@ pub fn settled(came: bool, reply: &Reply, wanted: &Reply, tid: u32, handle: &[u8
     }
 }
 
-/// Gives the user's name, of at most 16 bytes, by a LOGIN that is named 0. Where the answer is `Done`, that was sent and answered.
+/// Gives the user's name, of at most 16 bytes, by a LOGIN that is named 0. Where the answer is
+/// `Done`, that was sent and answered.
 ///
 /// # Errors
 /// Those of the talk's turns.
 pub fn log_in<T: Talk>(talk: &mut T, name: &[u8]) -> Result<CopyEnd, RunFault>
     requires { length name.now ≤ MAX_NAME }
-    ensures done { IfDone result (Since (T.talked talk.old) (T.talked talk.new) (login_command name.now ∷ []) (login_reply name.now ∷ [])) }
-    // Where it wasn't done, it ended by the reply to the LOGIN, which was another, or by none.
-    ensures ended { UnlessDone result (EndedAt (T.talked talk.old) (T.talked talk.new) [] (decimal 0) [] (λ r. r ≡ login_reply name.now)) }
-    // However it ended, nothing but the LOGIN was sent.
+    // Where it was done, this LOGIN was sent and answered, and nothing else.
+    ensures done { IfDone result
+        (Since (T.talked talk.old) (T.talked talk.new) (login_command name.now ∷ [])
+        (login_reply name.now ∷ [])) }
+    // Otherwise `Refused` is an error reply to the LOGIN, `Strange` is neither such a reply nor the
+    // one that was hoped for, and each is the one reply that was received. With `NoReply` none was.
+    ensures ended { UnlessDone result
+        (EndedAt (T.talked talk.old) (T.talked talk.new) [] (decimal 0) []
+        (λ r. r ≡ login_reply name.now)) }
+    // However it ended, nothing but this LOGIN was sent, and once at most.
     ensures begun { SentOrNot (T.talked talk.old) (T.talked talk.new) (login_command name.now) }
-    // It got no reply only where one was waited for long enough, or no more come.
-    ensures waited { IfUnanswered result ((t : T) × InVain (T.talked t) (T.course t) (T.talked talk.new) (T.course talk.new)) }
+    // It got no reply only where the talk is over, or where from some state of it on nothing was
+    // received, and the talk was patient: its patience went by, or, where it has none, 1,000 turns
+    // were made and 10 seconds went by. In each case 4,294,967,295 turns are enough.
+    ensures waited { IfUnanswered result
+        ((t : T) × InVain (T.talked t) (T.course t) (T.talked talk.new) (T.course talk.new)) }
     // It ends well only where no failure was counted.
     ensures unfailed { OnOk result ((T.course talk.new).failures ≤ (T.course talk.old).failures) }
     // The talk stays as patient as it was.
