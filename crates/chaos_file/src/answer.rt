@@ -9,7 +9,8 @@ use crate::limits::{MAX_CHUNK, MAX_FRONT, MAX_HANDLE, MAX_REPLY, MAX_TID};
 use arrayvec::ArrayVec;
 use itoa::Buffer;
 
-/// A reply: tid, space, handle, space, and an answer or an error. It is as long as a packet's data at most.
+/// A reply: tid, space, handle, space, and an answer or an error. It is as long as a packet's data
+/// at most.
 pub type Reply = ArrayVec<u8, MAX_REPLY>;
 
 /// Copies few bytes into an array of their own.

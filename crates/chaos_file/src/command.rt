@@ -22,7 +22,8 @@ pub enum Word {
     Delete,
 }
 
-/// A command of the right form, without its tid and handle. Its parts are lent from the command's bytes.
+/// A command of the right form, without its tid and handle. Its parts are lent from the command's
+/// bytes.
 #[derive(Clone, Copy, Debug, PartialEq, Eq)]
 pub enum Command<'a> {
     /// The user's name, 1 to 16 letters and digits.
@@ -43,8 +44,8 @@ pub enum Command<'a> {
     Delete(&'a [u8]),
 }
 
-/// What a command's bytes say: its tid and handle where they can be read, and the command, or the first check that it
-/// doesn't pass. Whether the user may give the command isn't asked here.
+/// What a command's bytes say: its tid and handle where they can be read, and the command, or the
+/// first check that it doesn't pass. Whether the user may give the command isn't asked here.
 #[derive(Clone, Copy, Debug, PartialEq, Eq)]
 pub enum Parsed<'a> {
     /// The tid or the handle can't be read.
@@ -64,6 +65,7 @@ pub enum Parsed<'a> {
 impl Command<'_> {
     /// The command's word.
     pub fn word(&self) -> Word
+        // It is the word that the command's bytes have.
         ensures { result ≡ word_said (command_view self.now) }
     {
         match self {
@@ -80,8 +82,9 @@ impl Command<'_> {
 }
 
 impl<'a> Parsed<'a> {
-    /// The tid that a reply gives back: none where it can't be read.
+    /// The tid that a reply gives back.
     pub fn tid(&self) -> &'a [u8]
+        // It is the tid of the command, and empty where it can't be read.
         ensures { result.now ≡ tid_of (parsed_view self.now) }
     {
         match self {
@@ -94,8 +97,9 @@ impl<'a> Parsed<'a> {
         }
     }
 
-    /// The handle that a reply gives back: none where it can't be read.
+    /// The handle that a reply gives back.
     pub fn handle(&self) -> &'a [u8]
+        // It is the handle of the command, and empty where it can't be read.
         ensures { result.now ≡ handle_of (parsed_view self.now) }
     {
         match self {

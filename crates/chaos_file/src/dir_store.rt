@@ -18,30 +18,34 @@ use std::io;
 use std::marker::Model;
 use std::rt::Files;
 
-/// A store that keeps each file as a file of one folder, under its path as name. Contracts see its count of failures.
+/// A store that keeps each file as a file of one folder, under its path as name. Contracts see its
+/// count of failures.
 ///
-/// What the system keeps in the folder no clause can say, so this store claims no contents. It answers `Failed` for what
-/// the system refuses, but for a file that isn't there and for memory; for a path that isn't legal; and where a path's
-/// name in the folder is no file, as a folder, a link, a fifo, a socket or a device: none is opened, followed, moved,
-/// replaced or taken away. So no path leads out of the folder, and no call waits for anybody but the disk. What the system
+/// What the system keeps in the folder no clause can say, so this store claims no contents. It
+/// answers `Failed` for what the system refuses, but for a file that isn't there and for memory;
+/// for a path that isn't legal; and where a path's name in the folder is no file, as a folder, a
+/// link, a fifo, a socket or a device: none is opened, followed, moved, replaced or taken away. So
+/// no path leads out of the folder, and no call waits for anybody but the disk. What the system
 /// said is handed out by [`take_fault`](DirStore::take_fault).
 ///
-/// A `put` writes the file `.new` of the folder, flushes it to the disk, renames it over the path and flushes the folder,
-/// so that a path has its old content or its new one whole, and one that was answered `Done` survives a loss of power. A file
-/// that is replaced leaves its mode to the new one. What was left at `.new` is taken away first, and never followed. A `put`
-/// that failed left its path as it was and nothing at `.new`, unless it was the folder's flush that failed.
+/// A `put` writes the file `.new` of the folder, flushes it to the disk, renames it over the path
+/// and flushes the folder, so that a path has its old content or its new one whole, and one that
+/// was answered `Done` survives a loss of power. A file that is replaced leaves its mode to the new
+/// one. What was left at `.new` is taken away first, and never followed. A `put` that failed left
+/// its path as it was and nothing at `.new`, unless it was the folder's flush that failed.
 ///
-/// A folder has one store at a time: its store holds the system's lock on the folder, and a second one isn't opened. The lock
-/// keeps other stores out and no other program.
+/// A folder has one store at a time: its store holds the system's lock on the folder, and a second
+/// one isn't opened. The lock keeps other stores out and no other program.
 ///
-/// The store holds the folder that it opened, whatever comes to have the folder's name. Each call asks first whether the name still
-/// leads to that folder, and fails where it doesn't: the folder was renamed or removed, a disk was mounted over it, or its disk was
-/// unmounted. Once the name leads there again, the calls go on. What a call does, it does in the folder that is held; where the system
-/// has no `/proc/self/fd`, it does so by the folder's name, right after that question.
+/// The store holds the folder that it opened, whatever comes to have the folder's name. Each call
+/// asks first whether the name still leads to that folder, and fails where it doesn't: the folder
+/// was renamed or removed, a disk was mounted over it, or its disk was unmounted. Once the name
+/// leads there again, the calls go on. What a call does, it does in the folder that is held; where
+/// the system has no `/proc/self/fd`, it does so by the folder's name, right after that question.
 ///
-/// A `put` waits for two flushes, which is what it costs: some milliseconds each, as the disk is. The other calls flush
-/// nothing, so that a loss of power may undo a `remove` or a `rename`. Each call takes memory for the joined paths, and `get`
-/// for the file's bytes.
+/// A `put` waits for two flushes, which is what it costs: some milliseconds each, as the disk is.
+/// The other calls flush nothing, so that a loss of power may undo a `remove` or a `rename`. Each
+/// call takes memory for the joined paths, and `get` for the file's bytes.
 #[derive(Drop)]
 pub struct DirStore<R> {
     folder: Folder<R>,
@@ -59,9 +63,11 @@ impl<R> Model for DirStore<R> {
 }
 
 impl<R: Drop + Files<File = File>> DirStore<R> {
-    /// The store of a folder that is there and has no other, without failures; else the system's fault, which is
-    /// `ResourceBusy` where another has it. What a put left that was never ended is taken away.
+    /// The store of a folder that is there and has no other, without failures; else the system's
+    /// fault, which is `ResourceBusy` where another has it. What a put left that was never ended is
+    /// taken away.
     pub fn open(rt: R, folder: String) -> io::Result<DirStore<R>>
+        // No failure is counted yet.
         ensures { IfOk result (λ s. s ≡ 0) }
     {
         Ok(DirStore {
@@ -75,6 +81,7 @@ impl<R: Drop + Files<File = File>> DirStore<R> {
 impl<R: Files> DirStore<R> {
     /// What the system said in the last call, where it refused something; it is handed out once.
     pub fn take_fault(&mut self) -> Option<io::Error>
+        // The count of failures stays as it was. What the system said no clause tells.
         ensures { self.new ≡ self.old }
     {
         self.fault.take()
@@ -148,10 +155,14 @@ impl<R: Files> Store for DirStore<R> {
     ghost count = { λ s. s };
 
     fn get(&mut self, alloc: Global, path: &[u8], limit: usize) -> Got
+        // It fails only where the count of failures rose. Of what the folder keeps nothing is said.
         ensures failed { result ≡ Got.Failed → Rose self.old self.new }
         ensures files { Unit {0} }
+        // A failure is counted exactly where it answers Failed.
         ensures counted { self.new ≡ failures_after_get result self.old }
+        // A path that isn't legal is answered Failed.
         ensures illegal { is_path path.now ≡ false → result ≡ Got.Failed }
+        // It gives no more bytes than it is asked for.
         ensures limit { Gives (λ bytes. length bytes ≤ limit) result }
         ensures gives { Gives (λ _. Unit {0}) result }
     {
@@ -164,9 +175,12 @@ impl<R: Files> Store for DirStore<R> {
     }
 
     fn put(&mut self, alloc: Global, path: &[u8], bytes: &[u8]) -> Stored
+        // It fails only where the count of failures rose. Of what the folder keeps nothing is said.
         ensures failed { result ≡ Stored.Failed → Rose self.old self.new }
         ensures files { Unit {0} }
+        // A failure is counted exactly where it answers Failed.
         ensures counted { self.new ≡ failures_after_put result self.old }
+        // A path that isn't legal is answered Failed.
         ensures illegal { is_path path.now ≡ false → result ≡ Stored.Failed }
     {
         self.fault = None;
@@ -178,9 +192,12 @@ impl<R: Files> Store for DirStore<R> {
     }
 
     fn remove(&mut self, alloc: Global, path: &[u8]) -> Removed
+        // It fails only where the count of failures rose. Of what the folder keeps nothing is said.
         ensures failed { result ≡ Removed.Failed → Rose self.old self.new }
         ensures files { Unit {0} }
+        // A failure is counted exactly where it answers Failed.
         ensures counted { self.new ≡ failures_after_remove result self.old }
+        // A path that isn't legal is answered Failed.
         ensures illegal { is_path path.now ≡ false → result ≡ Removed.Failed }
     {
         self.fault = None;
@@ -192,9 +209,12 @@ impl<R: Files> Store for DirStore<R> {
     }
 
     fn rename(&mut self, alloc: Global, old: &[u8], new: &[u8]) -> Renamed
+        // It fails only where the count of failures rose. Of what the folder keeps nothing is said.
         ensures failed { result ≡ Renamed.Failed → Rose self.old self.new }
         ensures files { Unit {0} }
+        // A failure is counted exactly where it answers Failed.
         ensures counted { self.new ≡ failures_after_rename result self.old }
+        // A rename from or to a path that isn't legal is answered Failed.
         ensures illegal_old { is_path old.now ≡ false → result ≡ Renamed.Failed }
         ensures illegal_new { is_path new.now ≡ false → result ≡ Renamed.Failed }
     {

@@ -4,11 +4,12 @@ ghost use Rattle.chaos_file.specs.Error.{error_text};
 
 use thiserror::Error;
 
-/// Why a command was refused, in the order of the checks: the first that applies is answered. Each is told as
-/// `ERROR`, its code and its text.
+/// Why a command was refused, in the order of the checks: the first that applies is answered. Each
+/// is told as `ERROR`, its code and its text.
 #[derive(Clone, Copy, Debug, PartialEq, Eq, Error)]
 pub enum FileError {
-    /// `SYN`, checks 1 and 4: tid, handle or word can't be read, or the command isn't of its word's form.
+    /// `SYN`, checks 1 and 4: tid, handle or word can't be read, or the command isn't of its word's
+    /// form.
     #[error("bad command syntax")]
     Syntax,
     /// `UKC`, check 2: the word is none of the seven.
@@ -50,9 +51,11 @@ pub enum FileError {
 }
 
 impl FileError {
-    /// How a reply spells the error, of at most 31 bytes.
+    /// How a reply spells the error.
     pub fn text(self) -> &'static [u8]
+        // It is the word ERROR, the code of the error and its text.
         ensures value { result.now ≡ error_text self }
+        // It has at most 31 bytes.
         ensures short { length result.now ≤ 31 }
     {
         match self {

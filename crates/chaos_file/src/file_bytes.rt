@@ -23,6 +23,7 @@ impl Model for FileBytes {
 impl FileBytes {
     /// No bytes.
     pub fn new() -> Self
+        // There are none.
         ensures { result ≡ [] }
     {
         FileBytes { bytes: None }
@@ -30,6 +31,7 @@ impl FileBytes {
 
     /// The bytes of a vector, which aren't copied.
     pub fn from_vec(bytes: Vec<u8>) -> Self
+        // They are the vector's.
         ensures { result ≡ bytes.items }
     {
         FileBytes { bytes: Some(bytes) }
@@ -37,7 +39,9 @@ impl FileBytes {
 
     /// The bytes, lent.
     pub fn as_slice(&self) -> &[u8]
+        // They are the bytes, lent.
         ensures value { result.now ≡ self.now }
+        // They are fewer than 2^63.
         ensures small { length result.now < 2 ^ 63 }
     {
         match &self.bytes {
@@ -48,16 +52,20 @@ impl FileBytes {
 
     /// How many bytes there are.
     pub fn len(&self) -> usize
+        // It counts the bytes.
         ensures value { result ≡ length self.now }
+        // They are fewer than 2^63.
         ensures small { result < 2 ^ 63 }
     {
         self.as_slice().len()
     }
 
-    /// Adds bytes at the end. Room grows by doubling, so that many small additions cost a few copies of the whole.
-    /// Without memory for it the bytes stay as they are.
+    /// Adds bytes at the end. Room grows by doubling, so that many small additions cost a few
+    /// copies of the whole. Without memory for it the bytes stay as they are.
     pub fn append(&mut self, alloc: Global, more: &[u8]) -> Result<(), AllocError>
+        // The bytes are added at the end.
         ensures ok { OnOk result (self.new ≡ self.old ++ more.now) }
+        // Without memory for them nothing changes.
         ensures err { OnErr result (self.new ≡ self.old) }
     {
         match &mut self.bytes {
@@ -74,6 +82,7 @@ impl FileBytes {
 
 impl Default for FileBytes {
     fn default() -> Self
+        // There are none.
         ensures { result ≡ [] }
     {
         FileBytes::new()

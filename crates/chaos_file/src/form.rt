@@ -34,7 +34,8 @@ fn login_form(bare: bool, rest: &[u8]) -> Form<'_>
 }
 
 fn open_write_form(rest: &[u8]) -> Form<'_>
-    ensures value { form_view result ≡ open_write_form (after_front (codes " WRITE" ++ NL ∷ []) rest.now) }
+    ensures value { form_view result
+        ≡ open_write_form (after_front (codes " WRITE" ++ NL ∷ []) rest.now) }
     ensures fits { FormFits (form_view result) }
 {
     match after_front(b" WRITE\x8d", rest) {
@@ -45,7 +46,8 @@ fn open_write_form(rest: &[u8]) -> Form<'_>
 }
 
 fn open_form(rest: &[u8]) -> Form<'_>
-    ensures value { form_view result ≡ open_form rest.now (after_front (codes " READ" ++ NL ∷ []) rest.now) }
+    ensures value { form_view result
+        ≡ open_form rest.now (after_front (codes " READ" ++ NL ∷ []) rest.now) }
     ensures fits { FormFits (form_view result) }
 {
     match after_front(b" READ\x8d", rest) {

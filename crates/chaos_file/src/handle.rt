@@ -11,8 +11,8 @@ use arrayvec::ArrayVec;
 use std::alloc::{AllocError, Global};
 use std::marker::Model;
 
-/// A file handle. One that reads holds the file's bytes as they were at its opening; one that writes holds what was
-/// written so far.
+/// A file handle. One that reads holds the file's bytes as they were at its opening; one that
+/// writes holds what was written so far.
 #[derive(Drop)]
 pub(crate) struct Handle {
     name: ArrayVec<u8, MAX_HANDLE>,
@@ -138,7 +138,8 @@ impl Handle {
     pub(crate) fn read(&mut self, reply: &mut Reply)
         requires { length reply.old.items ≤ MAX_FRONT }
         ensures view { self.new ≡ after_read self.old }
-        ensures text { reply.new.items ≡ reply.old.items ++ answer_text (read_answer (next_bytes self.old)) }
+        ensures text { reply.new.items
+            ≡ reply.old.items ++ answer_text (read_answer (next_bytes self.old)) }
     {
         tell_bytes(reply, self.next_bytes());
         self.read_on();

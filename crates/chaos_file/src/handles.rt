@@ -69,7 +69,8 @@ impl Handles {
         requires within { at < length self.old }
         requires room { length reply.old.items ≤ MAX_FRONT }
         ensures view { self.new ≡ slice_set self.old at (after_read (handle_at self.old at)) }
-        ensures text { reply.new.items ≡ reply.old.items ++ answer_text (read_answer (next_bytes (handle_at self.old at))) }
+        ensures text { reply.new.items
+            ≡ reply.old.items ++ answer_text (read_answer (next_bytes (handle_at self.old at))) }
     {
         let h = &mut self.open.as_mut_slice()[at];
         h.read(reply);
@@ -83,7 +84,8 @@ impl Handles {
         bytes: &[u8],
     ) -> Result<(), AllocError>
         requires { at < length self.old }
-        ensures ok { OnOk result (self.new ≡ slice_set self.old at (with_bytes (handle_at self.old at) bytes.now)) }
+        ensures ok { OnOk result
+            (self.new ≡ slice_set self.old at (with_bytes (handle_at self.old at) bytes.now)) }
         ensures err { OnErr result (self.new ≡ self.old) }
     {
         let h = &mut self.open.as_mut_slice()[at];

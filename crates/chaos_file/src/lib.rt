@@ -1,8 +1,9 @@
 //! FILE: a language of commands over named files, answered one reply for each command.
 //!
-//! A [`Session`] carries out commands over a [`Store`]: [`MemStore`] keeps its files in memory, [`DirStore`] in one
-//! folder of the system. The session touches no socket and no clock, and takes memory for the bytes of open files alone:
-//! names, handles and replies are fixed arrays, and a command is read in place.
+//! A [`Session`] carries out commands over a [`Store`]: [`MemStore`] keeps its files in memory,
+//! [`DirStore`] in one folder of the system. The session touches no socket and no clock, and takes
+//! memory for the bytes of open files alone: names, handles and replies are fixed arrays, and a
+//! command is read in place.
 #![tactic(auto)]
 
 mod answer;

@@ -34,15 +34,19 @@ pub const MAX_REPLY: usize = MAX_DATA;
 /// The most bytes of a reply's front: tid, space, handle, space.
 pub(crate) const MAX_FRONT: usize = 18;
 
-/// The limits as numerals, and the byte that ends a line.
+/// The limits as numerals.
 pub fn law_limits()
+    // A line ends with the byte 215 octal.
     ensures line_end { NL ≡ 141 }
+    // A tid and a handle's name have at most 8 bytes, a user's name 16, a path 64.
     ensures tid { MAX_TID ≡ 8 }
     ensures handle { MAX_HANDLE ≡ 8 }
     ensures name { MAX_NAME ≡ 16 }
     ensures path { MAX_PATH ≡ 64 }
+    // A command and a reply have at most 448 bytes of a file, and a file has at most 1,048,576.
     ensures chunk { MAX_CHUNK ≡ 448 }
     ensures file { MAX_FILE ≡ 1048576 }
+    // A session has at most 8 handles, and a reply 488 bytes.
     ensures handles { MAX_HANDLES ≡ 8 }
     ensures reply { MAX_REPLY ≡ 488 }
 {}

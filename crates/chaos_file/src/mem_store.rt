@@ -24,11 +24,11 @@ impl Model for Entry {
     ghost view = { λ e. (e.path, e.bytes) };
 }
 
-/// A store that keeps its files in memory, which contracts see as the map of its files. It is always honest, and never
-/// fails.
+/// A store that keeps its files in memory, which contracts see as the map of its files. It is
+/// always honest, and never fails.
 ///
-/// A call looks at each path in turn. `get` and `put` copy the file's bytes once, `rename` the new path alone; they take
-/// the memory for it before they change anything.
+/// A call looks at each path in turn. `get` and `put` copy the file's bytes once, `rename` the new
+/// path alone; they take the memory for it before they change anything.
 #[derive(Drop)]
 pub struct MemStore {
     entries: Vec<Entry>,
@@ -81,7 +81,8 @@ fn make_entry(alloc: Global, path: &[u8], bytes: &[u8]) -> Result<Entry, AllocEr
 
 /// The bytes of a path's first entry.
 fn lookup<'a>(entries: &'a [Entry], path: &[u8]) -> Option<&'a [u8]>
-    ensures { option_map (λ b. b.now) result ≡ option_map (λ e. e.1) (find (is_at path.now) entries.now) }
+    ensures { option_map (λ b. b.now) result
+        ≡ option_map (λ e. e.1) (find (is_at path.now) entries.now) }
 {
     match entries.iter().find(|e| e.is_at(path)) {
         Some(e) => Some(e.bytes()),
@@ -131,6 +132,7 @@ impl MemStore {
     /// A store without files. It takes no memory yet.
     #[tactic(auto, using(crate::proofs::Files::files_none))]
     pub fn new(alloc: Global) -> Self
+        // No path has a file.
         ensures { result ≡ map.empty }
     {
         MemStore {
@@ -200,8 +202,10 @@ impl Store for MemStore {
 
     // It takes no memory, so that there always is some.
     fn remove(&mut self, _alloc: Global, path: &[u8]) -> Removed
+        // It never fails, and takes no memory.
         ensures failed { ¬ (result ≡ Removed.Failed) }
         ensures memory { ¬ (result ≡ Removed.NoMemory) }
+        // The path is taken out of the map, where it is there.
         ensures files { Removes path.now result (Some self.new) self.old }
     {
         if self.lookup(path).is_none() {

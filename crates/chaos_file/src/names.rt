@@ -24,16 +24,19 @@ pub(crate) fn is_name(least: usize, most: usize, bytes: &[u8]) -> bool
     least <= bytes.len() && bytes.len() <= most && all_alphanumeric(bytes)
 }
 
-/// Whether the bytes are a user's name: 1 to 16 letters and digits.
+/// Whether the bytes are a user's name.
 pub fn is_user(bytes: &[u8]) -> bool
+    // They are from 1 to 16 letters and digits.
     ensures value { result ≡ is_name 1 MAX_NAME bytes.now }
+    // So they are no more than the longest name.
     ensures fits { result ≡ true → length bytes.now ≤ MAX_NAME }
 {
     is_name(1, MAX_NAME, bytes)
 }
 
-/// Whether a byte may stand in a path: a letter, a digit, a dot, a hyphen or an underscore.
+/// Whether a byte may stand in a path.
 pub fn is_path_byte(b: u8) -> bool
+    // The byte is a letter, a digit, a dot, a hyphen or an underscore.
     ensures { result ≡ is_path_byte b }
 {
     b.is_ascii_alphanumeric() || b == b'.' || b == b'-' || b == b'_'
@@ -54,9 +57,11 @@ fn begins_with_dot(bytes: &[u8]) -> bool
     }
 }
 
-/// Whether the bytes are a legal path: 1 to 64 of letters, digits, dots, hyphens and underscores, the first no dot.
+/// Whether the bytes are a legal path.
 pub fn is_path(bytes: &[u8]) -> bool
+    // They are from 1 to 64 bytes of a path, of which the first is no dot.
     ensures value { result ≡ is_path bytes.now }
+    // So they are no more than the longest path.
     ensures fits { result ≡ true → length bytes.now ≤ MAX_PATH }
 {
     1 <= bytes.len() && bytes.len() <= MAX_PATH && all_path_bytes(bytes) && !begins_with_dot(bytes)

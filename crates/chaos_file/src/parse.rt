@@ -112,10 +112,12 @@ fn parsed_tail<'a>(tid: &'a [u8], handle: &'a [u8], tail: &'a [u8], end: usize) 
     }
 }
 
-/// What a command's bytes say, by the grammar of the language. It takes no memory, and looks at each byte a few times
-/// at most; the parts are lent from `bytes`.
+/// What a command's bytes say. It takes no memory, and looks at each byte a few times at most; the
+/// parts are lent from `bytes`.
 pub fn parse_command(bytes: &[u8]) -> Parsed<'_>
+    // The bytes are read by the grammar of the language.
     ensures value { parsed_view result ≡ parse_of bytes.now }
+    // The parts are no longer than they may be.
     ensures fits { ParsedFits (parsed_view result) }
 {
     match front_of(bytes) {

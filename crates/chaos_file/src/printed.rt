@@ -4,8 +4,9 @@ use std::fmt::{Display, Formatter};
 
 /// The name of a local file or folder, as it is printed.
 ///
-/// No name makes a terminal do anything, and no two names are printed alike: a control character stands there as `\x1b` or as `\u{9b}`,
-/// so does a mark that changes the direction of writing, and `\` is doubled. Every other character is printed as it is.
+/// No name makes a terminal do anything, and no two names are printed alike: a control character
+/// stands there as `\x1b` or as `\u{9b}`, so does a mark that changes the direction of writing, and
+/// `\` is doubled. Every other character is printed as it is.
 #[derive(Clone, Copy, Debug)]
 pub struct PrintedName<'a>(pub &'a str);
 

@@ -69,8 +69,8 @@ impl<'a> Said<'a> {
     }
 }
 
-/// The parts of a reply, lent from its bytes. The names are those of the command, and both are empty where the server
-/// couldn't read them.
+/// The parts of a reply, lent from its bytes. The names are those of the command, and both are
+/// empty where the server couldn't read them.
 #[derive(Clone, Copy, Debug, PartialEq, Eq)]
 pub struct ReplyParts<'a> {
     /// The command's tid, of at most 8 letters and digits.
@@ -81,7 +81,8 @@ pub struct ReplyParts<'a> {
     pub said: Said<'a>,
 }
 
-/// The number that decimal digits write, without leading zeros, where a file may have so many bytes.
+/// The number that decimal digits write, without leading zeros, where a file may have so many
+/// bytes.
 fn count_of(digits: &[u8]) -> Option<usize>
     ensures { result ≡ count_of digits.now }
 {
@@ -158,8 +159,8 @@ fn said_of_text(text: &[u8], end: usize) -> Option<Said<'_>>
     said_behind(word_of(&text[..end])?, rest)
 }
 
-/// What a reply's bytes say, or None where they are no reply of FILE. It takes no memory, and looks at each byte a few
-/// times at most; the parts are lent from `bytes`.
+/// What a reply's bytes say, or None where they are no reply of FILE. It takes no memory, and looks
+/// at each byte a few times at most; the parts are lent from `bytes`.
 pub fn read_reply(bytes: &[u8]) -> Option<ReplyParts<'_>>
     // The parts are those of the definition's reading.
     ensures { option_map reply_view result ≡ reading_of bytes.now }

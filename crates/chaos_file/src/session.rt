@@ -24,8 +24,8 @@ use arrayvec::ArrayVec;
 use std::alloc::Global;
 use std::marker::Model;
 
-/// A user's session: the name that was given, and the open files. It is dropped when its connection ends, and what its
-/// handles had written and not closed is lost.
+/// A user's session: the name that was given, and the open files. It is dropped when its connection
+/// ends, and what its handles had written and not closed is lost.
 #[derive(Drop)]
 pub struct Session {
     name: Option<ArrayVec<u8, MAX_NAME>>,
@@ -44,6 +44,7 @@ impl Model for Session {
 impl Session {
     /// A session without a name, and without open files. It takes no memory.
     pub fn new() -> Self
+        // The session has no name and no handles.
         ensures { result ≡ new_session }
     {
         Session {
@@ -54,6 +55,7 @@ impl Session {
 
     /// The user's name, where one was given.
     pub fn name(&self) -> Option<&[u8]>
+        // It is the name that the session has, where it has one.
         ensures { option_map (λ name. name.now) result ≡ self.now.name }
     {
         match &self.name {
@@ -64,14 +66,16 @@ impl Session {
 
     /// How many files are open.
     pub fn open_files(&self) -> usize
+        // It counts the handles of the session.
         ensures { result ≡ length self.now.handles }
     {
         self.handles.len()
     }
 
-    /// Gives the open files back, as where the connection ended: what their handles had written and not closed is lost. The
-    /// user's name stays.
+    /// Gives the open files back, as where the connection ended: what their handles had written and
+    /// not closed is lost. The user's name stays.
     pub fn drop_files(&mut self)
+        // No handle is left, and the name stays.
         ensures { self.new ≡ record self.old { handles = [] } }
     {
         self.handles.clear();
@@ -79,24 +83,32 @@ impl Session {
 
     /// Carries out a command, and answers it by one reply.
     ///
-    /// Over an honest store the reply, the session and the files are those of the language's definition; or the reply is
-    /// a store fault, where the store failed in this call; or it is out of memory, at a command that may take some.
-    /// After an ERROR reply session and files are as they were. LOGIN, READ, CLOSE of a handle that reads, OPEN WRITE
-    /// and every error that is found before the store is asked touch no store and take no memory, over any store; and a
-    /// handle that reads holds bytes such as the store's `get` may give.
+    /// LOGIN, READ, CLOSE of a handle that reads, OPEN WRITE and every error that is found before
+    /// the store is asked touch no store and take no memory, over any store.
     ///
-    /// A command looks at its own bytes, at the handles' names and at what it copies: a READ copies its bytes once, into
-    /// the reply, and a WRITE once, behind the handle's bytes. OPEN READ and CLOSE cost what the store's call costs.
+    /// A command looks at its own bytes, at the handles' names and at what it copies: a READ copies
+    /// its bytes once, into the reply, and a WRITE once, behind the handle's bytes. OPEN READ and
+    /// CLOSE cost what the store's call costs.
     pub fn apply<S: Store>(&mut self, alloc: Global, store: &mut S, command: &[u8]) -> Reply
-        ensures { IsApplied (change S.contents S.may_give S.count store.old store.new) self.old self.new command.now result.items }
+        // `honest`: over an honest store the reply, the session and the files are those of the
+        // language's definition; or the reply is a store fault, where the store failed in this call
+        // and the command asks it; or it is out of memory, at a command that may take some. At
+        // either, session and files are as they were. `any`: over any store the reply and the
+        // session are those that the command asks for, by what the store answers. A handle that
+        // reads holds bytes such as the store's `get` may give, no more than the greatest file; a
+        // store fault comes only where the store's count rose; a command that asks nothing of the
+        // store leaves it as it was. `kept`, `kept_files`: after an ERROR reply the session is as
+        // it was, and so are the files of an honest store.
+        ensures { IsApplied (change S.contents S.may_give S.count store.old store.new) self.old
+            self.new command.now result.items }
     {
         let mut reply = Reply::new();
         self.apply_into(alloc, store, command, &mut reply);
         reply
     }
 
-    /// Carries out a command as `apply` does, and writes its reply into a place of the caller's, over what stood there: none is
-    /// moved.
+    /// Carries out a command as `apply` does, and writes its reply into a place of the caller's,
+    /// over what stood there: none is moved.
     pub fn apply_into<S: Store>(
         &mut self,
         alloc: Global,
@@ -104,7 +116,10 @@ impl Session {
         command: &[u8],
         reply: &mut Reply,
     )
-        ensures { IsApplied (change S.contents S.may_give S.count store.old store.new) self.old self.new command.now reply.new.items }
+        // The session, the store and the reply are as `Session::apply` says, whatever stood in the
+        // place.
+        ensures { IsApplied (change S.contents S.may_give S.count store.old store.new) self.old
+            self.new command.now reply.new.items }
     {
         reply.clear();
         let parsed = parse_command(command);
@@ -125,7 +140,8 @@ impl Session {
         requires room { length reply.old.items ≤ MAX_FRONT }
         ensures { IsDone (change S.contents S.may_give S.count store.old store.new)
             (plan_of self.old (parsed_view parsed.entry))
-            (record { done = result; front = reply.old.items; reply = reply.new.items; old = self.old; new = self.new }) }
+            (record { done = result; front = reply.old.items; reply = reply.new.items; old =
+                self.old; new = self.new }) }
     {
         match parsed {
             Parsed::BadHead => Err(FileError::Syntax),
@@ -171,8 +187,10 @@ impl Session {
         requires fits { CommandFits (command_view command) }
         requires room { length reply.old.items ≤ MAX_FRONT }
         ensures { IsDone (change S.contents S.may_give S.count store.old store.new)
-            (if_known self.old (word_said (command_view command.entry)) (plan_command self.old handle.now (command_view command.entry)))
-            (record { done = result; front = reply.old.items; reply = reply.new.items; old = self.old; new = self.new }) }
+            (if_known self.old (word_said (command_view command.entry))
+                (plan_command self.old handle.now (command_view command.entry)))
+            (record { done = result; front = reply.old.items; reply = reply.new.items; old =
+                self.old; new = self.new }) }
     {
         if self.may_say(command.word()) {
             self.run(alloc, store, handle, command, reply)
@@ -196,7 +214,8 @@ impl Session {
         requires room { length reply.old.items ≤ MAX_FRONT }
         ensures { IsDone (change S.contents S.may_give S.count store.old store.new)
             (plan_command self.old handle.now (command_view command.entry))
-            (record { done = result; front = reply.old.items; reply = reply.new.items; old = self.old; new = self.new }) }
+            (record { done = result; front = reply.old.items; reply = reply.new.items; old =
+                self.old; new = self.new }) }
     {
         match command {
             Command::Login(name) => self.log_in(name, reply),
@@ -213,6 +232,7 @@ impl Session {
 
 impl Default for Session {
     fn default() -> Self
+        // The session has no name and no handles.
         ensures { result ≡ new_session }
     {
         Session::new()

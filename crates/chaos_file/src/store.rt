@@ -62,15 +62,15 @@ pub enum Renamed {
 
 /// Keeps files under paths.
 ///
-/// Every store answers `Failed` only where its count of failures rose in that call. An honest store keeps its files as a
-/// map from path to bytes: each call answers by this map, changes it as it answers, and leaves it where it failed or
-/// found no memory.
+/// Every store answers `Failed` only where its count of failures rose in that call. An honest store
+/// keeps its files as a map from path to bytes: each call answers by this map, changes it as it
+/// answers, and leaves it where it failed or found no memory.
 pub trait Store {
     /// The files, where the store is known to be honest; a store that claims nothing has None.
     ghost contents: { Self → Option Files };
 
-    /// The bytes that a `get` of a path may give within a limit. What is known of a store's answers beside the limit is
-    /// said here; a store that says nothing allows all.
+    /// The bytes that a `get` of a path may give within a limit. What is known of a store's answers
+    /// beside the limit is said here; a store that says nothing allows all.
     ghost may_give: { Self → List ℕ → ℕ → List ℕ → Type 0 };
 
     /// How many calls have failed so far.
@@ -78,28 +78,45 @@ pub trait Store {
 
     /// The bytes of a path's file, where they are at most `limit`.
     fn get(&mut self, alloc: Global, path: &[u8], limit: usize) -> Got
+        // It fails only where the count of failures rose.
         ensures failed { result ≡ Got.Failed → Rose (count self.old) (count self.new) }
+        // It gives no more bytes than it is asked for.
         ensures limit { Gives (λ bytes. length bytes ≤ limit) result }
+        // It gives bytes such as `may_give` allows.
         ensures gives { Gives (may_give self.old path.now limit) result }
-        ensures files { IfSome (contents self.old) (Gets path.now limit result (contents self.new)) };
+        // An honest store gives the file that its map has at the path, and stays as it was.
+        ensures files { IfSome (contents self.old)
+            (Gets path.now limit result (contents self.new)) };
 
     /// Makes these bytes the whole content of a path, new or replaced.
     fn put(&mut self, alloc: Global, path: &[u8], bytes: &[u8]) -> Stored
+        // It fails only where the count of failures rose.
         ensures failed { result ≡ Stored.Failed → Rose (count self.old) (count self.new) }
-        ensures files { IfSome (contents self.old) (Puts path.now bytes.now result (contents self.new)) };
+        // The bytes become the whole file at the path of an honest store. A call that fails or
+        // finds no memory leaves all files.
+        ensures files { IfSome (contents self.old)
+            (Puts path.now bytes.now result (contents self.new)) };
 
     /// Takes a path's file out.
     fn remove(&mut self, alloc: Global, path: &[u8]) -> Removed
+        // It fails only where the count of failures rose.
         ensures failed { result ≡ Removed.Failed → Rose (count self.old) (count self.new) }
+        // The path is taken out of the map of an honest store. A call that fails or finds no memory
+        // leaves all files.
         ensures files { IfSome (contents self.old) (Removes path.now result (contents self.new)) };
 
-    /// Moves a file to a path that no file has. The old path is looked for first, so that two equal paths are
-    /// `Exists` or `Absent`.
+    /// Moves a file to a path that no file has. The old path is looked for first, so that two equal
+    /// paths are `Exists` or `Absent`.
     fn rename(&mut self, alloc: Global, old: &[u8], new: &[u8]) -> Renamed
+        // It fails only where the count of failures rose.
         ensures failed { result ≡ Renamed.Failed → Rose (count self.old) (count self.new) }
-        ensures files { IfSome (contents self.old) (Renames old.now new.now result (contents self.new)) };
+        // The file moves to the new path in the map of an honest store, where no file has it. A
+        // call that fails or finds no memory leaves all files.
+        ensures files { IfSome (contents self.old)
+            (Renames old.now new.now result (contents self.new)) };
 
     /// How many calls have failed so far. The count stays at the greatest `u64`.
     fn failures(&self) -> u64
+        // It is the count of failures.
         ensures { result ≡ count self.now };
 }

@@ -12,7 +12,8 @@ const RLIMIT_FSIZE: i32 = 1;
 /// The system's number of the fault that a file is too large.
 const EFBIG: i32 = 27;
 
-/// The most bytes that the process may write into a file: as many as there are numbers for where that can't be had.
+/// The most bytes that the process may write into a file: as many as there are numbers for where
+/// that can't be had.
 fn most_bytes() -> u64 {
     let mut limit = rlimit {
         rlim_cur: u64::MAX,
@@ -22,10 +23,12 @@ fn most_bytes() -> u64 {
     limit.rlim_cur
 }
 
-/// A file of more bytes than the process may write is refused: the system would end the process at its write.
+/// A file of more bytes than the process may write is refused: the system would end the process at
+/// its write.
 ///
 /// # Errors
-/// The system's fault for a file that is too large. The limit is the system's, so nothing is promised of it.
+/// The system's fault for a file that is too large. The limit is the system's, so nothing is
+/// promised of it.
 pub fn require_room(bytes: u64) -> io::Result<()> {
     if bytes > most_bytes() {
         return Err(io::Error::from_raw_os_error(EFBIG));
@@ -60,12 +63,14 @@ fn write_and_rename<R: Files>(
     fs::rename(rt, fresh, place)
 }
 
-/// Writes a file whole under a fresh name, where nothing is, flushes it to the disk, and then gives it its place, also in place of a file
-/// that is there, whose mode the caller may hand in. So no half file ever has the place.
+/// Writes a file whole under a fresh name, where nothing is, flushes it to the disk, and then gives
+/// it its place, also in place of a file that is there, whose mode the caller may hand in. So no
+/// half file ever has the place.
 ///
 /// # Errors
-/// Those of the system, and where the file is longer than the process may write: then what had the place has it still, and nothing is
-/// left under the fresh name, but where it could not be removed either.
+/// Those of the system, and where the file is longer than the process may write: then what had the
+/// place has it still, and nothing is left under the fresh name, but where it could not be removed
+/// either.
 pub fn write_whole<R: Files>(
     rt: &R,
     fresh: &str,

@@ -13,7 +13,8 @@ use std::{fs, io};
 /// The name under which a file is written before it is renamed. It is no legal path.
 const NEW: &str = ".new";
 
-/// A folder of the system, which is this store's alone: no other that asks for its lock gets it as long as this is there.
+/// A folder of the system, which is this store's alone: no other that asks for its lock gets it as
+/// long as this is there.
 #[derive(Drop)]
 pub(crate) struct Folder<R> {
     rt: R,
@@ -23,13 +24,16 @@ pub(crate) struct Folder<R> {
     fresh: String,
 }
 
-/// Reads what a file has, or None where that is more than the limit: one byte more than it is read at most.
+/// Reads what a file has, or None where that is more than the limit: one byte more than it is read
+/// at most.
 fn read_within<F: Read + Drop>(alloc: Global, file: F, limit: usize) -> io::Result<Option<Vec<u8>>>
     ensures fits { IfOk result (λ o. IfSome o (λ v. length v.items ≤ limit)) }
     // What is answered is all that the file has.
-    ensures whole { IfOk result (λ o. IfSome o (λ v. IfSome (F.remaining file) (λ all. v.items ≡ all))) }
+    ensures whole { IfOk result
+        (λ o. IfSome o (λ v. IfSome (F.remaining file) (λ all. v.items ≡ all))) }
     // It has more than the limit only where it has.
-    ensures much { IfOk result (λ o. o ≡ None → IfSome (F.remaining file) (λ all. limit < length all)) }
+    ensures much { IfOk result
+        (λ o. o ≡ None → IfSome (F.remaining file) (λ all. limit < length all)) }
 {
     let mut bytes = Vec::new(alloc);
     file.take((limit as u64).saturating_add(1))
@@ -50,8 +54,8 @@ fn require_file(info: &Metadata) -> io::Result<()> {
 }
 
 impl<R: Drop + Files<File = File>> Folder<R> {
-    /// The folder of this path, where there is one and nobody else has locked it. What was left of a file that was never
-    /// put is taken away.
+    /// The folder of this path, where there is one and nobody else has locked it. What was left of
+    /// a file that was never put is taken away.
     pub(crate) fn open(rt: R, name: String) -> io::Result<Folder<R>> {
         let held = Held::open(&rt, name)?;
         let mut fresh = held.way.clone()?;
@@ -91,8 +95,8 @@ impl<R: Files> Folder<R> {
         read_within(alloc, file, limit)
     }
 
-    /// Opens a file of the folder, and nothing else: the kind is asked before the open, since the open of a fifo would
-    /// wait for its writer, and again of what was opened.
+    /// Opens a file of the folder, and nothing else: the kind is asked before the open, since the
+    /// open of a fifo would wait for its writer, and again of what was opened.
     fn open_file(&self, place: &str) -> io::Result<R::File> {
         require_file(&self.rt.symlink_metadata(place)?)?;
         let file = fs::open(&self.rt, place)?;
@@ -112,9 +116,10 @@ impl<R: Files> Folder<R> {
         }
     }
 
-    /// Writes a file whole, and then gives it its path. The bytes are on the disk before the path leads to them, and the
-    /// path is on the disk at the end. What may be refused is tried before the path changes, but for the last flush. Where
-    /// the path didn't change, what was written is taken away. A file that is replaced leaves its mode to the new one.
+    /// Writes a file whole, and then gives it its path. The bytes are on the disk before the path
+    /// leads to them, and the path is on the disk at the end. What may be refused is tried before
+    /// the path changes, but for the last flush. Where the path didn't change, what was written is
+    /// taken away. A file that is replaced leaves its mode to the new one.
     pub(crate) fn put(&self, alloc: Global, path: &[u8], bytes: &[u8]) -> io::Result<()>
         requires { is_path path.now ≡ true }
     {
@@ -132,7 +137,8 @@ impl<R: Files> Folder<R> {
         self.held.flush()
     }
 
-    /// Takes away what was left of a put, where there is such: a link itself, and never what it leads to.
+    /// Takes away what was left of a put, where there is such: a link itself, and never what it
+    /// leads to.
     fn clear_fresh(&self) -> io::Result<()> {
         match fs::remove_file(&self.rt, self.fresh.as_str()) {
             Err(e) if e.kind() != ErrorKind::NotFound => Err(e),
@@ -150,7 +156,8 @@ impl<R: Files> Folder<R> {
         fs::remove_file(&self.rt, place.as_str())
     }
 
-    /// Moves a file where the new path is free, and says whether it was. The old path is looked for first.
+    /// Moves a file where the new path is free, and says whether it was. The old path is looked for
+    /// first.
     pub(crate) fn rename(&self, alloc: Global, old: &[u8], new: &[u8]) -> io::Result<bool>
         requires old { is_path old.now ≡ true }
         requires new { is_path new.now ≡ true }

@@ -1,4 +1,5 @@
-//! A folder that is held open: its lock, and a way to its files that a change of names doesn't touch.
+//! A folder that is held open: its lock, and a way to its files that a change of names doesn't
+//! touch.
 use crate::printed::PrintedName;
 use std::alloc::Global;
 use std::fs::{File, Files, Metadata, TryLockError};
@@ -7,10 +8,12 @@ use std::os::fd::AsRawFd;
 use std::os::unix::fs::MetadataExt;
 use std::{fs, io};
 
-/// The system's folder of names that lead to what this process has open, each by its descriptor's number.
+/// The system's folder of names that lead to what this process has open, each by its descriptor's
+/// number.
 const DESCRIPTORS: &str = "/proc/self/fd";
 
-/// What distinguishes one folder from another. No other folder has the same while this folder is open.
+/// What distinguishes one folder from another. No other folder has the same while this folder is
+/// open.
 #[derive(Clone, Copy, PartialEq, Eq)]
 struct Identity {
     device: u64,
@@ -30,7 +33,8 @@ impl Identity {
 #[derive(Drop)]
 pub(crate) struct Held {
     name: String,
-    /// A name that leads to the folder that is open, whatever has its own name, where the system has such a name; else its own.
+    /// A name that leads to the folder that is open, whatever has its own name, where the system
+    /// has such a name; else its own.
     pub(crate) way: String,
     file: File,
     identity: Identity,
@@ -77,7 +81,8 @@ fn way_to<R: Files>(rt: &R, file: &File, identity: Identity, name: &String) -> i
 }
 
 impl Held {
-    /// Opens the folder of this name and locks it, where there is one and nobody else has locked it.
+    /// Opens the folder of this name and locks it, where there is one and nobody else has locked
+    /// it.
     pub(crate) fn open<R: Files<File = File>>(rt: &R, name: String) -> io::Result<Held> {
         require_folder(&rt.metadata(name.as_str())?)?;
         let file = fs::open(rt, name.as_str())?;
@@ -92,8 +97,9 @@ impl Held {
         })
     }
 
-    /// The folder's name is to lead to it still. It doesn't where the folder was renamed or removed, also where a new one has its name,
-    /// and where a disk was mounted over it or the disk that it is on was unmounted.
+    /// The folder's name is to lead to it still. It doesn't where the folder was renamed or
+    /// removed, also where a new one has its name, and where a disk was mounted over it or the disk
+    /// that it is on was unmounted.
     pub(crate) fn require_name<R: Files>(&self, rt: &R, alloc: Global) -> io::Result<()> {
         if leads_to(rt, self.name.as_str(), self.identity)? {
             return Ok(());

@@ -19,13 +19,16 @@ impl Session {
         requires within { at < length self.old.handles }
         requires room { length reply.old.items ≤ MAX_FRONT }
         ensures session { self.new ≡ without_handle self.old at }
-        ensures text { reply.new.items ≡ reply.old.items ++ answer_text (Closed (length (handle_at self.old.handles at).bytes)) }
+        ensures text { reply.new.items
+            ≡ reply.old.items
+            ++ answer_text (Closed (length (handle_at self.old.handles at).bytes)) }
     {
         let h = self.handles.remove(at);
         tell_count(reply, b"CLOSE ", h.len());
     }
 
-    /// CLOSE: the bytes of a handle that writes are put into the store first; then the handle is gone.
+    /// CLOSE: the bytes of a handle that writes are put into the store first; then the handle is
+    /// gone.
     pub(super) fn close<S: Store>(
         &mut self,
         alloc: Global,
@@ -36,7 +39,8 @@ impl Session {
         requires { length reply.old.items ≤ MAX_FRONT }
         ensures { IsDone (change S.contents S.may_give S.count store.old store.new)
             (plan_close self.old (handle_named handle.now self.old.handles))
-            (record { done = result; front = reply.old.items; reply = reply.new.items; old = self.old; new = self.new }) }
+            (record { done = result; front = reply.old.items; reply = reply.new.items; old =
+                self.old; new = self.new }) }
     {
         match self.handles.find(handle) {
             None => Err(FileError::NoSuchHandle),

@@ -15,9 +15,11 @@ impl Session {
     fn read_at(&mut self, at: usize, reply: &mut Reply)
         requires within { at < length self.old.handles }
         requires room { length reply.old.items ≤ MAX_FRONT }
-        ensures session { self.new ≡ with_handle self.old at (after_read (handle_at self.old.handles at)) }
+        ensures session { self.new
+            ≡ with_handle self.old at (after_read (handle_at self.old.handles at)) }
         ensures text { reply.new.items
-            ≡ reply.old.items ++ answer_text (read_answer (next_bytes (handle_at self.old.handles at))) }
+            ≡ reply.old.items
+                ++ answer_text (read_answer (next_bytes (handle_at self.old.handles at))) }
     {
         self.handles.read_at(at, reply);
     }
@@ -26,7 +28,8 @@ impl Session {
     pub(super) fn read(&mut self, handle: &[u8], reply: &mut Reply) -> Result<(), FileError>
         requires { length reply.old.items ≤ MAX_FRONT }
         ensures { Settles (plan_read self.old (handle_named handle.now self.old.handles))
-            (record { done = result; front = reply.old.items; reply = reply.new.items; old = self.old; new = self.new }) }
+            (record { done = result; front = reply.old.items; reply = reply.new.items; old =
+                self.old; new = self.new }) }
     {
         match self.handles.find(handle) {
             None => Err(FileError::NoSuchHandle),
@@ -40,7 +43,9 @@ impl Session {
 
     fn append_at(&mut self, alloc: Global, at: usize, bytes: &[u8]) -> Result<(), AllocError>
         requires { at < length self.old.handles }
-        ensures ok { OnOk result (self.new ≡ with_handle self.old at (with_bytes (handle_at self.old.handles at) bytes.now)) }
+        ensures ok { OnOk result
+            (self.new
+            ≡ with_handle self.old at (with_bytes (handle_at self.old.handles at) bytes.now)) }
         ensures err { OnErr result (self.new ≡ self.old) }
     {
         self.handles.append_at(alloc, at, bytes)
@@ -58,8 +63,11 @@ impl Session {
         requires within { at < length self.old.handles }
         requires len { len ≡ length (handle_at self.old.handles at).bytes + length bytes.now }
         requires room { length reply.old.items ≤ MAX_FRONT }
-        ensures { Grows (with_handle self.old at (with_bytes (handle_at self.old.handles at) bytes.now)) (Wrote len) result
-            (record { done = result; front = reply.old.items; reply = reply.new.items; old = self.old; new = self.new }) }
+        ensures { Grows
+            (with_handle self.old at (with_bytes (handle_at self.old.handles at) bytes.now))
+            (Wrote len) result
+            (record { done = result; front = reply.old.items; reply = reply.new.items; old =
+                self.old; new = self.new }) }
     {
         match self.append_at(alloc, at, bytes) {
             Ok(()) => {
@@ -81,7 +89,8 @@ impl Session {
         requires bytes { length bytes.now ≤ MAX_CHUNK }
         requires room { length reply.old.items ≤ MAX_FRONT }
         ensures { Settles (plan_write bytes.now self.old (handle_named handle.now self.old.handles))
-            (record { done = result; front = reply.old.items; reply = reply.new.items; old = self.old; new = self.new }) }
+            (record { done = result; front = reply.old.items; reply = reply.new.items; old =
+                self.old; new = self.new }) }
     {
         match self.handles.find(handle) {
             None => Err(FileError::NoSuchHandle),
