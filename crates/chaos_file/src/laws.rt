@@ -44,7 +44,7 @@ pub fn law_replies()
     // no reply.
     ensures go_on { (m : Files) (xs ys : List (List ℕ)) → replies_of m (xs ++ ys)
         ≡ replies_of m xs
-            ++ replies_from (files_after m new_session xs) (session_after m new_session xs) ys }
+        ++ replies_from (files_after m new_session xs) (session_after m new_session xs) ys }
 {}
 
 /// What an honest store makes of a command.
@@ -67,7 +67,7 @@ pub fn law_memory()
     ensures { (m n : Files) (s t : SessionView) (c reply : List ℕ) →
         IsApplied (memory_change m n) s t c reply →
         ¬ (reply ≡ reply_to (parse_of c) (Err NoMemory)) →
-            IsStep (memory_change m n) (file_step m s c) reply t }
+        IsStep (memory_change m n) (file_step m s c) reply t }
 {}
 
 /// How replies are spelled and read.
@@ -84,10 +84,10 @@ pub fn law_read_replies()
     // The definition's reply to a command is read as the names that it gives back, and the outcome.
     ensures defined { (m : Files) (before : List (List ℕ)) (command : List ℕ) →
         reading_of
-            (file_step (files_after m new_session before) (session_after m new_session before)
-            command).reply
+        (file_step (files_after m new_session before) (session_after m new_session before)
+        command).reply
         ≡ Some (step_reply (files_after m new_session before) (session_after m new_session before)
-            command) }
+        command) }
 {}
 
 /// Which replies [`is_want`](crate::is_want) tells to be out of memory.

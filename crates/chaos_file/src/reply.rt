@@ -154,7 +154,11 @@ fn said_of_text(text: &[u8], end: usize) -> Option<Said<'_>>
         return Some(Said::Refused(after_front(b" ", rest)?));
     }
     if &text[..end] == b"EOF".as_slice() {
-        return if rest.is_empty() { Some(Said::AtEnd) } else { None };
+        return if rest.is_empty() {
+            Some(Said::AtEnd)
+        } else {
+            None
+        };
     }
     said_behind(word_of(&text[..end])?, rest)
 }

@@ -140,8 +140,13 @@ impl Session {
         requires room { length reply.old.items ≤ MAX_FRONT }
         ensures { IsDone (change S.contents S.may_give S.count store.old store.new)
             (plan_of self.old (parsed_view parsed.entry))
-            (record { done = result; front = reply.old.items; reply = reply.new.items; old =
-                self.old; new = self.new }) }
+            (record {
+              done = result;
+              front = reply.old.items;
+              reply = reply.new.items;
+              old = self.old;
+              new = self.new;
+            }) }
     {
         match parsed {
             Parsed::BadHead => Err(FileError::Syntax),
@@ -188,9 +193,14 @@ impl Session {
         requires room { length reply.old.items ≤ MAX_FRONT }
         ensures { IsDone (change S.contents S.may_give S.count store.old store.new)
             (if_known self.old (word_said (command_view command.entry))
-                (plan_command self.old handle.now (command_view command.entry)))
-            (record { done = result; front = reply.old.items; reply = reply.new.items; old =
-                self.old; new = self.new }) }
+            (plan_command self.old handle.now (command_view command.entry)))
+            (record {
+              done = result;
+              front = reply.old.items;
+              reply = reply.new.items;
+              old = self.old;
+              new = self.new;
+            }) }
     {
         if self.may_say(command.word()) {
             self.run(alloc, store, handle, command, reply)
@@ -214,8 +224,13 @@ impl Session {
         requires room { length reply.old.items ≤ MAX_FRONT }
         ensures { IsDone (change S.contents S.may_give S.count store.old store.new)
             (plan_command self.old handle.now (command_view command.entry))
-            (record { done = result; front = reply.old.items; reply = reply.new.items; old =
-                self.old; new = self.new }) }
+            (record {
+              done = result;
+              front = reply.old.items;
+              reply = reply.new.items;
+              old = self.old;
+              new = self.new;
+            }) }
     {
         match command {
             Command::Login(name) => self.log_in(name, reply),

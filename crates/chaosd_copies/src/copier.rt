@@ -56,9 +56,9 @@ fn copy_next<C: Copier>(copier: &mut C, goes_on: bool, name: &str) -> Outcome<C:
 fn run_next<C: Copier, T: Teller<C::Why>>(copier: &mut C, teller: &mut T, run: &mut Run, name: &str)
     ensures { (start : C) (told : Option (List (Told C.Why))) (names : List (List ℕ)) →
         Runs C.tries start told names run.old.status run.old.goes_on copier.old
-            (T.told teller.old) →
+        (T.told teller.old) →
         Runs C.tries start told (names ++ name.now ∷ []) run.new.status run.new.goes_on copier.new
-            (T.told teller.new) }
+        (T.told teller.new) }
 {
     let outcome = copy_next(copier, run.goes_on, name);
     run.status = run.status.worse(outcome.status());

@@ -81,7 +81,7 @@ impl<D: Dialog, L: Locals, V: Viewer> Gets<'_, D, L, V> {
         ensures got { IfOk result
             (λ contents. GetsWhole path.now local.now self.old.is_text self.old.is_digested contents
             (D.talked self.new.session.watched.inner) (L.kept self.old.locals)
-                (L.kept self.new.locals)) }
+            (L.kept self.new.locals)) }
         ensures failed { OnErr result (L.kept self.new.locals ≡ L.kept self.old.locals) }
         ensures missed { IfErr result (λ outcome. is_well outcome ≡ false) }
         ensures same_target { (self.new.target ≡ self.old.target)
@@ -110,10 +110,10 @@ impl<D: Dialog, L: Locals, V: Viewer> Copier for Gets<'_, D, L, V> {
     /// Where it isn't told as copied, no local file changed.
     ghost tries = { λ old path outcome new. MatchCopied outcome
         (λ contents. GetsWhole path (local_of old.target path) old.is_text old.is_digested contents
-            (D.talked new.session.watched.inner) (L.kept old.locals) (L.kept new.locals))
+        (D.talked new.session.watched.inner) (L.kept old.locals) (L.kept new.locals))
         (L.kept new.locals ≡ L.kept old.locals)
         × ((new.target ≡ old.target) × (new.is_text ≡ old.is_text)
-            × (new.is_digested ≡ old.is_digested)) };
+        × (new.is_digested ≡ old.is_digested)) };
 
     fn copy(&mut self, path: &str) -> Outcome<D::Why> {
         let Ok(local) = self.target.local(self.alloc, path) else {

@@ -82,10 +82,10 @@ impl<D: Dialog, L: Locals, V: Viewer, N: Naming> Copier for Puts<'_, D, L, V, N>
     ghost tries = { λ old local outcome new. MatchCopied outcome
         (λ contents. (path : List ℕ) × (N.path old.naming local ≡ Some path)
         × PutsWhole path (L.held old.locals local) old.is_text old.is_digested contents
-            (D.talked new.session.watched.inner))
+        (D.talked new.session.watched.inner))
         (Unit {0})
         × ((new.naming ≡ old.naming) × (new.is_text ≡ old.is_text)
-            × (new.is_digested ≡ old.is_digested)) };
+        × (new.is_digested ≡ old.is_digested)) };
 
     fn copy(&mut self, local: &str) -> Outcome<D::Why> {
         match self.naming.path(local) {

@@ -40,13 +40,9 @@ fn opened_length(came: bool, reply: &Reply, tid: u32) -> Option<usize>
     // Where the reply says a length that FILE allows, it is found.
     ensures all { (n : ℕ) → n ≤ MAX_FILE →
         taken came reply.now.items ≡ Some (reply_of (decimal tid) file_handle (Opened n)) →
-            result ≡ Some n }
+        result ≡ Some n }
 {
-    if came {
-        length_said(reply, tid)
-    } else {
-        None
-    }
+    if came { length_said(reply, tid) } else { None }
 }
 
 /// The bytes that a reply to READ says.
@@ -66,10 +62,10 @@ fn given_piece(came: bool, reply: &Reply, tid: u32, len: usize) -> Option<&[u8]>
     requires len { len ≤ MAX_CHUNK }
     ensures { MatchOption result
         ((piece : List ℕ) → length piece ≡ len →
-            taken came reply.now.items ≢ Some (reply_of (decimal tid) file_handle (Given piece)))
+        taken came reply.now.items ≢ Some (reply_of (decimal tid) file_handle (Given piece)))
         (λ piece. (length piece.now ≡ len)
-            × (taken came reply.now.items
-                ≡ Some (reply_of (decimal tid) file_handle (Given piece.now)))) }
+        × (taken came reply.now.items
+        ≡ Some (reply_of (decimal tid) file_handle (Given piece.now)))) }
 {
     if !came {
         return None;
@@ -96,7 +92,7 @@ fn take_piece(
         × (taken came reply.now.items ≡ Some (reply_of (decimal tid) file_handle (Given more)))) }
     ensures left { IfOk result (λ is_given. is_given ≡ false → (bytes.new.items ≡ bytes.old.items)
         × ((x : List ℕ) → taken came reply.now.items ≡ Some x →
-            IsGiven (decimal tid) file_handle len x → ⊥)) }
+        IsGiven (decimal tid) file_handle len x → ⊥)) }
     ensures faults { IfErr result (λ fault. fault ≡ RunFault.NoMemory) }
 {
     let Some(more) = given_piece(came, reply, tid, len) else {
@@ -123,7 +119,7 @@ fn read_all<T: Talk>(
     ensures done { IfDone result
         ((length bytes.new.items ≡ len) × Since (T.talked talk.old) (T.talked talk.new)
         (upto (read_sent first) (1 + chunk_count len))
-            (upto (read_received first bytes.new.items) (1 + chunk_count len))) }
+        (upto (read_received first bytes.new.items) (1 + chunk_count len))) }
     ensures ended { UnlessDone result
         (ReadsEnded (T.talked talk.old) (T.talked talk.new) first len bytes.new.items) }
     ensures waited { IfUnanswered result
@@ -176,7 +172,7 @@ pub fn get_file<T: Talk>(
     // the replies of a server that has it were received.
     ensures done { IfDone result (Since (T.talked talk.old) (T.talked talk.new)
         (get_commands (tids_from first) file_handle path.now (length bytes.new.items))
-            (get_replies (tids_from first) file_handle bytes.new.items)) }
+        (get_replies (tids_from first) file_handle bytes.new.items)) }
     // Otherwise the replies that were received are those to OPEN and to some READs, whose pieces
     // these bytes begin with, or none yet, and then at most one, to the next command. `Refused` is
     // an error reply to it. `Strange` is neither such a reply nor one that a file of FILE has: to

@@ -27,7 +27,7 @@ pub fn law_put()
     ensures { (m : Files) (tid : Tids) (name handle path bytes : List ℕ) →
         CanCopy tid (2 + chunk_count (length bytes)) handle path bytes →
         Does m (logged_in name) (put_commands tid handle path bytes) (map.insert m path bytes)
-            (logged_in name) (put_replies tid handle bytes) }
+        (logged_in name) (put_replies tid handle bytes) }
 {}
 
 /// A get, by the definition of FILE, in a session that has logged in and has no file open.
@@ -38,7 +38,7 @@ pub fn law_get()
         CanCopy tid (3 + chunk_count (length bytes)) handle path bytes →
         map.get m path ≡ Some bytes →
         Does m (logged_in name) (get_commands tid handle path (length bytes)) m (logged_in name)
-            (get_replies tid handle bytes) }
+        (get_replies tid handle bytes) }
 {}
 
 /// A file in pieces.
@@ -65,7 +65,7 @@ pub fn law_got()
     ensures { (m : Files) (tid : Tids) (name handle path bytes : List ℕ) →
         CanCopy tid (3 + chunk_count (length bytes)) handle path bytes →
         replies_from m (logged_in name) (get_commands tid handle path (length bytes))
-            ≡ get_replies tid handle bytes →
+        ≡ get_replies tid handle bytes →
         map.get m path ≡ Some bytes }
 {}
 

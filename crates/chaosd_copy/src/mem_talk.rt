@@ -114,9 +114,14 @@ impl Talk for MemTalk {
     ghost ready = { λ t. Some (drop t.received (map (λ v. v.items) t.replies.items)) };
 
     /// It never ends. It counts turns as far as they can be.
-    ghost course = { λ t. record
-        { turns = counted t.turns; moment = min (t.turns * 10) max_count; is_over = false; failures
-        = 0; patience = None } };
+    ghost course = { λ t. record {
+      turns = counted t.turns;
+      moment = min (t.turns * 10) max_count;
+      is_over = false;
+      failures
+          = 0;
+      patience = None;
+    } };
 
     /// No turn fails.
     ghost failed_by = { λ _ _. ⊥ };

@@ -33,7 +33,7 @@ fn write_all<T: Talk>(talk: &mut T, first: u32, bytes: &[u8]) -> Result<CopyEnd,
         (chunk_count (length bytes.now)) }
     ensures done { IfDone result (Since (T.talked talk.old) (T.talked talk.new)
         (upto (write_sent first bytes.now) (chunk_count (length bytes.now)))
-            (upto (write_received first bytes.now) (chunk_count (length bytes.now)))) }
+        (upto (write_received first bytes.now) (chunk_count (length bytes.now)))) }
     ensures ended { UnlessDone result
         (WritesEnded (T.talked talk.old) (T.talked talk.new) first bytes.now) }
     ensures waited { IfUnanswered result
@@ -94,7 +94,7 @@ pub fn put_file<T: Talk>(
     // the replies were received that say that the server has it whole.
     ensures done { IfDone result (Since (T.talked talk.old) (T.talked talk.new)
         (put_commands (tids_from first) file_handle path.now bytes.now)
-            (put_replies (tids_from first) file_handle bytes.now)) }
+        (put_replies (tids_from first) file_handle bytes.now)) }
     // Otherwise the replies that were received are the right ones to the commands before some
     // command, and then at most one. `Refused` is an error reply to that command, and `Strange` is
     // neither such a reply nor the one that was hoped for. With `NoReply` none came to OPEN or to a

@@ -91,7 +91,7 @@ fn send_on<T: Talk>(talk: &mut T, row: &Row<'_>, flight: &mut Flight)
         Since (T.talked start) (T.talked talk.old) (upto (row_command row.now) flight.old.sent)
         replies
         → Since (T.talked start) (T.talked talk.new) (upto (row_command row.now) flight.new.sent)
-            replies }
+        replies }
     ensures quiet { Unheard (T.talked talk.old) (T.talked talk.new) }
     ensures still { (T.course talk.new).turns ≡ (T.course talk.old).turns }
     ensures unfailed { (T.course talk.new).failures ≡ (T.course talk.old).failures }
@@ -186,16 +186,16 @@ pub fn next_reply<T: Talk>(
         Since (T.talked start) (T.talked talk.old) (upto (row_command row.now) flight.old.sent)
         replies
         → IfOk result
-            (λ came. Since (T.talked start) (T.talked talk.new)
-            (upto (row_command row.now) flight.new.sent)
-            (replies ++ received_in (taken came reply.new.items))) }
+        (λ came. Since (T.talked start) (T.talked talk.new)
+        (upto (row_command row.now) flight.new.sent)
+        (replies ++ received_in (taken came reply.new.items))) }
     // Where a turn fails, what was sent before it was, and nothing more was received.
     ensures fault { (start : T) (replies : List (List ℕ)) →
         Since (T.talked start) (T.talked talk.old) (upto (row_command row.now) flight.old.sent)
         replies
         → OnErr result
-            (Since (T.talked start) (T.talked talk.new) (upto (row_command row.now) flight.new.sent)
-            replies) }
+        (Since (T.talked start) (T.talked talk.new) (upto (row_command row.now) flight.new.sent)
+        replies) }
     // It gives up only where it was waited for long enough, or no more replies come.
     ensures waited { IfOk result
         (λ came. MatchOption (taken came reply.new.items)

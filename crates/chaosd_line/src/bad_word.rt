@@ -8,8 +8,7 @@ use std::alloc::{AllocError, Global};
 pub(crate) const ADDRESS_FORM: &str = "1 to 6 octal digits, from 1 to 177777";
 
 /// The form of a number of turns.
-pub(crate) const TURNS_FORM: &str =
-    "a decimal number from 0 to 1000000000, without leading zeros";
+pub(crate) const TURNS_FORM: &str = "a decimal number from 0 to 1000000000, without leading zeros";
 
 /// The form of a carriage.
 pub(crate) const CARRIAGE_FORM: &str = "1 or 2";

@@ -78,11 +78,7 @@ fn given_server<'a>(matches: &ArgMatches<'a>) -> Result<Peer, BadWord<'a>>
 
 /// What is wrong with the word at a place that names this host itself.
 pub(crate) fn own_host<'a>(matches: &ArgMatches<'a>, place: &'a str) -> BadWord<'a> {
-    BadWord::new(
-        optional(matches, place).unwrap_or(""),
-        place,
-        OTHER_FORM,
-    )
+    BadWord::new(optional(matches, place).unwrap_or(""), place, OTHER_FORM)
 }
 
 /// What the callers of a server have in common.

@@ -26,12 +26,7 @@ fn given_bridge<'a>(matches: &ArgMatches<'a>) -> Result<Option<u16>, BadWord<'a>
 }
 
 /// What is wrong with the word of an option that doesn't fit the others.
-fn misfit<'a>(
-    matches: &ArgMatches<'a>,
-    id: &str,
-    option: &'a str,
-    reason: &'a str,
-) -> BadWord<'a> {
+fn misfit<'a>(matches: &ArgMatches<'a>, id: &str, option: &'a str, reason: &'a str) -> BadWord<'a> {
     BadWord::misfit(optional(matches, id).unwrap_or(""), option, reason)
 }
 

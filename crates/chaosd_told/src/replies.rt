@@ -5,9 +5,8 @@ use arrayvec::ArrayVec;
 use chaos_file::{MAX_HANDLE, MAX_HANDLES, ReplyParts, Said, read_reply};
 use memchr::memchr;
 use std::cell::Cell;
-use std::io;
 use std::io::Write;
-use std::mem;
+use std::{io, mem};
 
 /// As many bytes as the longest reply that says a count. Of an error they are enough to see that it is one.
 const FRONT: usize = 32;

@@ -39,8 +39,13 @@ impl Session {
         requires { length reply.old.items ≤ MAX_FRONT }
         ensures { IsDone (change S.contents S.may_give S.count store.old store.new)
             (plan_close self.old (handle_named handle.now self.old.handles))
-            (record { done = result; front = reply.old.items; reply = reply.new.items; old =
-                self.old; new = self.new }) }
+            (record {
+              done = result;
+              front = reply.old.items;
+              reply = reply.new.items;
+              old = self.old;
+              new = self.new;
+            }) }
     {
         match self.handles.find(handle) {
             None => Err(FileError::NoSuchHandle),

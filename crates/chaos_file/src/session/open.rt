@@ -20,8 +20,13 @@ impl Session {
         requires name { length name.now ≤ MAX_NAME }
         requires room { length reply.old.items ≤ MAX_FRONT }
         ensures { Settles (Tell (with_name self.old name.now) (LoggedIn name.now))
-            (record { done = result; front = reply.old.items; reply = reply.new.items; old =
-                self.old; new = self.new }) }
+            (record {
+              done = result;
+              front = reply.old.items;
+              reply = reply.new.items;
+              old = self.old;
+              new = self.new;
+            }) }
     {
         self.name = Some(kept(name));
         tell(reply, b"LOGIN ", name);
@@ -60,8 +65,13 @@ impl Session {
         ensures { Settles
             (plan_open self.old name.now
             (Tell (with_new_handle self.old (writer name.now path.now)) (Opened 0)))
-            (record { done = result; front = reply.old.items; reply = reply.new.items; old =
-                self.old; new = self.new }) }
+            (record {
+              done = result;
+              front = reply.old.items;
+              reply = reply.new.items;
+              old = self.old;
+              new = self.new;
+            }) }
     {
         if let Some(error) = self.open_error(name) {
             return Err(error);
@@ -85,8 +95,13 @@ impl Session {
         requires room { length reply.old.items ≤ MAX_FRONT }
         ensures { IsDone (change S.contents S.may_give S.count store.old store.new)
             (plan_open self.old name.now (Ask (GetFile name.now path.now)))
-            (record { done = result; front = reply.old.items; reply = reply.new.items; old =
-                self.old; new = self.new }) }
+            (record {
+              done = result;
+              front = reply.old.items;
+              reply = reply.new.items;
+              old = self.old;
+              new = self.new;
+            }) }
     {
         if let Some(error) = self.open_error(name) {
             return Err(error);

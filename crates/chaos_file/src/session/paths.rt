@@ -24,8 +24,13 @@ impl Session {
         requires { length reply.old.items ≤ MAX_FRONT }
         ensures { IsDone (change S.contents S.may_give S.count store.old store.new)
             (Ask (RenameFile old.now new.now))
-            (record { done = result; front = reply.old.items; reply = reply.new.items; old =
-                self.now; new = self.now }) }
+            (record {
+              done = result;
+              front = reply.old.items;
+              reply = reply.new.items;
+              old = self.now;
+              new = self.now;
+            }) }
     {
         match store.rename(alloc, old, new) {
             Renamed::Done => {
@@ -50,8 +55,13 @@ impl Session {
         requires { length reply.old.items ≤ MAX_FRONT }
         ensures { IsDone (change S.contents S.may_give S.count store.old store.new)
             (Ask (RemoveFile path.now))
-            (record { done = result; front = reply.old.items; reply = reply.new.items; old =
-                self.now; new = self.now }) }
+            (record {
+              done = result;
+              front = reply.old.items;
+              reply = reply.new.items;
+              old = self.now;
+              new = self.now;
+            }) }
     {
         match store.remove(alloc, path) {
             Removed::Done => {

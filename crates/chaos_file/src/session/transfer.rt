@@ -19,7 +19,7 @@ impl Session {
             ≡ with_handle self.old at (after_read (handle_at self.old.handles at)) }
         ensures text { reply.new.items
             ≡ reply.old.items
-                ++ answer_text (read_answer (next_bytes (handle_at self.old.handles at))) }
+            ++ answer_text (read_answer (next_bytes (handle_at self.old.handles at))) }
     {
         self.handles.read_at(at, reply);
     }
@@ -28,8 +28,13 @@ impl Session {
     pub(super) fn read(&mut self, handle: &[u8], reply: &mut Reply) -> Result<(), FileError>
         requires { length reply.old.items ≤ MAX_FRONT }
         ensures { Settles (plan_read self.old (handle_named handle.now self.old.handles))
-            (record { done = result; front = reply.old.items; reply = reply.new.items; old =
-                self.old; new = self.new }) }
+            (record {
+              done = result;
+              front = reply.old.items;
+              reply = reply.new.items;
+              old = self.old;
+              new = self.new;
+            }) }
     {
         match self.handles.find(handle) {
             None => Err(FileError::NoSuchHandle),
@@ -66,8 +71,13 @@ impl Session {
         ensures { Grows
             (with_handle self.old at (with_bytes (handle_at self.old.handles at) bytes.now))
             (Wrote len) result
-            (record { done = result; front = reply.old.items; reply = reply.new.items; old =
-                self.old; new = self.new }) }
+            (record {
+              done = result;
+              front = reply.old.items;
+              reply = reply.new.items;
+              old = self.old;
+              new = self.new;
+            }) }
     {
         match self.append_at(alloc, at, bytes) {
             Ok(()) => {
@@ -89,8 +99,13 @@ impl Session {
         requires bytes { length bytes.now ≤ MAX_CHUNK }
         requires room { length reply.old.items ≤ MAX_FRONT }
         ensures { Settles (plan_write bytes.now self.old (handle_named handle.now self.old.handles))
-            (record { done = result; front = reply.old.items; reply = reply.new.items; old =
-                self.old; new = self.new }) }
+            (record {
+              done = result;
+              front = reply.old.items;
+              reply = reply.new.items;
+              old = self.old;
+              new = self.new;
+            }) }
     {
         match self.handles.find(handle) {
             None => Err(FileError::NoSuchHandle),
