@@ -11,7 +11,8 @@ use Rattle.chaos_net.specs.declared.net.Net.TheInside.{Inside}
 use Rattle.chaos_net.specs.declared.seat.Seat.{Seat}
 use Rattle.chaos_net.specs.Net.{Net, Station, IsNew, new_station, length_of}
 use Rattle.chaos_net.specs.Kept.{StationView, NetView, at}
-use Rattle.chaos_net.specs.Inside.{IsEmpty, station_view}
+use Rattle.chaos_net.specs.declared.station.KeptStation.{KeptStation}
+use Rattle.chaos_net.specs.Inside.{IsEmpty, station_view, kept_at}
 use Rattle.chaos_net.specs.New.{new_seat, station_of, new_view}
 use Rattle.chaos_net.specs.Running.{AreKept, StandsAt, HasNet, HasLaw}
 use Rattle.chaos_net.specs.Sound.{IsSound}
@@ -78,18 +79,23 @@ has_law v h = record {
 
 -- ---- a new running net is sound
 
-pub new_sound : (s : Inside) (a b : HostKind) → station_view s.a ≡ station_of a → station_view s.b ≡ station_of b
+pub new_sound : (s : Inside) (a b : HostKind) → station_view s.stations.a ≡ station_of a
+    → station_view s.stations.b ≡ station_of b
     → make_fault a.address a.conns ≡ None → make_fault b.address b.conns ≡ None → IsConfig a.config → IsConfig b.config
     → IsEmpty s.desk → s.desk.events ≡ 0 → IsSound s
 new_sound s a b is_a is_b right_a right_b sound_a sound_b empty none = record {
   desk = empty;
-  window_a =
-      subst (λ config. config.send_cap ≤ MAX_WINDOW) (ap (λ (z : StationView). z.host.config) (sym is_a))
-      sound_a.send_fits;
-  window_b =
-      subst (λ config. config.send_cap ≤ MAX_WINDOW) (ap (λ (z : StationView). z.host.config) (sym is_b))
-      sound_b.send_fits;
+  windows = windows;
   net =
       subst HasNet (λ j. record { a = sym is_a j; b = sym is_b j; events = sym none j })
       (new_has_net a b right_a right_b sound_a sound_b);
 }
+  where
+    fits : (st : KeptStation) (kind : HostKind) → station_view st ≡ station_of kind → IsConfig kind.config
+        → st.host.config.send_cap ≤ MAX_WINDOW
+    fits st kind is sound =
+        subst (λ config. config.send_cap ≤ MAX_WINDOW) (ap (λ (z : StationView). z.host.config) (sym is)) sound.send_fits
+
+    windows : (x : Side) → (kept_at s.stations x).host.config.send_cap ≤ MAX_WINDOW
+    windows A = fits s.stations.a a is_a sound_a
+    windows B = fits s.stations.b b is_b sound_b

@@ -1,15 +1,17 @@
 -- The parts of a running net as what contracts see.
-use Rattle.std.specs.Prelude.{◌≡◌, ℕ, ◌+◌, ◌-◌, ◌^◌, ◌≤◌, ◌⊎◌, [], length, Option, vec_len, vec_capacity}
+use Rattle.std.specs.Prelude.{◌≡◌, ℕ, ◌+◌, ◌-◌, ◌^◌, ◌≤◌, ◌⊎◌, [], ◌++◌, map, Option, Result, OnOk, OnErr, IfErr, vec_len, vec_capacity}
 use Rattle.std.specs.Global.{Vec}
 use Rattle.chaos_window.specs.declared.limits.TheConstants.{MAX_WINDOW}
-use Rattle.chaos_host.specs.Deeds.{HostEvent}
+use Rattle.chaos_lab.specs.declared.side.Side.{Side}
+use Rattle.chaos_lab.specs.declared.side.Side.TheVariants.{A, B}
 use Rattle.chaos_net.specs.declared.kept_sent.KeptSent.{KeptSent}
 use Rattle.chaos_net.specs.declared.desk.Desk.{Desk}
 use Rattle.chaos_net.specs.declared.fault.NetFault.{NetFault}
 use Rattle.chaos_net.specs.declared.fault.NetFault.TheVariants.{NoMemory, Worn}
 use Rattle.chaos_net.specs.declared.mark.Mark.{Mark}
 use Rattle.chaos_net.specs.declared.station.KeptStation.{KeptStation}
-use Rattle.chaos_net.specs.Kept.{StationView, AreBelow, station_after}
+use Rattle.chaos_net.specs.declared.stations.Stations.{Stations}
+use Rattle.chaos_net.specs.Kept.{StationView, before, after, alter, seat_in, kept_by}
 
 -- the outbox is empty, and has room for a window
 pub record IsEmpty (desk : Desk) : Type 0 where
@@ -24,27 +26,37 @@ pub record HasSpace (sent : Vec KeptSent) (desk : Desk) : Type 0 where
 abbrev pub station_view : KeptStation → StationView
 station_view s = record { host = s.host; seats = s.seats.items; sent = s.sent.items }
 
--- what an event of a station needs
-pub record MayDo (st : KeptStation) (at : Desk) : Type 0 where
-  pub desk : IsEmpty at
-  pub turns : AreBelow (at.events + 1) st.seats.items
-  pub window : st.host.config.send_cap ≤ MAX_WINDOW
+-- the station at a side
+abbrev pub kept_at : Stations → Side → KeptStation
+kept_at s A = s.a
+kept_at s B = s.b
 
--- An event of a station, at a desk: it did that, and left the desk as it was, with one event more.
-pub record IsDone (old new : KeptStation) (desk done : Desk) (event : HostEvent) (place : Option ℕ) (mark : Mark) : Type
-    0 where
-  pub station : station_view new ≡ station_after (station_view old) event place mark (desk.events + 1)
-  pub config : new.host.config ≡ old.host.config
-  pub size : length new.host.slots ≡ length old.host.slots
-  pub out : done.out ≡ desk.out
-  pub events : done.events ≡ desk.events + 1
-
--- Nothing happened.
-pub record IsSame (old new : KeptStation) (desk done : Desk) : Type 0 where
-  pub station : station_view new ≡ station_view old
-  pub out : done.out ≡ desk.out
-  pub events : done.events ≡ desk.events
+-- both, with another station at this side
+abbrev pub with_kept : Stations → Side → KeptStation → Stations
+with_kept s A station = record s { a = station }
+with_kept s B station = record s { b = station }
 
 -- why nothing happens: there is no memory, or there were as many events as a net counts
 abbrev pub IsWant : ℕ → NetFault → Type 0
 IsWant events why = (why ≡ NoMemory) ⊎ ((why ≡ Worn) × (events ≡ 2 ^ 64 - 1))
+
+-- There is room for all that one event may send, and the event is counted. Or there was no memory, or there were as many
+-- events as a net counts; nothing is counted then.
+pub record IsReady (old new : Desk) (sent_old sent_new : Vec KeptSent) (r : Result (Unit {0}) NetFault) : Type 0 where
+  pub out : new.out ≡ old.out
+  pub sent : sent_new.items ≡ sent_old.items
+  pub space : OnOk r (HasSpace sent_new new)
+  pub counted : OnOk r (new.events ≡ old.events + 1)
+  pub same : OnErr r (new.events ≡ old.events)
+  pub why : IfErr r (IsWant old.events)
+
+-- A station took what its host put out into what was sent, by the connection in the slot at a place or by the host itself,
+-- and noted what became of that slot.
+pub record Settles (old new : KeptStation) (desk left : Desk) (place : Option ℕ) (mark : Mark) : Type 0 where
+  pub host : new.host ≡ old.host
+  pub seats : new.seats.items ≡ alter (after mark) (alter (before mark) old.seats.items place) place
+  pub sent : new.sent.items
+      ≡ old.sent.items
+      ++ map (kept_by (seat_in (alter (before mark) old.seats.items place) place) desk.events) desk.out.packets
+  pub out : left.out ≡ record desk.out { packets = [] }
+  pub events : left.events ≡ desk.events

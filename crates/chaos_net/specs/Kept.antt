@@ -7,11 +7,12 @@ use Rattle.chaos_conn.specs.declared.answers.Delivered.{Delivered}
 use Rattle.chaos_conn.specs.declared.answers.Delivered.TheVariants as came
 use Rattle.chaos_host.specs.declared.answers.HostDelivered.{HostDelivered}
 use Rattle.chaos_host.specs.declared.answers.HostDelivered.TheVariants.{At, Requested}
-use Rattle.chaos_host.specs.Connect.{ConnectAnswer}
+use Rattle.chaos_host.specs.Connect.{ConnectAnswer, host_connect}
 use Rattle.chaos_host.specs.Deliver.{host_deliver}
 use Rattle.chaos_host.specs.Slot.{place_of, named_slot}
 use Rattle.chaos_host.specs.View.{HostView, id_at}
 use Rattle.chaos_host.specs.Deeds.{HostEvent, host_made}
+use Rattle.chaos_host.specs.Deeds.HostEvent.{Calls, Comes, Connects, Ends, Listens, Releases, Ticks}
 use Rattle.chaos_lab.specs.Machine.{fresh_span}
 use Rattle.chaos_lab.specs.declared.side.Side.{Side}
 use Rattle.chaos_lab.specs.declared.side.Side.TheVariants.{A, B}
@@ -124,6 +125,24 @@ deliver_mark told by = Stays
 -- a call that ended the connection with an index frees its slot
 abbrev pub end_mark : HostView → HostView → ℕ → Mark
 end_mark old new id = if is_some (named_slot old.slots id) && is_none (id_at new (place_of id)) then Frees else Stays
+
+-- the place of the connection that does something in an event
+abbrev pub place_in : HostView → HostEvent → Option ℕ
+place_in v (Comes packet now) = deliver_place (host_deliver v packet now).answer
+place_in v (Calls id call) = Some (place_of id)
+place_in v (Ends id call) = Some (place_of id)
+place_in v (Releases id) = Some (place_of id)
+place_in v (Connects peer contact start now) = connect_place (host_connect v peer contact start now).answer
+place_in v (Listens contact) = None
+place_in v (Ticks place now) = Some place
+
+-- and what becomes of its seat; by: the turn of the connection that sent the packet that comes
+abbrev pub mark_in : HostView → HostEvent → Option ℕ → Mark
+mark_in v (Comes packet now) by = deliver_mark (host_deliver v packet now).answer by
+mark_in v (Ends id call) by = end_mark v (host_made v (Ends id call)).view id
+mark_in v (Releases id) by = end_mark v (host_made v (Releases id)).view id
+mark_in v (Connects peer contact start now) by = Begins None
+mark_in v event by = Stays
 
 -- ---- freshness
 

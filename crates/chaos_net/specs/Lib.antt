@@ -8,6 +8,7 @@ pub mod Apart
 pub mod InTurn
 pub mod Kept
 pub mod Inside
+pub mod Lending
 pub mod Running
 pub mod New
 pub mod Sound

@@ -1,29 +1,30 @@
 //! The events that users and clocks make.
-ghost use Rattle.std.specs.Prelude.{◌≡◌, IfOk, IfErr, OnOk, OnErr};
+ghost use Rattle.std.specs.Prelude.{◌≡◌, ◌<◌, IfOk, IfErr, OnOk, OnErr};
 ghost use Rattle.chaos_conn.specs.Act.{Accept, Answer, Reject, Write, Unc, Read, FinishRead, Announce, Close, Did, Wrote, Gave, Finished};
 ghost use Rattle.chaos_host.specs.Calls.{host_call, host_end, host_release, reply_of, plain_reply_of};
 ghost use Rattle.chaos_host.specs.Connect.{host_connect};
 ghost use Rattle.chaos_host.specs.Listening.{listen_fault, listen_answer};
 ghost use Rattle.chaos_host.specs.Tick.{host_tick};
 ghost use Rattle.chaos_host.specs.Deeds.HostEvent.{Calls, Connects, Ends, Listens, Releases, Ticks};
-ghost use Rattle.chaos_net.specs.Kept.{at};
+ghost use Rattle.chaos_net.specs.Kept.{at, connect_place};
 ghost use Rattle.chaos_net.specs.Inside.{IsWant};
 ghost use Rattle.chaos_net.specs.Net.NetEvent.{At};
 ghost use Rattle.chaos_net.specs.Running.{Happens, ReadIsTold, FrontIsRead, WriteIsTold};
 
+use crate::ending::is_named;
 use crate::fault::NetFault;
+use crate::mark::Mark;
 use crate::net::Net;
+use crate::station::place_of;
 use chaos_conn::{ReadDone, ReadEnd, Ticked};
 use chaos_host::{CallFault, ConnId, ConnectFault, ListenFault};
 use chaos_lab::Side;
 use chaos_packet::{Opcode, PktNum};
-use std::alloc::Global;
 
 impl Net {
     /// The host at a side listens to a contact.
     pub fn listen(
         &mut self,
-        _alloc: Global,
         side: Side,
         contact: &[u8],
     ) -> Result<Result<(), ListenFault>, NetFault>
@@ -32,16 +33,16 @@ impl Net {
         ensures same { OnErr result (self.new ≡ self.old) }
         ensures why { IfErr result (IsWant self.old.events) }
     {
-        match side {
-            Side::A => self.a.listen(&mut self.desk, contact),
-            Side::B => self.b.listen(&mut self.desk, contact),
-        }
+        let station = self.stations.at_mut(side);
+        self.desk.ready(&mut station.sent)?;
+        let told = station.host.listen(contact);
+        station.settle(&mut self.desk, None, Mark::Stays);
+        Ok(told)
     }
 
     /// The host at a side asks for a contact, as [`chaos_host::Host::connect`] does.
     pub fn connect(
         &mut self,
-        _alloc: Global,
         side: Side,
         peer: u16,
         contact: &[u8],
@@ -53,16 +54,19 @@ impl Net {
         ensures same { OnErr result (self.new ≡ self.old) }
         ensures why { IfErr result (IsWant self.old.events) }
     {
-        match side {
-            Side::A => self.a.connect(&mut self.desk, peer, contact, start, now),
-            Side::B => self.b.connect(&mut self.desk, peer, contact, start, now),
-        }
+        let _bits = bits_of(start);
+        let station = self.stations.at_mut(side);
+        self.desk.ready(&mut station.sent)?;
+        let told = station
+            .host
+            .connect(peer, contact, start, now, &mut self.desk.out);
+        station.settle(&mut self.desk, connect_place(&told), Mark::Begins(None));
+        Ok(told)
     }
 
     /// A user accepts the request that a connection holds.
     pub fn accept(
         &mut self,
-        _alloc: Global,
         side: Side,
         id: ConnId,
         start: PktNum,
@@ -73,16 +77,16 @@ impl Net {
         ensures same { OnErr result (self.new ≡ self.old) }
         ensures why { IfErr result (IsWant self.old.events) }
     {
-        match side {
-            Side::A => self.a.accept(&mut self.desk, id, start, now),
-            Side::B => self.b.accept(&mut self.desk, id, start, now),
-        }
+        let station = self.stations.at_mut(side);
+        self.desk.ready(&mut station.sent)?;
+        let told = station.host.accept(id, start, now, &mut self.desk.out);
+        station.settle(&mut self.desk, Some(place_of(id)), Mark::Stays);
+        Ok(told)
     }
 
     /// A user writes.
     pub fn write(
         &mut self,
-        _alloc: Global,
         side: Side,
         id: ConnId,
         op: Opcode,
@@ -96,16 +100,16 @@ impl Net {
         ensures same { OnErr result (self.new ≡ self.old) }
         ensures why { IfErr result (IsWant self.old.events) }
     {
-        match side {
-            Side::A => self.a.write(&mut self.desk, id, op, bytes, now),
-            Side::B => self.b.write(&mut self.desk, id, op, bytes, now),
-        }
+        let station = self.stations.at_mut(side);
+        self.desk.ready(&mut station.sent)?;
+        let told = station.host.write(id, op, bytes, now, &mut self.desk.out);
+        station.settle(&mut self.desk, Some(place_of(id)), Mark::Stays);
+        Ok(told)
     }
 
     /// A user sends uncontrolled data.
     pub fn unc(
         &mut self,
-        _alloc: Global,
         side: Side,
         id: ConnId,
         bytes: &[u8],
@@ -115,16 +119,16 @@ impl Net {
         ensures same { OnErr result (self.new ≡ self.old) }
         ensures why { IfErr result (IsWant self.old.events) }
     {
-        match side {
-            Side::A => self.a.unc(&mut self.desk, id, bytes),
-            Side::B => self.b.unc(&mut self.desk, id, bytes),
-        }
+        let station = self.stations.at_mut(side);
+        self.desk.ready(&mut station.sent)?;
+        let told = station.host.unc(id, bytes, &mut self.desk.out);
+        station.settle(&mut self.desk, Some(place_of(id)), Mark::Stays);
+        Ok(told)
     }
 
     /// A user announces another window.
     pub fn announce(
         &mut self,
-        _alloc: Global,
         side: Side,
         id: ConnId,
         window: u16,
@@ -134,19 +138,15 @@ impl Net {
         ensures same { OnErr result (self.new ≡ self.old) }
         ensures why { IfErr result (IsWant self.old.events) }
     {
-        match side {
-            Side::A => self.a.announce(&mut self.desk, id, window),
-            Side::B => self.b.announce(&mut self.desk, id, window),
-        }
+        let station = self.stations.at_mut(side);
+        self.desk.ready(&mut station.sent)?;
+        let told = station.host.announce(id, window, &mut self.desk.out);
+        station.settle(&mut self.desk, Some(place_of(id)), Mark::Stays);
+        Ok(told)
     }
 
     /// A user reads the next item, and gets it.
-    pub fn read(
-        &mut self,
-        _alloc: Global,
-        side: Side,
-        id: ConnId,
-    ) -> Result<Result<ReadEnd, CallFault>, NetFault>
+    pub fn read(&mut self, side: Side, id: ConnId) -> Result<Result<ReadEnd, CallFault>, NetFault>
         ensures happens { OnOk result (Happens self.old (At side (Calls id Read)) self.new) }
         ensures answer { IfOk result (λ told. plain_reply_of Gave told ≡ (host_call (at self.old side).host id Read).answer) }
         // what it hands out joins what the connection has read
@@ -154,16 +154,16 @@ impl Net {
         ensures same { OnErr result (self.new ≡ self.old) }
         ensures why { IfErr result (IsWant self.old.events) }
     {
-        match side {
-            Side::A => self.a.read(&mut self.desk, id),
-            Side::B => self.b.read(&mut self.desk, id),
-        }
+        let station = self.stations.at_mut(side);
+        self.desk.ready(&mut station.sent)?;
+        let told = station.host.read(id, &mut self.desk.out);
+        station.settle(&mut self.desk, Some(place_of(id)), Mark::Stays);
+        Ok(told)
     }
 
     /// A user reads the next item, which [`chaos_host::Host::front`] lends before, and gets nothing.
     pub fn read_done(
         &mut self,
-        _alloc: Global,
         side: Side,
         id: ConnId,
     ) -> Result<Result<ReadDone, CallFault>, NetFault>
@@ -174,16 +174,16 @@ impl Net {
         ensures same { OnErr result (self.new ≡ self.old) }
         ensures why { IfErr result (IsWant self.old.events) }
     {
-        match side {
-            Side::A => self.a.read_done(&mut self.desk, id),
-            Side::B => self.b.read_done(&mut self.desk, id),
-        }
+        let station = self.stations.at_mut(side);
+        self.desk.ready(&mut station.sent)?;
+        let told = station.host.read_done(id, &mut self.desk.out);
+        station.settle(&mut self.desk, Some(place_of(id)), Mark::Stays);
+        Ok(told)
     }
 
     /// A user answers the request that a connection holds, whose slot is freed.
     pub fn answer(
         &mut self,
-        _alloc: Global,
         side: Side,
         id: ConnId,
         bytes: &[u8],
@@ -193,16 +193,17 @@ impl Net {
         ensures same { OnErr result (self.new ≡ self.old) }
         ensures why { IfErr result (IsWant self.old.events) }
     {
-        match side {
-            Side::A => self.a.answer(&mut self.desk, id, bytes),
-            Side::B => self.b.answer(&mut self.desk, id, bytes),
-        }
+        let station = self.stations.at_mut(side);
+        self.desk.ready(&mut station.sent)?;
+        let named = is_named(&station.host, id);
+        let told = station.host.answer(id, bytes, &mut self.desk.out);
+        station.settle_ended(&mut self.desk, id, named);
+        Ok(told)
     }
 
     /// A user refuses the request that a connection holds, whose slot is freed.
     pub fn reject(
         &mut self,
-        _alloc: Global,
         side: Side,
         id: ConnId,
         text: &[u8],
@@ -212,16 +213,17 @@ impl Net {
         ensures same { OnErr result (self.new ≡ self.old) }
         ensures why { IfErr result (IsWant self.old.events) }
     {
-        match side {
-            Side::A => self.a.reject(&mut self.desk, id, text),
-            Side::B => self.b.reject(&mut self.desk, id, text),
-        }
+        let station = self.stations.at_mut(side);
+        self.desk.ready(&mut station.sent)?;
+        let named = is_named(&station.host, id);
+        let told = station.host.reject(id, text, &mut self.desk.out);
+        station.settle_ended(&mut self.desk, id, named);
+        Ok(told)
     }
 
     /// A user gives a connection up, whose slot is freed.
     pub fn close(
         &mut self,
-        _alloc: Global,
         side: Side,
         id: ConnId,
         text: &[u8],
@@ -231,46 +233,58 @@ impl Net {
         ensures same { OnErr result (self.new ≡ self.old) }
         ensures why { IfErr result (IsWant self.old.events) }
     {
-        match side {
-            Side::A => self.a.close(&mut self.desk, id, text),
-            Side::B => self.b.close(&mut self.desk, id, text),
-        }
+        let station = self.stations.at_mut(side);
+        self.desk.ready(&mut station.sent)?;
+        let named = is_named(&station.host, id);
+        let told = station.host.close(id, text, &mut self.desk.out);
+        station.settle_ended(&mut self.desk, id, named);
+        Ok(told)
     }
 
     /// The slot of an ended connection is freed.
-    pub fn release(
-        &mut self,
-        _alloc: Global,
-        side: Side,
-        id: ConnId,
-    ) -> Result<Result<(), CallFault>, NetFault>
+    pub fn release(&mut self, side: Side, id: ConnId) -> Result<Result<(), CallFault>, NetFault>
         ensures happens { OnOk result (Happens self.old (At side (Releases id)) self.new) }
         ensures answer { IfOk result (λ told. told ≡ (host_release (at self.old side).host id).answer) }
         ensures same { OnErr result (self.new ≡ self.old) }
         ensures why { IfErr result (IsWant self.old.events) }
     {
-        match side {
-            Side::A => self.a.release(&mut self.desk, id),
-            Side::B => self.b.release(&mut self.desk, id),
-        }
+        let station = self.stations.at_mut(side);
+        self.desk.ready(&mut station.sent)?;
+        let named = is_named(&station.host, id);
+        let told = station.host.release(id, &mut self.desk.out);
+        station.settle_ended(&mut self.desk, id, named);
+        Ok(told)
     }
 
     /// What is due in a slot is done.
-    pub fn tick(
-        &mut self,
-        _alloc: Global,
-        side: Side,
-        slot: usize,
-        now: u64,
-    ) -> Result<Ticked, NetFault>
+    pub fn tick(&mut self, side: Side, slot: usize, now: u64) -> Result<Ticked, NetFault>
         ensures happens { OnOk result (Happens self.old (At side (Ticks slot now)) self.new) }
         ensures answer { IfOk result (λ told. told ≡ (host_tick (at self.old side).host slot now).answer) }
         ensures same { OnErr result (self.new ≡ self.old) }
         ensures why { IfErr result (IsWant self.old.events) }
     {
-        match side {
-            Side::A => self.a.tick(&mut self.desk, slot, now),
-            Side::B => self.b.tick(&mut self.desk, slot, now),
-        }
+        let station = self.stations.at_mut(side);
+        self.desk.ready(&mut station.sent)?;
+        let told = station.host.tick(slot, now, &mut self.desk.out);
+        station.settle(&mut self.desk, Some(slot), Mark::Stays);
+        Ok(told)
     }
+}
+
+/// The place of the connection that a connect began.
+fn connect_place(told: &Result<ConnId, ConnectFault>) -> Option<usize>
+    ensures { result ≡ connect_place told.now }
+{
+    match told {
+        Ok(id) => Some(place_of(*id)),
+        Err(_) => None,
+    }
+}
+
+/// The 16 bits of a packet's number.
+fn bits_of(number: PktNum) -> u16
+    ensures value { result ≡ number }
+    ensures below { number < 65536 }
+{
+    number.0
 }

@@ -1,25 +1,23 @@
 //! Packets that come.
 ghost use Rattle.std.specs.Prelude.{◌≡◌, ◌⊎◌, IfOk, IfErr, OnOk, OnErr, Some, None, Err, slice_get};
 ghost use Rattle.chaos_lab.specs.Machine.{other};
-ghost use Rattle.chaos_net.specs.Kept.{at, is_near, are_near, is_fresh_at, may_come, arrival_fault, Delivers, deliver_place, deliver_mark};
-ghost use Rattle.chaos_net.specs.Inside.{IsDone, IsSame, IsWant, MayDo};
-ghost use Rattle.chaos_net.specs.Net.NetEvent.{Arrives};
-ghost use Rattle.chaos_host.specs.Deeds.HostEvent.{Comes};
 ghost use Rattle.chaos_conn.specs.Sending.{carries_ack};
+ghost use Rattle.chaos_net.specs.Kept.{at, is_near, are_near, is_fresh_at, may_come, arrival_fault, Delivers, deliver_place, deliver_mark};
+ghost use Rattle.chaos_net.specs.Inside.{IsWant};
+ghost use Rattle.chaos_net.specs.Net.NetEvent.{Arrives};
 ghost use Rattle.chaos_net.specs.declared.fault.NetFault.{NetFault};
-ghost use Rattle.chaos_net.specs.declared.kept_sent.KeptSent.{KeptSent};
 ghost use Rattle.chaos_net.specs.Running.{Happens};
 
-use crate::desk::Desk;
 use crate::fault::NetFault;
 use crate::kept_sent::KeptSent;
+use crate::mark::Mark;
 use crate::net::Net;
 use crate::seat::Seat;
-use crate::station::{KeptStation, place_of};
+use crate::station::place_of;
+use chaos_conn::Delivered;
 use chaos_host::{ConnId, HostDelivered};
 use chaos_lab::{FRESH_SPAN, Side};
 use chaos_packet::Kind;
-use std::alloc::Global;
 
 /// So many connections of one slot have different generations.
 const NEAR_SPAN: u64 = 256;
@@ -32,7 +30,6 @@ impl Net {
     /// of the connection that it comes to was there. Nothing changes then.
     pub fn deliver(
         &mut self,
-        _alloc: Global,
         side: Side,
         number: usize,
         now: u64,
@@ -45,38 +42,32 @@ impl Net {
         ensures same { OnErr result (self.new ≡ self.old) }
         ensures why { IfErr result (λ why. (arrival_fault self.old.events (at self.old side).seats (slice_get (at self.old (other side)).sent number) ≡ Some why) ⊎ IsWant self.old.events why) }
     {
-        match side {
-            Side::A => self.a.receive(&mut self.desk, &self.b.sent, number, now),
-            Side::B => self.b.receive(&mut self.desk, &self.a.sent, number, now),
-        }
+        let kept = self.arrival(side, number)?;
+        let (packet, by) = (kept.packet.packet(), kept.by);
+        let station = self.stations.at_mut(side);
+        self.desk.ready(&mut station.sent)?;
+        let told = station.host.deliver(&packet, now, &mut self.desk.out);
+        station.settle(
+            &mut self.desk,
+            deliver_place(&told),
+            deliver_mark(&told, by),
+        );
+        Ok(told)
     }
-}
 
-impl KeptStation {
-    /// A packet of those that the other host sent comes, if it may.
-    fn receive(
-        &mut self,
-        desk: &mut Desk,
-        sent: &Vec<KeptSent>,
-        number: usize,
-        now: u64,
-    ) -> Result<HostDelivered, NetFault>
-        requires { MayDo self.old desk.old }
-        ensures done { IfOk result (λ told. (kept : KeptSent) → slice_get sent.now.items number ≡ Some kept → IsDone self.old self.new desk.old desk.new (Comes kept.packet now) (deliver_place told) (deliver_mark told kept.by)) }
-        ensures answer { IfOk result (λ told. Delivers self.old.host (slice_get sent.now.items number) now told) }
-        ensures may { OnOk result (arrival_fault desk.old.events self.old.seats.items (slice_get sent.now.items number) ≡ None) }
-        ensures may_not { (why : NetFault) → arrival_fault desk.old.events self.old.seats.items (slice_get sent.now.items number) ≡ Some why → result ≡ Err why }
-        ensures same { OnErr result (IsSame self.old self.new desk.old desk.new) }
-        ensures why { IfErr result (λ why. (arrival_fault desk.old.events self.old.seats.items (slice_get sent.now.items number) ≡ Some why) ⊎ IsWant desk.old.events why) }
+    /// The packet with this number that the other side sent, where it may come to this one.
+    fn arrival(&self, side: Side, number: usize) -> Result<&KeptSent, NetFault>
+        ensures kept { IfOk result (λ kept. slice_get (at self.now (other side)).sent number ≡ Some kept.now) }
+        ensures may { OnOk result (arrival_fault self.now.events (at self.now side).seats (slice_get (at self.now (other side)).sent number) ≡ None) }
+        ensures fault { IfErr result (λ why. arrival_fault self.now.events (at self.now side).seats (slice_get (at self.now (other side)).sent number) ≡ Some why) }
     {
-        let Some(kept) = sent.get(number) else {
+        let Some(kept) = self.stations.at(side.other()).sent.get(number) else {
             return Err(NetFault::NoSuchPacket);
         };
-        if !may_come(desk.events, &self.seats, kept) {
+        if !may_come(self.desk.events, &self.stations.at(side).seats, kept) {
             return Err(NetFault::Stale);
         }
-        let packet = kept.packet.packet();
-        self.deliver(desk, &packet, kept.by, now)
+        Ok(kept)
     }
 }
 
@@ -117,4 +108,26 @@ fn carries_ack(kind: Kind) -> bool
         kind,
         Kind::Opn | Kind::Eof | Kind::Data | Kind::Sns | Kind::Sts
     )
+}
+
+/// Where a packet went.
+fn deliver_place(told: &HostDelivered) -> Option<usize>
+    ensures { result ≡ deliver_place told.now }
+{
+    match told {
+        HostDelivered::Requested(id) => Some(place_of(*id)),
+        HostDelivered::At(id, _) => Some(place_of(*id)),
+        _ => None,
+    }
+}
+
+/// What a packet makes of the seat that it went to.
+fn deliver_mark(told: &HostDelivered, by: Option<u64>) -> Mark
+    ensures { result ≡ deliver_mark told.now by }
+{
+    match told {
+        HostDelivered::Requested(_) => Mark::Begins(by),
+        HostDelivered::At(_, Delivered::Opened) => Mark::Joins(by),
+        _ => Mark::Stays,
+    }
 }

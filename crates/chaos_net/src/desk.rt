@@ -1,7 +1,7 @@
 //! What both stations of a running net share.
-ghost use Rattle.std.specs.Prelude.{◌≡◌, ◌≤◌, ◌<◌, ◌+◌, [], ◌++◌, length, map, OnOk, OnErr, IfErr, IfOk, vec_len, vec_capacity};
+ghost use Rattle.std.specs.Prelude.{◌≡◌, ◌≤◌, ◌<◌, ◌+◌, [], ◌++◌, length, map, OnOk, IfOk, vec_len, vec_capacity};
 ghost use Rattle.chaos_net.specs.Kept.{kept_by, by_of, meant_of};
-ghost use Rattle.chaos_net.specs.Inside.{HasSpace, IsEmpty, IsWant};
+ghost use Rattle.chaos_net.specs.Inside.{HasSpace, IsEmpty, IsReady};
 
 use crate::fault::NetFault;
 use crate::kept_sent::KeptSent;
@@ -38,12 +38,7 @@ impl Desk {
 
     /// Makes room for all that one event may send, and counts it.
     pub(crate) fn ready(&mut self, sent: &mut Vec<KeptSent>) -> Result<(), NetFault>
-        ensures out { self.new.out ≡ self.old.out }
-        ensures sent { sent.new.items ≡ sent.old.items }
-        ensures space { OnOk result (HasSpace sent.new self.new) }
-        ensures counted { OnOk result (self.new.events ≡ self.old.events + 1) }
-        ensures same { OnErr result (self.new.events ≡ self.old.events) }
-        ensures why { IfErr result (IsWant self.old.events) }
+        ensures { IsReady self.old self.new sent.old sent.new result }
     {
         if self.events == u64::MAX {
             return Err(NetFault::Worn);

@@ -4,14 +4,15 @@
 mod calls;
 mod deliver;
 mod desk;
+mod ending;
 mod fault;
-mod host_steps;
 mod kept_sent;
 mod law;
 mod mark;
 mod net;
 mod seat;
 mod station;
+mod stations;
 
 pub use fault::NetFault;
 pub use kept_sent::KeptSent;

@@ -11,6 +11,7 @@ use crate::desk::Desk;
 use crate::kept_sent::KeptSent;
 use crate::seat::Seat;
 use crate::station::KeptStation;
+use crate::stations::Stations;
 use chaos_conn::ConnConfig;
 use chaos_host::{Host, MakeFault};
 use chaos_lab::Side;
@@ -37,8 +38,7 @@ pub struct HostKind {
 /// No sockets and no clock: moments are handed in.
 #[derive(Drop)]
 pub struct Net {
-    pub(crate) a: KeptStation,
-    pub(crate) b: KeptStation,
+    pub(crate) stations: Stations,
     pub(crate) desk: Desk,
 }
 
@@ -63,8 +63,9 @@ impl Net {
         let (_, _) = (a.config.send_cap(), b.config.send_cap());
         let a = new_station(alloc, a)?;
         let b = new_station(alloc, b)?;
+        let stations = Stations { a, b };
         match Desk::new(alloc) {
-            Ok(desk) => Ok(Net { a, b, desk }),
+            Ok(desk) => Ok(Net { stations, desk }),
             Err(_) => Err(MakeFault::NoMemory),
         }
     }
@@ -73,20 +74,14 @@ impl Net {
     pub fn host(&self, side: Side) -> &Host
         ensures { result.now ≡ (at self.now side).host }
     {
-        match side {
-            Side::A => &self.a.host,
-            Side::B => &self.b.host,
-        }
+        &self.stations.at(side).host
     }
 
     /// Every packet that a host sent, the oldest first. The number of a packet is its place here.
     pub fn sent(&self, side: Side) -> &[KeptSent]
         ensures { result.now ≡ (at self.now side).sent }
     {
-        match side {
-            Side::A => self.a.sent.as_slice(),
-            Side::B => self.b.sent.as_slice(),
-        }
+        self.stations.at(side).sent.as_slice()
     }
 
     /// What is true of every net, whatever happened in it: it stands for a net that was reached, in which what each connection has

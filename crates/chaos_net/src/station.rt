@@ -1,9 +1,9 @@
 //! A station of a running net.
-ghost use Rattle.std.specs.Prelude.{◌≡◌, ◌≤◌, [], ◌++◌, length, map};
+ghost use Rattle.std.specs.Prelude.{◌≡◌, ◌≤◌, length};
 ghost use Rattle.chaos_window.specs.declared.limits.TheConstants.{MAX_WINDOW};
 ghost use Rattle.chaos_host.specs.Slot.{place_of};
-ghost use Rattle.chaos_net.specs.Kept.{before, after, alter, seat_in, kept_by, AreBelow};
-ghost use Rattle.chaos_net.specs.Inside.{HasSpace};
+ghost use Rattle.chaos_net.specs.Kept.{before, after, alter, seat_in, AreBelow};
+ghost use Rattle.chaos_net.specs.Inside.{HasSpace, Settles};
 
 use crate::desk::Desk;
 use crate::kept_sent::KeptSent;
@@ -27,11 +27,7 @@ impl KeptStation {
         requires few { length desk.old.out.packets ≤ MAX_WINDOW }
         requires space { HasSpace self.old.sent desk.old }
         requires turns { AreBelow desk.old.events self.old.seats.items }
-        ensures host { self.new.host ≡ self.old.host }
-        ensures seats { self.new.seats.items ≡ alter (after mark) (alter (before mark) self.old.seats.items place) place }
-        ensures sent { self.new.sent.items ≡ self.old.sent.items ++ map (kept_by (seat_in (alter (before mark) self.old.seats.items place) place) desk.old.events) desk.old.out.packets }
-        ensures out { desk.new.out ≡ record desk.old.out { packets = [] } }
-        ensures events { desk.new.events ≡ desk.old.events }
+        ensures { Settles self.old self.new desk.old desk.new place mark }
     {
         let seat = begin(&mut self.seats, place, mark);
         desk.post(&mut self.sent, seat);

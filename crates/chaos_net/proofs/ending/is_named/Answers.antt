@@ -4,7 +4,7 @@ use Rattle.chaos_conn.specs.View.{ConnView}
 use Rattle.chaos_host.specs.declared.slot.Slot.{Slot}
 use Rattle.chaos_host.specs.Slot.{named_slot}
 use Rattle.chaos_host.specs.View.{look_slot}
-use Rattle.chaos_net.proofs.host_steps.is_named.Goals as goal
+use Rattle.chaos_net.proofs.ending.is_named.Goals as goal
 
 look_there : (o : Option Slot) → is_ok (look_slot (λ (conn : ConnView). conn.state) o) ≡ is_some o
 look_there None = refl
