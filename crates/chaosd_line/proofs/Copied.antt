@@ -3,16 +3,16 @@ use Rattle.std.proofs.Common.{◌≡◌, ◌∙◌, ◌&&◌, Bool, true, false,
 use Rattle.std.specs.Prelude.{IfErr, IfOk}
 use Rattle.clap.specs.Words.{Row, Text, first_of}
 use Rattle.chaosd_line.proofs.Unique.{one_flag, one_value}
-use Rattle.chaosd_line.specs.Files.{GivesFiles, IfBad, IsCalling, IsCopying, IsDelete, IsDeleteOf, IsGet, IsGetOf, IsPut, IsPutOf, are_named, are_paths, fits_output, words_of}
+use Rattle.chaosd_line.specs.Files.{GivesFiles, IfBad, IsCalling, IsCopying, IsDelete, IsDeleteOf, IsGet, IsGetOf, IsPut, IsPutOf, are_named, are_paths, fits_output}
 use Rattle.std.specs.Option.{IsSomeAnd}
-use Rattle.chaosd_line.specs.Values.{IsFlag}
+use Rattle.chaosd_line.specs.Values.{IsFlag, words_of}
 use Rattle.chaosd_line.specs.declared.line.Calling.{Calling}
 use Rattle.chaosd_line.specs.declared.line.Copying.{Copying}
 use Rattle.chaosd_line.specs.declared.line.Delete.{Delete}
 use Rattle.chaosd_line.specs.declared.line.Get.{Get}
 use Rattle.chaosd_line.specs.declared.line.Put.{Put}
-use Rattle.chaosd_line.specs.declared.unread.Unread.{Unread}
-use Rattle.chaosd_line.specs.declared.unread.Unread.TheVariants.{Bad, Clash, NoMemory}
+use Rattle.chaosd_line.specs.declared.line_problem.LineProblem.{LineProblem}
+use Rattle.chaosd_line.specs.declared.line_problem.LineProblem.TheVariants.{Bad, Clash, NoMemory}
 
 not_both : (a b : Bool) → (a && b) ≡ false → a ≡ true → b ≡ true → ⊥
 not_both true true e h k = cc
@@ -22,7 +22,7 @@ not_both false b e h k = cc
 not_false : (a : Bool) → a ≡ false → a ≡ true → ⊥
 not_false a e h = cc
 
-pub gives_get : (rows : List Row) (copying : Copying) (o : Option Text) (texts : List Text) (r : Result Get Unread)
+pub gives_get : (rows : List Row) (copying : Copying) (o : Option Text) (texts : List Text) (r : Result Get LineProblem)
     → IsCopying rows copying → o ≡ first_of (codes "output") rows → texts ≡ words_of (codes "PATH") rows
     → IfOk r (IsGetOf copying o texts) → IfErr r (λ e. IfBad e ((are_paths texts && fits_output o texts) ≡ false))
     → GivesFiles (IsGet rows) r
@@ -53,7 +53,7 @@ same_naming : (o : Option Text) (a b : Bool) (path : Option Text) (texts : List 
 same_naming o a b path texts h k = ap (λ f. are_named f path texts) (one_value IsFlag one_flag o a b h k)
 
 pub gives_put : (rows : List Row) (copying : Copying) (r : Bool) (o : Option Text) (texts : List Text)
-    (result : Result Put Unread)
+    (result : Result Put LineProblem)
     → IsCopying rows copying → IsSomeAnd (first_of (codes "rename") rows) (λ text. IsFlag text r)
     → o ≡ first_of (codes "as") rows → texts ≡ words_of (codes "LOCAL") rows
     → IfOk result (IsPutOf copying r o texts) → IfErr result (λ e. IfBad e (are_named r o texts ≡ false))
@@ -87,7 +87,7 @@ gives_put rows copying r o texts (Err (Clash files)) h f p q ok err =
     ∙ k.named)
 gives_put rows copying r o texts (Err NoMemory) h f p q ok err = tt
 
-pub gives_delete : (rows : List Row) (calling : Calling) (texts : List Text) (r : Result Delete Unread)
+pub gives_delete : (rows : List Row) (calling : Calling) (texts : List Text) (r : Result Delete LineProblem)
     → IsCalling rows calling → texts ≡ words_of (codes "PATH") rows
     → IfOk r (IsDeleteOf calling texts) → IfErr r (λ e. IfBad e (are_paths texts ≡ false))
     → GivesFiles (IsDelete rows) r

@@ -5,7 +5,7 @@ use Rattle.clap.specs.Words.{Row, first_of}
 use Rattle.chaos_link.specs.declared.carriage.Carriage.{Carriage}
 use Rattle.chaos_link.specs.declared.carriage.Carriage.TheVariants.{One}
 use Rattle.chaosd_line.specs.Framings.{IsFraming}
-use Rattle.chaosd_line.specs.Values.{IsBridge, IsCarriage, IsFlag}
+use Rattle.chaosd_line.specs.Values.{IsAddress, IsCarriage, IsFlag, IsOptional}
 use Rattle.chaosd_line.specs.declared.framing.Framing.{Framing}
 use Rattle.chaosd_line.specs.declared.framing.Framing.TheVariants.{Chudp, Own}
 
@@ -21,7 +21,7 @@ pub no_flag : (rows : List Row)
 no_flag rows none (Own carriage) h = none false h.0
 no_flag rows none (Chudp bridge) h = none true h.0
 
-pub no_bridge : (rows : List Row) → ((b : Option ℕ) → ¬ (IsBridge (first_of (codes "bridge") rows) b))
+pub no_bridge : (rows : List Row) → ((b : Option ℕ) → ¬ (IsOptional IsAddress (first_of (codes "bridge") rows) b))
     → (framing : Framing) → ¬ (IsFraming rows framing)
-no_bridge rows none (Own carriage) h = none None (subst (λ o. IsBridge o None) (sym h.2) tt)
+no_bridge rows none (Own carriage) h = none None (subst (λ o. IsOptional IsAddress o None) (sym h.2) tt)
 no_bridge rows none (Chudp bridge) h = none bridge h.2

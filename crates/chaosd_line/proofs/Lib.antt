@@ -1,10 +1,8 @@
 pub mod Copied
 pub mod Framed
 pub mod Named
-pub mod NoReading
 pub mod OneLine
 pub mod PeerLists
-pub mod Renamed
 pub mod Planned
 mod Simple
 pub mod Unique

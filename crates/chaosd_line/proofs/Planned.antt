@@ -2,7 +2,7 @@
 use Rattle.std.proofs.Common.{◌≡◌, ◌∙◌, ◌+◌, ◌<◌, ◌++◌, ◌∷◌, ℕ, List, [], length, map, take, get_or, refl, ap, sym, append_assoc}
 use Rattle.std.proofs.lemmas.List.{map_more, take_more}
 use Rattle.clap.specs.Words.{App, Rule, with_rule, with_subcommand}
-use Rattle.chaosd_line.specs.Plan.{app_named, with_rules, with_subs}
+use Rattle.chaosd_line.specs.CommandLine.{app_named, with_rules, with_subs}
 use Rattle.chaosd_line.specs.declared.sub.SubName.{SubName}
 
 -- one word more

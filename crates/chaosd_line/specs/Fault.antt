@@ -10,14 +10,14 @@ use Rattle.chaosd_line.specs.Lines.{IsLineOf}
 use Rattle.chaosd_line.specs.declared.fault.LineFault.{LineFault}
 use Rattle.chaosd_line.specs.declared.fault.LineFault.TheVariants.{BadLine, Help, NoMemory}
 use Rattle.chaosd_line.specs.declared.line.Line.{Line}
-use Rattle.chaosd_line.specs.declared.unread.Unread.{Unread}
-use Rattle.chaosd_line.specs.declared.unread.Unread.TheVariants as unread
+use Rattle.chaosd_line.specs.declared.line_problem.LineProblem.{LineProblem}
+use Rattle.chaosd_line.specs.declared.line_problem.LineProblem.TheVariants as problem
 
--- the kind of the error by which a user is told why values can't be read
-abbrev pub IsTold : Unread → ErrorKind → Type 0
-IsTold (unread.Bad word) kind = (kind ≡ ValueValidation) ⊎ (kind ≡ OutOfMemory)
-IsTold (unread.Clash files) kind = (kind ≡ ValueValidation) ⊎ (kind ≡ OutOfMemory)
-IsTold unread.NoMemory kind = kind ≡ OutOfMemory
+-- the kind of the error that reports why values can't be read
+abbrev pub IsReported : LineProblem → ErrorKind → Type 0
+IsReported (problem.Bad word) kind = (kind ≡ ValueValidation) ⊎ (kind ≡ OutOfMemory)
+IsReported (problem.Clash files) kind = (kind ≡ ValueValidation) ⊎ (kind ≡ OutOfMemory)
+IsReported problem.NoMemory kind = kind ≡ OutOfMemory
 
 -- the fault that a kind of clap's errors stands for: the version is shown as help is
 abbrev pub fault_of_kind : ErrorKind → LineFault

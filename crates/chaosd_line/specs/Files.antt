@@ -3,18 +3,18 @@ use Rattle.std.specs.Prelude.{◌≡◌, ◌≢◌, ◌==◌, ◌-◌, ◌&&◌,
 use Rattle.std.specs.List.{find, list_all, list_any}
 use Rattle.std.specs.Option.{IsSomeAnd}
 use Rattle.std.specs.Str.{bytes_eq}
-use Rattle.clap.specs.Words.{Row, Text, all_of, first_of}
+use Rattle.clap.specs.Words.{Row, Text, first_of}
 use Rattle.chaos_file.specs.Names.{is_path, is_path_byte}
 use Rattle.chaosd_line.specs.Framings.{IsFraming}
-use Rattle.chaosd_line.specs.Values.{IsAddress, IsContact, IsFlag, IsLogin, IsPeer, IsSocket, IsTimeout, IsWindow}
+use Rattle.chaosd_line.specs.Values.{IsAddress, IsContact, IsFlag, IsLogin, IsOptional, IsPathOf, IsPeer, IsSeconds, IsSocket, IsWindow, words_of}
 use Rattle.chaosd_line.specs.declared.line.Calling.{Calling}
 use Rattle.chaosd_line.specs.declared.line.Copying.{Copying}
 use Rattle.chaosd_line.specs.declared.line.Delete.{Delete}
 use Rattle.chaosd_line.specs.declared.line.Get.{Get}
 use Rattle.chaosd_line.specs.declared.line.Put.{Put}
 use Rattle.chaosd_line.specs.declared.line.Rename.{Rename}
-use Rattle.chaosd_line.specs.declared.unread.Unread.{Unread}
-use Rattle.chaosd_line.specs.declared.unread.Unread.TheVariants.{Bad, Clash, NoMemory}
+use Rattle.chaosd_line.specs.declared.line_problem.LineProblem.{LineProblem}
+use Rattle.chaosd_line.specs.declared.line_problem.LineProblem.TheVariants.{Bad, Clash, NoMemory}
 
 -- what stands behind the last slash (47)
 abbrev pub last_from : Text → Text → Text
@@ -105,10 +105,6 @@ abbrev pub are_named : Bool → Option Text → List Text → Bool
 are_named is_renaming None texts = are_locals is_renaming texts
 are_named is_renaming (Some path) texts = is_path path && length texts == 1
 
--- the words at a place
-abbrev pub words_of : Text → List Row → List Text
-words_of place rows = unwrap_or (all_of place rows) []
-
 -- the values of `get` beside those in common, for its words
 abbrev pub IsGetOf : Copying → Option Text → List Text → Get → Type 0
 IsGetOf copying output texts get = (get.copying ≡ copying) × (option_map (λ t. t.now) get.output ≡ output)
@@ -124,17 +120,13 @@ IsPutOf copying is_renaming path texts put = (put.copying ≡ copying) × (put.i
 abbrev pub IsDeleteOf : Calling → List Text → Delete → Type 0
 IsDeleteOf calling texts d = (d.calling ≡ calling) × (map (λ t. t.now) d.paths.items ≡ texts) × (are_paths texts ≡ true)
 
--- a path of FILE, wherever its text lies
-abbrev pub IsPathOf : Text → Text → Type 0
-IsPathOf text path = (path ≡ text) × (is_path text ≡ true)
-
 -- the values that the callers of a server have in common: the server is another host
 pub record IsCalling (rows : List Row) (c : Calling) : Type 0 where
   pub framing : IsFraming rows c.framing
   pub contact : IsSomeAnd (first_of (codes "contact") rows) (λ text. IsContact text c.contact)
   pub login : IsSomeAnd (first_of (codes "login") rows) (λ text. IsLogin text c.login)
   pub window : IsSomeAnd (first_of (codes "window") rows) (λ text. IsWindow text c.window)
-  pub timeout : IsTimeout (first_of (codes "timeout") rows) c.timeout
+  pub timeout : IsOptional IsSeconds (first_of (codes "timeout") rows) c.timeout
   pub hears_anybody : IsSomeAnd (first_of (codes "any-source") rows) (λ text. IsFlag text c.hears_anybody)
   pub address : IsSomeAnd (first_of (codes "ADDRESS") rows) (λ text. IsAddress text c.address)
   pub socket : IsSomeAnd (first_of (codes "UDP") rows) (λ text. IsSocket text c.socket)
@@ -173,15 +165,15 @@ pub record IsDelete (rows : List Row) (d : Delete) : Type 0 where
 -- the values of `rename`
 pub record IsRename (rows : List Row) (r : Rename) : Type 0 where
   pub calling : IsCalling rows r.calling
-  pub from : IsSomeAnd (first_of (codes "OLD") rows) (λ text. IsPathOf text r.from.now)
-  pub to : IsSomeAnd (first_of (codes "NEW") rows) (λ text. IsPathOf text r.to.now)
+  pub from : IsSomeAnd (first_of (codes "OLD") rows) (λ text. IsPathOf text r.from)
+  pub to : IsSomeAnd (first_of (codes "NEW") rows) (λ text. IsPathOf text r.to)
 
 -- a word is bad, or two clash, only where this holds
-abbrev pub IfBad : Unread → Type 0 → Type 0
+abbrev pub IfBad : LineProblem → Type 0 → Type 0
 IfBad (Bad word) T = T
 IfBad (Clash files) T = T
 IfBad NoMemory T = ⊤
 
 -- the answer is the value of which P holds, and a word is bad only where P holds of nothing
-abbrev pub GivesFiles : {T : Type 0} → (T → Type 0) → Result T Unread → Type 0
+abbrev pub GivesFiles : {T : Type 0} → (T → Type 0) → Result T LineProblem → Type 0
 GivesFiles {T} P r = MatchResult r P (λ e. IfBad e ((x : T) → ¬ (P x)))

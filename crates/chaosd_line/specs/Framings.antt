@@ -4,7 +4,7 @@ use Rattle.std.specs.Option.{IsSomeAnd}
 use Rattle.clap.specs.Words.{Row, first_of}
 use Rattle.chaos_link.specs.declared.carriage.Carriage.{Carriage}
 use Rattle.chaos_link.specs.declared.carriage.Carriage.TheVariants.{One}
-use Rattle.chaosd_line.specs.Values.{IsBridge, IsCarriage, IsFlag}
+use Rattle.chaosd_line.specs.Values.{IsAddress, IsCarriage, IsFlag, IsOptional}
 use Rattle.chaosd_line.specs.declared.framing.Framing.{Framing}
 use Rattle.chaosd_line.specs.declared.framing.Framing.TheVariants.{Chudp, Own}
 
@@ -20,4 +20,4 @@ IsFraming rows (Own carriage) = IsSomeAnd (first_of (codes "chudp") rows) (λ te
     × (first_of (codes "bridge") rows ≡ None)
 IsFraming rows (Chudp bridge) = IsSomeAnd (first_of (codes "chudp") rows) (λ text. IsFlag text true)
     × IsSomeAnd (first_of (codes "carriage") rows) (λ text. IsCarriage text One)
-    × IsBridge (first_of (codes "bridge") rows) bridge
+    × IsOptional IsAddress (first_of (codes "bridge") rows) bridge

@@ -1,5 +1,5 @@
 -- The forms of the words of a line, each beside the value that it stands for.
-use Rattle.std.specs.Prelude.{◌≡◌, ◌≢◌, ◌⊎◌, ◌≤◌, ◌<◌, ◌==◌, ◌&&◌, ◌++◌, ◌∷◌, ⊤, ℕ, Bool, true, false, not, codes, List, [], length, nat_le, slice_index, Option, None, Some, MatchBool, MatchOption, Result, MatchResult}
+use Rattle.std.specs.Prelude.{◌≡◌, ◌≢◌, ◌⊎◌, ◌≤◌, ◌<◌, ◌==◌, ◌&&◌, ◌++◌, ◌∷◌, ⊤, ℕ, Bool, true, false, not, codes, List, [], length, nat_le, slice_index, Option, None, Some, unwrap_or, MatchBool, MatchOption, Result, MatchResult}
 use Rattle.std.specs.Char.{is_ascii_graphic}
 use Rattle.std.specs.List.{AllPairs, AllZip, after_first, before_first, filter, list_all, position_or_len}
 use Rattle.std.specs.Net.Grammar.{IsSocketV4Text}
@@ -7,8 +7,8 @@ use Rattle.std.specs.Net.Socket.{v4_port}
 use Rattle.std.specs.Str.Parse.{IsNumeral, digits_value}
 use Rattle.std.specs.declared.net.socket_addr.SocketAddrV4.{SocketAddrV4}
 use Rattle.std.specs.Borrow.{Bor}
-use Rattle.clap.specs.Words.{Text}
-use Rattle.chaos_file.specs.Names.{is_name}
+use Rattle.clap.specs.Words.{Row, Text, all_of}
+use Rattle.chaos_file.specs.Names.{is_name, is_path}
 use Rattle.chaos_file.specs.declared.limits.TheConstants.{MAX_NAME}
 use Rattle.chaos_link.specs.declared.limits.TheConstants.{MAX_PEERS}
 use Rattle.chaos_link.specs.Peers.{IsKnown, PeersView}
@@ -22,7 +22,7 @@ use Rattle.chaosd_line.specs.declared.line.LogLevel.TheVariants.{Quiet, Normal, 
 abbrev pub Finds : {T : Type 0} → (T → Type 0) → Option T → Type 0
 Finds {T} P r = MatchOption r ((x : T) → ¬ (P x)) P
 
--- the same where the want of a value is an error
+-- the same where an error stands for no value
 abbrev pub Reads : {T E : Type 0} → (T → Type 0) → Result T E → Type 0
 Reads {T} P r = MatchResult r P (λ _. (x : T) → ¬ (P x))
 
@@ -35,53 +35,65 @@ IsAddress text n =
 abbrev pub IsPadded : Text → Type 0
 IsPadded text = (1 < length text) × (slice_index text 0 ≡ 48)
 
--- decimal digits without leading zeros that write a number to 1000000000
+-- decimal digits without leading zeros that write a number within these bounds
+abbrev pub IsDecimal : ℕ → ℕ → Text → ℕ → Type 0
+IsDecimal least most text n =
+    IsNumeral 10 text × ¬ (IsPadded text) × (n ≡ digits_value 10 text) × (least ≤ n) × (n ≤ most)
+
 abbrev pub IsTurns : Text → ℕ → Type 0
-IsTurns text n =
-    IsNumeral 10 text × ¬ (IsPadded text) × (n ≡ digits_value 10 text) × (n ≤ 1000000000)
+IsTurns text n = IsDecimal 0 1000000000 text n
 
--- decimal digits without leading zeros that write a number from 1 to 64
 abbrev pub IsWindow : Text → ℕ → Type 0
-IsWindow text n =
-    IsNumeral 10 text × ¬ (IsPadded text) × (n ≡ digits_value 10 text) × (1 ≤ n) × (n ≤ 64)
+IsWindow text n = IsDecimal 1 64 text n
 
--- decimal digits without leading zeros that write a number from 20 to 60000
 abbrev pub IsRetransmit : Text → ℕ → Type 0
-IsRetransmit text n =
-    IsNumeral 10 text × ¬ (IsPadded text) × (n ≡ digits_value 10 text) × (20 ≤ n) × (n ≤ 60000)
+IsRetransmit text n = IsDecimal 20 60000 text n
 
--- decimal digits without leading zeros that write a number from 1 to 3600
 abbrev pub IsSeconds : Text → ℕ → Type 0
-IsSeconds text n =
-    IsNumeral 10 text × ¬ (IsPadded text) × (n ≡ digits_value 10 text) × (1 ≤ n) × (n ≤ 3600)
+IsSeconds text n = IsDecimal 1 3600 text n
 
--- so many seconds where they are given, and none where they aren't
-abbrev pub IsTimeout : Option Text → Option ℕ → Type 0
-IsTimeout None None = ⊤
-IsTimeout (Some text) (Some n) = IsSeconds text n
-IsTimeout _ _ = ⊥
+-- the value of a word that need not be given: there is a value where there is a word
+abbrev pub IsOptional : {T : Type 0} → (Text → T → Type 0) → Option Text → Option T → Type 0
+IsOptional Is None None = ⊤
+IsOptional Is (Some text) (Some x) = Is text x
+IsOptional Is _ _ = ⊥
+
+-- the words at a place
+abbrev pub words_of : Text → List Row → List Text
+words_of place rows = unwrap_or (all_of place rows) []
 
 -- the version of the datagrams
-abbrev pub IsCarriage : Text → Carriage → Type 0
-IsCarriage text One = text ≡ codes "1"
-IsCarriage text Two = text ≡ codes "2"
+abbrev pub carriage_text : Carriage → Text
+carriage_text One = codes "1"
+carriage_text Two = codes "2"
 
--- how much a server tells
+abbrev pub IsCarriage : Text → Carriage → Type 0
+IsCarriage text carriage = text ≡ carriage_text carriage
+
+-- how much a server logs
+abbrev pub log_text : LogLevel → Text
+log_text Quiet = codes "quiet"
+log_text Normal = codes "normal"
+log_text All = codes "all"
+
 abbrev pub IsLog : Text → LogLevel → Type 0
-IsLog text Quiet = text ≡ codes "quiet"
-IsLog text Normal = text ≡ codes "normal"
-IsLog text All = text ≡ codes "all"
+IsLog text log = text ≡ log_text log
 
 -- what clap says of a flag
-abbrev pub IsFlag : Text → Bool → Type 0
-IsFlag text true = text ≡ codes "true"
-IsFlag text false = text ≡ codes "false"
+abbrev pub flag_text : Bool → Text
+flag_text true = codes "true"
+flag_text false = codes "false"
 
--- the bridge's Chaosnet address where it is given, and none where it isn't
-abbrev pub IsBridge : Option Text → Option ℕ → Type 0
-IsBridge None None = ⊤
-IsBridge (Some text) (Some n) = IsAddress text n
-IsBridge _ _ = ⊥
+abbrev pub IsFlag : Text → Bool → Type 0
+IsFlag text b = text ≡ flag_text b
+
+-- any text, wherever it lies
+abbrev pub IsWord : Text → Bor Text → Type 0
+IsWord text word = word.now ≡ text
+
+-- a path of FILE, wherever its text lies
+abbrev pub IsPathOf : Text → Bor Text → Type 0
+IsPathOf text path = (path.now ≡ text) × (is_path text ≡ true)
 
 -- 1 to 64 printable characters of ASCII, none of them a space: the bytes 21 to 7E in hexadecimal
 abbrev pub is_contact : Text → Bool

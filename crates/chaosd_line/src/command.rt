@@ -2,12 +2,12 @@
 ghost use Rattle.std.specs.Prelude.{◌≡◌, IfOk, false, map};
 ghost use Rattle.clap.specs.Words.{app_of, new_app};
 ghost use Rattle.clap.specs.declared.builder.command.Command.TheViews.{out-Command};
-ghost use Rattle.chaosd_line.specs.CommandLine.{bare_chaosd, chaosd};
-ghost use Rattle.chaosd_line.specs.Plan.{app_of_sub, rule_of_word, with_rules, with_subs};
+ghost use Rattle.chaosd_line.specs.CommandLine.{bare_chaosd, chaosd, with_rules, with_subs};
+ghost use Rattle.chaosd_line.specs.Plan.{app_of_sub, rule_of_word};
 
+use crate::argument::{Argument, arg_of};
 use crate::help;
 use crate::sub::{Sub, SubName, sub_names, sub_of};
-use crate::word::{Word, arg_of};
 use clap::Command;
 use std::alloc::{AllocError, Global};
 
@@ -15,10 +15,11 @@ use std::alloc::{AllocError, Global};
 fn with_words<'a>(
     alloc: Global,
     command: Command<'a>,
-    words: &[Word<'a>],
+    words: &[Argument<'a>],
 ) -> Result<Command<'a>, AllocError>
     requires { (out-Command command).has_globals ≡ false }
-    ensures app { IfOk result (λ c. app_of c ≡ with_rules (app_of command.entry) (map rule_of_word words.now)) }
+    ensures app { IfOk result
+        (λ c. app_of c ≡ with_rules (app_of command.entry) (map rule_of_word words.now)) }
     ensures local { IfOk result (λ c. (out-Command c).has_globals ≡ false) }
 {
     let mut full = command;

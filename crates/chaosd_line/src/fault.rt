@@ -22,8 +22,8 @@ pub enum LineFault {
 impl From<ErrorKind> for LineFault {
     ghost from_gives = { λ kind fault. fault ≡ fault_of_kind kind };
 
-    /// The fault that clap's kind of error stands for: every kind but help, the version and being out of
-    /// memory is a bad line.
+    /// The fault that clap's kind of error stands for: every kind but help, the version and being
+    /// out of memory is a bad line.
     fn from(kind: ErrorKind) -> LineFault {
         match kind {
             ErrorKind::DisplayHelp => LineFault::Help,

@@ -65,7 +65,8 @@ fn repeated<'a>(texts: &[&'a str]) -> &'a str
     ""
 }
 
-/// The first text that is no path, else the first that stands there again, to be named in a mistake.
+/// The first text that is no path, else the first that stands there again, to be named in a
+/// mistake.
 pub(crate) fn bad_path<'a>(texts: &[&'a str]) -> &'a str
     ensures { result.now ≡ bad_path (map (λ t. t.now) texts.now) }
 {

@@ -1,46 +1,31 @@
 //! The words that say how packets stand in datagrams.
-ghost use Rattle.std.specs.Prelude.{codes};
-ghost use Rattle.clap.specs.Words.{first_of, found_of, rows_of};
+ghost use Rattle.clap.specs.Words.{found_of, rows_of};
 ghost use Rattle.chaosd_line.specs.Framings.{IsFraming};
-ghost use Rattle.chaosd_line.specs.Values.{IsBridge, Reads};
+ghost use Rattle.chaosd_line.specs.Values.{Reads};
 
-use crate::bad_word::{ADDRESS_FORM, BadWord, NEEDS_CHUDP, ONE_PACKET};
-use crate::calls::optional;
+use crate::bad_value::{BadValue, NEEDS_CHUDP, ONE_PACKET};
+use crate::form::{optional, optional_value, value};
 use crate::framing::Framing;
-use crate::given::{given_carriage, given_flag};
-use crate::values::address_of;
+use crate::values::{Address, Flag, Version};
 use chaos_link::Carriage;
 use clap::ArgMatches;
 
-/// The bridge's Chaosnet address, where it is given.
-fn given_bridge<'a>(matches: &ArgMatches<'a>) -> Result<Option<u16>, BadWord<'a>>
-    ensures { Reads (IsBridge (first_of (codes "bridge") (rows_of (found_of matches.now)))) result }
-{
-    let Some(text) = optional(matches, "bridge") else {
-        return Ok(None);
-    };
-    match address_of(text) {
-        Some(address) => Ok(Some(address)),
-        None => Err(BadWord::new(text, "--bridge", ADDRESS_FORM)),
-    }
-}
-
-/// What is wrong with the word of an option that doesn't fit the others.
-fn misfit<'a>(matches: &ArgMatches<'a>, id: &str, option: &'a str, reason: &'a str) -> BadWord<'a> {
-    BadWord::misfit(optional(matches, id).unwrap_or(""), option, reason)
+/// What is wrong with the word of an option that doesn't go with the others.
+fn misfit<'a>(matches: &ArgMatches<'a>, option: &'a str, reason: &'a str) -> BadValue<'a> {
+    BadValue::misfit(optional(matches, option).unwrap_or(""), option, reason)
 }
 
 /// How packets stand in datagrams: CHUDP has one packet in each, and only CHUDP names a bridge.
-pub(crate) fn given_framing<'a>(matches: &ArgMatches<'a>) -> Result<Framing, BadWord<'a>>
+pub(crate) fn framing_of<'a>(matches: &ArgMatches<'a>) -> Result<Framing, BadValue<'a>>
     ensures { Reads (IsFraming (rows_of (found_of matches.now))) result }
 {
-    let carriage = given_carriage(matches)?;
-    let is_chudp = given_flag(matches, "chudp")?;
-    let bridge = given_bridge(matches)?;
+    let carriage = value::<Version>(matches, "carriage")?;
+    let is_chudp = value::<Flag>(matches, "chudp")?;
+    let bridge = optional_value::<Address>(matches, "bridge")?;
     match (is_chudp, carriage, bridge) {
         (true, Carriage::One, bridge) => Ok(Framing::Chudp(bridge)),
-        (true, Carriage::Two, _) => Err(misfit(matches, "carriage", "--carriage", ONE_PACKET)),
+        (true, Carriage::Two, _) => Err(misfit(matches, "carriage", ONE_PACKET)),
         (false, carriage, None) => Ok(Framing::Own(carriage)),
-        (false, _, Some(_)) => Err(misfit(matches, "bridge", "--bridge", NEEDS_CHUDP)),
+        (false, _, Some(_)) => Err(misfit(matches, "bridge", NEEDS_CHUDP)),
     }
 }

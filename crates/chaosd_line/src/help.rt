@@ -1,7 +1,8 @@
-//! The texts of help. clap adds them to a column and wraps no line, so each text has its own line ends: no line of any help is
-//! wider than 80 columns.
+//! The texts of help. clap adds them to a column and wraps no line, so each text has its own line
+//! ends: no line of any help is wider than 80 columns.
 
-/// The program's version, and where the program's stamp is: a program can't contain the sum of its own sources.
+/// The program's version, and where the program's stamp is: a program can't contain the sum of its
+/// own sources.
 pub(crate) const VERSION: &str = "0.1.0
 chaosd.stamp, beside the program or in ../share/chaosd, says how it was built.
 Without that file, assume that the program is not proved.";

@@ -1,33 +1,34 @@
-//! The command line of `chaosd`: which line the words ask for, or what the user is told instead.
+//! The command line of `chaosd`: which line the words ask for, or the message to the user.
 //!
 //! It reads the words that the caller passes, by `clap`, and nothing else: no environment, no
-//! input, no output, no clock, no folder and no socket. It allocates, and running out of memory is a
-//! fault of its own.
+//! input, no output, no clock, no folder and no socket. It allocates, and running out of memory is
+//! a fault of its own.
 //!
 //! `parse_line` keeps clap's error, whose text is for the user, and `read_line` keeps the fault
 //! alone. Both read by the same command, and their contracts name clap's reading of the words.
 #![tactic(auto)]
 
-mod bad_word;
+mod argument;
+mod bad_value;
 mod calls;
 mod command;
 mod copies;
 mod fault;
 mod files;
+mod form;
 mod framing;
 mod framings;
-mod given;
 mod help;
 mod law;
 mod line;
+mod line_problem;
+mod lines;
 mod names;
 mod parse;
 mod paths;
 mod peers;
 mod sub;
-mod unread;
 mod values;
-mod word;
 
 pub use fault::LineFault;
 pub use framing::Framing;

@@ -14,9 +14,11 @@ pub enum Line<'a> {
     Show(Show),
     /// `chaosd lab`: a script of two connections from standard input, to what each line did.
     Lab,
-    /// `chaosd filelab`: a script of a client of FILE and its server from standard input, to what each line did.
+    /// `chaosd filelab`: a script of a client of FILE and its server from standard input, to what
+    /// each line did.
     FileLab,
-    /// `chaosd loop`: a FILE script from standard input between two hosts in one process, which send packets so.
+    /// `chaosd loop`: a FILE script from standard input between two hosts in one process, which
+    /// send packets so.
     Loop(Carriage),
     /// `chaosd serve`: the FILE service of a folder, to other hosts.
     Serve(Serve<'a>),
@@ -41,14 +43,14 @@ pub struct Show {
     pub is_chudp: bool,
 }
 
-/// How much a server tells.
+/// How much a server logs.
 #[derive(Clone, Copy, Debug, PartialEq, Eq)]
 pub enum LogLevel {
-    /// Mistakes and faults alone.
+    /// Only mistakes and faults.
     Quiet,
-    /// Those, connections, and changes of files.
+    /// Also connections, changes of files and requests that fail.
     Normal,
-    /// Those, and each file that is read.
+    /// Also each file that is read.
     All,
 }
 
@@ -61,13 +63,13 @@ pub struct Serve<'a> {
     pub framing: Framing,
     /// The packets that each of the two windows of its connections has, 1 to 64.
     pub window: u16,
-    /// The milliseconds after which packets that its connections keep are sent again, 20 to 60,000.
+    /// The milliseconds after which its connections retransmit packets, 20 to 60,000.
     pub retransmit: u64,
-    /// Whether nothing but what fails is told, whatever the log's level.
+    /// Whether only errors are logged, whatever the log's level.
     pub is_quiet: bool,
-    /// How much is told.
+    /// How much is logged.
     pub log: LogLevel,
-    /// Whether the time stands in front of each line that is told.
+    /// Whether each line of the log begins with the time.
     pub is_timed: bool,
     /// Whether a datagram that comes from no peer's UDP address is dropped.
     pub hears_only_peers: bool,
@@ -89,11 +91,12 @@ pub struct Serve<'a> {
 pub struct Ask<'a> {
     /// How packets stand in datagrams.
     pub framing: Framing,
-    /// The contact name that it asks for: 1 to 64 printable characters of ASCII, none of them a space.
+    /// The contact name that it asks for: 1 to 64 printable characters of ASCII, none of them a
+    /// space.
     pub contact: &'a str,
     /// The seconds that each reply is waited for, 1 to 3600, where they are given.
     pub timeout: Option<u16>,
-    /// The milliseconds after which packets that its connection keeps are sent again, 20 to 60,000.
+    /// The milliseconds after which its connection retransmits packets, 20 to 60,000.
     pub retransmit: u64,
     /// Whether datagrams from any UDP address are taken, and not from its peers' alone.
     pub hears_anybody: bool,
@@ -116,7 +119,8 @@ pub struct Ask<'a> {
 pub struct Calling<'a> {
     /// How packets stand in datagrams.
     pub framing: Framing,
-    /// The contact name that it asks for: 1 to 64 printable characters of ASCII, none of them a space.
+    /// The contact name that it asks for: 1 to 64 printable characters of ASCII, none of them a
+    /// space.
     pub contact: &'a str,
     /// The user's name, 1 to 16 letters and digits.
     pub login: &'a str,
@@ -144,9 +148,9 @@ pub struct Copying<'a> {
     pub calling: Calling<'a>,
     /// Whether a text is put into the character set of the Lisp machines, or back from it.
     pub is_text: bool,
-    /// Whether nothing but mistakes is told.
+    /// Whether only mistakes are reported.
     pub is_quiet: bool,
-    /// Whether more is told, and wherever standard error goes.
+    /// Whether more is reported, wherever standard error goes.
     pub is_verbose: bool,
 }
 
@@ -155,8 +159,8 @@ pub struct Copying<'a> {
 pub struct Get<'a> {
     /// What it has in common with `put`.
     pub copying: Copying<'a>,
-    /// The local file in place of one of the path's name, where there is one file; `-` is standard output. Where it ends with a slash, it is
-    /// the folder of the local files.
+    /// The local file in place of one of the path's name, where there is one file; `-` is standard
+    /// output. Where it ends with a slash, it is the folder of the local files.
     pub output: Option<&'a str>,
     /// The server's files, each once: legal paths of FILE.
     pub paths: Vec<&'a str>,
@@ -169,10 +173,11 @@ pub struct Put<'a> {
     pub copying: Copying<'a>,
     /// Whether a file whose last name FILE doesn't take goes under what that is renamed to.
     pub is_renaming: bool,
-    /// The server's file in place of that of [`path_for`](crate::path_for), where there is one file.
+    /// The server's file in place of that of [`path_for`](crate::path_for), where there is one
+    /// file.
     pub path: Option<&'a str>,
-    /// The local files. Where `path` is none, none of them is standard input, which is `-`, and no two go under one path; of some
-    /// there may be no path.
+    /// The local files. Where `path` is none, none of them is standard input, which is `-`, and no
+    /// two go under one path; of some there may be no path.
     pub locals: Vec<&'a str>,
 }
 

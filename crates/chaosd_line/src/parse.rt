@@ -4,14 +4,14 @@ ghost use Rattle.clap.specs.Values.{kind_of};
 ghost use Rattle.clap.specs.Words.{FailsBy, app_of, fault_of, subcommand_of, subcommand_rows_of};
 ghost use Rattle.clap.specs.declared.error.kind.ErrorKind.TheVariants.{OutOfMemory, ValueValidation};
 ghost use Rattle.chaosd_line.specs.CommandLine.{chaosd};
-ghost use Rattle.chaosd_line.specs.Fault.{FailsFor, IsTold, RefusesFor};
+ghost use Rattle.chaosd_line.specs.Fault.{FailsFor, IsReported, RefusesFor};
 ghost use Rattle.chaosd_line.specs.Lines.{IsLineOf};
 
 use crate::command::{command, command_of};
 use crate::fault::LineFault;
-use crate::given::line_of;
 use crate::line::Line;
-use crate::unread::Unread;
+use crate::line_problem::LineProblem;
+use crate::lines::line_of;
 use clap::error::ErrorKind;
 use clap::{ArgMatches, Command, Error};
 use std::alloc::{AllocError, Global};
@@ -40,7 +40,7 @@ fn found<'a, S: AsStr>(alloc: Global, words: &'a [S]) -> Result<ArgMatches<'a>, 
     matches_of(&mut command, words)
 }
 
-/// The error that tells the user of a bad word in this text, with the usage of the subcommand that it stands in.
+/// The error with this text about a bad word, and with the usage of its subcommand.
 fn error_of(
     alloc: Global,
     text: Result<String, AllocError>,
@@ -53,7 +53,7 @@ fn error_of(
 }
 
 /// The same, or out of memory.
-fn told_by(alloc: Global, text: Result<String, AllocError>, subcommand: Option<&str>) -> Error
+fn reported(alloc: Global, text: Result<String, AllocError>, subcommand: Option<&str>) -> Error
     ensures { (kind_of result ≡ ValueValidation) ⊎ (kind_of result ≡ OutOfMemory) }
 {
     match error_of(alloc, text, subcommand) {
@@ -62,47 +62,63 @@ fn told_by(alloc: Global, text: Result<String, AllocError>, subcommand: Option<&
     }
 }
 
-/// The error that tells the user why the values of a subcommand can't be read.
-fn told(alloc: Global, unread: Unread<'_>, subcommand: Option<&str>) -> Error
-    ensures { IsTold unread.entry (kind_of result) }
+/// The error that says why the values of a subcommand can't be read.
+fn report_of(alloc: Global, problem: LineProblem<'_>, subcommand: Option<&str>) -> Error
+    ensures { IsReported problem.entry (kind_of result) }
 {
-    match unread {
-        Unread::Bad(bad) => told_by(alloc, bad.message(alloc), subcommand),
-        Unread::Clash(files) => told_by(alloc, files.message(alloc), subcommand),
-        Unread::NoMemory => Error::from(AllocError),
+    match problem {
+        LineProblem::Bad(bad) => reported(alloc, bad.message(alloc), subcommand),
+        LineProblem::Clash(files) => reported(alloc, files.message(alloc), subcommand),
+        LineProblem::NoMemory => Error::from(AllocError),
     }
 }
 
-/// What these words, without the program's name in front, ask for.
+/// The line that these words ask for. The program's name is not among them.
 ///
-/// An `Err` is clap's error, with the text for the user, which its `print` writes: help to
-/// standard output, a mistake to standard error. `LineFault::from` its kind is the fault. A word
-/// that is not of its form is named, with what is wanted in its place.
-///
-/// Memory and time are clap's, for the words and its own few arguments.
+/// # Errors
+/// clap's error, whose `print` writes its text: help to standard output, a mistake to standard
+/// error. `LineFault::from` its kind is the fault. The text about a word that is not of its form
+/// names the word, its place and the form.
 pub fn parse_line<'a, S: AsStr>(alloc: Global, words: &'a [S]) -> Result<Line<'a>, Error>
-    // The line is what the subcommand and the values that clap gives for the words stand for.
+    // The line has the subcommand of the words and, by their forms, the values that clap gives:
+    // addresses, sockets, numbers, texts and flags. `loop` has the carriage, 1 or 2, and `show` its
+    // two flags.
+    // A line that sends packets to other hosts has their framing. Without `--chudp` the framing is
+    // the carriage, 1 or 2, and no bridge's address is given. With `--chudp` the carriage is 1, and
+    // the framing has the bridge's address, if there is one.
+    // `serve` and `ask` have as peers at most 32 hosts in their order, no two with one address, and
+    // the UDP address of a bridge if one word among the hosts begins with a star. Two such words
+    // are no line.
+    // `serve` has its turns, its folder, how much it logs, whether it logs the time, whether it
+    // hears only peers, and whether no file changes. `serve` and `ask` have the milliseconds after
+    // which packets are retransmitted (20 to 60000). `serve` and what calls a server have the
+    // window (1 to 64).
+    // `ask` and what calls a server have the contact name (1 to 64 printable characters of ASCII
+    // without a space), another host than their own, the seconds of a timeout (1 to 3600) if they
+    // are given, and whether anybody is heard. What calls a server has the user's name.
+    // `get` and `delete` have paths of FILE that differ, and `rename` has two. `put` has a path of
+    // FILE for its one file, or files of which none is standard input and no two go under one path.
     ensures line { IfOk result (IsLineOf (map S.text words.now)) }
 
-    // It is `Ok` only where nothing is wrong with the words. An `Err` is out of memory, one of
-    // the mistakes, or the wish for help, that clap finds in the words, or where it finds none, a
-    // value that is not of its form.
+    // The words are read only if nothing is wrong with them. They are refused if memory runs out,
+    // for a mistake that clap's definitions find in them, or, if those find none, for a value that
+    // is not of its form or doesn't go with the others.
     ensures kinds { FailsFor (map S.text words.now) result }
 {
     let matches = found(alloc, words)?;
     match line_of(alloc, &matches) {
         Ok(asked) => Ok(asked),
-        Err(unread) => Err(told(alloc, unread, matches.subcommand_name())),
+        Err(problem) => Err(report_of(alloc, problem, matches.subcommand_name())),
     }
 }
 
-/// As `parse_line`, with the fault alone.
+/// The line that these words ask for, or the fault of `parse_line` without its text.
 pub fn read_line<'a, S: AsStr>(alloc: Global, words: &'a [S]) -> Result<Line<'a>, LineFault>
-    // The line is what the subcommand and the values that clap gives for the words stand for.
+    // The line is the line of `parse_line`.
     ensures line { IfOk result (IsLineOf (map S.text words.now)) }
 
-    // It is `Ok` only where nothing is wrong with the words. The fault is out of memory, or
-    // stands for a kind of error that the words have.
+    // The words are read only if nothing is wrong with them. The fault is out of memory, or
+    // stands for a kind of error that `parse_line` gives for these words.
     ensures faults { RefusesFor (map S.text words.now) result }
 {
     match parse_line(alloc, words) {

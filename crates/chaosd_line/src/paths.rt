@@ -4,10 +4,15 @@ ghost use Rattle.std.specs.List.{list_all, list_any};
 ghost use Rattle.chaos_file.specs.declared.limits.TheConstants.{MAX_PATH};
 ghost use Rattle.chaosd_line.specs.Files.{are_apart, are_locals, first_byte, goes_same, is_file, is_same_path, name_for, path_byte, path_for, renamed};
 
-use crate::bad_word::{BadWord, Clash, LOCALS_FORM};
+use crate::bad_value::{BadValue, Clash, LOCALS_FORM};
 use crate::files::last_name;
-use crate::unread::Unread;
-use chaos_file::{FilePath, MAX_PATH, is_path, is_path_byte};
+use crate::line_problem::LineProblem;
+use crate::names::{is_path, is_path_byte};
+use arrayvec::ArrayVec;
+use chaos_file::MAX_PATH;
+
+/// A path of FILE.
+pub type FilePath = ArrayVec<u8, MAX_PATH>;
 
 /// The word that is standard input.
 const STREAM: &str = "-";
@@ -71,12 +76,14 @@ fn name_for(name: &[u8], is_renaming: bool) -> FilePath
     }
 }
 
-/// The path that `put` puts a local file under: its last name, where FILE takes that: 1 to 64 letters, digits, dots, hyphens and
-/// underscores, no dot in front.
+/// The path that `put` puts a local file under.
 ///
-/// Where names are to be renamed, each byte that no path has becomes an underscore first, and so does a dot in front. A name of
-/// more than 64 bytes has no path, nor has none, nor `-`, which is standard input. The cost is a walk over the text.
+/// A name of more than 64 bytes has no path, and neither has an empty name. The cost is a walk over
+/// the text.
 pub fn path_for(local: &str, is_renaming: bool) -> Option<FilePath>
+    // A local file goes under what stands behind the last slash of its name, if that is a path of
+    // FILE and not `-`, and otherwise under no path. If names are renamed, an underscore first
+    // takes the place of each byte that no path has, and of a leading dot.
     ensures { option_map (λ p. p.items) result ≡ path_for is_renaming local.now }
 {
     let name = last_name(local.as_bytes());
@@ -93,7 +100,8 @@ pub fn path_for(local: &str, is_renaming: bool) -> Option<FilePath>
 
 /// Whether there are two paths, and they are one.
 fn is_same_path(one: &Option<FilePath>, other: &Option<FilePath>) -> bool
-    ensures { result ≡ is_same_path (option_map (λ p. p.items) one.now) (option_map (λ p. p.items) other.now) }
+    ensures { result
+        ≡ is_same_path (option_map (λ p. p.items) one.now) (option_map (λ p. p.items) other.now) }
 {
     match (one, other) {
         (Some(one), Some(other)) => one.as_slice() == other.as_slice(),
@@ -103,14 +111,17 @@ fn is_same_path(one: &Option<FilePath>, other: &Option<FilePath>) -> bool
 
 /// Whether one of these files goes under the path.
 fn is_taken(path: &Option<FilePath>, texts: &[&str], is_renaming: bool) -> bool
-    ensures { result ≡ list_any (λ u. is_same_path (path_for is_renaming u.now) (option_map (λ p. p.items) path.now)) texts.now }
+    ensures { result ≡ list_any
+        (λ u. is_same_path (path_for is_renaming u.now) (option_map (λ p. p.items) path.now))
+        texts.now }
 {
     texts
         .iter()
         .any(|text| is_same_path(&path_for(text, is_renaming), path))
 }
 
-/// Whether no two files go under one path. The cost is that of a walk over the later files for each.
+/// Whether no two files go under one path. The cost is that of a walk over the later files for
+/// each.
 fn are_apart(texts: &[&str], is_renaming: bool) -> bool
     ensures { result ≡ are_apart (goes_same is_renaming) (map (λ t. t.now) texts.now) }
 {
@@ -156,11 +167,11 @@ fn clash_of<'a>(texts: &[&'a str], is_renaming: bool) -> Option<Clash<'a>> {
 }
 
 /// What is wrong with local files of which one is standard input, or two go under one path.
-pub(crate) fn bad_locals<'a>(texts: &[&'a str], is_renaming: bool) -> Unread<'a> {
+pub(crate) fn bad_locals<'a>(texts: &[&'a str], is_renaming: bool) -> LineProblem<'a> {
     if all_files(texts) {
         if let Some(files) = clash_of(texts, is_renaming) {
-            return Unread::Clash(files);
+            return LineProblem::Clash(files);
         }
     }
-    Unread::Bad(BadWord::new(STREAM, "LOCAL", LOCALS_FORM))
+    LineProblem::Bad(BadValue::new(STREAM, "LOCAL", LOCALS_FORM))
 }

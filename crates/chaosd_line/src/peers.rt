@@ -1,11 +1,14 @@
 //! The peers of a line.
-ghost use Rattle.std.specs.Prelude.{◌≡◌, ◌≤◌, OnErr, OnOk, length, map};
+ghost use Rattle.std.specs.Prelude.{◌≡◌, ◌≤◌, OnErr, OnOk, codes, length, map};
+ghost use Rattle.clap.specs.Words.{found_of, rows_of};
 ghost use Rattle.chaos_link.specs.declared.limits.TheConstants.{MAX_PEERS};
-ghost use Rattle.chaosd_line.specs.Values.{Adds, AddsHost, AddsBridge, ArePeers, CannotAdd, CannotAddHost, CannotAddBridge, Reads, names_bridge};
+ghost use Rattle.chaosd_line.specs.Values.{Adds, AddsHost, AddsBridge, ArePeers, CannotAdd, CannotAddHost, CannotAddBridge, Reads, names_bridge, words_of};
 
-use crate::bad_word::{BRIDGE_ONCE_FORM, BadWord, ENTRY_FORM, ONCE_FORM, PEERS_FORM};
-use crate::values::{bridge_peer_of, peer_of};
+use crate::bad_value::{BRIDGE_ONCE_FORM, BadValue, ENTRY_FORM, ONCE_FORM, PEERS_FORM};
+use crate::form::{Form, words_at};
+use crate::values::{Bridge, Host};
 use chaos_link::{PeerFault, Peers};
+use clap::ArgMatches;
 
 /// The form of a peer that a table refuses.
 fn form_of(fault: PeerFault) -> &'static str {
@@ -16,17 +19,17 @@ fn form_of(fault: PeerFault) -> &'static str {
 }
 
 /// The word that is no peer to be added.
-fn bad_peer<'a>(text: &'a str, form: &'a str) -> BadWord<'a> {
-    BadWord::new(text, "PEER", form)
+fn bad_peer<'a>(text: &'a str, form: &'a str) -> BadValue<'a> {
+    BadValue::new(text, "PEER", form)
 }
 
 /// Adds the host that the text writes.
-fn add_host<'a>(peers: &mut Peers, text: &'a str) -> Result<(), BadWord<'a>>
+fn add_host<'a>(peers: &mut Peers, text: &'a str) -> Result<(), BadValue<'a>>
     requires { length peers.old.hosts ≤ MAX_PEERS }
     ensures ok { OnOk result (AddsHost text.now peers.old peers.new) }
     ensures err { OnErr result (CannotAddHost text.now peers.old.hosts) }
 {
-    match peer_of(text) {
+    match Host::value_of(text) {
         Some(peer) => match peers.add(peer) {
             Ok(()) => Ok(()),
             Err(fault) => Err(bad_peer(text, form_of(fault))),
@@ -36,11 +39,11 @@ fn add_host<'a>(peers: &mut Peers, text: &'a str) -> Result<(), BadWord<'a>>
 }
 
 /// Sets the bridge that the text writes.
-fn add_bridge<'a>(peers: &mut Peers, text: &'a str) -> Result<(), BadWord<'a>>
+fn add_bridge<'a>(peers: &mut Peers, text: &'a str) -> Result<(), BadValue<'a>>
     ensures ok { OnOk result (AddsBridge text.now peers.old peers.new) }
     ensures err { OnErr result (CannotAddBridge text.now peers.old.bridge) }
 {
-    let Some(socket) = bridge_peer_of(text) else {
+    let Some(socket) = Bridge::value_of(text) else {
         return Err(bad_peer(text, ENTRY_FORM));
     };
     if peers.bridge().is_some() {
@@ -61,7 +64,7 @@ fn names_bridge(bytes: &[u8]) -> bool
 }
 
 /// Adds the host or the bridge that the text writes.
-fn add_peer<'a>(peers: &mut Peers, text: &'a str) -> Result<(), BadWord<'a>>
+fn add_peer<'a>(peers: &mut Peers, text: &'a str) -> Result<(), BadValue<'a>>
     requires { length peers.old.hosts ≤ MAX_PEERS }
     ensures ok { OnOk result (Adds text.now peers.old peers.new) }
     ensures err { OnErr result (CannotAdd text.now peers.old) }
@@ -73,11 +76,13 @@ fn add_peer<'a>(peers: &mut Peers, text: &'a str) -> Result<(), BadWord<'a>>
     }
 }
 
-/// The peers that the texts write: the hosts in their order, and the bridge, where a text writes one.
+/// The peers that the texts write: the hosts in their order, and the bridge, where a text writes
+/// one.
 ///
 /// # Errors
-/// The first word that is no peer, or one too many, or has the address of an earlier one, or is a second bridge.
-pub(crate) fn peers_of<'a>(texts: &[&'a str]) -> Result<Peers, BadWord<'a>>
+/// The first word that is no peer, or one too many, or has the address of an earlier one, or is a
+/// second bridge.
+fn peers_of<'a>(texts: &[&'a str]) -> Result<Peers, BadValue<'a>>
     ensures { Reads (ArePeers (map (λ t. t.now) texts.now)) result }
 {
     let mut peers = Peers::new();
@@ -85,4 +90,11 @@ pub(crate) fn peers_of<'a>(texts: &[&'a str]) -> Result<Peers, BadWord<'a>>
         add_peer(&mut peers, text)?;
     }
     Ok(peers)
+}
+
+/// The peers of a line, of which there may be none.
+pub(crate) fn peers_at<'a>(matches: &ArgMatches<'a>) -> Result<Peers, BadValue<'a>>
+    ensures { Reads (ArePeers (words_of (codes "PEER") (rows_of (found_of matches.now)))) result }
+{
+    peers_of(words_at(matches, "PEER"))
 }

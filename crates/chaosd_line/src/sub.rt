@@ -1,12 +1,13 @@
 //! The subcommands, each with its words and the texts of its help.
 ghost use Rattle.std.specs.Prelude.{◌≡◌};
-ghost use Rattle.chaosd_line.specs.CommandLine.{bare_chaosd, chaosd};
-ghost use Rattle.chaosd_line.specs.Plan.{app_named, app_of_sub, with_subs};
+ghost use Rattle.chaosd_line.specs.CommandLine.{app_named, sub_names};
+ghost use Rattle.chaosd_line.specs.Plan.{app_of_sub};
 
+use crate::argument::{Argument, Arity};
 use crate::help;
-use crate::word::{Wanted, Word};
 
-/// The name of a subcommand. Each has a table of its own, since one large one would be dear to prove.
+/// The name of a subcommand. Each has a table of its own, since one large one would be dear to
+/// prove.
 pub(crate) enum SubName {
     /// `show`.
     Show,
@@ -41,44 +42,48 @@ pub(crate) struct Sub {
     /// What its own help ends with.
     pub(crate) example: Option<&'static str>,
     /// Its words.
-    pub(crate) words: &'static [Word<'static>],
+    pub(crate) words: &'static [Argument<'static>],
 }
 
-const CARRIAGE: Word<'static> = Word("carriage", Wanted::Default("N", "1"), help::CARRIAGE);
+const CARRIAGE: Argument<'static> = Argument("carriage", Arity::Default("N", "1"), help::CARRIAGE);
 
-const CHUDP: Word<'static> = Word("chudp", Wanted::Flag, help::CHUDP);
+const CHUDP: Argument<'static> = Argument("chudp", Arity::Flag, help::CHUDP);
 
-const BRIDGE: Word<'static> = Word("bridge", Wanted::Optional("ADDRESS"), help::BRIDGE);
+const BRIDGE: Argument<'static> = Argument("bridge", Arity::Optional("ADDRESS"), help::BRIDGE);
 
-const CONTACT: Word<'static> = Word("contact", Wanted::Default("NAME", "FILE"), help::CONTACT);
+const CONTACT: Argument<'static> = Argument(
+    "contact",
+    Arity::Default("NAME", "FILE"),
+    help::CONTACT,
+);
 
-const ADDRESS: Word<'static> = Word("ADDRESS", Wanted::Needed, help::ADDRESS);
+const ADDRESS: Argument<'static> = Argument("ADDRESS", Arity::Needed, help::ADDRESS);
 
-const UDP: Word<'static> = Word("UDP", Wanted::Needed, help::UDP);
+const UDP: Argument<'static> = Argument("UDP", Arity::Needed, help::UDP);
 
-const PEER: Word<'static> = Word("PEER", Wanted::Any, help::PEER);
+const PEER: Argument<'static> = Argument("PEER", Arity::Any, help::PEER);
 
-const LOGIN: Word<'static> = Word("login", Wanted::Default("NAME", "CHAOSD"), help::LOGIN);
+const LOGIN: Argument<'static> = Argument("login", Arity::Default("NAME", "CHAOSD"), help::LOGIN);
 
-const WINDOW: Word<'static> = Word("window", Wanted::Default("N", "64"), help::WINDOW);
+const WINDOW: Argument<'static> = Argument("window", Arity::Default("N", "64"), help::WINDOW);
 
-const TIMEOUT: Word<'static> = Word("timeout", Wanted::Optional("SECONDS"), help::TIMEOUT);
+const TIMEOUT: Argument<'static> = Argument("timeout", Arity::Optional("SECONDS"), help::TIMEOUT);
 
-const RETRANSMIT: Word<'static> = Word(
+const RETRANSMIT: Argument<'static> = Argument(
     "retransmit",
-    Wanted::Default("MS", "500"),
+    Arity::Default("MS", "500"),
     help::RETRANSMIT,
 );
 
-const ANY_SOURCE: Word<'static> = Word("any-source", Wanted::Flag, help::ANY_SOURCE);
+const ANY_SOURCE: Argument<'static> = Argument("any-source", Arity::Flag, help::ANY_SOURCE);
 
-const TEXT: Word<'static> = Word("text", Wanted::Flag, help::TEXT);
+const TEXT: Argument<'static> = Argument("text", Arity::Flag, help::TEXT);
 
-const QUIET: Word<'static> = Word("quiet", Wanted::Flag, help::QUIET);
+const QUIET: Argument<'static> = Argument("quiet", Arity::Flag, help::QUIET);
 
-const VERBOSE: Word<'static> = Word("verbose", Wanted::Flag, help::VERBOSE);
+const VERBOSE: Argument<'static> = Argument("verbose", Arity::Flag, help::VERBOSE);
 
-const SERVER: Word<'static> = Word("SERVER", Wanted::Needed, help::SERVER);
+const SERVER: Argument<'static> = Argument("SERVER", Arity::Needed, help::SERVER);
 
 static SHOW: Sub = Sub {
     name: "show",
@@ -86,8 +91,8 @@ static SHOW: Sub = Sub {
     about: help::SHOW,
     example: None,
     words: &[
-        Word("file", Wanted::Flag, help::SHOW_FILE),
-        Word("chudp", Wanted::Flag, help::SHOW_CHUDP),
+        Argument("file", Arity::Flag, help::SHOW_FILE),
+        Argument("chudp", Arity::Flag, help::SHOW_CHUDP),
     ],
 };
 
@@ -121,20 +126,20 @@ static SERVE: Sub = Sub {
     about: help::SERVE,
     example: Some(help::SERVE_EXAMPLE),
     words: &[
-        Word("turns", Wanted::Default("N", "1000000000"), help::TURNS),
+        Argument("turns", Arity::Default("N", "1000000000"), help::TURNS),
         CARRIAGE,
         CHUDP,
         BRIDGE,
-        Word("window", Wanted::Default("N", "13"), help::SERVE_WINDOW),
+        Argument("window", Arity::Default("N", "13"), help::SERVE_WINDOW),
         RETRANSMIT,
-        Word("quiet", Wanted::Flag, help::SERVE_QUIET),
-        Word("log", Wanted::Default("LEVEL", "normal"), help::LOG),
-        Word("log-time", Wanted::Flag, help::LOG_TIME),
-        Word("only-peers", Wanted::Flag, help::ONLY_PEERS),
-        Word("read-only", Wanted::Flag, help::READ_ONLY),
+        Argument("quiet", Arity::Flag, help::SERVE_QUIET),
+        Argument("log", Arity::Default("LEVEL", "normal"), help::LOG),
+        Argument("log-time", Arity::Flag, help::LOG_TIME),
+        Argument("only-peers", Arity::Flag, help::ONLY_PEERS),
+        Argument("read-only", Arity::Flag, help::READ_ONLY),
         ADDRESS,
         UDP,
-        Word("FOLDER", Wanted::Needed, help::FOLDER),
+        Argument("FOLDER", Arity::Needed, help::FOLDER),
         PEER,
     ],
 };
@@ -149,13 +154,13 @@ static ASK: Sub = Sub {
         CHUDP,
         BRIDGE,
         CONTACT,
-        Word("timeout", Wanted::Optional("SECONDS"), help::ASK_TIMEOUT),
+        Argument("timeout", Arity::Optional("SECONDS"), help::ASK_TIMEOUT),
         RETRANSMIT,
         ANY_SOURCE,
-        Word("strict", Wanted::Flag, help::STRICT),
+        Argument("strict", Arity::Flag, help::STRICT),
         ADDRESS,
         UDP,
-        Word("TO", Wanted::Needed, help::TO),
+        Argument("TO", Arity::Needed, help::TO),
         PEER,
     ],
 };
@@ -177,11 +182,11 @@ static GET: Sub = Sub {
         TEXT,
         QUIET,
         VERBOSE,
-        Word("output", Wanted::Optional("LOCAL"), help::OUTPUT),
+        Argument("output", Arity::Optional("LOCAL"), help::OUTPUT),
         ADDRESS,
         UDP,
         SERVER,
-        Word("PATH", Wanted::Several, help::PATH),
+        Argument("PATH", Arity::Several, help::PATH),
     ],
 };
 
@@ -202,12 +207,12 @@ static PUT: Sub = Sub {
         TEXT,
         QUIET,
         VERBOSE,
-        Word("rename", Wanted::Flag, help::RENAMING),
-        Word("as", Wanted::Optional("PATH"), help::AS),
+        Argument("rename", Arity::Flag, help::RENAMING),
+        Argument("as", Arity::Optional("PATH"), help::AS),
         ADDRESS,
         UDP,
         SERVER,
-        Word("LOCAL", Wanted::Several, help::LOCAL),
+        Argument("LOCAL", Arity::Several, help::LOCAL),
     ],
 };
 
@@ -228,7 +233,7 @@ static DELETE: Sub = Sub {
         ADDRESS,
         UDP,
         SERVER,
-        Word("PATH", Wanted::Several, help::PATH),
+        Argument("PATH", Arity::Several, help::PATH),
     ],
 };
 
@@ -249,8 +254,8 @@ static RENAME: Sub = Sub {
         ADDRESS,
         UDP,
         SERVER,
-        Word("OLD", Wanted::Needed, help::OLD),
-        Word("NEW", Wanted::Needed, help::NEW),
+        Argument("OLD", Arity::Needed, help::OLD),
+        Argument("NEW", Arity::Needed, help::NEW),
     ],
 };
 
@@ -270,7 +275,7 @@ static NAMES: [SubName; 10] = [
 
 /// The names of the subcommands, in the order of the help.
 pub(crate) fn sub_names() -> &'static [SubName]
-    ensures { with_subs bare_chaosd result.now ≡ chaosd }
+    ensures { result.now ≡ sub_names }
 {
     &NAMES
 }

@@ -1,8 +1,11 @@
 //! The forms of words, and the values that they stand for.
 ghost use Rattle.std.specs.Prelude.{◌≡◌, ◌↔◌, IsTrue, MatchOption};
-ghost use Rattle.chaosd_line.specs.Values.{Finds, HasSides, IsAddress, IsCarriage, IsFlag, IsLog, IsPadded, IsPeer, IsRetransmit, IsSeconds, IsSocket, IsTurns, IsBridgePeer, IsWindow, left_of, port_of, right_of};
+ghost use Rattle.chaosd_line.specs.Values.{Finds, HasSides, IsAddress, IsCarriage, IsContact, IsFlag, IsLog, IsLogin, IsPadded, IsPathOf, IsPeer, IsRetransmit, IsSeconds, IsSocket, IsTurns, IsBridgePeer, IsWindow, IsWord, left_of, port_of, right_of};
 
+use crate::bad_value::PATH_FORM;
+use crate::form::Form;
 use crate::line::LogLevel;
+use crate::names::{is_contact, is_path, is_user};
 use chaos_link::{Carriage, Peer};
 use chaos_window::MAX_WINDOW;
 use std::net::SocketAddrV4;
@@ -13,16 +16,41 @@ const ADDRESS_DIGITS: usize = 6;
 /// The most turns that may be asked for.
 const MAX_TURNS: u32 = 1_000_000_000;
 
-/// The fewest milliseconds after which packets may be sent again.
+/// The most packets of a window.
+const MAX_WINDOW: u16 = 64;
+
+/// The fewest milliseconds after which packets may be retransmitted.
 const MIN_RETRANSMIT: u64 = 20;
 
-/// The most milliseconds after which packets may be sent again.
+/// The most milliseconds after which packets may be retransmitted.
 const MAX_RETRANSMIT: u64 = 60_000;
 
-/// The most seconds that may be waited for.
+/// The most seconds of a timeout.
 const MAX_SECONDS: u16 = 3_600;
 
-/// Whether a number is written with a zero too many in front.
+/// A Chaosnet address: one to six octal digits.
+pub(crate) struct Address;
+
+impl<'a> Form<'a> for Address {
+    type Value = u16;
+
+    const EXPECTED: &'static str = "1 to 6 octal digits, from 1 to 177777";
+
+    ghost means = { IsAddress };
+
+    fn value_of(text: &'a str) -> Option<u16> {
+        let bytes = text.as_bytes();
+        if bytes.is_empty() || bytes.len() > ADDRESS_DIGITS || bytes[0] == b'+' {
+            return None;
+        }
+        match u16::from_str_radix(text, 8) {
+            Ok(address) if address > 0 => Some(address),
+            _ => None,
+        }
+    }
+}
+
+/// Whether a number is written with a leading zero too many.
 fn is_padded(text: &str) -> bool
     ensures { IsTrue result ↔ IsPadded text.now }
 {
@@ -30,111 +58,227 @@ fn is_padded(text: &str) -> bool
     bytes.len() > 1 && bytes[0] == b'0'
 }
 
-/// The Chaosnet address that one to six octal digits write.
-pub(crate) fn address_of(text: &str) -> Option<u16>
-    ensures { Finds (IsAddress text.now) result }
-{
-    let bytes = text.as_bytes();
-    if bytes.is_empty() || bytes.len() > ADDRESS_DIGITS || bytes[0] == b'+' {
-        return None;
-    }
-    match u16::from_str_radix(text, 8) {
-        Ok(address) if address > 0 => Some(address),
-        _ => None,
+/// A number of turns, in decimal digits without leading zeros.
+pub(crate) struct Turns;
+
+impl<'a> Form<'a> for Turns {
+    type Value = u32;
+
+    const EXPECTED: &'static str = "a decimal number from 0 to 1000000000, without leading zeros";
+
+    ghost means = { IsTurns };
+
+    fn value_of(text: &'a str) -> Option<u32> {
+        let bytes = text.as_bytes();
+        if bytes.is_empty() || bytes[0] == b'+' || is_padded(text) {
+            return None;
+        }
+        match text.parse::<u32>() {
+            Ok(turns) if turns <= MAX_TURNS => Some(turns),
+            _ => None,
+        }
     }
 }
 
-/// The number of turns that decimal digits without leading zeros write.
-pub(crate) fn turns_of(text: &str) -> Option<u32>
-    ensures { Finds (IsTurns text.now) result }
-{
-    let bytes = text.as_bytes();
-    if bytes.is_empty() || bytes[0] == b'+' || is_padded(text) {
-        return None;
-    }
-    match text.parse::<u32>() {
-        Ok(turns) if turns <= MAX_TURNS => Some(turns),
-        _ => None,
+/// The packets of a window, in decimal digits without leading zeros.
+pub(crate) struct Window;
+
+impl<'a> Form<'a> for Window {
+    type Value = u16;
+
+    const EXPECTED: &'static str = "a decimal number from 1 to 64, without leading zeros";
+
+    ghost means = { IsWindow };
+
+    fn value_of(text: &'a str) -> Option<u16> {
+        let bytes = text.as_bytes();
+        if bytes.is_empty() || bytes[0] == b'+' || is_padded(text) {
+            return None;
+        }
+        match text.parse::<u16>() {
+            Ok(window) if window >= 1 && window <= MAX_WINDOW => Some(window),
+            _ => None,
+        }
     }
 }
 
-/// The number of packets of a window that decimal digits without leading zeros write.
-pub(crate) fn window_of(text: &str) -> Option<u16>
-    ensures { Finds (IsWindow text.now) result }
-{
-    let bytes = text.as_bytes();
-    if bytes.is_empty() || bytes[0] == b'+' || is_padded(text) {
-        return None;
-    }
-    match text.parse::<u16>() {
-        Ok(window) if window >= 1 && window <= MAX_WINDOW => Some(window),
-        _ => None,
+/// The milliseconds after which packets are retransmitted, in decimal digits without leading zeros.
+pub(crate) struct Retransmit;
+
+impl<'a> Form<'a> for Retransmit {
+    type Value = u64;
+
+    const EXPECTED: &'static str =
+        "a decimal number of milliseconds from 20 to 60000, without leading zeros";
+
+    ghost means = { IsRetransmit };
+
+    fn value_of(text: &'a str) -> Option<u64> {
+        let bytes = text.as_bytes();
+        if bytes.is_empty() || bytes[0] == b'+' || is_padded(text) {
+            return None;
+        }
+        match text.parse::<u64>() {
+            Ok(millis) if millis >= MIN_RETRANSMIT && millis <= MAX_RETRANSMIT => Some(millis),
+            _ => None,
+        }
     }
 }
 
-/// The number of milliseconds after which packets are sent again that decimal digits without leading zeros write.
-pub(crate) fn retransmit_of(text: &str) -> Option<u64>
-    ensures { Finds (IsRetransmit text.now) result }
-{
-    let bytes = text.as_bytes();
-    if bytes.is_empty() || bytes[0] == b'+' || is_padded(text) {
-        return None;
-    }
-    match text.parse::<u64>() {
-        Ok(millis) if millis >= MIN_RETRANSMIT && millis <= MAX_RETRANSMIT => Some(millis),
-        _ => None,
+/// The seconds of a timeout, in decimal digits without leading zeros.
+pub(crate) struct Seconds;
+
+impl<'a> Form<'a> for Seconds {
+    type Value = u16;
+
+    const EXPECTED: &'static str =
+        "a decimal number of seconds from 1 to 3600, without leading zeros";
+
+    ghost means = { IsSeconds };
+
+    fn value_of(text: &'a str) -> Option<u16> {
+        let bytes = text.as_bytes();
+        if bytes.is_empty() || bytes[0] == b'+' || is_padded(text) {
+            return None;
+        }
+        match text.parse::<u16>() {
+            Ok(seconds) if seconds >= 1 && seconds <= MAX_SECONDS => Some(seconds),
+            _ => None,
+        }
     }
 }
 
-/// The number of seconds that decimal digits without leading zeros write.
-pub(crate) fn seconds_of(text: &str) -> Option<u16>
-    ensures { Finds (IsSeconds text.now) result }
-{
-    let bytes = text.as_bytes();
-    if bytes.is_empty() || bytes[0] == b'+' || is_padded(text) {
-        return None;
-    }
-    match text.parse::<u16>() {
-        Ok(seconds) if seconds >= 1 && seconds <= MAX_SECONDS => Some(seconds),
-        _ => None,
+/// How packets are sent, by the version of their datagrams.
+pub(crate) struct Version;
+
+impl<'a> Form<'a> for Version {
+    type Value = Carriage;
+
+    const EXPECTED: &'static str = "1 or 2";
+
+    ghost means = { IsCarriage };
+
+    fn value_of(text: &'a str) -> Option<Carriage> {
+        match text {
+            "1" => Some(Carriage::One),
+            "2" => Some(Carriage::Two),
+            _ => None,
+        }
     }
 }
 
-/// How packets are sent, by the version of the datagrams that they are sent in.
-pub(crate) fn carriage_of(text: &str) -> Option<Carriage>
-    ensures { Finds (IsCarriage text.now) result }
-{
-    match text {
-        "1" => Some(Carriage::One),
-        "2" => Some(Carriage::Two),
-        _ => None,
+/// How much a server logs.
+pub(crate) struct Level;
+
+impl<'a> Form<'a> for Level {
+    type Value = LogLevel;
+
+    const EXPECTED: &'static str = "quiet, normal or all";
+
+    ghost means = { IsLog };
+
+    fn value_of(text: &'a str) -> Option<LogLevel> {
+        match text {
+            "quiet" => Some(LogLevel::Quiet),
+            "normal" => Some(LogLevel::Normal),
+            "all" => Some(LogLevel::All),
+            _ => None,
+        }
     }
 }
 
-/// How much a server tells.
-pub(crate) fn log_of(text: &str) -> Option<LogLevel>
-    ensures { Finds (IsLog text.now) result }
-{
-    match text {
-        "quiet" => Some(LogLevel::Quiet),
-        "normal" => Some(LogLevel::Normal),
-        "all" => Some(LogLevel::All),
-        _ => None,
+/// Whether a flag is given, as clap says it.
+pub(crate) struct Flag;
+
+impl<'a> Form<'a> for Flag {
+    type Value = bool;
+
+    const EXPECTED: &'static str = "no value";
+
+    ghost means = { IsFlag };
+
+    fn value_of(text: &'a str) -> Option<bool> {
+        match text {
+            "true" => Some(true),
+            "false" => Some(false),
+            _ => None,
+        }
     }
 }
 
-/// What clap says of a flag.
-pub(crate) fn flag_of(text: &str) -> Option<bool>
-    ensures { Finds (IsFlag text.now) result }
-{
-    match text {
-        "true" => Some(true),
-        "false" => Some(false),
-        _ => None,
+/// Any text.
+pub(crate) struct Anything;
+
+impl<'a> Form<'a> for Anything {
+    type Value = &'a str;
+
+    const EXPECTED: &'static str = "a value";
+
+    ghost means = { IsWord };
+
+    fn value_of(text: &'a str) -> Option<&'a str> {
+        Some(text)
     }
 }
 
-/// Whether the port behind the first colon is written with a zero too many in front.
+/// A contact name that may be asked for.
+pub(crate) struct Contact;
+
+impl<'a> Form<'a> for Contact {
+    type Value = &'a str;
+
+    const EXPECTED: &'static str = "1 to 64 printable ASCII characters, without a space";
+
+    ghost means = { IsContact };
+
+    fn value_of(text: &'a str) -> Option<&'a str> {
+        if is_contact(text.as_bytes()) {
+            Some(text)
+        } else {
+            None
+        }
+    }
+}
+
+/// A user's name.
+pub(crate) struct Login;
+
+impl<'a> Form<'a> for Login {
+    type Value = &'a str;
+
+    const EXPECTED: &'static str = "1 to 16 letters and digits";
+
+    ghost means = { IsLogin };
+
+    fn value_of(text: &'a str) -> Option<&'a str> {
+        if is_user(text.as_bytes()) {
+            Some(text)
+        } else {
+            None
+        }
+    }
+}
+
+/// A path of FILE.
+pub(crate) struct Path;
+
+impl<'a> Form<'a> for Path {
+    type Value = &'a str;
+
+    const EXPECTED: &'static str = PATH_FORM;
+
+    ghost means = { IsPathOf };
+
+    fn value_of(text: &'a str) -> Option<&'a str> {
+        if is_path(text.as_bytes()) {
+            Some(text)
+        } else {
+            None
+        }
+    }
+}
+
+/// Whether the port behind the first colon is written with a leading zero too many.
 fn has_padded_port(text: &str) -> bool
     ensures { IsTrue result ↔ IsPadded (port_of text.now) }
 {
@@ -144,16 +288,25 @@ fn has_padded_port(text: &str) -> bool
     }
 }
 
-/// The UDP address that `a.b.c.d:port` writes.
-pub(crate) fn socket_of(text: &str) -> Option<SocketAddrV4>
-    ensures { Finds (IsSocket text.now) result }
-{
-    if has_padded_port(text) {
-        return None;
-    }
-    match text.parse::<SocketAddrV4>() {
-        Ok(socket) if socket.port() > 0 => Some(socket),
-        _ => None,
+/// A UDP address, `a.b.c.d:port`.
+pub(crate) struct Socket;
+
+impl<'a> Form<'a> for Socket {
+    type Value = SocketAddrV4;
+
+    const EXPECTED: &'static str =
+        "a.b.c.d:port in decimal, without leading zeros, with a port from 1 to 65535";
+
+    ghost means = { IsSocket };
+
+    fn value_of(text: &'a str) -> Option<SocketAddrV4> {
+        if has_padded_port(text) {
+            return None;
+        }
+        match text.parse::<SocketAddrV4>() {
+            Ok(socket) if socket.port() > 0 => Some(socket),
+            _ => None,
+        }
     }
 }
 
@@ -165,23 +318,40 @@ fn sides_of(text: &str) -> Option<(&str, &str)>
     text.split_once('=')
 }
 
-/// The peer that an address, `=` and a socket write.
-pub(crate) fn peer_of(text: &str) -> Option<Peer>
-    ensures { Finds (IsPeer text.now) result }
-{
-    let (left, right) = sides_of(text)?;
-    let address = address_of(left)?;
-    let socket = socket_of(right)?;
-    Some(Peer { address, socket })
+/// Another host: an address, `=` and a socket.
+pub(crate) struct Host;
+
+impl<'a> Form<'a> for Host {
+    type Value = Peer;
+
+    const EXPECTED: &'static str =
+        "a Chaosnet address, `=` and a UDP address, such as 402=127.0.0.1:9002";
+
+    ghost means = { IsPeer };
+
+    fn value_of(text: &'a str) -> Option<Peer> {
+        let (left, right) = sides_of(text)?;
+        let address = Address::value_of(left)?;
+        let socket = Socket::value_of(right)?;
+        Some(Peer { address, socket })
+    }
 }
 
-/// The bridge's UDP address that a star, `=` and a socket write.
-pub(crate) fn bridge_peer_of(text: &str) -> Option<SocketAddrV4>
-    ensures { Finds (IsBridgePeer text.now) result }
-{
-    let (left, right) = sides_of(text)?;
-    if left != "*" {
-        return None;
+/// The UDP address of a bridge, which a star, `=` and a socket write.
+pub(crate) struct Bridge;
+
+impl<'a> Form<'a> for Bridge {
+    type Value = SocketAddrV4;
+
+    const EXPECTED: &'static str = "`*`, `=` and a UDP address, such as *=127.0.0.1:9002";
+
+    ghost means = { IsBridgePeer };
+
+    fn value_of(text: &'a str) -> Option<SocketAddrV4> {
+        let (left, right) = sides_of(text)?;
+        if left != "*" {
+            return None;
+        }
+        Socket::value_of(right)
     }
-    socket_of(right)
 }

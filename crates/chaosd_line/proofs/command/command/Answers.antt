@@ -1,10 +1,10 @@
 -- The subcommands of the table, behind the bare command.
-use Rattle.std.proofs.Common.{◌∙◌, ap}
+use Rattle.std.proofs.Common.{◌∙◌}
 use Rattle.std.proofs.lemmas.Result.{IfOk-weaker}
-use Rattle.chaosd_line.specs.Plan.{with_subs}
+use Rattle.chaosd_line.specs.CommandLine.{with_subs}
 use Rattle.chaosd_line.proofs.command.command.Goals as goal
 
 pub returns : goal.returns
 returns c = IfOk-weaker c.with_subs.result _ _
-    (λ full made. made ∙ ap (λ app. with_subs app c.sub_names.result.now) c.in_ok-top.ensures ∙ c.sub_names.ensures)
+    (λ full made. made ∙ (λ i. with_subs (c.in_ok-top.ensures i) (c.sub_names.ensures i)))
     c.with_subs.ensures

@@ -1,6 +1,6 @@
 use Rattle.std.proofs.Common.{◌≡◌, take}
 use Rattle.clap.specs.Words.{app_of}
-use Rattle.chaosd_line.specs.Plan.{with_subs}
+use Rattle.chaosd_line.specs.CommandLine.{with_subs}
 use Rattle.chaosd_line.proofs.command.with_subs.Given as goal
 
 -- the subcommands so far are those that were added

@@ -1,7 +1,8 @@
 use Rattle.std.proofs.Common.{◌≡◌, false, map, take}
 use Rattle.clap.specs.Words.{app_of}
 use Rattle.clap.specs.declared.builder.command.Command.TheViews.{out-Command}
-use Rattle.chaosd_line.specs.Plan.{rule_of_word, with_rules}
+use Rattle.chaosd_line.specs.CommandLine.{with_rules}
+use Rattle.chaosd_line.specs.Plan.{rule_of_word}
 use Rattle.chaosd_line.proofs.command.with_words.Given as goal
 
 -- the words so far are those that were added

@@ -10,6 +10,6 @@ loop-text-preserved c =
 
 pub returns-in_err-add_peer : goal.returns-in_err-add_peer
 returns-in_err-add_peer c =
-    let p = err_from_is_err_and c.from_residual.result c.from_residual.ensures.1 in
-    rw p.1 (λ peers h. peers_stuck (λ t. t.now) c.args.texts.now c.loop-text.text-index _ _ peers c.loop-text-test.true
+    rw (err_from_is_err_and c.from_residual.result c.from_residual.ensures.1).1
+    (λ peers h. peers_stuck (λ t. t.now) c.args.texts.now c.loop-text.text-index _ _ peers c.loop-text-test.true
     c.loop-text.invariant c.in_err-add_peer.ensures.err h)

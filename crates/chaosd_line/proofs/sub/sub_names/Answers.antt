@@ -1,4 +1,4 @@
--- The subcommands of these names, one after another, computed.
+-- The names of the table, computed.
 use Rattle.std.proofs.Common.{refl}
 use Rattle.chaosd_line.proofs.sub.sub_names.Goals as goal
 

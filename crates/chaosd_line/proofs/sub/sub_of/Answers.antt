@@ -1,6 +1,6 @@
 -- Each subcommand of the table, computed.
 use Rattle.std.proofs.Common.{ap, sym}
-use Rattle.chaosd_line.specs.Plan.{app_named}
+use Rattle.chaosd_line.specs.CommandLine.{app_named}
 use Rattle.chaosd_line.proofs.sub.sub_of.Goals as goal
 
 pub returns-in-Show : goal.returns-in-Show
