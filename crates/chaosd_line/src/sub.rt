@@ -83,7 +83,24 @@ const QUIET: Argument<'static> = Argument("quiet", Arity::Flag, help::QUIET);
 
 const VERBOSE: Argument<'static> = Argument("verbose", Arity::Flag, help::VERBOSE);
 
+const OUTPUT: Argument<'static> = Argument("output", Arity::Optional("LOCAL"), help::OUTPUT);
+
+const RENAMING: Argument<'static> = Argument("rename", Arity::Flag, help::RENAMING);
+
+const AS: Argument<'static> = Argument("as", Arity::Optional("PATH"), help::AS);
+
 const SERVER: Argument<'static> = Argument("SERVER", Arity::Needed, help::SERVER);
+
+/// The words of a subcommand that calls a server: the options of all, its own options, the
+/// addresses, and its own words behind them.
+macro_rules! call_words {
+    ([$($option:expr),*], $($word:expr),*) => {
+        &[
+            CARRIAGE, CHUDP, BRIDGE, CONTACT, LOGIN, WINDOW, TIMEOUT, ANY_SOURCE, $($option,)*
+            ADDRESS, UDP, SERVER, $($word),*
+        ]
+    };
+}
 
 static SHOW: Sub = Sub {
     name: "show",
@@ -170,24 +187,10 @@ static GET: Sub = Sub {
     shown: "chaosd get",
     about: help::GET,
     example: Some(help::GET_EXAMPLE),
-    words: &[
-        CARRIAGE,
-        CHUDP,
-        BRIDGE,
-        CONTACT,
-        LOGIN,
-        WINDOW,
-        TIMEOUT,
-        ANY_SOURCE,
-        TEXT,
-        QUIET,
-        VERBOSE,
-        Argument("output", Arity::Optional("LOCAL"), help::OUTPUT),
-        ADDRESS,
-        UDP,
-        SERVER,
-        Argument("PATH", Arity::Several, help::PATH),
-    ],
+    words: call_words!(
+        [TEXT, QUIET, VERBOSE, OUTPUT],
+        Argument("PATH", Arity::Several, help::PATH)
+    ),
 };
 
 static PUT: Sub = Sub {
@@ -195,25 +198,10 @@ static PUT: Sub = Sub {
     shown: "chaosd put",
     about: help::PUT,
     example: Some(help::PUT_EXAMPLE),
-    words: &[
-        CARRIAGE,
-        CHUDP,
-        BRIDGE,
-        CONTACT,
-        LOGIN,
-        WINDOW,
-        TIMEOUT,
-        ANY_SOURCE,
-        TEXT,
-        QUIET,
-        VERBOSE,
-        Argument("rename", Arity::Flag, help::RENAMING),
-        Argument("as", Arity::Optional("PATH"), help::AS),
-        ADDRESS,
-        UDP,
-        SERVER,
-        Argument("LOCAL", Arity::Several, help::LOCAL),
-    ],
+    words: call_words!(
+        [TEXT, QUIET, VERBOSE, RENAMING, AS],
+        Argument("LOCAL", Arity::Several, help::LOCAL)
+    ),
 };
 
 static DELETE: Sub = Sub {
@@ -221,20 +209,7 @@ static DELETE: Sub = Sub {
     shown: "chaosd delete",
     about: help::DELETE,
     example: Some(help::DELETE_EXAMPLE),
-    words: &[
-        CARRIAGE,
-        CHUDP,
-        BRIDGE,
-        CONTACT,
-        LOGIN,
-        WINDOW,
-        TIMEOUT,
-        ANY_SOURCE,
-        ADDRESS,
-        UDP,
-        SERVER,
-        Argument("PATH", Arity::Several, help::PATH),
-    ],
+    words: call_words!([], Argument("PATH", Arity::Several, help::PATH)),
 };
 
 static RENAME: Sub = Sub {
@@ -242,21 +217,11 @@ static RENAME: Sub = Sub {
     shown: "chaosd rename",
     about: help::RENAME,
     example: Some(help::RENAME_EXAMPLE),
-    words: &[
-        CARRIAGE,
-        CHUDP,
-        BRIDGE,
-        CONTACT,
-        LOGIN,
-        WINDOW,
-        TIMEOUT,
-        ANY_SOURCE,
-        ADDRESS,
-        UDP,
-        SERVER,
+    words: call_words!(
+        [],
         Argument("OLD", Arity::Needed, help::OLD),
-        Argument("NEW", Arity::Needed, help::NEW),
-    ],
+        Argument("NEW", Arity::Needed, help::NEW)
+    ),
 };
 
 /// The names of the subcommands, in the order of the help.

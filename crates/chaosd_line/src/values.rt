@@ -1,6 +1,6 @@
 //! The forms of words, and the values that they stand for.
 ghost use Rattle.std.specs.Prelude.{◌≡◌, ◌↔◌, IsTrue, MatchOption};
-ghost use Rattle.chaosd_line.specs.Values.{Finds, HasSides, IsAddress, IsCarriage, IsContact, IsFlag, IsLog, IsLogin, IsPadded, IsPathOf, IsPeer, IsRetransmit, IsSeconds, IsSocket, IsTurns, IsBridgePeer, IsWindow, IsWord, left_of, port_of, right_of};
+ghost use Rattle.chaosd_line.specs.Values.{Finds, HasSides, IsAddress, IsCarriage, IsContact, IsDecimal, IsFlag, IsLog, IsLogin, IsPadded, IsPathOf, IsPeer, IsRetransmit, IsSeconds, IsSocket, IsTurns, IsBridgePeer, IsWindow, IsWord, left_of, port_of, right_of};
 
 use crate::bad_value::PATH_FORM;
 use crate::form::Form;
@@ -14,10 +14,10 @@ use std::net::SocketAddrV4;
 const ADDRESS_DIGITS: usize = 6;
 
 /// The most turns that may be asked for.
-const MAX_TURNS: u32 = 1_000_000_000;
+const MAX_TURNS: u64 = 1_000_000_000;
 
 /// The most packets of a window.
-const MAX_WINDOW: u16 = 64;
+const MAX_WINDOW: u64 = 64;
 
 /// The fewest milliseconds after which packets may be retransmitted.
 const MIN_RETRANSMIT: u64 = 20;
@@ -26,7 +26,7 @@ const MIN_RETRANSMIT: u64 = 20;
 const MAX_RETRANSMIT: u64 = 60_000;
 
 /// The most seconds of a timeout.
-const MAX_SECONDS: u16 = 3_600;
+const MAX_SECONDS: u64 = 3_600;
 
 /// A Chaosnet address: one to six octal digits.
 pub(crate) struct Address;
@@ -58,6 +58,20 @@ fn is_padded(text: &str) -> bool
     bytes.len() > 1 && bytes[0] == b'0'
 }
 
+/// The number that decimal digits without leading zeros write.
+fn decimal_of(text: &str) -> Option<u64>
+    ensures { Finds (IsDecimal 0 u64.MAX text.now) result }
+{
+    let bytes = text.as_bytes();
+    if bytes.is_empty() || bytes[0] == b'+' || is_padded(text) {
+        return None;
+    }
+    match text.parse::<u64>() {
+        Ok(number) => Some(number),
+        Err(_) => None,
+    }
+}
+
 /// A number of turns, in decimal digits without leading zeros.
 pub(crate) struct Turns;
 
@@ -69,12 +83,8 @@ impl<'a> Form<'a> for Turns {
     ghost means = { IsTurns };
 
     fn value_of(text: &'a str) -> Option<u32> {
-        let bytes = text.as_bytes();
-        if bytes.is_empty() || bytes[0] == b'+' || is_padded(text) {
-            return None;
-        }
-        match text.parse::<u32>() {
-            Ok(turns) if turns <= MAX_TURNS => Some(turns),
+        match decimal_of(text) {
+            Some(turns) if turns <= MAX_TURNS => Some(turns as u32),
             _ => None,
         }
     }
@@ -91,12 +101,8 @@ impl<'a> Form<'a> for Window {
     ghost means = { IsWindow };
 
     fn value_of(text: &'a str) -> Option<u16> {
-        let bytes = text.as_bytes();
-        if bytes.is_empty() || bytes[0] == b'+' || is_padded(text) {
-            return None;
-        }
-        match text.parse::<u16>() {
-            Ok(window) if window >= 1 && window <= MAX_WINDOW => Some(window),
+        match decimal_of(text) {
+            Some(window) if window >= 1 && window <= MAX_WINDOW => Some(window as u16),
             _ => None,
         }
     }
@@ -114,12 +120,8 @@ impl<'a> Form<'a> for Retransmit {
     ghost means = { IsRetransmit };
 
     fn value_of(text: &'a str) -> Option<u64> {
-        let bytes = text.as_bytes();
-        if bytes.is_empty() || bytes[0] == b'+' || is_padded(text) {
-            return None;
-        }
-        match text.parse::<u64>() {
-            Ok(millis) if millis >= MIN_RETRANSMIT && millis <= MAX_RETRANSMIT => Some(millis),
+        match decimal_of(text) {
+            Some(millis) if millis >= MIN_RETRANSMIT && millis <= MAX_RETRANSMIT => Some(millis),
             _ => None,
         }
     }
@@ -137,12 +139,8 @@ impl<'a> Form<'a> for Seconds {
     ghost means = { IsSeconds };
 
     fn value_of(text: &'a str) -> Option<u16> {
-        let bytes = text.as_bytes();
-        if bytes.is_empty() || bytes[0] == b'+' || is_padded(text) {
-            return None;
-        }
-        match text.parse::<u16>() {
-            Ok(seconds) if seconds >= 1 && seconds <= MAX_SECONDS => Some(seconds),
+        match decimal_of(text) {
+            Some(seconds) if seconds >= 1 && seconds <= MAX_SECONDS => Some(seconds as u16),
             _ => None,
         }
     }
