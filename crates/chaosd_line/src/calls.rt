@@ -10,8 +10,8 @@ use crate::form::{optional, optional_value, value, words_at};
 use crate::framings::framing_of;
 use crate::line::{Calling, Delete, Rename};
 use crate::line_problem::LineProblem;
-use crate::names::is_path;
 use crate::values::{Address, Contact, Flag, Host, Login, Path, Seconds, Socket, Window};
+use chaos_file::is_path;
 use clap::ArgMatches;
 use std::alloc::{AllocError, Global};
 

@@ -10,9 +10,9 @@ use crate::files::are_paths;
 use crate::form::{optional, value, words_at};
 use crate::line::{Copying, Get, Put};
 use crate::line_problem::LineProblem;
-use crate::names::is_path;
 use crate::paths::{are_locals, bad_locals};
 use crate::values::Flag;
+use chaos_file::is_path;
 use clap::ArgMatches;
 use std::alloc::Global;
 

@@ -7,12 +7,7 @@ ghost use Rattle.chaosd_line.specs.Files.{are_apart, are_locals, first_byte, goe
 use crate::bad_value::{BadValue, Clash, LOCALS_FORM};
 use crate::files::last_name;
 use crate::line_problem::LineProblem;
-use crate::names::{is_path, is_path_byte};
-use arrayvec::ArrayVec;
-use chaos_file::MAX_PATH;
-
-/// A path of FILE.
-pub type FilePath = ArrayVec<u8, MAX_PATH>;
+use chaos_file::{FilePath, MAX_PATH, is_path, is_path_byte};
 
 /// The word that is standard input.
 const STREAM: &str = "-";

@@ -5,7 +5,8 @@ ghost use Rattle.chaosd_line.specs.Values.{Finds, HasSides, IsAddress, IsCarriag
 use crate::bad_value::PATH_FORM;
 use crate::form::Form;
 use crate::line::LogLevel;
-use crate::names::{is_contact, is_path, is_user};
+use crate::names::is_contact;
+use chaos_file::{is_path, is_user};
 use chaos_link::{Carriage, Peer};
 use chaos_window::MAX_WINDOW;
 use std::net::SocketAddrV4;
@@ -15,9 +16,6 @@ const ADDRESS_DIGITS: usize = 6;
 
 /// The most turns that may be asked for.
 const MAX_TURNS: u64 = 1_000_000_000;
-
-/// The most packets of a window.
-const MAX_WINDOW: u64 = 64;
 
 /// The fewest milliseconds after which packets may be retransmitted.
 const MIN_RETRANSMIT: u64 = 20;
@@ -102,7 +100,7 @@ impl<'a> Form<'a> for Window {
 
     fn value_of(text: &'a str) -> Option<u16> {
         match decimal_of(text) {
-            Some(window) if window >= 1 && window <= MAX_WINDOW => Some(window as u16),
+            Some(window) if window >= 1 && window <= u64::from(MAX_WINDOW) => Some(window as u16),
             _ => None,
         }
     }
