@@ -28,8 +28,10 @@ impl Net {
         side: Side,
         contact: &[u8],
     ) -> Result<Result<(), ListenFault>, NetFault>
+        // The contact is listened to by that event of the definition, with the host's own answer.
         ensures happens { OnOk result (Happens self.old (At side (Listens contact.now)) self.new) }
-        ensures answer { IfOk result (λ told. told ≡ listen_answer (listen_fault (at self.old side).host.listeners contact.now)) }
+        ensures answer { IfOk result (λ told. told
+            ≡ listen_answer (listen_fault (at self.old side).host.listeners contact.now)) }
         ensures same { OnErr result (self.new ≡ self.old) }
         ensures why { IfErr result (IsWant self.old.events) }
     {
@@ -49,8 +51,11 @@ impl Net {
         start: PktNum,
         now: u64,
     ) -> Result<Result<ConnId, ConnectFault>, NetFault>
-        ensures happens { OnOk result (Happens self.old (At side (Connects peer contact.now start now)) self.new) }
-        ensures answer { IfOk result (λ told. told ≡ (host_connect (at self.old side).host peer contact.now start now).answer) }
+        // The contact is asked for by that event of the definition, with the host's own answer.
+        ensures happens { OnOk result
+            (Happens self.old (At side (Connects peer contact.now start now)) self.new) }
+        ensures answer { IfOk result (λ told. told
+            ≡ (host_connect (at self.old side).host peer contact.now start now).answer) }
         ensures same { OnErr result (self.new ≡ self.old) }
         ensures why { IfErr result (IsWant self.old.events) }
     {
@@ -72,8 +77,11 @@ impl Net {
         start: PktNum,
         now: u64,
     ) -> Result<Result<(), CallFault>, NetFault>
-        ensures happens { OnOk result (Happens self.old (At side (Calls id (Accept start now))) self.new) }
-        ensures answer { IfOk result (λ told. reply_of Did told ≡ (host_call (at self.old side).host id (Accept start now)).answer) }
+        // The request is accepted by that event of the definition, with the host's own answer.
+        ensures happens { OnOk result
+            (Happens self.old (At side (Calls id (Accept start now))) self.new) }
+        ensures answer { IfOk result (λ told. reply_of Did told
+            ≡ (host_call (at self.old side).host id (Accept start now)).answer) }
         ensures same { OnErr result (self.new ≡ self.old) }
         ensures why { IfErr result (IsWant self.old.events) }
     {
@@ -93,9 +101,12 @@ impl Net {
         bytes: &[u8],
         now: u64,
     ) -> Result<Result<PktNum, CallFault>, NetFault>
-        ensures happens { OnOk result (Happens self.old (At side (Calls id (Write op bytes.now now))) self.new) }
-        ensures answer { IfOk result (λ told. reply_of Wrote told ≡ (host_call (at self.old side).host id (Write op bytes.now now)).answer) }
-        // what it takes joins what the connection has written
+        // The item is written by that event of the definition, with the host's own answer.
+        ensures happens { OnOk result
+            (Happens self.old (At side (Calls id (Write op bytes.now now))) self.new) }
+        ensures answer { IfOk result (λ told. reply_of Wrote told
+            ≡ (host_call (at self.old side).host id (Write op bytes.now now)).answer) }
+        // What the write takes joins what the connection has written.
         ensures told { IfOk result (λ told. WriteIsTold self.old side id op bytes.now now told) }
         ensures same { OnErr result (self.new ≡ self.old) }
         ensures why { IfErr result (IsWant self.old.events) }
@@ -114,8 +125,11 @@ impl Net {
         id: ConnId,
         bytes: &[u8],
     ) -> Result<Result<(), CallFault>, NetFault>
-        ensures happens { OnOk result (Happens self.old (At side (Calls id (Unc bytes.now))) self.new) }
-        ensures answer { IfOk result (λ told. reply_of Did told ≡ (host_call (at self.old side).host id (Unc bytes.now)).answer) }
+        // The data are sent by that event of the definition, with the host's own answer.
+        ensures happens { OnOk result
+            (Happens self.old (At side (Calls id (Unc bytes.now))) self.new) }
+        ensures answer { IfOk result (λ told. reply_of Did told
+            ≡ (host_call (at self.old side).host id (Unc bytes.now)).answer) }
         ensures same { OnErr result (self.new ≡ self.old) }
         ensures why { IfErr result (IsWant self.old.events) }
     {
@@ -133,8 +147,11 @@ impl Net {
         id: ConnId,
         window: u16,
     ) -> Result<Result<(), CallFault>, NetFault>
-        ensures happens { OnOk result (Happens self.old (At side (Calls id (Announce window))) self.new) }
-        ensures answer { IfOk result (λ told. reply_of Did told ≡ (host_call (at self.old side).host id (Announce window)).answer) }
+        // The window is announced by that event of the definition, with the host's own answer.
+        ensures happens { OnOk result
+            (Happens self.old (At side (Calls id (Announce window))) self.new) }
+        ensures answer { IfOk result (λ told. reply_of Did told
+            ≡ (host_call (at self.old side).host id (Announce window)).answer) }
         ensures same { OnErr result (self.new ≡ self.old) }
         ensures why { IfErr result (IsWant self.old.events) }
     {
@@ -147,9 +164,11 @@ impl Net {
 
     /// A user reads the next item, and gets it.
     pub fn read(&mut self, side: Side, id: ConnId) -> Result<Result<ReadEnd, CallFault>, NetFault>
+        // The item is read by that event of the definition, with the host's own answer.
         ensures happens { OnOk result (Happens self.old (At side (Calls id Read)) self.new) }
-        ensures answer { IfOk result (λ told. plain_reply_of Gave told ≡ (host_call (at self.old side).host id Read).answer) }
-        // what it hands out joins what the connection has read
+        ensures answer { IfOk result (λ told. plain_reply_of Gave told
+            ≡ (host_call (at self.old side).host id Read).answer) }
+        // What the read hands out joins what the connection has read.
         ensures told { IfOk result (λ told. ReadIsTold self.old side id told) }
         ensures same { OnErr result (self.new ≡ self.old) }
         ensures why { IfErr result (IsWant self.old.events) }
@@ -161,15 +180,18 @@ impl Net {
         Ok(told)
     }
 
-    /// A user reads the next item, which [`chaos_host::Host::front`] lends before, and gets nothing.
+    /// A user reads the next item, which [`chaos_host::Host::front`] lends before, and gets
+    /// nothing.
     pub fn read_done(
         &mut self,
         side: Side,
         id: ConnId,
     ) -> Result<Result<ReadDone, CallFault>, NetFault>
+        // The item is passed over by that event of the definition, with the host's own answer.
         ensures happens { OnOk result (Happens self.old (At side (Calls id FinishRead)) self.new) }
-        ensures answer { IfOk result (λ told. plain_reply_of Finished told ≡ (host_call (at self.old side).host id FinishRead).answer) }
-        // what was in front joins what the connection has read
+        ensures answer { IfOk result (λ told. plain_reply_of Finished told
+            ≡ (host_call (at self.old side).host id FinishRead).answer) }
+        // What was in front joins what the connection has read.
         ensures told { IfOk result (λ told. FrontIsRead self.old side id told) }
         ensures same { OnErr result (self.new ≡ self.old) }
         ensures why { IfErr result (IsWant self.old.events) }
@@ -188,8 +210,11 @@ impl Net {
         id: ConnId,
         bytes: &[u8],
     ) -> Result<Result<(), CallFault>, NetFault>
-        ensures happens { OnOk result (Happens self.old (At side (Ends id (Answer bytes.now))) self.new) }
-        ensures answer { IfOk result (λ told. reply_of Did told ≡ (host_end (at self.old side).host id (Answer bytes.now)).answer) }
+        // The request is answered by that event of the definition, with the host's own answer.
+        ensures happens { OnOk result
+            (Happens self.old (At side (Ends id (Answer bytes.now))) self.new) }
+        ensures answer { IfOk result (λ told. reply_of Did told
+            ≡ (host_end (at self.old side).host id (Answer bytes.now)).answer) }
         ensures same { OnErr result (self.new ≡ self.old) }
         ensures why { IfErr result (IsWant self.old.events) }
     {
@@ -208,8 +233,11 @@ impl Net {
         id: ConnId,
         text: &[u8],
     ) -> Result<Result<(), CallFault>, NetFault>
-        ensures happens { OnOk result (Happens self.old (At side (Ends id (Reject text.now))) self.new) }
-        ensures answer { IfOk result (λ told. reply_of Did told ≡ (host_end (at self.old side).host id (Reject text.now)).answer) }
+        // The request is refused by that event of the definition, with the host's own answer.
+        ensures happens { OnOk result
+            (Happens self.old (At side (Ends id (Reject text.now))) self.new) }
+        ensures answer { IfOk result (λ told. reply_of Did told
+            ≡ (host_end (at self.old side).host id (Reject text.now)).answer) }
         ensures same { OnErr result (self.new ≡ self.old) }
         ensures why { IfErr result (IsWant self.old.events) }
     {
@@ -228,8 +256,11 @@ impl Net {
         id: ConnId,
         text: &[u8],
     ) -> Result<Result<(), CallFault>, NetFault>
-        ensures happens { OnOk result (Happens self.old (At side (Ends id (Close text.now))) self.new) }
-        ensures answer { IfOk result (λ told. reply_of Did told ≡ (host_end (at self.old side).host id (Close text.now)).answer) }
+        // The connection is given up by that event of the definition, with the host's own answer.
+        ensures happens { OnOk result
+            (Happens self.old (At side (Ends id (Close text.now))) self.new) }
+        ensures answer { IfOk result (λ told. reply_of Did told
+            ≡ (host_end (at self.old side).host id (Close text.now)).answer) }
         ensures same { OnErr result (self.new ≡ self.old) }
         ensures why { IfErr result (IsWant self.old.events) }
     {
@@ -243,8 +274,10 @@ impl Net {
 
     /// The slot of an ended connection is freed.
     pub fn release(&mut self, side: Side, id: ConnId) -> Result<Result<(), CallFault>, NetFault>
+        // The slot is freed by that event of the definition, with the host's own answer.
         ensures happens { OnOk result (Happens self.old (At side (Releases id)) self.new) }
-        ensures answer { IfOk result (λ told. told ≡ (host_release (at self.old side).host id).answer) }
+        ensures answer { IfOk result (λ told. told
+            ≡ (host_release (at self.old side).host id).answer) }
         ensures same { OnErr result (self.new ≡ self.old) }
         ensures why { IfErr result (IsWant self.old.events) }
     {
@@ -258,8 +291,10 @@ impl Net {
 
     /// What is due in a slot is done.
     pub fn tick(&mut self, side: Side, slot: usize, now: u64) -> Result<Ticked, NetFault>
+        // The slot is ticked by that event of the definition, with the host's own answer.
         ensures happens { OnOk result (Happens self.old (At side (Ticks slot now)) self.new) }
-        ensures answer { IfOk result (λ told. told ≡ (host_tick (at self.old side).host slot now).answer) }
+        ensures answer { IfOk result (λ told. told
+            ≡ (host_tick (at self.old side).host slot now).answer) }
         ensures same { OnErr result (self.new ≡ self.old) }
         ensures why { IfErr result (IsWant self.old.events) }
     {

@@ -23,24 +23,37 @@ use chaos_packet::Kind;
 const NEAR_SPAN: u64 = 256;
 
 impl Net {
-    /// The packet with this number that the other side sent comes to this one.
+    /// Lets the packet with this number that the other side sent come to this side.
     ///
-    /// `NoSuchPacket` where none was sent. `Stale` where it carries an acknowledgement, and 32,640 events or more happened since it
-    /// was sent; or 256 connections or more were in the slot that it names since its sender's peer was there, or in its sender's slot since the peer
-    /// of the connection that it comes to was there. Nothing changes then.
+    /// `NoSuchPacket` where none was sent. A packet that carries an acknowledgement is `Stale`
+    /// where 32,640 events or more happened since the packet was sent. It is `Stale` too where 256
+    /// connections or more were in the slot that it names since its sender's peer was there, or in
+    /// its sender's slot since the peer of the connection that it comes to was there. Nothing
+    /// changes then.
     pub fn deliver(
         &mut self,
         side: Side,
         number: usize,
         now: u64,
     ) -> Result<HostDelivered, NetFault>
+        // The packet comes by that event of the definition, and the host does with the packet what
+        // a host does.
         ensures happens { OnOk result (Happens self.old (Arrives side number now) self.new) }
-        ensures answer { IfOk result (λ told. Delivers (at self.old side).host (slice_get (at self.old (other side)).sent number) now told) }
-        // it comes exactly where it may, unless memory or numbers want
-        ensures may { OnOk result (arrival_fault self.old.events (at self.old side).seats (slice_get (at self.old (other side)).sent number) ≡ None) }
-        ensures may_not { (why : NetFault) → arrival_fault self.old.events (at self.old side).seats (slice_get (at self.old (other side)).sent number) ≡ Some why → result ≡ Err why }
+        ensures answer { IfOk result (λ told. Delivers (at self.old side).host
+            (slice_get (at self.old (other side)).sent number) now told) }
+        // The packet comes only where its number was sent. A packet that carries an acknowledgement
+        // comes only while it is fresh, and no index that it names was used again. Otherwise
+        // `NoSuchPacket` or `Stale` is the answer, whatever else is wrong.
+        ensures may { OnOk result (arrival_fault self.old.events (at self.old side).seats
+            (slice_get (at self.old (other side)).sent number) ≡ None) }
+        ensures may_not { (why : NetFault) → arrival_fault self.old.events (at self.old side).seats
+            (slice_get (at self.old (other side)).sent number) ≡ Some why → result ≡ Err why }
+        // Where the packet doesn't come nothing changes. The reason is one of those two, no memory,
+        // or a full count of events.
         ensures same { OnErr result (self.new ≡ self.old) }
-        ensures why { IfErr result (λ why. (arrival_fault self.old.events (at self.old side).seats (slice_get (at self.old (other side)).sent number) ≡ Some why) ⊎ IsWant self.old.events why) }
+        ensures why { IfErr result (λ why. (arrival_fault self.old.events (at self.old side).seats
+            (slice_get (at self.old (other side)).sent number) ≡ Some why)
+            ⊎ IsWant self.old.events why) }
     {
         let kept = self.arrival(side, number)?;
         let (packet, by) = (kept.packet.packet(), kept.by);
@@ -57,9 +70,12 @@ impl Net {
 
     /// The packet with this number that the other side sent, where it may come to this one.
     fn arrival(&self, side: Side, number: usize) -> Result<&KeptSent, NetFault>
-        ensures kept { IfOk result (λ kept. slice_get (at self.now (other side)).sent number ≡ Some kept.now) }
-        ensures may { OnOk result (arrival_fault self.now.events (at self.now side).seats (slice_get (at self.now (other side)).sent number) ≡ None) }
-        ensures fault { IfErr result (λ why. arrival_fault self.now.events (at self.now side).seats (slice_get (at self.now (other side)).sent number) ≡ Some why) }
+        ensures kept { IfOk result (λ kept. slice_get (at self.now (other side)).sent number
+            ≡ Some kept.now) }
+        ensures may { OnOk result (arrival_fault self.now.events (at self.now side).seats
+            (slice_get (at self.now (other side)).sent number) ≡ None) }
+        ensures fault { IfErr result (λ why. arrival_fault self.now.events (at self.now side).seats
+            (slice_get (at self.now (other side)).sent number) ≡ Some why) }
     {
         let Some(kept) = self.stations.at(side.other()).sent.get(number) else {
             return Err(NetFault::NoSuchPacket);

@@ -11,12 +11,14 @@ use chaos_packet::{Item, Outbox, Packet};
 use chaos_window::MAX_WINDOW;
 use std::alloc::{AllocError, Global};
 
-/// The outbox of whichever host does something, room for the data of what it sends, and the count of events.
+/// The outbox of whichever host does something, room for the data of what it sends, and the count
+/// of events.
 #[derive(Drop)]
 pub(crate) struct Desk {
     /// Empty between two events.
     pub(crate) out: Outbox,
-    /// Room for the data of a packet each, set aside before an event: how much data it puts out isn't known then.
+    /// Room for the data of a packet each, set aside before an event: how much data it puts out
+    /// isn't known then.
     pub(crate) spares: Vec<Box<Item, Global>>,
     pub(crate) alloc: Global,
     /// How many events there were.
@@ -61,11 +63,13 @@ impl Desk {
         set_aside(self.alloc, &mut self.spares, MAX_WINDOW as usize)
     }
 
-    /// Takes what was put out into what was sent, by the connection of a seat or by the host itself.
+    /// Takes what was put out into what was sent, by the connection of a seat or by the host
+    /// itself.
     pub(crate) fn post(&mut self, sent: &mut Vec<KeptSent>, seat: Option<Seat>)
         requires few { length self.old.out.packets ≤ MAX_WINDOW }
         requires space { HasSpace sent.old self.old }
-        ensures sent { sent.new.items ≡ sent.old.items ++ map (kept_by seat self.old.events) self.old.out.packets }
+        ensures sent { sent.new.items ≡ sent.old.items
+            ++ map (kept_by seat self.old.events) self.old.out.packets }
         ensures out { self.new.out ≡ record self.old.out { packets = [] } }
         ensures events { self.new.events ≡ self.old.events }
     {

@@ -18,7 +18,8 @@ impl KeptStation {
         requires few { length desk.old.out.packets ≤ MAX_WINDOW }
         requires space { HasSpace self.old.sent desk.old }
         requires turns { AreBelow desk.old.events self.old.seats.items }
-        ensures { Settles self.old self.new desk.old desk.new (Some (place_of id)) (if named && is_none (id_at self.old.host (place_of id)) then Frees else Stays) }
+        ensures { Settles self.old self.new desk.old desk.new (Some (place_of id))
+            (if named && is_none (id_at self.old.host (place_of id)) then Frees else Stays) }
     {
         let place = place_of(id);
         let mark = if named && self.host.id_of(place).is_none() {

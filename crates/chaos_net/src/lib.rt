@@ -1,4 +1,5 @@
-//! Two hosts on one network, and what is true of all their connections: the laws, and [`Net`], such a network as it runs.
+//! Two hosts on one network, and what is true of all their connections: the laws, and [`Net`], such
+//! a network as it runs.
 #![tactic(auto)]
 
 mod calls;

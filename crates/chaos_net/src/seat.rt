@@ -9,7 +9,8 @@ use crate::mark::Mark;
 pub(crate) struct Seat {
     /// How many connections it had before the present one, or the next where it is free.
     pub(crate) turn: u64,
-    /// How many connections the slot of the present one's peer had before that, where the peer is known.
+    /// How many connections the slot of the present one's peer had before that, where the peer is
+    /// known.
     pub(crate) peer: Option<u64>,
 }
 

@@ -21,8 +21,8 @@ pub(crate) struct KeptStation {
 }
 
 impl KeptStation {
-    /// Notes what an event made of a slot, and takes what the host put out into what was sent: by the connection in that slot, or by
-    /// the host itself.
+    /// Notes what an event made of a slot, and takes what the host put out into what was sent: by
+    /// the connection in that slot, or by the host itself.
     pub(crate) fn settle(&mut self, desk: &mut Desk, place: Option<usize>, mark: Mark)
         requires few { length desk.old.out.packets ≤ MAX_WINDOW }
         requires space { HasSpace self.old.sent desk.old }
