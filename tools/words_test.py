@@ -63,17 +63,11 @@ PAGES = [
     ], "200 a.md < b.md"),
     ("a.md", WORDS, "255 a.md < b.md", ["a.md has 155 words, so its number is 200 and not 255: tools/words --set"], "200 a.md"),
     ("a.md", WORDS, "", [f"a.md has no line in {NUMBERS}: tools/words --set"], "200 a.md"),
-    ("b.md", "", "50 b.md lacks reader\n200 a.md", [
-        f"a.md isn't there, and has a line in {NUMBERS}: tools/words --set",
-    ], "50 b.md lacks reader"),
+    ("b.md", READER, "50 b.md\n200 a.md", [f"a.md isn't there, and has a line in {NUMBERS}: tools/words --set"], "50 b.md"),
     ("a.md", "# A\n\nIt is so.", "50 a.md", [f"a.md has {NO_READER}"], None),
-    ("a.md", "# A\n\nIt is so.", "50 a.md lacks reader", [], None),
     ("a.md", READER + TWENTY, "50 a.md", [], None),
     ("a.md", READER + LONG, "50 a.md", [f"a.md has {LONG_ONE}"], None),
-    ("a.md", READER + LONG, "50 a.md lacks longest", [], None),
-    ("a.md", f"{READER}{LONG} {LONG}", "100 a.md lacks longest", ["a.md has 25.0 words a sentence, and not at most 20"], None),
-    ("a.md", READER + TWENTY, "50 a.md lacks reader, longest", ["a.md no longer lacks reader, longest: tools/words --set"], "50 a.md"),
-    ("crates/x/CALLING.md", READER + TWENTY, "50 crates/x/CALLING.md later", [], None),
+    ("a.md", f"{READER}{LONG} {LONG}", "100 a.md", ["a.md has 25.0 words a sentence, and not at most 20", f"a.md has {LONG_ONE}"], None),
 ]
 
 # lines, the lines before, and what is wrong with the change
@@ -94,19 +88,10 @@ CHANGES = [
     ("150 a.md < bridges are new", "150 a.md < bridges are new", []),
     ("100 b.md\n50 a.md", "100 b.md", [GREW]),
     ("50 a.md < b.md\n50 b.md", "100 b.md", []),
-    ("50 a.md lacks reader", "50 a.md lacks reader, longest", []),
-    ("50 a.md lacks reader, longest", "50 a.md lacks reader", ["a.md may not begin to lack longest: mend the page"]),
-    ("50 a.md lacks average", "50 a.md later", []),
-    ("50 a.md later", "50 a.md lacks average", ["a.md may not begin to lack reader, longest: mend the page"]),
-    ("50 a.md later < b.md", "50 b.md later", []),
-    ("50 a.md lacks reader < a page about bridges", "50 b.md later", ["a.md may not begin to lack reader: mend the page"]),
 ]
 
 # lines that can't be read
-BAD = [
-    "a.md 50", "50", "50 a.md lacks", "50 a.md lacks words", "50 a.md lacks reader longest", "50 a.md later, reader", "50 a.md <",
-    "50 a.md\n50 a.md",
-]
+BAD = ["a.md 50", "50", "50 a.md b.md", "50 a.md later", "50 a.md <", "50 a.md\n50 a.md"]
 
 
 def check_text(checks):
@@ -121,7 +106,7 @@ def check_pages(checks):
         pages = [Page(name, text)]
         seen = [*problems(pages, read(lines))]
         checks.same(f"{name} by {lines!r} is {'refused' if wanted else 'passed'}", seen, wanted)
-        seen = lines_of(pages, {**read(lines), **read("50 other.md")})  # with another, so that these lines are no first ones
+        seen = lines_of(pages, read(lines))
         checks.same("and --set writes its line", seen, read(lines if is_set is None else is_set))
 
 
@@ -140,11 +125,8 @@ def check_lines(checks):
         except BadLine as fault:
             seen = str(fault).partition(" ")[0]
         checks.same(f"{text!r} can't be read", seen, f"{NUMBERS}:{len(text.splitlines())}:")
-    lines = read("1000 a.md lacks reader, longest < b.md\n50 b.md later\n50 crates/x/CALLING.md < it is new")
+    lines = read("1000 a.md < b.md\n50 b.md\n50 crates/x/CALLING.md < it is new")
     checks.same("lines are written as they are read", read(written(lines)), lines)
-    seen = lines_of([Page("a.md", LONG), Page("crates/x/CALLING.md", READER)], {})
-    wanted = read("50 a.md lacks reader, average, longest\n50 crates/x/CALLING.md later")
-    checks.same("the first lines have what pages lack", seen, wanted)
 
 
 def check_history(checks):
