@@ -1,4 +1,5 @@
 pub mod Halves
+pub mod InTurn
 pub mod Loaded
 pub mod Phase
 pub mod Queue

@@ -2,6 +2,7 @@ pub mod Arrive
 pub mod Begin
 pub mod End
 pub mod Halves
+pub mod InTurn
 pub mod Link
 pub mod Phase
 pub mod Slots

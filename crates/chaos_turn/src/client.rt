@@ -1,41 +1,38 @@
-//! One turn of a client.
+//! One turn of a client, as the specification of turns calls for it: over a host, a link and an
+//! outbox that are kept apart. The turn itself is a [`Turn`], and this call only makes one of its
+//! arguments, which are more than any other call of the crate has.
 ghost use Rattle.std.specs.Prelude.{◌≡◌, ◌≤◌, ◌↔◌, []};
 ghost use Rattle.chaos_packet.specs.Count.{Rose};
 ghost use Rattle.chaos_link.specs.Link.{Asks};
 ghost use Rattle.chaos_turn.specs.Arrive.{told_at_client};
-ghost use Rattle.chaos_turn.specs.Phase.{DoesPhase};
+ghost use Rattle.chaos_turn.specs.InTurn.{TurnDoes};
 ghost use Rattle.chaos_turn.specs.Station.{station};
 ghost use Rattle.chaos_turn.specs.Turn.{RunsClientTurn, client_phases};
 
-use crate::arriving::arrive_at_client;
 use crate::beginning::begin;
 use crate::end::{TurnEnd, any_of, end_of};
 use crate::limits::TURN_ROOM;
-use crate::ticking::tick_slots;
+use crate::turn::Turn;
 use chaos_host::{Host, HostDelivered};
 use chaos_link::{Carriage, LINK_ROOM, Link, LinkFault, Packets};
 use chaos_packet::Outbox;
 
-/// Makes a turn of what came, and answers whether packets went out.
-fn take_client_turn<L: Link>(
-    host: &mut Host,
-    came: Option<Result<Packets<'_>, LinkFault>>,
-    link: &mut L,
-    now: u64,
-    out: &mut Outbox,
-    told: &mut Option<HostDelivered>,
-    carriage: Carriage,
-) -> bool
-    requires room { TURN_ROOM ≤ out.old.cap }
-    requires empty { out.old.packets ≡ [] }
-    ensures told { told.new ≡ told_at_client came.entry now host.old }
-    ensures phases { DoesPhase (Asks (L.asked link.old) (L.asked link.new)) carriage
-        (client_phases came.entry now host.old) (station host.old (L.queue link.old) out.old)
-        (station host.new (L.queue link.new) out.new) result }
-{
-    let arrived = arrive_at_client(host, came, link, now, out, told, carriage);
-    let ticked = tick_slots(host, link, now, out, carriage);
-    any_of(ticked, arrived, false)
+impl<L: Link> Turn<'_, L> {
+    /// Makes a client's turn of what came, and answers whether packets went out. What became of the
+    /// last packet is left in `told`.
+    fn make(
+        &mut self,
+        came: Option<Result<Packets<'_>, LinkFault>>,
+        told: &mut Option<HostDelivered>,
+    ) -> bool
+        ensures told { told.new ≡ told_at_client came.entry self.old.now self.old.host.now }
+        ensures phases { TurnDoes self.old self.new
+            (client_phases came.entry self.old.now self.old.host.now) result }
+    {
+        let arrived = self.arrive(came, told);
+        let ticked = self.tick_slots();
+        any_of(ticked, arrived, false)
+    }
 }
 
 /// One turn of a client, or of a host with services of its caller's. It sends what waits, receives
@@ -91,6 +88,13 @@ pub fn client_turn<L: Link>(
     ensures outbox { out.new ≡ record { packets = []; cap = out.old.cap } }
 {
     let begun = begin(link, out, carriage, buffer, may_wait);
-    let sent = take_client_turn(host, begun.came, link, now, out, told, carriage);
-    end_of(begun.failures, link.failures(), begun.worked, sent)
+    let mut turn = Turn {
+        host,
+        link,
+        out,
+        carriage,
+        now,
+    };
+    let sent = turn.make(begun.came, told);
+    end_of(begun.failures, turn.link.failures(), begun.worked, sent)
 }

@@ -2,8 +2,9 @@
 //! ticked. What the host puts out goes into the link. A turn knows no service. A [`Node`] has what
 //! a host needs for such turns, and its owner serves between their halves, by the host's calls.
 //!
-//! A turn that you build yourself has the same phases: [`begin`], the host's calls on what came,
-//! each followed by [`send_all`], [`tick_slots`] and [`end_of`].
+//! A turn that you build yourself begins by [`begin`]. Then a [`Turn`] has the host, the link and
+//! the outbox. Its phases are the host's calls on what came, each followed by [`send_all`], and
+//! [`Turn::tick_slots`]. The turn ends by [`end_of`].
 //!
 //! A turn reads no clock (the moment is handed in), waits for a datagram only where its caller lets
 //! it, as its link does, and takes no memory.
@@ -19,6 +20,7 @@ mod node;
 mod receiving;
 mod sending;
 mod ticking;
+mod turn;
 
 pub use beginning::{Begun, begin};
 pub use client::client_turn;
@@ -27,4 +29,4 @@ pub use half::Half;
 pub use limits::TURN_ROOM;
 pub use node::Node;
 pub use sending::{law_read_back, law_sends_one, send_all, send_singly};
-pub use ticking::tick_slots;
+pub use turn::Turn;

@@ -2,13 +2,13 @@
 ghost use Rattle.std.specs.Prelude.{◌≤◌};
 ghost use Rattle.chaos_turn.specs.declared.limits.TheConstants.{TURN_ROOM};
 
-use crate::arriving::arrive_at_client;
 use crate::beginning::begin;
+use crate::client::client_turn;
 use crate::end::{TurnEnd, any_of, end_of};
 use crate::half::Half;
 use crate::limits::TURN_ROOM;
 use crate::sending::send_all;
-use crate::ticking::tick_slots;
+use crate::turn::Turn;
 use chaos_host::{Host, HostDelivered};
 use chaos_link::{Carriage, LINK_ROOM, Link};
 use chaos_packet::Outbox;
@@ -84,8 +84,7 @@ impl Node {
         send_all(link, &mut self.out, self.carriage)
     }
 
-    /// One turn of the host: its two halves, [`Node::receive`] and [`Node::tick`], with nothing
-    /// between them. The turn is [`client_turn`](crate::client_turn) over what the node has.
+    /// One turn of the host: [`client_turn`](crate::client_turn) over what the node has.
     pub fn turn<L: Link>(&mut self, link: &mut L, now: u64, may_wait: bool) -> TurnEnd
         // The answer is LinkFault exactly where the link's count of failures rose in the turn, or
         // stands at its greatest.
@@ -101,8 +100,16 @@ impl Node {
         ensures outbox { self.new.out ≡ record { packets = []; cap = self.old.out.cap } }
         ensures carriage { self.new.carriage ≡ self.old.carriage }
     {
-        let half = self.receive(link, now, may_wait);
-        self.tick(link, now, half)
+        client_turn(
+            &mut self.host,
+            link,
+            now,
+            &mut self.out,
+            &mut self.told,
+            self.carriage,
+            &mut self.buffer,
+            may_wait,
+        )
     }
 
     /// The first half of a turn: sends what waits, receives at most one datagram, and delivers its
@@ -127,15 +134,14 @@ impl Node {
     {
         let carriage = self.carriage;
         let begun = begin(link, &mut self.out, carriage, &mut self.buffer, may_wait);
-        let sent = arrive_at_client(
-            &mut self.host,
-            begun.came,
+        let mut turn = Turn {
+            host: &mut self.host,
             link,
-            now,
-            &mut self.out,
-            &mut self.told,
+            out: &mut self.out,
             carriage,
-        );
+            now,
+        };
+        let sent = turn.arrive(begun.came, &mut self.told);
         Half {
             failures: begun.failures,
             worked: begun.worked || sent,
@@ -162,12 +168,15 @@ impl Node {
     {
         let carriage = self.carriage;
         let waited = send_all(link, &mut self.out, carriage);
-        let ticked = tick_slots(&mut self.host, link, now, &mut self.out, carriage);
-        end_of(
-            half.failures,
-            link.failures(),
-            half.worked,
-            any_of(waited, ticked, false),
-        )
+        let mut turn = Turn {
+            host: &mut self.host,
+            link,
+            out: &mut self.out,
+            carriage,
+            now,
+        };
+        let ticked = turn.tick_slots();
+        let sent = any_of(waited, ticked, false);
+        end_of(half.failures, turn.link.failures(), half.worked, sent)
     }
 }

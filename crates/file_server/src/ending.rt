@@ -12,7 +12,7 @@ use chaos_conn::Conn;
 use chaos_host::Host;
 use chaos_link::{Carriage, Link};
 use chaos_packet::Outbox;
-use chaos_turn::{TURN_ROOM, any_of, send_all, tick_slots};
+use chaos_turn::{TURN_ROOM, Turn, any_of, send_all};
 
 /// Whether the time of a peer that stays silent since a moment is over.
 fn is_late(silence: Option<u64>, since: u64, now: u64) -> bool
@@ -152,6 +152,13 @@ pub(crate) fn end_slots<L: Link>(
 {
     let closed = close_slots(host, sessions, link, out, terms);
     let released = release_slots(host, link, out, terms.carriage);
-    let ticked = tick_slots(host, link, terms.moment, out, terms.carriage);
+    let mut turn = Turn {
+        host,
+        link,
+        out,
+        carriage: terms.carriage,
+        now: terms.moment,
+    };
+    let ticked = turn.tick_slots();
     any_of(ticked, released, closed)
 }
