@@ -10,7 +10,7 @@ DIALOGUES := out/checked/random_dialogues
 SEED ?= $(shell date +%s)
 PACKETS ?= 1000000
 
-.PHONY: all help demo test check fmt fmt-check lint wrong-bodies dialogues pictures bench $(PROGRAM_BENCHES:%=bench-%) $(BENCHES:%=bench-%) dist install uninstall clean unstamped
+.PHONY: all help try demo test check fmt fmt-check lint wrong-bodies dialogues pictures bench $(PROGRAM_BENCHES:%=bench-%) $(BENCHES:%=bench-%) dist install uninstall clean unstamped current
 
 all: bin/chaosd ## prove the program and all crates below it, and build bin/chaosd
 
@@ -20,14 +20,22 @@ help: ## list these targets
 # proved again where its stamp doesn't say that it was proved from these sources
 .SECONDEXPANSION:
 bin/chaosd: $$(if $$(shell tools/stamp check bin/chaosd 2>&1),unstamped)
-	@echo "Proving and building bin/chaosd takes some $$((70 / $$(nproc) > 25 ? 70 / $$(nproc) : 25)) minutes on these $$(nproc) cores; 'make demo' needs no proof."
+	@echo "Proving and building bin/chaosd takes some $$((70 / $$(nproc) > 25 ? 70 / $$(nproc) : 25)) minutes on these $$(nproc) cores; 'make try' needs no proof."
 	@RT=$(RT) tools/build chaosd --help
-	@mkdir -p bin
-	cp crates/chaosd/out/chaosd.stamp $@.stamp
-	cp crates/chaosd/out/chaosd $@
+	install -D -m 644 crates/chaosd/out/chaosd.stamp $@.stamp
+	install crates/chaosd/out/chaosd $@
 
-demo: ## show a FILE session between two hosts in one process; without proof, in a minute, unless bin/chaosd is proved from these sources
-	@RT=$(RT) tools/demo
+# what is installed and packed is there where it was built from these sources, proved or not
+current: $$(if $$(shell tools/stamp built $(PROGRAM) > /dev/null 2>&1 || echo no),$(PROGRAM))
+
+try: ## build bin/chaosd without proof and with the compiler's checks, in two minutes: slower than the proved program, and for trying
+	@tools/stamp built bin/chaosd 2> /dev/null || { \
+	  echo "Compiling bin/chaosd with checks and without proof takes two minutes, and longer on a busy machine." && \
+	  RT=$(RT) tools/checked chaosd > /dev/null && install -D -m 644 out/checked/chaosd.stamp bin/chaosd.stamp && \
+	  install out/checked/chaosd bin/chaosd && tools/stamp built bin/chaosd; }
+
+demo: try ## show a FILE session between two hosts in one process, by bin/chaosd as it is proved or tried
+	@tools/demo
 
 test: ## run all tests without proof, in some minutes; NAME=.. is a crate of tests, a file or class of tests/, or a word of a name
 	@RT=$(RT) tools/test $(NAME)
@@ -64,11 +72,12 @@ $(PROGRAM_BENCHES:%=bench-%): bench-%: bin/chaosd
 $(BENCHES:%=bench-%): bench-%:
 	@RT=$(RT) python3 bench/beside.py $*
 
-dist: $(PROGRAM) ## pack the program, its manual page, documents, examples, dissector and licences into a tar file in out/; the file's name says if the program isn't proved
+dist: current ## pack the program, its manual page, documents, examples, dissector and licences into a tar file in out/; the file's name says if the program isn't proved
 	@tools/dist $(PROGRAM) out
 
 # systemd reads units below /usr/local and /usr; the one that is installed names the program where it was put
-install: $(PROGRAM) ## install the program, its stamp, its manual page, the dissector and the unit for systemd below PREFIX, by default /usr/local
+install: current ## install the program, proved or tried, its stamp, its manual page, the dissector and the unit for systemd below PREFIX, by default /usr/local
+	@tools/stamp check $(PROGRAM) || true
 	install -d "$(DESTDIR)$(PREFIX)/bin" "$(DESTDIR)$(PREFIX)/share/man/man1" "$(DESTDIR)$(PREFIX)/share/chaosd" "$(DESTDIR)$(PREFIX)/lib/systemd/system"
 	install -m 755 $(PROGRAM) "$(DESTDIR)$(PREFIX)/bin/chaosd"
 	if tools/stamp print $(PROGRAM) > /dev/null; then install -m 644 $(PROGRAM).stamp "$(DESTDIR)$(PREFIX)/share/chaosd/chaosd.stamp"; else rm -f "$(DESTDIR)$(PREFIX)/share/chaosd/chaosd.stamp"; fi

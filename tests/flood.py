@@ -11,7 +11,7 @@ import time
 
 from tests.packets import CLS, DATA, LOS, OPN, RFC, STS, datagram, turned
 from tests.scripts import FILE_REPLIES, FILE_SCRIPT
-from tests.support import CLIENT, DONE, PATIENCE, PROGRAM, SERVER, USUAL_WINDOW, Case, Serving, finished, folder, started
+from tests.support import CLIENT, DONE, IS_CHECKED, PATIENCE, SERVER, USUAL_WINDOW, Case, Serving, finished, folder, started
 
 # The peer that floods, peers that can't be sent to, and a host that is no peer.
 FLOODER, BROADCAST, UNREACHABLE, STRANGER = CLIENT + 1, 0o404, 0o405, 0o500
@@ -100,8 +100,7 @@ class Service(Serving):
     def growth_problems(self, before):
         """What is wrong where the server has more memory than before."""
         grown = self.memory() - before
-        is_checked = b"AddressSanitizer" in PROGRAM.read_bytes()
-        return [f"grown by {grown} KiB from {before}"] if grown > (FLAT_WHERE_CHECKED if is_checked else FLAT) else []
+        return [f"grown by {grown} KiB from {before}"] if grown > (FLAT_WHERE_CHECKED if IS_CHECKED else FLAT) else []
 
     def ask(self):
         """Starts an honest client that writes a file of its own and reads it."""

@@ -37,7 +37,7 @@ SERVER, CLIENT = 0o401, 0o402
 USUAL_WINDOW, COPYING_WINDOW = 13, 64
 
 # Whether the program is one that `tools/checked` compiled: it takes ten times as long, and reserves memory of its own.
-IS_CHECKED = PROGRAM.parent.name == "checked"
+IS_CHECKED = PROGRAM.is_file() and b"AddressSanitizer" in PROGRAM.read_bytes()
 # Seconds, all far away, so that no verdict rests on how fast the machine is: what is waited for comes by then or never. The second is
 # for runs that wait for a thousand turns, or copy much.
 PATIENCE, LONG = 600, 1_200
@@ -65,7 +65,7 @@ class Case(Checking):
     @classmethod
     def setUpClass(cls):
         if not PROGRAM.is_file():
-            raise FileNotFoundError(f"{PROGRAM} isn't there: `make` builds bin/chaosd, `tools/checked chaosd` one without proof, for CHAOSD")
+            raise FileNotFoundError(f"{PROGRAM} isn't there: `make try` builds bin/chaosd without proof, and `make` a proved one")
 
 
 def checked(name, *words):

@@ -9,7 +9,7 @@ import subprocess
 TOP = pathlib.Path(__file__).resolve().parent.parent
 # folders of crates/ that no program is built from
 OTHERS = {"out", "must-fail", "wrong-bodies"}
-PROVED, CHECKED = "proved", "compiled with checks, without proof"
+PROVED, CHECKED = "proved", "checked, not proved"
 FORM = re.compile(r"how: (.*)\nsources: ([0-9a-f]{64})\nlogic: (\w+)\nprogram: ([0-9a-f]{64})\n")
 
 
@@ -77,10 +77,10 @@ class Stamp:
             else:
                 self.why = f"{stamp_of(program).name} is of another program" if found else f"{stamp_of(program).name} is no stamp"
 
+    def unbuilt(self):
+        """Why the program isn't called built from these sources, or an empty text where it was, proved or not."""
+        return self.why or ("" if self.sources == sum_of_sources() else "it was built from other sources than these")
+
     def unproved(self):
         """Why the program isn't called proved, or an empty text where it was proved from these sources."""
-        if self.why:
-            return self.why
-        if self.how != PROVED:
-            return f"it was {self.how}"
-        return "" if self.sources == sum_of_sources() else "it was proved from other sources than these"
+        return self.why or ("" if self.how == PROVED else f"it was {self.how}") or self.unbuilt()
