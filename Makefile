@@ -10,7 +10,7 @@ DIALOGUES := out/checked/random_dialogues
 SEED ?= $(shell date +%s)
 PACKETS ?= 1000000
 
-.PHONY: all help try demo test check fmt fmt-check lint wrong-bodies dialogues pictures bench $(PROGRAM_BENCHES:%=bench-%) $(BENCHES:%=bench-%) dist install uninstall clean unstamped current
+.PHONY: all help try demo test check fmt fmt-check lint wrong-bodies dialogues pictures bench $(PROGRAM_BENCHES:%=bench-%) $(BENCHES:%=bench-%) dist deb install uninstall clean unstamped current
 
 all: bin/chaosd ## prove the program and all crates below it, and build bin/chaosd
 
@@ -74,6 +74,9 @@ $(BENCHES:%=bench-%): bench-%:
 
 dist: current ## pack the program, its manual page, documents, examples, dissector and licences into a tar file in out/; the file's name says if the program isn't proved
 	@tools/dist $(PROGRAM) out
+
+deb: current ## pack the same into a Debian package in out/, which dpkg-deb builds and `apt install ./out/FILE` installs
+	@tools/dist --deb $(PROGRAM) out
 
 # systemd reads units below /usr/local and /usr; the one that is installed names the program where it was put
 install: current ## install the program, proved or tried, its stamp, its manual page, the dissector and the unit for systemd below PREFIX, by default /usr/local
