@@ -28,7 +28,7 @@ bin/chaosd: $$(if $$(shell tools/stamp check bin/chaosd 2>&1),unstamped)
 # what is installed and packed is there where it was built from these sources, proved or not
 current: $$(if $$(shell tools/stamp built $(PROGRAM) > /dev/null 2>&1 || echo no),$(PROGRAM))
 
-try: ## build bin/chaosd without proof and with the compiler's checks, in two minutes: slower than the proved program, and for trying
+try: ## build bin/chaosd without proof and with the compiler's checks, in two minutes: much slower than the proved program, and for trying
 	@tools/stamp built bin/chaosd 2> /dev/null || { \
 	  echo "Compiling bin/chaosd with checks and without proof takes two minutes, and longer on a busy machine." && \
 	  RT=$(RT) tools/checked chaosd > /dev/null && install -D -m 644 out/checked/chaosd.stamp bin/chaosd.stamp && \

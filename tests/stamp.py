@@ -29,7 +29,7 @@ MADE = {
 }
 # The words of tools/stamp behind the name of what was built from these sources.
 IS_PROVED = "was built from these sources: proved\n"
-IS_TRIED = "was built from these sources: checked, not proved. It is slower than the proved program, and for trying; `make` builds the proved one\n"
+IS_TRIED = "was built from these sources: checked, not proved. It is much slower than the proved program, and for trying; `make` builds the proved one\n"
 
 
 class Stamp(Case):
