@@ -42,19 +42,11 @@ def kit():
 
 
 class Wish:
-    """A program that is wanted: its name in out/checked/, and what `rt try` is to compile."""
+    """A program that is wanted: its name in out/checked/, and of which crates `rt try` is to compile it; or their tests as one program: of
+    one crate as they are named there, of several behind the names of their crates."""
 
-    def __init__(self, name, names, words):
-        self.name, self.names, self.words = name, names, words
-
-    @staticmethod
-    def program(name):
-        return Wish(name, [name], [])
-
-    @staticmethod
-    def tests(name, names):
-        """The tests of some crates as one program: of one crate as they are named there, of several behind the names of their crates."""
-        return Wish(name, names, ["--test"])
+    def __init__(self, name, names, is_test):
+        self.name, self.names, self.words = name, names, ["--test"] if is_test else []
 
     def furnish(self, room):
         if len(self.names) == 1:

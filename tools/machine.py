@@ -21,15 +21,6 @@ def free_bytes():
     return min(found)
 
 
-def proof_bytes():
-    """The memory that proofs may take."""
-    return 0.85 * free_bytes()
-
-
-def processors():
-    return len(os.sched_getaffinity(0))
-
-
 def lanes():
     """How many proofs have a processor and memory: one at least."""
-    return max(1, min(processors(), int(proof_bytes() / PROOF_BYTES)))
+    return max(1, min(len(os.sched_getaffinity(0)), int(0.85 * free_bytes() / PROOF_BYTES)))

@@ -55,6 +55,17 @@ def with_all_below(*names):
     return list(found.values())
 
 
+def link(file, to):
+    """Links what was proved to another place, or copies it where that is on another file system: `rt` replaces such a file, and never
+    writes into it. Any other file is copied."""
+    if str(file).endswith(".oantt") or "/rlib/" in str(file):
+        try:
+            return os.link(file, to)
+        except OSError:
+            pass
+    return shutil.copy2(file, to)
+
+
 def name_in_room(source):
     """The name that a file has in a room, which may be a path."""
     return source.with_suffix("") if source.suffix == ".in" else source

@@ -121,7 +121,7 @@ class Example(unittest.TestCase):
         self.addCleanup(room.cleanup)
         self.top = pathlib.Path(room.name)
         files = {LOW_FILE: LOW, HIGH_FILE: HIGH, SPECS: WORDS, "crates/high/specs/Words.antt": "use Rattle.low.specs.Words.{word}\n"}
-        files |= {"crates.txt": "low: arrayvec\nhigh: low # the upper one\n", "HANDLES": "Handles allowed: none.\n", LINES: "gone 0 2026-11-27\n", "rt": RT}
+        files |= {"crates.txt": "low: arrayvec\nhigh: low # the upper one\n", "HANDLES": "Handles allowed: none.\n", "tests/crates/list.txt": "", LINES: "gone 0 2026-11-27\n", "rt": RT}
         for path, text in files.items():
             self.write(path, text)
         (self.top / "rt").chmod(0o755)
