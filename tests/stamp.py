@@ -132,10 +132,10 @@ class Stamp(Case):
         for wish in ["dist", "install"]:
             self.check(f"make {wish} proves anew what is of other sources", [] if "tools/build" in self.tool("make", "-n", wish)[1] else ["it is taken"])
         self.makes("but not a program of other sources", "try", [COMPILED], f"bin/chaosd {IS_TRIED}")
-        (self.top / "tools/checked").write_text("#!/bin/sh\necho 'main.rt isn''t compiled' >&2\nexit 1\n")
+        (self.top / "tools/checked").write_text("#!/bin/sh\necho 'a fault of main.rt' >&2\nexit 1\n")
         self.program.with_name("chaosd.stamp").unlink()
         status, said = self.tool("make", "try")
-        self.check("what isn't compiled is told", [] if status and "main.rt isnt compiled\n" in said and "was built" not in said else [said])
+        self.check("what isn't compiled is told", [] if status and "a fault of main.rt\n" in said and "was built" not in said else [said])
 
     def test_the_demo_shows_a_session_by_what_is_built_and_names_what_to_try_next(self):
         self.makes("it compiles the program where none is there", "demo", [COMPILED], IS_TRIED)
