@@ -7,7 +7,7 @@ import struct
 import threading
 import time
 
-from tests.packets import CLS, DATA, LOS, OPN, RFC, SNS, asks_for_file, datagram, turned
+from tests.packets import CLS, DATA, LOS, OPN, RFC, SNS, asks_for_file, datagram
 from tests.support import CLIENT, LONG, REFUSED, SERVER, Case, at, folder, free_ports, mixed_content, run, serving
 
 NO_SERVER = b"No server for this contact name."

@@ -11,7 +11,7 @@ import subprocess
 from tests.second import (
     FIRST, LISP, LONG, MACHINE, SECOND, begun, canonical_problems, finished, needs_lisp, network_before, packets_of, ran, serving,
 )
-from tests.support import BAD_LINE, CLIENT, DONE, FILE_LIMIT, REFUSED, SERVER, Case, Checking, at, folder, free_ports, run, stored_problems
+from tests.support import BAD_LINE, CLIENT, DONE, FILE_LIMIT, REFUSED, SERVER, Case, Checking, at, folder, free_ports, stored_problems
 
 SIZES = [0, 1, 447, 448, 449, 100_000, FILE_LIMIT]
 TEXT, LISP_TEXT = b"(A)\n\tB\x08\x0c", b"(A)\x8d\x89B\x88\x8c"

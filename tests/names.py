@@ -6,7 +6,7 @@ import subprocess
 
 from tests.copying import NO_FILE, copied
 from tests.support import (
-    BAD_LINE, CLIENT, DONE, FAULT, REFUSED, Case, Serving, at, finished, folder, free_ports, run, serving, started, stored_problems,
+    BAD_LINE, DONE, FAULT, REFUSED, Case, at, finished, folder, free_ports, run, serving, started, stored_problems,
 )  # fmt: skip
 
 SKIPPED = (
