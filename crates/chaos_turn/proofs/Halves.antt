@@ -1,23 +1,19 @@
 -- The two halves of a turn.
-use Rattle.std.proofs.Common.{◌≡◌, ℕ, Bool, true, false, if◌then◌else◌, List, [], ◌∷◌, ◌++◌, length, Option, Some, None, IfSome, refl, ap, sym, ◌∙◌, subst}
-use Rattle.chaos_packet.specs.Packet.{PacketView}
+use Rattle.std.proofs.Common.{◌≡◌, ℕ, Bool, true, false, if◌then◌else◌, [], ◌∷◌, Option, ap, sym, ◌∙◌, subst}
 use Rattle.chaos_packet.specs.Outbox.{OutboxView}
 use Rattle.chaos_host.specs.View.{HostView}
 use Rattle.chaos_host.specs.declared.answers.HostDelivered.{HostDelivered}
 use Rattle.chaos_link.specs.declared.carriage.Carriage.{Carriage}
-use Rattle.chaos_link.specs.declared.carriage.Carriage.TheVariants.{One, Two}
-use Rattle.chaos_link.specs.Link.{Addressed, Ask, AskedSince, Asks, QueueView, to_send, without_first}
-use Rattle.chaos_turn.specs.Arrive.{Arrival, arrival_from, arrive_at_client, told_at_client}
+use Rattle.chaos_link.specs.Link.{Ask, AskedSince, Asks, QueueView}
+use Rattle.chaos_turn.specs.Arrive.{Arrival, arrive_at_client, told_at_client}
 use Rattle.chaos_turn.specs.Begin.{Begins}
 use Rattle.chaos_turn.specs.End.{TellsWork}
 use Rattle.chaos_turn.specs.Halves.{RunsArrival, RunsTicks, tick_all}
-use Rattle.chaos_turn.specs.Link.{Sends, SendsLots, datagrams_of, has_packets, read_all, sent_by, sent_into}
-use Rattle.chaos_turn.specs.Phase.{DoesPhase, over_slots}
-use Rattle.chaos_turn.specs.Slots.{tick_at}
+use Rattle.chaos_turn.specs.Link.{SendsLots, has_packets}
+use Rattle.chaos_turn.specs.Phase.{DoesPhase}
 use Rattle.chaos_turn.specs.Station.{Station, station}
-use Rattle.chaos_turn.specs.Turn.{RunsClientTurn, has_work, queue_after}
 use Rattle.chaos_turn.specs.declared.end.TurnEnd.{TurnEnd}
-use Rattle.chaos_turn.proofs.Queue.{lots_read, or_false, queue_both, sends_both, turn_asks_more}
+use Rattle.chaos_turn.proofs.Queue.{lots_read, or_false, sends_both, turn_asks_more}
 use Rattle.chaos_turn.proofs.Whole.{has_before, queue_so, work_so}
 
 -- what waited was sent, and then each slot was ticked

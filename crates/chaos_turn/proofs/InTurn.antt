@@ -1,5 +1,5 @@
 -- Phases of a turn that has begun, one after another.
-use Rattle.std.proofs.Common.{◌≡◌, ℕ, Bool, true, false, if◌then◌else◌, List, [], ◌∷◌, drop, length, slice_get, Option, Some, refl, ap, ◌∙◌, subst}
+use Rattle.std.proofs.Common.{◌≡◌, ℕ, Bool, true, false, if◌then◌else◌, List, drop, length, slice_get, Some, refl, ap, ◌∙◌, subst}
 use Rattle.chaos_packet.specs.Packet.{PacketView}
 use Rattle.chaos_packet.specs.Outbox.{OutboxView}
 use Rattle.chaos_host.specs.View.{HostView}
@@ -15,7 +15,7 @@ use Rattle.chaos_turn.proofs.Several.{TakenSoFar, none_taken, one_more_taken}
 
 module _ {L : Type 0} {G : Ghosts L} where
   -- a phase of the turn at its moment and by its carriage, as they were when the turn began
-  still : (a b c : Turn L G) (effect : ℕ → Effect) (sent : Bool) → IsSameTurn a b → TurnDoes b c (effect b.now) sent
+  pub still : (a b c : Turn L G) (effect : ℕ → Effect) (sent : Bool) → IsSameTurn a b → TurnDoes b c (effect b.now) sent
       → DoesPhase (Asks (G.asked b.link.now) (G.asked c.link.now)) a.carriage (effect a.now) (station_of b) (station_of c)
       sent
   still a b c effect sent same one =
@@ -26,7 +26,7 @@ module _ {L : Type 0} {G : Ghosts L} where
       (λ (n : ℕ). DoesPhase (Asks (G.asked b.link.now) (G.asked c.link.now)) b.carriage (effect n) (station_of b)
       (station_of c) sent) same.4 one.0)
 
-  same_twice : (a b c : Turn L G) → IsSameTurn a b → IsSameTurn b c → IsSameTurn a c
+  pub same_twice : (a b c : Turn L G) → IsSameTurn a b → IsSameTurn b c → IsSameTurn a c
   same_twice a b c one two = (two.0 ∙ one.0, two.1 ∙ one.1, two.2 ∙ one.2, two.3 ∙ one.3, two.4 ∙ one.4)
 
   -- a phase, and another after it

@@ -39,8 +39,8 @@ impl FarEnd {
     fn turn<B: Link>(&mut self, link: &mut B, now: u64) -> TurnEnd
         ensures fault { (result ≡ TurnEnd.LinkFault) ↔ Rose (B.count link.old) (B.count link.new) }
     {
-        let alloc = self.alloc;
-        self.server.turn(alloc, &mut self.store, link, LOOP_SERVER_START, now, false)
+        self.server
+            .turn(&mut self.store, link, LOOP_SERVER_START, now, false)
     }
 }
 

@@ -1,20 +1,15 @@
 -- A call of a host, whose packets are sent at once.
-use Rattle.std.proofs.Common.{◌≡◌, ℕ, subst, Bool, true, if◌then◌else◌, List, [], ◌∷◌, ap, sym, ◌∙◌}
-use Rattle.std.specs.Prelude.{Option}
+use Rattle.std.proofs.Common.{◌≡◌, ℕ, Option, subst, Bool, List, [], ◌∷◌, ap, sym, ◌∙◌}
 use Rattle.chaos_packet.specs.Packet.{PacketView}
 use Rattle.chaos_packet.specs.Outbox.{OutboxView}
-use Rattle.chaos_host.specs.declared.answers.HostDelivered.{HostDelivered}
 use Rattle.chaos_host.specs.Acted.{HostActed, HostDoes}
-use Rattle.chaos_host.specs.Deliver.{host_deliver}
 use Rattle.chaos_host.specs.View.{HostView}
 use Rattle.chaos_link.specs.declared.carriage.Carriage.{Carriage}
-use Rattle.chaos_link.specs.Link.{Ask, AskedSince, Asks, QueueView}
-use Rattle.chaos_turn.specs.Arrive.{deliver_effect}
+use Rattle.chaos_link.specs.Link.{Ask, QueueView}
 use Rattle.chaos_turn.specs.Link.{SendsLots, has_packets}
 use Rattle.chaos_turn.specs.Phase.{DoesPhase, effect_of}
-use Rattle.chaos_turn.specs.Station.{Station, station}
-use Rattle.chaos_turn.proofs.Phase.{one_after, put_into_empty}
-use Rattle.file_server.specs.Arrive.{accept_by, greet, request_in}
+use Rattle.chaos_turn.specs.Station.{station}
+use Rattle.chaos_turn.proofs.Phase.{put_into_empty}
 
 -- such a call is a phase
 pub call_sent : {A : Type 0} {asked : List Ask → Type 0} (carriage : Carriage) (acted : HostActed A) (h m : HostView)
@@ -37,18 +32,3 @@ call_sent {A} {asked} carriage acted h m before after out mid rest answer sent d
       config = does.config;
       size = does.size;
     }
-
--- a packet was delivered, and the request for FILE that it is, accepted
-pub greeted : {L : Type 0} {aa ab ac : AskedSince L Ask} (carriage : Carriage) (start now : ℕ) (p : PacketView) (a b c : Station HostView)
-    (became : HostDelivered) (request : Option ℕ) (sent more all : Bool)
-    → became ≡ (host_deliver a.node p now).answer → request ≡ request_in p became
-    → DoesPhase (Asks aa ab) carriage (deliver_effect now p a.node) a b sent
-    → DoesPhase (Asks ab ac) carriage (accept_by b.node start now request) b c more
-    → all ≡ (if more then true else sent) → DoesPhase (Asks aa ac) carriage (greet start now p a.node) a c all
-greeted {L} {aa} {ab} {ac} carriage start now p a b c became request sent more all is asked delivered accepted told =
-    let wanted : Option ℕ = request_in p (host_deliver a.node p now).answer in
-    let found : request ≡ wanted = asked ∙ ap (request_in p) is in
-    one_after carriage a b c (deliver_effect now p a.node) (λ after. accept_by after start now wanted) sent more all
-    delivered
-    (subst (λ (r : Option ℕ). DoesPhase (Asks ab ac) carriage (accept_by b.node start now r) b c more) found accepted)
-    told

@@ -3,3 +3,5 @@ pub mod Relation
 pub mod Whole
 pub mod Calls
 pub mod Served
+pub mod InTurn
+pub mod Idle

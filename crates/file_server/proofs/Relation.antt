@@ -103,6 +103,14 @@ become_so store now id serving P Q h f done = (
       (λ a p. f (serving_after serving done.0 a.answer) a p) done.1,
 )
 
+-- serving leaves the outbox as much room in all
+pub as_much_room : (store : StoreChange) (now id : ℕ) (serving left : Serving) (old new : HostView)
+    (before mid : OutboxView)
+    → SessionServes store now id serving (λ s acted. DoesKept s left old acted new before mid) old → mid.cap ≡ before.cap
+as_much_room store now id serving left old new before mid done =
+    let found = found_so store now id serving (λ s acted. DoesKept s left old acted new before mid) old done in
+    ap (λ (o : OutboxView). o.cap) found.3.does.packets
+
 module _ {S : Type 0} (changes : S → S → StoreChange) where
   -- a slot was served by its session, and what was put out went into the link
   pub slot_so : {asked : List Ask → Type 0} (carriage : Carriage) (here left : Serving) (sessions kept : List Serving) (store store' : S)

@@ -1,5 +1,6 @@
 pub mod Arrive
 pub mod Fault
+pub mod InTurn
 pub mod Serve
 pub mod Server
 pub mod Service

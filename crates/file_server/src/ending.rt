@@ -1,18 +1,72 @@
 //! The ends of connections: those that were served to their EOF, and those whose peer acknowledges
-//! nothing, are closed; those that ended are released.
-ghost use Rattle.std.specs.Prelude.{◌≡◌, ◌<◌, ◌≤◌, [], length};
-ghost use Rattle.chaos_link.specs.Link.{Asks};
-ghost use Rattle.chaos_turn.specs.Phase.{DoesPhase, over_slots};
-ghost use Rattle.chaos_turn.specs.Station.{station};
+//! nothing, are closed; those that ended are released. Each function of a turn answers whether
+//! packets went out.
+ghost use Rattle.std.specs.Prelude.{◌≡◌, ◌<◌, length};
+ghost use Rattle.chaos_turn.specs.InTurn.{TurnDoes};
+ghost use Rattle.chaos_turn.specs.Phase.{over_slots};
 ghost use Rattle.file_server.specs.Slots.{close_at, end_phases, is_late, is_over, release_at};
 
 use crate::sessions::Sessions;
-use crate::terms::Terms;
 use chaos_conn::Conn;
-use chaos_host::Host;
-use chaos_link::{Carriage, Link};
-use chaos_packet::Outbox;
-use chaos_turn::{TURN_ROOM, Turn, any_of, send_all};
+use chaos_link::Link;
+use chaos_turn::{Turn, any_of, send_all};
+
+/// The last phases of a turn: connections that are over are closed, those that ended are released,
+/// and what is due in each slot is done.
+pub(crate) fn end_slots<L: Link>(
+    turn: &mut Turn<'_, L>,
+    sessions: &Sessions,
+    silence: Option<u64>,
+) -> bool
+    requires alike { length sessions.now ≡ length turn.old.host.now.slots }
+    ensures { TurnDoes turn.old turn.new
+        (end_phases silence sessions.now turn.old.now turn.old.host.now) result }
+{
+    let closed = close_slots(turn, sessions, silence);
+    let released = release_slots(turn);
+    let ticked = turn.tick_slots();
+    any_of(ticked, released, closed)
+}
+
+/// Closes each connection that is over, in the slots' rising order.
+pub(crate) fn close_slots<L: Link>(
+    turn: &mut Turn<'_, L>,
+    sessions: &Sessions,
+    silence: Option<u64>,
+) -> bool
+    requires alike { length sessions.now ≡ length turn.old.host.now.slots }
+    ensures { TurnDoes turn.old turn.new
+        (over_slots (close_at silence turn.old.now sessions.now) (length turn.old.host.now.slots)
+        turn.old.host.now) result }
+{
+    let mut sent = false;
+    for place in 0..turn.host.conns() {
+        sent = close_slot(turn, sessions, place, silence) || sent;
+    }
+    sent
+}
+
+/// Closes the connection in a slot with an empty text, where it is over.
+fn close_slot<L: Link>(
+    turn: &mut Turn<'_, L>,
+    sessions: &Sessions,
+    place: usize,
+    silence: Option<u64>,
+) -> bool
+    requires within { place < length sessions.now }
+    ensures { TurnDoes turn.old turn.new
+        (close_at silence turn.old.now sessions.now place turn.old.host.now) result }
+{
+    let Some((id, conn)) = turn.host.conn_at(place) else {
+        return false;
+    };
+    let late = is_late(silence, sessions.since(place), turn.now);
+    if !is_over(sessions.eof(place), late, conn) {
+        return false;
+    }
+    let _ = turn.host.close(id, b"", turn.out);
+    send_all(turn.link, turn.out, turn.carriage)
+}
 
 /// Whether the time of a peer that stays silent since a moment is over.
 fn is_late(silence: Option<u64>, since: u64, now: u64) -> bool
@@ -32,133 +86,29 @@ fn is_over(eof: bool, late: bool, conn: &Conn) -> bool
     eof && conn.drained() || late && conn.keeps_opn()
 }
 
-/// Closes the connection in a slot with an empty text, where it is over. Says whether packets went
-/// out, as all here do.
-fn close_slot<L: Link>(
-    host: &mut Host,
-    sessions: &Sessions,
-    place: usize,
-    link: &mut L,
-    out: &mut Outbox,
-    terms: &Terms,
-) -> bool
-    requires within { place < length sessions.now }
-    requires room { TURN_ROOM ≤ out.old.cap }
-    requires empty { out.old.packets ≡ [] }
-    ensures { DoesPhase (Asks (L.asked link.old) (L.asked link.new)) terms.now.carriage
-        (close_at terms.now.silence terms.now.moment sessions.now place host.old)
-        (station host.old (L.queue link.old) out.old) (station host.new (L.queue link.new) out.new)
-        result }
-{
-    let Some((id, conn)) = host.conn_at(place) else {
-        return false;
-    };
-    let late = is_late(terms.silence, sessions.since(place), terms.moment);
-    if !is_over(sessions.eof(place), late, conn) {
-        return false;
-    }
-    let _ = host.close(id, b"", out);
-    send_all(link, out, terms.carriage)
-}
-
-/// Closes each connection that is over, in the slots' rising order.
-#[tactic(auto, using(chaos_turn::proofs::Queue::sends_both, chaos_turn::proofs::Queue::has_both))]
-pub(crate) fn close_slots<L: Link>(
-    host: &mut Host,
-    sessions: &Sessions,
-    link: &mut L,
-    out: &mut Outbox,
-    terms: &Terms,
-) -> bool
-    requires alike { length sessions.now ≡ length host.old.slots }
-    requires room { TURN_ROOM ≤ out.old.cap }
-    requires empty { out.old.packets ≡ [] }
-    ensures { DoesPhase (Asks (L.asked link.old) (L.asked link.new)) terms.now.carriage
-        (over_slots (close_at terms.now.silence terms.now.moment sessions.now)
-        (length host.old.slots) host.old)
-        (station host.old (L.queue link.old) out.old) (station host.new (L.queue link.new) out.new)
-        result }
+/// Releases each connection that has ended, in the slots' rising order.
+pub fn release_slots<L: Link>(turn: &mut Turn<'_, L>) -> bool
+    ensures { TurnDoes turn.old turn.new
+        (over_slots release_at (length turn.old.host.now.slots) turn.old.host.now) result }
 {
     let mut sent = false;
-    for place in 0..host.conns() {
-        sent = close_slot(host, sessions, place, link, out, terms) || sent;
+    for place in 0..turn.host.conns() {
+        sent = release_slot(turn, place) || sent;
     }
     sent
 }
 
 /// Releases the connection in a slot, where it has ended.
 #[tactic(auto, using(chaos_turn::proofs::Phase::put_into_empty))]
-fn release_slot<L: Link>(
-    host: &mut Host,
-    place: usize,
-    link: &mut L,
-    out: &mut Outbox,
-    carriage: Carriage,
-) -> bool
-    requires room { TURN_ROOM ≤ out.old.cap }
-    requires empty { out.old.packets ≡ [] }
-    ensures { DoesPhase (Asks (L.asked link.old) (L.asked link.new)) carriage
-        (release_at place host.old) (station host.old (L.queue link.old) out.old)
-        (station host.new (L.queue link.new) out.new) result }
+fn release_slot<L: Link>(turn: &mut Turn<'_, L>, place: usize) -> bool
+    ensures { TurnDoes turn.old turn.new (release_at place turn.old.host.now) result }
 {
-    let Some((id, conn)) = host.conn_at(place) else {
+    let Some((id, conn)) = turn.host.conn_at(place) else {
         return false;
     };
     if !conn.state().is_ended() {
         return false;
     }
-    let _ = host.release(id, out);
-    send_all(link, out, carriage)
-}
-
-/// Releases each connection that has ended, in the slots' rising order.
-#[tactic(auto, using(chaos_turn::proofs::Queue::sends_both, chaos_turn::proofs::Queue::has_both))]
-pub fn release_slots<L: Link>(
-    host: &mut Host,
-    link: &mut L,
-    out: &mut Outbox,
-    carriage: Carriage,
-) -> bool
-    requires room { TURN_ROOM ≤ out.old.cap }
-    requires empty { out.old.packets ≡ [] }
-    ensures { DoesPhase (Asks (L.asked link.old) (L.asked link.new)) carriage
-        (over_slots release_at (length host.old.slots) host.old)
-        (station host.old (L.queue link.old) out.old) (station host.new (L.queue link.new) out.new)
-        result }
-{
-    let mut sent = false;
-    for place in 0..host.conns() {
-        sent = release_slot(host, place, link, out, carriage) || sent;
-    }
-    sent
-}
-
-/// The last phases of a turn: connections that are over are closed, those that ended are released,
-/// and what is due in each slot is done.
-pub(crate) fn end_slots<L: Link>(
-    host: &mut Host,
-    sessions: &Sessions,
-    link: &mut L,
-    out: &mut Outbox,
-    terms: &Terms,
-) -> bool
-    requires alike { length sessions.now ≡ length host.old.slots }
-    requires room { TURN_ROOM ≤ out.old.cap }
-    requires empty { out.old.packets ≡ [] }
-    ensures { DoesPhase (Asks (L.asked link.old) (L.asked link.new)) terms.now.carriage
-        (end_phases terms.now.silence sessions.now terms.now.moment host.old)
-        (station host.old (L.queue link.old) out.old) (station host.new (L.queue link.new) out.new)
-        result }
-{
-    let closed = close_slots(host, sessions, link, out, terms);
-    let released = release_slots(host, link, out, terms.carriage);
-    let mut turn = Turn {
-        host,
-        link,
-        out,
-        carriage: terms.carriage,
-        now: terms.moment,
-    };
-    let ticked = turn.tick_slots();
-    any_of(ticked, released, closed)
+    let _ = turn.host.release(id, turn.out);
+    send_all(turn.link, turn.out, turn.carriage)
 }

@@ -16,6 +16,7 @@ mod arriving;
 mod ending;
 mod limits;
 mod log;
+mod phases;
 mod serve_run;
 mod server;
 mod serving;

@@ -3,10 +3,10 @@ ghost use Rattle.std.specs.Prelude.{◌≡◌, ◌<◌, ◌↔◌, length, IfErr
 
 use crate::limits::{SERVER_CONNS, SILENT_MILLIS};
 use crate::log::Log;
+use crate::phases::take_turn;
 use crate::sessions::Sessions;
 use crate::terms::Terms;
-use crate::turn::make_turn;
-use crate::waiting::can_serve_any;
+use crate::waiting::waits;
 use crate::watch::Watch;
 use chaos_conn::ConnConfig;
 use chaos_file::Store;
@@ -14,7 +14,7 @@ use chaos_host::Host;
 use chaos_link::{Carriage, Link};
 use chaos_packet::PktNum;
 use chaos_serve::CONTACT;
-use chaos_turn::{Node, TurnEnd};
+use chaos_turn::{Node, Turn, TurnEnd, begin, end_of};
 use chaosd_io::RunFault;
 use std::alloc::Global;
 
@@ -25,6 +25,8 @@ pub struct Server {
     pub node: Node,
     /// The sessions of the host's slots.
     pub sessions: Sessions,
+    /// Where the files of its store take memory.
+    pub alloc: Global,
     pub ghost alike: { length sessions ≡ length node.host.slots },
 }
 
@@ -75,7 +77,11 @@ impl Server {
             return Err(RunFault::NoMemory);
         };
         match Node::new(alloc, host, carriage) {
-            Ok(node) => Ok(Server { node, sessions }),
+            Ok(node) => Ok(Server {
+                node,
+                sessions,
+                alloc,
+            }),
             Err(_) => Err(RunFault::NoMemory),
         }
     }
@@ -86,7 +92,6 @@ impl Server {
     /// datagram, where `may_wait` allows it.
     pub fn turn<S: Store, L: Link>(
         &mut self,
-        alloc: Global,
         store: &mut S,
         link: &mut L,
         start: PktNum,
@@ -107,24 +112,24 @@ impl Server {
         // The server keeps its carriage.
         ensures carriage { self.new.node.carriage ≡ self.old.node.carriage }
     {
-        let terms = Terms {
-            alloc,
-            start,
-            moment: now,
-            carriage: self.node.carriage,
-            silence: Some(SILENT_MILLIS),
-            may_wait: may_wait && !can_serve_any(&self.node.host),
-        };
+        let may_wait = waits(&self.node.host, may_wait);
         let node = &mut self.node;
-        make_turn(
-            &mut node.host,
-            &mut self.sessions,
-            store,
+        let carriage = node.carriage;
+        let begun = begin(link, &mut node.out, carriage, &mut node.buffer, may_wait);
+        let mut turn = Turn {
+            host: &mut node.host,
             link,
-            &mut node.out,
-            &mut node.buffer,
-            &terms,
-        )
+            out: &mut node.out,
+            carriage,
+            now,
+        };
+        let terms = Terms {
+            alloc: self.alloc,
+            start,
+            silence: Some(SILENT_MILLIS),
+        };
+        let sent = take_turn(&mut turn, &mut self.sessions, store, begun.came, &terms);
+        end_of(begun.failures, turn.link.failures(), begun.worked, sent)
     }
 
     /// Looks at each slot, and logs the connections that opened and ended since the last look.

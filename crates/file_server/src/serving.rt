@@ -1,21 +1,82 @@
 //! Each slot in use is served once.
-ghost use Rattle.std.specs.Prelude.{◌≡◌, ◌<◌, ◌≤◌, [], length};
+ghost use Rattle.std.specs.Prelude.{◌≡◌, ◌<◌, ◌≤◌, ℕ, Some, false, length, true};
 ghost use Rattle.chaos_packet.specs.Outbox.{room_of};
 ghost use Rattle.chaos_file.specs.Store.{change};
-ghost use Rattle.chaos_link.specs.Link.{Asks};
-ghost use Rattle.chaos_turn.specs.Station.{station};
-ghost use Rattle.file_server.specs.Serve.{DoesKept, ServerDoes, ServesSlot, ServesSlots, SessionServes};
-ghost use Rattle.file_server.specs.Server.{server};
+ghost use Rattle.chaos_serve.specs.Calls.{is_served};
+ghost use Rattle.chaos_serve.specs.Work.{work_of};
+ghost use Rattle.file_server.specs.InTurn.{ServerTurnDoes};
+ghost use Rattle.file_server.specs.Serve.{DoesKept, ServesSlot, ServesSlots, SessionServes};
 ghost use Rattle.file_server.specs.Sessions.{serving_of};
 
 use crate::sessions::{Kept, Sessions};
-use crate::terms::Terms;
+use crate::terms::At;
+use chaos_conn::Conn;
 use chaos_file::Store;
 use chaos_host::{ConnId, Host};
 use chaos_link::Link;
 use chaos_packet::Outbox;
 use chaos_serve::{can_serve_conn, serve_one};
-use chaos_turn::{TURN_ROOM, send_all};
+use chaos_turn::{Turn, send_all};
+use std::alloc::Global;
+
+/// Serves each slot once, in rising order. Says whether packets went out.
+pub fn serve_slots<S: Store, L: Link>(
+    turn: &mut Turn<'_, L>,
+    sessions: &mut Sessions,
+    store: &mut S,
+    alloc: Global,
+) -> bool
+    requires alike { length sessions.old ≡ length turn.old.host.now.slots }
+    ensures { ServerTurnDoes turn.old turn.new
+        (ServesSlots (change S.contents S.may_give S.count) turn.old.now
+        (length turn.old.host.now.slots)) sessions.old sessions.new store.old store.new result }
+{
+    let mut sent = false;
+    for place in 0..turn.host.conns() {
+        sent = serve_slot(turn, sessions, store, place, alloc) || sent;
+    }
+    sent
+}
+
+/// Serves the connection in a slot once, where the slot is in use: with its own session, which is a
+/// new one where another connection was there before. Says whether packets went out.
+fn serve_slot<S: Store, L: Link>(
+    turn: &mut Turn<'_, L>,
+    sessions: &mut Sessions,
+    store: &mut S,
+    place: usize,
+    alloc: Global,
+) -> bool
+    requires within { place < length sessions.old }
+    ensures { ServerTurnDoes turn.old turn.new
+        (ServesSlot (change S.contents S.may_give S.count) turn.old.now place) sessions.old
+        sessions.new store.old store.new result }
+{
+    let Some(at) = turn.host.conn_at(place) else {
+        return false;
+    };
+    let id = at.0;
+    let kept = &mut sessions.kept[place];
+    // Most slots of most turns: nothing is looked up twice for them.
+    if has_nothing(kept, id, at.1) {
+        return false;
+    }
+    let at = At {
+        alloc,
+        moment: turn.now,
+    };
+    serve_kept(turn.host, id, kept, store, turn.out, &at);
+    send_all(turn.link, turn.out, turn.carriage)
+}
+
+/// Whether serving a connection by a slot's session would change nothing: it is this connection's
+/// session, and nothing in front of the connection can be served.
+fn has_nothing(kept: &Kept, id: ConnId, conn: &Conn) -> bool
+    ensures session { (now : ℕ) → result ≡ true → serving_of id now kept.now ≡ kept.now }
+    ensures nothing { result ≡ true → is_served (Some (work_of conn.now)) ≡ false }
+{
+    kept.serves(id) && !can_serve_conn(conn)
+}
 
 /// Serves a connection once by a slot's session, which is a new one where it served another
 /// connection before.
@@ -25,74 +86,17 @@ fn serve_kept<S: Store>(
     kept: &mut Kept,
     store: &mut S,
     out: &mut Outbox,
-    terms: &Terms,
+    at: &At,
 )
     requires { 2 ≤ room_of out.old }
-    ensures { SessionServes (change S.contents S.may_give S.count store.old store.new)
-        terms.now.moment id (serving_of id terms.now.moment kept.old)
+    ensures { SessionServes (change S.contents S.may_give S.count store.old store.new) at.now.moment id
+        (serving_of id at.now.moment kept.old)
         (λ serving acted. DoesKept serving kept.new host.old acted host.new out.old out.new)
         host.old }
 {
-    kept.turn_to(id, terms.moment);
+    kept.turn_to(id, at.moment);
     kept.may_hold = true;
     let session = &mut *kept.session;
-    let served = serve_one(terms.alloc, host, id, session, store, terms.moment, out);
+    let served = serve_one(at.alloc, host, id, session, store, at.moment, out);
     kept.note(served);
-}
-
-/// Serves the connection in a slot once, where the slot is in use: with its own session, which is a
-/// new one where another connection was there before. Says whether packets went out.
-fn serve_slot<S: Store, L: Link>(
-    host: &mut Host,
-    sessions: &mut Sessions,
-    store: &mut S,
-    place: usize,
-    link: &mut L,
-    out: &mut Outbox,
-    terms: &Terms,
-) -> bool
-    requires within { place < length sessions.old }
-    requires room { TURN_ROOM ≤ out.old.cap }
-    requires empty { out.old.packets ≡ [] }
-    ensures { ServerDoes (Asks (L.asked link.old) (L.asked link.new)) terms.now.carriage
-        (ServesSlot (change S.contents S.may_give S.count) terms.now.moment place)
-        (station (server host.old sessions.old store.old) (L.queue link.old) out.old)
-        (station (server host.new sessions.new store.new) (L.queue link.new) out.new) result }
-{
-    let Some(at) = host.conn_at(place) else {
-        return false;
-    };
-    let id = at.0;
-    let kept = &mut sessions.kept[place];
-    // Most slots of most turns: nothing is looked up twice for them.
-    if kept.serves(id) && !can_serve_conn(at.1) {
-        return false;
-    }
-    serve_kept(host, id, kept, store, out, terms);
-    send_all(link, out, terms.carriage)
-}
-
-/// Serves each slot once, in rising order. Says whether packets went out.
-pub fn serve_slots<S: Store, L: Link>(
-    host: &mut Host,
-    sessions: &mut Sessions,
-    store: &mut S,
-    link: &mut L,
-    out: &mut Outbox,
-    terms: &Terms,
-) -> bool
-    requires alike { length sessions.old ≡ length host.old.slots }
-    requires room { TURN_ROOM ≤ out.old.cap }
-    requires empty { out.old.packets ≡ [] }
-    ensures { ServerDoes (Asks (L.asked link.old) (L.asked link.new)) terms.now.carriage
-        (ServesSlots (change S.contents S.may_give S.count) terms.now.moment
-        (length host.old.slots))
-        (station (server host.old sessions.old store.old) (L.queue link.old) out.old)
-        (station (server host.new sessions.new store.new) (L.queue link.new) out.new) result }
-{
-    let mut sent = false;
-    for place in 0..host.conns() {
-        sent = serve_slot(host, sessions, store, place, link, out, terms) || sent;
-    }
-    sent
 }

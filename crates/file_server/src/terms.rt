@@ -1,6 +1,5 @@
 //! How a turn is made.
 
-use chaos_link::Carriage;
 use chaos_packet::PktNum;
 use std::alloc::Global;
 
@@ -11,13 +10,16 @@ pub(crate) struct Terms {
     pub(crate) alloc: Global,
     /// The number from which on a new connection numbers what it writes.
     pub(crate) start: PktNum,
-    /// The moment, in milliseconds.
-    pub(crate) moment: u64,
-    /// As which datagrams packets go out.
-    pub(crate) carriage: Carriage,
     /// For how many milliseconds a peer is served that acknowledges nothing. `None`: as long as it
     /// is heard.
     pub(crate) silence: Option<u64>,
-    /// Whether it may wait for a datagram.
-    pub(crate) may_wait: bool,
+}
+
+/// What serving a connection takes beside it.
+#[derive(Drop)]
+pub(crate) struct At {
+    /// Where memory is taken.
+    pub(crate) alloc: Global,
+    /// The moment, in milliseconds.
+    pub(crate) moment: u64,
 }

@@ -1,76 +1,24 @@
-//! One turn of a server.
+//! One turn of a server, as the specification of turns calls for it: over a host, its sessions, a
+//! store, a link and an outbox that are kept apart. The turn itself is [`take_turn`] over a
+//! [`Turn`], and this call only makes one of its arguments, which are more than any other call of
+//! the crate has.
 ghost use Rattle.std.specs.Prelude.{◌≡◌, ◌≤◌, ◌↔◌, [], length, None};
 ghost use Rattle.chaos_packet.specs.Count.{Rose};
 ghost use Rattle.chaos_file.specs.Store.{change};
 ghost use Rattle.chaos_link.specs.Link.{Asks};
 ghost use Rattle.chaos_turn.specs.Station.{station};
-ghost use Rattle.file_server.specs.Serve.{ServerDoes};
 ghost use Rattle.file_server.specs.Server.{server};
-ghost use Rattle.file_server.specs.Turn.{IsTurn, RunsTurn};
+ghost use Rattle.file_server.specs.Turn.{RunsTurn};
 
-use crate::arriving::arrive_at_server;
-use crate::ending::end_slots;
-use crate::serving::serve_slots;
+use crate::phases::take_turn;
 use crate::sessions::Sessions;
 use crate::terms::Terms;
 use chaos_file::Store;
 use chaos_host::Host;
-use chaos_link::{Carriage, LINK_ROOM, Link, LinkFault, Packets};
+use chaos_link::{Carriage, LINK_ROOM, Link};
 use chaos_packet::{Outbox, PktNum};
-use chaos_turn::{TURN_ROOM, TurnEnd, any_of, begin, end_of};
+use chaos_turn::{TURN_ROOM, Turn, TurnEnd, begin, end_of};
 use std::alloc::Global;
-
-/// Makes a turn of what came. Says whether packets went out.
-fn take_turn<S: Store, L: Link>(
-    host: &mut Host,
-    sessions: &mut Sessions,
-    store: &mut S,
-    came: Option<Result<Packets<'_>, LinkFault>>,
-    link: &mut L,
-    out: &mut Outbox,
-    terms: &Terms,
-) -> bool
-    requires alike { length sessions.old ≡ length host.old.slots }
-    requires room { TURN_ROOM ≤ out.old.cap }
-    requires empty { out.old.packets ≡ [] }
-    ensures { ServerDoes (Asks (L.asked link.old) (L.asked link.new)) terms.now.carriage
-        (IsTurn (change S.contents S.may_give S.count) terms.now.silence came.entry terms.now.start
-        terms.now.moment)
-        (station (server host.old sessions.old store.old) (L.queue link.old) out.old)
-        (station (server host.new sessions.new store.new) (L.queue link.new) out.new) result }
-{
-    let arrived = arrive_at_server(host, came, link, out, terms);
-    let served = serve_slots(host, sessions, store, link, out, terms);
-    let ended = end_slots(host, sessions, link, out, terms);
-    sessions.give_back(host);
-    any_of(arrived, served, ended)
-}
-
-/// One turn on these terms, see [`run_turn`].
-pub(crate) fn make_turn<S: Store, L: Link>(
-    host: &mut Host,
-    sessions: &mut Sessions,
-    store: &mut S,
-    link: &mut L,
-    out: &mut Outbox,
-    buffer: &mut [u8; LINK_ROOM],
-    terms: &Terms,
-) -> TurnEnd
-    requires alike { length sessions.old ≡ length host.old.slots }
-    requires room { TURN_ROOM ≤ out.old.cap }
-    ensures fault { (result ≡ TurnEnd.LinkFault) ↔ Rose (L.count link.old) (L.count link.new) }
-    ensures turn { RunsTurn (change S.contents S.may_give S.count) terms.now.silence
-        (Asks (L.asked link.old) (L.asked link.new)) terms.now.may_wait terms.now.carriage
-        terms.now.start terms.now.moment
-        (station (server host.old sessions.old store.old) (L.queue link.old) out.old)
-        (station (server host.new sessions.new store.new) (L.queue link.new) out.new) result }
-    ensures outbox { out.new ≡ record { packets = []; cap = out.old.cap } }
-    ensures alike { length sessions.new ≡ length host.new.slots }
-{
-    let begun = begin(link, out, terms.carriage, buffer, terms.may_wait);
-    let sent = take_turn(host, sessions, store, begun.came, link, out, terms);
-    end_of(begun.failures, link.failures(), begun.worked, sent)
-}
 
 /// One turn of a server of FILE: it sends what waits, receives at most one datagram, and does what
 /// is due at the moment `now`. What the host puts out is sent after each of its calls. In this
@@ -140,13 +88,19 @@ pub fn run_turn<S: Store, L: Link>(
     // There are as many sessions as slots, as the next turn needs them.
     ensures alike { length sessions.new ≡ length host.new.slots }
 {
+    let begun = begin(link, out, carriage, buffer, may_wait);
+    let mut turn = Turn {
+        host,
+        link,
+        out,
+        carriage,
+        now,
+    };
     let terms = Terms {
         alloc,
         start,
-        moment: now,
-        carriage,
         silence: None,
-        may_wait,
     };
-    make_turn(host, sessions, store, link, out, buffer, &terms)
+    let sent = take_turn(&mut turn, sessions, store, begun.came, &terms);
+    end_of(begun.failures, turn.link.failures(), begun.worked, sent)
 }

@@ -1,7 +1,7 @@
 //! Whether a turn is to wait.
 ghost use Rattle.std.specs.Prelude.{◌≡◌, ◌<◌, length};
 ghost use Rattle.chaos_host.specs.View.{id_at};
-ghost use Rattle.file_server.specs.Waiting.{can_serve_any, serves_by};
+ghost use Rattle.file_server.specs.Waiting.{can_serve_any, serves_by, waits};
 
 use chaos_host::Host;
 use chaos_serve::can_serve;
@@ -28,4 +28,12 @@ pub fn can_serve_any(host: &Host) -> bool
         found = found || serves_at(host, place);
     }
     found
+}
+
+/// Whether a turn of this host waits for a datagram: where its caller lets it, and no connection
+/// has anything to serve.
+pub(crate) fn waits(host: &Host, may_wait: bool) -> bool
+    ensures { result ≡ waits may_wait host.now }
+{
+    may_wait && !can_serve_any(host)
 }

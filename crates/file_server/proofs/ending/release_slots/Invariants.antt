@@ -1,10 +1,7 @@
-use Rattle.chaos_link.specs.Link.{Asks}
-use Rattle.chaos_turn.specs.Phase.{DoesPhase, over_slots}
+use Rattle.chaos_turn.specs.InTurn.{TurnDoes}
+use Rattle.chaos_turn.specs.Phase.{over_slots}
 use Rattle.file_server.specs.Slots.{release_at}
-use Rattle.chaos_turn.specs.Station.{station}
 use Rattle.file_server.proofs.ending.release_slots.Given as goal
 
 abbrev pub invariant-loop-place : goal.invariant-loop-place
-invariant-loop-place g l =
-    DoesPhase (Asks (g.L.Link.asked l.fn.link) (g.L.Link.asked l.link)) l.fn.carriage (over_slots release_at l.place l.fn.host)
-    (station l.fn.host (g.L.Link.queue l.fn.link) l.fn.out) (station l.host (g.L.Link.queue l.link) l.out) l.sent
+invariant-loop-place g l = TurnDoes l.fn.turn l.turn (over_slots release_at l.place l.fn.turn.host.now) l.sent

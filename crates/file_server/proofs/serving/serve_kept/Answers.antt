@@ -10,7 +10,7 @@ returns g c =
     let done = c.serve_one-served in
     let turned = c.kept.view_is ∙ c.turn_to.ensures in
     kept_so (change g.S.Store.contents g.S.Store.may_give g.S.Store.count c.args.store.now done.new.store)
-    (serving_of c.args.id c.args.terms.now.moment c.args.kept.now) c.note.new.self done.new.session
-    c.args.host.now c.args.id c.args.terms.now.moment done.new.host c.args.out.now done.new.out done.result
+    (serving_of c.args.id c.args.at.now.moment c.args.kept.now) c.note.new.self done.new.session
+    c.args.host.now c.args.id c.args.at.now.moment done.new.host c.args.out.now done.new.out done.result
     (c.note.ensures ∙ ap (λ (s : Serving). serving_after s done.new.session done.result) turned)
     (rw (← c.deref_mut-session.ensures.value ∙ ap (λ (s : Serving). s.session) turned) done.ensures)

@@ -1,43 +1,68 @@
-use Rattle.std.proofs.Common.{List, get_or, slice_set, refl, ap, sym, ◌∙◌}
+use Rattle.std.proofs.Common.{◌≤◌, ℕ, List, get_or, slice_set, refl, ap, sym, subst, ◌∙◌}
+use Rattle.chaos_packet.specs.Outbox.{OutboxView}
+use Rattle.chaos_turn.specs.declared.limits.TheConstants.{TURN_ROOM}
 use Rattle.std.proofs.lemmas.List.{get_or_read}
 use Rattle.chaos_file.specs.Store.{change}
-use Rattle.chaos_turn.specs.Station.{station}
-use Rattle.file_server.specs.Server.{server}
+use Rattle.file_server.specs.InTurn.{server_in}
 use Rattle.file_server.specs.Sessions.{Serving, new_serving}
 use Rattle.file_server.proofs.Passed.{none_there, passed_so}
-use Rattle.file_server.proofs.Relation.{slot_so}
+use Rattle.file_server.proofs.Relation.{as_much_room, slot_so}
 use Rattle.file_server.proofs.serving.serve_slot.Goals as goal
 
 pub returns-in_default : goal.returns-in_default
 returns-in_default g c =
-    none_there (change g.S.Store.contents g.S.Store.may_give g.S.Store.count) c.args.terms.now.carriage
-    (station (server c.args.host.now c.args.sessions.now c.args.store.now) (g.L.Link.queue c.args.link.now)
-    c.args.out.now)
-    c.args.place c.args.terms.now.moment (sym c.in_default.ensures.index)
+    let turn = c.args.turn.now in (
+      none_there (change g.S.Store.contents g.S.Store.may_give g.S.Store.count) turn.carriage
+          (server_in turn c.args.sessions.now c.args.store.now) c.args.place turn.now (sym c.in_default.ensures.index),
+      (refl, refl, refl, refl, refl),
+    )
 
-pub returns-then-not-can_serve_conn : goal.returns-then-not-can_serve_conn
-returns-then-not-can_serve_conn g c =
+pub returns-then-has_nothing : goal.returns-then-has_nothing
+returns-then-has_nothing g c =
+    let turn = c.args.turn.now in
     let here = c.index_mut-kept.result.now in
     let read =
-    c.index_mut-kept.ensures.value ∙ ap (λ (xs : List Serving). get_or xs c.args.place here) c.sessions.view_is in
-    passed_so (change g.S.Store.contents g.S.Store.may_give g.S.Store.count) c.args.terms.now.carriage here
-    c.args.sessions.now _ c.args.store.now c.args.place _ c.args.terms.now.moment c.args.host.now c.in-Some.at.1.now
-    c.args.out.now (g.L.Link.queue c.args.link.now)
-    (sym c.in-Some.ensures.index) (get_or_read c.args.sessions.now c.args.place here c.requires.within read new_serving)
-    (ap (λ (xs : List Serving). slice_set xs c.args.place here) c.sessions.view_is) (c.serves.ensures c.args.terms.now.moment c.if-serves.true)
-    c.in-Some.ensures.named
-    (sym c.can_serve_conn.ensures ∙ c.if-not-can_serve_conn.true) refl c.requires.empty
+    c.index_mut-kept.ensures.value ∙ ap (λ (xs : List Serving). get_or xs c.args.place here) c.sessions.view_is in (
+      passed_so (change g.S.Store.contents g.S.Store.may_give g.S.Store.count) turn.carriage here
+          c.args.sessions.now _ c.args.store.now c.args.place _ turn.now turn.host.now c.in-Some.at.1.now
+          turn.out.now (g.L.Link.queue turn.link.now)
+          (sym c.in-Some.ensures.index)
+          (get_or_read c.args.sessions.now c.args.place here c.requires.within read new_serving)
+          (ap (λ (xs : List Serving). slice_set xs c.args.place here) c.sessions.view_is)
+          (c.has_nothing.ensures.session turn.now c.if-has_nothing.true)
+          c.in-Some.ensures.named
+          (c.has_nothing.ensures.nothing c.if-has_nothing.true) refl turn.empty,
+      (refl, refl, refl, refl, refl),
+    )
+
+pub invariant_of-turn-2 : goal.invariant_of-turn-2
+invariant_of-turn-2 g c =
+    let turn = c.args.turn.now in
+    let done = c.serve_kept in
+    let room =
+    as_much_room (change g.S.Store.contents g.S.Store.may_give g.S.Store.count c.args.store.now done.new.store)
+    turn.now _ _ done.new.kept turn.host.now done.new.host turn.out.now done.new.out done.ensures in
+    record {
+      room =
+          subst (λ (n : ℕ). TURN_ROOM ≤ n) (sym (ap (λ (o : OutboxView). o.cap) c.send_all.ensures.empty ∙ room))
+          turn.room;
+      empty = ap (λ (o : OutboxView). o.packets) c.send_all.ensures.empty;
+    }
 
 pub returns : goal.returns
 returns g c =
+    let turn = c.args.turn.now in
     let done = c.serve_kept in
     let here = c.index_mut-kept.result.now in
     let read =
-    c.index_mut-kept.ensures.value ∙ ap (λ (xs : List Serving). get_or xs c.args.place here) c.sessions.view_is in
-    slot_so (change g.S.Store.contents g.S.Store.may_give g.S.Store.count) c.args.terms.now.carriage here done.new.kept
-    c.args.sessions.now _ c.args.store.now done.new.store c.args.place _ c.args.terms.now.moment c.args.host.now
-    done.new.host c.args.out.now done.new.out c.send_all.new.out
-    (g.L.Link.queue c.args.link.now) (g.L.Link.queue c.send_all.new.link) c.send_all.result
-    (sym c.in-Some.ensures.index) (get_or_read c.args.sessions.now c.args.place here c.requires.within read new_serving)
-    (ap (λ (xs : List Serving). slice_set xs c.args.place done.new.kept) c.sessions.view_is) c.requires.empty
-    c.send_all.ensures.sends c.send_all.ensures.empty c.send_all.ensures.told done.ensures
+    c.index_mut-kept.ensures.value ∙ ap (λ (xs : List Serving). get_or xs c.args.place here) c.sessions.view_is in (
+      slot_so (change g.S.Store.contents g.S.Store.may_give g.S.Store.count) turn.carriage here done.new.kept
+          c.args.sessions.now _ c.args.store.now done.new.store c.args.place _ turn.now turn.host.now
+          done.new.host turn.out.now done.new.out c.send_all.new.out
+          (g.L.Link.queue turn.link.now) (g.L.Link.queue c.send_all.new.link) c.send_all.result
+          (sym c.in-Some.ensures.index)
+          (get_or_read c.args.sessions.now c.args.place here c.requires.within read new_serving)
+          (ap (λ (xs : List Serving). slice_set xs c.args.place done.new.kept) c.sessions.view_is) turn.empty
+          c.send_all.ensures.sends c.send_all.ensures.empty c.send_all.ensures.told done.ensures,
+      (refl, refl, refl, refl, refl),
+    )

@@ -1,4 +1,4 @@
-use Rattle.std.proofs.Common.{ℕ, Bool, if◌then◌else◌, Some, None, ap, ◌∙◌, refl, sym}
+use Rattle.std.proofs.Common.{Bool, if◌then◌else◌, Some, None, ap, ◌∙◌, refl, sym}
 use Rattle.chaos_turn.specs.Arrive.{deliver_effect}
 use Rattle.chaos_turn.proofs.InTurn.{takes_more, takes_none}
 use Rattle.chaos_turn.proofs.Several.{either_false, either_true, told_more}
