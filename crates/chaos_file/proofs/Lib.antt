@@ -1,5 +1,6 @@
 pub mod Outcome
 pub mod Apply
+pub mod Changed
 pub mod Files
 pub mod Replies
 pub mod Spelling

@@ -7,6 +7,7 @@ use Rattle.std.specs.declared.io.ErrorKind.{ErrorKind}
 use Rattle.std.specs.declared.io.ErrorKind.TheVariants as k
 use Rattle.chaos_file.specs.declared.store.Got.{Got}
 use Rattle.chaos_file.specs.declared.store.Got.TheVariants as g
+use Rattle.chaos_file.specs.declared.store.Placed.{Placed}
 use Rattle.chaos_file.specs.declared.store.Stored.{Stored}
 use Rattle.chaos_file.specs.declared.store.Stored.TheVariants as p
 use Rattle.chaos_file.specs.declared.store.Removed.{Removed}
@@ -26,9 +27,9 @@ got_as (Ok (Some bytes)) = g.Bytes bytes.items
 got_as (Ok None) = g.TooBig
 got_as (Err fault) = refused_as g.Absent g.NoMemory g.Failed (error_kind fault)
 
--- a put asks for no file that is there
-abbrev pub stored_as : {T : Type 0} → Result T Error → Stored
-stored_as (Ok done) = p.Done
+-- whether a file was replaced; a put asks for no file that is there
+abbrev pub stored_as : Result Placed Error → Stored
+stored_as (Ok placed) = p.Done placed
 stored_as (Err fault) = refused_as p.Failed p.NoMemory p.Failed (error_kind fault)
 
 abbrev pub removed_as : {T : Type 0} → Result T Error → Removed

@@ -8,12 +8,14 @@ pub mod FileBytes
 pub mod Store
 pub mod Folder
 pub mod Fuse
+pub mod ReadOnly
 pub mod Entries
 pub mod Session
 pub mod Plan
 pub mod Step
 pub mod Outcome
 pub mod Apply
+pub mod Change
 pub mod Replies
 pub mod Spelling
 pub mod Want

@@ -7,6 +7,8 @@ use Rattle.chaos_packet.specs.Count.{Rose, with_failure}
 use Rattle.chaos_file.specs.declared.limits.TheConstants.{MAX_FILE}
 use Rattle.chaos_file.specs.declared.store.Got.{Got}
 use Rattle.chaos_file.specs.declared.store.Got.TheVariants as g
+use Rattle.chaos_file.specs.declared.store.Placed.{Placed}
+use Rattle.chaos_file.specs.declared.store.Placed.TheVariants.{New, Replaced}
 use Rattle.chaos_file.specs.declared.store.Stored.{Stored}
 use Rattle.chaos_file.specs.declared.store.Stored.TheVariants as p
 use Rattle.chaos_file.specs.declared.store.Removed.{Removed}
@@ -20,6 +22,10 @@ Files = map.FinMap (slice_cmp nat_cmp) (List ℕ)
 
 abbrev pub is_there : Files → List ℕ → Bool
 is_there m path = is_some (map.get m path)
+
+-- whether the bytes that are put at a path replace a file
+abbrev pub placed_in : Files → List ℕ → Placed
+placed_in m path = if is_there m path then Replaced else New
 
 -- what a look for a file of at most so many bytes finds
 pub data Look : Type 0 where
@@ -56,9 +62,9 @@ Gives MayGive _ = Unit {0}
 abbrev pub Gets : List ℕ → ℕ → Got → Option Files → Files → Type 0
 Gets path limit answer after m = GotIs (look_for m path limit) answer × (after ≡ Some m)
 
--- the whole content of a path, new or replaced
+-- the whole content of a path; it is said whether a file was replaced
 abbrev pub Puts : List ℕ → List ℕ → Stored → Option Files → Files → Type 0
-Puts path bytes p.Done after m = after ≡ Some (map.insert m path bytes)
+Puts path bytes (p.Done placed) after m = (placed ≡ placed_in m path) × (after ≡ Some (map.insert m path bytes))
 Puts path bytes p.Failed after m = after ≡ Some m
 Puts path bytes p.NoMemory after m = after ≡ Some m
 

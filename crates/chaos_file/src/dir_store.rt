@@ -9,7 +9,7 @@ mod folder;
 mod held;
 
 use crate::names::is_path;
-use crate::store::{Got, Removed, Renamed, Store, Stored};
+use crate::store::{Cause, Got, Removed, Renamed, Store, Stored};
 use answers::{got_as, removed_as, renamed_as, stored_as};
 use folder::Folder;
 use std::alloc::Global;
@@ -26,7 +26,7 @@ use std::rt::Files;
 /// for a path that isn't legal; and where a path's name in the folder is no file, as a folder, a
 /// link, a fifo, a socket or a device: none is opened, followed, moved, replaced or taken away. So
 /// no path leads out of the folder, and no call waits for anybody but the disk. What the system
-/// said is handed out by [`take_fault`](DirStore::take_fault).
+/// said is the call's [`cause`](Store::cause).
 ///
 /// A `put` writes the file `.new` of the folder, flushes it to the disk, renames it over the path
 /// and flushes the folder, so that a path has its old content or its new one whole, and one that
@@ -79,14 +79,6 @@ impl<R: Drop + Files<File = File>> DirStore<R> {
 }
 
 impl<R: Files> DirStore<R> {
-    /// What the system said in the last call, where it refused something; it is handed out once.
-    pub fn take_fault(&mut self) -> Option<io::Error>
-        // The count of failures stays as it was. What the system said no clause tells.
-        ensures { self.new ≡ self.old }
-    {
-        self.fault.take()
-    }
-
     fn note_failure(&mut self)
         ensures { self.new ≡ with_failure self.old }
     {
@@ -228,5 +220,9 @@ impl<R: Files> Store for DirStore<R> {
 
     fn failures(&self) -> u64 {
         self.failures
+    }
+
+    fn cause(&self) -> Option<Cause<'_>> {
+        self.fault.as_ref().map(Cause::System)
     }
 }

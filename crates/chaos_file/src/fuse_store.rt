@@ -4,7 +4,7 @@ ghost use Rattle.chaos_packet.specs.Count.{Rose};
 ghost use Rattle.chaos_file.specs.Store.{Gives, Gets, Puts, Removes, Renames};
 ghost use Rattle.chaos_file.specs.Fuse.{new_fuse, count_with, after_blow, after_pass};
 
-use crate::store::{Got, Removed, Renamed, Store, Stored};
+use crate::store::{Cause, Got, Removed, Renamed, Store, Stored};
 use std::alloc::Global;
 use std::marker::Model;
 
@@ -170,5 +170,10 @@ impl<S: Store> Store for FuseStore<S> {
 
     fn failures(&self) -> u64 {
         self.inner.failures().saturating_add(self.own_failures)
+    }
+
+    /// The cause is the inner store's. A call that failed by the fuse has none of its own.
+    fn cause(&self) -> Option<Cause<'_>> {
+        self.inner.cause()
     }
 }

@@ -1,12 +1,15 @@
 //! One open file.
 ghost use Rattle.std.specs.Prelude.{◌≡◌, ◌++◌, ◌+◌, ◌<◌, ◌≤◌, ◌^◌, take, drop, length, OnOk, OnErr};
 ghost use Rattle.chaos_file.specs.Answer.{answer_text, read_answer};
+ghost use Rattle.chaos_file.specs.Change.{path_in, put_at};
 ghost use Rattle.chaos_file.specs.Session.{HandleView, blank_handle, is_named, reader, writer, next_bytes, after_read, with_bytes};
 
 use crate::answer::{Reply, kept, tell_bytes};
+use crate::change::Change;
 use crate::file_bytes::FileBytes;
 use crate::limits::{MAX_CHUNK, MAX_FRONT, MAX_HANDLE, MAX_PATH};
 use crate::names::FilePath;
+use crate::store::Placed;
 use arrayvec::ArrayVec;
 use std::alloc::{AllocError, Global};
 use std::marker::Model;
@@ -100,6 +103,23 @@ impl Handle {
         ensures { result.now ≡ self.now.path }
     {
         self.path.as_slice()
+    }
+
+    /// The path, in bytes of its own.
+    pub(crate) fn copied_path(&self) -> FilePath
+        ensures { result ≡ path_in self.now.path }
+    {
+        kept(self.path.as_slice())
+    }
+
+    /// What a put of the handle's bytes changed.
+    pub(crate) fn put_change(&self, placed: Placed) -> Change
+        ensures { result ≡ put_at self.now.path (length self.now.bytes) placed }
+    {
+        match placed {
+            Placed::New => Change::Written(self.copied_path(), self.len()),
+            Placed::Replaced => Change::Replaced(self.copied_path(), self.len()),
+        }
     }
 
     pub(crate) fn bytes(&self) -> &[u8]

@@ -7,6 +7,7 @@
 #![tactic(auto)]
 
 mod answer;
+mod change;
 mod command;
 mod dir_store;
 mod error;
@@ -21,6 +22,7 @@ mod mem_store;
 mod names;
 mod parse;
 mod printed;
+mod read_only;
 mod reply;
 mod session;
 mod store;
@@ -29,6 +31,7 @@ mod whole;
 mod writing;
 
 pub use answer::Reply;
+pub use change::{Attempt, Change};
 pub use command::{Command, Parsed, Word};
 pub use dir_store::DirStore;
 pub use error::FileError;
@@ -43,9 +46,10 @@ pub use mem_store::MemStore;
 pub use names::{FilePath, is_path, is_path_byte, is_user};
 pub use parse::parse_command;
 pub use printed::PrintedName;
+pub use read_only::ReadOnly;
 pub use reply::{ReplyParts, Said, read_reply};
 pub use session::Session;
-pub use store::{Got, Removed, Renamed, Store, Stored};
+pub use store::{Cause, Got, Placed, Removed, Renamed, Store, Stored};
 pub use want::is_want;
 pub use whole::{require_room, write_whole};
 pub use writing::{CommandBytes, write_command, write_reply};

@@ -1,11 +1,11 @@
 //! Files in memory.
 ghost use Rattle.std.specs.Prelude.{◌≡◌, ◌≤◌, ◌<◌, true, [], ◌∷◌, ◌++◌, Some, None, IfSome, length, find, position, option_map, vec_len, vec_capacity, OnOk, OnErr, IfOk};
 ghost use Rattle.std.specs.FinMap as map;
-ghost use Rattle.chaos_file.specs.Store.{Files, Found, is_there, look_for, with_moved, Gets, Puts, Removes, Renames};
+ghost use Rattle.chaos_file.specs.Store.{Files, Found, is_there, look_for, placed_in, with_moved, Gets, Puts, Removes, Renames};
 ghost use Rattle.chaos_file.specs.Entries.{is_at, files_of, others, with_path};
 
 use crate::file_bytes::FileBytes;
-use crate::store::{Got, Removed, Renamed, Store, Stored};
+use crate::store::{Got, Placed, Removed, Renamed, Store, Stored};
 use std::alloc::{AllocError, Global};
 use std::marker::Model;
 
@@ -147,6 +147,16 @@ impl MemStore {
         lookup(self.entries.as_slice(), path)
     }
 
+    /// Whether a put of this path replaces a file.
+    fn placed(&self, path: &[u8]) -> Placed
+        ensures { result ≡ placed_in self.now path.now }
+    {
+        match self.lookup(path) {
+            Some(_) => Placed::Replaced,
+            None => Placed::New,
+        }
+    }
+
     #[tactic(auto, using(crate::proofs::Files::files_set))]
     fn set(&mut self, alloc: Global, path: &[u8], bytes: &[u8]) -> Result<(), AllocError>
         ensures ok { OnOk result (self.new ≡ map.insert self.old path.now bytes.now) }
@@ -194,8 +204,9 @@ impl Store for MemStore {
     }
 
     fn put(&mut self, alloc: Global, path: &[u8], bytes: &[u8]) -> Stored {
+        let placed = self.placed(path);
         match self.set(alloc, path, bytes) {
-            Ok(()) => Stored::Done,
+            Ok(()) => Stored::Done(placed),
             Err(_) => Stored::NoMemory,
         }
     }

@@ -1,5 +1,5 @@
 //! A user's session: one reply for each command.
-ghost use Rattle.std.specs.Prelude.{◌≡◌, ◌≤◌, [], length, option_map};
+ghost use Rattle.std.specs.Prelude.{◌≡◌, ◌≤◌, [], length, option_map, IfOk, None};
 ghost use Rattle.chaos_file.specs.Session.{SessionView, new_session};
 ghost use Rattle.chaos_file.specs.Command.{word_said};
 ghost use Rattle.chaos_file.specs.Views.{command_view, parsed_view, CommandFits, ParsedFits};
@@ -7,13 +7,16 @@ ghost use Rattle.chaos_file.specs.Plan.{plan_command, may_say, if_known, Refuse,
 ghost use Rattle.chaos_file.specs.Store.{change};
 ghost use Rattle.chaos_file.specs.Outcome.{IsDone};
 ghost use Rattle.chaos_file.specs.Apply.{IsApplied};
+ghost use Rattle.chaos_file.specs.Change.{IsChange, Reports, end_of};
 
+mod asked;
 mod close;
 mod open;
 mod paths;
 mod transfer;
 
 use crate::answer::{Reply, begin, end};
+use crate::change::Change;
 use crate::command::{Command, Parsed, Word};
 use crate::error::FileError;
 use crate::handles::Handles;
@@ -30,6 +33,20 @@ use std::marker::Model;
 pub struct Session {
     name: Option<ArrayVec<u8, MAX_NAME>>,
     handles: Handles,
+}
+
+/// How a part of a command's work ended: what it changed, or by which error it was refused.
+type Done = Result<Option<Change>, FileError>;
+
+/// How a part ended that changed no file.
+fn unchanged(done: Result<(), FileError>) -> Done
+    ensures done { end_of result ≡ done }
+    ensures change { IfOk result (λ made. made ≡ None) }
+{
+    match done {
+        Ok(()) => Ok(None),
+        Err(error) => Err(error),
+    }
 }
 
 impl Model for Session {
@@ -103,29 +120,43 @@ impl Session {
             self.new command.now result.items }
     {
         let mut reply = Reply::new();
-        self.apply_into(alloc, store, command, &mut reply);
+        let _ = self.apply_into(alloc, store, command, &mut reply);
         reply
     }
 
-    /// Carries out a command as `apply` does, and writes its reply into a place of the caller's,
-    /// over what stood there: none is moved.
+    /// Carries out a command, and says what the command changed. `apply` is this call without the
+    /// change. The reply is written into a place of the caller's, over what stood there: none is
+    /// moved.
+    ///
+    /// The change is a file that was opened to be read, written, replaced, moved or taken out; or
+    /// that the command was refused, by which error, and what it asked for. Any other command has
+    /// no change. Where the error is a store fault, [`Store::cause`] may say more.
     pub fn apply_into<S: Store>(
         &mut self,
         alloc: Global,
         store: &mut S,
         command: &[u8],
         reply: &mut Reply,
-    )
+    ) -> Option<Change>
         // The session, the store and the reply are as `Session::apply` says, whatever stood in the
         // place.
-        ensures { IsApplied (change S.contents S.may_give S.count store.old store.new) self.old
-            self.new command.now reply.new.items }
+        ensures applied { IsApplied (change S.contents S.may_give S.count store.old store.new)
+            self.old self.new command.now reply.new.items }
+        // After an ERROR reply the change is that the command was refused by this error, with the
+        // file that the command asked for. Otherwise, by what the command asked of the store: an
+        // OPEN READ has read as many bytes as its new handle holds. A CLOSE of a handle that writes
+        // has written a new file or replaced one, of as many bytes as the handle held, and an
+        // honest store says truly which. A RENAME has moved a file, and a DELETE has taken one out.
+        // Every other command has no change.
+        ensures changed { IsChange (change S.contents S.may_give S.count store.old store.new)
+            self.old self.new command.now reply.new.items result }
     {
         reply.clear();
         let parsed = parse_command(command);
         begin(reply, parsed.tid(), parsed.handle());
         let done = self.act(alloc, store, parsed, reply);
-        end(reply, done);
+        end(reply, &done);
+        self.report(parsed, done)
     }
 
     /// Carries out what was read.
@@ -135,18 +166,21 @@ impl Session {
         store: &mut S,
         parsed: Parsed<'_>,
         reply: &mut Reply,
-    ) -> Result<(), FileError>
+    ) -> Done
         requires fits { ParsedFits (parsed_view parsed) }
         requires room { length reply.old.items ≤ MAX_FRONT }
-        ensures { IsDone (change S.contents S.may_give S.count store.old store.new)
+        ensures done { IsDone (change S.contents S.may_give S.count store.old store.new)
             (plan_of self.old (parsed_view parsed.entry))
             (record {
-              done = result;
+              done = end_of result;
               front = reply.old.items;
               reply = reply.new.items;
               old = self.old;
               new = self.new;
             }) }
+        ensures change { Reports (change S.contents S.may_give S.count store.old store.new)
+            (plan_of self.old (parsed_view parsed.entry))
+            self.old self.new result }
     {
         match parsed {
             Parsed::BadHead => Err(FileError::Syntax),
@@ -187,20 +221,24 @@ impl Session {
         handle: &[u8],
         command: Command<'_>,
         reply: &mut Reply,
-    ) -> Result<(), FileError>
+    ) -> Done
         requires handle { length handle.now ≤ MAX_HANDLE }
         requires fits { CommandFits (command_view command) }
         requires room { length reply.old.items ≤ MAX_FRONT }
-        ensures { IsDone (change S.contents S.may_give S.count store.old store.new)
+        ensures done { IsDone (change S.contents S.may_give S.count store.old store.new)
             (if_known self.old (word_said (command_view command.entry))
             (plan_command self.old handle.now (command_view command.entry)))
             (record {
-              done = result;
+              done = end_of result;
               front = reply.old.items;
               reply = reply.new.items;
               old = self.old;
               new = self.new;
             }) }
+        ensures change { Reports (change S.contents S.may_give S.count store.old store.new)
+            (if_known self.old (word_said (command_view command.entry))
+            (plan_command self.old handle.now (command_view command.entry)))
+            self.old self.new result }
     {
         if self.may_say(command.word()) {
             self.run(alloc, store, handle, command, reply)
@@ -218,26 +256,29 @@ impl Session {
         handle: &[u8],
         command: Command<'_>,
         reply: &mut Reply,
-    ) -> Result<(), FileError>
+    ) -> Done
         requires handle { length handle.now ≤ MAX_HANDLE }
         requires fits { CommandFits (command_view command) }
         requires room { length reply.old.items ≤ MAX_FRONT }
-        ensures { IsDone (change S.contents S.may_give S.count store.old store.new)
+        ensures done { IsDone (change S.contents S.may_give S.count store.old store.new)
             (plan_command self.old handle.now (command_view command.entry))
             (record {
-              done = result;
+              done = end_of result;
               front = reply.old.items;
               reply = reply.new.items;
               old = self.old;
               new = self.new;
             }) }
+        ensures change { Reports (change S.contents S.may_give S.count store.old store.new)
+            (plan_command self.old handle.now (command_view command.entry))
+            self.old self.new result }
     {
         match command {
-            Command::Login(name) => self.log_in(name, reply),
+            Command::Login(name) => unchanged(self.log_in(name, reply)),
             Command::OpenRead(path) => self.open_read(alloc, store, handle, path, reply),
-            Command::OpenWrite(path) => self.open_write(handle, path, reply),
-            Command::Read => self.read(handle, reply),
-            Command::Write(bytes) => self.write(alloc, handle, bytes, reply),
+            Command::OpenWrite(path) => unchanged(self.open_write(handle, path, reply)),
+            Command::Read => unchanged(self.read(handle, reply)),
+            Command::Write(bytes) => unchanged(self.write(alloc, handle, bytes, reply)),
             Command::Close => self.close(alloc, store, handle, reply),
             Command::Rename(old, new) => self.rename(alloc, store, old, new, reply),
             Command::Delete(path) => self.delete(alloc, store, path, reply),

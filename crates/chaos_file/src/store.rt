@@ -5,6 +5,7 @@ ghost use Rattle.chaos_file.specs.Store.{Files, Gives, Gets, Puts, Removes, Rena
 
 use crate::file_bytes::FileBytes;
 use std::alloc::Global;
+use std::io;
 
 /// What a `get` finds.
 #[derive(Drop)]
@@ -21,11 +22,20 @@ pub enum Got {
     NoMemory,
 }
 
+/// Whether a path that was put had a file before.
+#[derive(Clone, Copy, Debug, PartialEq, Eq)]
+pub enum Placed {
+    /// No file had the path.
+    New,
+    /// A file had the path, and the bytes replaced its bytes.
+    Replaced,
+}
+
 /// How a `put` went.
 #[derive(Clone, Copy, Debug, PartialEq, Eq)]
 pub enum Stored {
     /// The bytes are the path's whole content.
-    Done,
+    Done(Placed),
     /// The store failed, and its count of failures rose. The files stay.
     Failed,
     /// There was no memory. The files stay.
@@ -60,6 +70,15 @@ pub enum Renamed {
     NoMemory,
 }
 
+/// Why a store failed.
+#[derive(Clone, Copy, Debug)]
+pub enum Cause<'a> {
+    /// The store is only read, and the call would change a file.
+    ReadOnly,
+    /// The system refused something.
+    System(&'a io::Error),
+}
+
 /// Keeps files under paths.
 ///
 /// Every store answers `Failed` only where its count of failures rose in that call. An honest store
@@ -92,8 +111,8 @@ pub trait Store {
     fn put(&mut self, alloc: Global, path: &[u8], bytes: &[u8]) -> Stored
         // It fails only where the count of failures rose.
         ensures failed { result ≡ Stored.Failed → Rose (count self.old) (count self.new) }
-        // The bytes become the whole file at the path of an honest store. A call that fails or
-        // finds no memory leaves all files.
+        // The bytes become the whole file at the path of an honest store, and `Done` says whether
+        // they replaced a file. A call that fails or finds no memory leaves all files.
         ensures files { IfSome (contents self.old)
             (Puts path.now bytes.now result (contents self.new)) };
 
@@ -119,4 +138,10 @@ pub trait Store {
     fn failures(&self) -> u64
         // It is the count of failures.
         ensures { result ≡ count self.now };
+
+    /// Why the last call failed, where the store knows more than that it failed. Ask right after
+    /// the call. No clause says what the system refused.
+    fn cause(&self) -> Option<Cause<'_>> {
+        None
+    }
 }

@@ -4,9 +4,8 @@ use Rattle.std.proofs.lemmas.List.{get_or-set_same, length-set, set-set, set-get
 use Rattle.std.proofs.lemmas.Option.{slice_get_read, slice_get_within, get_or_from_slice_get}
 use Rattle.chaos_packet.specs.Item.{ItemView}
 use Rattle.chaos_packet.specs.Packet.{PacketView}
-use Rattle.chaos_packet.specs.Outbox.{OutboxView}
 use Rattle.chaos_conn.specs.View.{ConnView}
-use Rattle.chaos_conn.specs.Acted.{quietly}
+use Rattle.chaos_conn.specs.Acted.{Acted, quietly}
 use Rattle.chaos_conn.specs.Calls.{front_of, can_write}
 use Rattle.chaos_file.specs.Session.{SessionView}
 use Rattle.chaos_conn.specs.Act.{FinishRead, act}
@@ -16,10 +15,12 @@ use Rattle.chaos_conn.specs.declared.state.State.TheVariants as st
 use Rattle.chaos_host.specs.declared.slot.Slot.{Slot}
 use Rattle.chaos_host.specs.Slot.{is_used, index_of, place_of, named_slot, with_index}
 use Rattle.chaos_host.specs.View.{HostView}
-use Rattle.chaos_host.specs.Acted.{HostActed, HostDoes, no_effect, slot_after_call}
+use Rattle.chaos_host.specs.Acted.{HostActed, no_effect, slot_after_call}
 use Rattle.chaos_serve.specs.Calls.{after_reply_at, after_eof_at, DoesWorkByCalls, work_at}
-use Rattle.chaos_serve.specs.Host.{in_slot, DoesWorkInSlot, ServesOne}
-use Rattle.chaos_serve.specs.Serve.{reply_write, after_reply, after_eof, DoesWork}
+use Rattle.chaos_file.specs.declared.change.Change.{Change}
+use Rattle.chaos_serve.specs.Answer.{IsAnswered, IsReported, IsUnreported, IsUnused}
+use Rattle.chaos_serve.specs.Host.{in_slot, DoesWorkInSlot, DoesWorkInSlotBy}
+use Rattle.chaos_serve.specs.Serve.{reply_write, after_reply, after_eof, DoesWorkBy}
 use Rattle.chaos_serve.specs.Work.{Work, NotOpen, Nothing, Full, LastItem, Command, work_of, work_by}
 use Rattle.chaos_file.specs.Store.{StoreChange}
 use Rattle.chaos_serve.specs.declared.served.Served.TheVariants as told
@@ -114,10 +115,10 @@ quiet_in h id slot answer e =
     ap (left_with h [] answer) (sym (same_slot h.slots (place_of id) slot there))
 
 -- the same told by the host's calls and by the slot, for each kind of work
-module _ (store : StoreChange) (s t : SessionView) (does : HostActed Served → Type 0) (h : HostView) (id now : ℕ)
-    (slot : Slot) (e : named_slot h.slots id ≡ Some slot) where
-  by_work : (work : Work) → work ≡ work_of slot.conn → DoesWorkByCalls store s t does h id now (Some work)
-      → DoesWork store s t (λ acted. does (in_slot h (place_of id) slot acted)) slot.conn now work
+module _ (answered : List ℕ → List ℕ → Type 0) (unused : Type 0) (does : HostActed Served → Type 0) (h : HostView)
+    (id now : ℕ) (slot : Slot) (e : named_slot h.slots id ≡ Some slot) where
+  by_work : (work : Work) → work ≡ work_of slot.conn → DoesWorkByCalls answered unused does h id now (Some work)
+      → DoesWorkBy answered unused (λ acted. does (in_slot h (place_of id) slot acted)) slot.conn now work
   by_work (NotOpen state) e' done = (done.0, subst does (quiet_in h id slot _ e) done.1)
   by_work Nothing e' done = (done.0, subst does (quiet_in h id slot _ e) done.1)
   by_work Full e' done = (done.0, subst does (quiet_in h id slot _ e) done.1)
@@ -125,19 +126,45 @@ module _ (store : StoreChange) (s t : SessionView) (does : HostActed Served → 
   by_work (Command body) e' done =
       (done.0, done.1, subst does (replied_in h id slot done.0 now e (opened_for slot.conn body e')) done.2)
 
-pub serves_in : (store : StoreChange) (s t : SessionView) (does : HostActed Served → Type 0) (h : HostView) (id now : ℕ)
-    (found : Option Slot)
+pub serves_in : (answered : List ℕ → List ℕ → Type 0) (unused : Type 0) (does : HostActed Served → Type 0)
+    (h : HostView) (id now : ℕ) (found : Option Slot)
     → found ≡ named_slot h.slots id
-    → DoesWorkByCalls store s t does h id now (option_map (λ slot. work_of slot.conn) found)
-    → DoesWorkInSlot store s t does h (place_of id) now found
-serves_in store s t does h id now None e done = done
-serves_in store s t does h id now (Some slot) e done =
-    by_work store s t does h id now slot (sym e) (work_of slot.conn) refl done
+    → DoesWorkByCalls answered unused does h id now (option_map (λ slot. work_of slot.conn) found)
+    → DoesWorkInSlotBy answered unused does h (place_of id) now found
+serves_in answered unused does h id now None e done = done
+serves_in answered unused does h id now (Some slot) e done =
+    by_work answered unused does h id now slot (sym e) (work_of slot.conn) refl done
 
-pub serves_one : (store : StoreChange) (s t : SessionView) (old : HostView) (id now : ℕ) (new : HostView)
-    (before after : OutboxView) (answer : Served)
-    → DoesWorkByCalls store s t (λ acted. HostDoes old 2 acted new before after answer) old id now (work_at old id)
-    → ServesOne store s t old id now new before after answer
-serves_one store s t old id now new before after answer done =
-    serves_in store s t (λ acted. HostDoes old 2 acted new before after answer) old id now (named_slot old.slots id)
-    refl done
+pub serves_one : (answered : List ℕ → List ℕ → Type 0) (unused : Type 0) (does : HostActed Served → Type 0)
+    (h : HostView) (id now : ℕ)
+    → DoesWorkByCalls answered unused does h id now (work_at h id)
+    → DoesWorkInSlotBy answered unused does h (place_of id) now (named_slot h.slots id)
+serves_one answered unused does h id now done =
+    serves_in answered unused does h id now (named_slot h.slots id) refl done
+
+-- what holds of a command that was answered, and of none that was given, holds still where something weaker is asked
+module _ (answered answered' : List ℕ → List ℕ → Type 0) (unused unused' : Type 0)
+    (weaker : (command reply : List ℕ) → answered command reply → answered' command reply) (rests : unused → unused')
+  where
+    work_so : (does : Acted Served → Type 0) (v : ConnView) (now : ℕ) (work : Work)
+        → DoesWorkBy answered unused does v now work → DoesWorkBy answered' unused' does v now work
+    work_so does v now (NotOpen state) done = (rests done.0, done.1)
+    work_so does v now Nothing done = (rests done.0, done.1)
+    work_so does v now Full done = (rests done.0, done.1)
+    work_so does v now LastItem done = (rests done.0, done.1)
+    work_so does v now (Command body) done = (done.0, weaker body done.0 done.1, done.2)
+
+    pub slot_so : (does : HostActed Served → Type 0) (h : HostView) (place now : ℕ) (found : Option Slot)
+        → DoesWorkInSlotBy answered unused does h place now found → DoesWorkInSlotBy answered' unused' does h place now found
+    slot_so does h place now None done = (rests done.0, done.1)
+    slot_so does h place now (Some slot) done =
+        work_so (λ acted. does (in_slot h place slot acted)) slot.conn now (work_of slot.conn) done
+
+-- a connection that was served and reported was served
+pub reported_so : (store : StoreChange) (s t : SessionView) (made : Option Change) (does : HostActed Served → Type 0)
+    (h : HostView) (place now : ℕ) (found : Option Slot)
+    → DoesWorkInSlotBy (IsReported store s t made) (IsUnreported store s t made) does h place now found
+    → DoesWorkInSlot store s t does h place now found
+reported_so store s t made does h place now found done =
+    slot_so (IsReported store s t made) (IsAnswered store s t) (IsUnreported store s t made) (IsUnused store s t)
+    (λ command reply both. both.0) (λ both. both.0) does h place now found done

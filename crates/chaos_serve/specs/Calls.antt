@@ -2,13 +2,10 @@
 use Rattle.std.specs.Prelude.{ℕ, Bool, true, false, List, ◌++◌, Option, Some, None, option_map}
 use Rattle.chaos_packet.specs.Opcode.{op_data}
 use Rattle.chaos_conn.specs.Act.{FinishRead, Write}
-use Rattle.chaos_file.specs.Session.{SessionView}
-use Rattle.chaos_file.specs.Store.{StoreChange}
 use Rattle.chaos_host.specs.Slot.{named_slot}
 use Rattle.chaos_host.specs.View.{HostView}
 use Rattle.chaos_host.specs.Acted.{HostActed, no_effect}
 use Rattle.chaos_host.specs.Calls.{HostReply, host_call}
-use Rattle.chaos_serve.specs.Answer.{IsAnswered, IsUnused}
 use Rattle.chaos_serve.specs.Work.{Work, NotOpen, Nothing, Full, LastItem, Command, work_of}
 use Rattle.chaos_serve.specs.declared.served.Served.{Served}
 use Rattle.chaos_serve.specs.declared.served.Served.TheVariants as told
@@ -42,13 +39,12 @@ abbrev pub can_serve : HostView → ℕ → Bool
 can_serve h id = is_served (work_at h id)
 
 -- what serving does, told by those calls
-abbrev pub DoesWorkByCalls : StoreChange → SessionView → SessionView → (HostActed Served → Type 0) → HostView → ℕ → ℕ
+abbrev pub DoesWorkByCalls : (List ℕ → List ℕ → Type 0) → Type 0 → (HostActed Served → Type 0) → HostView → ℕ → ℕ
     → Option Work → Type 0
-DoesWorkByCalls store s t does h id now None = IsUnused store s t × does (no_effect h told.NoSuchConnection)
-DoesWorkByCalls store s t does h id now (Some (NotOpen state)) =
-    IsUnused store s t × does (no_effect h (told.Ended state))
-DoesWorkByCalls store s t does h id now (Some Nothing) = IsUnused store s t × does (no_effect h told.Idle)
-DoesWorkByCalls store s t does h id now (Some Full) = IsUnused store s t × does (no_effect h told.NoRoom)
-DoesWorkByCalls store s t does h id now (Some LastItem) = IsUnused store s t × does (after_eof_at h id)
-DoesWorkByCalls store s t does h id now (Some (Command body)) =
-    (reply : List ℕ) × IsAnswered store s t body reply × does (after_reply_at h id reply now)
+DoesWorkByCalls answered unused does h id now None = unused × does (no_effect h told.NoSuchConnection)
+DoesWorkByCalls answered unused does h id now (Some (NotOpen state)) = unused × does (no_effect h (told.Ended state))
+DoesWorkByCalls answered unused does h id now (Some Nothing) = unused × does (no_effect h told.Idle)
+DoesWorkByCalls answered unused does h id now (Some Full) = unused × does (no_effect h told.NoRoom)
+DoesWorkByCalls answered unused does h id now (Some LastItem) = unused × does (after_eof_at h id)
+DoesWorkByCalls answered unused does h id now (Some (Command body)) =
+    (reply : List ℕ) × answered body reply × does (after_reply_at h id reply now)

@@ -1,5 +1,5 @@
 -- What serving one connection of a host does.
-use Rattle.std.specs.Prelude.{ℕ, Option, Some, None}
+use Rattle.std.specs.Prelude.{ℕ, List, Option, Some, None}
 use Rattle.chaos_packet.specs.Outbox.{OutboxView}
 use Rattle.chaos_conn.specs.Acted.{Acted}
 use Rattle.chaos_file.specs.Session.{SessionView}
@@ -8,8 +8,9 @@ use Rattle.chaos_host.specs.declared.slot.Slot.{Slot}
 use Rattle.chaos_host.specs.Slot.{named_slot, place_of}
 use Rattle.chaos_host.specs.View.{HostView}
 use Rattle.chaos_host.specs.Acted.{HostActed, HostDoes, no_effect, with_slot}
-use Rattle.chaos_serve.specs.Answer.{IsUnused}
-use Rattle.chaos_serve.specs.Serve.{DoesWork}
+use Rattle.chaos_file.specs.declared.change.Change.{Change}
+use Rattle.chaos_serve.specs.Answer.{IsAnswered, IsReported, IsUnreported, IsUnused}
+use Rattle.chaos_serve.specs.Serve.{DoesWorkBy}
 use Rattle.chaos_serve.specs.Work.{work_of}
 use Rattle.chaos_serve.specs.declared.served.Served.{Served}
 use Rattle.chaos_serve.specs.declared.served.Served.TheVariants as told
@@ -23,11 +24,15 @@ in_slot h place slot acted = record {
 }
 
 -- the connection in a slot is served, where there is one
+abbrev pub DoesWorkInSlotBy : (List ℕ → List ℕ → Type 0) → Type 0 → (HostActed Served → Type 0) → HostView → ℕ → ℕ
+    → Option Slot → Type 0
+DoesWorkInSlotBy answered unused does h place now None = unused × does (no_effect h told.NoSuchConnection)
+DoesWorkInSlotBy answered unused does h place now (Some slot) =
+    DoesWorkBy answered unused (λ acted. does (in_slot h place slot acted)) slot.conn now (work_of slot.conn)
+
 abbrev pub DoesWorkInSlot : StoreChange → SessionView → SessionView → (HostActed Served → Type 0) → HostView → ℕ → ℕ
     → Option Slot → Type 0
-DoesWorkInSlot store s t does h place now None = IsUnused store s t × does (no_effect h told.NoSuchConnection)
-DoesWorkInSlot store s t does h place now (Some slot) =
-    DoesWork store s t (λ acted. does (in_slot h place slot acted)) slot.conn now (work_of slot.conn)
+DoesWorkInSlot store s t = DoesWorkInSlotBy (IsAnswered store s t) (IsUnused store s t)
 
 -- the connection with an own index is served
 abbrev pub ServesOne : StoreChange → SessionView → SessionView → HostView → ℕ → ℕ → HostView → OutboxView → OutboxView
@@ -35,3 +40,10 @@ abbrev pub ServesOne : StoreChange → SessionView → SessionView → HostView 
 ServesOne store s t old id now new before after answer =
     DoesWorkInSlot store s t (λ acted. HostDoes old 2 acted new before after answer) old (place_of id) now
     (named_slot old.slots id)
+
+-- the same, and what its command is reported to have changed
+abbrev pub ServesAndReports : StoreChange → SessionView → SessionView → Option Change → HostView → ℕ → ℕ → HostView
+    → OutboxView → OutboxView → Served → Type 0
+ServesAndReports store s t made old id now new before after answer =
+    DoesWorkInSlotBy (IsReported store s t made) (IsUnreported store s t made)
+    (λ acted. HostDoes old 2 acted new before after answer) old (place_of id) now (named_slot old.slots id)

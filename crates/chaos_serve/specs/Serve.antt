@@ -31,14 +31,19 @@ after_reply v reply now = record {
 abbrev pub after_eof : ConnView → Acted Served
 after_eof v = record { view = (act v FinishRead).view; packets = (act v FinishRead).packets; answer = told.Eof }
 
--- What serving does, and what session and store make of it. `does`: the end did this.
+-- What serving does. `answered`: a command was answered by this reply; `unused`: no command was given; `does`: the end
+-- did this.
+abbrev pub DoesWorkBy : (List ℕ → List ℕ → Type 0) → Type 0 → (Acted Served → Type 0) → ConnView → ℕ → Work → Type 0
+DoesWorkBy answered unused does v now (NotOpen state) = unused × does (quietly v (told.Ended state))
+DoesWorkBy answered unused does v now Nothing = unused × does (quietly v told.Idle)
+DoesWorkBy answered unused does v now Full = unused × does (quietly v told.NoRoom)
+DoesWorkBy answered unused does v now LastItem = unused × does (after_eof v)
+DoesWorkBy answered unused does v now (Command body) =
+    (reply : List ℕ) × answered body reply × does (after_reply v reply now)
+
+-- What serving does, and what session and store make of it.
 abbrev pub DoesWork : StoreChange → SessionView → SessionView → (Acted Served → Type 0) → ConnView → ℕ → Work → Type 0
-DoesWork store s t does v now (NotOpen state) = IsUnused store s t × does (quietly v (told.Ended state))
-DoesWork store s t does v now Nothing = IsUnused store s t × does (quietly v told.Idle)
-DoesWork store s t does v now Full = IsUnused store s t × does (quietly v told.NoRoom)
-DoesWork store s t does v now LastItem = IsUnused store s t × does (after_eof v)
-DoesWork store s t does v now (Command body) =
-    (reply : List ℕ) × IsAnswered store s t body reply × does (after_reply v reply now)
+DoesWork store s t = DoesWorkBy (IsAnswered store s t) (IsUnused store s t)
 
 -- An end did this: at most two packets went out, and the configuration stayed.
 pub record ActsTwice (old : ConnView) (acted : Acted Served) (new : ConnView) (before after : OutboxView)

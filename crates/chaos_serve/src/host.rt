@@ -4,12 +4,13 @@ ghost use Rattle.chaos_packet.specs.Outbox.{room_of};
 ghost use Rattle.chaos_file.specs.Store.{change};
 ghost use Rattle.chaos_host.specs.Acted.{HostDoes};
 ghost use Rattle.chaos_serve.specs.Calls.{DoesWorkByCalls, after_eof_at, after_reply_at, work_at};
-ghost use Rattle.chaos_serve.specs.Host.{ServesOne};
+ghost use Rattle.chaos_serve.specs.Answer.{IsReported, IsUnreported};
+ghost use Rattle.chaos_serve.specs.Host.{ServesAndReports, ServesOne};
 ghost use Rattle.chaos_serve.specs.Task.{work_in};
 
 use crate::served::Served;
 use crate::task::{Task, task_of};
-use chaos_file::{Reply, Session, Store};
+use chaos_file::{Change, Reply, Session, Store};
 use chaos_host::{ConnId, Host};
 use chaos_packet::{Opcode, Outbox};
 use std::alloc::Global;
@@ -43,8 +44,9 @@ fn finish_at(host: &mut Host, id: ConnId, out: &mut Outbox) -> Served
     Served::Eof
 }
 
-/// Serves the item in front of a connection, by calls of the host. Only a command gets room for a
-/// reply, so that a connection with nothing in front is passed over by one look.
+/// Serves the item in front of a connection, by calls of the host, and says what its command
+/// changed. Only a command gets room for a reply, so that a connection with nothing in front is
+/// passed over by one look.
 fn serve_by_calls<S: Store>(
     alloc: Global,
     host: &mut Host,
@@ -53,31 +55,56 @@ fn serve_by_calls<S: Store>(
     store: &mut S,
     now: u64,
     out: &mut Outbox,
-) -> Served
+) -> (Served, Option<Change>)
     requires { 2 ≤ room_of out.old }
-    ensures { DoesWorkByCalls (change S.contents S.may_give S.count store.old store.new)
-        session.old session.new
-        (λ acted. HostDoes host.old 2 acted host.new out.old out.new result)
+    ensures { DoesWorkByCalls
+        (IsReported (change S.contents S.may_give S.count store.old store.new) session.old
+        session.new result.1)
+        (IsUnreported (change S.contents S.may_give S.count store.old store.new) session.old
+        session.new result.1)
+        (λ acted. HostDoes host.old 2 acted host.new out.old out.new result.0)
         host.old id now (work_at host.old id) }
 {
     let Some(task) = task_at(host, id) else {
-        return Served::NoSuchConnection;
+        return (Served::NoSuchConnection, None);
     };
     match task {
-        Task::NotOpen(state) => Served::Ended(state),
-        Task::Nothing => Served::Idle,
-        Task::Full => Served::NoRoom,
-        Task::LastItem => finish_at(host, id, out),
+        Task::NotOpen(state) => (Served::Ended(state), None),
+        Task::Nothing => (Served::Idle, None),
+        Task::Full => (Served::NoRoom, None),
+        Task::LastItem => (finish_at(host, id, out), None),
         Task::Command(body) => {
             let mut reply = Reply::new();
-            session.apply_into(alloc, store, body, &mut reply);
-            answer_at(host, id, reply.as_slice(), now, out)
+            let made = session.apply_into(alloc, store, body, &mut reply);
+            (answer_at(host, id, reply.as_slice(), now, out), made)
         }
     }
 }
 
+/// Serves the item in front of one of a host's connections as [`serve_one`] does, and says what its
+/// command changed. See [`Session::apply_into`].
+pub fn serve_and_report<S: Store>(
+    alloc: Global,
+    host: &mut Host,
+    id: ConnId,
+    session: &mut Session,
+    store: &mut S,
+    now: u64,
+    out: &mut Outbox,
+) -> (Served, Option<Change>)
+    requires { 2 ≤ room_of out.old }
+    // The call does what `serve_one` does. Where it answered a command, the change is that of the
+    // command and the reply that was written, by the whole promise of `Session::apply_into`. In all
+    // other cases there is no change.
+    ensures { ServesAndReports (change S.contents S.may_give S.count store.old store.new)
+        session.old session.new result.1 host.old id now host.new out.old out.new result.0 }
+{
+    serve_by_calls(alloc, host, id, session, store, now, out)
+}
+
 /// Serves the item in front of one of a host's connections, one command at most. Answers and cost
-/// are those of [`serve_conn`](crate::serve_conn), and the call needs room for two packets.
+/// are those of [`serve_conn`](crate::serve_conn), and the call needs room for two packets. It is
+/// [`serve_and_report`] without the change.
 pub fn serve_one<S: Store>(
     alloc: Global,
     host: &mut Host,
@@ -93,5 +120,6 @@ pub fn serve_one<S: Store>(
     ensures { ServesOne (change S.contents S.may_give S.count store.old store.new)
         session.old session.new host.old id now host.new out.old out.new result }
 {
-    serve_by_calls(alloc, host, id, session, store, now, out)
+    let (served, _) = serve_and_report(alloc, host, id, session, store, now, out);
+    served
 }

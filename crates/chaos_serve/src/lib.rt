@@ -2,7 +2,7 @@
 //! and answered by one reply.
 //!
 //! [`serve_conn`] serves an end of a connection, and [`serve_one`] one of a host's connections.
-//! [`can_serve`] returns whether it would serve anything. The calls touch no socket and no clock,
+//! [`serve_and_report`] also returns what the command changed. [`can_serve`] returns whether it would serve anything. The calls touch no socket and no clock,
 //! and take no memory except what [`chaos_file::Session::apply`] takes.
 #![tactic(auto)]
 
@@ -17,6 +17,6 @@ mod task;
 pub use conn::serve_conn;
 pub use contact::CONTACT;
 pub use due::{can_serve, can_serve_conn};
-pub use host::serve_one;
+pub use host::{serve_and_report, serve_one};
 pub use law::law_reply_taken;
 pub use served::Served;

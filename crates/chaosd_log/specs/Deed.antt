@@ -1,8 +1,9 @@
 -- What a store did, as whoever takes note of it keeps it.
-use Rattle.std.specs.Prelude.{◌≡◌, ◌⊎◌, ◌∷◌, ◌++◌, [], ℕ, List, Option, option_map, length, min, take}
+use Rattle.std.specs.Prelude.{◌≡◌, ◌∷◌, ◌++◌, [], ℕ, List, Option, option_map, length, min, take}
 use Rattle.chaos_file.specs.declared.limits.TheConstants.{MAX_PATH}
 use Rattle.chaos_file.specs.declared.store.Got.{Got}
 use Rattle.chaos_file.specs.declared.store.Got.TheVariants as got
+use Rattle.chaos_file.specs.declared.store.Placed.TheVariants as placed
 use Rattle.chaos_file.specs.declared.store.Stored.{Stored}
 use Rattle.chaos_file.specs.declared.store.Stored.TheVariants as stored
 use Rattle.chaos_file.specs.declared.store.Removed.{Removed}
@@ -42,8 +43,8 @@ NotesGet path got.NoMemory old new = new ≡ noted_with (Refused (attempt.Read (
 NotesGet path got.Failed old new = new ≡ old
 
 abbrev pub NotesPut : List ℕ → ℕ → Stored → Option (List Deed) → Option (List Deed) → Type 0
-NotesPut path bytes stored.Done old new =
-    (new ≡ noted_with (Wrote (path_of path) bytes) old) ⊎ (new ≡ noted_with (Replaced (path_of path) bytes) old)
+NotesPut path bytes (stored.Done placed.New) old new = new ≡ noted_with (Wrote (path_of path) bytes) old
+NotesPut path bytes (stored.Done placed.Replaced) old new = new ≡ noted_with (Replaced (path_of path) bytes) old
 NotesPut path bytes stored.NoMemory old new = new ≡ noted_with (Refused (attempt.Write (path_of path)) NoMemory) old
 NotesPut path bytes stored.Failed old new = new ≡ old
 

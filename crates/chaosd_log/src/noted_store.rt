@@ -1,13 +1,13 @@
 //! The store of a folder, of which note is taken.
-ghost use Rattle.std.specs.Prelude.{◌≡◌, ◌⊎◌, ◌≤◌, length, None};
-ghost use Rattle.chaos_packet.specs.Count.{Rose, with_failure};
+ghost use Rattle.std.specs.Prelude.{◌≡◌, ◌≤◌, length, None};
+ghost use Rattle.chaos_packet.specs.Count.{Rose};
 ghost use Rattle.chaos_file.specs.Store.{Gives};
 ghost use Rattle.chaosd_log.specs.Deed.{NotesGet, NotesPut, NotesRemove, NotesRename, noted_with};
 ghost use Rattle.chaosd_log.specs.declared.deed.Deed.TheVariants.{Refused};
 
 use crate::deed::{Attempt, Deed, Path, Refusal, move_of};
 use crate::notes::Notes;
-use chaos_file::{DirStore, Got, Removed, Renamed, Store, Stored};
+use chaos_file::{Cause, DirStore, Got, Placed, Removed, Renamed, Store, Stored};
 use std::alloc::Global;
 use std::fs::{File, Files};
 
@@ -42,21 +42,8 @@ impl<'a, R: Files<File = File>, N: Notes> NotedStore<'a, R, N> {
         ensures inner { self.new.inner ≡ self.old.inner }
         ensures noted { N.noted self.new.notes ≡ N.noted self.old.notes }
     {
-        if let Some(fault) = self.inner.take_fault() {
-            self.notes.fail(attempt, &fault);
-        }
-    }
-
-    /// Whether something has the path's name.
-    fn has(&mut self, alloc: Global, path: &[u8]) -> bool
-        ensures inner { (self.new.inner ≡ self.old.inner)
-            ⊎ (self.new.inner ≡ with_failure self.old.inner) }
-        ensures notes { self.new.notes ≡ self.old.notes }
-    {
-        match self.inner.get(alloc, path, 0) {
-            Got::Absent | Got::NoMemory => false,
-            Got::Failed => true,
-            Got::Bytes(_) | Got::TooBig => true,
+        if let Some(Cause::System(fault)) = self.inner.cause() {
+            self.notes.fail(attempt, fault);
         }
     }
 }
@@ -104,13 +91,12 @@ impl<R: Files<File = File>, N: Notes> Store for NotedStore<'_, R, N> {
         ensures noted { NotesPut path.now (length bytes.now) result (N.noted self.old.notes)
             (N.noted self.new.notes) }
     {
-        let was_there = self.has(alloc, path);
         let stored = self.inner.put(alloc, path, bytes);
         match stored {
-            Stored::Done if was_there => self
+            Stored::Done(Placed::Replaced) => self
                 .notes
                 .note(Deed::Replaced(Path::new(path), bytes.len())),
-            Stored::Done => self.notes.note(Deed::Wrote(Path::new(path), bytes.len())),
+            Stored::Done(Placed::New) => self.notes.note(Deed::Wrote(Path::new(path), bytes.len())),
             Stored::Failed => self.fail(Attempt::Write(Path::new(path))),
             Stored::NoMemory => self.refuse(Attempt::Write(Path::new(path)), Refusal::NoMemory),
         }

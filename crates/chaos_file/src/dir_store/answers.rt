@@ -4,7 +4,7 @@ ghost use Rattle.std.specs.IoError.{error_kind};
 ghost use Rattle.chaos_file.specs.Folder.{got_as, refused_as, removed_as, renamed_as, stored_as};
 
 use crate::file_bytes::FileBytes;
-use crate::store::{Got, Removed, Renamed, Stored};
+use crate::store::{Got, Placed, Removed, Renamed, Stored};
 use std::io;
 use std::io::ErrorKind;
 
@@ -39,12 +39,12 @@ pub(super) fn got_as(found: io::Result<Option<Vec<u8>>>, kept: &mut Option<io::E
     }
 }
 
-/// The answer to a put.
-pub(super) fn stored_as(end: io::Result<()>, kept: &mut Option<io::Error>) -> Stored
+/// The answer to a put, which says whether a file was replaced.
+pub(super) fn stored_as(end: io::Result<Placed>, kept: &mut Option<io::Error>) -> Stored
     ensures { result ≡ stored_as end }
 {
     match end {
-        Ok(()) => Stored::Done,
+        Ok(placed) => Stored::Done(placed),
         Err(fault) => refused_as(
             fault,
             Stored::Failed,

@@ -3,6 +3,7 @@ ghost use Rattle.std.specs.Prelude.{◌≡◌, ◌<◌, ◌≤◌, None, true, l
 ghost use Rattle.chaos_file.specs.Names.{is_path};
 
 use super::held::Held;
+use crate::store::Placed;
 use crate::whole::write_whole;
 use std::alloc::Global;
 use std::fs::{File, Metadata, OpenFile};
@@ -50,6 +51,14 @@ fn require_file(info: &Metadata) -> io::Result<()> {
         Ok(())
     } else {
         Err(io::Error::new(ErrorKind::InvalidInput, "it is no file"))
+    }
+}
+
+/// Whether what is put at a place replaces the file there, where there is one.
+fn placed_over(file: &Option<Metadata>) -> Placed {
+    match file {
+        Some(_) => Placed::Replaced,
+        None => Placed::New,
     }
 }
 
@@ -119,13 +128,15 @@ impl<R: Files> Folder<R> {
     /// Writes a file whole, and then gives it its path. The bytes are on the disk before the path
     /// leads to them, and the path is on the disk at the end. What may be refused is tried before
     /// the path changes, but for the last flush. Where the path didn't change, what was written is
-    /// taken away. A file that is replaced leaves its mode to the new one.
-    pub(crate) fn put(&self, alloc: Global, path: &[u8], bytes: &[u8]) -> io::Result<()>
+    /// taken away. A file that is replaced leaves its mode to the new one. The result says whether
+    /// there was one.
+    pub(crate) fn put(&self, alloc: Global, path: &[u8], bytes: &[u8]) -> io::Result<Placed>
         requires { is_path path.now ≡ true }
     {
         self.held.require_name(&self.rt, alloc)?;
         let place = self.place(alloc, path)?;
         let replaced = self.file_at(place.as_str())?;
+        let placed = placed_over(&replaced);
         self.clear_fresh()?;
         write_whole(
             &self.rt,
@@ -134,7 +145,8 @@ impl<R: Files> Folder<R> {
             replaced.map(|info| info.permissions()),
             bytes,
         )?;
-        self.held.flush()
+        self.held.flush()?;
+        Ok(placed)
     }
 
     /// Takes away what was left of a put, where there is such: a link itself, and never what it

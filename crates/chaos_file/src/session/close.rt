@@ -4,9 +4,10 @@ ghost use Rattle.chaos_file.specs.Answer.{Closed, answer_text};
 ghost use Rattle.chaos_file.specs.Session.{handle_named, handle_at, without_handle};
 ghost use Rattle.chaos_file.specs.Plan.{plan_close};
 ghost use Rattle.chaos_file.specs.Store.{change};
+ghost use Rattle.chaos_file.specs.Change.{Reports, end_of};
 ghost use Rattle.chaos_file.specs.Outcome.{IsDone};
 
-use super::Session;
+use super::{Done, Session};
 use crate::answer::{Reply, tell_count};
 use crate::error::FileError;
 use crate::limits::MAX_FRONT;
@@ -35,31 +36,35 @@ impl Session {
         store: &mut S,
         handle: &[u8],
         reply: &mut Reply,
-    ) -> Result<(), FileError>
+    ) -> Done
         requires { length reply.old.items ≤ MAX_FRONT }
-        ensures { IsDone (change S.contents S.may_give S.count store.old store.new)
+        ensures done { IsDone (change S.contents S.may_give S.count store.old store.new)
             (plan_close self.old (handle_named handle.now self.old.handles))
             (record {
-              done = result;
+              done = end_of result;
               front = reply.old.items;
               reply = reply.new.items;
               old = self.old;
               new = self.new;
             }) }
+        ensures change { Reports (change S.contents S.may_give S.count store.old store.new)
+            (plan_close self.old (handle_named handle.now self.old.handles))
+            self.old self.new result }
     {
         match self.handles.find(handle) {
             None => Err(FileError::NoSuchHandle),
             Some((at, h)) if h.writes() => match store.put(alloc, h.path(), h.bytes()) {
-                Stored::Done => {
+                Stored::Done(placed) => {
+                    let change = h.put_change(placed);
                     self.close_at(at, reply);
-                    Ok(())
+                    Ok(Some(change))
                 }
                 Stored::Failed => Err(FileError::StoreFault),
                 Stored::NoMemory => Err(FileError::NoMemory),
             },
             Some((at, _)) => {
                 self.close_at(at, reply);
-                Ok(())
+                Ok(None)
             }
         }
     }

@@ -4,10 +4,12 @@ ghost use Rattle.chaos_file.specs.Answer.{LoggedIn, Opened};
 ghost use Rattle.chaos_file.specs.Session.{handle_named, with_name, with_new_handle, writer};
 ghost use Rattle.chaos_file.specs.Plan.{Tell, Ask, GetFile, open_error, plan_open};
 ghost use Rattle.chaos_file.specs.Store.{change};
+ghost use Rattle.chaos_file.specs.Change.{Reports, end_of};
 ghost use Rattle.chaos_file.specs.Outcome.{Settles, IsDone};
 
-use super::Session;
+use super::{Done, Session};
 use crate::answer::{Reply, kept, tell, tell_count};
+use crate::change::Change;
 use crate::error::FileError;
 use crate::handle::Handle;
 use crate::limits::{MAX_FILE, MAX_FRONT, MAX_HANDLE, MAX_HANDLES, MAX_NAME, MAX_PATH};
@@ -89,28 +91,32 @@ impl Session {
         name: &[u8],
         path: &[u8],
         reply: &mut Reply,
-    ) -> Result<(), FileError>
+    ) -> Done
         requires name { length name.now ≤ MAX_HANDLE }
         requires path { length path.now ≤ MAX_PATH }
         requires room { length reply.old.items ≤ MAX_FRONT }
-        ensures { IsDone (change S.contents S.may_give S.count store.old store.new)
+        ensures done { IsDone (change S.contents S.may_give S.count store.old store.new)
             (plan_open self.old name.now (Ask (GetFile name.now path.now)))
             (record {
-              done = result;
+              done = end_of result;
               front = reply.old.items;
               reply = reply.new.items;
               old = self.old;
               new = self.new;
             }) }
+        ensures change { Reports (change S.contents S.may_give S.count store.old store.new)
+            (plan_open self.old name.now (Ask (GetFile name.now path.now)))
+            self.old self.new result }
     {
         if let Some(error) = self.open_error(name) {
             return Err(error);
         }
         match store.get(alloc, path, MAX_FILE) {
             Got::Bytes(bytes) => {
+                let change = Change::Read(kept(path), bytes.len());
                 tell_count(reply, b"OPEN ", bytes.len());
                 self.add(Handle::reader(name, path, bytes));
-                Ok(())
+                Ok(Some(change))
             }
             Got::Absent => Err(FileError::NoSuchFile),
             Got::TooBig => Err(FileError::FileTooBig),

@@ -2,12 +2,14 @@
 ghost use Rattle.std.specs.Prelude.{◌≡◌, ◌≤◌, length};
 ghost use Rattle.chaos_file.specs.Plan.{Ask, RenameFile, RemoveFile};
 ghost use Rattle.chaos_file.specs.Store.{change};
+ghost use Rattle.chaos_file.specs.Change.{Reports, end_of};
 ghost use Rattle.chaos_file.specs.Outcome.{IsDone};
 
-use super::Session;
-use crate::answer::{Reply, put};
+use super::{Done, Session};
+use crate::answer::{Reply, kept, put};
+use crate::change::Change;
 use crate::error::FileError;
-use crate::limits::MAX_FRONT;
+use crate::limits::{MAX_FRONT, MAX_PATH};
 use crate::store::{Removed, Renamed, Store};
 use std::alloc::Global;
 
@@ -20,22 +22,27 @@ impl Session {
         old: &[u8],
         new: &[u8],
         reply: &mut Reply,
-    ) -> Result<(), FileError>
-        requires { length reply.old.items ≤ MAX_FRONT }
-        ensures { IsDone (change S.contents S.may_give S.count store.old store.new)
+    ) -> Done
+        requires old { length old.now ≤ MAX_PATH }
+        requires new { length new.now ≤ MAX_PATH }
+        requires room { length reply.old.items ≤ MAX_FRONT }
+        ensures done { IsDone (change S.contents S.may_give S.count store.old store.new)
             (Ask (RenameFile old.now new.now))
             (record {
-              done = result;
+              done = end_of result;
               front = reply.old.items;
               reply = reply.new.items;
               old = self.now;
               new = self.now;
             }) }
+        ensures change { Reports (change S.contents S.may_give S.count store.old store.new)
+            (Ask (RenameFile old.now new.now))
+            self.now self.now result }
     {
         match store.rename(alloc, old, new) {
             Renamed::Done => {
                 put(reply, b"RENAME");
-                Ok(())
+                Ok(Some(Change::Renamed(kept(old), kept(new))))
             }
             Renamed::Absent => Err(FileError::NoSuchFile),
             Renamed::Exists => Err(FileError::FileExists),
@@ -51,22 +58,26 @@ impl Session {
         store: &mut S,
         path: &[u8],
         reply: &mut Reply,
-    ) -> Result<(), FileError>
-        requires { length reply.old.items ≤ MAX_FRONT }
-        ensures { IsDone (change S.contents S.may_give S.count store.old store.new)
+    ) -> Done
+        requires path { length path.now ≤ MAX_PATH }
+        requires room { length reply.old.items ≤ MAX_FRONT }
+        ensures done { IsDone (change S.contents S.may_give S.count store.old store.new)
             (Ask (RemoveFile path.now))
             (record {
-              done = result;
+              done = end_of result;
               front = reply.old.items;
               reply = reply.new.items;
               old = self.now;
               new = self.now;
             }) }
+        ensures change { Reports (change S.contents S.may_give S.count store.old store.new)
+            (Ask (RemoveFile path.now))
+            self.now self.now result }
     {
         match store.remove(alloc, path) {
             Removed::Done => {
                 put(reply, b"DELETE");
-                Ok(())
+                Ok(Some(Change::Deleted(kept(path))))
             }
             Removed::Absent => Err(FileError::NoSuchFile),
             Removed::Failed => Err(FileError::StoreFault),
