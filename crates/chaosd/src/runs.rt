@@ -1,6 +1,6 @@
 //! The runs over standard input and output alone: `show`, `lab` and `filelab`.
 ghost use Rattle.std.specs.Prelude.{◌≡◌};
-ghost use Rattle.chaosd.specs.Framed.{format_by};
+ghost use Rattle.chaosd.specs.Framed.{format_by, view_by};
 
 use crate::run_ends::tell_end;
 use chaosd_copies::ExitStatus;
@@ -8,8 +8,8 @@ use chaosd_filelab::run_filelab;
 use chaosd_io::{RunFault, without_return};
 use chaosd_lab::run_lab;
 use chaosd_line::Show;
-use chaosd_show::{Format, run_show_by};
-use chaosd_told::{Kept, Laboratory, Reports, why_bad};
+use chaosd_show::{Format, View, run_show_by};
+use chaosd_told::{Kept, Laboratory, why_bad};
 use std::io;
 use std::io::Read;
 
@@ -25,17 +25,27 @@ fn format_of(show: Show) -> Format
     }
 }
 
-/// Runs `show` from standard input to standard output. Where it is asked for, what data say stands
-/// in the reports too.
+/// How much is reported of data.
+fn view_of(show: Show) -> View
+    // What data say is reported where the line asks for that, otherwise the bytes alone.
+    ensures { result ≡ view_by show }
+{
+    if show.is_file {
+        View::File
+    } else {
+        View::Plain
+    }
+}
+
+/// Runs `show` from standard input to standard output.
 #[inline(never)]
 pub(crate) fn run_show_line<R: Input + Print + Eprint>(rt: &R, show: Show) -> ExitStatus {
-    let format = format_of(show);
-    let end = if show.is_file {
-        let mut writer = io::writer(rt);
-        run_show_by(format, &mut rt.reader(), &mut Reports::new(&mut writer))
-    } else {
-        run_show_by(format, &mut rt.reader(), &mut io::writer(rt))
-    };
+    let end = run_show_by(
+        format_of(show),
+        view_of(show),
+        &mut rt.reader(),
+        &mut io::writer(rt),
+    );
     tell_end(rt, &end);
     ExitStatus::of_run(end.map(|tally| tally.refused == 0))
 }

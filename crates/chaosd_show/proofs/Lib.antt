@@ -1,5 +1,6 @@
 pub mod Digits
 pub mod Faults
+pub mod Packets
 pub mod Pairs
 pub mod Steps
 pub mod Versions

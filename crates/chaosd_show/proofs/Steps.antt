@@ -3,14 +3,16 @@ use Rattle.std.proofs.Common.{◌≡◌, ℕ, suc, ◌+◌, ◌<◌, ◌≤◌, 
 use Rattle.std.specs.Prelude.{Option}
 use Rattle.std.specs.Io.BufRead.{strip_last}
 use Rattle.std.specs.Io.KnownBytes.{Appends}
-use Rattle.std.proofs.KnownBytes.{Appends-trans}
+use Rattle.std.proofs.KnownBytes.{Appends-trans, Keeps-refl, append_known-grown}
 use Rattle.std.proofs.lemmas.Bool.{lt-ltb}
 use Rattle.std.proofs.lemmas.Bool.Decides.{nat_tests}
 use Rattle.std.proofs.lemmas.List.Sums.{sum_by-append}
 use Rattle.chaosd_show.specs.declared.format.Format.{Format}
 use Rattle.chaosd_show.specs.declared.format.Format.TheVariants.{Own, Chudp}
+use Rattle.chaosd_show.specs.declared.view.View.{View}
 use Rattle.chaosd_show.specs.declared.limits.TheConstants.{SHOW_KEPT_LEN, SHOW_LINE_LIMIT}
 use Rattle.chaosd_show.specs.declared.tally.Tally.{Tally}
+use Rattle.chaosd_io.specs.Buffer.{written_of}
 use Rattle.chaosd_io.proofs.Steps.{length-strip_last}
 use Rattle.chaosd_show.specs.Hex.{hex_bytes}
 use Rattle.chaosd_show.specs.Entry.Entry.{Unreadable}
@@ -59,20 +61,27 @@ none_refused Chudp = refl
 pub empty_refused : (format : Format) (text : List ℕ) → eqb (length text) 0 ≡ true → is_refusal (entry_of_text format text) ≡ true
 empty_refused format text none = ap is_refusal (empty_text format text none) ∙ none_refused format
 
+-- ---- what is put into the buffer
+
+-- it stands behind all that was written
+pub put_behind : (held : Option (List ℕ)) (old new text : List ℕ) → new ≡ old ++ text
+    → Appends (written_of held old) (written_of held new) text
+put_behind held old new text more = append_known-grown (written_of held old) held old new text (Keeps-refl _) more
+
 -- ---- one line more
 
 is_more : (n : ℕ) → eqb (suc n) 0 ≡ false
 is_more n = grind (arith, nat_tests)
 
-reports_of-push : (format : Format) (lines : List (List ℕ)) (raw : List ℕ)
-    → reports_of format (lines ++ raw ∷ []) ≡ reports_of format lines ++ (gap (eqb (length lines) 0) ++ line_report format raw)
-reports_of-push format [] raw = refl
-reports_of-push format (first ∷ []) raw = refl
-reports_of-push format (first ∷ next ∷ others) raw =
-    ap (λ l. line_report format first ++ 10 ∷ l) (reports_of-push format (next ∷ others) raw)
-    ∙ ap (λ b. line_report format first ++ 10 ∷ (reports_of format (next ∷ others) ++ (gap b ++ line_report format raw)))
+reports_of-push : (format : Format) (view : View) (lines : List (List ℕ)) (raw : List ℕ)
+    → reports_of format view (lines ++ raw ∷ []) ≡ reports_of format view lines ++ (gap (eqb (length lines) 0) ++ line_report format view raw)
+reports_of-push format view [] raw = refl
+reports_of-push format view (first ∷ []) raw = refl
+reports_of-push format view (first ∷ next ∷ others) raw =
+    ap (λ l. line_report format view first ++ 10 ∷ l) (reports_of-push format view (next ∷ others) raw)
+    ∙ ap (λ b. line_report format view first ++ 10 ∷ (reports_of format view (next ∷ others) ++ (gap b ++ line_report format view raw)))
     (is_more (length others) ∙ sym (is_more (length (next ∷ others))))
-    ∙ sym (append_assoc (line_report format first) (10 ∷ reports_of format (next ∷ others)) _)
+    ∙ sym (append_assoc (line_report format view first) (10 ∷ reports_of format view (next ∷ others)) _)
 
 same_tally : (m n a b : ℕ) → m ≡ n → a ≡ b
     → ◌≡◌ {A = Tally} (record { reports = m; refused = a }) (record { reports = n; refused = b })
@@ -89,18 +98,18 @@ counted_entry tally entry =
     record { reports = tally.reports + 1; refused = tally.refused + cond (is_refusal entry) 1 0 }
 
 -- the report of one line more, which is what another one is that begins alike
-pub line_more : (format : Format) (before written written' : Option (List ℕ)) (tally tally' : Tally) (lines : List (List ℕ))
+pub line_more : (format : Format) (view : View) (before written written' : Option (List ℕ)) (tally tally' : Tally) (lines : List (List ℕ))
     (line raw : List ℕ)
     → take SHOW_KEPT_LEN raw ≡ take SHOW_KEPT_LEN line
-    → Appends before written (reports_of format lines) → tally ≡ tally_of format lines
-    → Appends written written' (gap (eqb tally.reports 0) ++ line_report format raw) → tally' ≡ counted format tally raw
-    → Appends before written' (reports_of format (lines ++ line ∷ [])) × (tally' ≡ tally_of format (lines ++ line ∷ []))
-line_more format before written written' tally tally' lines line raw alike text count more next =
+    → Appends before written (reports_of format view lines) → tally ≡ tally_of format lines
+    → Appends written written' (gap (eqb tally.reports 0) ++ line_report format view raw) → tally' ≡ counted format tally raw
+    → Appends before written' (reports_of format view (lines ++ line ∷ [])) × (tally' ≡ tally_of format (lines ++ line ∷ []))
+line_more format view before written written' tally tally' lines line raw alike text count more next =
     let same : entry_of format raw ≡ entry_of format line = same_front format raw line alike in (
       subst (Appends before written')
-          (ap (λ n. reports_of format lines ++ (gap (eqb n 0) ++ line_report format raw)) (ap (λ t. t.reports) count)
-          ∙ ap (λ e. reports_of format lines ++ (gap (eqb (length lines) 0) ++ entry_text e)) same
-          ∙ sym (reports_of-push format lines line))
+          (ap (λ n. reports_of format view lines ++ (gap (eqb n 0) ++ line_report format view raw)) (ap (λ t. t.reports) count)
+          ∙ ap (λ e. reports_of format view lines ++ (gap (eqb (length lines) 0) ++ entry_text view e)) same
+          ∙ sym (reports_of-push format view lines line))
           (Appends-trans before written written' _ _ text more),
       next ∙ ap (λ t. counted format t raw) count ∙ ap (counted_entry (tally_of format lines)) same ∙ sym (tally_of-push format lines line),
     )

@@ -14,6 +14,7 @@ use Rattle.chaos_chudp.specs.declared.fault.ChudpFault.TheVariants as chudp
 use Rattle.chaos_chudp.specs.Chudp.{CarriesChudp, DeliveryView, chudp_fault, chudp_read, sum_in}
 use Rattle.chaosd_show.specs.declared.format.Format.{Format}
 use Rattle.chaosd_show.specs.declared.format.Format.TheVariants.{Own, Chudp}
+use Rattle.chaosd_show.specs.declared.view.View.{View}
 use Rattle.chaosd_show.specs.declared.limits.TheConstants.{SHOW_LINE_LIMIT}
 use Rattle.chaosd_show.specs.Hex.{hex_bytes}
 use Rattle.chaosd_io.specs.Texts.{line}
@@ -91,14 +92,14 @@ chudp_fault_text chudp.BadSum = codes "fault 5 BadSum"
 chudp_fault_text (chudp.Packet fault) = codes "fault 6 Packet " ++ packet_fault_text fault
 chudp_fault_text chudp.Trailing = codes "fault 7 Trailing"
 
--- the report
-unfoldable pub entry_text : Entry → List ℕ
-entry_text Unreadable = line (codes "fault 0 Line")
-entry_text (Refused fault) = line (fault_text fault)
-entry_text (Read packet) = packet_text packet
-entry_text (ReadSeveral packets) = several_text packets
-entry_text (RefusedChudp fault) = line (chudp_fault_text fault)
-entry_text (Delivered delivery) = delivery_text delivery
+-- the report, by how much is reported of data
+unfoldable pub entry_text : View → Entry → List ℕ
+entry_text view Unreadable = line (codes "fault 0 Line")
+entry_text view (Refused fault) = line (fault_text fault)
+entry_text view (Read packet) = packet_text view packet
+entry_text view (ReadSeveral packets) = several_text view packets
+entry_text view (RefusedChudp fault) = line (chudp_fault_text fault)
+entry_text view (Delivered delivery) = delivery_text view delivery
 
 -- whether it is a refusal
 abbrev pub is_refusal : Entry → Bool

@@ -1,4 +1,5 @@
 pub mod Hex
+pub mod File
 pub mod Report
 pub mod Entry
 pub mod Show

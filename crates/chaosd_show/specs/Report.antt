@@ -3,9 +3,13 @@ use Rattle.std.specs.Prelude.{ℕ, ◌+◌, ◌/◌, ◌%◌, List, [], ◌∷�
 use Rattle.std.specs.Fmt.{decimal}
 use Rattle.std.specs.List.{flat_map}
 use Rattle.chaos_packet.specs.Packet.{PacketView, status_of}
-use Rattle.chaos_packet.specs.Opcode.{opcode_name}
+use Rattle.chaos_packet.specs.Opcode.{opcode_name, is_data}
 use Rattle.chaos_chudp.specs.Chudp.{DeliveryView}
+use Rattle.chaosd_io.specs.Escapes.{shown_byte}
 use Rattle.chaosd_io.specs.Texts.{line, octal_three}
+use Rattle.chaosd_show.specs.declared.view.View.{View}
+use Rattle.chaosd_show.specs.declared.view.View.TheVariants.{Plain, File}
+use Rattle.chaosd_show.specs.File.{file_text}
 
 -- six octal digits
 abbrev pub octal_six : ℕ → List ℕ
@@ -48,31 +52,41 @@ pair_line first m second n = line (first ++ 32 ∷ decimal m ++ 32 ∷ second ++
 unfoldable pub data_line : List ℕ → List ℕ
 data_line body = line (codes "data" ++ flat_map hex_byte body)
 
+-- the data bytes as a text
+unfoldable pub text_line : List ℕ → List ℕ
+text_line body = line (codes "text " ++ flat_map shown_byte body)
+
+-- what stands behind the data bytes: nothing in the plain view; in that of FILE their text, and of a packet of data what
+-- they are in FILE
+unfoldable pub view_text : View → ℕ → List ℕ → List ℕ
+view_text Plain op body = []
+view_text File op body = text_line body ++ (if is_data op then file_text body else [])
+
 -- the receipt and the window where the packet tells them, else the data where there are some
-unfoldable pub body_text : Option (ℕ × ℕ) → List ℕ → List ℕ
-body_text (Some status) body = pair_line (codes "receipt") status.0 (codes "window") status.1
-body_text None body = if length body == 0 then [] else data_line body
+unfoldable pub body_text : View → ℕ → Option (ℕ × ℕ) → List ℕ → List ℕ
+body_text view op (Some status) body = pair_line (codes "receipt") status.0 (codes "window") status.1
+body_text view op None body = if length body == 0 then [] else data_line body ++ view_text view op body
 
 -- the lines of a packet
-unfoldable pub packet_text : PacketView → List ℕ
-packet_text p = op_line p.op
+unfoldable pub packet_text : View → PacketView → List ℕ
+packet_text view p = op_line p.op
     ++ (count_line p.fwd (length p.body)
     ++ (end_line (codes "to") p.dst p.dst_index
     ++ (end_line (codes "from") p.src p.src_index
     ++ (pair_line (codes "num") p.num (codes "ack") p.ack
-    ++ body_text (status_of p) p.body))))
+    ++ body_text view p.op (status_of p) p.body))))
 
 -- the carriage's version, and how many packets there are
 unfoldable pub carriage_line : ℕ → List ℕ
 carriage_line number = line (codes "carriage 2 packets " ++ decimal number)
 
 -- for each packet an empty line, and then its lines
-abbrev pub packets_text : List PacketView → List ℕ
-packets_text packets = flat_map (λ p. 10 ∷ packet_text p) packets
+abbrev pub packets_text : View → List PacketView → List ℕ
+packets_text view packets = flat_map (λ p. 10 ∷ packet_text view p) packets
 
 -- the lines of the packets of a datagram of version 2
-unfoldable pub several_text : List PacketView → List ℕ
-several_text packets = carriage_line (length packets) ++ packets_text packets
+unfoldable pub several_text : View → List PacketView → List ℕ
+several_text view packets = carriage_line (length packets) ++ packets_text view packets
 
 -- the next hop and the hop that sent it
 unfoldable pub trailer_line : ℕ → ℕ → List ℕ
@@ -83,5 +97,5 @@ unfoldable pub sum_line : ℕ → List ℕ
 sum_line sum = line (codes "sum " ++ hex_four sum)
 
 -- the lines of the packet of a CHUDP datagram, and of its trailer
-unfoldable pub delivery_text : DeliveryView → List ℕ
-delivery_text d = packet_text d.packet ++ (trailer_line d.to d.from ++ sum_line d.sum)
+unfoldable pub delivery_text : View → DeliveryView → List ℕ
+delivery_text view d = packet_text view d.packet ++ (trailer_line d.to d.from ++ sum_line d.sum)

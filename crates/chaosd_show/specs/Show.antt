@@ -3,26 +3,27 @@ use Rattle.std.specs.Prelude.{ℕ, ◌+◌, Bool, true, false, List, [], ◌∷�
 use Rattle.std.specs.Io.KnownBytes.{Appends, Consumes}
 use Rattle.std.specs.List.{join_with_byte}
 use Rattle.chaosd_show.specs.declared.format.Format.{Format}
+use Rattle.chaosd_show.specs.declared.view.View.{View}
 use Rattle.chaosd_show.specs.declared.tally.Tally.{Tally}
 use Rattle.chaosd_show.specs.Entry.{entry_of, entry_text, is_refusal}
 use Rattle.chaosd_io.specs.Lines.{lines_of, ended_lines}
 
 -- the report of a line
-abbrev pub line_report : Format → List ℕ → List ℕ
-line_report format raw = entry_text (entry_of format raw)
+abbrev pub line_report : Format → View → List ℕ → List ℕ
+line_report format view raw = entry_text view (entry_of format raw)
 
 -- the reports of lines, and an empty line between each two
-abbrev pub reports_of : Format → List (List ℕ) → List ℕ
-reports_of format lines = join_with_byte 10 (map (line_report format) lines)
+abbrev pub reports_of : Format → View → List (List ℕ) → List ℕ
+reports_of format view lines = join_with_byte 10 (map (line_report format view) lines)
 
 -- what is printed of an input
-abbrev pub report_of : Format → List ℕ → List ℕ
-report_of format input = reports_of format (lines_of input)
+abbrev pub report_of : Format → View → List ℕ → List ℕ
+report_of format view input = reports_of format view (lines_of input)
 
 -- What was written to a writer is the reports of the lines that ended in what was read of an input.
-abbrev pub ReportsRead : Format → Option (List ℕ) → Option (List ℕ) → Option (List ℕ) → Option (List ℕ) → Type 0
-ReportsRead format input rest old new =
-    (read : List ℕ) × Consumes input rest read × Appends old new (reports_of format (ended_lines read))
+abbrev pub ReportsRead : Format → View → Option (List ℕ) → Option (List ℕ) → Option (List ℕ) → Option (List ℕ) → Type 0
+ReportsRead format view input rest old new =
+    (read : List ℕ) × Consumes input rest read × Appends old new (reports_of format view (ended_lines read))
 
 -- how many lines there are, and how many of them are reported as refusals
 abbrev pub tally_of : Format → List (List ℕ) → Tally

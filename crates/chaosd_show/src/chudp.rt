@@ -6,21 +6,22 @@ ghost use Rattle.chaosd_show.specs.Entry.{chudp_fault_text, entry_of_datagram, e
 use crate::entry::packet_fault_text;
 use crate::format::Format;
 use crate::report::put_delivery;
+use crate::view::View;
 use chaos_chudp::{ChudpFault, from_chudp};
 use chaos_packet::PacketFault;
 use chaosd_io::{NotWritten, WriteBuffer, put_line};
 
 /// Writes the report of a CHUDP datagram, and says whether it is a refusal.
 #[tactic(auto, unfolding(crate::specs::Entry::entry_text))]
-pub fn put_chudp(out: &mut WriteBuffer, bytes: &[u8]) -> Result<bool, NotWritten>
+pub fn put_chudp(out: &mut WriteBuffer, view: View, bytes: &[u8]) -> Result<bool, NotWritten>
     ensures text { OnOk result
-        (out.new ≡ out.old ++ entry_text (entry_of_datagram Format.Chudp bytes.now)) }
+        (out.new ≡ out.old ++ entry_text view (entry_of_datagram Format.Chudp bytes.now)) }
     ensures refused { IfOk result
         (λ refused. refused ≡ is_refusal (entry_of_datagram Format.Chudp bytes.now)) }
 {
     match from_chudp(bytes) {
         Ok(delivery) => {
-            put_delivery(out, &delivery)?;
+            put_delivery(out, view, &delivery)?;
             Ok(false)
         }
         Err(fault) => {

@@ -1,48 +1,38 @@
 //! The report of a line.
 ghost use Rattle.std.specs.Prelude.{◌≡◌, ◌≤◌, ◌++◌, [], length, OnOk, IfOk, Some};
+ghost use Rattle.std.specs.Io.KnownBytes.{Appends};
+ghost use Rattle.chaosd_io.specs.Buffer.{written_of};
 ghost use Rattle.chaos_link.specs.Datagram.{fault_of};
 ghost use Rattle.chaosd_show.specs.Entry.{fault_text, packet_fault_text, entry_of, entry_of_datagram, entry_of_text, entry_text, is_refusal};
 ghost use Rattle.chaosd_io.specs.Texts.{line};
-ghost use Rattle.chaosd_show.specs.Show.{gap, line_report};
+ghost use Rattle.chaosd_show.specs.Show.{line_report};
 
 use crate::chudp::{put_chudp, put_chudp_fault};
 use crate::format::Format;
 use crate::hex::{MOST_BYTES, read_hex};
 use crate::limits::SHOW_LINE_LIMIT;
 use crate::report::{put_packet, put_several};
+use crate::view::View;
 use chaos_chudp::ChudpFault;
 use chaos_link::{LinkFault, from_datagram, open_datagram};
 use chaos_packet::PacketFault;
 use chaosd_io::{NotWritten, WriteBuffer, put_decimal, put_line, without_return};
-
-/// Writes the report of a line behind an empty line, or behind nothing where it is the first, and
-/// says whether it is a refusal.
-pub fn put_report(
-    out: &mut WriteBuffer,
-    is_first: bool,
-    format: Format,
-    raw: &[u8],
-    datagram: &mut [u8; MOST_BYTES],
-) -> Result<bool, NotWritten>
-    ensures text { OnOk result (out.new ≡ out.old ++ (gap is_first ++ line_report format raw.now)) }
-    ensures refused { IfOk result (λ refused. refused ≡ is_refusal (entry_of format raw.now)) }
-{
-    if !is_first {
-        out.put(b"\n")?;
-    }
-    put_entry(out, format, raw, datagram)
-}
+use std::io::Write;
 
 /// Writes the report of a line, and says whether it is a refusal. `datagram` holds the line's bytes
-/// meanwhile.
-#[tactic(auto, using(crate::proofs::Steps::empty_text, crate::proofs::Steps::empty_refused), unfolding(crate::specs::Entry::entry_of, crate::specs::Entry::entry_text))]
-fn put_entry(
+/// meanwhile. What waits is handed on where a packet of several might not fit behind it.
+#[tactic(auto, using(crate::proofs::Steps::put_behind, crate::proofs::Steps::empty_text, crate::proofs::Steps::empty_refused), unfolding(crate::specs::Entry::entry_of, crate::specs::Entry::entry_text))]
+pub fn put_entry<W: Write>(
     out: &mut WriteBuffer,
+    writer: &mut W,
     format: Format,
+    view: View,
     raw: &[u8],
     datagram: &mut [u8; MOST_BYTES],
 ) -> Result<bool, NotWritten>
-    ensures text { OnOk result (out.new ≡ out.old ++ line_report format raw.now) }
+    ensures text { OnOk result
+        (Appends (written_of (W.contents writer.old) out.old)
+        (written_of (W.contents writer.new) out.new) (line_report format view raw.now)) }
     ensures refused { IfOk result (λ refused. refused ≡ is_refusal (entry_of format raw.now)) }
 {
     let line = without_return(raw);
@@ -52,13 +42,14 @@ fn put_entry(
         put_empty(out, format)?;
         return Ok(true);
     }
-    put_text(out, format, line, datagram)
+    put_text(out, writer, format, view, line, datagram)
 }
 
 /// Writes the report of the empty datagram, which is refused in either format.
 #[tactic(auto, unfolding(crate::specs::Entry::entry_text))]
 fn put_empty(out: &mut WriteBuffer, format: Format) -> Result<(), NotWritten>
-    ensures { OnOk result (out.new ≡ out.old ++ entry_text (entry_of_datagram format [])) }
+    ensures { (view : View) →
+        OnOk result (out.new ≡ out.old ++ entry_text view (entry_of_datagram format [])) }
 {
     match format {
         Format::Own => put_fault(out, LinkFault::Short),
@@ -68,13 +59,17 @@ fn put_empty(out: &mut WriteBuffer, format: Format) -> Result<(), NotWritten>
 
 /// Writes the report of a line without a carriage return, and says whether it is a refusal.
 #[tactic(auto, unfolding(crate::specs::Entry::entry_text))]
-fn put_text(
+fn put_text<W: Write>(
     out: &mut WriteBuffer,
+    writer: &mut W,
     format: Format,
+    view: View,
     text: &[u8],
     datagram: &mut [u8; MOST_BYTES],
 ) -> Result<bool, NotWritten>
-    ensures text { OnOk result (out.new ≡ out.old ++ entry_text (entry_of_text format text.now)) }
+    ensures text { OnOk result
+        (Appends (written_of (W.contents writer.old) out.old)
+        (written_of (W.contents writer.new) out.new) (entry_text view (entry_of_text format text.now))) }
     ensures refused { IfOk result
         (λ refused. refused ≡ is_refusal (entry_of_text format text.now)) }
 {
@@ -88,25 +83,31 @@ fn put_text(
     };
     let bytes = &datagram[..count];
     match format {
-        Format::Own => put_datagram(out, bytes),
-        Format::Chudp => put_chudp(out, bytes),
+        Format::Own => put_datagram(out, writer, view, bytes),
+        Format::Chudp => put_chudp(out, view, bytes),
     }
 }
 
 /// Writes the report of a datagram in the own format, and says whether it is a refusal.
-#[tactic(auto, unfolding(crate::specs::Entry::entry_text))]
-fn put_datagram(out: &mut WriteBuffer, bytes: &[u8]) -> Result<bool, NotWritten>
+#[tactic(auto, using(crate::proofs::Steps::put_behind), unfolding(crate::specs::Entry::entry_text))]
+fn put_datagram<W: Write>(
+    out: &mut WriteBuffer,
+    writer: &mut W,
+    view: View,
+    bytes: &[u8],
+) -> Result<bool, NotWritten>
     ensures text { OnOk result
-        (out.new ≡ out.old ++ entry_text (entry_of_datagram Format.Own bytes.now)) }
+        (Appends (written_of (W.contents writer.old) out.old)
+        (written_of (W.contents writer.new) out.new) (entry_text view (entry_of_datagram Format.Own bytes.now))) }
     ensures refused { IfOk result
         (λ refused. refused ≡ is_refusal (entry_of_datagram Format.Own bytes.now)) }
 {
     match from_datagram(bytes) {
         Ok(packet) => {
-            put_packet(out, &packet)?;
+            put_packet(out, view, &packet)?;
             Ok(false)
         }
-        Err(LinkFault::BadVersion) => put_of_another_version(out, bytes),
+        Err(LinkFault::BadVersion) => put_of_another_version(out, writer, view, bytes),
         Err(fault) => {
             put_fault(out, fault)?;
             Ok(true)
@@ -116,16 +117,22 @@ fn put_datagram(out: &mut WriteBuffer, bytes: &[u8]) -> Result<bool, NotWritten>
 
 /// Writes the report of a datagram that isn't of version 1, and says whether it is a refusal.
 #[tactic(auto, unfolding(crate::specs::Entry::entry_text))]
-fn put_of_another_version(out: &mut WriteBuffer, bytes: &[u8]) -> Result<bool, NotWritten>
+fn put_of_another_version<W: Write>(
+    out: &mut WriteBuffer,
+    writer: &mut W,
+    view: View,
+    bytes: &[u8],
+) -> Result<bool, NotWritten>
     requires { fault_of bytes.now ≡ Some LinkFault.BadVersion }
     ensures text { OnOk result
-        (out.new ≡ out.old ++ entry_text (entry_of_datagram Format.Own bytes.now)) }
+        (Appends (written_of (W.contents writer.old) out.old)
+        (written_of (W.contents writer.new) out.new) (entry_text view (entry_of_datagram Format.Own bytes.now))) }
     ensures refused { IfOk result
         (λ refused. refused ≡ is_refusal (entry_of_datagram Format.Own bytes.now)) }
 {
     match open_datagram(bytes) {
         Ok(packets) => {
-            put_several(out, bytes[3], packets)?;
+            put_several(out, writer, view, bytes[3], packets)?;
             Ok(false)
         }
         Err(fault) => {

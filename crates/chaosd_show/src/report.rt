@@ -1,27 +1,37 @@
 //! The report of a packet, of several, and of one with its trailer.
 ghost use Rattle.std.specs.Prelude.{◌≡◌, ◌<◌, ◌++◌, length, OnOk};
+ghost use Rattle.std.specs.Io.KnownBytes.{Appends};
 ghost use Rattle.chaos_packet.specs.Packet.{status_of};
-ghost use Rattle.chaosd_show.specs.Report.{octal_six, hex_digit, op_line, count_line, end_line, pair_line, data_line, body_text, packet_text, carriage_line, packets_text, several_text, hex_four, trailer_line, sum_line, delivery_text};
+ghost use Rattle.chaosd_io.specs.Buffer.{written_of};
+ghost use Rattle.chaosd_show.specs.Report.{octal_six, hex_digit, op_line, count_line, end_line, pair_line, data_line, text_line, view_text, body_text, packet_text, carriage_line, packets_text, several_text, hex_four, trailer_line, sum_line, delivery_text};
 
+use crate::file::put_file;
+use crate::room::{make_room, packet_room};
+use crate::view::View;
 use chaos_chudp::Delivery;
 use chaos_link::Packets;
 use chaos_packet::{Opcode, Packet};
-use chaosd_io::{NotWritten, WriteBuffer, put_decimal, put_octal_three};
+use chaosd_io::{NotWritten, WriteBuffer, put_decimal, put_octal_three, put_text};
+use std::io::Write;
 
 /// Writes the lines of the packets of a datagram of version 2, which are so many. Each is written
 /// as it is taken out of the datagram, so the cost is that of their data bytes; nothing is
 /// allocated.
 #[tactic(auto, unfolding(crate::specs::Report::several_text))]
-pub fn put_several(
+pub fn put_several<W: Write>(
     out: &mut WriteBuffer,
+    writer: &mut W,
+    view: View,
     number: u8,
     packets: Packets<'_>,
 ) -> Result<(), NotWritten>
     requires { number ≡ length packets }
-    ensures { OnOk result (out.new ≡ out.old ++ several_text packets.entry) }
+    ensures { OnOk result
+        (Appends (written_of (W.contents writer.old) out.old)
+        (written_of (W.contents writer.new) out.new) (several_text view packets.entry)) }
 {
     put_carriage(out, number)?;
-    put_packets(out, packets)
+    put_packets(out, writer, view, packets)
 }
 
 /// The carriage's version, and how many packets there are.
@@ -34,13 +44,22 @@ fn put_carriage(out: &mut WriteBuffer, number: u8) -> Result<(), NotWritten>
     out.put(b"\n")
 }
 
-/// Behind an empty line each packet.
-fn put_packets(out: &mut WriteBuffer, mut packets: Packets<'_>) -> Result<(), NotWritten>
-    ensures { OnOk result (out.new ≡ out.old ++ packets_text packets.entry) }
+/// Behind an empty line each packet. What waits is handed on where a packet might not fit behind
+/// it.
+fn put_packets<W: Write>(
+    out: &mut WriteBuffer,
+    writer: &mut W,
+    view: View,
+    mut packets: Packets<'_>,
+) -> Result<(), NotWritten>
+    ensures { OnOk result
+        (Appends (written_of (W.contents writer.old) out.old)
+        (written_of (W.contents writer.new) out.new) (packets_text view packets.entry)) }
 {
     while let Some(packet) = packets.next() {
+        make_room(out, writer, packet_room(view))?;
         out.put(b"\n")?;
-        put_packet(out, &packet)?;
+        put_packet(out, view, &packet)?;
     }
     Ok(())
 }
@@ -48,10 +67,14 @@ fn put_packets(out: &mut WriteBuffer, mut packets: Packets<'_>) -> Result<(), No
 /// Writes the lines of the packet of a CHUDP datagram, and behind them those of its trailer. The
 /// cost is that of the data bytes; nothing is allocated.
 #[tactic(auto, unfolding(crate::specs::Report::delivery_text))]
-pub fn put_delivery(out: &mut WriteBuffer, delivery: &Delivery) -> Result<(), NotWritten>
-    ensures { OnOk result (out.new ≡ out.old ++ delivery_text delivery.now) }
+pub fn put_delivery(
+    out: &mut WriteBuffer,
+    view: View,
+    delivery: &Delivery,
+) -> Result<(), NotWritten>
+    ensures { OnOk result (out.new ≡ out.old ++ delivery_text view delivery.now) }
 {
-    put_packet(out, &delivery.packet)?;
+    put_packet(out, view, &delivery.packet)?;
     put_trailer(out, delivery.to, delivery.from)?;
     put_sum(out, delivery.sum)
 }
@@ -80,15 +103,15 @@ fn put_sum(out: &mut WriteBuffer, sum: u16) -> Result<(), NotWritten>
 
 /// Writes the lines of a packet. The cost is that of its data bytes; nothing is allocated.
 #[tactic(auto, unfolding(crate::specs::Report::packet_text))]
-pub fn put_packet(out: &mut WriteBuffer, packet: &Packet) -> Result<(), NotWritten>
-    ensures { OnOk result (out.new ≡ out.old ++ packet_text packet.now) }
+pub fn put_packet(out: &mut WriteBuffer, view: View, packet: &Packet) -> Result<(), NotWritten>
+    ensures { OnOk result (out.new ≡ out.old ++ packet_text view packet.now) }
 {
     put_op(out, packet.op)?;
     put_counts(out, packet.fwd, packet.body.len())?;
     put_end(out, "to", packet.dst, packet.dst_index)?;
     put_end(out, "from", packet.src, packet.src_index)?;
     put_pair(out, "num", packet.num.0, "ack", packet.ack.0)?;
-    put_body(out, packet)
+    put_body(out, view, packet)
 }
 
 /// The first line: the opcode, and its name where it has one.
@@ -153,14 +176,44 @@ fn put_pair(
 
 /// The status that the packet has, otherwise its data, otherwise nothing.
 #[tactic(auto, unfolding(crate::specs::Report::body_text))]
-fn put_body(out: &mut WriteBuffer, packet: &Packet) -> Result<(), NotWritten>
-    ensures { OnOk result (out.new ≡ out.old ++ body_text (status_of packet.now) packet.now.body) }
+fn put_body(out: &mut WriteBuffer, view: View, packet: &Packet) -> Result<(), NotWritten>
+    ensures { OnOk result
+        (out.new ≡ out.old
+        ++ body_text view packet.now.op (status_of packet.now) packet.now.body) }
 {
     match packet.status() {
         Some((receipt, window)) => put_pair(out, "receipt", receipt.0, "window", window),
         None if packet.body.is_empty() => Ok(()),
-        None => put_data(out, packet.body.as_slice()),
+        None => {
+            put_data(out, packet.body.as_slice())?;
+            put_view(out, view, packet.op, packet.body.as_slice())
+        }
     }
+}
+
+/// What the view says of data behind their bytes: nothing in the plain view.
+#[tactic(auto, unfolding(crate::specs::Report::view_text))]
+fn put_view(out: &mut WriteBuffer, view: View, op: Opcode, body: &[u8]) -> Result<(), NotWritten>
+    ensures { OnOk result (out.new ≡ out.old ++ view_text view op body.now) }
+{
+    if view == View::Plain {
+        return Ok(());
+    }
+    put_data_text(out, body)?;
+    if !op.is_data() {
+        return Ok(());
+    }
+    put_file(out, body)
+}
+
+/// The data bytes as a text.
+#[tactic(auto, unfolding(crate::specs::Report::text_line))]
+fn put_data_text(out: &mut WriteBuffer, body: &[u8]) -> Result<(), NotWritten>
+    ensures { OnOk result (out.new ≡ out.old ++ text_line body.now) }
+{
+    out.put(b"text ")?;
+    put_text(out, body)?;
+    out.put(b"\n")
 }
 
 /// The data bytes.

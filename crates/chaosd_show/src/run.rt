@@ -11,6 +11,7 @@ use crate::format::Format;
 use crate::limits::SHOW_KEPT_LEN;
 use crate::reporter::Reporter;
 use crate::tally::Tally;
+use crate::view::View;
 use chaosd_io::{INPUT_LIMIT, LineReader, NotWritten, RunFault, written};
 use std::io::{Read, Write};
 
@@ -20,11 +21,12 @@ use std::io::{Read, Write};
 /// # Errors
 /// As those of [`run_show_by`].
 pub fn run_show<R: Read, W: Write>(reader: &mut R, writer: &mut W) -> Result<Tally, RunFault>
-    // If the run ends well, what was written is the report of all that was read, in the own format.
+    // If the run ends well, what was written is the report of all that was read, in the own format
+    // and the plain view.
     ensures report { OnOk result
         (IfSome (R.remaining reader.old)
         (λ input. Appends (W.contents writer.old) (W.contents writer.new)
-        (report_of Format.Own input))) }
+        (report_of Format.Own View.Plain input))) }
     // The tally counts the reports and the refusals among them.
     ensures tally { IfOk result
         (λ tally. IfSome (R.remaining reader.old)
@@ -41,18 +43,18 @@ pub fn run_show<R: Read, W: Write>(reader: &mut R, writer: &mut W) -> Result<Tal
         IfSome (R.remaining reader.old)
         (λ input. (INPUT_LIMIT < length input)
         × Appends (W.contents writer.old) (W.contents writer.new)
-        (reports_of Format.Own (ended_lines (take INPUT_LIMIT input)))) }
+        (reports_of Format.Own View.Plain (ended_lines (take INPUT_LIMIT input)))) }
 
     // If the reader failed, the lines that ended in what it had given were reported, and no more.
     ensures unread { result ≡ Err RunFault.ReadFault →
-        ReportsRead Format.Own (R.remaining reader.old) (R.remaining reader.new)
+        ReportsRead Format.Own View.Plain (R.remaining reader.old) (R.remaining reader.new)
         (W.contents writer.old) (W.contents writer.new) }
 {
-    run_show_by(Format::Own, reader, writer)
+    run_show_by(Format::Own, View::Plain, reader, writer)
 }
 
 /// Reads lines of hexadecimal digits, one datagram of the format a line, to the end of the input,
-/// and writes a report of each.
+/// and writes a report of each. The view says how much is reported of data.
 ///
 /// Each report is handed on to the writer before the next read, so somebody who types lines sees
 /// each report at once. The run ends by its first fault. The cost is one look at each byte that
@@ -65,14 +67,16 @@ pub fn run_show<R: Read, W: Write>(reader: &mut R, writer: &mut W) -> Result<Tal
 /// - 3: more than 1,048,576 bytes come.
 pub fn run_show_by<R: Read, W: Write>(
     format: Format,
+    view: View,
     reader: &mut R,
     writer: &mut W,
 ) -> Result<Tally, RunFault>
-    // If the run ends well, what was written is the report of all that was read, in this format.
+    // If the run ends well, what was written is the report of all that was read, in this format and
+    // view.
     ensures report { OnOk result
         (IfSome (R.remaining reader.old)
         (λ input. Appends (W.contents writer.old) (W.contents writer.new)
-        (report_of format input))) }
+        (report_of format view input))) }
     // The tally counts the reports and the refusals among them.
     ensures tally { IfOk result
         (λ tally. IfSome (R.remaining reader.old)
@@ -89,23 +93,23 @@ pub fn run_show_by<R: Read, W: Write>(
         IfSome (R.remaining reader.old)
         (λ input. (INPUT_LIMIT < length input)
         × Appends (W.contents writer.old) (W.contents writer.new)
-        (reports_of format (ended_lines (take INPUT_LIMIT input)))) }
+        (reports_of format view (ended_lines (take INPUT_LIMIT input)))) }
 
     // If the reader failed, the lines that ended in what it had given were reported, and no more.
     ensures unread { result ≡ Err RunFault.ReadFault →
-        ReportsRead format (R.remaining reader.old) (R.remaining reader.new) (W.contents writer.old)
+        ReportsRead format view (R.remaining reader.old) (R.remaining reader.new) (W.contents writer.old)
         (W.contents writer.new) }
 {
     let mut lines: LineReader<SHOW_KEPT_LEN> = LineReader::new(INPUT_LIMIT);
     let mut reporter = Reporter::new();
     'reads: loop {
-        written(report_ended(format, &mut reporter, &mut lines, writer))?;
+        written(report_ended(format, view, &mut reporter, &mut lines, writer))?;
         written(reporter.hand_on(writer))?;
         if !lines.refill(reader)? {
             break 'reads;
         }
     }
-    written(report_last(format, &mut reporter, &lines, writer))?;
+    written(report_last(format, view, &mut reporter, &lines, writer))?;
     written(reporter.hand_on(writer))?;
     Ok(reporter.tally)
 }
@@ -113,6 +117,7 @@ pub fn run_show_by<R: Read, W: Write>(
 /// Reports the lines that end in what came.
 fn report_ended<W: Write>(
     format: Format,
+    view: View,
     reporter: &mut Reporter,
     lines: &mut LineReader<SHOW_KEPT_LEN>,
     writer: &mut W,
@@ -120,16 +125,16 @@ fn report_ended<W: Write>(
     requires { reporter.old.tally.reports + left_of lines.old ≤ INPUT_LIMIT }
     ensures shown { OnOk result
         ((input rest before : Option (List ℕ)) →
-        Shows format input rest before (written_of (W.contents writer.old) reporter.old.out)
+        Shows format view input rest before (written_of (W.contents writer.old) reporter.old.out)
         reporter.old.tally lines.old →
-        Shows format input rest before (written_of (W.contents writer.new) reporter.new.out)
+        Shows format view input rest before (written_of (W.contents writer.new) reporter.new.out)
         reporter.new.tally lines.new) }
     ensures none { OnOk result (lines.new.waiting ≡ []) }
     ensures room { OnOk result (lines.new.room ≡ lines.old.room) }
     ensures count { OnOk result (reporter.new.tally.reports + left_of lines.new ≤ INPUT_LIMIT) }
 {
     'lines: while lines.cut() {
-        reporter.report(writer, format, lines.line())?;
+        reporter.report(writer, format, view, lines.line())?;
     }
     Ok(())
 }
@@ -137,6 +142,7 @@ fn report_ended<W: Write>(
 /// Reports what stands after the last end of a line, where that isn't empty.
 fn report_last<W: Write>(
     format: Format,
+    view: View,
     reporter: &mut Reporter,
     lines: &LineReader<SHOW_KEPT_LEN>,
     writer: &mut W,
@@ -145,14 +151,14 @@ fn report_last<W: Write>(
     requires none { lines.now.waiting ≡ [] }
     ensures shown { OnOk result
         ((input rest before : Option (List ℕ)) →
-        Shows format input rest before (written_of (W.contents writer.old) reporter.old.out)
+        Shows format view input rest before (written_of (W.contents writer.old) reporter.old.out)
         reporter.old.tally lines.now →
         IsAtEnd rest →
-        ShowsAll format input rest before (written_of (W.contents writer.new) reporter.new.out)
+        ShowsAll format view input rest before (written_of (W.contents writer.new) reporter.new.out)
         reporter.new.tally) }
 {
     let Some(line) = lines.last() else {
         return Ok(());
     };
-    reporter.report(writer, format, line)
+    reporter.report(writer, format, view, line)
 }

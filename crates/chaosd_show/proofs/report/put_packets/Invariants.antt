@@ -1,11 +1,15 @@
-use Rattle.std.proofs.Common.{◌≡◌, ◌++◌, length}
+use Rattle.std.proofs.Common.{◌≡◌, ◌++◌, List, ℕ, length}
+use Rattle.std.specs.Io.KnownBytes.{Appends}
+use Rattle.chaosd_io.specs.Buffer.{written_of}
 use Rattle.chaosd_show.specs.Report.{packets_text}
 use Rattle.chaosd_show.proofs.report.put_packets.Given as goal
 
--- what is written, with the packets that are left behind it, stays the same
+-- what was written, with the packets that are left behind it, is the text of all
 abbrev pub invariant-loop-packet : goal.invariant-loop-packet
-invariant-loop-packet l = l.out ++ packets_text l.packets ≡ l.fn.out ++ packets_text l.fn.packets
+invariant-loop-packet g l = (done : List ℕ)
+    × Appends (written_of (g.W.Write.contents l.fn.writer) l.fn.out) (written_of (g.W.Write.contents l.writer) l.out) done
+    × (done ++ packets_text l.view l.packets ≡ packets_text l.view l.fn.packets)
 
 -- fewer packets are left
 abbrev pub decreases-loop-packet : goal.decreases-loop-packet
-decreases-loop-packet l = length l.packets
+decreases-loop-packet g l = length l.packets

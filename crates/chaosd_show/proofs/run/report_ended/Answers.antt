@@ -10,7 +10,7 @@ lines-preserved g c =
       c.cut.ensures.room ∙ room,
       λ input rest before s.
           let t = shown input rest before s in
-          more_shown c.args.format input rest before _ _ _ _ _ _ _ t (c.lines-test.ensures.given _ input rest t.given t.gives)
+          more_shown c.args.format c.args.view input rest before _ _ _ _ _ _ _ t (c.lines-test.ensures.given _ input rest t.given t.gives)
           c.line.ensures c.in_ok-report.ensures.text c.in_ok-report.ensures.tally,
     )
 
@@ -18,4 +18,4 @@ pub returns-clause-shown : goal.returns-clause-shown
 returns-clause-shown g c input rest before s =
     let (few, room, shown) = c.lines.invariant in
     let t = shown input rest before s in
-    shown_of c.args.format input rest rest before _ _ _ _ t (c.lines-test.ensures.given _ input rest t.given t.gives).0
+    shown_of c.args.format c.args.view input rest rest before _ _ _ _ t (c.lines-test.ensures.given _ input rest t.given t.gives).0

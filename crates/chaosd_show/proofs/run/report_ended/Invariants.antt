@@ -11,9 +11,9 @@ abbrev pub invariant-lines : goal.invariant-lines
 invariant-lines g l = (l.reporter.tally.reports + left_of l.lines ≤ INPUT_LIMIT)
     × (l.lines.room ≡ l.fn.lines.room)
     × ((input rest before : Option (List ℕ))
-    → Shows l.fn.format input rest before (written_of (g.W.Write.contents l.fn.writer) l.fn.reporter.out) l.fn.reporter.tally
+    → Shows l.fn.format l.fn.view input rest before (written_of (g.W.Write.contents l.fn.writer) l.fn.reporter.out) l.fn.reporter.tally
     l.fn.lines
-    → Shows l.fn.format input rest before (written_of (g.W.Write.contents l.writer) l.reporter.out) l.reporter.tally l.lines)
+    → Shows l.fn.format l.fn.view input rest before (written_of (g.W.Write.contents l.writer) l.reporter.out) l.reporter.tally l.lines)
 
 -- fewer bytes wait
 abbrev pub decreases-lines : goal.decreases-lines
