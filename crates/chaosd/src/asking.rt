@@ -143,7 +143,7 @@ fn end_asked<R: Clock + Eprint + Print>(
                 address: asked.route.me,
                 socket: asked.socket,
             };
-            end_unanswered(rt, &end, Unanswered::new(why, asked.server, client))
+            end_unanswered(rt, &end, Unanswered::new(&why, asked.server, client))
         }
         _ if waiting.is_over() => end_refused(rt, asked.server),
         why => strict_status(end_script(rt, &end, &why), asked.is_strict && has_error),
@@ -251,7 +251,7 @@ where
 fn end_unanswered<R: Eprint>(
     rt: &R,
     end: &Result<ScriptEnd, RunFault>,
-    unanswered: Unanswered,
+    unanswered: Unanswered<'_>,
 ) -> ExitStatus {
     let _ = eprintln!(rt; "chaosd: {unanswered}");
     end_script(rt, end, &None)

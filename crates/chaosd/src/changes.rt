@@ -1,21 +1,25 @@
 //! The runs of `delete` and `rename`: what another host does with its files.
-use crate::dialogs::{Work, run_work};
+use crate::dialogs::{Caller, Work, run_work};
 use crate::file_words::{CHANGE_UNKNOWN, FileWords};
 use crate::progress::ProgressLine;
 use chaos_file::MAX_PATH;
+use chaos_link::Link;
 use chaosd_clock::Dial;
-use chaosd_copies::{
-    Deletes, Dialog, ExitStatus, Outcome, Session, Target, Teller, Viewer, run_copies,
-};
+use chaosd_copies::{Deletes, ExitStatus, Outcome, Session, Target, Teller, Viewer, run_copies};
+use chaosd_copy::Talk;
 use chaosd_line::{Delete, Rename};
-use std::fmt::Display;
+use file_client::Call;
 use std::fs::{File, Files};
 use std::net::Net;
 
 /// Reports changes: nothing of a change that was made.
-fn words_of<'a, R: Eprint>(rt: &'a R) -> FileWords<'a, 'static, R> {
+fn words_of<'a, 'r, R: Eprint>(
+    rt: &'a R,
+    caller: &'a Caller<'a, 'r, R>,
+) -> FileWords<'a, 'r, 'static, R> {
     FileWords {
         rt,
+        caller,
         is_told: false,
         target: Target::Own,
         unknown: CHANGE_UNKNOWN,
@@ -23,19 +27,23 @@ fn words_of<'a, R: Eprint>(rt: &'a R) -> FileWords<'a, 'static, R> {
 }
 
 /// Nobody is shown how far a change has come.
-fn no_progress<'a, R: AllocGlobal + Eprint>(rt: &'a R) -> ProgressLine<'a, R> {
-    ProgressLine::new(rt, rt.alloc(), false, true)
+fn no_progress<'a, 'r, R: AllocGlobal + Eprint>(
+    rt: &'a R,
+    caller: &Caller<'a, 'r, R>,
+) -> ProgressLine<'a, 'r, R> {
+    ProgressLine::new(rt, caller.waiting, false, true)
 }
 
-impl<R: AllocGlobal + Eprint> Work<R> for Delete<'_> {
-    fn run<D: Dialog + Drop>(&self, rt: &R, dialog: D) -> ExitStatus
-    where
-        D::Why: Display,
-    {
+impl<R: AllocGlobal + Dial + Eprint> Work<R> for Delete<'_> {
+    fn run<L: Link>(&self, rt: &R, call: Call<'_, R, L>, caller: &Caller<'_, '_, R>) -> ExitStatus {
         let mut deletes = Deletes {
-            session: Session::new(dialog, no_progress(rt), self.calling.login),
+            session: Session::new(call, no_progress(rt, caller), self.calling.login),
         };
-        let status = run_copies(&mut deletes, &mut words_of(rt), self.paths.as_slice());
+        let status = run_copies(
+            &mut deletes,
+            &mut words_of(rt, caller),
+            self.paths.as_slice(),
+        );
         deletes.session.end();
         status
     }
@@ -51,24 +59,21 @@ where
 }
 
 /// Renames a file, and says what came of it.
-fn renamed<D: Dialog, V: Viewer>(
-    session: &mut Session<'_, D, V>,
+fn renamed<T: Talk, V: Viewer>(
+    session: &mut Session<'_, T, V>,
     line: &Rename<'_>,
-) -> Outcome<D::Why> {
+) -> Outcome<T::NoReply> {
     if line.from.len() > MAX_PATH || line.to.len() > MAX_PATH {
         return Outcome::TooLong;
     }
     Outcome::of_change(session.rename(line.from.as_bytes(), line.to.as_bytes()))
 }
 
-impl<R: AllocGlobal + Eprint> Work<R> for Rename<'_> {
-    fn run<D: Dialog + Drop>(&self, rt: &R, dialog: D) -> ExitStatus
-    where
-        D::Why: Display,
-    {
-        let mut session = Session::new(dialog, no_progress(rt), self.calling.login);
+impl<R: AllocGlobal + Dial + Eprint> Work<R> for Rename<'_> {
+    fn run<L: Link>(&self, rt: &R, call: Call<'_, R, L>, caller: &Caller<'_, '_, R>) -> ExitStatus {
+        let mut session = Session::new(call, no_progress(rt, caller), self.calling.login);
         let outcome = renamed(&mut session, self);
-        words_of(rt).tell(self.from, &outcome);
+        words_of(rt, caller).tell(self.from, &outcome);
         session.end();
         outcome.status()
     }

@@ -2,18 +2,17 @@
 ghost use Rattle.std.specs.Prelude.{option_map};
 ghost use Rattle.chaosd.specs.Paths.{path_under};
 
-use crate::dialogs::{Work, run_work};
+use crate::dialogs::{Caller, Work, run_work};
 use crate::file_words::{FileWords, PUT_UNKNOWN};
 use crate::network::has_input;
 use crate::progress::ProgressLine;
 use chaos_file::FilePath;
+use chaos_link::Link;
 use chaosd_clock::Dial;
-use chaosd_copies::{
-    Dialog, Disk, ExitStatus, Gets, Naming, Puts, STREAM, Session, Target, run_copies,
-};
+use chaosd_copies::{Disk, ExitStatus, Gets, Naming, Puts, STREAM, Session, Target, run_copies};
 use chaosd_io::RunFault;
 use chaosd_line::{Copying, Get, Put, path_for};
-use std::fmt::Display;
+use file_client::Call;
 use std::fs::File;
 use std::net::Net;
 use std::rt::Files;
@@ -24,17 +23,14 @@ fn is_told(copying: &Copying<'_>, is_terminal: bool) -> bool {
 }
 
 /// Shows how far a file has come.
-fn progress_of<'a, R: AllocGlobal + Eprint>(
+fn progress_of<'a, 'r, R: AllocGlobal + Eprint>(
     rt: &'a R,
+    caller: &Caller<'a, 'r, R>,
     copying: &Copying<'_>,
     is_terminal: bool,
-) -> ProgressLine<'a, R> {
-    ProgressLine::new(
-        rt,
-        rt.alloc(),
-        is_terminal && !copying.is_quiet,
-        copying.is_quiet,
-    )
+) -> ProgressLine<'a, 'r, R> {
+    let is_shown = is_terminal && !copying.is_quiet;
+    ProgressLine::new(rt, caller.waiting, is_shown, copying.is_quiet)
 }
 
 /// What `get` or `put` asks for.
@@ -49,16 +45,13 @@ impl<R> Work<R> for Copies<'_, Get<'_>>
 where
     R: AllocGlobal + Dial + Eprint + Files<File = File> + Input + Print,
 {
-    fn run<D: Dialog + Drop>(&self, rt: &R, dialog: D) -> ExitStatus
-    where
-        D::Why: Display,
-    {
+    fn run<L: Link>(&self, rt: &R, call: Call<'_, R, L>, caller: &Caller<'_, '_, R>) -> ExitStatus {
         let copying = &self.line.copying;
         let calling = &copying.calling;
-        let progress = progress_of(rt, copying, self.is_terminal);
+        let progress = progress_of(rt, caller, copying, self.is_terminal);
         let mut gets = Gets {
             alloc: rt.alloc(),
-            session: Session::new(dialog, progress, calling.login),
+            session: Session::new(call, progress, calling.login),
             locals: Disk::new(rt, calling.socket.port()),
             target: Target::of(self.line.output),
             is_text: copying.is_text,
@@ -66,6 +59,7 @@ where
         };
         let mut words = FileWords {
             rt,
+            caller,
             is_told: is_told(copying, self.is_terminal),
             target: Target::of(self.line.output),
             unknown: PUT_UNKNOWN,
@@ -116,15 +110,12 @@ impl<R> Work<R> for Copies<'_, Put<'_>>
 where
     R: AllocGlobal + Dial + Eprint + Files<File = File> + Input + Print,
 {
-    fn run<D: Dialog + Drop>(&self, rt: &R, dialog: D) -> ExitStatus
-    where
-        D::Why: Display,
-    {
+    fn run<L: Link>(&self, rt: &R, call: Call<'_, R, L>, caller: &Caller<'_, '_, R>) -> ExitStatus {
         let copying = &self.line.copying;
         let calling = &copying.calling;
-        let progress = progress_of(rt, copying, self.is_terminal);
+        let progress = progress_of(rt, caller, copying, self.is_terminal);
         let mut puts = Puts {
-            session: Session::new(dialog, progress, calling.login),
+            session: Session::new(call, progress, calling.login),
             locals: Disk::new(rt, calling.socket.port()),
             naming: Paths {
                 given: self.line.path,
@@ -135,6 +126,7 @@ where
         };
         let mut words = FileWords {
             rt,
+            caller,
             is_told: is_told(copying, self.is_terminal),
             target: Target::Own,
             unknown: PUT_UNKNOWN,

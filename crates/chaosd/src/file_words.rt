@@ -1,16 +1,19 @@
 //! Reports what came of each file.
 ghost use Rattle.std.specs.Prelude.{None};
 
+use crate::dialogs::Caller;
 use chaos_file::{MAX_FILE, MAX_PATH, PrintedName, Reply, read_reply};
 use chaosd_copies::{Contents, Lost, Outcome, Target, Teller};
-use file_client::Shown;
+use file_client::{NoReply, Shown};
 use std::fmt::{Display, Formatter};
 use std::{fmt, io};
 
 /// Reports on standard error what came of each file.
 #[derive(Drop)]
-pub(crate) struct FileWords<'a, 't, R: Eprint> {
+pub(crate) struct FileWords<'a, 'r, 't, R: Eprint> {
     pub(crate) rt: &'a R,
+    /// Who calls.
+    pub(crate) caller: &'a Caller<'a, 'r, R>,
     /// Whether a file that was copied is reported.
     pub(crate) is_told: bool,
     /// Where files go that are got.
@@ -116,10 +119,10 @@ fn error_text(reply: &Reply) -> &[u8] {
     refused.unwrap_or(bytes)
 }
 
-impl<W: Display, R: Eprint> Teller<W> for FileWords<'_, '_, R> {
+impl<R: Eprint> Teller<NoReply> for FileWords<'_, '_, '_, R> {
     ghost told = { λ _. None };
 
-    fn tell(&mut self, name: &str, outcome: &Outcome<W>) {
+    fn tell(&mut self, name: &str, outcome: &Outcome<NoReply>) {
         let rt = self.rt;
         let name = PrintedName(name);
         let _ = match outcome {
@@ -135,8 +138,9 @@ impl<W: Display, R: Eprint> Teller<W> for FileWords<'_, '_, R> {
             Outcome::Failed(fault) => told_missed(rt, name, fault),
             Outcome::Refused(reply) => told_missed(rt, name, &Shown(error_text(reply))),
             Outcome::Strange(reply) => told_strange(rt, name, reply),
-            Outcome::NoReply(why) => told_missed(rt, name, why),
+            Outcome::NoReply(why) => told_missed(rt, name, &self.caller.unanswered(why)),
             Outcome::Unknown(why) => {
+                let why = self.caller.unanswered(why);
                 told_missed(rt, name, &format_args!("{}: {why}", self.unknown))
             }
         };

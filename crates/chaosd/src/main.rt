@@ -11,7 +11,6 @@ mod config;
 mod connections;
 mod copies;
 mod descriptors;
-mod dialog;
 mod dialogs;
 mod file_words;
 mod framed;

@@ -5,10 +5,10 @@ use std::fmt;
 use std::fmt::{Display, Formatter};
 use std::net::SocketAddrV4;
 
-/// Why a server didn't answer, and what to look at.
+/// Why a server didn't answer, in words for a user, and what to look at.
 #[derive(Drop)]
-pub(crate) struct Unanswered {
-    pub(crate) why: NoReply,
+pub(crate) struct Unanswered<'a> {
+    pub(crate) why: &'a NoReply,
     /// Whether nobody listens where the server is to be.
     pub(crate) is_refused: bool,
     pub(crate) server: Peer,
@@ -16,9 +16,9 @@ pub(crate) struct Unanswered {
     pub(crate) client: Peer,
 }
 
-impl Unanswered {
+impl<'a> Unanswered<'a> {
     /// Of a server that listens somewhere, or may.
-    pub(crate) fn new(why: NoReply, server: Peer, client: Peer) -> Self {
+    pub(crate) fn new(why: &'a NoReply, server: Peer, client: Peer) -> Self {
         Unanswered {
             why,
             is_refused: false,
@@ -28,7 +28,7 @@ impl Unanswered {
     }
 }
 
-impl Display for Unanswered {
+impl Display for Unanswered<'_> {
     fn fmt<W: fmt::Write>(&self, f: &mut Formatter<W>) -> fmt::Result {
         let Peer { address, socket } = self.client;
         let server = self.server.socket;

@@ -4,28 +4,28 @@ ghost use Rattle.chaosd_copies.specs.Outcome.{IfChanged};
 ghost use Rattle.chaosd_copies.specs.Copied.{HasDeleted};
 
 use crate::copier::Copier;
-use crate::dialog::Dialog;
 use crate::outcome::Outcome;
 use crate::session::Session;
-use crate::watched::Viewer;
+use crate::viewer::Viewer;
 use chaos_file::MAX_PATH;
+use chaosd_copy::Talk;
 
 /// A user who has the server delete files.
 #[derive(Drop)]
-pub struct Deletes<'a, D: Dialog, V: Viewer> {
-    /// The dialog with the server.
-    pub session: Session<'a, D, V>,
+pub struct Deletes<'a, T: Talk, V: Viewer> {
+    /// The user's talk with the server.
+    pub session: Session<'a, T, V>,
 }
 
-impl<D: Dialog, V: Viewer> Copier for Deletes<'_, D, V> {
-    type Why = D::Why;
+impl<T: Talk, V: Viewer> Copier for Deletes<'_, T, V> {
+    type Why = T::NoReply;
 
     /// A file is told as changed only where the last that was sent and received is its DELETE, and
     /// that it was done.
     ghost tries = { λ _ path outcome new. IfChanged outcome
-        (HasDeleted path (D.talked new.session.watched.inner)) };
+        (HasDeleted path (T.talked new.session.talk)) };
 
-    fn copy(&mut self, path: &str) -> Outcome<D::Why> {
+    fn copy(&mut self, path: &str) -> Outcome<T::NoReply> {
         if path.len() > MAX_PATH {
             return Outcome::TooLong;
         }

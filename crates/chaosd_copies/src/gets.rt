@@ -7,25 +7,24 @@ ghost use Rattle.chaosd_copies.specs.Outcome.{is_well, MatchCopied};
 ghost use Rattle.chaosd_copies.specs.Copied.{GetsWhole, HasGot, bytes_in, contents_of, kept_after};
 
 use crate::copier::Copier;
-use crate::dialog::Dialog;
 use crate::local::Locals;
 use crate::naming::Target;
 use crate::outcome::{Contents, Outcome};
 use crate::session::Session;
 use crate::text::in_set;
-use crate::watched::Viewer;
+use crate::viewer::Viewer;
 use chaos_file::MAX_PATH;
-use chaosd_copy::Charset;
+use chaosd_copy::{Charset, Talk};
 use chaosd_io::RunFault;
 use std::alloc::Global;
 
 /// A user who gets files, each into a local one.
 #[derive(Drop)]
-pub struct Gets<'a, D: Dialog, L: Locals, V: Viewer> {
+pub struct Gets<'a, T: Talk, L: Locals, V: Viewer> {
     /// Where memory comes from.
     pub alloc: Global,
-    /// The dialog with the server.
-    pub session: Session<'a, D, V>,
+    /// The user's talk with the server.
+    pub session: Session<'a, T, V>,
     /// The local files.
     pub locals: L,
     /// Where the files go.
@@ -36,12 +35,12 @@ pub struct Gets<'a, D: Dialog, L: Locals, V: Viewer> {
     pub is_digested: bool,
 }
 
-impl<D: Dialog, L: Locals, V: Viewer> Gets<'_, D, L, V> {
+impl<T: Talk, L: Locals, V: Viewer> Gets<'_, T, L, V> {
     /// The bytes of a file, as a text where that is asked for.
-    fn bytes_of(&mut self, path: &str) -> Result<Vec<u8>, Outcome<D::Why>>
+    fn bytes_of(&mut self, path: &str) -> Result<Vec<u8>, Outcome<T::NoReply>>
         requires { length path.now ≤ MAX_PATH }
         ensures got { IfOk result
-            (λ v. (bytes : List ℕ) × HasGot path.now bytes (D.talked self.new.session.watched.inner)
+            (λ v. (bytes : List ℕ) × HasGot path.now bytes (T.talked self.new.session.talk)
             × (v.items ≡ bytes_in Charset.Ascii self.old.is_text bytes)) }
         ensures missed { IfErr result (λ outcome. is_well outcome ≡ false) }
         ensures same { (self.new.locals ≡ self.old.locals)
@@ -58,7 +57,7 @@ impl<D: Dialog, L: Locals, V: Viewer> Gets<'_, D, L, V> {
     }
 
     /// Writes a local file.
-    fn keep(&mut self, local: &str, bytes: &[u8]) -> Result<Contents, Outcome<D::Why>>
+    fn keep(&mut self, local: &str, bytes: &[u8]) -> Result<Contents, Outcome<T::NoReply>>
         ensures kept { IfOk result
             (λ contents. (contents ≡ contents_of self.old.is_digested bytes.now)
             × (L.kept self.new.locals ≡ kept_after local.now bytes.now (L.kept self.old.locals))) }
@@ -77,10 +76,10 @@ impl<D: Dialog, L: Locals, V: Viewer> Gets<'_, D, L, V> {
 
     /// Gets a file into a local one, of which it is made sure before anything is said that it can
     /// be written.
-    fn get_into(&mut self, path: &str, local: &str) -> Result<Contents, Outcome<D::Why>>
+    fn get_into(&mut self, path: &str, local: &str) -> Result<Contents, Outcome<T::NoReply>>
         ensures got { IfOk result
             (λ contents. GetsWhole path.now local.now self.old.is_text self.old.is_digested contents
-            (D.talked self.new.session.watched.inner) (L.kept self.old.locals)
+            (T.talked self.new.session.talk) (L.kept self.old.locals)
             (L.kept self.new.locals)) }
         ensures failed { OnErr result (L.kept self.new.locals ≡ L.kept self.old.locals) }
         ensures missed { IfErr result (λ outcome. is_well outcome ≡ false) }
@@ -101,8 +100,8 @@ impl<D: Dialog, L: Locals, V: Viewer> Gets<'_, D, L, V> {
     }
 }
 
-impl<D: Dialog, L: Locals, V: Viewer> Copier for Gets<'_, D, L, V> {
-    type Why = D::Why;
+impl<T: Talk, L: Locals, V: Viewer> Copier for Gets<'_, T, L, V> {
+    type Why = T::NoReply;
 
     /// A file is told as copied only where the last that was sent and received is all that gets
     /// this path's bytes, and exactly these, as a text where that is asked for, were then written
@@ -110,12 +109,12 @@ impl<D: Dialog, L: Locals, V: Viewer> Copier for Gets<'_, D, L, V> {
     /// Where it isn't told as copied, no local file changed.
     ghost tries = { λ old path outcome new. MatchCopied outcome
         (λ contents. GetsWhole path (local_of old.target path) old.is_text old.is_digested contents
-        (D.talked new.session.watched.inner) (L.kept old.locals) (L.kept new.locals))
+        (T.talked new.session.talk) (L.kept old.locals) (L.kept new.locals))
         (L.kept new.locals ≡ L.kept old.locals)
         × ((new.target ≡ old.target) × (new.is_text ≡ old.is_text)
         × (new.is_digested ≡ old.is_digested)) };
 
-    fn copy(&mut self, path: &str) -> Outcome<D::Why> {
+    fn copy(&mut self, path: &str) -> Outcome<T::NoReply> {
         let Ok(local) = self.target.local(self.alloc, path) else {
             return Outcome::Failed(RunFault::NoMemory);
         };

@@ -1,14 +1,13 @@
 //! Files that are copied, one after another, between local ones and another host's: which goes
 //! where, what is told of each, and how a run ends.
 //!
-//! It stands on no socket and prints nothing: its user hands in the connection ([`Dialog`]), the
+//! It stands on no socket and prints nothing: its user hands in the connection (a [`Talk`]), the
 //! local files ([`Locals`]), whom to tell ([`Teller`]) and whom to show how far a file has come
 //! ([`Viewer`]).
 #![tactic(auto)]
 
 mod copier;
 mod deletes;
-mod dialog;
 mod disk;
 mod gets;
 mod kind;
@@ -22,20 +21,19 @@ mod source;
 mod status;
 mod stream;
 mod text;
-mod watched;
+mod viewer;
 mod whole;
 
 pub use copier::{Copier, Teller, run_copies};
 pub use deletes::Deletes;
-pub use dialog::Dialog;
 pub use disk::{Disk, STREAM};
 pub use gets::Gets;
 pub use local::Locals;
 pub use naming::{Naming, Target};
 pub use outcome::{Contents, Outcome};
-pub use progress::Share;
+pub use progress::{Progress, SHOW_MILLIS, Share, law_limits};
 pub use puts::Puts;
 pub use session::Session;
 pub use status::ExitStatus;
 pub use text::Lost;
-pub use watched::{Viewer, Watched};
+pub use viewer::Viewer;

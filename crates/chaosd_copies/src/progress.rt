@@ -1,16 +1,21 @@
-//! How far a file has come.
-use chaos_file::{MAX_CHUNK, Reply, read_reply};
+//! How far the copy of a file has come.
+ghost use Rattle.std.specs.Prelude.{◌≡◌, ◌≤◌};
+ghost use Rattle.chaosd_copies.specs.Progress.{begun_at, hundredths_of, share_due, share_of, shown_at};
 
-/// How much of a file was copied.
-#[derive(Drop)]
-pub(crate) struct Progress {
-    /// The file's bytes, where they are known.
-    whole: Option<usize>,
-    /// The replies that came: the first is that to OPEN, and each further one stands for a piece of
-    /// the file.
-    replies: usize,
+/// So many milliseconds lie between two moments at which a user is shown how far a file has come.
+pub const SHOW_MILLIS: u64 = 250;
+
+/// How much of a file was copied. Moments are milliseconds.
+#[derive(Clone, Copy)]
+pub struct Progress {
+    /// The file's bytes, and 0 where they aren't known yet.
+    pub whole: usize,
+    /// So many of them were copied.
+    pub part: usize,
     /// The moment when the copy began.
-    since: u64,
+    pub since: u64,
+    /// The moment at which the user was shown something last, or the copy began.
+    pub shown: u64,
 }
 
 /// What a user is shown of it.
@@ -28,50 +33,59 @@ pub struct Share {
 
 impl Progress {
     /// Nothing has come at this moment.
-    pub(crate) fn new(whole: Option<usize>, since: u64) -> Self {
+    pub fn new(now: u64) -> Self
+        // The copy begins now, with no bytes of none, and nothing was shown.
+        ensures { result ≡ begun_at now }
+    {
         Progress {
-            whole,
-            replies: 0,
-            since,
-        }
-    }
-
-    /// Takes note of a reply.
-    pub(crate) fn note(&mut self, reply: &Reply) {
-        self.replies = self.replies.saturating_add(1);
-        if self.whole.is_none() {
-            self.whole = Some(opened_length(reply));
+            whole: 0,
+            part: 0,
+            since: now,
+            shown: now,
         }
     }
 
     /// What has come at this moment.
-    pub(crate) fn share(&self, now: u64) -> Share {
-        let whole = self.whole.unwrap_or(0);
-        let pieces = self.replies.saturating_sub(1);
-        let part = pieces.saturating_mul(MAX_CHUNK).min(whole);
+    fn share(&self, now: u64) -> Share
+        ensures { result ≡ share_of self.now now }
+    {
+        let part = self.part.min(self.whole);
         Share {
-            whole,
+            whole: self.whole,
             part,
-            hundredths: hundredths_of(part, whole),
-            // bytes in a millisecond are thousands in a second
+            hundredths: hundredths_of(part, self.whole),
             rate: part as u64 / now.saturating_sub(self.since).max(1),
         }
     }
-}
 
-/// The file's length in the reply to OPEN, and 0 in any other.
-fn opened_length(reply: &Reply) -> usize {
-    let opened = match read_reply(reply.as_slice()) {
-        Some(parts) => parts.said.opened(),
-        None => None,
-    };
-    opened.unwrap_or(0)
+    /// What a user is to be shown at this moment, where it is time for that.
+    pub fn show(&mut self, now: u64) -> Option<Share>
+        // A user is shown the share of this moment where 250 milliseconds have passed since the
+        // last, or since the copy began.
+        ensures due { result ≡ share_due self.old now }
+        // The next 250 milliseconds count from then on.
+        ensures shown { self.new ≡ shown_at self.old now }
+    {
+        if now.saturating_sub(self.shown) < SHOW_MILLIS {
+            return None;
+        }
+        self.shown = now;
+        Some(self.share(now))
+    }
 }
 
 /// A part of a whole in hundredths, and 100 of nothing.
-fn hundredths_of(part: usize, whole: usize) -> usize {
+fn hundredths_of(part: usize, whole: usize) -> usize
+    ensures { result ≡ hundredths_of part whole }
+{
     if whole == 0 {
         return 100;
     }
     part.saturating_mul(100) / whole
 }
+
+/// The milliseconds between two moments at which a user is shown something, as a numeral.
+pub fn law_limits()
+    // A user is shown how far a file has come each 250 milliseconds.
+    ensures { SHOW_MILLIS ≡ 250 }
+{}

@@ -5,21 +5,20 @@ ghost use Rattle.chaosd_copies.specs.Outcome.{is_well, MatchCopied};
 ghost use Rattle.chaosd_copies.specs.Copied.{PutsWhole};
 
 use crate::copier::Copier;
-use crate::dialog::Dialog;
 use crate::local::Locals;
 use crate::naming::Naming;
 use crate::outcome::{Contents, Outcome};
 use crate::session::Session;
 use crate::text::{has_returns, in_set};
-use crate::watched::Viewer;
+use crate::viewer::Viewer;
 use chaos_file::MAX_PATH;
-use chaosd_copy::Charset;
+use chaosd_copy::{Charset, Talk};
 
 /// A user who puts local files, each to a path of the server's.
 #[derive(Drop)]
-pub struct Puts<'a, D: Dialog, L: Locals, V: Viewer, N: Naming> {
-    /// The dialog with the server.
-    pub session: Session<'a, D, V>,
+pub struct Puts<'a, T: Talk, L: Locals, V: Viewer, N: Naming> {
+    /// The user's talk with the server.
+    pub session: Session<'a, T, V>,
     /// The local files.
     pub locals: L,
     /// Which path each goes to.
@@ -30,9 +29,9 @@ pub struct Puts<'a, D: Dialog, L: Locals, V: Viewer, N: Naming> {
     pub is_digested: bool,
 }
 
-impl<D: Dialog, L: Locals, V: Viewer, N: Naming> Puts<'_, D, L, V, N> {
+impl<T: Talk, L: Locals, V: Viewer, N: Naming> Puts<'_, T, L, V, N> {
     /// All bytes of a local file.
-    fn bytes_of(&mut self, local: &str) -> Result<Vec<u8>, Outcome<D::Why>>
+    fn bytes_of(&mut self, local: &str) -> Result<Vec<u8>, Outcome<T::NoReply>>
         ensures whole { IfOk result
             (λ v. IfSome (L.held self.old.locals local.now) (λ all. v.items ≡ all)) }
         ensures fits { IfOk result (λ v. length v.items ≤ MAX_FILE) }
@@ -49,11 +48,11 @@ impl<D: Dialog, L: Locals, V: Viewer, N: Naming> Puts<'_, D, L, V, N> {
     }
 
     /// Puts a local file, which is read whole before anything is sent.
-    fn put_from(&mut self, local: &str, path: &[u8]) -> Result<Contents, Outcome<D::Why>>
+    fn put_from(&mut self, local: &str, path: &[u8]) -> Result<Contents, Outcome<T::NoReply>>
         ensures put { IfOk result
             (λ contents. PutsWhole path.now (L.held self.old.locals local.now) self.old.is_text
             self.old.is_digested contents
-            (D.talked self.new.session.watched.inner)) }
+            (T.talked self.new.session.talk)) }
         ensures missed { IfErr result (λ outcome. is_well outcome ≡ false) }
         ensures same { (self.new.naming ≡ self.old.naming) × (self.new.is_text ≡ self.old.is_text)
             × (self.new.is_digested ≡ self.old.is_digested) }
@@ -63,7 +62,8 @@ impl<D: Dialog, L: Locals, V: Viewer, N: Naming> Puts<'_, D, L, V, N> {
         }
         let bytes = self.bytes_of(local)?;
         if self.is_text && has_returns(bytes.as_slice()) {
-            self.session.tell_returns(local);
+            let session = &mut self.session;
+            session.viewer.tell_returns(local);
         }
         let contents = Contents::of(bytes.as_slice(), self.is_digested);
         match in_set(Charset::LispMachine, self.is_text, bytes) {
@@ -74,20 +74,20 @@ impl<D: Dialog, L: Locals, V: Viewer, N: Naming> Puts<'_, D, L, V, N> {
     }
 }
 
-impl<D: Dialog, L: Locals, V: Viewer, N: Naming> Copier for Puts<'_, D, L, V, N> {
-    type Why = D::Why;
+impl<T: Talk, L: Locals, V: Viewer, N: Naming> Copier for Puts<'_, T, L, V, N> {
+    type Why = T::NoReply;
 
     /// A file is told as copied only where the last that was sent and received is all that puts
     /// what the local file has, as a text where that is asked for, to the path that it goes to.
     ghost tries = { λ old local outcome new. MatchCopied outcome
         (λ contents. (path : List ℕ) × (N.path old.naming local ≡ Some path)
         × PutsWhole path (L.held old.locals local) old.is_text old.is_digested contents
-        (D.talked new.session.watched.inner))
+        (T.talked new.session.talk))
         (Unit {0})
         × ((new.naming ≡ old.naming) × (new.is_text ≡ old.is_text)
         × (new.is_digested ≡ old.is_digested)) };
 
-    fn copy(&mut self, local: &str) -> Outcome<D::Why> {
+    fn copy(&mut self, local: &str) -> Outcome<T::NoReply> {
         match self.naming.path(local) {
             Some(path) => Outcome::of(self.put_from(local, path.as_slice())),
             None => Outcome::Unnamed,

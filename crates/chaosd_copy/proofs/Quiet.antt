@@ -1,6 +1,6 @@
 -- Turns in which nothing is received.
 use Rattle.std.proofs.Common.{◌≡◌, ℕ, ◌+◌, ◌-◌, ◌<◌, ◌≤◌, Bool, true, false, List, [], ◌∷◌, ◌++◌, Option, Some, None, refl, ap, ◌∙◌, sym, subst, arith, inl, inr}
-use Rattle.std.specs.Prelude.{Result, Ok, Err, IfOk, MatchOption}
+use Rattle.std.specs.Prelude.{Result, Ok, Err, IfOk, MatchOption, ◌||◌}
 use Rattle.chaosd_copy.specs.declared.limits.TheConstants.{MOST_TURNS}
 use Rattle.chaosd_copy.specs.Copy.{upto}
 use Rattle.chaosd_copy.specs.Talk.{History, Since, Unheard, Turned, IsLate, IsLong, received_in, sent_if, taken}
@@ -77,6 +77,15 @@ unanswered_waited came reply end true P Q same e w f =
     subst (λ x. UnlessAnswered x Q) (sym same) (f (where_none came reply P e w))
 unanswered_waited came reply end false P Q same e w f =
     subst (λ x. UnlessAnswered x Q) (sym same) (f (where_none came reply P e w))
+
+-- a talk that is over, and one whose observer says that nobody is there
+pub over_first : (a b : Bool) → a ≡ true → (a || b) ≡ true
+over_first true b h = refl
+over_first false b h = absurd (cc)
+
+pub over_then : (a b : Bool) → b ≡ true → (a || b) ≡ true
+over_then true b h = refl
+over_then false b h = h
 
 -- it was waited for long enough
 pub late : (patience a b c : Option ℕ) (n since s m : ℕ) → Turned n a b → c ≡ b → since ≡ s

@@ -1,9 +1,9 @@
 -- What was sent and received, step after step.
-use Rattle.std.proofs.Common.{◌≡◌, ℕ, suc, ◌+◌, ◌<◌, ◌≤◌, Bool, true, false, List, [], ◌∷◌, ◌++◌, Option, Some, None, refl, ap, ◌∙◌, sym, subst, arith}
+use Rattle.std.proofs.Common.{◌≡◌, ℕ, suc, ◌+◌, ◌<◌, ◌≤◌, Bool, true, false, List, [], ◌∷◌, ◌++◌, Option, Some, None, ap, ◌∙◌, sym, subst, arith}
 use Rattle.std.specs.Prelude.{Result, Ok, Err, IfOk, OnErr, IfSome}
 use Rattle.std.proofs.lemmas.List.{append_assoc, append-nil}
 use Rattle.chaosd_copy.specs.Copy.{upto}
-use Rattle.chaosd_copy.specs.Talk.{History, Talked, Since, received_in, sent_if, taken}
+use Rattle.chaosd_copy.specs.Talk.{History, Since, received_in, sent_if, taken}
 
 pub since_none : {T : Type 0} (t : History T) → Since t t [] []
 since_none t = record {

@@ -1,8 +1,7 @@
 -- What is sent in a row.
-use Rattle.std.specs.Prelude.{◌≤◌, ℕ, ◌+◌, List, [], ◌∷◌, codes, length}
+use Rattle.std.specs.Prelude.{ℕ, ◌+◌, List, [], codes}
 use Rattle.std.specs.Fmt.{decimal}
-use Rattle.chaos_file.specs.declared.limits.TheConstants.{MAX_NAME, MAX_PATH}
-use Rattle.chaos_file.specs.Command.{CommandView, Login, OpenRead, OpenWrite, Read, Write, Close, Rename, Delete}
+use Rattle.chaos_file.specs.Command.{CommandView, Login, Write, Rename, Delete}
 use Rattle.chaos_file.specs.Spelling.{spelling_of}
 use Rattle.chaos_file.specs.Views.{command_view, CommandFits}
 use Rattle.chaosd_copy.specs.declared.row.Row.{Row}

@@ -1,5 +1,5 @@
 -- What was sent and received in a talk with a FILE server.
-use Rattle.std.specs.Prelude.{◌≡◌, ◌≤◌, ◌⊎◌, ℕ, ◌-◌, Bool, true, false, List, [], ◌∷◌, ◌++◌, Option, Some, None, nat_lt, if◌then◌else◌}
+use Rattle.std.specs.Prelude.{◌≡◌, ◌≤◌, ◌⊎◌, ◌||◌, ℕ, ◌-◌, Bool, true, false, List, [], ◌∷◌, ◌++◌, Option, Some, None, nat_lt, if◌then◌else◌}
 use Rattle.chaos_packet.specs.Count.{max_count}
 use Rattle.chaosd_copy.specs.declared.limits.TheConstants.{REPLY_TURNS, REPLY_MILLIS, MOST_TURNS}
 use Rattle.chaosd_copy.specs.Copy.{upto}
@@ -91,6 +91,10 @@ pub record Course : Type 0 where
   pub failures : ℕ
   -- the milliseconds for which a reply is waited for, where the talk has a patience of its own
   pub patience : Option ℕ
+
+-- how far a talk has come that is over too where nobody is there to reply
+abbrev pub over_where : Bool → Course → Course
+over_where gone course = record course { is_over = course.is_over || gone }
 
 -- what a count tells that stays at the greatest u64: nothing there
 abbrev pub counted : ℕ → Option ℕ

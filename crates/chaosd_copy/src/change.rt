@@ -3,10 +3,11 @@ ghost use Rattle.std.specs.Prelude.{◌≡◌, ◌≤◌, ◌∷◌, [], length,
 ghost use Rattle.std.specs.Fmt.{decimal};
 ghost use Rattle.chaos_file.specs.declared.limits.TheConstants.{MAX_PATH};
 ghost use Rattle.chaosd_copy.specs.declared.limits.TheConstants.{MAX_FIRST};
-ghost use Rattle.chaosd_copy.specs.Talk.{Since, SentOrNot, InVain};
+ghost use Rattle.chaosd_copy.specs.Talk.{Since, SentOrNot, InVain, over_where};
 ghost use Rattle.chaosd_copy.specs.Ends.{IfDone, IfUnanswered, UnlessDone, EndedAt, delete_command, delete_reply, rename_command, rename_reply};
 
 use crate::end::CopyEnd;
+use crate::observer::Observer;
 use crate::said::write_wanted;
 use crate::talk::Talk;
 use crate::window::{ask_one, settled};
@@ -20,11 +21,12 @@ use chaosd_io::RunFault;
 ///
 /// # Errors
 /// Those of the talk's turns.
-pub fn rename_file<T: Talk>(
+pub fn rename_file<T: Talk, O: Observer>(
     talk: &mut T,
     tid: u32,
     old: &[u8],
     new: &[u8],
+    observer: &mut O,
 ) -> Result<CopyEnd, RunFault>
     requires tid { tid ≤ MAX_FIRST }
     requires old { length old.now ≤ MAX_PATH }
@@ -44,7 +46,7 @@ pub fn rename_file<T: Talk>(
         (rename_command tid old.now new.now) }
     // It got no reply only after such a wait as a login.
     ensures waited { IfUnanswered result
-        ((t : T) × InVain (T.talked t) (T.course t) (T.talked talk.new) (T.course talk.new)) }
+        ((t : T) × InVain (T.talked t) (T.course t) (T.talked talk.new) (over_where (O.gone observer.new) (T.course talk.new))) }
     // It ends well only where no failure was counted.
     ensures unfailed { OnOk result ((T.course talk.new).failures ≤ (T.course talk.old).failures) }
     // The talk stays as patient as it was.
@@ -53,7 +55,7 @@ pub fn rename_file<T: Talk>(
     ensures faults { IfErr result (T.failed_by talk.new) }
 {
     let mut reply = Reply::new();
-    let came = ask_one(talk, Command::Rename(old, new), tid, &mut reply)?;
+    let came = ask_one(talk, Command::Rename(old, new), tid, &mut reply, observer)?;
     let mut wanted = Reply::new();
     write_wanted(&mut wanted, tid, b"", Said::Renamed);
     Ok(settled(came, &reply, &wanted, tid, b""))
@@ -66,7 +68,12 @@ pub fn rename_file<T: Talk>(
 ///
 /// # Errors
 /// Those of the talk's turns.
-pub fn delete_file<T: Talk>(talk: &mut T, tid: u32, path: &[u8]) -> Result<CopyEnd, RunFault>
+pub fn delete_file<T: Talk, O: Observer>(
+    talk: &mut T,
+    tid: u32,
+    path: &[u8],
+    observer: &mut O,
+) -> Result<CopyEnd, RunFault>
     requires tid { tid ≤ MAX_FIRST }
     requires path { length path.now ≤ MAX_PATH }
     // Where it was done, this DELETE was sent and answered, and nothing else.
@@ -84,7 +91,7 @@ pub fn delete_file<T: Talk>(talk: &mut T, tid: u32, path: &[u8]) -> Result<CopyE
         (delete_command tid path.now) }
     // It got no reply only after such a wait as a login.
     ensures waited { IfUnanswered result
-        ((t : T) × InVain (T.talked t) (T.course t) (T.talked talk.new) (T.course talk.new)) }
+        ((t : T) × InVain (T.talked t) (T.course t) (T.talked talk.new) (over_where (O.gone observer.new) (T.course talk.new))) }
     // It ends well only where no failure was counted.
     ensures unfailed { OnOk result ((T.course talk.new).failures ≤ (T.course talk.old).failures) }
     // The talk stays as patient as it was.
@@ -93,7 +100,7 @@ pub fn delete_file<T: Talk>(talk: &mut T, tid: u32, path: &[u8]) -> Result<CopyE
     ensures faults { IfErr result (T.failed_by talk.new) }
 {
     let mut reply = Reply::new();
-    let came = ask_one(talk, Command::Delete(path), tid, &mut reply)?;
+    let came = ask_one(talk, Command::Delete(path), tid, &mut reply, observer)?;
     let mut wanted = Reply::new();
     write_wanted(&mut wanted, tid, b"", Said::Deleted);
     Ok(settled(came, &reply, &wanted, tid, b""))

@@ -8,11 +8,12 @@ ghost use Rattle.chaosd_copy.specs.declared.limits.TheConstants.{MAX_FIRST};
 ghost use Rattle.chaosd_copy.specs.Copy.{upto, chunk_count, reply_of, get_commands, get_replies};
 ghost use Rattle.chaosd_copy.specs.Row.{file_handle};
 ghost use Rattle.chaosd_copy.specs.Said.{said_to, opened_of, given_of};
-ghost use Rattle.chaosd_copy.specs.Talk.{Since, SentUpTo, InVain, taken};
+ghost use Rattle.chaosd_copy.specs.Talk.{Since, SentUpTo, InVain, taken, over_where};
 ghost use Rattle.chaosd_copy.specs.Ends.{IfDone, IfUnanswered, UnlessDone, IsGiven, ReadsEnded, GetBegun, GetEnded, tids_from, read_sent, read_received};
 
 use crate::end::CopyEnd;
 use crate::limits::HANDLE;
+use crate::observer::Observer;
 use crate::put::chunk_count;
 use crate::row::Row;
 use crate::said::{said_to, write_wanted};
@@ -105,11 +106,12 @@ fn take_piece(
 }
 
 /// Reads a file of this length by an open handle.
-fn read_all<T: Talk>(
+fn read_all<T: Talk, O: Observer>(
     talk: &mut T,
     first: u32,
     len: usize,
     bytes: &mut Vec<u8>,
+    observer: &mut O,
 ) -> Result<CopyEnd, RunFault>
     requires first { first ≤ MAX_FIRST + 1 }
     requires fits { len ≤ MAX_FILE }
@@ -123,7 +125,7 @@ fn read_all<T: Talk>(
     ensures ended { UnlessDone result
         (ReadsEnded (T.talked talk.old) (T.talked talk.new) first len bytes.new.items) }
     ensures waited { IfUnanswered result
-        ((t : T) × InVain (T.talked t) (T.course t) (T.talked talk.new) (T.course talk.new)) }
+        ((t : T) × InVain (T.talked t) (T.course t) (T.talked talk.new) (over_where (O.gone observer.new) (T.course talk.new))) }
     ensures unfailed { OnOk result ((T.course talk.new).failures ≤ (T.course talk.old).failures) }
     ensures patient { (T.course talk.new).patience ≡ (T.course talk.old).patience }
     ensures faults { IfErr result
@@ -138,15 +140,16 @@ fn read_all<T: Talk>(
     let mut flight = Flight::new();
     let mut reply = Reply::new();
     for i in 0..count {
-        let came = next_reply(talk, &row, &mut flight, &mut reply)?;
+        let came = next_reply(talk, &row, &mut flight, &mut reply, observer)?;
         let tid = first + i as u32;
         let size = (len - MAX_CHUNK * i).min(MAX_CHUNK);
         let is_given = take_piece(came, &reply, tid, size, bytes)?;
         if !is_given {
             return Ok(refusal(came, &reply, tid, HANDLE));
         }
+        observer.reach(bytes.len());
     }
-    let came = next_reply(talk, &row, &mut flight, &mut reply)?;
+    let came = next_reply(talk, &row, &mut flight, &mut reply, observer)?;
     let tid = first + count as u32;
     let mut wanted = Reply::new();
     write_wanted(&mut wanted, tid, HANDLE, Said::AtEnd);
@@ -155,15 +158,17 @@ fn read_all<T: Talk>(
 
 /// Gets a file. Where the answer is `Done`, the commands that were sent are OPEN, READs up to the
 /// one answered EOF, and CLOSE, and the bytes are those of the replies, joined, as many as OPEN and
-/// CLOSE told.
+/// CLOSE told. The observer gets the count of the file's bytes behind the reply to OPEN, and behind
+/// each reply to a READ how many of them are here.
 ///
 /// # Errors
 /// Those of the talk's turns, and `NoMemory`.
-pub fn get_file<T: Talk>(
+pub fn get_file<T: Talk, O: Observer>(
     talk: &mut T,
     first: u32,
     path: &[u8],
     bytes: &mut Vec<u8>,
+    observer: &mut O,
 ) -> Result<CopyEnd, RunFault>
     requires first { first ≤ MAX_FIRST }
     requires path { length path.now ≤ MAX_PATH }
@@ -187,7 +192,7 @@ pub fn get_file<T: Talk>(
         path.now }
     // It got no reply only after such a wait as a login.
     ensures waited { IfUnanswered result
-        ((t : T) × InVain (T.talked t) (T.course t) (T.talked talk.new) (T.course talk.new)) }
+        ((t : T) × InVain (T.talked t) (T.course t) (T.talked talk.new) (over_where (O.gone observer.new) (T.course talk.new))) }
     // It ends well only where no failure was counted.
     ensures unfailed { OnOk result ((T.course talk.new).failures ≤ (T.course talk.old).failures) }
     // The talk stays as patient as it was.
@@ -197,16 +202,17 @@ pub fn get_file<T: Talk>(
         (λ fault. (fault ≡ RunFault.NoMemory) ⊎ T.failed_by talk.new fault) }
 {
     let mut reply = Reply::new();
-    let came = ask_one(talk, Command::OpenRead(path), first, &mut reply)?;
+    let came = ask_one(talk, Command::OpenRead(path), first, &mut reply, observer)?;
     let Some(len) = opened_length(came, &reply, first) else {
         return Ok(refusal(came, &reply, first, HANDLE));
     };
-    match read_all(talk, first + 1, len, bytes)? {
+    observer.expect(len);
+    match read_all(talk, first + 1, len, bytes, observer)? {
         CopyEnd::Done => {}
         end => return Ok(end),
     }
     let last = first + 2 + chunk_count(len) as u32;
-    let came = ask_one(talk, Command::Close, last, &mut reply)?;
+    let came = ask_one(talk, Command::Close, last, &mut reply, observer)?;
     let mut wanted = Reply::new();
     write_wanted(&mut wanted, last, HANDLE, Said::Closed(len));
     Ok(settled(came, &reply, &wanted, last, HANDLE))

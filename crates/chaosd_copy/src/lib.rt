@@ -10,6 +10,7 @@ mod laws;
 mod limits;
 mod local;
 mod mem_talk;
+mod observer;
 mod put;
 mod row;
 mod said;
@@ -24,6 +25,7 @@ pub use laws::{law_get, law_got, law_login, law_pieces, law_put, law_put_broken,
 pub use limits::{MAX_FIRST, law_limits};
 pub use local::{last_name, read_whole};
 pub use mem_talk::MemTalk;
+pub use observer::{Observer, Unobserved};
 pub use put::put_file;
 pub use talk::Talk;
 pub use text::{Charset, law_text};

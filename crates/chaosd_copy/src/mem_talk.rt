@@ -100,6 +100,8 @@ impl MemTalk {
 }
 
 impl Talk for MemTalk {
+    type NoReply = ();
+
     ghost talked = { λ now start talk. (told (map (λ v. v.items) now.sent.items)
         (map (λ v. v.items) now.replies.items) now.received)
         ≡ with_received talk.received
@@ -164,4 +166,14 @@ impl Talk for MemTalk {
     fn is_over(&self) -> bool {
         false
     }
+
+    /// The server is there: no connection is asked for.
+    fn connect(&mut self) -> Result<(), RunFault> {
+        Ok(())
+    }
+
+    fn end(&mut self, may_wait: bool) {}
+
+    /// Nothing is known.
+    fn no_reply(&mut self) {}
 }

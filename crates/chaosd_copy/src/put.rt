@@ -4,11 +4,12 @@ ghost use Rattle.chaos_file.specs.declared.limits.TheConstants.{MAX_FILE, MAX_PA
 ghost use Rattle.chaosd_copy.specs.declared.limits.TheConstants.{MAX_FIRST};
 ghost use Rattle.chaosd_copy.specs.Copy.{upto, chunk_count, put_commands, put_replies};
 ghost use Rattle.chaosd_copy.specs.Row.{file_handle};
-ghost use Rattle.chaosd_copy.specs.Talk.{Since, SentUpTo, InVain};
+ghost use Rattle.chaosd_copy.specs.Talk.{Since, SentUpTo, InVain, over_where};
 ghost use Rattle.chaosd_copy.specs.Ends.{IfDone, IfUnanswered, UnlessDone, unanswered, PutBegun, PutEnded, WritesEnded, tids_from, write_sent, write_received};
 
 use crate::end::CopyEnd;
 use crate::limits::HANDLE;
+use crate::observer::Observer;
 use crate::row::Row;
 use crate::said::write_wanted;
 use crate::talk::Talk;
@@ -26,7 +27,12 @@ pub fn chunk_count(length: usize) -> usize
 }
 
 /// Writes the file's bytes by an open handle.
-fn write_all<T: Talk>(talk: &mut T, first: u32, bytes: &[u8]) -> Result<CopyEnd, RunFault>
+fn write_all<T: Talk, O: Observer>(
+    talk: &mut T,
+    first: u32,
+    bytes: &[u8],
+    observer: &mut O,
+) -> Result<CopyEnd, RunFault>
     requires first { first ≤ MAX_FIRST + 1 }
     requires fits { length bytes.now ≤ MAX_FILE }
     ensures sent { SentUpTo (T.talked talk.old) (T.talked talk.new) (write_sent first bytes.now)
@@ -37,7 +43,7 @@ fn write_all<T: Talk>(talk: &mut T, first: u32, bytes: &[u8]) -> Result<CopyEnd,
     ensures ended { UnlessDone result
         (WritesEnded (T.talked talk.old) (T.talked talk.new) first bytes.now) }
     ensures waited { IfUnanswered result
-        ((t : T) × InVain (T.talked t) (T.course t) (T.talked talk.new) (T.course talk.new)) }
+        ((t : T) × InVain (T.talked t) (T.course t) (T.talked talk.new) (over_where (O.gone observer.new) (T.course talk.new))) }
     ensures unfailed { OnOk result ((T.course talk.new).failures ≤ (T.course talk.old).failures) }
     ensures patient { (T.course talk.new).patience ≡ (T.course talk.old).patience }
     ensures faults { IfErr result (T.failed_by talk.new) }
@@ -52,13 +58,14 @@ fn write_all<T: Talk>(talk: &mut T, first: u32, bytes: &[u8]) -> Result<CopyEnd,
     let mut reply = Reply::new();
     let mut wanted = Reply::new();
     for i in 0..count {
-        let came = next_reply(talk, &row, &mut flight, &mut reply)?;
+        let came = next_reply(talk, &row, &mut flight, &mut reply, observer)?;
         let tid = first + i as u32;
         let written = (MAX_CHUNK * (1 + i)).min(bytes.len());
         write_wanted(&mut wanted, tid, HANDLE, Said::Wrote(written));
         if !is_wanted(came, &reply, &wanted) {
             return Ok(refusal(came, &reply, tid, HANDLE));
         }
+        observer.reach(written);
     }
     Ok(CopyEnd::Done)
 }
@@ -77,15 +84,17 @@ fn unanswered(is_sent: bool) -> CopyEnd
 /// Puts a file. Where the answer is `Done`, the commands that were sent are OPEN, the file in
 /// WRITEs and CLOSE, and the server answered that it has the whole file. Where the CLOSE was sent
 /// and got no reply it is `Unknown` whether the file was put; CLOSE is sent only after each WRITE
-/// was answered by its count.
+/// was answered by its count. The observer gets the count of the file's bytes, and behind each
+/// reply to a WRITE how many of them the server has.
 ///
 /// # Errors
 /// Those of the talk's turns.
-pub fn put_file<T: Talk>(
+pub fn put_file<T: Talk, O: Observer>(
     talk: &mut T,
     first: u32,
     path: &[u8],
     bytes: &[u8],
+    observer: &mut O,
 ) -> Result<CopyEnd, RunFault>
     requires first { first ≤ MAX_FIRST }
     requires path { length path.now ≤ MAX_PATH }
@@ -109,7 +118,7 @@ pub fn put_file<T: Talk>(
         path.now bytes.now }
     // It got no reply only after such a wait as a login.
     ensures waited { IfUnanswered result
-        ((t : T) × InVain (T.talked t) (T.course t) (T.talked talk.new) (T.course talk.new)) }
+        ((t : T) × InVain (T.talked t) (T.course t) (T.talked talk.new) (over_where (O.gone observer.new) (T.course talk.new))) }
     // It ends well only where no failure was counted.
     ensures unfailed { OnOk result ((T.course talk.new).failures ≤ (T.course talk.old).failures) }
     // The talk stays as patient as it was.
@@ -117,21 +126,29 @@ pub fn put_file<T: Talk>(
     // It fails only by a turn that did, by the same fault.
     ensures faults { IfErr result (T.failed_by talk.new) }
 {
+    observer.expect(bytes.len());
     let mut reply = Reply::new();
-    let came = ask_one(talk, Command::OpenWrite(path), first, &mut reply)?;
+    let came = ask_one(talk, Command::OpenWrite(path), first, &mut reply, observer)?;
     let mut wanted = Reply::new();
     write_wanted(&mut wanted, first, HANDLE, Said::Opened(0));
     match settled(came, &reply, &wanted, first, HANDLE) {
         CopyEnd::Done => {}
         end => return Ok(end),
     }
-    match write_all(talk, first + 1, bytes)? {
+    match write_all(talk, first + 1, bytes, observer)? {
         CopyEnd::Done => {}
         end => return Ok(end),
     }
     let last = first + 1 + chunk_count(bytes.len()) as u32;
     let mut is_sent = false;
-    let came = ask_telling(talk, Command::Close, last, &mut reply, &mut is_sent)?;
+    let came = ask_telling(
+        talk,
+        Command::Close,
+        last,
+        &mut reply,
+        &mut is_sent,
+        observer,
+    )?;
     if !came {
         return Ok(unanswered(is_sent));
     }

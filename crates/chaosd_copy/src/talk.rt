@@ -7,8 +7,12 @@ ghost use Rattle.chaosd_io.specs.declared.fault.RunFault.{RunFault};
 use chaos_file::Reply;
 use chaosd_io::RunFault;
 
-/// A talk with a FILE server: commands go out, and replies come back in the same order.
+/// A talk with a FILE server over one connection after another: commands go out, and replies come
+/// back in the same order.
 pub trait Talk {
+    /// Why no reply came.
+    type NoReply: Drop;
+
     /// What may have been sent and received up to this state, since that one: the commands and the
     /// replies, each in order.
     ghost talked: { Self → Self → Talked → Type 0 };
@@ -88,4 +92,28 @@ pub trait Talk {
     fn is_over(&self) -> bool
         // The talk is told to be over exactly where it is.
         ensures { result ≡ (course self.now).is_over };
+
+    /// Asks for a connection, in place of one that there was.
+    ///
+    /// # Errors
+    /// Those of the talk's turns.
+    fn connect(&mut self) -> Result<(), RunFault>
+        // A connection that was asked for counted no failure.
+        ensures unfailed { OnOk result ((course self.new).failures ≤ (course self.old).failures) }
+        // The patience stays as it is.
+        ensures patient { (course self.new).patience ≡ (course self.old).patience }
+        // It fails by a fault that `failed_by` tells of it.
+        ensures faults { IfErr result (failed_by self.new) };
+
+    /// Ends the connection. Where the talk may wait and every reply was received, it takes its
+    /// leave first, so that no connection is left at the server. What fails then changes nothing of
+    /// what was copied.
+    fn end(&mut self, may_wait: bool)
+        // The patience stays as it is.
+        ensures { (course self.new).patience ≡ (course self.old).patience };
+
+    /// Why no reply came, as far as is known.
+    fn no_reply(&mut self) -> Self::NoReply
+        // The talk has come no further.
+        ensures { course self.new ≡ course self.old };
 }

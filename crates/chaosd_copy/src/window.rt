@@ -2,7 +2,7 @@
 ghost use Rattle.std.specs.Prelude.{◌≡◌, ◌≤◌, ◌<◌, ◌+◌, ◌-◌, ◌++◌, ◌∷◌, [], ℕ, true, List, Some, length, Decides, IfOk, IfErr, OnErr, OnOk, IfSome, MatchOption};
 ghost use Rattle.std.specs.Fmt.{decimal};
 ghost use Rattle.chaosd_copy.specs.Copy.{upto};
-ghost use Rattle.chaosd_copy.specs.Talk.{Since, Received, SentOrNot, InVain, IsLate, Unheard, received_in, sent_if, taken};
+ghost use Rattle.chaosd_copy.specs.Talk.{Since, Received, SentOrNot, InVain, IsLate, Unheard, received_in, sent_if, taken, over_where};
 ghost use Rattle.chaosd_copy.specs.Row.{RequestFits, request_command, row_command};
 ghost use Rattle.chaosd_copy.specs.declared.limits.TheConstants.{MAX_FIRST};
 ghost use Rattle.chaos_file.specs.declared.limits.TheConstants.{MAX_NAME, MAX_HANDLE};
@@ -15,6 +15,7 @@ ghost use Rattle.chaosd_copy.specs.Ends.{IfCopied, IfDone, IfUnanswered, UnlessC
 use crate::bytes::copied;
 use crate::end::CopyEnd;
 use crate::limits::{MOST_TURNS, REPLY_MILLIS, REPLY_TURNS};
+use crate::observer::Observer;
 use crate::row::{Row, spell_at};
 use crate::said::{said_to, write_wanted};
 use crate::talk::Talk;
@@ -166,11 +167,12 @@ fn is_late<T: Talk>(talk: &T, turns: u32, since: u64) -> bool
 /// The first commands are sent at once, as many as there is room for, and from then on never more
 /// are without a reply, even where the server told that it has read some of them. A command tells
 /// which replies were read: so what comes to the server last leaves it room for the next reply.
-pub fn next_reply<T: Talk>(
+pub fn next_reply<T: Talk, O: Observer>(
     talk: &mut T,
     row: &Row<'_>,
     flight: &mut Flight,
     reply: &mut Reply,
+    observer: &mut O,
 ) -> Result<bool, RunFault>
     requires sent { flight.old.sent ≤ row.now.count }
     requires first { row.now.first ≤ MAX_FIRST + 9000 }
@@ -196,10 +198,11 @@ pub fn next_reply<T: Talk>(
         → OnErr result
         (Since (T.talked start) (T.talked talk.new) (upto (row_command row.now) flight.new.sent)
         replies) }
-    // It gives up only where it was waited for long enough, or no more replies come.
+    // It gives up only where it was waited for long enough, or no more replies come, or where the
+    // observer says that nobody is there to reply.
     ensures waited { IfOk result
         (λ came. MatchOption (taken came reply.new.items)
-        (InVain (T.talked talk.old) (T.course talk.old) (T.talked talk.new) (T.course talk.new))
+        (InVain (T.talked talk.old) (T.course talk.old) (T.talked talk.new) (over_where (O.gone observer.new) (T.course talk.new)))
         (λ _. Unit {0})) }
     ensures unfailed { OnOk result ((T.course talk.new).failures ≤ (T.course talk.old).failures) }
     ensures patient { (T.course talk.new).patience ≡ (T.course talk.old).patience }
@@ -209,25 +212,28 @@ pub fn next_reply<T: Talk>(
     for turns in 0..MOST_TURNS {
         if receive_asked(talk, flight.received < flight.sent, reply) {
             flight.received += 1;
+            observer.hear();
             return Ok(true);
         }
-        if talk.is_over() || is_late(talk, turns, since) {
+        if talk.is_over() || observer.is_gone() || is_late(talk, turns, since) {
             return Ok(false);
         }
         send_on(talk, row, flight);
         talk.turn()?;
+        observer.look(talk.moment());
     }
     Ok(false)
 }
 
 /// The reply to one command, left in the caller's place where one came, and whether the command was
 /// sent.
-pub fn ask_telling<T: Talk>(
+pub fn ask_telling<T: Talk, O: Observer>(
     talk: &mut T,
     command: Command<'_>,
     tid: u32,
     reply: &mut Reply,
     is_sent: &mut bool,
+    observer: &mut O,
 ) -> Result<bool, RunFault>
     requires tid { tid ≤ MAX_FIRST + 9000 }
     requires fits { RequestFits (command_view command) }
@@ -249,7 +255,7 @@ pub fn ask_telling<T: Talk>(
         (λ _. Unit {0})) }
     ensures waited { IfOk result
         (λ came. MatchOption (taken came reply.new.items)
-        (InVain (T.talked talk.old) (T.course talk.old) (T.talked talk.new) (T.course talk.new))
+        (InVain (T.talked talk.old) (T.course talk.old) (T.talked talk.new) (over_where (O.gone observer.new) (T.course talk.new)))
         (λ _. Unit {0})) }
     ensures unfailed { OnOk result ((T.course talk.new).failures ≤ (T.course talk.old).failures) }
     ensures patient { (T.course talk.new).patience ≡ (T.course talk.old).patience }
@@ -266,17 +272,18 @@ pub fn ask_telling<T: Talk>(
         limit: NO_LIMIT,
         command: CommandBytes::new(),
     };
-    let came = next_reply(talk, &row, &mut flight, reply);
+    let came = next_reply(talk, &row, &mut flight, reply, observer);
     *is_sent = flight.sent > 0;
     came
 }
 
 /// The reply to one command, left in the caller's place where one came.
-pub fn ask_one<T: Talk>(
+pub fn ask_one<T: Talk, O: Observer>(
     talk: &mut T,
     command: Command<'_>,
     tid: u32,
     reply: &mut Reply,
+    observer: &mut O,
 ) -> Result<bool, RunFault>
     requires tid { tid ≤ MAX_FIRST + 9000 }
     requires fits { RequestFits (command_view command) }
@@ -291,14 +298,14 @@ pub fn ask_one<T: Talk>(
         (received_in (taken came reply.new.items))) }
     ensures waited { IfOk result
         (λ came. MatchOption (taken came reply.new.items)
-        (InVain (T.talked talk.old) (T.course talk.old) (T.talked talk.new) (T.course talk.new))
+        (InVain (T.talked talk.old) (T.course talk.old) (T.talked talk.new) (over_where (O.gone observer.new) (T.course talk.new)))
         (λ _. Unit {0})) }
     ensures unfailed { OnOk result ((T.course talk.new).failures ≤ (T.course talk.old).failures) }
     ensures patient { (T.course talk.new).patience ≡ (T.course talk.old).patience }
     ensures faults { IfErr result (T.failed_by talk.new) }
 {
     let mut is_sent = false;
-    ask_telling(talk, command, tid, reply, &mut is_sent)
+    ask_telling(talk, command, tid, reply, &mut is_sent, observer)
 }
 
 /// Whether a reply says an error of the command with this number.
@@ -365,7 +372,11 @@ pub fn settled(came: bool, reply: &Reply, wanted: &Reply, tid: u32, handle: &[u8
 ///
 /// # Errors
 /// Those of the talk's turns.
-pub fn log_in<T: Talk>(talk: &mut T, name: &[u8]) -> Result<CopyEnd, RunFault>
+pub fn log_in<T: Talk, O: Observer>(
+    talk: &mut T,
+    name: &[u8],
+    observer: &mut O,
+) -> Result<CopyEnd, RunFault>
     requires { length name.now ≤ MAX_NAME }
     // Where it was done, this LOGIN was sent and answered, and nothing else.
     ensures done { IfDone result
@@ -378,11 +389,11 @@ pub fn log_in<T: Talk>(talk: &mut T, name: &[u8]) -> Result<CopyEnd, RunFault>
         (λ r. r ≡ login_reply name.now)) }
     // However it ended, nothing but this LOGIN was sent, and once at most.
     ensures begun { SentOrNot (T.talked talk.old) (T.talked talk.new) (login_command name.now) }
-    // It got no reply only where the talk is over, or where from some state of it on nothing was
-    // received, and the talk was patient: its patience went by, or, where it has none, 1,000 turns
+    // It got no reply only where the talk is over, where the observer says that nobody is there to
+    // reply, or where from some state of the talk on nothing was received, and the talk was patient: its patience went by, or, where it has none, 1,000 turns
     // were made and 10 seconds went by. In each case 4,294,967,295 turns are enough.
     ensures waited { IfUnanswered result
-        ((t : T) × InVain (T.talked t) (T.course t) (T.talked talk.new) (T.course talk.new)) }
+        ((t : T) × InVain (T.talked t) (T.course t) (T.talked talk.new) (over_where (O.gone observer.new) (T.course talk.new))) }
     // It ends well only where no failure was counted.
     ensures unfailed { OnOk result ((T.course talk.new).failures ≤ (T.course talk.old).failures) }
     // The talk stays as patient as it was.
@@ -391,7 +402,7 @@ pub fn log_in<T: Talk>(talk: &mut T, name: &[u8]) -> Result<CopyEnd, RunFault>
     ensures faults { IfErr result (T.failed_by talk.new) }
 {
     let mut reply = Reply::new();
-    let came = ask_one(talk, Command::Login(name), 0, &mut reply)?;
+    let came = ask_one(talk, Command::Login(name), 0, &mut reply, observer)?;
     let mut wanted = Reply::new();
     write_wanted(&mut wanted, 0, b"", Said::LoggedIn(name));
     Ok(settled(came, &reply, &wanted, 0, b""))

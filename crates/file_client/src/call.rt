@@ -31,6 +31,8 @@ use std::alloc::Global;
 pub struct Call<'a, C: Dial, L: Link> {
     client: Client,
     turns: Timed<'a, C, L>,
+    /// How many commands were sent over this connection to which no reply was received.
+    unanswered: u64,
 }
 
 impl<'a, C: Dial, L: Link> Call<'a, C, L> {
@@ -58,36 +60,11 @@ impl<'a, C: Dial, L: Link> Call<'a, C, L> {
     {
         let turns = Timed::new(clock, link, timing);
         let client = Client::new(alloc, &turns, route)?;
-        Ok(Call { client, turns })
-    }
-
-    /// Asks for a connection, in place of one that there was. It is open once the server has
-    /// answered, within turns.
-    ///
-    /// # Errors
-    /// `ClockFault` and `LinkFault`.
-    pub fn connect(&mut self) -> Result<(), RunFault>
-        // It fails only by a clock that may fail, or by a link of which failures were counted.
-        ensures faults { IfErr result
-            (IsTurnFault (C.fails self.old.turns.clock.now) (L.count self.new.turns.link.now)) }
-        // A call connects as its client does, at a moment that its clock showed. The first number
-        // is the timing's for that moment.
-        ensures well { OnOk result
-            (Connects (clock_pace (C.shows self.old.turns.clock.now) self.old.turns.timing)
-            (Asks (L.asked self.old.turns.link.now) (L.asked self.new.turns.link.now))
-            self.new.client.now (L.queue self.old.turns.link.now)
-            (L.queue self.new.turns.link.now) self.old.client.caller self.new.client.caller) }
-        // If it ends well, the link's count of failures didn't rise.
-        ensures unfailed { OnOk result
-            (L.count self.new.turns.link.now ≤ L.count self.old.turns.link.now) }
-        // The server, the contact, the carriage, the clock and the timing stay.
-        ensures same_server { (self.new.client.caller.to ≡ self.old.client.caller.to)
-            × (self.new.client.caller.contact ≡ self.old.client.caller.contact)
-            × (self.new.client.caller.carriage ≡ self.old.client.caller.carriage) }
-        ensures same_clock { (self.new.turns.clock.now ≡ self.old.turns.clock.now)
-            × (self.new.turns.timing ≡ self.old.turns.timing) }
-    {
-        self.client.connect(&mut self.turns)
+        Ok(Call {
+            client,
+            turns,
+            unanswered: 0,
+        })
     }
 
     /// Says farewell, as [`Client::end`] does: writes an EOF, and waits until the server has read
@@ -95,7 +72,7 @@ impl<'a, C: Dial, L: Link> Call<'a, C, L> {
     ///
     /// # Errors
     /// `ClockFault` and `LinkFault`.
-    pub fn end(&mut self) -> Result<(), RunFault>
+    pub fn take_leave(&mut self) -> Result<(), RunFault>
         // It fails only by a clock that may fail, or by a link of which failures were counted.
         ensures faults { IfErr result
             (IsTurnFault (C.fails self.old.turns.clock.now) (L.count self.new.turns.link.now)) }
@@ -108,6 +85,9 @@ impl<'a, C: Dial, L: Link> Call<'a, C, L> {
         // If it ends well, the link's count of failures didn't rise.
         ensures unfailed { OnOk result
             (L.count self.new.turns.link.now ≤ L.count self.old.turns.link.now) }
+        // The clock and the timing stay.
+        ensures same_clock { (self.new.turns.clock.now ≡ self.old.turns.clock.now)
+            × (self.new.turns.timing ≡ self.old.turns.timing) }
     {
         self.client.end(&mut self.turns)
     }
@@ -140,18 +120,11 @@ impl<'a, C: Dial, L: Link> Call<'a, C, L> {
     {
         self.client.hang_up(&mut self.turns)
     }
-
-    /// Why no reply came, as [`Client::no_reply`] says it.
-    pub fn no_reply(&mut self) -> NoReply
-        // The connection and the turns don't change.
-        ensures { (self.new.client.caller ≡ self.old.client.caller)
-            × (self.new.turns ≡ self.old.turns) }
-    {
-        self.client.no_reply()
-    }
 }
 
 impl<C: Dial, L: Link> Talk for Call<'_, C, L> {
+    type NoReply = NoReply;
+
     /// What it wrote and what it read, turn by turn, by one clock, and that its link was asked just
     /// what these turns ask.
     ghost talked = { λ now start talk. (now.turns.clock.now ≡ start.turns.clock.now)
@@ -197,7 +170,9 @@ impl<C: Dial, L: Link> Talk for Call<'_, C, L> {
         ensures same { (self.new.turns ≡ self.old.turns)
             × (self.new.client.now ≡ self.old.client.now) }
     {
-        self.client.write(Opcode::DATA, command)
+        let is_sent = self.client.write(Opcode::DATA, command);
+        self.unanswered = self.unanswered.saturating_add(u64::from(is_sent));
+        is_sent
     }
 
     fn receive(&mut self, reply: &mut Reply) -> bool
@@ -211,7 +186,9 @@ impl<C: Dial, L: Link> Talk for Call<'_, C, L> {
         ensures same { (self.new.turns ≡ self.old.turns)
             × (self.new.client.now ≡ self.old.client.now) }
     {
-        self.client.take(reply)
+        let came = self.client.take(reply);
+        self.unanswered = self.unanswered.saturating_sub(u64::from(came));
+        came
     }
 
     /// As [`Client::turn`]: if no OPN came within its wait, the client asks for another connection
@@ -274,5 +251,62 @@ impl<C: Dial, L: Link> Talk for Call<'_, C, L> {
         ensures { result ≡ is_over self.now.client.caller.host self.now.client.caller.id }
     {
         self.client.is_over()
+    }
+
+    /// Asks for a connection, in place of one that there was. It is open once the server has
+    /// answered, within turns.
+    ///
+    /// # Errors
+    /// `ClockFault` and `LinkFault`.
+    fn connect(&mut self) -> Result<(), RunFault>
+        // It fails only by a clock that may fail, or by a link of which failures were counted.
+        ensures faults { IfErr result
+            (IsTurnFault (C.fails self.old.turns.clock.now) (L.count self.new.turns.link.now)) }
+        // A call connects as its client does, at a moment that its clock showed. The first number
+        // is the timing's for that moment.
+        ensures well { OnOk result
+            (Connects (clock_pace (C.shows self.old.turns.clock.now) self.old.turns.timing)
+            (Asks (L.asked self.old.turns.link.now) (L.asked self.new.turns.link.now))
+            self.new.client.now (L.queue self.old.turns.link.now)
+            (L.queue self.new.turns.link.now) self.old.client.caller self.new.client.caller) }
+        // If it ends well, the link's count of failures didn't rise.
+        ensures unfailed { OnOk result
+            (L.count self.new.turns.link.now ≤ L.count self.old.turns.link.now) }
+        // The server, the contact, the carriage, the clock and the timing stay.
+        ensures same_server { (self.new.client.caller.to ≡ self.old.client.caller.to)
+            × (self.new.client.caller.contact ≡ self.old.client.caller.contact)
+            × (self.new.client.caller.carriage ≡ self.old.client.caller.carriage) }
+        ensures same_clock { (self.new.turns.clock.now ≡ self.old.turns.clock.now)
+            × (self.new.turns.timing ≡ self.old.turns.timing) }
+    {
+        self.unanswered = 0;
+        self.client.connect(&mut self.turns)
+    }
+
+    /// Takes its leave, as [`Call::take_leave`] does, where it may wait and every reply was received,
+    /// and hangs up, as [`Call::hang_up`] does. What fails is passed over.
+    fn end(&mut self, may_wait: bool)
+        // The call has no connection afterwards.
+        ensures gone { self.new.client.caller.id ≡ None }
+        // The clock and the timing stay.
+        ensures same_clock { (self.new.turns.clock.now ≡ self.old.turns.clock.now)
+            × (self.new.turns.timing ≡ self.old.turns.timing) }
+    {
+        if may_wait && self.unanswered == 0 {
+            let _ = self.take_leave();
+        }
+        let _ = self.hang_up();
+    }
+
+    /// Why no reply came, as [`Client::no_reply`] says it.
+    fn no_reply(&mut self) -> NoReply
+        // The connection and the turns don't change.
+        ensures same { (self.new.client.caller ≡ self.old.client.caller)
+            × (self.new.turns ≡ self.old.turns) }
+        // The moment and the count of turns stay.
+        ensures still { (self.new.client.now ≡ self.old.client.now)
+            × (self.new.client.count ≡ self.old.client.count) }
+    {
+        self.client.no_reply()
     }
 }

@@ -423,7 +423,9 @@ impl Client {
     /// sent.
     pub fn no_reply(&mut self) -> NoReply
         // The connection doesn't change.
-        ensures { self.new.caller ≡ self.old.caller }
+        ensures same { self.new.caller ≡ self.old.caller }
+        // The moment and the count of turns stay.
+        ensures still { (self.new.now ≡ self.old.now) × (self.new.count ≡ self.old.count) }
     {
         self.reply_timer.no_reply()
     }

@@ -10,7 +10,7 @@ ghost use Rattle.file_end_to_end.specs.Over.{CopiesInWorlds};
 use chaos_file::Store;
 use chaos_link::Link;
 use chaosd_clock::Dial;
-use chaosd_copy::{CopyEnd, get_file, put_file};
+use chaosd_copy::{CopyEnd, Observer, get_file, put_file};
 use chaosd_io::RunFault;
 use file_client::Call;
 
@@ -19,11 +19,12 @@ use file_client::Call;
 ///
 /// # Errors
 /// The errors of [`get_file`].
-pub fn get_over<C: Dial, L: Link, S: Store>(
+pub fn get_over<C: Dial, L: Link, S: Store, O: Observer>(
     call: &mut Call<'_, C, L>,
     first: u32,
     path: &[u8],
     bytes: &mut Vec<u8>,
+    observer: &mut O,
 ) -> Result<CopyEnd, RunFault>
     requires first { first ≤ MAX_FIRST }
     requires path { length path.now ≤ MAX_PATH }
@@ -35,18 +36,19 @@ pub fn get_over<C: Dial, L: Link, S: Store>(
     ensures { IfDone result (CopiesInWorlds C.shows L.queue L.asked S.contents S.may_give S.count
         call.old call.new (Get (tids_from first) file_handle path.now bytes.new.items)) }
 {
-    get_file(call, first, path, bytes)
+    get_file(call, first, path, bytes, observer)
 }
 
 /// Puts a file over a call, as [`put_file`] does.
 ///
 /// # Errors
 /// The errors of [`put_file`].
-pub fn put_over<C: Dial, L: Link, S: Store>(
+pub fn put_over<C: Dial, L: Link, S: Store, O: Observer>(
     call: &mut Call<'_, C, L>,
     first: u32,
     path: &[u8],
     bytes: &[u8],
+    observer: &mut O,
 ) -> Result<CopyEnd, RunFault>
     requires first { first ≤ MAX_FIRST }
     requires path { length path.now ≤ MAX_PATH }
@@ -58,5 +60,5 @@ pub fn put_over<C: Dial, L: Link, S: Store>(
     ensures { IfDone result (CopiesInWorlds C.shows L.queue L.asked S.contents S.may_give S.count
         call.old call.new (Put (tids_from first) file_handle path.now bytes.now)) }
 {
-    put_file(call, first, path, bytes)
+    put_file(call, first, path, bytes, observer)
 }

@@ -1,4 +1,4 @@
-use Rattle.std.proofs.Common.{◌∙◌, true, false}
+use Rattle.std.proofs.Common.{◌∙◌}
 use Rattle.std.specs.Fmt.{decimal}
 use Rattle.chaosd_copy.proofs.ReadBack.{if_opened, opened_back}
 use Rattle.chaosd_copy.proofs.Talks.{untaken}

@@ -1,9 +1,9 @@
 use Rattle.std.proofs.Common.{arith, [], sym, subst, ◌∙◌, ◌≡◌, false, inl, inr}
 use Rattle.chaosd_copy.proofs.Talks.{received_next, received_none, nothing_more, on_err, since_still}
 use Rattle.chaosd_copy.specs.Talk.{Turned}
-use Rattle.chaosd_copy.proofs.Quiet.{quiet_unreceived, unheard_then, turned_more, late, latest}
+use Rattle.chaosd_copy.proofs.Quiet.{quiet_unreceived, unheard_then, turned_more, late, latest, over_first, over_then}
 use Rattle.chaosd_copy.proofs.window.next_reply.Goals as goal
-use Rattle.chaosd_copy.proofs.window.next_reply.Goals.{then-is_over-via-then-is_over, then-is_over-via-else-is_over+then-is_late}
+use Rattle.chaosd_copy.proofs.window.next_reply.Goals.{then-is_over-via-then-is_over, then-is_over-via-else-is_over+then-is_gone, then-is_over-via-else-is_over+else-is_gone+then-is_late}
 
 pub returns-then-receive_asked-clause-talk : goal.returns-then-receive_asked-clause-talk
 returns-then-receive_asked-clause-talk g c = λ start replies h.
@@ -46,8 +46,9 @@ returns-then-is_over-clause-waited g c =
       quiet_unreceived c.receive_asked.result c.receive_asked.new.reply.items _ _ _ none c.loop-turns.invariant.quiet
           c.receive_asked.ensures.talk,
       elim c.then-is_over.branch [
-        | then-is_over-via-then-is_over w ↦ inl (sym c.is_over.ensures ∙ w.if-is_over.true)
-        | then-is_over-via-else-is_over+then-is_late w ↦ inr
+        | then-is_over-via-then-is_over w ↦ inl (over_first _ _ (sym c.is_over.ensures ∙ w.if-is_over.true))
+        | then-is_over-via-else-is_over+then-is_gone w ↦ inl (over_then _ _ (sym w.is_gone.ensures ∙ w.if-is_gone.true))
+        | then-is_over-via-else-is_over+else-is_gone+then-is_late w ↦ inr
             (late _ _ _ _ _ _ _ _ c.loop-turns.invariant.turned c.receive_asked.ensures.still c.moment-since.ensures
             (w.is_late.ensures.0 w.if-is_late.true))
       ],

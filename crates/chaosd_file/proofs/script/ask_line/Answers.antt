@@ -8,7 +8,7 @@ pub returns-then-not-branch-clause-asks : goal.returns-then-not-branch-clause-as
 returns-then-not-branch-clause-asks g c = (
   c.read_command.new.command.items,
   sym c.read_command.ensures ∙ ap (option_map (λ none. c.read_command.new.command.items)) c.in-Some.is,
-  rw c.no_reply.ensures
+  rw c.no_reply.ensures.same
       (exchanges_by _ Anything (λ asks asked. tt) _ _ c.read_command.new.command.items None _
       (rw (c.if-not-branch.true, c.as_slice.ensures.value) at c.in_ok-ask.ensures.talk)),
   c.in_ok-print_none.ensures.text,

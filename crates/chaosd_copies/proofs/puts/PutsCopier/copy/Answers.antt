@@ -8,14 +8,14 @@ returns-in-Some g c = (
   of_tried c.put_from.result c.of.result _
       (λ contents. PutsWhole c.as_slice.result.now (g.L.Locals.held c.args.self.now.locals c.args.local.now)
       c.args.self.now.is_text c.args.self.now.is_digested contents
-      (g.D.Talk.talked c.put_from.new.self.session.watched.inner)) _ c.of.ensures
+      (g.T.Talk.talked c.put_from.new.self.session.talk)) _ c.of.ensures
       (λ contents whole. (
         c.in-Some.path.items,
         sym c.in-Some.ensures,
         subst
             (λ path. PutsWhole path (g.L.Locals.held c.args.self.now.locals c.args.local.now) c.args.self.now.is_text
             c.args.self.now.is_digested contents
-            (g.D.Talk.talked c.put_from.new.self.session.watched.inner)) c.as_slice.ensures.value whole,
+            (g.T.Talk.talked c.put_from.new.self.session.talk)) c.as_slice.ensures.value whole,
       ))
       c.put_from.ensures.put c.put_from.ensures.missed tt,
   c.put_from.ensures.same,

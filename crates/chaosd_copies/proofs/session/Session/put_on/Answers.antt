@@ -4,7 +4,5 @@ use Rattle.chaosd_copies.proofs.session.Session.put_on.Goals as goal
 
 pub returns : goal.returns
 returns g c =
-    let was = c.args.self.now.watched in
-    rw c.end.ensures
-    (done_then c.put_file-end.result _ _ (λ since. (was.inner, since.goes was silence (g.D.Talk.began was.inner)))
-    c.put_file-end.ensures.done)
+    let was = c.args.self.now.talk in
+    done_then c.put_file-end.result _ _ (λ since. (was, since.goes was silence (g.T.Talk.began was))) c.put_file-end.ensures.done

@@ -1,14 +1,16 @@
 use Rattle.std.proofs.Common.{refl, ap, sym, subst, ◌∙◌}
+use Rattle.std.specs.Prelude.{IfErr}
 use Rattle.chaos_link.specs.Link.{Asks}
 use Rattle.chaosd_copy.specs.Talk.{counted}
 use Rattle.file_client.specs.Caller.{TurnsOrStops}
+use Rattle.file_client.specs.Fault.{IsTurnFault}
 use Rattle.file_client.specs.Pace.{clock_pace}
 use Rattle.file_client.specs.Patience.{millis_waited}
 use Rattle.file_client.proofs.Telling.{told_sent, told_received, told_turn}
 use Rattle.file_client.proofs.call.CallTalk.TheImpl.Goals as goal
 
 pub send-tells : goal.send-tells
-send-tells g c = record {
+send-tells g i c = record {
   sent = record {
     goes = λ first talk h. (
       ap (λ t. t.clock.now) c.ensures.same.0 ∙ h.0,
@@ -25,7 +27,7 @@ send-tells g c = record {
 }
 
 pub receive-tells : goal.receive-tells
-receive-tells g c = record {
+receive-tells g i c = record {
   received = record {
     goes = λ first talk h. (
       ap (λ t. t.clock.now) c.ensures.same.0 ∙ h.0,
@@ -43,7 +45,7 @@ receive-tells g c = record {
 }
 
 pub turn-tells : goal.turn-tells
-turn-tells g c = record {
+turn-tells g i c = record {
   silent = record {
     goes = λ first talk h. (
       c.ensures.same_clock.0 ∙ h.0,
@@ -68,4 +70,12 @@ turn-tells g c = record {
   counted = c.ensures.counted;
   patient = ap (λ timing. millis_waited timing.patience) c.ensures.same_clock.1;
   faults = c.ensures.faults;
+}
+
+pub connect-tells : goal.connect-tells
+connect-tells g i c = record {
+  unfailed = c.ensures.unfailed;
+  patient = ap (λ timing. millis_waited timing.patience) c.ensures.same_clock.1;
+  faults = subst (λ clock. IfErr c.result (IsTurnFault (g.C.Dial.fails clock) (g.L.Link.count c.new.self.now.turns.link.now)))
+      (sym c.ensures.same_clock.0) c.ensures.faults;
 }

@@ -1,7 +1,7 @@
 use Rattle.std.proofs.Common.{ap, refl}
 use Rattle.file_client.specs.Pace.{clock_pace}
 use Rattle.file_client.proofs.Asked.{connects_within}
-use Rattle.file_client.proofs.call.Call.connect.Goals as goal
+use Rattle.file_client.proofs.call.CallTalk.connect.Goals as goal
 
 pub returns-clause-same_clock : goal.returns-clause-same_clock
 returns-clause-same_clock g c =

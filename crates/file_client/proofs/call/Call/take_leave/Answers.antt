@@ -1,7 +1,11 @@
-use Rattle.std.proofs.Common.{refl}
+use Rattle.std.proofs.Common.{ap, refl}
 use Rattle.file_client.specs.Pace.{clock_pace}
 use Rattle.file_client.proofs.Asked.{farewell_within}
-use Rattle.file_client.proofs.call.Call.end.Goals as goal
+use Rattle.file_client.proofs.call.Call.take_leave.Goals as goal
+
+pub returns-clause-same_clock : goal.returns-clause-same_clock
+returns-clause-same_clock g c =
+    (ap (λ t. t.0) c.end.ensures.same_turns.1, ap (λ t. t.1) c.end.ensures.same_turns.1)
 
 pub returns-clause-talk : goal.returns-clause-talk
 returns-clause-talk g c =
