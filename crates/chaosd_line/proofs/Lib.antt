@@ -1,8 +1,4 @@
-pub mod Copied
-pub mod Framed
 pub mod Named
-pub mod OneLine
-pub mod PeerLists
 pub mod Planned
+pub mod Reading
 mod Simple
-pub mod Unique

@@ -1,15 +1,14 @@
 -- What is wrong with a command line.
-use Rattle.std.specs.Prelude.{◌≡◌, ◌⊎◌, ◌∷◌, List, [], MatchResult, Result}
+use Rattle.std.specs.Prelude.{◌≡◌, ◌⊎◌, ◌∷◌, List, [], MatchResult, None, Result}
 use Rattle.clap.specs.Values.{kind_of}
 use Rattle.clap.specs.Words.{IsAmong, Text, fault_of}
 use Rattle.clap.specs.declared.error.Error.{Error}
 use Rattle.clap.specs.declared.error.kind.ErrorKind.{ErrorKind}
 use Rattle.clap.specs.declared.error.kind.ErrorKind.TheVariants.{DisplayHelp, DisplayVersion, OutOfMemory, ValueValidation}
 use Rattle.chaosd_line.specs.CommandLine.{chaosd}
-use Rattle.chaosd_line.specs.Lines.{IsLineOf}
+use Rattle.chaosd_line.specs.Lines.{asked_line}
 use Rattle.chaosd_line.specs.declared.fault.LineFault.{LineFault}
 use Rattle.chaosd_line.specs.declared.fault.LineFault.TheVariants.{BadLine, Help, NoMemory}
-use Rattle.chaosd_line.specs.declared.line.Line.{Line}
 use Rattle.chaosd_line.specs.declared.line_problem.LineProblem.{LineProblem}
 use Rattle.chaosd_line.specs.declared.line_problem.LineProblem.TheVariants as problem
 
@@ -28,7 +27,7 @@ fault_of_kind _ = BadLine
 
 -- clap takes the words, but a value is not of its form, so they ask for no line
 abbrev pub HasBadValue : List Text → Type 0
-HasBadValue words = (fault_of chaosd words ≡ []) × ((line : Line) → ¬ (IsLineOf words line))
+HasBadValue words = (fault_of chaosd words ≡ []) × (asked_line words ≡ None)
 
 -- the kind is out of memory, one of those that clap has for the words, or that of a bad value
 abbrev pub IsKindFor : List Text → ErrorKind → Type 0

@@ -1,20 +1,9 @@
--- The values of the commands that call a server: `get`, `put`, `delete` and `rename`.
-use Rattle.std.specs.Prelude.{◌≡◌, ◌≢◌, ◌==◌, ◌-◌, ◌&&◌, ◌||◌, ◌++◌, ◌∷◌, ⊤, ℕ, Bool, true, false, not, List, [], Option, None, Some, slice_get, Result, MatchResult, if◌then◌else◌, codes, length, map, option_map, unwrap_or}
+-- The files of a line, of which some are the server's and some are local.
+use Rattle.std.specs.Prelude.{◌==◌, ◌-◌, ◌&&◌, ◌||◌, ◌++◌, ◌∷◌, ℕ, Bool, true, false, not, List, [], Option, None, Some, slice_get, if◌then◌else◌, codes, length, map, unwrap_or}
 use Rattle.std.specs.List.{find, list_all, list_any}
-use Rattle.std.specs.Option.{IsSomeAnd}
 use Rattle.std.specs.Str.{bytes_eq}
-use Rattle.clap.specs.Words.{Row, Text, first_of}
+use Rattle.clap.specs.Words.{Text}
 use Rattle.chaos_file.specs.Names.{is_path, is_path_byte}
-use Rattle.chaosd_line.specs.Framings.{IsFraming}
-use Rattle.chaosd_line.specs.Values.{IsAddress, IsContact, IsFlag, IsLogin, IsOptional, IsPathOf, IsPeer, IsSeconds, IsSocket, IsWindow, words_of}
-use Rattle.chaosd_line.specs.declared.line.Calling.{Calling}
-use Rattle.chaosd_line.specs.declared.line.Copying.{Copying}
-use Rattle.chaosd_line.specs.declared.line.Delete.{Delete}
-use Rattle.chaosd_line.specs.declared.line.Get.{Get}
-use Rattle.chaosd_line.specs.declared.line.Put.{Put}
-use Rattle.chaosd_line.specs.declared.line.Rename.{Rename}
-use Rattle.chaosd_line.specs.declared.line_problem.LineProblem.{LineProblem}
-use Rattle.chaosd_line.specs.declared.line_problem.LineProblem.TheVariants.{Bad, Clash, NoMemory}
 
 -- what stands behind the last slash (47)
 abbrev pub last_from : Text → Text → Text
@@ -104,76 +93,3 @@ fits_output (Some name) texts = is_folder name || length texts == 1
 abbrev pub are_named : Bool → Option Text → List Text → Bool
 are_named is_renaming None texts = are_locals is_renaming texts
 are_named is_renaming (Some path) texts = is_path path && length texts == 1
-
--- the values of `get` beside those in common, for its words
-abbrev pub IsGetOf : Copying → Option Text → List Text → Get → Type 0
-IsGetOf copying output texts get = (get.copying ≡ copying) × (option_map (λ t. t.now) get.output ≡ output)
-    × (map (λ t. t.now) get.paths.items ≡ texts) × (are_paths texts ≡ true) × (fits_output output texts ≡ true)
-
--- likewise of `put`
-abbrev pub IsPutOf : Copying → Bool → Option Text → List Text → Put → Type 0
-IsPutOf copying is_renaming path texts put = (put.copying ≡ copying) × (put.is_renaming ≡ is_renaming)
-    × (option_map (λ t. t.now) put.path ≡ path) × (map (λ t. t.now) put.locals.items ≡ texts)
-    × (are_named is_renaming path texts ≡ true)
-
--- likewise of `delete` and `rename`
-abbrev pub IsDeleteOf : Calling → List Text → Delete → Type 0
-IsDeleteOf calling texts d = (d.calling ≡ calling) × (map (λ t. t.now) d.paths.items ≡ texts) × (are_paths texts ≡ true)
-
--- the values that the callers of a server have in common: the server is another host
-pub record IsCalling (rows : List Row) (c : Calling) : Type 0 where
-  pub framing : IsFraming rows c.framing
-  pub contact : IsSomeAnd (first_of (codes "contact") rows) (λ text. IsContact text c.contact)
-  pub login : IsSomeAnd (first_of (codes "login") rows) (λ text. IsLogin text c.login)
-  pub window : IsSomeAnd (first_of (codes "window") rows) (λ text. IsWindow text c.window)
-  pub timeout : IsOptional IsSeconds (first_of (codes "timeout") rows) c.timeout
-  pub hears_anybody : IsSomeAnd (first_of (codes "any-source") rows) (λ text. IsFlag text c.hears_anybody)
-  pub address : IsSomeAnd (first_of (codes "ADDRESS") rows) (λ text. IsAddress text c.address)
-  pub socket : IsSomeAnd (first_of (codes "UDP") rows) (λ text. IsSocket text c.socket)
-  pub server : IsSomeAnd (first_of (codes "SERVER") rows) (λ text. IsPeer text c.server)
-  pub other : c.server.address ≢ c.address
-
--- the values that `get` and `put` have in common
-pub record IsCopying (rows : List Row) (c : Copying) : Type 0 where
-  pub calling : IsCalling rows c.calling
-  pub is_text : IsSomeAnd (first_of (codes "text") rows) (λ text. IsFlag text c.is_text)
-  pub is_quiet : IsSomeAnd (first_of (codes "quiet") rows) (λ text. IsFlag text c.is_quiet)
-  pub is_verbose : IsSomeAnd (first_of (codes "verbose") rows) (λ text. IsFlag text c.is_verbose)
-
--- the values of `get`
-pub record IsGet (rows : List Row) (get : Get) : Type 0 where
-  pub copying : IsCopying rows get.copying
-  pub output : option_map (λ t. t.now) get.output ≡ first_of (codes "output") rows
-  pub legal : are_paths (words_of (codes "PATH") rows) ≡ true
-  pub one : fits_output (first_of (codes "output") rows) (words_of (codes "PATH") rows) ≡ true
-  pub paths : map (λ t. t.now) get.paths.items ≡ words_of (codes "PATH") rows
-
--- the values of `put`
-pub record IsPut (rows : List Row) (put : Put) : Type 0 where
-  pub copying : IsCopying rows put.copying
-  pub is_renaming : IsSomeAnd (first_of (codes "rename") rows) (λ text. IsFlag text put.is_renaming)
-  pub path : option_map (λ t. t.now) put.path ≡ first_of (codes "as") rows
-  pub named : are_named put.is_renaming (first_of (codes "as") rows) (words_of (codes "LOCAL") rows) ≡ true
-  pub locals : map (λ t. t.now) put.locals.items ≡ words_of (codes "LOCAL") rows
-
--- the values of `delete`
-pub record IsDelete (rows : List Row) (d : Delete) : Type 0 where
-  pub calling : IsCalling rows d.calling
-  pub legal : are_paths (words_of (codes "PATH") rows) ≡ true
-  pub paths : map (λ t. t.now) d.paths.items ≡ words_of (codes "PATH") rows
-
--- the values of `rename`
-pub record IsRename (rows : List Row) (r : Rename) : Type 0 where
-  pub calling : IsCalling rows r.calling
-  pub from : IsSomeAnd (first_of (codes "OLD") rows) (λ text. IsPathOf text r.from)
-  pub to : IsSomeAnd (first_of (codes "NEW") rows) (λ text. IsPathOf text r.to)
-
--- a word is bad, or two clash, only where this holds
-abbrev pub IfBad : LineProblem → Type 0 → Type 0
-IfBad (Bad word) T = T
-IfBad (Clash files) T = T
-IfBad NoMemory T = ⊤
-
--- the answer is the value of which P holds, and a word is bad only where P holds of nothing
-abbrev pub GivesFiles : {T : Type 0} → (T → Type 0) → Result T LineProblem → Type 0
-GivesFiles {T} P r = MatchResult r P (λ e. IfBad e ((x : T) → ¬ (P x)))

@@ -1,10 +1,10 @@
 -- How packets stand in datagrams, by the words that say so.
-use Rattle.std.specs.Prelude.{◌≡◌, List, None, codes, true, false}
-use Rattle.std.specs.Option.{IsSomeAnd}
-use Rattle.clap.specs.Words.{Row, first_of}
+use Rattle.std.specs.Prelude.{ℕ, Bool, List, Option, None, Some, codes, true, false}
+use Rattle.std.specs.Option.{option_and_then, option_zip}
+use Rattle.clap.specs.Words.{Row}
 use Rattle.chaos_link.specs.declared.carriage.Carriage.{Carriage}
-use Rattle.chaos_link.specs.declared.carriage.Carriage.TheVariants.{One}
-use Rattle.chaosd_line.specs.Values.{IsAddress, IsCarriage, IsFlag, IsOptional}
+use Rattle.chaos_link.specs.declared.carriage.Carriage.TheVariants.{One, Two}
+use Rattle.chaosd_line.specs.Values.{address_of, flag_of, given, given_if, version_of}
 use Rattle.chaosd_line.specs.declared.framing.Framing.{Framing}
 use Rattle.chaosd_line.specs.declared.framing.Framing.TheVariants.{Chudp, Own}
 
@@ -14,10 +14,13 @@ carriage_of (Own carriage) = carriage
 carriage_of (Chudp bridge) = One
 
 -- without `--chudp` the carriage, and no bridge's address; with it the carriage 1, and the bridge's address where it is given
-abbrev pub IsFraming : List Row → Framing → Type 0
-IsFraming rows (Own carriage) = IsSomeAnd (first_of (codes "chudp") rows) (λ text. IsFlag text false)
-    × IsSomeAnd (first_of (codes "carriage") rows) (λ text. IsCarriage text carriage)
-    × (first_of (codes "bridge") rows ≡ None)
-IsFraming rows (Chudp bridge) = IsSomeAnd (first_of (codes "chudp") rows) (λ text. IsFlag text true)
-    × IsSomeAnd (first_of (codes "carriage") rows) (λ text. IsCarriage text One)
-    × IsOptional IsAddress (first_of (codes "bridge") rows) bridge
+abbrev pub framing_by : Bool → Carriage → Option ℕ → Option Framing
+framing_by false carriage None = Some (Own carriage)
+framing_by false carriage (Some bridge) = None
+framing_by true One bridge = Some (Chudp bridge)
+framing_by true Two bridge = None
+
+unfoldable pub framing_at : List Row → Option Framing
+framing_at rows = option_and_then (λ v. framing_by v.0 v.1.0 v.1.1)
+    (option_zip (given flag_of (codes "chudp") rows)
+    (option_zip (given version_of (codes "carriage") rows) (given_if address_of (codes "bridge") rows)))

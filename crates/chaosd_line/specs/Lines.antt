@@ -1,16 +1,14 @@
--- The line that the words ask for, by the subcommand and the values that clap gives.
-use Rattle.std.specs.Prelude.{◌≡◌, ◌≢◌, ⊤, ℕ, Bool, List, Option, codes, map, option_map}
-use Rattle.std.specs.Option.{IsSomeAnd}
-use Rattle.std.specs.declared.net.socket_addr.SocketAddrV4.{SocketAddrV4}
+-- The line that the words ask for: a function of the subcommand and the values that clap gives.
+use Rattle.std.specs.Prelude.{◌≡◌, ◌==◌, ◌&&◌, ⊤, Bool, List, not, None, Option, Some, Result, MatchResult, codes, map, option_map, if◌then◌else◌}
+use Rattle.std.specs.Option.{option_and_then, option_zip}
+use Rattle.std.specs.Result.{result_ok}
+use Rattle.std.specs.Str.{bytes_eq}
 use Rattle.clap.specs.Words.{Row, Text, first_of, subcommand_of}
-use Rattle.chaos_link.specs.Peers.{PeersView}
 use Rattle.chaos_link.specs.declared.carriage.Carriage.{Carriage}
-use Rattle.chaos_link.specs.declared.peers.Peer.{Peer}
 use Rattle.chaosd_line.specs.CommandLine.{chaosd, name_text}
-use Rattle.chaosd_line.specs.Files.{IsDelete, IsGet, IsPut, IsRename}
-use Rattle.chaosd_line.specs.Framings.{IsFraming}
-use Rattle.chaosd_line.specs.Values.{ArePeers, IsAddress, IsCarriage, IsContact, IsFlag, IsLog, IsOptional, IsRetransmit, IsSeconds, IsSocket, IsTurns, IsWindow, IsWord, words_of}
-use Rattle.chaosd_line.specs.declared.framing.Framing.{Framing}
+use Rattle.chaosd_line.specs.Files.{are_named, are_paths, fits_output}
+use Rattle.chaosd_line.specs.Framings.{framing_at}
+use Rattle.chaosd_line.specs.Values.{address_of, flag_of, given, given_if, kept_if, log_of, peer_of, peers_of, retransmit_of, seconds_of, socket_of, turns_of, version_of, window_of, word_of, words_of}
 use Rattle.chaosd_line.specs.declared.line.Ask.{Ask}
 use Rattle.chaosd_line.specs.declared.line.Calling.{Calling}
 use Rattle.chaosd_line.specs.declared.line.Copying.{Copying}
@@ -18,196 +16,182 @@ use Rattle.chaosd_line.specs.declared.line.Delete.{Delete}
 use Rattle.chaosd_line.specs.declared.line.Get.{Get}
 use Rattle.chaosd_line.specs.declared.line.Line.{Line}
 use Rattle.chaosd_line.specs.declared.line.Line.TheVariants as line
-use Rattle.chaosd_line.specs.declared.line.LogLevel.{LogLevel}
 use Rattle.chaosd_line.specs.declared.line.Put.{Put}
 use Rattle.chaosd_line.specs.declared.line.Rename.{Rename}
 use Rattle.chaosd_line.specs.declared.line.Serve.{Serve}
 use Rattle.chaosd_line.specs.declared.line.Show.{Show}
-use Rattle.chaosd_line.specs.declared.sub.SubName.{SubName}
+use Rattle.chaosd_line.specs.declared.line_problem.LineProblem.{LineProblem}
+use Rattle.chaosd_line.specs.declared.line_problem.LineProblem.TheVariants.{Bad, Clash, NoMemory}
 use Rattle.chaosd_line.specs.declared.sub.SubName.TheVariants as name
+use Rattle.chaosd_line.specs.declared.word.Word.TheVariants as word
 
--- the values of `show`
-pub record IsShow (rows : List Row) (show : Show) : Type 0 where
-  pub is_file : IsSomeAnd (first_of (codes "file") rows) (λ text. IsFlag text show.is_file)
-  pub is_chudp : IsSomeAnd (first_of (codes "chudp") rows) (λ text. IsFlag text show.is_chudp)
+-- How the values of a line are read: what is seen of them, wherever their texts lie, and what that is by the words at their places.
+pub record Reading (T : Type 0) : Type 1 where
+  pub View : Type 0
+  pub view : T → View
+  pub value : List Row → Option View
 
--- the values of `serve`
-pub record IsServe (rows : List Row) (serve : Serve) : Type 0 where
-  pub turns : IsSomeAnd (first_of (codes "turns") rows) (λ text. IsTurns text serve.turns)
-  pub framing : IsFraming rows serve.framing
-  pub window : IsSomeAnd (first_of (codes "window") rows) (λ text. IsWindow text serve.window)
-  pub retransmit : IsSomeAnd (first_of (codes "retransmit") rows) (λ text. IsRetransmit text serve.retransmit)
-  pub is_quiet : IsSomeAnd (first_of (codes "quiet") rows) (λ text. IsFlag text serve.is_quiet)
-  pub log : IsSomeAnd (first_of (codes "log") rows) (λ text. IsLog text serve.log)
-  pub is_timed : IsSomeAnd (first_of (codes "log-time") rows) (λ text. IsFlag text serve.is_timed)
-  pub hears_only_peers : IsSomeAnd (first_of (codes "only-peers") rows) (λ text. IsFlag text serve.hears_only_peers)
-  pub is_read_only : IsSomeAnd (first_of (codes "read-only") rows) (λ text. IsFlag text serve.is_read_only)
-  pub address : IsSomeAnd (first_of (codes "ADDRESS") rows) (λ text. IsAddress text serve.address)
-  pub socket : IsSomeAnd (first_of (codes "UDP") rows) (λ text. IsSocket text serve.socket)
-  pub folder : IsSomeAnd (first_of (codes "FOLDER") rows) (λ text. IsWord text serve.folder)
-  pub peers : ArePeers (words_of (codes "PEER") rows) serve.peers
+-- one value
+abbrev pub field : {T V : Type 0} → (T → V) → (List Row → Option V) → Reading T
+field {T} {V} view value = record { View = V; view = view; value = value }
 
--- the values of `ask`, which asks another host
-pub record IsAsk (rows : List Row) (ask : Ask) : Type 0 where
-  pub framing : IsFraming rows ask.framing
-  pub contact : IsSomeAnd (first_of (codes "contact") rows) (λ text. IsContact text ask.contact)
-  pub timeout : IsOptional IsSeconds (first_of (codes "timeout") rows) ask.timeout
-  pub retransmit : IsSomeAnd (first_of (codes "retransmit") rows) (λ text. IsRetransmit text ask.retransmit)
-  pub hears_anybody : IsSomeAnd (first_of (codes "any-source") rows) (λ text. IsFlag text ask.hears_anybody)
-  pub is_strict : IsSomeAnd (first_of (codes "strict") rows) (λ text. IsFlag text ask.is_strict)
-  pub address : IsSomeAnd (first_of (codes "ADDRESS") rows) (λ text. IsAddress text ask.address)
-  pub socket : IsSomeAnd (first_of (codes "UDP") rows) (λ text. IsSocket text ask.socket)
-  pub to : IsSomeAnd (first_of (codes "TO") rows) (λ text. IsAddress text ask.to)
-  pub other : ask.to ≢ ask.address
-  pub peers : ArePeers (words_of (codes "PEER") rows) ask.peers
+-- values, one after another
+infixr 10 ◌&◌
+abbrev pub ◌&◌ : {T : Type 0} → Reading T → Reading T → Reading T
+a & b = record {
+  View = a.View × b.View;
+  view = λ x. (a.view x, b.view x);
+  value = λ rows. option_zip (a.value rows) (b.value rows);
+}
 
--- the values of a line of each subcommand
-abbrev pub ValuesOf : SubName → Type 0
-ValuesOf name.Show = Show
-ValuesOf name.Lab = ⊤
-ValuesOf name.FileLab = ⊤
-ValuesOf name.Loop = Carriage
-ValuesOf name.Serve = Serve
-ValuesOf name.Ask = Ask
-ValuesOf name.Get = Get
-ValuesOf name.Put = Put
-ValuesOf name.Delete = Delete
-ValuesOf name.Rename = Rename
+-- the values of a part
+abbrev pub within : {T U : Type 0} → (T → U) → Reading U → Reading T
+within part reading = record { View = reading.View; view = λ x. reading.view (part x); value = reading.value }
 
--- what the words at their places say of these values
-abbrev pub AreValues : (sub : SubName) → List Row → ValuesOf sub → Type 0
-AreValues name.Show rows show = IsShow rows show
-AreValues name.Lab rows nothing = ⊤
-AreValues name.FileLab rows nothing = ⊤
-AreValues name.Loop rows carriage = IsSomeAnd (first_of (codes "carriage") rows) (λ text. IsCarriage text carriage)
-AreValues name.Serve rows serve = IsServe rows serve
-AreValues name.Ask rows ask = IsAsk rows ask
-AreValues name.Get rows get = IsGet rows get
-AreValues name.Put rows put = IsPut rows put
-AreValues name.Delete rows d = IsDelete rows d
-AreValues name.Rename rows r = IsRename rows r
+-- values of which the test holds
+abbrev pub only_if : {T : Type 0} (reading : Reading T) → (reading.View → Bool) → Reading T
+only_if reading test = record {
+  View = reading.View;
+  view = reading.view;
+  value = λ rows. option_and_then (kept_if test) (reading.value rows);
+}
 
--- the subcommand of a line, and the line's values
-abbrev pub Parts : Type 0
-Parts = (sub : SubName) × ValuesOf sub
+-- ---- the values of each subcommand
 
-abbrev pub parts_of : Line → Parts
-parts_of (line.Show show) = (name.Show, show)
-parts_of line.Lab = (name.Lab, tt)
-parts_of line.FileLab = (name.FileLab, tt)
-parts_of (line.Loop carriage) = (name.Loop, carriage)
-parts_of (line.Serve serve) = (name.Serve, serve)
-parts_of (line.Ask ask) = (name.Ask, ask)
-parts_of (line.Get get) = (name.Get, get)
-parts_of (line.Put put) = (name.Put, put)
-parts_of (line.Delete d) = (name.Delete, d)
-parts_of (line.Rename r) = (name.Rename, r)
+unfoldable pub show : Reading Show
+show = field (λ s. s.is_file) (given flag_of (codes "file"))
+    & field (λ s. s.is_chudp) (given flag_of (codes "chudp"))
 
--- the line that a subcommand and its values ask for
-abbrev pub IsLine : Text → List Row → Line → Type 0
-IsLine name rows asked = (name ≡ name_text (parts_of asked).0) × AreValues (parts_of asked).0 rows (parts_of asked).1
+unfoldable pub serve : Reading Serve
+serve = field (λ s. s.turns) (given turns_of (codes "turns"))
+    & field (λ s. s.framing) framing_at
+    & field (λ s. s.window) (given window_of (codes "window"))
+    & field (λ s. s.retransmit) (given retransmit_of (codes "retransmit"))
+    & field (λ s. s.is_quiet) (given flag_of (codes "quiet"))
+    & field (λ s. s.log) (given log_of (codes "log"))
+    & field (λ s. s.is_timed) (given flag_of (codes "log-time"))
+    & field (λ s. s.hears_only_peers) (given flag_of (codes "only-peers"))
+    & field (λ s. s.is_read_only) (given flag_of (codes "read-only"))
+    & field (λ s. s.address) (given address_of (codes "ADDRESS"))
+    & field (λ s. s.socket) (given socket_of (codes "UDP"))
+    & field (λ s. s.folder.now) (given (word_of word.Any) (codes "FOLDER"))
+    & field (λ s. s.peers) (λ rows. peers_of (words_of (codes "PEER") rows))
 
-abbrev pub AsksFor : Option (Text × List Row) → Line → Type 0
-AsksFor found asked = IsSomeAnd found (λ f. IsLine f.0 f.1 asked)
+-- `ask` asks another host
+unfoldable pub ask : Reading Ask
+ask = field (λ a. a.framing) framing_at
+    & field (λ a. a.contact.now) (given (word_of word.Contact) (codes "contact"))
+    & field (λ a. a.timeout) (given_if seconds_of (codes "timeout"))
+    & field (λ a. a.retransmit) (given retransmit_of (codes "retransmit"))
+    & field (λ a. a.hears_anybody) (given flag_of (codes "any-source"))
+    & field (λ a. a.is_strict) (given flag_of (codes "strict"))
+    & only_if (field (λ a. a.address) (given address_of (codes "ADDRESS"))
+    & field (λ a. a.socket) (given socket_of (codes "UDP"))
+    & field (λ a. a.to) (given address_of (codes "TO"))) (λ v. not (v.1.1 == v.0))
+    & field (λ a. a.peers) (λ rows. peers_of (words_of (codes "PEER") rows))
 
--- the line that the words ask for, by what clap gives for them
-abbrev pub IsLineOf : List Text → Line → Type 0
-IsLineOf words asked = AsksFor (subcommand_of chaosd words) asked
+-- of all that call a server, which is another host
+unfoldable pub calling : Reading Calling
+calling = field (λ c. c.framing) framing_at
+    & field (λ c. c.contact.now) (given (word_of word.Contact) (codes "contact"))
+    & field (λ c. c.login.now) (given (word_of word.Login) (codes "login"))
+    & field (λ c. c.window) (given window_of (codes "window"))
+    & field (λ c. c.timeout) (given_if seconds_of (codes "timeout"))
+    & field (λ c. c.hears_anybody) (given flag_of (codes "any-source"))
+    & only_if (field (λ c. c.address) (given address_of (codes "ADDRESS"))
+    & field (λ c. c.socket) (given socket_of (codes "UDP"))
+    & field (λ c. c.server) (given peer_of (codes "SERVER"))) (λ v. not (v.1.1.address == v.0))
 
--- ---- a line's values, wherever their texts lie
+-- of `get` and `put`
+unfoldable pub copying : Reading Copying
+copying = within (λ c. c.calling) calling
+    & field (λ c. c.is_text) (given flag_of (codes "text"))
+    & field (λ c. c.is_quiet) (given flag_of (codes "quiet"))
+    & field (λ c. c.is_verbose) (given flag_of (codes "verbose"))
 
-abbrev pub ServeView : Type 0
-ServeView = ℕ × Framing × ℕ × ℕ × Bool × LogLevel × Bool × Bool × Bool × ℕ × SocketAddrV4 × Text × PeersView
+-- `get` has paths that differ, and a local file for one of them alone
+unfoldable pub get : Reading Get
+get = only_if (within (λ g. g.copying) copying
+    & field (λ g. option_map (λ t. t.now) g.output) (λ rows. Some (first_of (codes "output") rows))
+    & field (λ g. map (λ t. t.now) g.paths.items) (λ rows. Some (words_of (codes "PATH") rows)))
+    (λ v. are_paths v.1.1 && fits_output v.1.0 v.1.1)
 
-abbrev pub serve_view : Serve → ServeView
-serve_view s = (
-  s.turns,
-  s.framing,
-  s.window,
-  s.retransmit,
-  s.is_quiet,
-  s.log,
-  s.is_timed,
-  s.hears_only_peers,
-  s.is_read_only,
-  s.address,
-  s.socket,
-  s.folder.now,
-  s.peers,
-)
+-- `put` has files that go under paths of their own, or one file with a path
+unfoldable pub put : Reading Put
+put = only_if (within (λ p. p.copying) copying
+    & field (λ p. p.is_renaming) (given flag_of (codes "rename"))
+    & field (λ p. option_map (λ t. t.now) p.path) (λ rows. Some (first_of (codes "as") rows))
+    & field (λ p. map (λ t. t.now) p.locals.items) (λ rows. Some (words_of (codes "LOCAL") rows)))
+    (λ v. are_named v.1.0 v.1.1.0 v.1.1.1)
 
-abbrev pub AskView : Type 0
-AskView = Framing × Text × Option ℕ × ℕ × Bool × Bool × ℕ × SocketAddrV4 × ℕ × PeersView
+unfoldable pub delete : Reading Delete
+delete = only_if (within (λ d. d.calling) calling
+    & field (λ d. map (λ t. t.now) d.paths.items) (λ rows. Some (words_of (codes "PATH") rows)))
+    (λ v. are_paths v.1)
 
-abbrev pub ask_view : Ask → AskView
-ask_view a = (
-  a.framing,
-  a.contact.now,
-  a.timeout,
-  a.retransmit,
-  a.hears_anybody,
-  a.is_strict,
-  a.address,
-  a.socket,
-  a.to,
-  a.peers,
-)
+unfoldable pub rename : Reading Rename
+rename = within (λ r. r.calling) calling
+    & field (λ r. r.from.now) (given (word_of word.Path) (codes "OLD"))
+    & field (λ r. r.to.now) (given (word_of word.Path) (codes "NEW"))
 
-abbrev pub CallingView : Type 0
-CallingView = Framing × Text × Text × ℕ × Option ℕ × Bool × ℕ × SocketAddrV4 × Peer
+-- ---- lines
 
-abbrev pub calling_view : Calling → CallingView
-calling_view c = (
-  c.framing,
-  c.contact.now,
-  c.login.now,
-  c.window,
-  c.timeout,
-  c.hears_anybody,
-  c.address,
-  c.socket,
-  c.server,
-)
-
-abbrev pub CopyingView : Type 0
-CopyingView = CallingView × (Bool × Bool × Bool)
-
-abbrev pub copying_view : Copying → CopyingView
-copying_view c = (calling_view c.calling, (c.is_text, c.is_quiet, c.is_verbose))
-
-abbrev pub ViewOf : SubName → Type 0
-ViewOf name.Show = Show
-ViewOf name.Lab = ⊤
-ViewOf name.FileLab = ⊤
-ViewOf name.Loop = Carriage
-ViewOf name.Serve = ServeView
-ViewOf name.Ask = AskView
-ViewOf name.Get = CopyingView × (Option Text × List Text)
-ViewOf name.Put = CopyingView × (Bool × Option Text × List Text)
-ViewOf name.Delete = CallingView × List Text
-ViewOf name.Rename = CallingView × (Text × Text)
-
-abbrev pub view_of : (sub : SubName) → ValuesOf sub → ViewOf sub
-view_of name.Show show = show
-view_of name.Lab nothing = nothing
-view_of name.FileLab nothing = nothing
-view_of name.Loop carriage = carriage
-view_of name.Serve serve = serve_view serve
-view_of name.Ask ask = ask_view ask
-view_of name.Get get =
-    (copying_view get.copying, (option_map (λ t. t.now) get.output, map (λ t. t.now) get.paths.items))
-view_of name.Put put =
-    (copying_view put.copying, (put.is_renaming, option_map (λ t. t.now) put.path, map (λ t. t.now) put.locals.items))
-view_of name.Delete d = (calling_view d.calling, map (λ t. t.now) d.paths.items)
-view_of name.Rename r = (calling_view r.calling, (r.from.now, r.to.now))
-
-abbrev pub LineView : Type 0
-LineView = (sub : SubName) × ViewOf sub
+-- a subcommand with what is seen of its values
+pub data LineView : Type 0 where
+  ShowLine : show.View → LineView
+  LabLine : LineView
+  FileLabLine : LineView
+  LoopLine : Carriage → LineView
+  ServeLine : serve.View → LineView
+  AskLine : ask.View → LineView
+  GetLine : get.View → LineView
+  PutLine : put.View → LineView
+  DeleteLine : delete.View → LineView
+  RenameLine : rename.View → LineView
 
 abbrev pub line_view : Line → LineView
-line_view asked = ((parts_of asked).0, view_of (parts_of asked).0 (parts_of asked).1)
+line_view (line.Show s) = ShowLine (show.view s)
+line_view line.Lab = LabLine
+line_view line.FileLab = FileLabLine
+line_view (line.Loop carriage) = LoopLine carriage
+line_view (line.Serve s) = ServeLine (serve.view s)
+line_view (line.Ask a) = AskLine (ask.view a)
+line_view (line.Get g) = GetLine (get.view g)
+line_view (line.Put p) = PutLine (put.view p)
+line_view (line.Delete d) = DeleteLine (delete.view d)
+line_view (line.Rename r) = RenameLine (rename.view r)
 
--- no words ask for two lines
-abbrev pub AsksForOne : Type 0
-AsksForOne = (words : List Text) (one other : Line) → IsLineOf words one → IsLineOf words other
-    → line_view one ≡ line_view other
+-- the line that a subcommand's name and its values ask for
+abbrev pub line_named : Text → List Row → Option LineView
+line_named text rows = if bytes_eq text (name_text name.Show) then option_map ShowLine (show.value rows)
+    else (if bytes_eq text (name_text name.Lab) then Some LabLine
+    else (if bytes_eq text (name_text name.FileLab) then Some FileLabLine
+    else (if bytes_eq text (name_text name.Loop) then option_map LoopLine (given version_of (codes "carriage") rows)
+    else (if bytes_eq text (name_text name.Serve) then option_map ServeLine (serve.value rows)
+    else (if bytes_eq text (name_text name.Ask) then option_map AskLine (ask.value rows)
+    else (if bytes_eq text (name_text name.Get) then option_map GetLine (get.value rows)
+    else (if bytes_eq text (name_text name.Put) then option_map PutLine (put.value rows)
+    else (if bytes_eq text (name_text name.Delete) then option_map DeleteLine (delete.value rows)
+    else (if bytes_eq text (name_text name.Rename) then option_map RenameLine (rename.value rows)
+    else None)))))))))
+
+abbrev pub line_of : Option (Text × List Row) → Option LineView
+line_of found = option_and_then (λ f. line_named f.0 f.1) found
+
+-- the line that the words ask for, by what clap gives for them
+abbrev pub asked_line : List Text → Option LineView
+asked_line words = line_of (subcommand_of chaosd words)
+
+-- a word is bad, or two clash, only where this holds
+abbrev pub IfBad : LineProblem → Type 0 → Type 0
+IfBad (Bad word) T = T
+IfBad (Clash files) T = T
+IfBad NoMemory T = ⊤
+
+-- the answer is the value, and a problem only where there is none
+abbrev pub Reads : {T E : Type 0} → Reading T → List Row → Result T E → Type 0
+Reads reading rows r = option_map reading.view (result_ok r) ≡ reading.value rows
+
+-- the same where memory may run out: a word is bad, or two clash, only where there is no value
+abbrev pub Answers : {T V : Type 0} → (T → V) → Option V → Result T LineProblem → Type 0
+Answers view value r = MatchResult r (λ x. value ≡ Some (view x)) (λ e. IfBad e (value ≡ None))

@@ -1,189 +1,172 @@
--- The forms of the words of a line, each beside the value that it stands for.
-use Rattle.std.specs.Prelude.{◌≡◌, ◌≢◌, ◌⊎◌, ◌≤◌, ◌<◌, ◌==◌, ◌&&◌, ◌++◌, ◌∷◌, ⊤, ℕ, Bool, true, false, not, codes, List, [], length, nat_le, slice_index, Option, None, Some, unwrap_or, MatchBool, MatchOption, Result, MatchResult}
-use Rattle.std.specs.Char.{is_ascii_graphic}
-use Rattle.std.specs.List.{AllPairs, AllZip, after_first, before_first, filter, list_all, position_or_len}
-use Rattle.std.specs.Net.Grammar.{IsSocketV4Text}
+-- The forms of the words of a line: each is a function from a word to the value that the word stands for.
+use Rattle.std.specs.Prelude.{◌==◌, ◌&&◌, ◌++◌, ◌∷◌, ℕ, Bool, true, false, not, codes, List, [], length, nat_le, nat_lt, slice_index, Option, None, Some, is_some, option_map, unwrap_or, if◌then◌else◌}
+use Rattle.std.specs.Char.{is_ascii_graphic, is_digit}
+use Rattle.std.specs.List.{after_first, before_first, list_all, list_any, position_or_len}
+use Rattle.std.specs.Net.Reader.{read_socket_v4, whole_value}
 use Rattle.std.specs.Net.Socket.{v4_port}
-use Rattle.std.specs.Str.Parse.{IsNumeral, digits_value}
+use Rattle.std.specs.Option.{option_and_then, option_map_or, option_zip}
+use Rattle.std.specs.Str.{bytes_eq}
+use Rattle.std.specs.Str.Parse.{digits_value}
 use Rattle.std.specs.declared.net.socket_addr.SocketAddrV4.{SocketAddrV4}
-use Rattle.std.specs.Borrow.{Bor}
-use Rattle.clap.specs.Words.{Row, Text, all_of}
+use Rattle.clap.specs.Words.{Row, Text, all_of, first_of}
 use Rattle.chaos_file.specs.Names.{is_name, is_path}
 use Rattle.chaos_file.specs.declared.limits.TheConstants.{MAX_NAME}
 use Rattle.chaos_link.specs.declared.limits.TheConstants.{MAX_PEERS}
-use Rattle.chaos_link.specs.Peers.{IsKnown, PeersView}
+use Rattle.chaos_link.specs.Peers.{PeersView}
 use Rattle.chaos_link.specs.declared.carriage.Carriage.{Carriage}
 use Rattle.chaos_link.specs.declared.carriage.Carriage.TheVariants.{One, Two}
 use Rattle.chaos_link.specs.declared.peers.Peer.{Peer}
 use Rattle.chaosd_line.specs.declared.line.LogLevel.{LogLevel}
 use Rattle.chaosd_line.specs.declared.line.LogLevel.TheVariants.{Quiet, Normal, All}
+use Rattle.chaosd_line.specs.declared.word.Word.{Word}
+use Rattle.chaosd_line.specs.declared.word.Word.TheVariants as word
 
--- the answer is the value of which P holds, and there is none only where P holds of nothing
-abbrev pub Finds : {T : Type 0} → (T → Type 0) → Option T → Type 0
-Finds {T} P r = MatchOption r ((x : T) → ¬ (P x)) P
+-- a value of which the test holds
+abbrev pub kept_if : {T : Type 0} → (T → Bool) → T → Option T
+kept_if test x = if test x then Some x else None
 
--- the same where an error stands for no value
-abbrev pub Reads : {T E : Type 0} → (T → Type 0) → Result T E → Type 0
-Reads {T} P r = MatchResult r P (λ _. (x : T) → ¬ (P x))
+-- ---- places
 
--- one to six octal digits that write a number from 1 to 65535, which is 177777 octal
-abbrev pub IsAddress : Text → ℕ → Type 0
-IsAddress text n =
-    (length text ≤ 6) × IsNumeral 8 text × (n ≡ digits_value 8 text) × (0 < n) × (n < 65536)
+-- the value of the word at a place
+unfoldable pub given : {T : Type 0} → (Text → Option T) → Text → List Row → Option T
+given read place rows = option_and_then read (first_of place rows)
 
--- a number is written with a zero too many in front
-abbrev pub IsPadded : Text → Type 0
-IsPadded text = (1 < length text) × (slice_index text 0 ≡ 48)
-
--- decimal digits without leading zeros that write a number within these bounds
-abbrev pub IsDecimal : ℕ → ℕ → Text → ℕ → Type 0
-IsDecimal least most text n =
-    IsNumeral 10 text × ¬ (IsPadded text) × (n ≡ digits_value 10 text) × (least ≤ n) × (n ≤ most)
-
-abbrev pub IsTurns : Text → ℕ → Type 0
-IsTurns text n = IsDecimal 0 1000000000 text n
-
-abbrev pub IsWindow : Text → ℕ → Type 0
-IsWindow text n = IsDecimal 1 64 text n
-
-abbrev pub IsRetransmit : Text → ℕ → Type 0
-IsRetransmit text n = IsDecimal 20 60000 text n
-
-abbrev pub IsSeconds : Text → ℕ → Type 0
-IsSeconds text n = IsDecimal 1 3600 text n
-
--- the value of a word that need not be given: there is a value where there is a word
-abbrev pub IsOptional : {T : Type 0} → (Text → T → Type 0) → Option Text → Option T → Type 0
-IsOptional Is None None = ⊤
-IsOptional Is (Some text) (Some x) = Is text x
-IsOptional Is _ _ = ⊥
+-- the same of a word that need not be given: without a word there is no value, and the line is good
+unfoldable pub given_if : {T : Type 0} → (Text → Option T) → Text → List Row → Option (Option T)
+given_if read place rows = option_map_or (λ text. option_map Some (read text)) (first_of place rows) (Some None)
 
 -- the words at a place
 abbrev pub words_of : Text → List Row → List Text
 words_of place rows = unwrap_or (all_of place rows) []
 
--- the version of the datagrams
-abbrev pub carriage_text : Carriage → Text
-carriage_text One = codes "1"
-carriage_text Two = codes "2"
+-- ---- numbers
 
-abbrev pub IsCarriage : Text → Carriage → Type 0
-IsCarriage text carriage = text ≡ carriage_text carriage
+-- digits in the radix, at least one
+abbrev pub is_numeral : ℕ → Text → Bool
+is_numeral radix text = nat_lt 0 (length text) && list_all (λ c. is_digit c radix) text
+
+-- the number that digits in the radix write, within these bounds
+unfoldable pub number_of : ℕ → ℕ → ℕ → Text → Option ℕ
+number_of radix least most text = let n = digits_value radix text in
+    if is_numeral radix text && (nat_le least n && nat_le n most) then Some n else None
+
+-- one to six octal digits that write a number from 1 to 65535, which is 177777 octal
+unfoldable pub address_of : Text → Option ℕ
+address_of text = if nat_le (length text) 6 then number_of 8 1 65535 text else None
+
+-- a number is written with a zero (48) too many in front
+abbrev pub is_padded : Text → Bool
+is_padded text = nat_lt 1 (length text) && (slice_index text 0 == 48)
+
+-- decimal digits without leading zeros that write a number within these bounds
+unfoldable pub decimal_of : ℕ → ℕ → Text → Option ℕ
+decimal_of least most text = if is_padded text then None else number_of 10 least most text
+
+abbrev pub turns_of : Text → Option ℕ
+turns_of = decimal_of 0 1000000000
+
+abbrev pub window_of : Text → Option ℕ
+window_of = decimal_of 1 64
+
+abbrev pub retransmit_of : Text → Option ℕ
+retransmit_of = decimal_of 20 60000
+
+abbrev pub seconds_of : Text → Option ℕ
+seconds_of = decimal_of 1 3600
+
+-- ---- words
+
+-- the version of the datagrams
+unfoldable pub version_of : Text → Option Carriage
+version_of text = if bytes_eq text (codes "1") then Some One else (if bytes_eq text (codes "2") then Some Two else None)
 
 -- how much a server logs
-abbrev pub log_text : LogLevel → Text
-log_text Quiet = codes "quiet"
-log_text Normal = codes "normal"
-log_text All = codes "all"
-
-abbrev pub IsLog : Text → LogLevel → Type 0
-IsLog text log = text ≡ log_text log
+unfoldable pub log_of : Text → Option LogLevel
+log_of text = if bytes_eq text (codes "quiet") then Some Quiet
+    else (if bytes_eq text (codes "normal") then Some Normal
+    else (if bytes_eq text (codes "all") then Some All else None))
 
 -- what clap says of a flag
-abbrev pub flag_text : Bool → Text
-flag_text true = codes "true"
-flag_text false = codes "false"
-
-abbrev pub IsFlag : Text → Bool → Type 0
-IsFlag text b = text ≡ flag_text b
-
--- any text, wherever it lies
-abbrev pub IsWord : Text → Bor Text → Type 0
-IsWord text word = word.now ≡ text
-
--- a path of FILE, wherever its text lies
-abbrev pub IsPathOf : Text → Bor Text → Type 0
-IsPathOf text path = (path.now ≡ text) × (is_path text ≡ true)
+unfoldable pub flag_of : Text → Option Bool
+flag_of text = if bytes_eq text (codes "true") then Some true
+    else (if bytes_eq text (codes "false") then Some false else None)
 
 -- 1 to 64 printable characters of ASCII, none of them a space: the bytes 21 to 7E in hexadecimal
 abbrev pub is_contact : Text → Bool
-is_contact text =
-    nat_le 1 (length text) && nat_le (length text) 64 && list_all is_ascii_graphic text
+is_contact text = nat_le 1 (length text) && nat_le (length text) 64 && list_all is_ascii_graphic text
 
--- the contact name that is asked for, wherever its text lies
-abbrev pub IsContact : Text → Bor Text → Type 0
-IsContact text contact = (contact.now ≡ text) × (is_contact text ≡ true)
+-- any text, a contact name that is asked for, a user's name, and a path of FILE
+abbrev pub takes : Word → Text → Bool
+takes word.Any text = true
+takes word.Contact text = is_contact text
+takes word.Login text = is_name 1 MAX_NAME text
+takes word.Path text = is_path text
 
--- a user's name, wherever its text lies
-abbrev pub IsLogin : Text → Bor Text → Type 0
-IsLogin text login = (login.now ≡ text) × (is_name 1 MAX_NAME text ≡ true)
+unfoldable pub word_of : Word → Text → Option Text
+word_of form text = kept_if (takes form) text
+
+-- ---- UDP addresses and peers
+
+-- the address that std reads, where it reads the whole text
+abbrev pub socket_read : Text → Option SocketAddrV4
+socket_read text =
+    option_map (λ parts. record { ip = record { octets = parts.0 }; port = parts.1 }) (whole_value (read_socket_v4 text))
 
 -- what stands behind the first colon
 abbrev pub port_of : Text → Text
 port_of text = after_first (λ b. b == 58) text
 
 -- a.b.c.d:port, in decimal without leading zeros, the port from 1 on
-abbrev pub IsSocket : Text → SocketAddrV4 → Type 0
-IsSocket text socket = IsSocketV4Text text socket × ¬ (IsPadded (port_of text)) × (0 < v4_port socket)
+unfoldable pub socket_of : Text → Option SocketAddrV4
+socket_of text = if is_padded (port_of text) then None
+    else option_and_then (kept_if (λ socket. nat_lt 0 (v4_port socket))) (socket_read text)
 
--- the text has a `=`; what stands before the first, and what stands after it
-abbrev pub HasSides : Text → Type 0
-HasSides text = position_or_len (λ b. b == 61) text < length text
-
-abbrev pub left_of : Text → Text
-left_of text = before_first (λ b. b == 61) text
-
-abbrev pub right_of : Text → Text
-right_of text = after_first (λ b. b == 61) text
+-- what stands before the first `=` (61), and what stands behind it
+unfoldable pub sides_of : Text → Option (Text × Text)
+sides_of text = if nat_lt (position_or_len (λ b. b == 61) text) (length text)
+    then Some (before_first (λ b. b == 61) text, after_first (λ b. b == 61) text)
+    else None
 
 -- an address, `=`, and a socket
-abbrev pub IsPeer : Text → Peer → Type 0
-IsPeer text peer = HasSides text × IsAddress (left_of text) peer.address
-    × IsSocket (right_of text) peer.socket
+abbrev pub peer_with : Text × Text → Option Peer
+peer_with sides = option_map (λ p. record { address = p.0; socket = p.1 }) (option_zip (address_of sides.0) (socket_of sides.1))
 
--- each text is the peer at its place, there are at most 32, and no two have one address
-abbrev pub AreHosts : List Text → List Peer → Type 0
-AreHosts texts hosts = AllZip IsPeer texts hosts × (length hosts ≤ MAX_PEERS)
-    × AllPairs (λ p q. p.address ≢ q.address) hosts
+unfoldable pub peer_of : Text → Option Peer
+peer_of text = option_and_then peer_with (sides_of text)
+
+-- a star, `=`, and a socket: that of the bridge to all hosts that have no entry
+abbrev pub bridge_with : Text × Text → Option SocketAddrV4
+bridge_with sides = if bytes_eq sides.0 (codes "*") then socket_of sides.1 else None
+
+unfoldable pub bridge_of : Text → Option SocketAddrV4
+bridge_of text = option_and_then bridge_with (sides_of text)
 
 -- a text that begins with a star (42) is the bridge's
 abbrev pub names_bridge : Text → Bool
 names_bridge [] = false
 names_bridge (b ∷ bytes) = b == 42
 
-abbrev pub names_host : Text → Bool
-names_host text = not (names_bridge text)
+abbrev pub is_known : ℕ → List Peer → Bool
+is_known address hosts = list_any (λ host. host.address == address) hosts
 
--- a star, `=`, and a socket: that of the bridge to all hosts that have no entry
-abbrev pub IsBridgePeer : Text → SocketAddrV4 → Type 0
-IsBridgePeer text socket = HasSides text × (left_of text ≡ codes "*") × IsSocket (right_of text) socket
+-- a host comes last, if there is room and its address is not known
+unfoldable pub with_host : PeersView → Peer → Option PeersView
+with_host peers host = if nat_lt (length peers.hosts) MAX_PEERS && not (is_known host.address peers.hosts)
+    then Some (record peers { hosts = peers.hosts ++ host ∷ [] })
+    else None
 
--- there is no bridge where there is no text, and one text is the bridge; two are none
-abbrev pub AreBridges : List Text → Option SocketAddrV4 → Type 0
-AreBridges [] None = ⊤
-AreBridges (text ∷ []) (Some socket) = IsBridgePeer text socket
-AreBridges _ _ = ⊥
+-- there is one bridge at most
+unfoldable pub with_bridge : PeersView → SocketAddrV4 → Option PeersView
+with_bridge peers socket = if is_some peers.bridge then None else Some (record peers { bridge = Some socket })
 
--- but for those of the bridge, of which there is one at most, the texts are in their order the hosts
-abbrev pub ArePeers : List Text → PeersView → Type 0
-ArePeers texts peers = AreHosts (filter names_host texts) peers.hosts × AreBridges (filter names_bridge texts) peers.bridge
+unfoldable pub with_peer : PeersView → Text → Option PeersView
+with_peer peers text = if names_bridge text then option_and_then (with_bridge peers) (bridge_of text)
+    else option_and_then (with_host peers) (peer_of text)
 
--- the text is a host that comes last, for which there was room, and whose address was not known
-pub record AddsHost (text : Text) (old new : PeersView) : Type 0 where
-  pub host : Peer
-  pub written : IsPeer text host
-  pub room : length old.hosts < MAX_PEERS
-  pub fresh : ¬ (IsKnown host.address old.hosts)
-  pub added : new ≡ record old { hosts = old.hosts ++ host ∷ [] }
+-- the peers, and those of the texts behind them
+abbrev pub peers_after : List Text → PeersView → Option PeersView
+peers_after [] peers = Some peers
+peers_after (text ∷ texts) peers = option_and_then (peers_after texts) (with_peer peers text)
 
--- the text is the bridge, and there was none
-pub record AddsBridge (text : Text) (old new : PeersView) : Type 0 where
-  pub socket : SocketAddrV4
-  pub written : IsBridgePeer text socket
-  pub fresh : old.bridge ≡ None
-  pub added : new ≡ record old { bridge = Some socket }
-
-abbrev pub Adds : Text → PeersView → PeersView → Type 0
-Adds text old new = MatchBool (names_bridge text) (AddsBridge text old new) (AddsHost text old new)
-
--- whatever host the text is, there is no room for it, or its address is known
-abbrev pub CannotAddHost : Text → List Peer → Type 0
-CannotAddHost text old = (host : Peer) → IsPeer text host
-    → (length old ≡ MAX_PEERS) ⊎ IsKnown host.address old
-
--- whatever bridge the text is, there is one
-abbrev pub CannotAddBridge : Text → Option SocketAddrV4 → Type 0
-CannotAddBridge text old = (socket : SocketAddrV4) → IsBridgePeer text socket → old ≢ None
-
-abbrev pub CannotAdd : Text → PeersView → Type 0
-CannotAdd text old = MatchBool (names_bridge text) (CannotAddBridge text old.bridge) (CannotAddHost text old.hosts)
+abbrev pub peers_of : List Text → Option PeersView
+peers_of texts = peers_after texts (record { hosts = []; bridge = None })

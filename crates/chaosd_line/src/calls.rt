@@ -1,16 +1,19 @@
 //! The values that clap gives for the callers of a server, and those of `delete` and `rename`.
-ghost use Rattle.std.specs.Prelude.{◌≡◌, false, map, IfErr, IfOk};
+ghost use Rattle.std.specs.Prelude.{◌≡◌, codes, map, IfOk};
+ghost use Rattle.std.specs.Result.{result_ok};
 ghost use Rattle.clap.specs.Words.{found_of, rows_of};
-ghost use Rattle.chaosd_line.specs.Files.{GivesFiles, IfBad, IsCalling, IsDelete, IsDeleteOf, IsRename, are_paths, bad_path};
-ghost use Rattle.chaosd_line.specs.Values.{Reads};
+ghost use Rattle.chaosd_line.specs.Files.{bad_path};
+ghost use Rattle.chaosd_line.specs.Lines.{Answers, Reads, calling, delete, rename};
+ghost use Rattle.chaosd_line.specs.Values.{given_if, seconds_of};
 
 use crate::bad_value::{BadValue, OTHER_FORM, PATH_FORM, PATH_ONCE_FORM};
 use crate::files::{are_paths, bad_path};
-use crate::form::{optional, optional_value, value, words_at};
+use crate::form::{optional, optional_value, value, word, words_at};
 use crate::framings::framing_of;
 use crate::line::{Calling, Delete, Rename};
 use crate::line_problem::LineProblem;
-use crate::values::{Address, Contact, Flag, Host, Login, Path, Seconds, Socket, Window};
+use crate::values::{Address, Flag, Host, SECONDS, Socket, WINDOW};
+use crate::word::Word;
 use chaos_file::is_path;
 use clap::ArgMatches;
 use std::alloc::{AllocError, Global};
@@ -20,19 +23,31 @@ pub(crate) fn own_host<'a>(matches: &ArgMatches<'a>, place: &'a str) -> BadValue
     BadValue::new(optional(matches, place).unwrap_or(""), place, OTHER_FORM)
 }
 
+/// The seconds of a timeout, if they are given.
+pub(crate) fn timeout_of<'a>(matches: &ArgMatches<'a>) -> Result<Option<u16>, BadValue<'a>>
+    ensures { result_ok result
+        ≡ given_if seconds_of (codes "timeout") (rows_of (found_of matches.now)) }
+{
+    match optional_value(matches, "timeout", &SECONDS)? {
+        Some(seconds) => Ok(Some(seconds as u16)),
+        None => Ok(None),
+    }
+}
+
 /// What the callers of a server have in common.
+#[tactic(auto, unfolding(crate::specs::Lines::calling))]
 pub(crate) fn calling_of<'a>(matches: &ArgMatches<'a>) -> Result<Calling<'a>, BadValue<'a>>
-    ensures { Reads (IsCalling (rows_of (found_of matches.now))) result }
+    ensures { Reads calling (rows_of (found_of matches.now)) result }
 {
     let framing = framing_of(matches)?;
-    let contact = value::<Contact>(matches, "contact")?;
-    let login = value::<Login>(matches, "login")?;
-    let window = value::<Window>(matches, "window")?;
-    let timeout = optional_value::<Seconds>(matches, "timeout")?;
-    let hears_anybody = value::<Flag>(matches, "any-source")?;
-    let address = value::<Address>(matches, "ADDRESS")?;
-    let socket = value::<Socket>(matches, "UDP")?;
-    let server = value::<Host>(matches, "SERVER")?;
+    let contact = word(matches, "contact", Word::Contact)?;
+    let login = word(matches, "login", Word::Login)?;
+    let window = value(matches, "window", &WINDOW)? as u16;
+    let timeout = timeout_of(matches)?;
+    let hears_anybody = value(matches, "any-source", &Flag)?;
+    let address = value(matches, "ADDRESS", &Address)?;
+    let socket = value(matches, "UDP", &Socket)?;
+    let server = value(matches, "SERVER", &Host)?;
     if server.address == address {
         return Err(own_host(matches, "SERVER"));
     }
@@ -71,15 +86,16 @@ pub(crate) fn bad_paths<'a>(words: &[&'a str]) -> BadValue<'a>
     BadValue::new(text, "PATH", form)
 }
 
-/// What `delete` is asked for with these words.
-fn delete_with<'a>(
+/// What the values of `delete` ask for.
+#[tactic(auto, unfolding(crate::specs::Lines::delete))]
+pub(crate) fn delete_of<'a>(
     alloc: Global,
-    calling: Calling<'a>,
-    words: &[&'a str],
+    matches: &ArgMatches<'a>,
 ) -> Result<Delete<'a>, LineProblem<'a>>
-    ensures ok { IfOk result (IsDeleteOf calling.entry (map (λ t. t.now) words.now)) }
-    ensures err { IfErr result (λ e. IfBad e (are_paths (map (λ t. t.now) words.now) ≡ false)) }
+    ensures { Answers delete.view (delete.value (rows_of (found_of matches.now))) result }
 {
+    let calling = calling_of(matches)?;
+    let words = words_at(matches, "PATH");
     if !are_paths(words) {
         return Err(LineProblem::Bad(bad_paths(words)));
     }
@@ -89,23 +105,14 @@ fn delete_with<'a>(
     }
 }
 
-/// What the values of `delete` ask for.
-pub(crate) fn delete_of<'a>(
-    alloc: Global,
-    matches: &ArgMatches<'a>,
-) -> Result<Delete<'a>, LineProblem<'a>>
-    ensures { GivesFiles (IsDelete (rows_of (found_of matches.now))) result }
-{
-    let calling = calling_of(matches)?;
-    delete_with(alloc, calling, words_at(matches, "PATH"))
-}
-
 /// What the values of `rename` ask for.
+#[tactic(auto, unfolding(crate::specs::Lines::rename))]
 pub(crate) fn rename_of<'a>(matches: &ArgMatches<'a>) -> Result<Rename<'a>, BadValue<'a>>
-    ensures { Reads (IsRename (rows_of (found_of matches.now))) result }
+    ensures { Reads rename (rows_of (found_of matches.now)) result }
 {
-    let calling = calling_of(matches)?;
-    let from = value::<Path>(matches, "OLD")?;
-    let to = value::<Path>(matches, "NEW")?;
-    Ok(Rename { calling, from, to })
+    Ok(Rename {
+        calling: calling_of(matches)?,
+        from: word(matches, "OLD", Word::Path)?,
+        to: word(matches, "NEW", Word::Path)?,
+    })
 }

@@ -1,8 +1,8 @@
 //! The values that clap gives for `get` and `put`, and the lines that they ask for.
-ghost use Rattle.std.specs.Prelude.{◌≡◌, ◌&&◌, false, map, option_map, IfErr, IfOk};
+ghost use Rattle.std.specs.Prelude.{◌≡◌, map, option_map};
 ghost use Rattle.clap.specs.Words.{found_of, rows_of};
-ghost use Rattle.chaosd_line.specs.Files.{IfBad, IsGet, IsGetOf, IsPut, IsPutOf, IsCopying, are_named, are_paths, fits_output, is_folder, GivesFiles};
-ghost use Rattle.chaosd_line.specs.Values.{Reads};
+ghost use Rattle.chaosd_line.specs.Files.{are_named, fits_output, is_folder};
+ghost use Rattle.chaosd_line.specs.Lines.{Answers, Reads, copying, get, put};
 
 use crate::bad_value::{BadValue, ONE_LOCAL, ONE_PATH, PATH_FORM};
 use crate::calls::{bad_paths, calling_of, kept};
@@ -17,18 +17,15 @@ use clap::ArgMatches;
 use std::alloc::Global;
 
 /// What `get` and `put` have in common.
+#[tactic(auto, unfolding(crate::specs::Lines::copying))]
 fn copying_of<'a>(matches: &ArgMatches<'a>) -> Result<Copying<'a>, BadValue<'a>>
-    ensures { Reads (IsCopying (rows_of (found_of matches.now))) result }
+    ensures { Reads copying (rows_of (found_of matches.now)) result }
 {
-    let calling = calling_of(matches)?;
-    let is_text = value::<Flag>(matches, "text")?;
-    let is_quiet = value::<Flag>(matches, "quiet")?;
-    let is_verbose = value::<Flag>(matches, "verbose")?;
     Ok(Copying {
-        calling,
-        is_text,
-        is_quiet,
-        is_verbose,
+        calling: calling_of(matches)?,
+        is_text: value(matches, "text", &Flag)?,
+        is_quiet: value(matches, "quiet", &Flag)?,
+        is_verbose: value(matches, "verbose", &Flag)?,
     })
 }
 
@@ -53,19 +50,17 @@ fn fits_output(output: Option<&str>, words: &[&str]) -> bool
     }
 }
 
-/// What `get` is asked for with these words.
-fn get_with<'a>(
+/// What the values of `get` ask for.
+#[tactic(auto, unfolding(crate::specs::Lines::get))]
+pub(crate) fn get_of<'a>(
     alloc: Global,
-    copying: Copying<'a>,
-    output: Option<&'a str>,
-    words: &[&'a str],
+    matches: &ArgMatches<'a>,
 ) -> Result<Get<'a>, LineProblem<'a>>
-    ensures ok { IfOk result
-        (IsGetOf copying.entry (option_map (λ t. t.now) output.entry) (map (λ t. t.now) words.now)) }
-    ensures err { IfErr result (λ e. IfBad e
-        (are_paths (map (λ t. t.now) words.now)
-        && fits_output (option_map (λ t. t.now) output.entry) (map (λ t. t.now) words.now) ≡ false)) }
+    ensures { Answers get.view (get.value (rows_of (found_of matches.now))) result }
 {
+    let copying = copying_of(matches)?;
+    let output = optional(matches, "output");
+    let words = words_at(matches, "PATH");
     if !are_paths(words) {
         return Err(LineProblem::Bad(bad_paths(words)));
     }
@@ -81,18 +76,6 @@ fn get_with<'a>(
         }),
         Err(_) => Err(LineProblem::NoMemory),
     }
-}
-
-/// What the values of `get` ask for.
-pub(crate) fn get_of<'a>(
-    alloc: Global,
-    matches: &ArgMatches<'a>,
-) -> Result<Get<'a>, LineProblem<'a>>
-    ensures { GivesFiles (IsGet (rows_of (found_of matches.now))) result }
-{
-    let copying = copying_of(matches)?;
-    let output = optional(matches, "output");
-    get_with(alloc, copying, output, words_at(matches, "PATH"))
 }
 
 /// Whether local files go under paths of their own, or one of them under the path that is given.
@@ -117,19 +100,18 @@ fn bad_names<'a>(is_renaming: bool, path: Option<&'a str>, locals: &[&'a str]) -
     }
 }
 
-/// What `put` is asked for with these words.
-fn put_with<'a>(
+/// What the values of `put` ask for.
+#[tactic(auto, unfolding(crate::specs::Lines::put))]
+pub(crate) fn put_of<'a>(
     alloc: Global,
-    copying: Copying<'a>,
-    is_renaming: bool,
-    path: Option<&'a str>,
-    words: &[&'a str],
+    matches: &ArgMatches<'a>,
 ) -> Result<Put<'a>, LineProblem<'a>>
-    ensures ok { IfOk result
-        (IsPutOf copying.entry is_renaming (option_map (λ t. t.now) path.entry) (map (λ t. t.now) words.now)) }
-    ensures err { IfErr result (λ e. IfBad e
-        (are_named is_renaming (option_map (λ t. t.now) path.entry) (map (λ t. t.now) words.now) ≡ false)) }
+    ensures { Answers put.view (put.value (rows_of (found_of matches.now))) result }
 {
+    let copying = copying_of(matches)?;
+    let is_renaming = value(matches, "rename", &Flag)?;
+    let path = optional(matches, "as");
+    let words = words_at(matches, "LOCAL");
     if !are_named(is_renaming, path, words) {
         return Err(bad_names(is_renaming, path, words));
     }
@@ -142,23 +124,4 @@ fn put_with<'a>(
         }),
         Err(_) => Err(LineProblem::NoMemory),
     }
-}
-
-/// What the values of `put` ask for.
-pub(crate) fn put_of<'a>(
-    alloc: Global,
-    matches: &ArgMatches<'a>,
-) -> Result<Put<'a>, LineProblem<'a>>
-    ensures { GivesFiles (IsPut (rows_of (found_of matches.now))) result }
-{
-    let copying = copying_of(matches)?;
-    let is_renaming = value::<Flag>(matches, "rename")?;
-    let path = optional(matches, "as");
-    put_with(
-        alloc,
-        copying,
-        is_renaming,
-        path,
-        words_at(matches, "LOCAL"),
-    )
 }

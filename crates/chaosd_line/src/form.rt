@@ -1,26 +1,31 @@
 //! Forms of words, and the readers of the words of a line.
-ghost use Rattle.std.specs.Prelude.{◌≡◌, map, option_map};
-ghost use Rattle.std.specs.Option.{IsSomeAnd};
+ghost use Rattle.std.specs.Prelude.{◌≡◌, ⊤, IfOk, IfSome, Option, map, option_map, true};
+ghost use Rattle.std.specs.Result.{result_ok};
 ghost use Rattle.clap.specs.Words.{Text, first_of, found_of, rows_of};
-ghost use Rattle.chaosd_line.specs.Values.{Finds, IsOptional, Reads, words_of};
+ghost use Rattle.chaosd_line.specs.Values.{given, given_if, takes, word_of, words_of};
 
 use crate::bad_value::BadValue;
+use crate::word::Word;
 use clap::ArgMatches;
 
-/// A form of words, whose values are read from texts that are lent for `'a`.
-pub(crate) trait Form<'a> {
+/// A form of words that stand for values.
+pub(crate) trait Form {
     /// What a word of the form stands for.
     type Value;
 
-    /// What a message says that it expected.
-    const EXPECTED: &'static str;
+    /// The value that a text stands for.
+    ghost reads: { Self → Text → Option Self.Value };
 
-    /// Which value a text of the form stands for.
-    ghost means: { Text → Self.Value → Type 0 };
+    /// What holds of each such value.
+    ghost fits: { Self → Self.Value → Type 0 } = { λ _ _. ⊤ };
+
+    /// What a message says that it expected.
+    fn expected(&self) -> &'static str;
 
     /// The value that a text stands for.
-    fn value_of(text: &'a str) -> Option<Self::Value>
-        ensures { Finds (means text.now) result };
+    fn value_of(&self, text: &str) -> Option<Self::Value>
+        ensures value { result ≡ reads self.now text.now }
+        ensures fits { IfSome result (fits self.now) };
 }
 
 /// The word at a place, if there is one.
@@ -37,38 +42,72 @@ pub(crate) fn words_at<'m, 'a>(matches: &'m ArgMatches<'a>, place: &str) -> &'m 
     matches.get_strs(place).unwrap_or_default()
 }
 
-/// The value of the word at a place. clap takes no line without a word there.
-pub(crate) fn value<'a, F: Form<'a>>(
+/// The word at a place. That there is a word is clap's care; the message about a missing one says
+/// what it expected.
+fn needed<'a>(
     matches: &ArgMatches<'a>,
     place: &'a str,
-) -> Result<F::Value, BadValue<'a>>
-    ensures { Reads
-        (λ v. IsSomeAnd (first_of place.entry.now (rows_of (found_of matches.now))) (λ t. F.means t v))
-        result }
+    expected: &'a str,
+) -> Result<&'a str, BadValue<'a>>
+    ensures { option_map (λ t. t.now) (result_ok result)
+        ≡ first_of place.entry.now (rows_of (found_of matches.now)) }
 {
-    let Some(text) = optional(matches, place) else {
-        return Err(BadValue::new("", place, F::EXPECTED));
-    };
-    match F::value_of(text) {
+    match optional(matches, place) {
+        Some(text) => Ok(text),
+        None => Err(BadValue::new("", place, expected)),
+    }
+}
+
+/// The value of the word at a place.
+#[tactic(auto, unfolding(crate::specs::Values::given))]
+pub(crate) fn value<'a, F: Form>(
+    matches: &ArgMatches<'a>,
+    place: &'a str,
+    form: &F,
+) -> Result<F::Value, BadValue<'a>>
+    ensures value { result_ok result
+        ≡ given (F.reads form.now) place.entry.now (rows_of (found_of matches.now)) }
+    ensures fits { IfOk result (F.fits form.now) }
+{
+    let text = needed(matches, place, form.expected())?;
+    match form.value_of(text) {
         Some(value) => Ok(value),
-        None => Err(BadValue::new(text, place, F::EXPECTED)),
+        None => Err(BadValue::new(text, place, form.expected())),
     }
 }
 
 /// The value of the word at a place, if there is one.
-pub(crate) fn optional_value<'a, F: Form<'a>>(
+#[tactic(auto, unfolding(crate::specs::Values::given, crate::specs::Values::given_if))]
+pub(crate) fn optional_value<'a, F: Form>(
     matches: &ArgMatches<'a>,
     place: &'a str,
+    form: &F,
 ) -> Result<Option<F::Value>, BadValue<'a>>
-    ensures { Reads
-        (IsOptional F.means (first_of place.entry.now (rows_of (found_of matches.now))))
-        result }
+    ensures value { result_ok result
+        ≡ given_if (F.reads form.now) place.entry.now (rows_of (found_of matches.now)) }
+    ensures fits { IfOk result (λ o. IfSome o (F.fits form.now)) }
 {
-    let Some(text) = optional(matches, place) else {
+    if optional(matches, place).is_none() {
         return Ok(None);
-    };
-    match F::value_of(text) {
-        Some(value) => Ok(Some(value)),
-        None => Err(BadValue::new(text, place, F::EXPECTED)),
+    }
+    Ok(Some(value(matches, place, form)?))
+}
+
+/// The word at a place that stands for itself.
+#[tactic(auto, unfolding(crate::specs::Values::given, crate::specs::Values::word_of))]
+pub(crate) fn word<'a>(
+    matches: &ArgMatches<'a>,
+    place: &'a str,
+    form: Word,
+) -> Result<&'a str, BadValue<'a>>
+    ensures value { option_map (λ t. t.now) (result_ok result)
+        ≡ given (word_of form) place.entry.now (rows_of (found_of matches.now)) }
+    ensures fits { IfOk result (λ t. takes form t.now ≡ true) }
+{
+    let text = needed(matches, place, form.expected())?;
+    if form.takes(text.as_bytes()) {
+        Ok(text)
+    } else {
+        Err(BadValue::new(text, place, form.expected()))
     }
 }

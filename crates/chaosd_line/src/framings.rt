@@ -1,7 +1,8 @@
 //! The words that say how packets stand in datagrams.
+ghost use Rattle.std.specs.Prelude.{◌≡◌};
+ghost use Rattle.std.specs.Result.{result_ok};
 ghost use Rattle.clap.specs.Words.{found_of, rows_of};
-ghost use Rattle.chaosd_line.specs.Framings.{IsFraming};
-ghost use Rattle.chaosd_line.specs.Values.{Reads};
+ghost use Rattle.chaosd_line.specs.Framings.{framing_at};
 
 use crate::bad_value::{BadValue, NEEDS_CHUDP, ONE_PACKET};
 use crate::form::{optional, optional_value, value};
@@ -16,12 +17,13 @@ fn misfit<'a>(matches: &ArgMatches<'a>, option: &'a str, reason: &'a str) -> Bad
 }
 
 /// How packets stand in datagrams: CHUDP has one packet in each, and only CHUDP names a bridge.
+#[tactic(auto, unfolding(crate::specs::Framings::framing_at))]
 pub(crate) fn framing_of<'a>(matches: &ArgMatches<'a>) -> Result<Framing, BadValue<'a>>
-    ensures { Reads (IsFraming (rows_of (found_of matches.now))) result }
+    ensures { result_ok result ≡ framing_at (rows_of (found_of matches.now)) }
 {
-    let carriage = value::<Version>(matches, "carriage")?;
-    let is_chudp = value::<Flag>(matches, "chudp")?;
-    let bridge = optional_value::<Address>(matches, "bridge")?;
+    let carriage = value(matches, "carriage", &Version)?;
+    let is_chudp = value(matches, "chudp", &Flag)?;
+    let bridge = optional_value(matches, "bridge", &Address)?;
     match (is_chudp, carriage, bridge) {
         (true, Carriage::One, bridge) => Ok(Framing::Chudp(bridge)),
         (true, Carriage::Two, _) => Err(misfit(matches, "carriage", ONE_PACKET)),

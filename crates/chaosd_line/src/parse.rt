@@ -1,11 +1,11 @@
 //! The reading of a command line.
-ghost use Rattle.std.specs.Prelude.{◌≡◌, ◌⊎◌, map, IfOk};
+ghost use Rattle.std.specs.Prelude.{◌≡◌, ◌⊎◌, map, IfOk, Some};
 ghost use Rattle.clap.specs.Values.{kind_of};
 ghost use Rattle.clap.specs.Words.{FailsBy, app_of, fault_of, subcommand_of, subcommand_rows_of};
 ghost use Rattle.clap.specs.declared.error.kind.ErrorKind.TheVariants.{OutOfMemory, ValueValidation};
 ghost use Rattle.chaosd_line.specs.CommandLine.{chaosd};
 ghost use Rattle.chaosd_line.specs.Fault.{FailsFor, IsReported, RefusesFor};
-ghost use Rattle.chaosd_line.specs.Lines.{IsLineOf};
+ghost use Rattle.chaosd_line.specs.Lines.{asked_line, line_view};
 
 use crate::command::{command, command_of};
 use crate::fault::LineFault;
@@ -80,9 +80,9 @@ fn report_of(alloc: Global, problem: LineProblem<'_>, subcommand: Option<&str>) 
 /// error. `LineFault::from` its kind is the fault. The text about a word that is not of its form
 /// names the word, its place and the form.
 pub fn parse_line<'a, S: AsStr>(alloc: Global, words: &'a [S]) -> Result<Line<'a>, Error>
-    // The line has the subcommand of the words and, by their forms, the values that clap gives:
-    // addresses, sockets, numbers, texts and flags. `loop` has the carriage, 1 or 2, and `show` its
-    // two flags.
+    // The line is a function of the subcommand and the values that clap gives for the words, so no
+    // words ask for two lines. It has that subcommand and, by their forms, those values: addresses,
+    // sockets, numbers, texts and flags. `loop` has the carriage, 1 or 2, and `show` its two flags.
     // A line that sends packets to other hosts has their framing. Without `--chudp` the framing is
     // the carriage, 1 or 2, and no bridge's address is given. With `--chudp` the carriage is 1, and
     // the framing has the bridge's address, if there is one.
@@ -98,7 +98,7 @@ pub fn parse_line<'a, S: AsStr>(alloc: Global, words: &'a [S]) -> Result<Line<'a
     // are given, and whether anybody is heard. What calls a server has the user's name.
     // `get` and `delete` have paths of FILE that differ, and `rename` has two. `put` has a path of
     // FILE for its one file, or files of which none is standard input and no two go under one path.
-    ensures line { IfOk result (IsLineOf (map S.text words.now)) }
+    ensures line { IfOk result (λ line. asked_line (map S.text words.now) ≡ Some (line_view line)) }
 
     // The words are read only if nothing is wrong with them. They are refused if memory runs out,
     // for a mistake that clap's definitions find in them, or, if those find none, for a value that
@@ -115,7 +115,7 @@ pub fn parse_line<'a, S: AsStr>(alloc: Global, words: &'a [S]) -> Result<Line<'a
 /// The line that these words ask for, or the fault of `parse_line` without its text.
 pub fn read_line<'a, S: AsStr>(alloc: Global, words: &'a [S]) -> Result<Line<'a>, LineFault>
     // The line is the line of `parse_line`.
-    ensures line { IfOk result (IsLineOf (map S.text words.now)) }
+    ensures line { IfOk result (λ line. asked_line (map S.text words.now) ≡ Some (line_view line)) }
 
     // The words are read only if nothing is wrong with them. The fault is out of memory, or
     // stands for a kind of error that `parse_line` gives for these words.
