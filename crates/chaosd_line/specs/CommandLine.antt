@@ -84,26 +84,17 @@ own_rules more = needed (codes "ADDRESS") ∷ needed (codes "UDP") ∷ more
 abbrev pub server_rules : List Rule → List Rule
 server_rules more = own_rules (needed (codes "SERVER") ∷ more)
 
--- the name of each subcommand
-abbrev pub name_text : SubName → Text
-name_text name.Show = codes "show"
-name_text name.Lab = codes "lab"
-name_text name.FileLab = codes "filelab"
-name_text name.Loop = codes "loop"
-name_text name.Serve = codes "serve"
-name_text name.Ask = codes "ask"
-name_text name.Get = codes "get"
-name_text name.Put = codes "put"
-name_text name.Delete = codes "delete"
-name_text name.Rename = codes "rename"
+-- each subcommand, with the rules of its words in the order of its table
+abbrev pub sub : Text → List Rule → App
+sub text rules = with_rules (new_app text) rules
 
--- the rules of the words of each subcommand, in the order of its table
-abbrev pub sub_rules : SubName → List Rule
-sub_rules name.Show = flag (codes "file") ∷ flag (codes "chudp") ∷ []
-sub_rules name.Lab = []
-sub_rules name.FileLab = []
-sub_rules name.Loop = carriage_option ∷ []
-sub_rules name.Serve = with_default (codes "turns") (codes "1000000000")
+abbrev pub app_named : SubName → App
+app_named name.Show = sub (codes "show") (flag (codes "file") ∷ flag (codes "chudp") ∷ [])
+app_named name.Lab = sub (codes "lab") []
+app_named name.FileLab = sub (codes "filelab") []
+app_named name.Loop = sub (codes "loop") (carriage_option ∷ [])
+app_named name.Serve = sub (codes "serve")
+    (with_default (codes "turns") (codes "1000000000")
     ∷ framing_rules
     (with_default (codes "window") (codes "13")
     ∷ retransmit_option
@@ -112,23 +103,22 @@ sub_rules name.Serve = with_default (codes "turns") (codes "1000000000")
     ∷ flag (codes "log-time")
     ∷ flag (codes "only-peers")
     ∷ flag (codes "read-only")
-    ∷ own_rules (needed (codes "FOLDER") ∷ any_words (codes "PEER") ∷ []))
-sub_rules name.Ask = framing_rules
+    ∷ own_rules (needed (codes "FOLDER") ∷ any_words (codes "PEER") ∷ [])))
+app_named name.Ask = sub (codes "ask")
+    (framing_rules
     (contact_option
     ∷ optional (codes "timeout")
     ∷ retransmit_option
     ∷ flag (codes "any-source")
     ∷ flag (codes "strict")
-    ∷ own_rules (needed (codes "TO") ∷ any_words (codes "PEER") ∷ []))
-sub_rules name.Get = copy_rules (optional (codes "output") ∷ server_rules (file_words (codes "PATH") ∷ []))
-sub_rules name.Put = copy_rules
-    (flag (codes "rename") ∷ optional (codes "as") ∷ server_rules (file_words (codes "LOCAL") ∷ []))
-sub_rules name.Delete = call_rules (server_rules (file_words (codes "PATH") ∷ []))
-sub_rules name.Rename = call_rules (server_rules (needed (codes "OLD") ∷ needed (codes "NEW") ∷ []))
-
--- the subcommand of a name
-abbrev pub app_named : SubName → App
-app_named sub = with_rules (new_app (name_text sub)) (sub_rules sub)
+    ∷ own_rules (needed (codes "TO") ∷ any_words (codes "PEER") ∷ [])))
+app_named name.Get =
+    sub (codes "get") (copy_rules (optional (codes "output") ∷ server_rules (file_words (codes "PATH") ∷ [])))
+app_named name.Put = sub (codes "put")
+    (copy_rules (flag (codes "rename") ∷ optional (codes "as") ∷ server_rules (file_words (codes "LOCAL") ∷ [])))
+app_named name.Delete = sub (codes "delete") (call_rules (server_rules (file_words (codes "PATH") ∷ [])))
+app_named name.Rename =
+    sub (codes "rename") (call_rules (server_rules (needed (codes "OLD") ∷ needed (codes "NEW") ∷ [])))
 
 -- the subcommands in the order of the help
 abbrev pub sub_names : List SubName

@@ -5,7 +5,7 @@ use Rattle.std.specs.Result.{result_ok}
 use Rattle.std.specs.Str.{bytes_eq}
 use Rattle.clap.specs.Words.{Row, Text, first_of, subcommand_of}
 use Rattle.chaos_link.specs.declared.carriage.Carriage.{Carriage}
-use Rattle.chaosd_line.specs.CommandLine.{chaosd, name_text}
+use Rattle.chaosd_line.specs.CommandLine.{chaosd}
 use Rattle.chaosd_line.specs.Files.{are_named, are_paths, fits_output}
 use Rattle.chaosd_line.specs.Framings.{framing_at}
 use Rattle.chaosd_line.specs.Values.{address_of, flag_of, given, given_if, kept_if, log_of, peer_of, peers_of, retransmit_of, seconds_of, socket_of, turns_of, version_of, window_of, word_of, words_of}
@@ -22,7 +22,6 @@ use Rattle.chaosd_line.specs.declared.line.Serve.{Serve}
 use Rattle.chaosd_line.specs.declared.line.Show.{Show}
 use Rattle.chaosd_line.specs.declared.line_problem.LineProblem.{LineProblem}
 use Rattle.chaosd_line.specs.declared.line_problem.LineProblem.TheVariants.{Bad, Clash, NoMemory}
-use Rattle.chaosd_line.specs.declared.sub.SubName.TheVariants as name
 use Rattle.chaosd_line.specs.declared.word.Word.TheVariants as word
 
 -- How the values of a line are read: what is seen of them, wherever their texts lie, and what that is by the words at their places.
@@ -163,16 +162,16 @@ line_view (line.Rename r) = RenameLine (rename.view r)
 
 -- the line that a subcommand's name and its values ask for
 abbrev pub line_named : Text → List Row → Option LineView
-line_named text rows = if bytes_eq text (name_text name.Show) then option_map ShowLine (show.value rows)
-    else (if bytes_eq text (name_text name.Lab) then Some LabLine
-    else (if bytes_eq text (name_text name.FileLab) then Some FileLabLine
-    else (if bytes_eq text (name_text name.Loop) then option_map LoopLine (given version_of (codes "carriage") rows)
-    else (if bytes_eq text (name_text name.Serve) then option_map ServeLine (serve.value rows)
-    else (if bytes_eq text (name_text name.Ask) then option_map AskLine (ask.value rows)
-    else (if bytes_eq text (name_text name.Get) then option_map GetLine (get.value rows)
-    else (if bytes_eq text (name_text name.Put) then option_map PutLine (put.value rows)
-    else (if bytes_eq text (name_text name.Delete) then option_map DeleteLine (delete.value rows)
-    else (if bytes_eq text (name_text name.Rename) then option_map RenameLine (rename.value rows)
+line_named text rows = if bytes_eq text (codes "show") then option_map ShowLine (show.value rows)
+    else (if bytes_eq text (codes "lab") then Some LabLine
+    else (if bytes_eq text (codes "filelab") then Some FileLabLine
+    else (if bytes_eq text (codes "loop") then option_map LoopLine (given version_of (codes "carriage") rows)
+    else (if bytes_eq text (codes "serve") then option_map ServeLine (serve.value rows)
+    else (if bytes_eq text (codes "ask") then option_map AskLine (ask.value rows)
+    else (if bytes_eq text (codes "get") then option_map GetLine (get.value rows)
+    else (if bytes_eq text (codes "put") then option_map PutLine (put.value rows)
+    else (if bytes_eq text (codes "delete") then option_map DeleteLine (delete.value rows)
+    else (if bytes_eq text (codes "rename") then option_map RenameLine (rename.value rows)
     else None)))))))))
 
 abbrev pub line_of : Option (Text × List Row) → Option LineView
