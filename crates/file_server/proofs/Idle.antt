@@ -1,5 +1,5 @@
 -- Phases that do nothing.
-use Rattle.std.proofs.Common.{◌≡◌, ℕ, false, List, [], ◌∷◌, Option, Some, None, Ok, refl, ap, sym, ◌∙◌}
+use Rattle.std.proofs.Common.{Bool, zero, suc, length, ◌≡◌, ℕ, false, List, [], ◌∷◌, Option, Some, None, Ok, refl, ap, sym, ◌∙◌}
 use Rattle.chaos_packet.specs.Packet.{PacketView}
 use Rattle.chaos_conn.specs.State.{is_ended}
 use Rattle.chaos_conn.specs.View.{ConnView}
@@ -9,18 +9,20 @@ use Rattle.chaos_host.specs.View.{HostView, host_look, id_at, look_slot}
 use Rattle.chaos_host.specs.declared.slot.Slot.{Slot}
 use Rattle.chaos_link.specs.Link.{Ask, AskedSince, Asks}
 use Rattle.chaos_link.specs.Loads.{packets_of}
+use Rattle.chaos_link.specs.declared.link.Link.{Ghosts}
 use Rattle.chaos_link.specs.declared.carriage.Carriage.{Carriage}
 use Rattle.chaos_link.specs.declared.carriage.Carriage.TheVariants.{One, Two}
 use Rattle.chaos_link.proofs.Asked.{asks_none}
 use Rattle.chaos_turn.specs.Link.{has_packets, read_all, sent_by}
-use Rattle.chaos_turn.specs.Phase.{DoesPhase, Effect, effect_of}
+use Rattle.chaos_turn.specs.InTurn.{TurnDoes, station_of}
+use Rattle.chaos_turn.specs.Phase.{DoesPhase, Effect, and_then, effect_of, no_effect_on, over_slots}
+use Rattle.chaos_turn.specs.Slots.{tick_at}
 use Rattle.chaos_turn.specs.Station.{Station}
-use Rattle.chaos_turn.proofs.Queue.{sends_nothing}
-use Rattle.file_server.specs.Slots.{release_at}
-
--- It leaves this host as it is, and sends nothing.
-abbrev pub IsIdle : Effect → HostView → Type 0
-IsIdle effect h = (effect.host ≡ h) × (has_packets effect.lots ≡ false)
+use Rattle.chaos_turn.specs.declared.turn.Turn.{Turn}
+use Rattle.chaos_turn.proofs.InTurn.{then_all_slots, then_does}
+use Rattle.chaos_turn.proofs.Queue.{or_false, sends_nothing}
+use Rattle.file_server.specs.Sessions.{Serving}
+use Rattle.file_server.specs.Slots.{EndsNothing, IsIdle, close_at, end_phases, release_at}
 
 none_sent : (carriage : Carriage) (lots : List (List PacketView)) → has_packets lots ≡ false → sent_by carriage lots ≡ []
 none_sent carriage [] e = refl
@@ -67,3 +69,38 @@ pub goes_on : {L : Type 0} {asked : AskedSince L Ask} (carriage : Carriage) (s :
 goes_on carriage s place id conn there shows on =
     idle carriage s (release_at place s.node)
     (rw there (release_nothing s.node id (named_slot s.node.slots id) conn shows on))
+
+-- ---- a turn in which nothing ends
+
+module _ {L : Type 0} {G : Ghosts L} where
+  idle_turn : (a : Turn L G) (effect : Effect) → IsIdle effect a.host.now → TurnDoes a a effect false
+  idle_turn a effect is = (idle a.carriage (station_of a) effect is, (refl, refl, refl, refl, refl))
+
+  closes_nothing : (silence : Option ℕ) (sessions : List Serving) (a : Turn L G) (n : ℕ)
+      → EndsNothing silence a.now sessions a.host.now n
+      → TurnDoes a a (over_slots (close_at silence a.now sessions) n a.host.now) false
+  closes_nothing silence sessions a zero none = idle_turn a (no_effect_on a.host.now) (refl, refl)
+  closes_nothing silence sessions a (suc n) none =
+      then_does a a a (over_slots (close_at silence a.now sessions) n a.host.now)
+      (λ (now : ℕ). close_at silence now sessions n) false false false (closes_nothing silence sessions a n none.0)
+      (idle_turn a (close_at silence a.now sessions n a.host.now) none.1.0) refl
+
+  releases_nothing : (silence : Option ℕ) (sessions : List Serving) (a : Turn L G) (n : ℕ)
+      → EndsNothing silence a.now sessions a.host.now n → TurnDoes a a (over_slots release_at n a.host.now) false
+  releases_nothing silence sessions a zero none = idle_turn a (no_effect_on a.host.now) (refl, refl)
+  releases_nothing silence sessions a (suc n) none =
+      then_does a a a (over_slots release_at n a.host.now) (λ (now : ℕ). release_at n) false false false
+      (releases_nothing silence sessions a n none.0) (idle_turn a (release_at n a.host.now) none.1.1) refl
+
+  -- the ticks alone are the last phases
+  pub ticks_alone : (silence : Option ℕ) (sessions : List Serving) (a b : Turn L G) (sent : Bool)
+      → EndsNothing silence a.now sessions a.host.now (length a.host.now.slots)
+      → TurnDoes a b (over_slots (tick_at a.now) (length a.host.now.slots) a.host.now) sent
+      → TurnDoes a b (end_phases silence sessions a.now a.host.now) sent
+  ticks_alone silence sessions a b sent none ticked =
+      let slots = length a.host.now.slots in
+      let first = over_slots (close_at silence a.now sessions) slots a.host.now in
+      then_all_slots a a b (and_then first (over_slots release_at slots)) tick_at false sent sent
+      (then_all_slots a a a first (λ (now : ℕ). release_at) false false false
+      (closes_nothing silence sessions a slots none) (releases_nothing silence sessions a slots none) refl)
+      ticked (sym (or_false sent))

@@ -1,5 +1,5 @@
 -- What a server's turn does in one slot, beside serving it.
-use Rattle.std.specs.Prelude.{zero, suc, ℕ, ◌-◌, nat_le, Bool, false, ◌&&◌, ◌||◌, if◌then◌else◌, List, [], length, Option, Some, None, slice_set}
+use Rattle.std.specs.Prelude.{◌≡◌, zero, suc, ℕ, ◌-◌, nat_le, Bool, false, ◌&&◌, ◌||◌, if◌then◌else◌, List, [], length, Option, Some, None, slice_set}
 use Rattle.chaos_conn.specs.Act.{Close}
 use Rattle.chaos_conn.specs.Calls.{is_drained, keeps_opn}
 use Rattle.chaos_conn.specs.View.{ConnView}
@@ -7,6 +7,7 @@ use Rattle.chaos_host.specs.declared.slot.Slot.{Slot}
 use Rattle.chaos_host.specs.Slot.{named_slot}
 use Rattle.chaos_host.specs.Calls.{host_end, host_release}
 use Rattle.chaos_host.specs.View.{HostView, id_at}
+use Rattle.chaos_turn.specs.Link.{has_packets}
 use Rattle.chaos_turn.specs.Phase.{Effect, no_effect_on, effect_of, and_then, over_slots}
 use Rattle.chaos_turn.specs.Slots.{tick_at}
 use Rattle.file_server.specs.Sessions.{Serving, serving_at, without_files}
@@ -43,6 +44,21 @@ release_by h (Some id) = effect_of (host_release h id)
 
 abbrev pub release_at : ℕ → HostView → Effect
 release_at place h = release_by h (id_at h place)
+
+-- A phase leaves this host as it is, and sends nothing.
+abbrev pub IsIdle : Effect → HostView → Type 0
+IsIdle effect h = (effect.host ≡ h) × (has_packets effect.lots ≡ false)
+
+-- No connection in this slot is to be closed or released.
+abbrev pub EndsNothingAt : Option ℕ → ℕ → List Serving → HostView → ℕ → Type 0
+EndsNothingAt silence now sessions h place =
+    IsIdle (close_at silence now sessions place h) h × IsIdle (release_at place h) h
+
+-- So it is in each of the first so many slots.
+abbrev pub EndsNothing : Option ℕ → ℕ → List Serving → HostView → ℕ → Type 0
+EndsNothing silence now sessions h zero = Unit {0}
+EndsNothing silence now sessions h (suc n) =
+    EndsNothing silence now sessions h n × EndsNothingAt silence now sessions h n
 
 -- the files of a slot without a connection are given back
 abbrev pub given_back_at : Option ℕ → ℕ → List Serving → List Serving

@@ -1,13 +1,14 @@
 //! The ends of connections: those that were served to their EOF, and those whose peer acknowledges
 //! nothing, are closed; those that ended are released. Each function of a turn answers whether
 //! packets went out.
-ghost use Rattle.std.specs.Prelude.{◌≡◌, ◌<◌, length};
+ghost use Rattle.std.specs.Prelude.{◌≡◌, ◌<◌, false, length};
 ghost use Rattle.chaos_turn.specs.InTurn.{TurnDoes};
 ghost use Rattle.chaos_turn.specs.Phase.{over_slots};
-ghost use Rattle.file_server.specs.Slots.{close_at, end_phases, is_late, is_over, release_at};
+ghost use Rattle.file_server.specs.Slots.{EndsNothing, EndsNothingAt, close_at, end_phases, is_late, is_over, release_at};
 
 use crate::sessions::Sessions;
 use chaos_conn::Conn;
+use chaos_host::Host;
 use chaos_link::Link;
 use chaos_turn::{Turn, any_of, send_all};
 
@@ -22,10 +23,41 @@ pub(crate) fn end_slots<L: Link>(
     ensures { TurnDoes turn.old turn.new
         (end_phases silence sessions.now turn.old.now turn.old.host.now) result }
 {
+    // Most turns: one look at each slot shows that nothing ends.
+    if !may_any_end(turn.host, sessions, silence, turn.now) {
+        return turn.tick_slots();
+    }
     let closed = close_slots(turn, sessions, silence);
     let released = release_slots(turn);
     let ticked = turn.tick_slots();
     any_of(ticked, released, closed)
+}
+
+/// Whether any connection may have to be closed or released.
+fn may_any_end(host: &Host, sessions: &Sessions, silence: Option<u64>, now: u64) -> bool
+    requires { length sessions.now ≡ length host.now.slots }
+    ensures { result ≡ false
+        → EndsNothing silence now sessions.now host.now (length host.now.slots) }
+{
+    for place in 0..host.conns() {
+        if may_end(host, sessions, place, silence, now) {
+            return true;
+        }
+    }
+    false
+}
+
+/// Whether the connection in a slot may have to be closed or released: its EOF was served, or it is
+/// late and its peer has acknowledged nothing, or it has ended.
+fn may_end(host: &Host, sessions: &Sessions, place: usize, silence: Option<u64>, now: u64) -> bool
+    requires { place < length sessions.now }
+    ensures { result ≡ false → EndsNothingAt silence now sessions.now host.now place }
+{
+    let Some((_, conn)) = host.conn_at(place) else {
+        return false;
+    };
+    let is_late = conn.keeps_opn() && is_late(silence, sessions.since(place), now);
+    sessions.eof(place) || is_late || conn.state().is_ended()
 }
 
 /// Closes each connection that is over, in the slots' rising order.

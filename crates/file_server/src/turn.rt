@@ -48,8 +48,8 @@ use std::alloc::Global;
 /// the turn ends by `Worked` where a datagram came or a packet was sent, and by `Idle` where not.
 ///
 /// The sessions are as many as the host's slots, and the outbox has room for [`TURN_ROOM`] packets
-/// at least. A turn walks over the slots five times, and an RFC once more. No memory is taken but
-/// by [`chaos_file::Session::apply`].
+/// at least. A turn walks over the slots four times, twice more where a connection may end, and an
+/// RFC once more. No memory is taken but by [`chaos_file::Session::apply`].
 pub fn run_turn<S: Store, L: Link>(
     alloc: Global,
     host: &mut Host,

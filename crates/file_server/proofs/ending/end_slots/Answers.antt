@@ -3,6 +3,7 @@ use Rattle.chaos_turn.specs.Phase.{and_then, over_slots}
 use Rattle.chaos_turn.specs.Slots.{tick_at}
 use Rattle.chaos_turn.proofs.InTurn.{then_all_slots}
 use Rattle.file_server.specs.Slots.{close_at, release_at}
+use Rattle.file_server.proofs.Idle.{ticks_alone}
 use Rattle.file_server.proofs.ending.end_slots.Goals as goal
 
 pub returns : goal.returns
@@ -18,3 +19,9 @@ returns g c =
     (then_all_slots turn closed.new.turn released.new.turn first (λ (now : ℕ). release_at) closed.result released.result
     (if released.result then true else closed.result) closed.ensures released.ensures refl)
     ticked.ensures c.any_of.ensures
+
+pub returns-then-not-may_any_end : goal.returns-then-not-may_any_end
+returns-then-not-may_any_end g c =
+    let turn = c.args.turn.now in
+    ticks_alone c.args.silence c.args.sessions.now turn c.tick_slots.new.self c.tick_slots.result
+    (c.may_any_end.ensures c.if-not-may_any_end.true) c.tick_slots.ensures
