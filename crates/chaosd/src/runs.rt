@@ -4,14 +4,13 @@ ghost use Rattle.chaosd.specs.Framed.{format_by, view_by};
 
 use crate::run_ends::tell_end;
 use chaosd_copies::ExitStatus;
-use chaosd_filelab::run_filelab;
-use chaosd_io::{RunFault, without_return};
-use chaosd_lab::run_lab;
+use chaosd_filelab::run_filelab_by;
+use chaosd_io::RunFault;
+use chaosd_lab::run_lab_by;
 use chaosd_line::Show;
+use chaosd_script::BadLine;
 use chaosd_show::{Format, View, run_show_by};
-use chaosd_told::{Kept, Laboratory, why_bad};
 use std::io;
-use std::io::Read;
 
 /// The form of the datagrams that are reported.
 fn format_of(show: Show) -> Format
@@ -52,38 +51,39 @@ pub(crate) fn run_show_line<R: Input + Print + Eprint>(rt: &R, show: Show) -> Ex
 
 /// Reports how a run over a laboratory's script ended: as [`tell_end`] does, and what is wrong with
 /// a bad line.
-fn tell_lab<R: Eprint, I: Read, T>(
-    rt: &R,
-    end: &Result<T, RunFault>,
-    reader: &Kept<'_, I>,
-    laboratory: Laboratory,
-) {
-    if let Err(fault @ RunFault::BadScript(number)) = end {
-        if let Some(line) = reader.line(*number) {
-            let why = why_bad(without_return(line), *number, laboratory);
-            let _ = eprintln!(rt; "{fault}: {why}");
-            return;
+fn tell_lab<R: Eprint, T>(rt: &R, end: &Result<T, RunFault>, wrong: Option<BadLine>) {
+    match (end, wrong) {
+        (Err(fault @ RunFault::BadScript(_)), Some(wrong)) => {
+            let _ = eprintln!(rt; "{fault}: {wrong}");
         }
+        _ => tell_end(rt, end),
     }
-    tell_end(rt, end);
 }
 
 /// Runs `lab` from standard input to standard output.
 #[inline(never)]
 pub(crate) fn run_lab_line<R: AllocGlobal + Input + Print + Eprint>(rt: &R) -> ExitStatus {
-    let mut input = rt.reader();
-    let mut reader = Kept::new(rt.alloc(), &mut input);
-    let end = run_lab(rt.alloc(), &mut reader, &mut io::writer(rt));
-    tell_lab(rt, &end, &reader, Laboratory::Ends);
+    let mut wrong = None;
+    let end = run_lab_by(
+        rt.alloc(),
+        &mut rt.reader(),
+        &mut io::writer(rt),
+        &mut wrong,
+    );
+    tell_lab(rt, &end, wrong);
     ExitStatus::of_run(end.map(|refused| refused == 0))
 }
 
 /// Runs `filelab` from standard input to standard output.
 #[inline(never)]
 pub(crate) fn run_filelab_line<R: AllocGlobal + Input + Print + Eprint>(rt: &R) -> ExitStatus {
-    let mut input = rt.reader();
-    let mut reader = Kept::new(rt.alloc(), &mut input);
-    let end = run_filelab(rt.alloc(), &mut reader, &mut io::writer(rt));
-    tell_lab(rt, &end, &reader, Laboratory::Files);
+    let mut wrong = None;
+    let end = run_filelab_by(
+        rt.alloc(),
+        &mut rt.reader(),
+        &mut io::writer(rt),
+        &mut wrong,
+    );
+    tell_lab(rt, &end, wrong);
     ExitStatus::of_run(end.map(|refused| refused == 0))
 }

@@ -3,8 +3,8 @@ ghost use Rattle.std.specs.Prelude.{◌≡◌, ◌≤◌, ◌+◌, length, IfOk}
 ghost use Rattle.std.specs.Counts.{IsPrefixLen};
 
 use crate::terminals::Terminals;
-use chaosd_file::Ready;
-use chaosd_io::why_text;
+use chaosd_file::{Ready, read_command};
+use chaosd_io::Data;
 use chaosd_told::Notes;
 use std::fs::File;
 use std::io;
@@ -60,10 +60,9 @@ fn line_length(bytes: &[u8]) -> usize
     bytes.len()
 }
 
-/// A line without what ends it.
+/// A line without the newline that ends it.
 fn bare(line: &[u8]) -> &[u8] {
-    let line = line.strip_suffix(b"\n".as_slice()).unwrap_or(line);
-    line.strip_suffix(b"\r".as_slice()).unwrap_or(line)
+    line.strip_suffix(b"\n".as_slice()).unwrap_or(line)
 }
 
 impl<'a, R: Eprint, I: Read> Typed<'a, R, I> {
@@ -111,12 +110,12 @@ impl<'a, R: Eprint, I: Read> Typed<'a, R, I> {
             return false;
         }
         let line = &self.chunk[self.given..self.given + length];
-        match why_text(bare(line), 0) {
-            Some(why) => {
-                let _ = eprintln!(self.rt; "chaosd: not sent: {why}");
+        match read_command(bare(line), &mut Data::new()) {
+            Ok(()) => false,
+            Err(wrong) => {
+                let _ = eprintln!(self.rt; "chaosd: not sent: {wrong}");
                 true
             }
-            None => false,
         }
     }
 

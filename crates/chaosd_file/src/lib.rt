@@ -17,6 +17,7 @@ mod script;
 mod why;
 
 pub use ask_run::{run_ask, run_ask_by};
+pub use command::read_command;
 pub use end::ScriptEnd;
 pub use limits::{LOOP_CLIENT, LOOP_SERVER, NOBODY, law_limits};
 pub use loop_run::run_loop;

@@ -1,8 +1,9 @@
 //! The run over a script.
-ghost use Rattle.std.specs.Prelude.{◌≡◌, ◌<◌, ◌≤◌, ◌⊎◌, Err, IfErr, None, OnOk};
+ghost use Rattle.std.specs.Prelude.{◌≡◌, ◌<◌, ◌≤◌, ◌⊎◌, ℕ, Err, IfErr, None, Some, OnOk};
 ghost use Rattle.chaosd_io.specs.Buffer.{written_of};
 ghost use Rattle.chaosd_io.specs.declared.limits.TheConstants.{INPUT_LIMIT};
 ghost use Rattle.chaosd_file.specs.Asking.{AsksLine, Idles};
+ghost use Rattle.chaosd_file.specs.Command.{wrong_command};
 ghost use Rattle.chaosd_file.specs.Conversation.{Asks, Converses, IfAsked, is_broken};
 ghost use Rattle.chaosd_file.specs.Script.{Runs};
 ghost use Rattle.file_client.specs.Fault.{IsTurnFault};
@@ -12,7 +13,7 @@ use crate::command::{Places, read_command};
 use crate::end::ScriptEnd;
 use crate::ready::Ready;
 use crate::replies::{hand_on, print_none, print_reply};
-use crate::why::{Why, bad_line};
+use crate::why::Why;
 use chaosd_io::{Data, INPUT_LIMIT, KEPT_LEN, LineReader, RunFault, WriteBuffer};
 use file_client::{Client, Turns};
 use std::io::{Read, Write};
@@ -191,6 +192,8 @@ fn ask_line<T: Turns, W: Write>(
     writer: &mut W,
 ) -> Result<bool, RunFault>
     requires few { replied ≤ INPUT_LIMIT }
+    ensures wrong { (number : ℕ) → result ≡ Err (RunFault.BadScript number) →
+        places.new.why ≡ Some (Why.BadLine (wrong_command line.now)) }
     ensures asks { AsksLine (T.pace (T.time turns.old))
         (talker client.old.caller (T.queue turns.old))
         (talker client.new.caller (T.queue turns.new)) replied line.now
@@ -201,10 +204,13 @@ fn ask_line<T: Turns, W: Write>(
     ensures failed { result ≡ Err RunFault.LinkFault → 0 < T.failures turns.new }
     ensures well { OnOk result (T.failures turns.new ≤ T.failures turns.old) }
 {
-    let Some(()) = read_command(line, &mut places.command) else {
-        places.why = bad_line(line);
-        return Err(RunFault::BadScript(replied + 1));
-    };
+    match read_command(line, &mut places.command) {
+        Ok(()) => {}
+        Err(wrong) => {
+            places.why = Some(Why::BadLine(wrong));
+            return Err(RunFault::BadScript(replied + 1));
+        }
+    }
     if !client.ask(turns, places.command.as_slice(), &mut places.reply)? {
         places.why = Some(Why::NoReply(client.no_reply()));
         print_none(out, writer)?;

@@ -4,4 +4,5 @@ pub mod Start
 pub mod Answers
 pub mod Happen
 pub mod Settle
+pub mod Wrong
 pub mod Play

@@ -9,6 +9,8 @@ use Rattle.chaosd_filelab.specs.Event.{file_line_of}
 use Rattle.chaosd_filelab.specs.Happen.{event_done, WantsEvent}
 use Rattle.chaosd_filelab.specs.Settle.{settle_done, WantsSettling}
 use Rattle.chaosd_filelab.specs.Start.{first_of}
+use Rattle.chaosd_filelab.specs.Wrong.{file_wrong_of}
+use Rattle.chaosd_lab.specs.Wrong.{wrong_first}
 use Rattle.chaosd_lab.specs.Settle.{settle_word}
 
 -- what is printed of the laboratory's first copy, and at the end
@@ -36,6 +38,8 @@ filelab_script = record {
   first = first_of;
   begun = begun_text;
   event = line_done;
+  first_wrong = wrong_first;
+  wrong = file_wrong_of;
   ended = end_text;
   ready = λ l. wrote_mem l ≡ false;
   wants = λ l line after text. WantsBy (bytes_eq line settle_word) line l after text;

@@ -13,4 +13,4 @@ mod run;
 mod settle;
 mod stage;
 
-pub use run::run_filelab;
+pub use run::{run_filelab, run_filelab_by};

@@ -3,13 +3,13 @@ ghost use Rattle.std.specs.Prelude.{◌≡◌, ◌≢◌, ◌<◌, ◌≤◌, �
 ghost use Rattle.std.specs.Io.KnownBytes.{Appends, IsAtEnd};
 ghost use Rattle.chaosd_io.specs.Lines.{lines_of, ended_lines, IsMet};
 ghost use Rattle.chaos_filelab.specs.View.{FileLabView};
-ghost use Rattle.chaosd_script.specs.Script.{Played, play_of, text_of, IsFirstBad, NoneBad};
-ghost use Rattle.chaosd_script.specs.Player.{PlaysRead, Wants};
+ghost use Rattle.chaosd_script.specs.Script.{Played, play_of, text_of, wrong_line, IsFirstBad, NoneBad};
+ghost use Rattle.chaosd_script.specs.Player.{PlaysAll, PlaysFront, PlaysRead, StopsAt, Wants};
 ghost use Rattle.chaosd_filelab.specs.Play.{filelab_script, end_text};
 
 use crate::stage::FileStage;
 use chaosd_io::{INPUT_LIMIT, RunFault};
-use chaosd_script::run_script;
+use chaosd_script::{BadLine, run_script_by};
 use std::alloc::Global;
 use std::io::{Read, Write};
 
@@ -83,5 +83,49 @@ pub fn run_filelab<R: Read, W: Write>(
         IfSome (R.remaining reader.old)
         (Wants filelab_script (W.contents writer.old) (W.contents writer.new)) }
 {
-    run_script::<FileStage, R, W>(alloc, reader, writer)
+    run_filelab_by(alloc, reader, writer, &mut None)
+}
+
+/// Plays a script as [`run_filelab`] does. `wrong` gets what is wrong with a bad line.
+///
+/// # Errors
+/// As those of [`run_filelab`].
+pub fn run_filelab_by<R: Read, W: Write>(
+    alloc: Global,
+    reader: &mut R,
+    writer: &mut W,
+    wrong: &mut Option<BadLine>,
+) -> Result<u64, RunFault>
+    // If the run ends well, all lines were played, their text was written, and the result counts
+    // the events that were refused.
+    ensures text { IfOk result
+        (λ refused. IfSome (R.remaining reader.old)
+        (PlaysAll filelab_script (W.contents writer.old) (W.contents writer.new) refused)) }
+    // The run ends well only at the input's end, and never where more than 1,048,576 bytes came.
+    ensures ended { OnOk result (IsAtEnd (R.remaining reader.new)) }
+    ensures within { OnOk result
+        (IfSome (R.remaining reader.old) (λ input. length input ≤ INPUT_LIMIT)) }
+
+    // The number of a bad line is that of the first line that is missing or of no form. The text of
+    // the lines before it was written.
+    ensures bad { (number : ℕ) → result ≡ Err (RunFault.BadScript number) →
+        IfSome (R.remaining reader.old)
+        (StopsAt filelab_script (W.contents writer.old) (W.contents writer.new) number) }
+    // What is wrong with that line is reported, as the language says it.
+    ensures wrong { (number : ℕ) → result ≡ Err (RunFault.BadScript number) →
+        IfSome (R.remaining reader.old)
+        (λ input. wrong.new ≡ Some (wrong_line filelab_script number (lines_of input))) }
+
+    // What was played before another fault is as in `run_filelab`.
+    ensures too_long { result ≡ Err RunFault.InputTooLong →
+        IfSome (R.remaining reader.old)
+        (PlaysFront filelab_script (W.contents writer.old) (W.contents writer.new)) }
+    ensures unread { result ≡ Err RunFault.ReadFault →
+        PlaysRead filelab_script (R.remaining reader.old) (R.remaining reader.new)
+        (W.contents writer.old) (W.contents writer.new) }
+    ensures no_memory { result ≡ Err RunFault.NoMemory →
+        IfSome (R.remaining reader.old)
+        (Wants filelab_script (W.contents writer.old) (W.contents writer.new)) }
+{
+    run_script_by::<FileStage, R, W>(alloc, reader, writer, wrong)
 }

@@ -8,6 +8,8 @@ ghost use Rattle.chaosd_lab.specs.Answers.{copies_text};
 ghost use Rattle.chaosd_script.specs.Player.{IsLineFault};
 ghost use Rattle.chaosd_filelab.specs.Event.{file_line_of};
 ghost use Rattle.chaosd_filelab.specs.Happen.{PlaysFileEvent, WantsEvent};
+ghost use Rattle.chaosd_filelab.specs.Wrong.{file_wrong_of};
+ghost use Rattle.chaosd_lab.specs.Wrong.{wrong_first};
 ghost use Rattle.chaosd_filelab.specs.Start.{file_start, first_of};
 ghost use Rattle.chaosd_filelab.specs.Play.{filelab_script, end_text};
 
@@ -17,8 +19,8 @@ use crate::settle::settle;
 use chaos_filelab::{FileEvent, FileLab, FileStepped};
 use chaos_lab::{LabFault, Side};
 use chaosd_io::{Data, NotWritten, RunFault, WriteBuffer, written};
-use chaosd_lab::{Start, is_refused, put_copies, put_stored, start_of};
-use chaosd_script::Stage;
+use chaosd_lab::{Start, is_refused, put_copies, put_stored, start_of, wrong_first};
+use chaosd_script::{LineReport, Stage};
 use std::alloc::Global;
 use std::io::Write;
 use std::marker::Model;
@@ -50,9 +52,9 @@ impl Stage for FileStage {
         alloc: Global,
         out: &mut WriteBuffer,
         line: &[u8],
-        number: u64,
+        report: &mut LineReport,
     ) -> Result<Self, RunFault> {
-        begin(alloc, out, line, number)
+        begin(alloc, out, line, report)
     }
 
     fn play<W: Write>(
@@ -61,12 +63,12 @@ impl Stage for FileStage {
         out: &mut WriteBuffer,
         writer: &mut W,
         line: &[u8],
-        number: u64,
+        report: &mut LineReport,
     ) -> Result<bool, RunFault> {
         if line == b"settle".as_slice() {
             return settle(alloc, &mut self.lab, out, writer);
         }
-        play(alloc, &mut self.lab, &mut self.body, out, line, number)
+        play(alloc, &mut self.lab, &mut self.body, out, line, report)
     }
 
     fn end(&self, out: &mut WriteBuffer) -> Result<(), NotWritten> {
@@ -77,26 +79,29 @@ impl Stage for FileStage {
 /// The laboratory of a first line, and the line of its first copy.
 ///
 /// # Errors
-/// `BadScript` with this number where the line is of no form, `NoMemory`, and `WriteFault` where
+/// `BadScript` with the line's number where the line is of no form, `NoMemory`, and `WriteFault` where
 /// the text doesn't fit.
 #[inline(never)]
 fn begin(
     alloc: Global,
     out: &mut WriteBuffer,
     line: &[u8],
-    number: u64,
+    report: &mut LineReport,
 ) -> Result<FileStage, RunFault>
     ensures begun { IfOk result
         (λ stage. (first_of line.now ≡ Some stage)
         × (out.new ≡ out.old ++ copies_text 0 stage.lab.copies) × (wrote_mem stage ≡ false)) }
     ensures bad { (n : ℕ) → result ≡ Err (RunFault.BadScript n) →
-        (n ≡ number) × (first_of line.now ≡ None) × (out.new ≡ out.old) }
+        (n ≡ report.old.number) × (first_of line.now ≡ None) × (out.new ≡ out.old) }
+    ensures wrong { (n : ℕ) → result ≡ Err (RunFault.BadScript n) →
+        report.new.wrong ≡ Some (wrong_first line.now) }
     ensures no_memory { result ≡ Err RunFault.NoMemory →
         (first_of line.now ≢ None) × (out.new ≡ out.old) }
     ensures faults { IfErr result (λ fault. IsLineFault fault) }
 {
     let Some(start) = start_of(line) else {
-        return Err(RunFault::BadScript(number));
+        report.wrong = Some(wrong_first(line));
+        return Err(RunFault::BadScript(report.number));
     };
     let stage = stage_of(alloc, start)?;
     // not by `?`: a path that drops the stage here takes long to prove
@@ -123,7 +128,7 @@ fn stage_of(alloc: Global, start: Start) -> Result<FileStage, RunFault>
 /// Lets the event of a line happen, writes what came of it, and says whether it was refused.
 ///
 /// # Errors
-/// `BadScript` with this number where the line asks for no event, `NoMemory`, and `WriteFault`
+/// `BadScript` with the line's number where the line asks for no event, `NoMemory`, and `WriteFault`
 /// where the text doesn't fit. Out of memory for the histories is written too; of an out-of-memory
 /// reply nothing is.
 fn play(
@@ -132,14 +137,16 @@ fn play(
     body: &mut Data,
     out: &mut WriteBuffer,
     line: &[u8],
-    number: u64,
+    report: &mut LineReport,
 ) -> Result<bool, RunFault>
     ensures played { IfOk result
         (λ refused. (event : FileHappening) × (file_line_of line.now ≡ Some event)
         × PlaysFileEvent event lab.old lab.new out.old out.new refused
         × (wrote_mem lab.new ≡ false)) }
     ensures bad { (n : ℕ) → result ≡ Err (RunFault.BadScript n) →
-        (n ≡ number) × (file_line_of line.now ≡ None) × (out.new ≡ out.old) }
+        (n ≡ report.old.number) × (file_line_of line.now ≡ None) × (out.new ≡ out.old) }
+    ensures wrong { (n : ℕ) → result ≡ Err (RunFault.BadScript n) →
+        report.new.wrong ≡ Some (file_wrong_of line.now) }
     ensures no_memory { result ≡ Err RunFault.NoMemory →
         (event : FileHappening) × (file_line_of line.now ≡ Some event)
         × (wrote_mem lab.old ≡ false →
@@ -147,8 +154,12 @@ fn play(
         × (out.new ≡ out.old ++ text)) }
     ensures faults { IfErr result (λ fault. IsLineFault fault) }
 {
-    let Some(command) = file_line_of(line, body) else {
-        return Err(RunFault::BadScript(number));
+    let command = match file_line_of(line, body) {
+        Ok(command) => command,
+        Err(wrong) => {
+            report.wrong = Some(wrong);
+            return Err(RunFault::BadScript(report.number));
+        }
     };
     match command {
         FileCommand::At(command) => {

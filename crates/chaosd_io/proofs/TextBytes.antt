@@ -1,6 +1,6 @@
 -- The bytes of a text from a place on.
 use Rattle.std.proofs.Common.{◌≡◌, ℕ, ◌+◌, ◌<◌, ◌≤◌, Bool, true, false, cond, eqb, ltb, take-append-drop, length-append, length-drop, List, [], ◌∷◌, ◌++◌, drop, take, take_all, ◌-◌, append_assoc, append-nil, length, refl, arith, ap, ◌∙◌, sym}
-use Rattle.std.specs.Prelude.{Option, Some, None, ◌==◌, ◌&&◌, not}
+use Rattle.std.specs.Prelude.{Option, Some, None, is_some, ◌==◌, ◌&&◌, not}
 use Rattle.std.specs.List.{flat_map, list_all}
 use Rattle.chaosd_io.proofs.ReadBack as back
 use Rattle.chaosd_io.proofs.ReadBack.{not_escape, plain_back}
@@ -180,3 +180,41 @@ byte_end text front i le few so_far =
     within front few
     ∙ ap within_packet
     (ap Some (sym (append-nil front)) ∙ ap (with_front front) (sym (text_end text i le)) ∙ so_far)
+
+-- ---- whether a text stands for bytes
+
+some_byte : (b : ℕ) (others : Option (List ℕ)) → is_some (with_byte (Some b) others) ≡ is_some others
+some_byte b None = refl
+some_byte b (Some bytes) = refl
+
+first_stands : (text : List ℕ) (b n : ℕ) → 0 < length text → first_byte text ≡ Some (b, n)
+    → is_some (bytes_of (drop n text)) ≡ is_some (bytes_of text)
+first_stands text b n some is =
+    sym (some_byte b (bytes_of (drop n text)))
+    ∙ ap is_some (sym (bytes_first text some ∙ ap (λ first. with_first first text) is))
+
+-- it does where the rest does
+pub rest_stands : (text : List ℕ) (i b n : ℕ) → i < length text
+    → first_byte (take (length text - i) (drop i text)) ≡ Some (b, n)
+    → is_some (bytes_of (drop i text)) ≡ is_some (bytes_of text)
+    → is_some (bytes_of (drop (i + n) text)) ≡ is_some (bytes_of text)
+rest_stands text i b n more is so_far =
+    ap (λ l. is_some (bytes_of l)) (sym (rest_of text i n))
+    ∙ first_stands (drop i text) b n (omega (arith, length-drop i text)) (ap first_byte (sym (rest_whole text i)) ∙ is)
+    ∙ so_far
+
+-- and not where the rest's first byte is none
+pub none_stands : (text : List ℕ) (i : ℕ) → i < length text → first_byte (take (length text - i) (drop i text)) ≡ None
+    → is_some (bytes_of (drop i text)) ≡ is_some (bytes_of text) → false ≡ is_some (bytes_of text)
+none_stands text i more is so_far =
+    let some : 0 < length (drop i text) = omega (arith, length-drop i text) in
+    sym
+    (ap is_some
+    (bytes_first (drop i text) some
+    ∙ ap (λ first. with_first first (drop i text)) (ap first_byte (sym (rest_whole text i)) ∙ is)))
+    ∙ so_far
+
+-- nothing stands for nothing
+pub end_stands : (text : List ℕ) (i : ℕ) → length text ≤ i
+    → is_some (bytes_of (drop i text)) ≡ is_some (bytes_of text) → true ≡ is_some (bytes_of text)
+end_stands text i le so_far = sym (ap is_some (text_end text i le)) ∙ so_far

@@ -1,5 +1,6 @@
 pub mod Buffer
 pub mod Escapes
+pub mod BadText
 pub mod Input
 pub mod Texts
 pub mod Lines

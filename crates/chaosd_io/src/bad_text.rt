@@ -1,6 +1,10 @@
 //! Why a text of a script stands for no bytes.
+ghost use Rattle.std.specs.Prelude.{◌≡◌, ◌-◌, ◌<◌, length, position, is_some, IfSome};
+ghost use Rattle.chaosd_io.specs.Escapes.{bytes_of};
+ghost use Rattle.chaosd_io.specs.BadText.{why_text, is_unprinting};
+
+use crate::escapes::first_byte;
 use crate::limits::LINE_LIMIT;
-use chaos_packet::MAX_DATA;
 use thiserror::Error;
 
 /// Why a text stands for no bytes of a packet.
@@ -17,39 +21,54 @@ pub enum BadText {
     TooMany,
 }
 
-/// How many bytes a text stands for, where two digits stand behind each `\`.
-fn count_of(text: &[u8]) -> Option<usize> {
-    let mut wanted = 0u8;
-    let mut count: usize = 0;
-    for byte in text {
-        wanted = match (*byte, wanted) {
-            (b'\\', 0) => 2,
-            (_, 0) => 0,
-            (b'0'..=b'9' | b'a'..=b'f', more) => more.saturating_sub(1),
-            _ => return None,
-        };
-        if wanted == 0 {
-            count = count.saturating_add(1);
-        }
-    }
-    if wanted == 0 { Some(count) } else { None }
+/// Whether a byte is no printable character of ASCII.
+fn is_unprinting(b: u8) -> bool
+    ensures { result ≡ is_unprinting b }
+{
+    b < b' ' || b > b'~'
 }
 
-/// Why a text, which stands behind so many bytes of its line, stands for no bytes of a packet,
-/// where it doesn't. The cost is a walk over it.
-pub fn why_text(text: &[u8], front: usize) -> Option<BadText> {
+/// Where the first byte stands that isn't printable.
+fn first_unprinting(text: &[u8]) -> Option<usize>
+    ensures value { result ≡ position is_unprinting text.now }
+    ensures within { IfSome result (λ at. at < length text.now) }
+{
+    text.iter().position(|b| is_unprinting(*b))
+}
+
+/// Whether a text stands for bytes, however many.
+fn stands_for_bytes(text: &[u8]) -> bool
+    ensures { result ≡ is_some (bytes_of text.now) }
+{
+    let mut i = 0;
+    while i < text.len() {
+        let Some((_, count)) = first_byte(&text[i..]) else {
+            return false;
+        };
+        i += count;
+    }
+    true
+}
+
+/// What is wrong with a text that stands for no bytes of a packet, of which [`crate::read_data`]
+/// answers none. The text ends its line, in which places are counted. The cost is a walk over the
+/// text.
+#[tactic(auto, unfolding(crate::specs::BadText::why_text))]
+pub fn why_text(line: &[u8], text: &[u8]) -> BadText
+    // A text of more than 4,096 bytes is too long. Of another one the first byte is reported that
+    // is no printable character. Of a printable text a `\` lacks its digits exactly where the text
+    // stands for nothing; otherwise the text stands for too many bytes.
+    ensures { result ≡ why_text (length line.now - length text.now) text.now }
+{
     if text.len() > LINE_LIMIT {
-        return Some(BadText::TooLong);
+        return BadText::TooLong;
     }
-    for (place, byte) in text.iter().enumerate() {
-        if *byte < b' ' || *byte > b'~' {
-            let place = place.saturating_add(1).saturating_add(front);
-            return Some(BadText::NotPrinting(place));
-        }
+    if let Some(place) = first_unprinting(text) {
+        return BadText::NotPrinting(line.len().saturating_sub(text.len()) + place + 1);
     }
-    match count_of(text) {
-        None => Some(BadText::NoDigits),
-        Some(count) if count > MAX_DATA => Some(BadText::TooMany),
-        Some(_) => None,
+    if stands_for_bytes(text) {
+        BadText::TooMany
+    } else {
+        BadText::NoDigits
     }
 }

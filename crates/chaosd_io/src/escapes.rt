@@ -46,7 +46,7 @@ fn escaped_byte(high: u8, low: u8) -> Option<u8>
 }
 
 /// The first byte that a text stands for, and how many of its own bytes stand for it.
-fn first_byte(text: &[u8]) -> Option<(u8, usize)>
+pub(crate) fn first_byte(text: &[u8]) -> Option<(u8, usize)>
     requires { 0 < length text.now }
     ensures value { result ≡ first_byte text.now }
     ensures within { IfSome result (λ p. (0 < p.1) × (p.1 ≤ length text.now)) }

@@ -8,4 +8,5 @@ pub mod Answers
 pub mod Happen
 pub mod Typed
 pub mod Settle
+pub mod Wrong
 pub mod Play

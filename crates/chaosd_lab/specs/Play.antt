@@ -11,6 +11,7 @@ use Rattle.chaosd_lab.specs.Event.{event_of}
 use Rattle.chaosd_lab.specs.Happen.{event_done}
 use Rattle.chaosd_lab.specs.Settle.{settle_word, settle_done, WantsSettling}
 use Rattle.chaosd_lab.specs.Start.{first_of}
+use Rattle.chaosd_lab.specs.Wrong.{wrong_first, wrong_of}
 use Rattle.chaosd_script.specs.Script.{Done, Script}
 use Rattle.chaos_conn.specs.Stored.{stored_packets}
 
@@ -37,6 +38,8 @@ lab_script = record {
   first = first_of;
   begun = begun_text;
   event = line_done;
+  first_wrong = wrong_first;
+  wrong = wrong_of;
   ended = end_text;
   ready = λ l. ⊤;
   wants = λ l line after text. WantsBy (bytes_eq line settle_word) l after text;

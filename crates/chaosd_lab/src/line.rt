@@ -10,16 +10,17 @@ ghost use Rattle.std.specs.Str.{bytes_eq};
 ghost use Rattle.chaosd_lab.specs.Settle.{settle_word};
 ghost use Rattle.chaosd_lab.specs.Start.{first_of, start_said};
 ghost use Rattle.chaosd_lab.specs.Happen.{PlaysEvent};
+ghost use Rattle.chaosd_lab.specs.Wrong.{wrong_first, wrong_of};
 ghost use Rattle.chaosd_lab.specs.Play.{lab_script, end_text, refused_or_ended};
 ghost use Rattle.chaosd_script.specs.Player.{IsLineFault};
 
 use crate::answers::{put_answer, put_copies, put_stored};
-use crate::parse::event_of;
+use crate::parse::{event_of, wrong_first};
 use crate::settle::settle;
 use crate::start::{Start, start_of};
 use chaos_lab::{Event, Lab, LabFault, Side};
 use chaosd_io::{Data, NotWritten, RunFault, WriteBuffer, written};
-use chaosd_script::Stage;
+use chaosd_script::{LineReport, Stage};
 use std::alloc::Global;
 use std::io::Write;
 use std::marker::Model;
@@ -47,9 +48,9 @@ impl Stage for LabStage {
         alloc: Global,
         out: &mut WriteBuffer,
         line: &[u8],
-        number: u64,
+        report: &mut LineReport,
     ) -> Result<Self, RunFault> {
-        begin(alloc, out, line, number)
+        begin(alloc, out, line, report)
     }
 
     fn play<W: Write>(
@@ -58,12 +59,12 @@ impl Stage for LabStage {
         out: &mut WriteBuffer,
         writer: &mut W,
         line: &[u8],
-        number: u64,
+        report: &mut LineReport,
     ) -> Result<bool, RunFault> {
         if is_settle(line) {
             return settle(alloc, &mut self.lab, out, writer);
         }
-        play(alloc, &mut self.lab, &mut self.body, out, line, number)
+        play(alloc, &mut self.lab, &mut self.body, out, line, report)
     }
 
     fn end(&self, out: &mut WriteBuffer) -> Result<(), NotWritten> {
@@ -82,26 +83,29 @@ fn is_settle(line: &[u8]) -> bool
 /// The laboratory of a first line, and the line of its first copy.
 ///
 /// # Errors
-/// `BadScript` with this number where the line is of no form, `NoMemory`, and `WriteFault` where
+/// `BadScript` with the line's number where the line is of no form, `NoMemory`, and `WriteFault` where
 /// the text doesn't fit.
 #[inline(never)]
 fn begin(
     alloc: Global,
     out: &mut WriteBuffer,
     line: &[u8],
-    number: u64,
+    report: &mut LineReport,
 ) -> Result<LabStage, RunFault>
     ensures begun { IfOk result
         (λ stage. (first_of line.now ≡ Some stage)
         × (out.new ≡ out.old ++ copies_text 0 stage.copies)) }
     ensures bad { (n : ℕ) → result ≡ Err (RunFault.BadScript n) →
-        (n ≡ number) × (first_of line.now ≡ None) × (out.new ≡ out.old) }
+        (n ≡ report.old.number) × (first_of line.now ≡ None) × (out.new ≡ out.old) }
+    ensures wrong { (n : ℕ) → result ≡ Err (RunFault.BadScript n) →
+        report.new.wrong ≡ Some (wrong_first line.now) }
     ensures no_memory { result ≡ Err RunFault.NoMemory →
         (first_of line.now ≢ None) × (out.new ≡ out.old) }
     ensures faults { IfErr result (λ fault. IsLineFault fault) }
 {
     let Some(start) = start_of(line) else {
-        return Err(RunFault::BadScript(number));
+        report.wrong = Some(wrong_first(line));
+        return Err(RunFault::BadScript(report.number));
     };
     let stage = stage_of(alloc, start)?;
     // not by `?`: a path that drops the stage here takes long to prove
@@ -137,7 +141,7 @@ fn put_ends(out: &mut WriteBuffer, lab: &Lab) -> Result<(), NotWritten>
 /// Lets the event of a line happen, writes what came of it, and says whether it was refused.
 ///
 /// # Errors
-/// `BadScript` with this number where the line asks for no event, `NoMemory`, which is written too,
+/// `BadScript` with the line's number where the line asks for no event, `NoMemory`, which is written too,
 /// and `WriteFault` where the text doesn't fit.
 fn play(
     alloc: Global,
@@ -145,20 +149,27 @@ fn play(
     body: &mut Data,
     out: &mut WriteBuffer,
     line: &[u8],
-    number: u64,
+    report: &mut LineReport,
 ) -> Result<bool, RunFault>
     ensures played { IfOk result
         (λ refused. (event : Happening) × (event_of line.now ≡ Some event)
         × PlaysEvent event lab.old lab.new out.old out.new refused) }
     ensures bad { (n : ℕ) → result ≡ Err (RunFault.BadScript n) →
-        (n ≡ number) × (event_of line.now ≡ None) × (lab.new ≡ lab.old) × (out.new ≡ out.old) }
+        (n ≡ report.old.number) × (event_of line.now ≡ None) × (lab.new ≡ lab.old)
+        × (out.new ≡ out.old) }
+    ensures wrong { (n : ℕ) → result ≡ Err (RunFault.BadScript n) →
+        report.new.wrong ≡ Some (wrong_of line.now) }
     ensures no_memory { result ≡ Err RunFault.NoMemory →
         (event_of line.now ≢ None) × (lab.new ≡ lab.old)
         × (out.new ≡ out.old ++ refusal_text NoMemory) }
     ensures faults { IfErr result (λ fault. IsLineFault fault) }
 {
-    let Some(command) = event_of(line, body) else {
-        return Err(RunFault::BadScript(number));
+    let command = match event_of(line, body) {
+        Ok(command) => command,
+        Err(wrong) => {
+            report.wrong = Some(wrong);
+            return Err(RunFault::BadScript(report.number));
+        }
     };
     play_event(alloc, lab, out, &command.event(body.as_slice()))
 }

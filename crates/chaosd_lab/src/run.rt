@@ -2,14 +2,14 @@
 ghost use Rattle.std.specs.Prelude.{◌≡◌, ◌≢◌, ◌<◌, ◌≤◌, ◌+◌, ◌-◌, ◌++◌, [], ℕ, List, Option, Err, Some, None, length, take, OnOk, IfOk, IfErr, IfSome};
 ghost use Rattle.std.specs.Io.KnownBytes.{Appends, IsAtEnd};
 ghost use Rattle.chaosd_io.specs.Lines.{lines_of, ended_lines, IsMet};
-ghost use Rattle.chaosd_script.specs.Script.{Played, play_of, text_of, IsFirstBad, NoneBad};
+ghost use Rattle.chaosd_script.specs.Script.{Played, play_of, text_of, wrong_line, IsFirstBad, NoneBad};
 ghost use Rattle.chaosd_lab.specs.Play.{lab_script, end_text};
 ghost use Rattle.chaos_lab.specs.Laboratory.{LabView};
-ghost use Rattle.chaosd_script.specs.Player.{PlaysRead, Wants};
+ghost use Rattle.chaosd_script.specs.Player.{PlaysAll, PlaysFront, PlaysRead, StopsAt, Wants};
 
 use crate::line::LabStage;
 use chaosd_io::{INPUT_LIMIT, RunFault};
-use chaosd_script::run_script;
+use chaosd_script::{BadLine, run_script_by};
 use std::alloc::Global;
 use std::io::{Read, Write};
 
@@ -79,5 +79,49 @@ pub fn run_lab<R: Read, W: Write>(
         IfSome (R.remaining reader.old)
         (Wants lab_script (W.contents writer.old) (W.contents writer.new)) }
 {
-    run_script::<LabStage, R, W>(alloc, reader, writer)
+    run_lab_by(alloc, reader, writer, &mut None)
+}
+
+/// Plays a script as [`run_lab`] does. `wrong` gets what is wrong with a bad line.
+///
+/// # Errors
+/// As those of [`run_lab`].
+pub fn run_lab_by<R: Read, W: Write>(
+    alloc: Global,
+    reader: &mut R,
+    writer: &mut W,
+    wrong: &mut Option<BadLine>,
+) -> Result<u64, RunFault>
+    // If the run ends well, all lines were played, their text was written, and the result counts
+    // the events that were refused.
+    ensures text { IfOk result
+        (λ refused. IfSome (R.remaining reader.old)
+        (PlaysAll lab_script (W.contents writer.old) (W.contents writer.new) refused)) }
+    // The run ends well only at the input's end, and never where more than 1,048,576 bytes came.
+    ensures ended { OnOk result (IsAtEnd (R.remaining reader.new)) }
+    ensures within { OnOk result
+        (IfSome (R.remaining reader.old) (λ input. length input ≤ INPUT_LIMIT)) }
+
+    // The number of a bad line is that of the first line that is missing or of no form. The text of
+    // the lines before it was written.
+    ensures bad { (number : ℕ) → result ≡ Err (RunFault.BadScript number) →
+        IfSome (R.remaining reader.old)
+        (StopsAt lab_script (W.contents writer.old) (W.contents writer.new) number) }
+    // What is wrong with that line is reported, as the language says it.
+    ensures wrong { (number : ℕ) → result ≡ Err (RunFault.BadScript number) →
+        IfSome (R.remaining reader.old)
+        (λ input. wrong.new ≡ Some (wrong_line lab_script number (lines_of input))) }
+
+    // What was played before another fault is as in `run_lab`.
+    ensures too_long { result ≡ Err RunFault.InputTooLong →
+        IfSome (R.remaining reader.old)
+        (PlaysFront lab_script (W.contents writer.old) (W.contents writer.new)) }
+    ensures unread { result ≡ Err RunFault.ReadFault →
+        PlaysRead lab_script (R.remaining reader.old) (R.remaining reader.new)
+        (W.contents writer.old) (W.contents writer.new) }
+    ensures no_memory { result ≡ Err RunFault.NoMemory →
+        IfSome (R.remaining reader.old)
+        (Wants lab_script (W.contents writer.old) (W.contents writer.new)) }
+{
+    run_script_by::<LabStage, R, W>(alloc, reader, writer, wrong)
 }

@@ -7,13 +7,14 @@ use Rattle.chaosd_io.specs.declared.fault.RunFault.{RunFault}
 use Rattle.chaosd_io.specs.declared.fault.RunFault.TheVariants as run
 use Rattle.chaosd_io.specs.declared.limits.TheConstants.{INPUT_LIMIT, KEPT_LEN}
 use Rattle.chaosd_io.specs.Buffer.{written_of}
-use Rattle.chaosd_io.specs.Lines.{ended_lines}
+use Rattle.chaosd_io.specs.Lines.{ended_lines, lines_of}
 use Rattle.chaosd_io.specs.Reader.{LinesView, GivesMore}
 use Rattle.chaosd_io.proofs.Cutting.{if_some}
 use Rattle.chaosd_io.proofs.Runs.{handed}
 use Rattle.chaosd_script.specs.declared.standing.Standing.{Standing}
-use Rattle.chaosd_script.specs.Script.{Script, text_of, play_of, NoneBad}
-use Rattle.chaosd_script.specs.Player.{IsAt, PlaysGiven, PlaysAll, PlaysWithin, StopsAt, Wants, PlaysFront, StopsRun}
+use Rattle.chaosd_script.specs.declared.bad_line.BadLine.{BadLine}
+use Rattle.chaosd_script.specs.Script.{Script, text_of, play_of, NoneBad, wrong_line}
+use Rattle.chaosd_script.specs.Player.{IsAt, PlaysGiven, PlaysAll, PlaysWithin, StopsAt, StopsBad, Wants, PlaysFront, StopsRun}
 
 -- ---- what was handed on
 
@@ -37,23 +38,23 @@ within script known before written refused p =
     if_some known (PlaysWithin script before written refused) (λ l. length l ≤ INPUT_LIMIT) (λ l q. q.0) p
 
 pub stops_handed : {X : Type 0} (script : Script X) (old new before written held : Option (List ℕ)) (waiting : List ℕ)
-    (fault : RunFault)
+    (wrong : Option BadLine) (fault : RunFault)
     → Keeps written (written_of held waiting) → waiting ≡ []
-    → StopsRun script old new before written fault → StopsRun script old new before held fault
-stops_handed script old new before written held waiting (run.BadScript number) keeps none s =
-    if_some old (StopsAt script before written number) (StopsAt script before held number)
-    (λ l q. (q.0, q.1, held_now before written held waiting _ keeps none q.2)) s
-stops_handed script old new before written held waiting run.NoMemory keeps none s =
+    → StopsRun script old new before written wrong fault → StopsRun script old new before held wrong fault
+stops_handed script old new before written held waiting wrong (run.BadScript number) keeps none s =
+    if_some old (StopsBad script before written wrong number) (StopsBad script before held wrong number)
+    (λ l q. ((q.0.0, q.0.1, held_now before written held waiting _ keeps none q.0.2), q.1)) s
+stops_handed script old new before written held waiting wrong run.NoMemory keeps none s =
     if_some old (Wants script before written) (Wants script before held)
     (λ l q. (q.0, q.1, q.2, q.3, q.4, q.5, q.6, held_now before written held waiting _ keeps none q.7)) s
-stops_handed script old new before written held waiting run.InputTooLong keeps none s =
+stops_handed script old new before written held waiting wrong run.InputTooLong keeps none s =
     if_some old (PlaysFront script before written) (PlaysFront script before held)
     (λ l q. (q.0, q.1, held_now before written held waiting _ keeps none q.2)) s
-stops_handed script old new before written held waiting run.ReadFault keeps none s =
+stops_handed script old new before written held waiting wrong run.ReadFault keeps none s =
     (s.0, s.1, s.2, held_now before written held waiting _ keeps none s.3)
-stops_handed script old new before written held waiting run.WriteFault keeps none s = tt
-stops_handed script old new before written held waiting run.LinkFault keeps none s = absurd s
-stops_handed script old new before written held waiting run.ClockFault keeps none s = absurd s
+stops_handed script old new before written held waiting wrong run.WriteFault keeps none s = tt
+stops_handed script old new before written held waiting wrong run.LinkFault keeps none s = absurd s
+stops_handed script old new before written held waiting wrong run.ClockFault keeps none s = absurd s
 
 -- ---- what was read
 
@@ -65,17 +66,17 @@ none_bad script (Some lab) refused ended at some = λ none. let (p, is, same, co
 
 -- no more came of the input
 pub reading_stops : {X : Type 0} (script : Script X) (input mid rest before written : Option (List ℕ)) (at : Standing X)
-    (lines lines' : LinesView) (fault : RunFault)
+    (lines lines' : LinesView) (wrong : Option BadLine) (fault : RunFault)
     → (s : PlaysGiven script input mid before written at lines)
     → GivesMore KEPT_LEN INPUT_LIMIT input rest s.given lines' (Err fault)
-    → StopsRun script input rest before written fault
-reading_stops script input mid rest before written at lines lines' run.ReadFault s (read, came, same) = (
+    → StopsRun script input rest before written wrong fault
+reading_stops script input mid rest before written at lines lines' wrong run.ReadFault s (read, came, same) = (
   read,
   came,
   subst (NoneBad script) same (none_bad script at.lab at.refused s.given s.plays.state),
   subst (λ l. Appends before written (text_of (play_of script l))) same s.plays.text,
 )
-reading_stops script input mid rest before written at lines lines' run.InputTooLong s past =
+reading_stops script input mid rest before written at lines lines' wrong run.InputTooLong s past =
     if_some input (λ all. (INPUT_LIMIT < length all) × (s.given ≡ ended_lines (take INPUT_LIMIT all)))
     (PlaysFront script before written)
     (λ all h. (
@@ -83,18 +84,34 @@ reading_stops script input mid rest before written at lines lines' run.InputTooL
       subst (NoneBad script) h.1 (none_bad script at.lab at.refused s.given s.plays.state),
       subst (λ l. Appends before written (text_of (play_of script l))) h.1 s.plays.text,
     )) past
-reading_stops script input mid rest before written at lines lines' run.WriteFault s h = absurd h
-reading_stops script input mid rest before written at lines lines' run.NoMemory s h = absurd h
-reading_stops script input mid rest before written at lines lines' (run.BadScript number) s h = absurd h
-reading_stops script input mid rest before written at lines lines' run.LinkFault s h = absurd h
-reading_stops script input mid rest before written at lines lines' run.ClockFault s h = absurd h
+reading_stops script input mid rest before written at lines lines' wrong run.WriteFault s h = absurd h
+reading_stops script input mid rest before written at lines lines' wrong run.NoMemory s h = absurd h
+reading_stops script input mid rest before written at lines lines' wrong (run.BadScript number) s h = absurd h
+reading_stops script input mid rest before written at lines lines' wrong run.LinkFault s h = absurd h
+reading_stops script input mid rest before written at lines lines' wrong run.ClockFault s h = absurd h
 
 -- what was told stops the run
 pub stops_told : {X Y : Type 0} (script : Script X) (r : Result Y RunFault) (old new before written : Option (List ℕ))
-    (e f : RunFault)
-    → IsErrAnd r (λ y. y ≡ e) → r ≡ Err f → StopsRun script old new before written e
-    → StopsRun script old new before written f
-stops_told script (Ok x) old new before written e f is same s = absurd is
-stops_told script (Err y) old new before written e f is same s =
+    (wrong : Option BadLine) (e f : RunFault)
+    → IsErrAnd r (λ y. y ≡ e) → r ≡ Err f → StopsRun script old new before written wrong e
+    → StopsRun script old new before written wrong f
+stops_told script (Ok x) old new before written wrong e f is same s = absurd is
+stops_told script (Err y) old new before written wrong e f is same s =
     let this : e ≡ f = cc in
-    subst (StopsRun script old new before written) this s
+    subst (StopsRun script old new before written wrong) this s
+
+-- ---- a bad line
+
+pub bad_at : {X : Type 0} (script : Script X) (known before written : Option (List ℕ)) (wrong : Option BadLine)
+    (number : ℕ)
+    → IfSome known (StopsBad script before written wrong number) → IfSome known (StopsAt script before written number)
+bad_at script known before written wrong number s =
+    if_some known (StopsBad script before written wrong number) (StopsAt script before written number) (λ l q. q.0) s
+
+pub bad_wrong : {X : Type 0} (script : Script X) (known before written : Option (List ℕ)) (wrong : Option BadLine)
+    (number : ℕ)
+    → IfSome known (StopsBad script before written wrong number)
+    → IfSome known (λ l. wrong ≡ Some (wrong_line script number (lines_of l)))
+bad_wrong script known before written wrong number s =
+    if_some known (StopsBad script before written wrong number)
+    (λ l. wrong ≡ Some (wrong_line script number (lines_of l))) (λ l q. q.1) s

@@ -12,9 +12,11 @@ use Rattle.chaosd_io.specs.Lines.{lines_of, IsMet}
 use Rattle.chaosd_io.specs.Reader.{LinesView, Gives, GivesNext, GivesLast}
 use Rattle.chaosd_io.proofs.Cutting.{IsGiven, given_met, last_met, if_some}
 use Rattle.chaosd_script.specs.declared.standing.Standing.{Standing}
-use Rattle.chaosd_script.specs.Script.{Script, play_of, text_of, IsFirstBad}
-use Rattle.chaosd_script.specs.Player.{IsAt, PlaysLines, IsWantText, StopsLine, PlaysGiven, PlaysDone, StopsAt, Wants, StopsRun, PlaysWithin}
-use Rattle.chaosd_script.proofs.Plays.{play_of-alike, alike_same, first_bad, lines_before, text_more}
+use Rattle.chaosd_script.specs.declared.bad_line.BadLine.{BadLine}
+use Rattle.chaosd_script.specs.declared.bad_line.BadLine.TheVariants.{NoEnds}
+use Rattle.chaosd_script.specs.Script.{Script, play_of, text_of, IsFirstBad, wrong_at, wrong_line}
+use Rattle.chaosd_script.specs.Player.{IsAt, PlaysLines, IsWantText, StopsLine, PlaysGiven, PlaysDone, StopsBad, Wants, StopsRun, PlaysWithin}
+use Rattle.chaosd_script.proofs.Plays.{play_of-alike, alike_same, wrong-alike, first_bad, lines_before, text_more}
 
 -- ---- lines that were played
 
@@ -115,22 +117,22 @@ alike_wants script ended f g text same is = subst (λ l. IsWantText script (play
 
 -- of two lines that begin alike
 stops_alike : {X : Type 0} (script : Script X) (before written : Option (List ℕ)) (ended : List (List ℕ)) (f g : List ℕ)
-    (fault : RunFault)
-    → take KEPT_LEN f ≡ take KEPT_LEN g → StopsLine script before written ended f fault
-    → StopsLine script before written ended g fault
-stops_alike script before written ended f g (run.BadScript number) e stops =
-    (stops.0, sym (play_of-alike script ended f g e) ∙ stops.1, stops.2)
-stops_alike script before written ended f g run.NoMemory e stops = (
+    (wrong : Option BadLine) (fault : RunFault)
+    → take KEPT_LEN f ≡ take KEPT_LEN g → StopsLine script before written ended f wrong fault
+    → StopsLine script before written ended g wrong fault
+stops_alike script before written ended f g wrong (run.BadScript number) e stops =
+    (stops.0, sym (play_of-alike script ended f g e) ∙ stops.1, stops.2, stops.3 ∙ ap Some (wrong-alike script ended f g e))
+stops_alike script before written ended f g wrong run.NoMemory e stops = (
   λ none. stops.0 (play_of-alike script ended f g e ∙ none),
   stops.1,
   alike_wants script ended f g stops.1 (alike_same script ended f g e stops.0) stops.2,
   stops.3,
 )
-stops_alike script before written ended f g run.WriteFault e stops = tt
-stops_alike script before written ended f g run.ReadFault e stops = absurd stops
-stops_alike script before written ended f g run.InputTooLong e stops = absurd stops
-stops_alike script before written ended f g run.LinkFault e stops = absurd stops
-stops_alike script before written ended f g run.ClockFault e stops = absurd stops
+stops_alike script before written ended f g wrong run.WriteFault e stops = tt
+stops_alike script before written ended f g wrong run.ReadFault e stops = absurd stops
+stops_alike script before written ended f g wrong run.InputTooLong e stops = absurd stops
+stops_alike script before written ended f g wrong run.LinkFault e stops = absurd stops
+stops_alike script before written ended f g wrong run.ClockFault e stops = absurd stops
 
 line_behind : (ended more : List (List ℕ)) (line : List ℕ) → slice_get (ended ++ line ∷ more) (length ended) ≡ Some line
 line_behind [] more line = refl
@@ -138,26 +140,34 @@ line_behind (one ∷ others) more line = line_behind others more line
 
 -- a line of these, behind some that were played
 stops_at : {X : Type 0} (script : Script X) (before written : Option (List ℕ)) (lab : Option X) (refused number : ℕ)
-    (ended : List (List ℕ)) (line input : List ℕ)
+    (ended : List (List ℕ)) (line input : List ℕ) (wrong : Option BadLine)
     → IsAt script lab refused ended
-    → StopsLine script before written ended line (run.BadScript number) → IsGiven INPUT_LIMIT ended line input
-    → StopsAt script before written number input
-stops_at script before written lab refused number ended line input at (is, bad, text) (more, all, met) =
+    → StopsLine script before written ended line wrong (run.BadScript number) → IsGiven INPUT_LIMIT ended line input
+    → StopsBad script before written wrong number input
+stops_at script before written lab refused number ended line input wrong at (is, bad, text, why) (more, all, met) =
     let less : number - 1 ≡ length ended = omega arith in
     let front : take (number - 1) (lines_of input) ≡ ended =
-    ap (λ n. take n (lines_of input)) less ∙ ap (take (length ended)) all ∙ lines_before ended (line ∷ more) in (
-      subst (λ n. IsFirstBad script n (lines_of input)) (sym is)
-          (subst (IsFirstBad script (length ended + 1)) (sym all)
-          (first_bad script lab refused ended more line at bad)),
-      subst (λ n. IsMet INPUT_LIMIT n input) (sym is) met,
-      subst (λ l. Appends before written (text_of (play_of script l))) (sym front) text,
+    ap (λ n. take n (lines_of input)) less ∙ ap (take (length ended)) all ∙ lines_before ended (line ∷ more) in
+    let here : slice_get (lines_of input) (number - 1) ≡ Some line =
+    ap (slice_get (lines_of input)) less ∙ ap (λ l. slice_get l (length ended)) all ∙ line_behind ended more line in (
+      (
+        subst (λ n. IsFirstBad script n (lines_of input)) (sym is)
+            (subst (IsFirstBad script (length ended + 1)) (sym all)
+            (first_bad script lab refused ended more line at bad)),
+        subst (λ n. IsMet INPUT_LIMIT n input) (sym is) met,
+        subst (λ l. Appends before written (text_of (play_of script l))) (sym front) text,
+      ),
+      why
+          ∙ ap Some
+          (sym (ap (λ l. wrong_at script l (slice_get (lines_of input) (number - 1))) front ∙ ap (wrong_at script ended) here)),
     )
 
 wants_at : {X : Type 0} (script : Script X) (before written : Option (List ℕ)) (ended : List (List ℕ))
     (line input : List ℕ)
-    → StopsLine script before written ended line run.NoMemory → IsGiven INPUT_LIMIT ended line input
+    (wrong : Option BadLine)
+    → StopsLine script before written ended line wrong run.NoMemory → IsGiven INPUT_LIMIT ended line input
     → Wants script before written input
-wants_at script before written ended line input (good, text, is, wrote) (more, all, met) =
+wants_at script before written ended line input wrong (good, text, is, wrote) (more, all, met) =
     let front : take (length ended) (lines_of input) ≡ ended =
     ap (take (length ended)) all ∙ lines_before ended (line ∷ more) in
     let through : take (length ended + 1) (lines_of input) ≡ ended ++ line ∷ [] =
@@ -173,61 +183,64 @@ wants_at script before written ended line input (good, text, is, wrote) (more, a
     )
 
 stops_within : {X : Type 0} (script : Script X) (input rest before written : Option (List ℕ)) (lab : Option X)
-    (refused : ℕ) (ended : List (List ℕ)) (line : List ℕ) (fault : RunFault)
+    (refused : ℕ) (ended : List (List ℕ)) (line : List ℕ) (wrong : Option BadLine) (fault : RunFault)
     → IsAt script lab refused ended
-    → IfSome input (IsGiven INPUT_LIMIT ended line) → StopsLine script before written ended line fault
-    → StopsRun script input rest before written fault
-stops_within script input rest before written lab refused ended line (run.BadScript number) at given stops =
-    if_some input (IsGiven INPUT_LIMIT ended line) (StopsAt script before written number)
-    (λ all. stops_at script before written lab refused number ended line all at stops) given
-stops_within script input rest before written lab refused ended line run.NoMemory at given stops =
+    → IfSome input (IsGiven INPUT_LIMIT ended line) → StopsLine script before written ended line wrong fault
+    → StopsRun script input rest before written wrong fault
+stops_within script input rest before written lab refused ended line wrong (run.BadScript number) at given stops =
+    if_some input (IsGiven INPUT_LIMIT ended line) (StopsBad script before written wrong number)
+    (λ all. stops_at script before written lab refused number ended line all wrong at stops) given
+stops_within script input rest before written lab refused ended line wrong run.NoMemory at given stops =
     if_some input (IsGiven INPUT_LIMIT ended line) (Wants script before written)
-    (λ all. wants_at script before written ended line all stops) given
-stops_within script input rest before written lab refused ended line run.WriteFault at given stops = tt
-stops_within script input rest before written lab refused ended line run.ReadFault at given stops = absurd stops
-stops_within script input rest before written lab refused ended line run.InputTooLong at given stops = absurd stops
-stops_within script input rest before written lab refused ended line run.LinkFault at given stops = absurd stops
-stops_within script input rest before written lab refused ended line run.ClockFault at given stops = absurd stops
+    (λ all. wants_at script before written ended line all wrong stops) given
+stops_within script input rest before written lab refused ended line wrong run.WriteFault at given stops = tt
+stops_within script input rest before written lab refused ended line wrong run.ReadFault at given stops = absurd stops
+stops_within script input rest before written lab refused ended line wrong run.InputTooLong at given stops = absurd stops
+stops_within script input rest before written lab refused ended line wrong run.LinkFault at given stops = absurd stops
+stops_within script input rest before written lab refused ended line wrong run.ClockFault at given stops = absurd stops
 
 -- the next line wasn't played
 pub next_stops : {X : Type 0} (script : Script X) (input rest before written written' : Option (List ℕ))
-    (at : Standing X) (lines lines' : LinesView) (line : List ℕ) (fault : RunFault)
+    (at : Standing X) (lines lines' : LinesView) (line : List ℕ) (wrong : Option BadLine) (fault : RunFault)
     → (s : PlaysGiven script input rest before written at lines)
     → GivesNext KEPT_LEN INPUT_LIMIT input rest s.given lines' true → line ≡ lines'.line
-    → (PlaysLines script before written at s.given → StopsLine script before written' s.given line fault)
-    → StopsRun script input rest before written' fault
-next_stops script input rest before written written' at lines lines' line fault s (raw, front, gives) e stops =
-    stops_within script input rest before written' at.lab at.refused s.given raw fault s.plays.state
+    → (PlaysLines script before written at s.given → StopsLine script before written' s.given line wrong fault)
+    → StopsRun script input rest before written' wrong fault
+next_stops script input rest before written written' at lines lines' line wrong fault s (raw, front, gives) e stops =
+    stops_within script input rest before written' at.lab at.refused s.given raw wrong fault s.plays.state
     (given_met KEPT_LEN INPUT_LIMIT input rest s.given raw lines' gives)
-    (stops_alike script before written' s.given line raw fault (ap (take KEPT_LEN) e ∙ front) (stops s.plays))
+    (stops_alike script before written' s.given line raw wrong fault (ap (take KEPT_LEN) e ∙ front) (stops s.plays))
 
 -- the last line wasn't played
 pub last_stops : {X : Type 0} (script : Script X) (input rest before written written' : Option (List ℕ))
-    (at : Standing X) (lines : LinesView) (line : List ℕ) (fault : RunFault)
+    (at : Standing X) (lines : LinesView) (line : List ℕ) (wrong : Option BadLine) (fault : RunFault)
     → (s : PlaysGiven script input rest before written at lines)
     → GivesLast KEPT_LEN INPUT_LIMIT input rest s.given (Some line)
-    → (PlaysLines script before written at s.given → StopsLine script before written' s.given line fault)
-    → StopsRun script input rest before written' fault
-last_stops script input rest before written written' at lines line fault s (raw, front, done) stops =
-    stops_within script input rest before written' at.lab at.refused s.given raw fault s.plays.state
+    → (PlaysLines script before written at s.given → StopsLine script before written' s.given line wrong fault)
+    → StopsRun script input rest before written' wrong fault
+last_stops script input rest before written written' at lines line wrong fault s (raw, front, done) stops =
+    stops_within script input rest before written' at.lab at.refused s.given raw wrong fault s.plays.state
     (last_met INPUT_LIMIT input rest s.given raw done)
-    (stops_alike script before written' s.given line raw fault front (stops s.plays))
+    (stops_alike script before written' s.given line raw wrong fault front (stops s.plays))
 
 -- ---- the end of the input
 
 -- there was no first line
 pub no_first_line : {X : Type 0} (script : Script X) (input rest before written : Option (List ℕ)) (at : Standing X)
     → at.lab ≡ None → PlaysDone script input rest before written at
-    → StopsRun script input rest before written (run.BadScript 1)
+    → StopsRun script input rest before written (Some NoEnds) (run.BadScript 1)
 no_first_line script input rest before written at none s =
     let (nil, none_refused) = subst (λ l. IsAt script l at.refused s.given) none s.plays.state in
     let bad : IsFirstBad script 1 [] =
     record { counts = omega arith; bad = refl; good = λ n some few. absurd (omega arith) } in
-    if_some input (λ all. (length all ≤ INPUT_LIMIT) × (lines_of all ≡ s.given)) (StopsAt script before written 1)
+    if_some input (λ all. (length all ≤ INPUT_LIMIT) × (lines_of all ≡ s.given)) (StopsBad script before written (Some NoEnds) 1)
     (λ all h. (
-      subst (IsFirstBad script 1) (sym (h.1 ∙ nil)) bad,
-      inr h.0,
-      subst (Appends before written) (ap (λ l. text_of (play_of script l)) nil) s.plays.text,
+      (
+        subst (IsFirstBad script 1) (sym (h.1 ∙ nil)) bad,
+        inr h.0,
+        subst (Appends before written) (ap (λ l. text_of (play_of script l)) nil) s.plays.text,
+      ),
+      ap Some (ap (wrong_line script 1) (sym (h.1 ∙ nil))),
     )) s.done.lines
 
 -- all lines were played, and what is said at the end was written

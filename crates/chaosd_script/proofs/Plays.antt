@@ -13,7 +13,9 @@ use Rattle.chaosd_io.specs.declared.fault.RunFault.TheVariants as run
 use Rattle.chaosd_io.specs.declared.limits.TheConstants.{KEPT_LEN, LINE_LIMIT}
 use Rattle.chaosd_io.specs.Buffer.{written_of}
 use Rattle.chaosd_io.proofs.Steps.{length-strip_last}
-use Rattle.chaosd_script.specs.Script.{Done, Script, Played, start_play, says_by, with_reading, with_line, play_on, play_of, text_of, IsFirstBad, PlaysLine}
+use Rattle.chaosd_script.specs.declared.bad_line.BadLine.{BadLine}
+use Rattle.chaosd_script.specs.declared.bad_line.BadLine.TheVariants.{TooLong}
+use Rattle.chaosd_script.specs.Script.{Done, Script, Played, start_play, says_by, with_reading, with_line, play_on, play_of, text_of, IsFirstBad, PlaysLine, wrong_behind, wrong_by}
 use Rattle.chaosd_script.specs.declared.standing.Standing.{Standing}
 use Rattle.chaosd_script.specs.Player.{IsAt, PlaysLines, IsLineFault, StopsLine, IsWantText}
 
@@ -55,6 +57,53 @@ same_line reading f g true short e some =
     sym (take_all KEPT_LEN f (omega arith)) ∙ e
     ∙ take_all KEPT_LEN g (omega (arith, length-take KEPT_LEN f, length-take KEPT_LEN g))
 same_line reading f g false long e some = absurd (some (says_nothing reading f (grind (arith, nat_tests))))
+
+-- ---- what is wrong with a line
+
+-- a long line is too long
+wrong_long : (reading : List ℕ → BadLine) (raw : List ℕ) → KEPT_LEN ≤ length raw → wrong_by reading raw ≡ TooLong
+wrong_long reading raw long =
+    let test : ltb LINE_LIMIT (length (strip_last 13 raw)) ≡ true =
+    lt-ltb LINE_LIMIT _ (omega (arith, length-strip_last 13 raw)) in
+    ap (λ b. cond b TooLong (reading (strip_last 13 raw))) test
+
+wrong_decides : (reading : List ℕ → BadLine) (f g : List ℕ) (is_short : Bool) → ltb (length f) KEPT_LEN ≡ is_short
+    → take KEPT_LEN f ≡ take KEPT_LEN g → wrong_by reading f ≡ wrong_by reading g
+wrong_decides reading f g true short e =
+    let len : length (take KEPT_LEN f) ≡ length (take KEPT_LEN g) = ap length e in
+    let few : length f < KEPT_LEN = grind (arith, nat_tests) in
+    ap (wrong_by reading)
+    (sym (take_all KEPT_LEN f (omega arith)) ∙ e
+    ∙ take_all KEPT_LEN g (omega (arith, length-take KEPT_LEN f, length-take KEPT_LEN g)))
+wrong_decides reading f g false long e =
+    let len : length (take KEPT_LEN f) ≡ length (take KEPT_LEN g) = ap length e in
+    let many : KEPT_LEN ≤ length f = grind (arith, nat_tests) in
+    wrong_long reading f many
+    ∙ sym (wrong_long reading g (omega (arith, length-take KEPT_LEN f, length-take KEPT_LEN g)))
+
+-- so what is kept of a line decides what is wrong with it
+pub wrong-alike : {X : Type 0} (script : Script X) (ended : List (List ℕ)) (f g : List ℕ)
+    → take KEPT_LEN f ≡ take KEPT_LEN g → wrong_behind script ended f ≡ wrong_behind script ended g
+wrong-alike script [] f g e = wrong_decides script.first_wrong f g (ltb (length f) KEPT_LEN) refl e
+wrong-alike script (first ∷ lines) f g e = wrong_decides script.wrong f g (ltb (length f) KEPT_LEN) refl e
+
+too_long_wrong : {X : Type 0} (script : Script X) (ended : List (List ℕ)) (raw : List ℕ)
+    → ltb LINE_LIMIT (length (strip_last 13 raw)) ≡ true → wrong_behind script ended raw ≡ TooLong
+too_long_wrong script [] raw long = ap (λ b. cond b TooLong (script.first_wrong (strip_last 13 raw))) long
+too_long_wrong script (first ∷ lines) raw long = ap (λ b. cond b TooLong (script.wrong (strip_last 13 raw))) long
+
+-- a line behind some that were played is a later one
+later_wrong : {X : Type 0} (script : Script X) (ended : List (List ℕ)) (p : Played X) (raw : List ℕ)
+    → play_of script ended ≡ Some p → ltb LINE_LIMIT (length (strip_last 13 raw)) ≡ false
+    → wrong_behind script ended raw ≡ script.wrong (strip_last 13 raw)
+later_wrong script [] p raw is short = absurd (cc)
+later_wrong script (first ∷ lines) p raw is short = ap (λ b. cond b TooLong (script.wrong (strip_last 13 raw))) short
+
+first_line_wrong : {X : Type 0} (script : Script X) (ended : List (List ℕ)) (raw : List ℕ) → ended ≡ []
+    → ltb LINE_LIMIT (length (strip_last 13 raw)) ≡ false
+    → wrong_behind script ended raw ≡ script.first_wrong (strip_last 13 raw)
+first_line_wrong script ended raw nil short =
+    ap (λ l. wrong_behind script l raw) nil ∙ ap (λ b. cond b TooLong (script.first_wrong (strip_last 13 raw))) short
 
 -- ---- one line more
 
@@ -249,11 +298,15 @@ pub too_long_stops : {X : Type 0} (script : Script X) (before written : Option (
     (ended : List (List ℕ)) (raw : List ℕ)
     → ltb LINE_LIMIT (length (strip_last 13 raw)) ≡ true
     → PlaysLines script before written at ended
-    → StopsLine script before written ended raw (run.BadScript (at.lines + 1))
+    → StopsLine script before written ended raw (Some TooLong) (run.BadScript (at.lines + 1))
 too_long_stops script before written at ended raw long s =
     let none_first : says_by script.first raw ≡ None = ap (λ b. cond b None (script.first (strip_last 13 raw))) long in
-    let none_event : says_by script.event raw ≡ None = ap (λ b. cond b None (script.event (strip_last 13 raw))) long in
-    (ap (λ n. n + 1) s.count, unplayed script at.lab at.refused ended raw s.state none_first none_event, s.text)
+    let none_event : says_by script.event raw ≡ None = ap (λ b. cond b None (script.event (strip_last 13 raw))) long in (
+      ap (λ n. n + 1) s.count,
+      unplayed script at.lab at.refused ended raw s.state none_first none_event,
+      s.text,
+      ap Some (sym (too_long_wrong script ended raw long)),
+    )
 
 some_with : {X : Type 0} (p : Played X) (o : Option (X → Done X)) → o ≢ None → with_reading p o ≢ None
 some_with p None some none = some refl
@@ -268,22 +321,26 @@ want_behind script ended p line after text is w =
 
 -- an event wasn't let happen
 pub event_stops : {X Y : Type 0} (script : Script X) (fault : RunFault) (before old new : Option (List ℕ))
-    (at : Standing X) (ended : List (List ℕ)) (raw : List ℕ) (l after : X)
+    (at : Standing X) (ended : List (List ℕ)) (raw : List ℕ) (l after : X) (wrong : Option BadLine)
     → at.lab ≡ Some l
     → ltb LINE_LIMIT (length (strip_last 13 raw)) ≡ false → IsLineFault fault
     → ((n : ℕ) → ◌≡◌ {A = Result Y RunFault} (Err fault) (Err (run.BadScript n))
     → (n ≡ at.lines + 1) × (script.event (strip_last 13 raw) ≡ None) × Keeps old new)
+    → ((n : ℕ) → ◌≡◌ {A = Result Y RunFault} (Err fault) (Err (run.BadScript n))
+    → wrong ≡ Some (script.wrong (strip_last 13 raw)))
     → (◌≡◌ {A = Result Y RunFault} (Err fault) (Err run.NoMemory)
     → (script.event (strip_last 13 raw) ≢ None)
     × (script.ready l → (text : List ℕ) × script.wants l (strip_last 13 raw) after text × Appends old new text))
-    → PlaysLines script before old at ended → StopsLine script before new ended raw fault
-event_stops script (run.BadScript n) before old new at ended raw l after some short is bad want s =
-    let (number, said, same) = bad n refl in (
+    → PlaysLines script before old at ended → StopsLine script before new ended raw wrong fault
+event_stops script (run.BadScript n) before old new at ended raw l after wrong some short is bad why want s =
+    let (number, said, same) = bad n refl in
+    let (p, is_played, same_lab, so_far, ready) = subst (λ x. IsAt script x at.refused ended) some s.state in (
       number ∙ ap (λ k. k + 1) s.count,
       unplayed_event script at.lab at.refused ended raw l some s.state (says script.event raw None short said),
       Appends-kept before old new _ s.text same,
+      why n refl ∙ ap Some (sym (later_wrong script ended p raw is_played short)),
     )
-event_stops script run.NoMemory before old new at ended raw l after some short is bad want s =
+event_stops script run.NoMemory before old new at ended raw l after wrong some short is bad why want s =
     let (said, told) = want refl in
     let (p, is_played, same, so_far, ready) = subst (λ x. IsAt script x at.refused ended) some s.state in
     let (text, wants, more) = told ready in
@@ -296,11 +353,11 @@ event_stops script run.NoMemory before old new at ended raw l after some short i
           (subst (λ x. script.wants x (strip_last 13 raw) after text) (sym same) wants),
       Appends-trans before old new (text_of (play_of script ended)) text s.text more,
     )
-event_stops script run.WriteFault before old new at ended raw l after some short is bad want s = tt
-event_stops script run.ReadFault before old new at ended raw l after some short is bad want s = absurd is
-event_stops script run.InputTooLong before old new at ended raw l after some short is bad want s = absurd is
-event_stops script run.LinkFault before old new at ended raw l after some short is bad want s = absurd is
-event_stops script run.ClockFault before old new at ended raw l after some short is bad want s = absurd is
+event_stops script run.WriteFault before old new at ended raw l after wrong some short is bad why want s = tt
+event_stops script run.ReadFault before old new at ended raw l after wrong some short is bad why want s = absurd is
+event_stops script run.InputTooLong before old new at ended raw l after wrong some short is bad why want s = absurd is
+event_stops script run.LinkFault before old new at ended raw l after wrong some short is bad why want s = absurd is
+event_stops script run.ClockFault before old new at ended raw l after wrong some short is bad why want s = absurd is
 
 some_made : {X Y : Type 0} (f : X → Y) (o : Option X) → o ≢ None → option_map f o ≢ None
 some_made f None some none = some refl
@@ -308,22 +365,26 @@ some_made f (Some x) some none = cc
 
 -- the laboratory wasn't made
 pub first_stops : {X Y : Type 0} (script : Script X) (fault : RunFault) (before held : Option (List ℕ))
-    (at : Standing X) (ended : List (List ℕ)) (raw old new : List ℕ)
+    (at : Standing X) (ended : List (List ℕ)) (raw old new : List ℕ) (wrong : Option BadLine)
     → at.lab ≡ None
     → ltb LINE_LIMIT (length (strip_last 13 raw)) ≡ false → IsLineFault fault
     → ((n : ℕ) → ◌≡◌ {A = Result Y RunFault} (Err fault) (Err (run.BadScript n))
     → (n ≡ at.lines + 1) × (script.first (strip_last 13 raw) ≡ None) × (new ≡ old))
+    → ((n : ℕ) → ◌≡◌ {A = Result Y RunFault} (Err fault) (Err (run.BadScript n))
+    → wrong ≡ Some (script.first_wrong (strip_last 13 raw)))
     → (◌≡◌ {A = Result Y RunFault} (Err fault) (Err run.NoMemory)
     → (script.first (strip_last 13 raw) ≢ None) × (new ≡ old))
     → PlaysLines script before (written_of held old) at ended
-    → StopsLine script before (written_of held new) ended raw fault
-first_stops script (run.BadScript n) before held at ended raw old new none short is bad want s =
-    let (number, said, same) = bad n refl in (
+    → StopsLine script before (written_of held new) ended raw wrong fault
+first_stops script (run.BadScript n) before held at ended raw old new wrong none short is bad why want s =
+    let (number, said, same) = bad n refl in
+    let (nil, none_yet) = subst (λ l. IsAt script l at.refused ended) none s.state in (
       number ∙ ap (λ k. k + 1) s.count,
       unplayed_first script at.lab at.refused ended raw none s.state (says script.first raw None short said),
       subst (λ x. Appends before (written_of held x) (text_of (play_of script ended))) (sym same) s.text,
+      why n refl ∙ ap Some (sym (first_line_wrong script ended raw nil short)),
     )
-first_stops script run.NoMemory before held at ended raw old new none short is bad want s =
+first_stops script run.NoMemory before held at ended raw old new wrong none short is bad why want s =
     let (said, same) = want refl in
     let (nil, none_yet) = subst (λ l. IsAt script l at.refused ended) none s.state in
     let good : says_by script.first raw ≢ None =
@@ -334,11 +395,11 @@ first_stops script run.NoMemory before held at ended raw old new none short is b
       subst (λ (l : List (List ℕ)). IsWantText script (play_of script l) raw []) (sym nil) refl,
       text_more before held old new (text_of (play_of script ended)) [] s.text (same ∙ sym (append-nil old)),
     )
-first_stops script run.WriteFault before held at ended raw old new none short is bad want s = tt
-first_stops script run.ReadFault before held at ended raw old new none short is bad want s = absurd is
-first_stops script run.InputTooLong before held at ended raw old new none short is bad want s = absurd is
-first_stops script run.LinkFault before held at ended raw old new none short is bad want s = absurd is
-first_stops script run.ClockFault before held at ended raw old new none short is bad want s = absurd is
+first_stops script run.WriteFault before held at ended raw old new wrong none short is bad why want s = tt
+first_stops script run.ReadFault before held at ended raw old new wrong none short is bad why want s = absurd is
+first_stops script run.InputTooLong before held at ended raw old new wrong none short is bad why want s = absurd is
+first_stops script run.LinkFault before held at ended raw old new wrong none short is bad why want s = absurd is
+first_stops script run.ClockFault before held at ended raw old new wrong none short is bad why want s = absurd is
 
 -- ---- calls that may fail
 

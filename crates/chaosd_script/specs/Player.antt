@@ -7,8 +7,9 @@ use Rattle.chaosd_io.specs.declared.fault.RunFault.TheVariants as run
 use Rattle.chaosd_io.specs.declared.limits.TheConstants.{INPUT_LIMIT, KEPT_LEN}
 use Rattle.chaosd_io.specs.Lines.{lines_of, ended_lines, IsMet}
 use Rattle.chaosd_io.specs.Reader.{LinesView, Gives, Done}
+use Rattle.chaosd_script.specs.declared.bad_line.BadLine.{BadLine}
 use Rattle.chaosd_script.specs.declared.standing.Standing.{Standing}
-use Rattle.chaosd_script.specs.Script.{Script, Played, play_of, text_of, IsFirstBad, NoneBad}
+use Rattle.chaosd_script.specs.Script.{Script, Played, play_of, text_of, IsFirstBad, NoneBad, wrong_behind, wrong_line}
 
 -- ---- Lines
 
@@ -39,16 +40,16 @@ IsLineFault _ = ⊥
 
 -- Why the line behind those that were played wasn't: it is of no form, or it ran out of memory; or the writer failed,
 -- of which nothing is said.
-abbrev pub StopsLine : {X : Type 0} → Script X → Option (List ℕ) → Option (List ℕ) → List (List ℕ) → List ℕ → RunFault
-    → Type 0
-StopsLine script before written ended line (run.BadScript number) =
+abbrev pub StopsLine : {X : Type 0} → Script X → Option (List ℕ) → Option (List ℕ) → List (List ℕ) → List ℕ
+    → Option BadLine → RunFault → Type 0
+StopsLine script before written ended line wrong (run.BadScript number) =
     (number ≡ length ended + 1) × (play_of script (ended ++ line ∷ []) ≡ None)
-    × Appends before written (text_of (play_of script ended))
-StopsLine script before written ended line run.NoMemory =
+    × Appends before written (text_of (play_of script ended)) × (wrong ≡ Some (wrong_behind script ended line))
+StopsLine script before written ended line wrong run.NoMemory =
     (play_of script (ended ++ line ∷ []) ≢ None) × (text : List ℕ) × IsWantText script (play_of script ended) line text
     × Appends before written (text_of (play_of script ended) ++ text)
-StopsLine script before written ended line run.WriteFault = ⊤
-StopsLine script before written ended line _ = ⊥
+StopsLine script before written ended line wrong run.WriteFault = ⊤
+StopsLine script before written ended line wrong _ = ⊥
 
 -- a line more was played: more was written, and the standing is that behind it
 abbrev pub PlaysOn : {X : Type 0} → Script X → (old_written : Option (List ℕ)) → (old : Standing X) → (line : List ℕ)
@@ -59,10 +60,10 @@ PlaysOn script old_written old line new_written new =
 
 -- why it wasn't
 abbrev pub StopsOn : {X : Type 0} → Script X → (old_written : Option (List ℕ)) → (old : Standing X) → (line : List ℕ)
-    → (new_written : Option (List ℕ)) → RunFault → Type 0
-StopsOn script old_written old line new_written fault =
+    → (new_written : Option (List ℕ)) → Option BadLine → RunFault → Type 0
+StopsOn script old_written old line new_written wrong fault =
     (before : Option (List ℕ)) → (ended : List (List ℕ)) → PlaysLines script before old_written old ended
-    → StopsLine script before new_written ended line fault
+    → StopsLine script before new_written ended line wrong fault
 
 -- ---- Inputs
 
@@ -123,12 +124,18 @@ PlaysFront script before written input =
     (INPUT_LIMIT < length input) × NoneBad script (ended_lines (take INPUT_LIMIT input))
     × Appends before written (text_of (play_of script (ended_lines (take INPUT_LIMIT input))))
 
+-- A bad line stopped the run, and this is wrong with it.
+abbrev pub StopsBad : {X : Type 0} → Script X → Option (List ℕ) → Option (List ℕ) → Option BadLine → ℕ → List ℕ → Type 0
+StopsBad script before written wrong number input =
+    StopsAt script before written number input × (wrong ≡ Some (wrong_line script number (lines_of input)))
+
 -- Why a run over a reader's input ended early, and what was written.
 abbrev pub StopsRun : {X : Type 0} → Script X → Option (List ℕ) → Option (List ℕ) → Option (List ℕ) → Option (List ℕ)
-    → RunFault → Type 0
-StopsRun script input rest before written (run.BadScript number) = IfSome input (StopsAt script before written number)
-StopsRun script input rest before written run.NoMemory = IfSome input (Wants script before written)
-StopsRun script input rest before written run.InputTooLong = IfSome input (PlaysFront script before written)
-StopsRun script input rest before written run.ReadFault = PlaysRead script input rest before written
-StopsRun script input rest before written run.WriteFault = ⊤
-StopsRun script input rest before written _ = ⊥
+    → Option BadLine → RunFault → Type 0
+StopsRun script input rest before written wrong (run.BadScript number) =
+    IfSome input (StopsBad script before written wrong number)
+StopsRun script input rest before written wrong run.NoMemory = IfSome input (Wants script before written)
+StopsRun script input rest before written wrong run.InputTooLong = IfSome input (PlaysFront script before written)
+StopsRun script input rest before written wrong run.ReadFault = PlaysRead script input rest before written
+StopsRun script input rest before written wrong run.WriteFault = ⊤
+StopsRun script input rest before written wrong _ = ⊥

@@ -1,8 +1,10 @@
 -- Scripts: what their lines say, and their text as a fold over the lines.
-use Rattle.std.specs.Prelude.{◌≡◌, ◌≢◌, ℕ, ◌+◌, ◌<◌, Bool, List, [], ◌∷◌, ◌++◌, length, take, Option, Some, None, option_map, nat_lt, if◌then◌else◌}
+use Rattle.std.specs.Prelude.{◌≡◌, ◌≢◌, ℕ, ◌+◌, ◌-◌, ◌<◌, Bool, List, [], ◌∷◌, ◌++◌, length, take, Option, Some, None, option_map, slice_get, nat_lt, if◌then◌else◌}
 use Rattle.std.specs.Io.BufRead.{strip_last}
 use Rattle.std.specs.Io.KnownBytes.{Appends}
 use Rattle.chaosd_io.specs.declared.limits.TheConstants.{LINE_LIMIT}
+use Rattle.chaosd_script.specs.declared.bad_line.BadLine.{BadLine}
+use Rattle.chaosd_script.specs.declared.bad_line.BadLine.TheVariants.{NoEnds, TooLong}
 
 -- what a line did in a laboratory: the laboratory after it, what is printed of it, and whether its event was refused
 pub record Done (X : Type 0) : Type 0 where
@@ -17,6 +19,9 @@ pub record Script (X : Type 0) : Type 1 where
   pub begun : X → List ℕ
   -- what a later line does, where it is of the form of one
   pub event : List ℕ → Option (X → Done X)
+  -- what is wrong with a first line of no form, and with a later one
+  pub first_wrong : List ℕ → BadLine
+  pub wrong : List ℕ → BadLine
   -- what is printed at the end
   pub ended : X → List ℕ
   -- the laboratories in which lines do what `event` says
@@ -75,6 +80,23 @@ pub record IsFirstBad {X : Type 0} (script : Script X) (number : ℕ) (lines : L
   pub counts : 0 < number
   pub bad : play_of script (take number lines) ≡ None
   pub good : (n : ℕ) → 0 < n → n < number → play_of script (take n lines) ≢ None
+
+-- what is wrong with a line by this reading, where it says nothing: it may be too long
+abbrev pub wrong_by : (List ℕ → BadLine) → List ℕ → BadLine
+wrong_by reading raw = if nat_lt LINE_LIMIT (length (strip_last 13 raw)) then TooLong else reading (strip_last 13 raw)
+
+-- what is wrong with the line behind these: a first line, or a later one
+abbrev pub wrong_behind : {X : Type 0} → Script X → List (List ℕ) → List ℕ → BadLine
+wrong_behind script [] raw = wrong_by script.first_wrong raw
+wrong_behind script (first ∷ lines) raw = wrong_by script.wrong raw
+
+abbrev pub wrong_at : {X : Type 0} → Script X → List (List ℕ) → Option (List ℕ) → BadLine
+wrong_at script ended None = NoEnds
+wrong_at script ended (Some raw) = wrong_behind script ended raw
+
+-- what is wrong with the bad line of this number, counted from 1: a line that is missing is the first
+abbrev pub wrong_line : {X : Type 0} → Script X → ℕ → List (List ℕ) → BadLine
+wrong_line script number lines = wrong_at script (take (number - 1) lines) (slice_get lines (number - 1))
 
 -- No line of these is of no form.
 abbrev pub NoneBad : {X : Type 0} → Script X → List (List ℕ) → Type 0

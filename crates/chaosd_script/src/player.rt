@@ -6,6 +6,7 @@ ghost use Rattle.chaosd_io.specs.Buffer.{written_of};
 ghost use Rattle.chaosd_io.specs.declared.fault.RunFault.TheVariants.{WriteFault};
 ghost use Rattle.chaosd_script.specs.Player.{PlaysLines, PlaysOn, StopsLine, StopsOn, PlaysDone, PlaysWithin, StopsRun};
 
+use crate::bad_line::{BadLine, LineReport};
 use crate::room::{hand_on, make_room};
 use crate::stage::Stage;
 use crate::standing::Standing;
@@ -19,6 +20,8 @@ pub struct Player<S: Stage> {
     alloc: Global,
     pub at: Standing<S>,
     pub out: WriteBuffer,
+    /// What is wrong with the bad line that the script ended by.
+    pub wrong: Option<BadLine>,
     ghost refused_within: { at.refused ≤ at.lines },
 }
 
@@ -37,6 +40,7 @@ impl<S: Stage> Player<S> {
                 refused: 0,
             },
             out: WriteBuffer::new(),
+            wrong: None,
         }
     }
 
@@ -65,12 +69,22 @@ impl<S: Stage> Player<S> {
         ensures stops { IfErr result
             (λ fault. (held : Option (List ℕ)) →
             StopsOn S.script (written_of held self.old.out) self.old.at raw.now
-            (written_of held self.new.out) fault) }
+            (written_of held self.new.out) self.new.wrong fault) }
         ensures count { OnOk result (self.new.at.lines ≡ self.old.at.lines + 1) }
     {
         let first = without_return(raw);
         let number = self.at.lines + 1;
-        let lab = S::begin(self.alloc, &mut self.out, first, number)?;
+        let mut report = LineReport {
+            number,
+            wrong: None,
+        };
+        let lab = match S::begin(self.alloc, &mut self.out, first, &mut report) {
+            Ok(lab) => lab,
+            Err(fault) => {
+                self.wrong = report.wrong;
+                return Err(fault);
+            }
+        };
         self.at.lab = Some(lab);
         self.at.lines = number;
         Ok(())
@@ -84,18 +98,29 @@ impl<S: Stage> Player<S> {
             (written_of (W.contents writer.new) self.new.out) self.new.at) }
         ensures stops { IfErr result
             (StopsOn S.script (written_of (W.contents writer.old) self.old.out) self.old.at raw.now
-            (written_of (W.contents writer.new) self.new.out)) }
+            (written_of (W.contents writer.new) self.new.out) self.new.wrong) }
         ensures count { OnOk result (self.new.at.lines ≡ self.old.at.lines + 1) }
     {
         let line = without_return(raw);
         let number = self.at.lines + 1;
         if line.len() > LINE_LIMIT {
+            self.wrong = Some(BadLine::TooLong);
             return Err(RunFault::BadScript(number));
         }
         let Some(lab) = &mut self.at.lab else {
             return self.play_first(raw);
         };
-        let refused = lab.play(self.alloc, &mut self.out, writer, line, number)?;
+        let mut report = LineReport {
+            number,
+            wrong: None,
+        };
+        let refused = match lab.play(self.alloc, &mut self.out, writer, line, &mut report) {
+            Ok(refused) => refused,
+            Err(fault) => {
+                self.wrong = report.wrong;
+                return Err(fault);
+            }
+        };
         self.at.refused += u64::from(refused);
         self.at.lines = number;
         Ok(())
@@ -115,7 +140,7 @@ impl<S: Stage> Player<S> {
             PlaysLines S.script before (written_of (W.contents writer.old) self.old.out)
             self.old.at ended →
             StopsLine S.script before (written_of (W.contents writer.new) self.new.out) ended
-            raw.now fault) }
+            raw.now self.new.wrong fault) }
         ensures count { OnOk result (self.new.at.lines ≡ self.old.at.lines + 1) }
     {
         make_room(&mut self.out, writer)?;
@@ -136,10 +161,11 @@ impl<S: Stage> Player<S> {
             PlaysDone S.script input rest before
             (written_of (W.contents writer.old) self.old.out) self.old.at →
             StopsRun S.script input rest before
-            (written_of (W.contents writer.new) self.new.out) fault) }
+            (written_of (W.contents writer.new) self.new.out) self.new.wrong fault) }
     {
         make_room(&mut self.out, writer)?;
         let Some(lab) = &self.at.lab else {
+            self.wrong = Some(BadLine::NoEnds);
             return Err(RunFault::BadScript(1));
         };
         written(lab.end(&mut self.out))

@@ -1,10 +1,13 @@
 //! The run over a script.
-ghost use Rattle.std.specs.Prelude.{◌≡◌, ◌≤◌, ◌+◌, [], ℕ, List, Option, Err, length, OnOk, IfOk, IfErr, IfSome};
+ghost use Rattle.std.specs.Prelude.{◌≡◌, ◌≤◌, ◌+◌, [], ℕ, List, Option, Some, Err, length, OnOk, IfOk, IfErr, IfSome};
 ghost use Rattle.std.specs.Io.KnownBytes.{Appends, IsAtEnd};
 ghost use Rattle.chaosd_io.specs.Buffer.{written_of};
+ghost use Rattle.chaosd_io.specs.Lines.{lines_of};
 ghost use Rattle.chaosd_io.specs.Reader.{left_of};
+ghost use Rattle.chaosd_script.specs.Script.{wrong_line};
 ghost use Rattle.chaosd_script.specs.Player.{PlaysLines, PlaysGiven, PlaysDone, PlaysRead, PlaysFront, PlaysAll, PlaysWithin, StopsAt, StopsRun, Wants};
 
+use crate::bad_line::BadLine;
 use crate::player::Player;
 use crate::stage::Stage;
 use chaosd_io::{INPUT_LIMIT, KEPT_LEN, LineReader, RunFault};
@@ -66,8 +69,63 @@ pub fn run_script<S: Stage, R: Read, W: Write>(
         IfSome (R.remaining reader.old)
         (Wants S.script (W.contents writer.old) (W.contents writer.new)) }
 {
+    run_script_by::<S, R, W>(alloc, reader, writer, &mut None)
+}
+
+/// Plays a script as [`run_script`] does. `wrong` gets what is wrong with a bad line.
+///
+/// # Errors
+/// As those of [`run_script`].
+pub fn run_script_by<S: Stage, R: Read, W: Write>(
+    alloc: Global,
+    reader: &mut R,
+    writer: &mut W,
+    wrong: &mut Option<BadLine>,
+) -> Result<u64, RunFault>
+    // If the run ends well, what was written is the text of all lines that were read, as the
+    // laboratory's language has it, and the result counts the refused events. So no line was bad.
+    ensures text { IfOk result
+        (λ refused. IfSome (R.remaining reader.old)
+        (PlaysAll S.script (W.contents writer.old) (W.contents writer.new) refused)) }
+    // The run ends well only at the input's end.
+    ensures ended { OnOk result (IsAtEnd (R.remaining reader.new)) }
+    // The run never ends well where more than 1,048,576 bytes came.
+    ensures within { OnOk result
+        (IfSome (R.remaining reader.old) (λ input. length input ≤ INPUT_LIMIT)) }
+
+    // The number of a bad line is that of the first line that is missing or of no form, counted
+    // from 1. This line ends within the limit or the input does, and the text of the lines before
+    // it was written.
+    ensures bad { (number : ℕ) → result ≡ Err (RunFault.BadScript number) →
+        IfSome (R.remaining reader.old)
+        (StopsAt S.script (W.contents writer.old) (W.contents writer.new) number) }
+
+    // `InputTooLong` comes only where the input is too long and each line that ended within the
+    // limit was played. None of these is bad.
+    ensures too_long { result ≡ Err RunFault.InputTooLong →
+        IfSome (R.remaining reader.old)
+        (PlaysFront S.script (W.contents writer.old) (W.contents writer.new)) }
+
+    // If the reader failed, each line that ended in what it had given was played, and no more. None
+    // of these is bad.
+    ensures unread { result ≡ Err RunFault.ReadFault →
+        PlaysRead S.script (R.remaining reader.old) (R.remaining reader.new) (W.contents writer.old)
+        (W.contents writer.new) }
+
+    // If memory runs out, the lines before were played, the line that ran out of memory is of the
+    // form of its place, and what the language prints of that was written.
+    ensures no_memory { result ≡ Err RunFault.NoMemory →
+        IfSome (R.remaining reader.old)
+        (Wants S.script (W.contents writer.old) (W.contents writer.new)) }
+
+    // If a line is bad, what is wrong with it is reported as the language says it.
+    ensures wrong { (number : ℕ) → result ≡ Err (RunFault.BadScript number) →
+        IfSome (R.remaining reader.old)
+        (λ input. wrong.new ≡ Some (wrong_line S.script number (lines_of input))) }
+{
     let mut player: Player<S> = Player::new(alloc);
     let end = play_all(&mut player, reader, writer);
+    *wrong = player.wrong;
     if let Err(RunFault::WriteFault) = end {
         return Err(RunFault::WriteFault);
     }
@@ -96,7 +154,7 @@ fn play_all<S: Stage, R: Read, W: Write>(
         PlaysLines S.script before (written_of (W.contents writer.old) player.old.out)
         player.old.at [] →
         StopsRun S.script (R.remaining reader.old) (R.remaining reader.new) before
-        (written_of (W.contents writer.new) player.new.out) fault) }
+        (written_of (W.contents writer.new) player.new.out) player.new.wrong fault) }
 {
     let mut lines: LineReader<KEPT_LEN> = LineReader::new(INPUT_LIMIT);
     'reads: loop {
@@ -128,7 +186,7 @@ fn play_ended<S: Stage, W: Write>(
         PlaysGiven S.script input rest before
         (written_of (W.contents writer.old) player.old.out) player.old.at lines.old →
         StopsRun S.script input rest before (written_of (W.contents writer.new) player.new.out)
-        fault) }
+        player.new.wrong fault) }
     ensures none { OnOk result (lines.new.waiting ≡ []) }
     ensures room { OnOk result (lines.new.room ≡ lines.old.room) }
     ensures count { OnOk result (player.new.at.lines + left_of lines.new ≤ INPUT_LIMIT) }
@@ -160,7 +218,7 @@ fn play_last<S: Stage, W: Write>(
         (written_of (W.contents writer.old) player.old.out) player.old.at lines.now →
         IsAtEnd rest →
         StopsRun S.script input rest before (written_of (W.contents writer.new) player.new.out)
-        fault) }
+        player.new.wrong fault) }
 {
     let Some(line) = lines.last() else {
         return Ok(());

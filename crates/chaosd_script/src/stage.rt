@@ -5,6 +5,7 @@ ghost use Rattle.chaosd_io.specs.Buffer.{written_of};
 ghost use Rattle.chaosd_script.specs.Script.{Script, PlaysLine};
 ghost use Rattle.chaosd_script.specs.Player.{IsLineFault};
 
+use crate::bad_line::LineReport;
 use chaosd_io::{NotWritten, RunFault, WriteBuffer};
 use std::alloc::Global;
 use std::io::Write;
@@ -18,13 +19,13 @@ pub trait Stage: Drop {
     /// The laboratory of a first line, and the text of how it begins.
     ///
     /// # Errors
-    /// `BadScript` with this number where the line is of no form, `NoMemory`, and `WriteFault`
+    /// `BadScript` with the line's number where the line is of no form, `NoMemory`, and `WriteFault`
     /// where the text doesn't fit.
     fn begin(
         alloc: Global,
         out: &mut WriteBuffer,
         line: &[u8],
-        number: u64,
+        report: &mut LineReport,
     ) -> Result<Self, RunFault>
         // A laboratory is begun only by a first line of the form. Then it is ready, and what the
         // language prints of the first line was printed.
@@ -33,7 +34,10 @@ pub trait Stage: Drop {
             × script.ready lab) }
         // `BadScript` comes only of a line that isn't of the form, and nothing was printed.
         ensures bad { (n : ℕ) → result ≡ Err (RunFault.BadScript n) →
-            (n ≡ number) × (script.first line.now ≡ None) × (out.new ≡ out.old) }
+            (n ≡ report.old.number) × (script.first line.now ≡ None) × (out.new ≡ out.old) }
+        // Then what is wrong with the line is reported, as the language says it.
+        ensures wrong { (n : ℕ) → result ≡ Err (RunFault.BadScript n) →
+            report.new.wrong ≡ Some (script.first_wrong line.now) }
         // `NoMemory` comes only of a line that is of the form, and nothing was printed.
         ensures no_memory { result ≡ Err RunFault.NoMemory →
             (script.first line.now ≢ None) × (out.new ≡ out.old) }
@@ -45,7 +49,7 @@ pub trait Stage: Drop {
     /// [`make_room`](crate::make_room) hands on to the writer what waits.
     ///
     /// # Errors
-    /// `BadScript` with this number where the line is of no form, `NoMemory`, and `WriteFault`
+    /// `BadScript` with the line's number where the line is of no form, `NoMemory`, and `WriteFault`
     /// where the text doesn't fit or the writer fails.
     fn play<W: Write>(
         &mut self,
@@ -53,7 +57,7 @@ pub trait Stage: Drop {
         out: &mut WriteBuffer,
         writer: &mut W,
         line: &[u8],
-        number: u64,
+        report: &mut LineReport,
     ) -> Result<bool, RunFault>
         // If a line ends well in a laboratory that is ready, it did and printed what the language
         // says.
@@ -65,9 +69,12 @@ pub trait Stage: Drop {
             × script.ready self.new) }
         // `BadScript` comes only of a line of no form, and nothing was printed.
         ensures bad { (n : ℕ) → result ≡ Err (RunFault.BadScript n) →
-            (n ≡ number) × (script.event line.now ≡ None)
+            (n ≡ report.old.number) × (script.event line.now ≡ None)
             × Keeps (written_of (W.contents writer.old) out.old)
             (written_of (W.contents writer.new) out.new) }
+        // Then what is wrong with the line is reported, as the language says it.
+        ensures wrong { (n : ℕ) → result ≡ Err (RunFault.BadScript n) →
+            report.new.wrong ≡ Some (script.wrong line.now) }
         // `NoMemory` comes only of a line of the form. Then the line left of the laboratory, and
         // printed, what the language says of that.
         ensures no_memory { result ≡ Err RunFault.NoMemory →

@@ -13,7 +13,7 @@ returns-in_err-refill-clause-stops g c =
     let s =
     given_kept g.S.Stage.script _ _ before _ _ _ _ _ c.in_ok-hand_on.ensures.kept c.in_ok-hand_on.ensures.same
     (c.in_ok-play_ended.ensures.plays _ _ before (c.reads.invariant.1 before first)) in
-    reading_stops g.S.Stage.script _ _ _ before _ _ _ c.refill.new.self _ s
+    reading_stops g.S.Stage.script _ _ _ before _ _ _ c.refill.new.self _ _ s
     (c.in_err-refill.ensures.given _ _ s.given s.gives))
 
 pub play_last-requires-clause-none : goal.play_last-requires-clause-none

@@ -9,7 +9,7 @@ returns-in_err-play_line-clause-stops g c =
     on_fault c.from_residual.result c.in_err-play_line.field-0.0 _ c.from_residual.ensures.1
     (λ input rest before s.
     let t = plays input rest before s in
-    next_stops g.S.Stage.script input rest before _ _ _ _ _ _ _ t
+    next_stops g.S.Stage.script input rest before _ _ _ _ _ _ _ _ t
     (c.loop-player-test.ensures.given _ input rest t.given t.gives) c.line.ensures
     (c.in_err-play_line.ensures.stops before t.given))
 

@@ -17,6 +17,6 @@ returns-clause-plays g c =
 pub returns-clause-stops : goal.returns-clause-stops
 returns-clause-stops g c =
     IfErr-weaker c.play_line.result _ _
-    (λ fault stops input rest before s end. last_stops g.S.Stage.script input rest before _ _ _ _ _ fault s
+    (λ fault stops input rest before s end. last_stops g.S.Stage.script input rest before _ _ _ _ _ _ fault s
     (c.in-Some.ensures _ input rest s.given s.gives end) (stops before s.given))
     c.play_line.ensures.stops

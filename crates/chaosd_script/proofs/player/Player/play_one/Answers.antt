@@ -1,4 +1,5 @@
 use Rattle.std.proofs.Common.{◌≡◌, true, false, ltb, length, sym, ap, ◌∙◌, subst, arith, rules}
+use Rattle.std.specs.Prelude.{Some}
 use Rattle.std.specs.Io.BufRead.{strip_last}
 use Rattle.std.proofs.lemmas.Bool.Decides.{nat_tests}
 use Rattle.std.proofs.lemmas.Result.{IfErr-weaker}
@@ -6,7 +7,7 @@ use Rattle.chaosd_io.specs.declared.limits.TheConstants.{LINE_LIMIT}
 use Rattle.chaosd_io.specs.Buffer.{written_of}
 use Rattle.chaosd_io.proofs.Steps.{on_ok}
 use Rattle.chaosd_script.specs.Script.{PlaysLine}
-use Rattle.chaosd_script.proofs.Plays.{too_long_stops, plays_event, event_stops, on_fault}
+use Rattle.chaosd_script.proofs.Plays.{too_long_stops, plays_event, event_stops}
 use Rattle.chaosd_script.proofs.player.Player.play_one.Goals as goal
 
 pub returns-then-line-gt-LINE_LIMIT-clause-stops : goal.returns-then-line-gt-LINE_LIMIT-clause-stops
@@ -17,33 +18,33 @@ returns-then-line-gt-LINE_LIMIT-clause-stops g c before ended s =
     too_long_stops g.S.Stage.script before _ _ ended raw
     (subst (λ l. ltb LINE_LIMIT (length l) ≡ true) line (grind (arith, nat_tests))) s
 
-pub returns-in_err-refused-clause-stops : goal.returns-in_err-refused-clause-stops
-returns-in_err-refused-clause-stops g c =
-    on_fault c.from_residual.result c.in_err-refused.field-0.0 _ c.from_residual.ensures.1 (λ before ended s.
+pub returns-in-Err-clause-stops : goal.returns-in-Err-clause-stops
+returns-in-Err-clause-stops g c before ended s =
     let raw = c.args.raw.now in
     let line : c.without_return-line.result.now ≡ strip_last 13 raw = c.without_return-line.ensures in
-    event_stops g.S.Stage.script c.in_err-refused.field-0.0 before _ _ _ ended raw c.in-Some.lab c.play.new.self
+    event_stops g.S.Stage.script c.in-Err.fault before _ _ _ ended raw c.in-Some.lab c.play.new.self _
     c.in-Some.is (subst (λ l. ltb LINE_LIMIT (length l) ≡ false) line (grind (arith, nat_tests)))
-    c.in_err-refused.ensures.faults
-    (λ n e. let (number, said, same) = c.in_err-refused.ensures.bad n
+    c.in-Err.ensures.faults
+    (λ n e. let (number, said, same) = c.in-Err.ensures.bad n
     e in (number, ap g.S.Stage.script.event (sym line) ∙ said, same))
-    (λ e. let (said, more) = c.in_err-refused.ensures.no_memory
+    (λ n e. c.in-Err.ensures.wrong n e ∙ ap (λ l. Some (g.S.Stage.script.wrong l)) line)
+    (λ e. let (said, more) = c.in-Err.ensures.no_memory
     e in (λ none. said (ap g.S.Stage.script.event line ∙ none), λ ready. let (text, wants, wrote) = more ready in (text, subst (λ l. g.S.Stage.script.wants c.in-Some.lab l c.play.new.self text) line wants, wrote)))
-    s)
+    s
 
 pub returns-clause-plays : goal.returns-clause-plays
 returns-clause-plays g c before ended s =
     let raw = c.args.raw.now in
     let line : c.without_return-line.result.now ≡ strip_last 13 raw = c.without_return-line.ensures in
-    plays_event g.S.Stage.script before _ _ _ _ ended raw c.in-Some.lab c.play.new.self c.in_ok-refused.refused
+    plays_event g.S.Stage.script before _ _ _ _ ended raw c.in-Some.lab c.play.new.self c.in-Ok.refused
     c.in-Some.is (search rules) (subst (λ l. ltb LINE_LIMIT (length l) ≡ false) line (grind (arith, nat_tests)))
     (subst
     (λ l. g.S.Stage.script.ready c.in-Some.lab
     → PlaysLine g.S.Stage.script l c.in-Some.lab c.play.new.self
     (written_of (g.W.Write.contents c.args.writer.now) c.args.self.now.out)
-    (written_of (g.W.Write.contents c.play.new.writer) c.play.new.out) c.in_ok-refused.refused
+    (written_of (g.W.Write.contents c.play.new.writer) c.play.new.out) c.in-Ok.refused
     × g.S.Stage.script.ready c.play.new.self)
-    line c.in_ok-refused.ensures.played)
+    line c.in-Ok.ensures.played)
     s
 
 -- the first line, whatever the writer holds
