@@ -8,7 +8,6 @@ mod asking;
 mod changes;
 mod client;
 mod config;
-mod connections;
 mod copies;
 mod descriptors;
 mod dialogs;

@@ -4,19 +4,16 @@ ghost use Rattle.chaosd.specs.Config.{config_by};
 ghost use Rattle.chaosd_line.specs.Framings.{carriage_of};
 
 use crate::config::config_of;
-use crate::connections::Connections;
 use crate::framed::hops_of;
 use crate::run_ends::tell_unopened;
 use chaos_chudp::ChudpLink;
-use chaos_file::{DirStore, PrintedName, Store};
+use chaos_file::{DirStore, PrintedName, ReadOnly, Store};
 use chaos_link::{Link, UdpLink};
 use chaosd_clock::ClockMoments;
 use chaosd_copies::ExitStatus;
 use chaosd_io::RunFault;
 use chaosd_line::{Framing, LogLevel, Serve};
-use chaosd_log::{
-    Journal, Ledger, Level, Matter, NotedLink, NotedSocket, NotedStore, Pages, ReadOnly,
-};
+use chaosd_log::{Journal, Ledger, Level, Matter, NotedLink, NotedSocket, ServerLog};
 use file_server::{ServeOptions, run_serve_by};
 use std::fs::{File, Files};
 use std::io;
@@ -53,7 +50,7 @@ fn make_turns<R: AllocGlobal + Clock + Eprint, L: Link, S: Store>(
     requires { 0 < options.me }
 {
     let mut moments = ClockMoments::new(rt)?;
-    let mut log = Connections(&*journal);
+    let mut log = ServerLog(&*journal);
     run_serve_by(&mut moments, rt.alloc(), link, store, options, &mut log)
 }
 
@@ -97,7 +94,7 @@ fn serve_store<R: AllocGlobal + Clock + Eprint, L: Link, S: Store + Drop>(
     requires { 0 < options.me }
 {
     if is_read_only {
-        let mut store = ReadOnly::new(store, Pages(journal));
+        let mut store = ReadOnly::new(store);
         serve(rt, options, journal, link, &mut store)
     } else {
         serve(rt, options, journal, link, &mut store)
@@ -164,8 +161,7 @@ fn serve_over<R: AllocGlobal + Clock + Eprint + Files<File = File>, L: Link + Dr
     requires { 0 < options.me }
 {
     let mut link = NotedLink::new(link, journal);
-    let store = NotedStore::new(folder, Pages(journal));
-    serve_store(rt, options, journal, &mut link, store, is_read_only)
+    serve_store(rt, options, journal, &mut link, folder, is_read_only)
 }
 
 /// Runs `serve` on a folder, which is opened first, and then the socket.

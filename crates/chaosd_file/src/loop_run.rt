@@ -22,7 +22,7 @@ use chaos_packet::{Outbox, PktNum};
 use chaos_turn::{TURN_ROOM, TurnEnd, client_turn};
 use chaosd_io::RunFault;
 use file_client::{Client, Contact, Patience, Route, Turns};
-use file_server::Server;
+use file_server::{Server, Silent};
 use std::alloc::Global;
 use std::io::{Read, Write};
 
@@ -40,7 +40,7 @@ impl FarEnd {
         ensures fault { (result ≡ TurnEnd.LinkFault) ↔ Rose (B.count link.old) (B.count link.new) }
     {
         self.server
-            .turn(&mut self.store, link, LOOP_SERVER_START, now, false)
+            .turn(&mut self.store, link, LOOP_SERVER_START, now, false, &mut Silent)
     }
 }
 

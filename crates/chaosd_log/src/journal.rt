@@ -1,9 +1,7 @@
 //! Where the lines of a log are written.
-use crate::deed::{Attempt, Deed};
 use crate::ledger::{Asking, Ledger};
 use crate::level::{Level, Matter};
 use crate::limiter::Limiter;
-use crate::notes::Notes;
 use crate::warning::{Named, Warning, bridge_warning_of, warning_of};
 use chaos_file::PrintedName;
 use jiff::Timestamp;
@@ -21,9 +19,8 @@ use std::time::Clock;
 /// about the matter or at the end of a turn, or at the end of the run. Where the clock can't be
 /// read, all lines count as lines of the last second that was read; the first such fault is logged.
 ///
-/// The link, the socket and the store of a server share it, so a clause knows nothing of what it
-/// holds. What was done to a file is kept until the next datagram is sent. The turn of a server
-/// sends the reply right behind a command, so that datagram goes to the host whose command it was.
+/// The link, the socket and the log of a server share it, so a clause knows nothing of what it
+/// holds.
 #[derive(Drop)]
 pub struct Journal<'a, R> {
     rt: &'a R,
@@ -35,8 +32,6 @@ pub struct Journal<'a, R> {
     second: Cell<u64>,
     /// Whether the log has a line that the clock can't be read.
     is_clock_missed: Cell<bool>,
-    /// What was done since a datagram was sent.
-    deed: RefCell<Option<Deed>>,
     /// Where the last datagram came from, until its host is known.
     source: Cell<Option<SocketAddrV4>>,
 }
@@ -52,7 +47,6 @@ impl<'a, R: Clock + Eprint> Journal<'a, R> {
             limiter: RefCell::new(Limiter::new()),
             second: Cell::new(0),
             is_clock_missed: Cell::new(false),
-            deed: RefCell::new(None),
             source: Cell::new(None),
         }
     }
@@ -236,26 +230,20 @@ impl<'a, R: Clock + Eprint> Journal<'a, R> {
         }
     }
 
-    /// A datagram goes to this host: what was done is logged as the deed of this host.
-    pub fn answer(&self, to: u16) {
-        let Ok(Some(deed)) = self.deed.try_replace(None) else {
-            return;
-        };
+    /// Logs a line about this host, with the UDP address where it was heard last.
+    pub fn tell_of<D: Display>(&self, host: u16, matter: Matter, line: &D) {
         let source = match self.ledger.try_borrow() {
-            Ok(ledger) => ledger.source_of(to),
+            Ok(ledger) => ledger.source_of(host),
             Err(_) => None,
         };
-        let matter = deed.matter();
         match source {
-            Some(from) => self.tell(matter, &format_args!("host {to:06o} at {from} {deed}")),
-            None => self.tell(matter, &format_args!("host {to:06o} {deed}")),
+            Some(from) => self.tell(matter, &format_args!("host {host:06o} at {from} {line}")),
+            None => self.tell(matter, &format_args!("host {host:06o} {line}")),
         }
     }
 
-    /// The turn is over. What was done and not answered is logged as the deed of `a host`, and what
-    /// was left out in a second that is over is reported.
+    /// The turn is over: what was left out in a second that is over is reported.
     pub fn end_turn(&self) {
-        self.expire();
         if !self.has_left_out() {
             return;
         }
@@ -265,47 +253,14 @@ impl<'a, R: Clock + Eprint> Journal<'a, R> {
         }
     }
 
-    /// The run is over, as this line says. What was done and not answered is logged as the deed of
-    /// `a host`, and what was left out is reported. The line itself is never left out where the
-    /// level has such lines.
+    /// The run is over, as this line says, and what was left out is reported. The line itself is
+    /// never left out where the level has such lines.
     pub fn end<D: Display>(&self, matter: Matter, line: &D) {
-        self.expire();
         for matter in &Matter::EACH {
             self.report(*matter);
         }
         if self.level.is_told(matter) {
             self.write(line);
         }
-    }
-
-    fn expire(&self) {
-        let Ok(Some(deed)) = self.deed.try_replace(None) else {
-            return;
-        };
-        self.tell(deed.matter(), &format_args!("a host {deed}"));
-    }
-
-    fn keep(&self, deed: Deed) {
-        self.expire();
-        let _ = self.deed.try_replace(Some(deed));
-    }
-}
-
-/// The notes of a store in a journal, which promise nothing.
-#[derive(Drop)]
-pub struct Pages<'a, R>(pub &'a Journal<'a, R>);
-
-impl<R: Clock + Eprint> Notes for Pages<'_, R> {
-    ghost use Rattle.std.specs.Prelude.{None};
-
-    ghost noted = { λ _. None };
-
-    fn note(&mut self, deed: Deed) {
-        self.0.keep(deed);
-    }
-
-    fn fail(&mut self, attempt: Attempt, fault: &io::Error) {
-        self.0
-            .tell(Matter::Fault, &format_args!("can't {attempt}: {fault}"));
     }
 }

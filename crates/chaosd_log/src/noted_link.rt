@@ -4,8 +4,7 @@ use crate::source::source_of;
 use chaos_link::{LINK_ROOM, Link, Received, Sent};
 use std::time::Clock;
 
-/// A link that reports to a journal whose datagram came, and to which host a datagram goes. Where a
-/// datagram came from is known to the journal's [`NotedSocket`](crate::NotedSocket) below. It
+/// A link that reports to a journal whose datagram came. Where a datagram came from is known to the journal's [`NotedSocket`](crate::NotedSocket) below. It
 /// promises what the link behind it promises.
 #[derive(Drop)]
 pub struct NotedLink<'a, R, L> {
@@ -40,7 +39,6 @@ impl<R: Clock + Eprint, L: Link> Link for NotedLink<'_, R, L> {
     ghost began = { λ link. L.began link.inner };
 
     fn send(&mut self, to_address: u16, bytes: &[u8]) -> Sent {
-        self.journal.answer(to_address);
         self.inner.send(to_address, bytes)
     }
 

@@ -1,7 +1,6 @@
 -- Phases of a server's turn that has begun, one after another.
 use Rattle.std.proofs.Common.{◌≡◌, ℕ, suc, Bool, true, false, if◌then◌else◌, List, length, Option, refl, ap, ◌∙◌, subst}
 use Rattle.chaos_packet.specs.Packet.{PacketView}
-use Rattle.chaos_file.specs.Store.{StoreChange}
 use Rattle.chaos_host.specs.Deliver.{host_deliver}
 use Rattle.chaos_host.specs.declared.answers.HostDelivered.{HostDelivered}
 use Rattle.chaos_link.specs.declared.carriage.Carriage.{Carriage}
@@ -13,11 +12,11 @@ use Rattle.chaos_turn.specs.declared.turn.Turn.{Turn}
 use Rattle.chaos_turn.proofs.InTurn.{same_twice, still, then_does}
 use Rattle.file_server.specs.Arrive.{accept_by, arrive_at_server, greet, request_in}
 use Rattle.file_server.specs.InTurn.{ServerTurnDoes, server_in}
-use Rattle.file_server.specs.Serve.{ServerDoes, ServesSlot, ServesSlots}
+use Rattle.file_server.specs.Serve.{ServerDoes, ServesSlotBy, ServesSlotsBy, Uses}
 use Rattle.file_server.specs.Server.{Server, after_giving_back, with_host}
 use Rattle.file_server.specs.Sessions.{Serving}
 use Rattle.file_server.specs.Slots.{end_phases}
-use Rattle.file_server.specs.Turn.{IsTurn}
+use Rattle.file_server.specs.Turn.{IsTurnBy}
 use Rattle.file_server.proofs.Relation.{slots_none, slots_so}
 use Rattle.file_server.proofs.Whole.{turn_so}
 
@@ -35,7 +34,7 @@ module _ {L : Type 0} {G : Ghosts L} where
       then_does a b c (deliver_effect a.now p a.host.now) (λ now after. accept_by after start now wanted) sent more all
       delivered (subst (λ (r : Option ℕ). TurnDoes b c (accept_by b.host.now start b.now r) more) found accepted) told
 
-module _ {L S : Type 0} {G : Ghosts L} (changes : S → S → StoreChange) where
+module _ {L S : Type 0} {G : Ghosts L} (uses : Uses S) where
   -- a phase of the turn at its moment and by its carriage, as they were when the turn began
   serves_still : (a b c : Turn L G) (does : ℕ → Server S → Server S → List (List PacketView) → Type 0)
       (xs ys : List Serving) (s t : S) (sent : Bool)
@@ -52,18 +51,18 @@ module _ {L S : Type 0} {G : Ghosts L} (changes : S → S → StoreChange) where
 
   -- no slot was served yet
   pub none_served : (a : Turn L G) (xs : List Serving) (s : S)
-      → ServerTurnDoes a a (ServesSlots changes a.now 0) xs xs s s false
-  none_served a xs s = (slots_none changes a.carriage (server_in a xs s) a.now, (refl, refl, refl, refl, refl))
+      → ServerTurnDoes a a (ServesSlotsBy uses a.now 0) xs xs s s false
+  none_served a xs s = (slots_none uses a.carriage (server_in a xs s) a.now, (refl, refl, refl, refl, refl))
 
   -- the first slots were served, and then the next
   pub one_served : (a b c : Turn L G) (place : ℕ) (xs ys zs : List Serving) (s t u : S) (sent more all : Bool)
-      → ServerTurnDoes a b (ServesSlots changes a.now place) xs ys s t sent
-      → ServerTurnDoes b c (ServesSlot changes b.now place) ys zs t u more
+      → ServerTurnDoes a b (ServesSlotsBy uses a.now place) xs ys s t sent
+      → ServerTurnDoes b c (ServesSlotBy uses b.now place) ys zs t u more
       → all ≡ (if more then true else sent)
-      → ServerTurnDoes a c (ServesSlots changes a.now (suc place)) xs zs s u all
+      → ServerTurnDoes a c (ServesSlotsBy uses a.now (suc place)) xs zs s u all
   one_served a b c place xs ys zs s t u sent more all one two e = (
-    slots_so changes a.carriage (server_in a xs s) (server_in b ys t) (server_in c zs u) place a.now sent more all
-        one.0 (serves_still a b c (λ (now : ℕ). ServesSlot changes now place) ys zs t u more one.1 two) e,
+    slots_so uses a.carriage (server_in a xs s) (server_in b ys t) (server_in c zs u) place a.now sent more all
+        one.0 (serves_still a b c (λ (now : ℕ). ServesSlotBy uses now place) ys zs t u more one.1 two) e,
     same_twice a b c one.1 two.1,
   )
 
@@ -71,16 +70,16 @@ module _ {L S : Type 0} {G : Ghosts L} (changes : S → S → StoreChange) where
   pub turn_taken : (silence : Option ℕ) (came : Arrival) (start : ℕ) (a b c d : Turn L G) (xs ys zs : List Serving)
       (s t : S) (x y z all : Bool)
       → TurnDoes a b (arrive_at_server came start a.now a.host.now) x
-      → ServerTurnDoes b c (ServesSlots changes b.now (length b.host.now.slots)) xs ys s t y
+      → ServerTurnDoes b c (ServesSlotsBy uses b.now (length b.host.now.slots)) xs ys s t y
       → TurnDoes c d (end_phases silence ys c.now c.host.now) z
       → (server_in d zs t).node ≡ after_giving_back (with_host (server_in c ys t).node d.host.now)
       → all ≡ (if x then true else (if y then true else z))
-      → ServerTurnDoes a d (IsTurn changes silence came start a.now) xs zs s t all
+      → ServerTurnDoes a d (IsTurnBy uses silence came start a.now) xs zs s t all
   turn_taken silence came start a b c d xs ys zs s t x y z all one two three given e =
       let same = same_twice a b c one.1 two.1 in (
-        turn_so changes a.carriage silence came start a.now (server_in a xs s) (server_in b xs s) (server_in c ys t)
+        turn_so uses a.carriage silence came start a.now (server_in a xs s) (server_in b xs s) (server_in c ys t)
             (server_in d zs t) x y z all refl given one.0
-            (serves_still a b c (λ (now : ℕ). ServesSlots changes now (length b.host.now.slots)) xs ys s t y one.1 two)
+            (serves_still a b c (λ (now : ℕ). ServesSlotsBy uses now (length b.host.now.slots)) xs ys s t y one.1 two)
             (still a c d (λ (now : ℕ). end_phases silence ys now c.host.now) z same three) e,
         same_twice a c d same three.1,
       )

@@ -5,22 +5,21 @@ use Rattle.chaos_packet.specs.Packet.{PacketView}
 use Rattle.chaos_packet.specs.Outbox.{OutboxView}
 use Rattle.chaos_conn.specs.View.{ConnView}
 use Rattle.chaos_file.specs.Session.{SessionView}
-use Rattle.chaos_file.specs.Store.{StoreChange}
 use Rattle.chaos_host.specs.Acted.{HostActed, HostDoes, no_effect}
-use Rattle.chaos_host.specs.Slot.{named_slot}
+use Rattle.chaos_host.specs.Slot.{named_slot, place_of}
 use Rattle.chaos_host.specs.View.{HostView, id_at, host_look, look_slot}
 use Rattle.chaos_host.specs.declared.slot.Slot.{Slot}
 use Rattle.chaos_link.specs.Link.{Ask, AskedSince, Asks, QueueView}
 use Rattle.chaos_link.specs.declared.carriage.Carriage.{Carriage}
 use Rattle.chaos_link.specs.declared.carriage.Carriage.TheVariants.{One, Two}
 use Rattle.chaos_serve.specs.Calls.{DoesWorkByCalls, is_served}
-use Rattle.chaos_serve.specs.Host.{ServesOne}
+use Rattle.chaos_serve.specs.Host.{DoesWorkInSlotBy}
 use Rattle.chaos_serve.specs.Work.{Work, NotOpen, Nothing, Full, LastItem, Command, work_of}
 use Rattle.chaos_serve.specs.declared.served.Served.{Served}
 use Rattle.chaos_serve.specs.declared.served.Served.TheVariants as told
 use Rattle.chaos_serve.proofs.Slots.{serves_one}
 use Rattle.chaos_turn.specs.Link.{SendsLots, has_packets}
-use Rattle.file_server.specs.Serve.{ServerDoes, ServesPlace, ServesSlot, serving_after}
+use Rattle.file_server.specs.Serve.{ServerDoes, ServesPlaceBy, ServesSlotBy, Uses, serving_after}
 use Rattle.file_server.specs.Sessions.{Serving, eof_after, serving_at, serving_of}
 use Rattle.chaos_turn.specs.Station.{Station, station}
 use Rattle.file_server.specs.Server.{Server, server}
@@ -48,23 +47,24 @@ nothing_done : (h : HostView) (out : OutboxView) (answer : Served) → HostDoes 
 nothing_done h out answer =
     record { view = refl; packets = nothing_put out; answers = refl; few = omega arith; config = refl; size = refl }
 
-module _ (store : StoreChange) (s : SessionView) (h : HostView) (id now : ℕ) (out : OutboxView) (same : store.same)
-  where
-    by_calls : (work : Work) → is_served (Some work) ≡ false
-        → DoesWorkByCalls store s s (λ acted. HostDoes h 2 acted h out out (told_without work)) h id now (Some work)
-    by_calls (NotOpen state) e = ((refl, same), nothing_done h out (told.Ended state))
-    by_calls Nothing e = ((refl, same), nothing_done h out told.Idle)
-    by_calls Full e = ((refl, same), nothing_done h out told.NoRoom)
-    by_calls LastItem e = absurd (cc)
-    by_calls (Command body) e = absurd (cc)
+module _ (answered : List ℕ → List ℕ → Type 0) (unused : Type 0) (h : HostView) (id now : ℕ) (out : OutboxView)
+    (rests : unused) where
+  by_calls : (work : Work) → is_served (Some work) ≡ false
+      → DoesWorkByCalls answered unused (λ acted. HostDoes h 2 acted h out out (told_without work)) h id now (Some work)
+  by_calls (NotOpen state) e = (rests, nothing_done h out (told.Ended state))
+  by_calls Nothing e = (rests, nothing_done h out told.Idle)
+  by_calls Full e = (rests, nothing_done h out told.NoRoom)
+  by_calls LastItem e = absurd (cc)
+  by_calls (Command body) e = absurd (cc)
 
-    serves_none : (slot : Slot) → named_slot h.slots id ≡ Some slot → is_served (Some (work_of slot.conn)) ≡ false
-        → ServesOne store s s h id now h out out (told_without (work_of slot.conn))
-    serves_none slot e none =
-        let does : HostActed Served → Type 0 = λ acted. HostDoes h 2 acted h out out (told_without (work_of slot.conn)) in
-        serves_one store s s h id now h out out (told_without (work_of slot.conn))
-        (subst (λ (o : Option Slot). DoesWorkByCalls store s s does h id now (option_map (λ slot. work_of slot.conn) o))
-        (sym e) (by_calls (work_of slot.conn) none))
+  serves_none : (slot : Slot) → named_slot h.slots id ≡ Some slot → is_served (Some (work_of slot.conn)) ≡ false
+      → DoesWorkInSlotBy answered unused (λ acted. HostDoes h 2 acted h out out (told_without (work_of slot.conn))) h
+      (place_of id) now (named_slot h.slots id)
+  serves_none slot e none =
+      let does : HostActed Served → Type 0 = λ acted. HostDoes h 2 acted h out out (told_without (work_of slot.conn)) in
+      serves_one answered unused does h id now
+      (subst (λ (o : Option Slot). DoesWorkByCalls answered unused does h id now (option_map (λ slot. work_of slot.conn) o))
+      (sym e) (by_calls (work_of slot.conn) none))
 
 -- the slot whose connection an index shows
 looked_at : (found : Option Slot) (conn : ConnView) → look_slot (λ c. c) found ≡ Ok conn
@@ -80,13 +80,13 @@ nothing_sent {L} {asked} One queue packets e =
 nothing_sent {L} {asked} Two queue packets e =
     rw e (record { sends = sends_nothing queue; asks = asks_none asked; read = refl })
 
-module _ {S : Type 0} (changes : S → S → StoreChange) where
+module _ {S : Type 0} (uses : Uses S) where
   -- where no connection is there, nothing is served
   pub none_there : {L : Type 0} {asked : AskedSince L Ask} (carriage : Carriage) (a : Station (Server S)) (place now : ℕ)
-      → id_at a.node.host place ≡ None → ServerDoes (Asks asked asked) carriage (ServesSlot changes now place) a a false
+      → id_at a.node.host place ≡ None → ServerDoes (Asks asked asked) carriage (ServesSlotBy uses now place) a a false
   none_there carriage a place now e = record {
     lots = [];
-    done = subst (λ (o : Option ℕ). ServesPlace changes now place o a.node a.node []) (sym e) (refl, refl);
+    done = subst (λ (o : Option ℕ). ServesPlaceBy uses now place o a.node a.node []) (sym e) (refl, refl);
     sends = lots_nothing carriage a.queue;
     outbox = refl;
     told = refl;
@@ -98,8 +98,8 @@ module _ {S : Type 0} (changes : S → S → StoreChange) where
   -- where it has nothing to serve, and its session is there, serving its slot changes nothing
   pub passed_so : {L : Type 0} {asked : AskedSince L Ask} (carriage : Carriage) (here : Serving) (sessions kept : List Serving) (store : S) (place id now : ℕ) (host : HostView) (conn : ConnView) (out : OutboxView) (queue : Option QueueView)
       → id_at host place ≡ Some id → here ≡ serving_at sessions place → kept ≡ slice_set sessions place here → serving_of id now here ≡ here → host_look host id (λ c. c) ≡ Ok conn → is_served (Some (work_of conn)) ≡ false
-      → (changes store store).same → out.packets ≡ []
-      → ServerDoes (Asks asked asked) carriage (ServesSlot changes now place) (station (server host sessions store) queue out) (station (server host kept store) queue out) false
+      → ((s : SessionView) → (uses store store host id s s).unused) → out.packets ≡ []
+      → ServerDoes (Asks asked asked) carriage (ServesSlotBy uses now place) (station (server host sessions store) queue out) (station (server host kept store) queue out) false
   passed_so carriage here sessions kept store place id now host conn out queue e e' set serves shows none same empty =
       let found = looked_at (named_slot host.slots id) conn shows in
       let slot = found.0 in
@@ -108,6 +108,6 @@ module _ {S : Type 0} (changes : S → S → StoreChange) where
       let left : here ≡ serving_after (serving_of id now here) (serving_of id now here).session answer =
       ap (λ (b : Bool). record here { eof = b }) (sym (stays (work_of slot.conn) here.eof)) ∙ ap (λ (s : Serving). serving_after s s.session answer) (sym serves) in
       let over : out ≡ record { packets = []; cap = out.cap } = ap (λ (ps : List PacketView). record { packets = ps; cap = out.cap }) empty in
-      slot_so changes carriage here here sessions kept store store place id now host host out out out queue queue false e e' set empty
+      slot_so uses carriage here here sessions kept store store place id now host host out out out queue queue false e e' set empty
       (nothing_sent carriage queue out.packets empty) over (sym (ap (λ (ps : List PacketView). has_packets (ps ∷ [])) empty))
-      (kept_so (changes store store) (serving_of id now here) here (serving_of id now here).session host id now host out out answer left (serves_none (changes store store) (serving_of id now here).session host id now out same slot found.1 idle))
+      (kept_so (uses store store host id) (serving_of id now here) here (serving_of id now here).session host id now host out out answer left (serves_none (uses store store host id (serving_of id now here).session (serving_of id now here).session).answered (uses store store host id (serving_of id now here).session (serving_of id now here).session).unused host id now out (same (serving_of id now here).session) slot found.1 idle))

@@ -7,27 +7,26 @@ use Rattle.chaos_link.specs.Link.{Ask, AskedSince, Asks, QueueView}
 use Rattle.chaos_conn.specs.View.{ConnView}
 use Rattle.chaos_conn.specs.Acted.{Acted}
 use Rattle.chaos_file.specs.Session.{SessionView}
-use Rattle.chaos_file.specs.Store.{StoreChange}
 use Rattle.chaos_host.specs.Acted.{HostActed, HostDoes}
 use Rattle.chaos_host.specs.Slot.{named_slot, place_of}
 use Rattle.chaos_host.specs.View.{HostView, id_at}
 use Rattle.chaos_host.specs.declared.slot.Slot.{Slot}
-use Rattle.chaos_serve.specs.Host.{DoesWorkInSlot, ServesOne, in_slot}
-use Rattle.chaos_serve.specs.Serve.{DoesWork}
+use Rattle.chaos_serve.specs.Host.{DoesWorkInSlotBy, in_slot}
+use Rattle.chaos_serve.specs.Serve.{DoesWorkBy}
 use Rattle.chaos_serve.specs.Work.{Work, NotOpen, Nothing, Full, LastItem, Command, work_of}
 use Rattle.chaos_serve.specs.declared.served.Served.{Served}
 use Rattle.chaos_link.specs.declared.carriage.Carriage.{Carriage}
 use Rattle.chaos_turn.specs.Link.{SendsLots, has_packets}
-use Rattle.file_server.specs.Serve.{DoesKept, IsServedAt, ServerDoes, ServesPlace, ServesSlot, ServesSlots, SessionServes, serving_after}
+use Rattle.file_server.specs.Serve.{DoesKept, IsServedAt, ServerDoes, ServesPlaceBy, ServesSlotBy, ServesSlotsBy, SessionServesBy, Use, Uses, serving_after}
 use Rattle.file_server.specs.Sessions.{Serving, serving_at, serving_of}
 use Rattle.chaos_turn.specs.Station.{Station, station}
 use Rattle.file_server.specs.Server.{Server, server}
 use Rattle.chaos_turn.proofs.Phase.{put_into_empty}
 use Rattle.chaos_turn.proofs.Queue.{lots_nothing, sends_both, has_both}
 
-module _ (store : StoreChange) (s t : SessionView) where
+module _ (answered : List ℕ → List ℕ → Type 0) (unused : Type 0) where
   by_work : (P Q : Acted Served → Type 0) (v : ConnView) (now : ℕ) (work : Work)
-      → ((acted : Acted Served) → P acted → Q acted) → DoesWork store s t P v now work → DoesWork store s t Q v now work
+      → ((acted : Acted Served) → P acted → Q acted) → DoesWorkBy answered unused P v now work → DoesWorkBy answered unused Q v now work
   by_work P Q v now (NotOpen state) f done = (done.0, f _ done.1)
   by_work P Q v now Nothing f done = (done.0, f _ done.1)
   by_work P Q v now Full f done = (done.0, f _ done.1)
@@ -37,37 +36,38 @@ module _ (store : StoreChange) (s t : SessionView) where
   -- what holds of what the host did holds still where something weaker is asked
   pub serves_so : (P Q : HostActed Served → Type 0) (h : HostView) (place now : ℕ) (found : Option Slot)
       → ((acted : HostActed Served) → P acted → Q acted)
-      → DoesWorkInSlot store s t P h place now found → DoesWorkInSlot store s t Q h place now found
+      → DoesWorkInSlotBy answered unused P h place now found → DoesWorkInSlotBy answered unused Q h place now found
   serves_so P Q h place now None f done = (done.0, f _ done.1)
   serves_so P Q h place now (Some slot) f done =
       by_work (λ acted. P (in_slot h place slot acted)) (λ acted. Q (in_slot h place slot acted)) slot.conn now
       (work_of slot.conn) (λ acted p. f (in_slot h place slot acted) p) done
 
   -- what the host did, where it was told of all that it may have done
-  work_found : (P : Acted Served → Type 0) (v : ConnView) (now : ℕ) (work : Work) → DoesWork store s t P v now work
-      → (acted : Acted Served) × DoesWork store s t (λ a. acted ≡ a) v now work × P acted
+  work_found : (P : Acted Served → Type 0) (v : ConnView) (now : ℕ) (work : Work) → DoesWorkBy answered unused P v now work
+      → (acted : Acted Served) × DoesWorkBy answered unused (λ a. acted ≡ a) v now work × P acted
   work_found P v now (NotOpen state) done = (_, (done.0, refl), done.1)
   work_found P v now Nothing done = (_, (done.0, refl), done.1)
   work_found P v now Full done = (_, (done.0, refl), done.1)
   work_found P v now LastItem done = (_, (done.0, refl), done.1)
   work_found P v now (Command body) done = (_, (done.0, done.1, refl), done.2)
 
-  in_found : (P : HostActed Served → Type 0) (h : HostView) (place now : ℕ) (found : Option Slot)
-      → DoesWorkInSlot store s t P h place now found
-      → (acted : HostActed Served) × DoesWorkInSlot store s t (λ a. acted ≡ a) h place now found × P acted
+  pub in_found : (P : HostActed Served → Type 0) (h : HostView) (place now : ℕ) (found : Option Slot)
+      → DoesWorkInSlotBy answered unused P h place now found
+      → (acted : HostActed Served) × DoesWorkInSlotBy answered unused (λ a. acted ≡ a) h place now found × P acted
   in_found P h place now None done = (_, (done.0, refl), done.1)
   in_found P h place now (Some slot) done =
       let found = work_found (λ acted. P (in_slot h place slot acted)) slot.conn now (work_of slot.conn) done in
       (in_slot h place slot found.0, by_work (λ a. found.0 ≡ a) (λ a. in_slot h place slot found.0 ≡ in_slot h place slot a) slot.conn now (work_of slot.conn) (λ a e. ap (in_slot h place slot) e) found.1, found.2)
 
 -- a connection was served by a slot's session
-pub kept_so : (store : StoreChange) (serving left : Serving) (t : SessionView) (old : HostView) (id now : ℕ)
+pub kept_so : (u : SessionView → SessionView → Use) (serving left : Serving) (t : SessionView) (old : HostView) (id now : ℕ)
     (new : HostView) (before after : OutboxView) (answer : Served)
-    → left ≡ serving_after serving t answer → ServesOne store serving.session t old id now new before after answer
-    → SessionServes store now id serving (λ s acted. DoesKept s left old acted new before after) old
-kept_so store serving left t old id now new before after answer e done = (
+    → left ≡ serving_after serving t answer → DoesWorkInSlotBy (u serving.session t).answered (u serving.session t).unused
+    (λ acted. HostDoes old 2 acted new before after answer) old (place_of id) now (named_slot old.slots id)
+    → SessionServesBy u now id serving (λ s acted. DoesKept s left old acted new before after) old
+kept_so u serving left t old id now new before after answer e done = (
   t,
-  serves_so store serving.session t (λ acted. HostDoes old 2 acted new before after answer)
+  serves_so (u serving.session t).answered (u serving.session t).unused (λ acted. HostDoes old 2 acted new before after answer)
       (λ acted. DoesKept (serving_after serving t acted.answer) left old acted new before after)
       old (place_of id) now (named_slot old.slots id)
       (λ acted d.
@@ -76,42 +76,42 @@ kept_so store serving left t old id now new before after answer e done = (
 )
 
 -- what became of a slot that was served, and what its host did
-found_so : (store : StoreChange) (now id : ℕ) (serving : Serving) (P : Serving → HostActed Served → Type 0)
+found_so : (u : SessionView → SessionView → Use) (now id : ℕ) (serving : Serving) (P : Serving → HostActed Served → Type 0)
     (h : HostView)
-    → SessionServes store now id serving P h
+    → SessionServesBy u now id serving P h
     → (left : Serving) × (acted : HostActed Served)
-    × SessionServes store now id serving (λ l a. (left ≡ l) × (acted ≡ a)) h × P left acted
-found_so store now id serving P h done =
+    × SessionServesBy u now id serving (λ l a. (left ≡ l) × (acted ≡ a)) h × P left acted
+found_so u now id serving P h done =
     let became = λ (acted : HostActed Served). serving_after serving done.0 acted.answer in
     let one =
-    in_found store serving.session done.0 (λ acted. P (became acted) acted) h (place_of id) now
+    in_found (u serving.session done.0).answered (u serving.session done.0).unused (λ acted. P (became acted) acted) h (place_of id) now
     (named_slot h.slots id) done.1 in (
       became one.0,
       one.0,
-      (done.0, serves_so store serving.session done.0 (λ a. one.0 ≡ a) (λ a. (became one.0 ≡ became a) × (one.0 ≡ a)) h (place_of id) now (named_slot h.slots id) (λ a e. (ap became e, e)) one.1),
+      (done.0, serves_so (u serving.session done.0).answered (u serving.session done.0).unused (λ a. one.0 ≡ a) (λ a. (became one.0 ≡ became a) × (one.0 ≡ a)) h (place_of id) now (named_slot h.slots id) (λ a e. (ap became e, e)) one.1),
       one.2,
     )
 
-become_so : (store : StoreChange) (now id : ℕ) (serving : Serving) (P Q : Serving → HostActed Served → Type 0)
+become_so : (u : SessionView → SessionView → Use) (now id : ℕ) (serving : Serving) (P Q : Serving → HostActed Served → Type 0)
     (h : HostView)
     → ((l : Serving) (a : HostActed Served) → P l a → Q l a)
-    → SessionServes store now id serving P h → SessionServes store now id serving Q h
-become_so store now id serving P Q h f done = (
+    → SessionServesBy u now id serving P h → SessionServesBy u now id serving Q h
+become_so u now id serving P Q h f done = (
   done.0,
-  serves_so store serving.session done.0 (λ a. P (serving_after serving done.0 a.answer) a)
+  serves_so (u serving.session done.0).answered (u serving.session done.0).unused (λ a. P (serving_after serving done.0 a.answer) a)
       (λ a. Q (serving_after serving done.0 a.answer) a) h (place_of id) now (named_slot h.slots id)
       (λ a p. f (serving_after serving done.0 a.answer) a p) done.1,
 )
 
 -- serving leaves the outbox as much room in all
-pub as_much_room : (store : StoreChange) (now id : ℕ) (serving left : Serving) (old new : HostView)
+pub as_much_room : (u : SessionView → SessionView → Use) (now id : ℕ) (serving left : Serving) (old new : HostView)
     (before mid : OutboxView)
-    → SessionServes store now id serving (λ s acted. DoesKept s left old acted new before mid) old → mid.cap ≡ before.cap
-as_much_room store now id serving left old new before mid done =
-    let found = found_so store now id serving (λ s acted. DoesKept s left old acted new before mid) old done in
+    → SessionServesBy u now id serving (λ s acted. DoesKept s left old acted new before mid) old → mid.cap ≡ before.cap
+as_much_room u now id serving left old new before mid done =
+    let found = found_so u now id serving (λ s acted. DoesKept s left old acted new before mid) old done in
     ap (λ (o : OutboxView). o.cap) found.3.does.packets
 
-module _ {S : Type 0} (changes : S → S → StoreChange) where
+module _ {S : Type 0} (uses : Uses S) where
   -- a slot was served by its session, and what was put out went into the link
   pub slot_so : {asked : List Ask → Type 0} (carriage : Carriage) (here left : Serving) (sessions kept : List Serving) (store store' : S)
       (place id now : ℕ) (old new : HostView) (before mid rest : OutboxView) (queue after : Option QueueView)
@@ -120,35 +120,35 @@ module _ {S : Type 0} (changes : S → S → StoreChange) where
       → before.packets ≡ []
       → SendsLots asked carriage queue (mid.packets ∷ []) after → rest ≡ record { packets = []; cap = mid.cap }
       → sent ≡ has_packets (mid.packets ∷ [])
-      → SessionServes (changes store store') now id (serving_of id now here)
+      → SessionServesBy (uses store store' old id) now id (serving_of id now here)
       (λ s acted. DoesKept s left old acted new before mid) old
-      → ServerDoes asked carriage (ServesSlot changes now place) (station (server old sessions store) queue before)
+      → ServerDoes asked carriage (ServesSlotBy uses now place) (station (server old sessions store) queue before)
       (station (server new kept store') after rest) sent
   slot_so carriage here left sessions kept store store' place id now old new before mid rest queue after sent e e' set
       empty sends over told done =
-      let change = changes store store' in
+      let u = uses store store' old id in
       let found =
-      found_so change now id (serving_of id now here) (λ s acted. DoesKept s left old acted new before mid) old done in
+      found_so u now id (serving_of id now here) (λ s acted. DoesKept s left old acted new before mid) old done in
       let d = found.3 in
       let acted = found.1 in
       let packets : mid.packets ≡ acted.packets =
       ap (λ (o : OutboxView). o.packets) d.does.packets ∙ put_into_empty before acted.packets empty in
       let is : Serving → HostActed Served → Type 0 =
       IsServedAt place (server old sessions store) (server new kept store') (mid.packets ∷ []) in
-      let one : SessionServes change now id (serving_of id now here) is old
-      = become_so change now id (serving_of id now here) (λ l a. (found.0 ≡ l) × (acted ≡ a)) is old
+      let one : SessionServesBy u now id (serving_of id now here) is old
+      = become_so u now id (serving_of id now here) (λ l a. (found.0 ≡ l) × (acted ≡ a)) is old
       (λ l a same. record {
         host = d.does.view ∙ ap (λ (x : HostActed Served). x.view) same.1;
         sessions = set ∙ ap (slice_set sessions place) (d.kept ∙ same.0);
         out = ap (λ (ps : List PacketView). ps ∷ []) (packets ∙ ap (λ (x : HostActed Served). x.packets) same.1);
       }) found.2 in
-      let there : SessionServes change now id (serving_of id now (serving_at sessions place)) is old =
-      subst (λ (x : Serving). SessionServes change now id (serving_of id now x) is old) e' one in
+      let there : SessionServesBy u now id (serving_of id now (serving_at sessions place)) is old =
+      subst (λ (x : Serving). SessionServesBy u now id (serving_of id now x) is old) e' one in
       record {
         lots = mid.packets ∷ [];
         done =
             subst
-            (λ (o : Option ℕ). ServesPlace changes now place o (server old sessions store) (server new kept store')
+            (λ (o : Option ℕ). ServesPlaceBy uses now place o (server old sessions store) (server new kept store')
             (mid.packets ∷ []))
             (sym e) there;
         sends = sends;
@@ -164,9 +164,9 @@ module _ {S : Type 0} (changes : S → S → StoreChange) where
 
   -- the first slots were served, and then the next
   pub slots_so : {L : Type 0} {aa ab ac : AskedSince L Ask} (carriage : Carriage) (a b c : Station (Server S)) (place now : ℕ) (sent more all : Bool)
-      → ServerDoes (Asks aa ab) carriage (ServesSlots changes now place) a b sent
-      → ServerDoes (Asks ab ac) carriage (ServesSlot changes now place) b c more
-      → all ≡ (if more then true else sent) → ServerDoes (Asks aa ac) carriage (ServesSlots changes now (suc place)) a c all
+      → ServerDoes (Asks aa ab) carriage (ServesSlotsBy uses now place) a b sent
+      → ServerDoes (Asks ab ac) carriage (ServesSlotBy uses now place) b c more
+      → all ≡ (if more then true else sent) → ServerDoes (Asks aa ac) carriage (ServesSlotsBy uses now (suc place)) a c all
   slots_so carriage a b c place now sent more all one two e =
       record {
         lots = one.lots ++ two.lots;
@@ -185,6 +185,6 @@ module _ {S : Type 0} (changes : S → S → StoreChange) where
 
   -- no slot was served yet
   pub slots_none : {L : Type 0} {asked : AskedSince L Ask} (carriage : Carriage) (a : Station (Server S)) (now : ℕ)
-      → ServerDoes (Asks asked asked) carriage (ServesSlots changes now 0) a a false
+      → ServerDoes (Asks asked asked) carriage (ServesSlotsBy uses now 0) a a false
   slots_none carriage a now =
       record { lots = []; done = (refl, refl); sends = lots_nothing carriage a.queue; outbox = refl; told = refl; config = refl; size = refl; count = refl }

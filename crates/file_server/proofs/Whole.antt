@@ -4,7 +4,6 @@ use Rattle.std.proofs.lemmas.List.{length-set}
 use Rattle.chaos_host.specs.View.{HostView, id_at}
 use Rattle.chaos_link.specs.Link.{Ask, AskedSince, Asks}
 use Rattle.chaos_link.specs.declared.carriage.Carriage.{Carriage}
-use Rattle.chaos_file.specs.Store.{StoreChange}
 use Rattle.chaos_turn.specs.Arrive.{Arrival}
 use Rattle.chaos_turn.specs.Link.{has_packets}
 use Rattle.chaos_turn.specs.Phase.{DoesPhase}
@@ -12,11 +11,11 @@ use Rattle.chaos_turn.specs.Station.{Station, station}
 use Rattle.chaos_turn.proofs.Queue.{sends_both}
 use Rattle.chaos_turn.proofs.Whole.{has_all}
 use Rattle.file_server.specs.Arrive.{arrive_at_server}
-use Rattle.file_server.specs.Serve.{ServerDoes, ServesSlots}
+use Rattle.file_server.specs.Serve.{ServerDoes, ServesSlotsBy, Uses}
 use Rattle.file_server.specs.Server.{Server, after_giving_back, with_host}
 use Rattle.file_server.specs.Sessions.{Serving, serving_at, without_files}
 use Rattle.file_server.specs.Slots.{end_phases, given_back, given_back_at}
-use Rattle.file_server.specs.Turn.{IsTurn}
+use Rattle.file_server.specs.Turn.{IsTurnBy}
 
 -- a server at its link, of whose station its host's phases see the host
 abbrev pub host_at : {S : Type 0} → Station (Server S) → Station HostView
@@ -32,22 +31,22 @@ pub as_many : (h : HostView) (n : ℕ) (sessions : List Serving) → length (giv
 as_many h zero sessions = refl
 as_many h (suc n) sessions = as_many_at (id_at h n) n (given_back h n sessions) ∙ as_many h n sessions
 
-module _ {S : Type 0} (changes : S → S → StoreChange) where
+module _ {S : Type 0} (uses : Uses S) where
   -- what came, then each slot served, then the last phases, and the files of those without a connection given back
   pub turn_so : {L : Type 0} {aa ab ac ad : AskedSince L Ask} (carriage : Carriage) (silence : Option ℕ) (came : Arrival) (start now : ℕ) (a b c d : Station (Server S)) (x y z all : Bool)
       → b.node ≡ with_host a.node b.node.host → d.node ≡ after_giving_back (with_host c.node d.node.host)
       → DoesPhase (Asks aa ab) carriage (arrive_at_server came start now a.node.host) (host_at a) (host_at b) x
-      → ServerDoes (Asks ab ac) carriage (ServesSlots changes now (length b.node.host.slots)) b c y
+      → ServerDoes (Asks ab ac) carriage (ServesSlotsBy uses now (length b.node.host.slots)) b c y
       → DoesPhase (Asks ac ad) carriage (end_phases silence c.node.sessions now c.node.host) (host_at c) (host_at d) z
       → all ≡ (if x then true else (if y then true else z))
-      → ServerDoes (Asks aa ad) carriage (IsTurn changes silence came start now) a d all
+      → ServerDoes (Asks aa ad) carriage (IsTurnBy uses silence came start now) a d all
   turn_so carriage silence came start now a b c d x y z all same same' one two three e =
       let first = arrive_at_server came start now a.node.host in
       let last = end_phases silence c.node.sessions now c.node.host in
       let arrived : b.node ≡ with_host a.node first.host = same ∙ ap (with_host a.node) one.host in
-      let each : ServesSlots changes now (length a.node.host.slots) (with_host a.node first.host) c.node two.lots
-      = subst (λ (n : ℕ). ServesSlots changes now n (with_host a.node first.host) c.node two.lots) one.size
-      (subst (λ (s : Server S). ServesSlots changes now (length b.node.host.slots) s c.node two.lots) arrived
+      let each : ServesSlotsBy uses now (length a.node.host.slots) (with_host a.node first.host) c.node two.lots
+      = subst (λ (n : ℕ). ServesSlotsBy uses now n (with_host a.node first.host) c.node two.lots) one.size
+      (subst (λ (s : Server S). ServesSlotsBy uses now (length b.node.host.slots) s c.node two.lots) arrived
       two.done) in
       record {
         lots = first.lots ++ (two.lots ++ last.lots);

@@ -1,6 +1,7 @@
 pub mod Arrive
 pub mod Fault
 pub mod InTurn
+pub mod Logged
 pub mod Serve
 pub mod Server
 pub mod Service

@@ -7,7 +7,8 @@ use Rattle.chaos_host.specs.View.{HostView, id_at}
 use Rattle.chaos_host.specs.Acted.{HostActed, HostDoes}
 use Rattle.chaos_file.specs.Session.{SessionView}
 use Rattle.chaos_file.specs.Store.{StoreChange}
-use Rattle.chaos_serve.specs.Host.{DoesWorkInSlot}
+use Rattle.chaos_serve.specs.Answer.{IsAnswered, IsUnused}
+use Rattle.chaos_serve.specs.Host.{DoesWorkInSlotBy}
 use Rattle.chaos_serve.specs.declared.served.Served.{Served}
 use Rattle.chaos_link.specs.Link.{Ask}
 use Rattle.chaos_link.specs.declared.carriage.Carriage.{Carriage}
@@ -20,11 +21,24 @@ use Rattle.file_server.specs.Server.{Server}
 abbrev pub serving_after : Serving → SessionView → Served → Serving
 serving_after serving session answer = record serving { session = session; eof = eof_after serving.eof answer }
 
+-- What is made of a command that a session is given, and of none. `answered`: this reply answers this command.
+pub record Use : Type 1 where
+  pub answered : List ℕ → List ℕ → Type 0
+  pub unused : Type 0
+
+-- by a store alone
+abbrev pub plain_use : StoreChange → SessionView → SessionView → Use
+plain_use store s t = record { answered = IsAnswered store s t; unused = IsUnused store s t }
+
 -- A slot's session serves the connection with an own index. `does`: the session is left as this, and the host did that.
+abbrev pub SessionServesBy : (SessionView → SessionView → Use) → ℕ → ℕ → Serving → (Serving → HostActed Served → Type 0)
+    → HostView → Type 0
+SessionServesBy u now id serving does h = (session : SessionView)
+    × DoesWorkInSlotBy (u serving.session session).answered (u serving.session session).unused
+    (λ acted. does (serving_after serving session acted.answer) acted) h (place_of id) now (named_slot h.slots id)
+
 abbrev pub SessionServes : StoreChange → ℕ → ℕ → Serving → (Serving → HostActed Served → Type 0) → HostView → Type 0
-SessionServes store now id serving does h = (session : SessionView)
-    × DoesWorkInSlot store serving.session session (λ acted. does (serving_after serving session acted.answer) acted) h
-    (place_of id) now (named_slot h.slots id)
+SessionServes store = SessionServesBy (plain_use store)
 
 -- A slot's session is this, and the host did that.
 pub record DoesKept (serving left : Serving) (old : HostView) (acted : HostActed Served) (new : HostView)
@@ -55,20 +69,38 @@ module _ {S : Type 0} where
     pub size : length after.node.host.slots ≡ length before.node.host.slots
     pub count : length after.node.sessions ≡ length before.node.sessions
 
-module _ {S : Type 0} (changes : S → S → StoreChange) where
+-- what is made of commands by what a server keeps, before and after them, for a connection of a host by its own index
+abbrev pub Uses : Type 0 → Type 1
+Uses S = S → S → HostView → ℕ → SessionView → SessionView → Use
+
+abbrev pub plain_uses : {S : Type 0} → (S → S → StoreChange) → Uses S
+plain_uses changes s t h id = plain_use (changes s t)
+
+module _ {S : Type 0} (uses : Uses S) where
   -- The connection at a place, where there is one, is served once: the server became this, and these lots went out.
-  abbrev pub ServesPlace : ℕ → ℕ → Option ℕ → Server S → Server S → List (List PacketView) → Type 0
-  ServesPlace now place None s t lots = (t ≡ s) × (lots ≡ [])
-  ServesPlace now place (Some id) s t lots =
-      SessionServes (changes s.store t.store) now id (serving_of id now (serving_at s.sessions place))
+  abbrev pub ServesPlaceBy : ℕ → ℕ → Option ℕ → Server S → Server S → List (List PacketView) → Type 0
+  ServesPlaceBy now place None s t lots = (t ≡ s) × (lots ≡ [])
+  ServesPlaceBy now place (Some id) s t lots =
+      SessionServesBy (uses s.store t.store s.host id) now id (serving_of id now (serving_at s.sessions place))
       (IsServedAt place s t lots) s.host
 
   -- The slot at a place is served once.
-  abbrev pub ServesSlot : ℕ → ℕ → Server S → Server S → List (List PacketView) → Type 0
-  ServesSlot now place s t lots = ServesPlace now place (id_at s.host place) s t lots
+  abbrev pub ServesSlotBy : ℕ → ℕ → Server S → Server S → List (List PacketView) → Type 0
+  ServesSlotBy now place s t lots = ServesPlaceBy now place (id_at s.host place) s t lots
 
   -- Each of the first so many slots is served once, in rising order.
+  abbrev pub ServesSlotsBy : ℕ → ℕ → Server S → Server S → List (List PacketView) → Type 0
+  ServesSlotsBy now zero s t lots = (t ≡ s) × (lots ≡ [])
+  ServesSlotsBy now (suc n) s t lots = (m : Server S) × (first last : List (List PacketView))
+      × ServesSlotsBy now n s m first × ServesSlotBy now n m t last × (lots ≡ first ++ last)
+
+-- the same by a store alone
+module _ {S : Type 0} (changes : S → S → StoreChange) where
+  abbrev pub ServesPlace : ℕ → ℕ → Option ℕ → Server S → Server S → List (List PacketView) → Type 0
+  ServesPlace = ServesPlaceBy (plain_uses changes)
+
+  abbrev pub ServesSlot : ℕ → ℕ → Server S → Server S → List (List PacketView) → Type 0
+  ServesSlot = ServesSlotBy (plain_uses changes)
+
   abbrev pub ServesSlots : ℕ → ℕ → Server S → Server S → List (List PacketView) → Type 0
-  ServesSlots now zero s t lots = (t ≡ s) × (lots ≡ [])
-  ServesSlots now (suc n) s t lots = (m : Server S) × (first last : List (List PacketView))
-      × ServesSlots now n s m first × ServesSlot now n m t last × (lots ≡ first ++ last)
+  ServesSlots = ServesSlotsBy (plain_uses changes)

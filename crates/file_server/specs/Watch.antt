@@ -1,5 +1,6 @@
 -- Which connections opened and ended between the looks at a server.
 use Rattle.std.specs.Prelude.{ℕ, zero, suc, ◌==◌, Bool, true, false, if◌then◌else◌, List, [], ◌∷◌, ◌++◌, Option, Some, None, option_map, Result, Ok, Err, slice_index_or, slice_set}
+use Rattle.chaos_file.specs.declared.change.Change.{Change}
 use Rattle.chaos_conn.specs.Calls.{keeps_opn, peer_of}
 use Rattle.chaos_conn.specs.View.{ConnView}
 use Rattle.chaos_conn.specs.declared.state.End.{End}
@@ -12,10 +13,12 @@ use Rattle.file_server.specs.declared.log.Ending.{Ending}
 use Rattle.file_server.specs.declared.log.Ending.TheVariants.{Done, HostDown, Unacknowledged, Closed}
 use Rattle.file_server.specs.declared.watch.Seen.{Seen}
 
--- what a log is told: the peer of a connection that opened; and of one that ended, the name that its user gave, and why
+-- what a log is told: the peer of a connection that opened; of one that ended, the name that its user gave, and why; and of
+-- one whose command changed a file or was refused, that name and the change
 pub data Event : Type 0 where
   Opened : (peer : End) → Event
   Ended : (peer : End) → (login : Option (List ℕ)) → (ending : Ending) → Event
+  Changed : (peer : End) → (login : Option (List ℕ)) → (change : Change) → Event
 
 abbrev pub told_with : Event → Option (List Event) → Option (List Event)
 told_with event told = option_map (λ events. events ++ event ∷ []) told
@@ -25,6 +28,9 @@ told_opened peer told = told_with (Opened peer) told
 
 abbrev pub told_ended : End → Option (List ℕ) → Ending → Option (List Event) → Option (List Event)
 told_ended peer login ending told = told_with (Ended peer login ending) told
+
+abbrev pub told_changed : End → Option (List ℕ) → Change → Option (List Event) → Option (List Event)
+told_changed peer login change told = told_with (Changed peer login change) told
 
 -- ---- one look
 
@@ -36,6 +42,10 @@ end_in None = record { address = 0; index = 0 }
 abbrev pub end_told : Result (Option (ℕ × Option ℕ)) CallFault → End
 end_told (Ok peer) = end_in peer
 end_told (Err _) = record { address = 0; index = 0 }
+
+-- the peer of the connection with an own index
+abbrev pub peer_at : HostView → ℕ → End
+peer_at h id = end_told (host_look h id (λ conn. peer_of conn))
 
 abbrev pub is_down : Result State CallFault → Bool
 is_down (Ok state.HostDown) = true
@@ -49,7 +59,7 @@ is_unacknowledged (Err _) = false
 abbrev pub seen_of : HostView → ℕ → Seen
 seen_of h id = record {
   id = id;
-  peer = end_told (host_look h id (λ conn. peer_of conn));
+  peer = peer_at h id;
   is_down = is_down (host_look h id (λ conn. conn.state));
   is_unacknowledged = is_unacknowledged (host_look h id (λ conn. conn));
 }

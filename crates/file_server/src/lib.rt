@@ -27,7 +27,7 @@ mod waiting;
 mod watch;
 
 pub use limits::law_limits;
-pub use log::{Ending, Log};
+pub use log::{Ending, Log, Silent};
 pub use serve_run::{ServeOptions, run_serve, run_serve_by};
 pub use server::Server;
 pub use sessions::Sessions;

@@ -1,8 +1,9 @@
-//! The log of a server's connections.
+//! The log of a server's connections, and of what their commands changed.
 ghost use Rattle.std.specs.Prelude.{◌≡◌, List, Option, option_map};
-ghost use Rattle.file_server.specs.Watch.{Event, told_opened, told_ended};
+ghost use Rattle.file_server.specs.Watch.{Event, told_changed, told_opened, told_ended};
 
 use chaos_conn::End;
+use chaos_file::{Cause, Change};
 
 /// Why a connection ended, as far as its host knows.
 #[derive(Clone, Copy, Debug, PartialEq, Eq)]
@@ -18,9 +19,10 @@ pub enum Ending {
     Closed,
 }
 
-/// Whatever notes each connection of a server that opens and each that ends.
+/// Whatever notes each connection of a server that opens and each that ends, and what each command
+/// changed.
 pub trait Log {
-    /// The openings and the ends so far, in order. `None` for a log that promises nothing.
+    /// The openings, the ends and the changes so far, in order. `None` for a log that promises nothing.
     ghost told: { Self → Option (List Event) };
 
     /// The connection that this peer asked for has opened.
@@ -35,11 +37,27 @@ pub trait Log {
         // gave, and why the connection ended.
         ensures { told self.new
             ≡ told_ended peer (option_map (λ name. name.now) login.entry) ending (told self.old) };
+
+    /// A command of the connection to this peer changed this, or was refused. `login` is the name
+    /// that the connection's user gave, if any. `cause` is why the store failed, where it did and
+    /// knows more.
+    fn changed(
+        &mut self,
+        peer: End,
+        login: Option<&[u8]>,
+        change: &Change,
+        cause: Option<Cause<'_>>,
+    )
+        // The log holds the change behind all that it held before: the peer, the name that its user
+        // gave, and what was changed.
+        ensures { told self.new
+            ≡ told_changed peer (option_map (λ name. name.now) login.entry) change.now
+            (told self.old) };
 }
 
 /// A log that keeps nothing, and promises nothing.
 #[derive(Drop)]
-pub(crate) struct Silent;
+pub struct Silent;
 
 impl Log for Silent {
     ghost use Rattle.std.specs.Prelude.{None};
@@ -49,4 +67,12 @@ impl Log for Silent {
     fn opened(&mut self, peer: End) {}
 
     fn ended(&mut self, peer: End, login: Option<&[u8]>, commands: u64, ending: Ending) {}
+
+    fn changed(
+        &mut self,
+        peer: End,
+        login: Option<&[u8]>,
+        change: &Change,
+        cause: Option<Cause<'_>>,
+    ) {}
 }

@@ -2,10 +2,12 @@
 ghost use Rattle.std.specs.Prelude.{◌≡◌, length};
 ghost use Rattle.chaos_file.specs.Store.{change};
 ghost use Rattle.file_server.specs.InTurn.{ServerTurnDoes};
-ghost use Rattle.file_server.specs.Turn.{IsTurn};
+ghost use Rattle.file_server.specs.Logged.{logged_uses};
+ghost use Rattle.file_server.specs.Turn.{IsTurnBy};
 
 use crate::arriving::arrive_at_server;
 use crate::ending::end_slots;
+use crate::log::Log;
 use crate::serving::serve_slots;
 use crate::sessions::Sessions;
 use crate::terms::Terms;
@@ -14,20 +16,22 @@ use chaos_link::{Link, LinkFault, Packets};
 use chaos_turn::{Turn, any_of};
 
 /// Makes a turn of what came. Says whether packets went out.
-pub(crate) fn take_turn<S: Store, L: Link>(
+pub(crate) fn take_turn<S: Store, L: Link, G: Log>(
     turn: &mut Turn<'_, L>,
     sessions: &mut Sessions,
     store: &mut S,
     came: Option<Result<Packets<'_>, LinkFault>>,
     terms: &Terms,
+    log: &mut G,
 ) -> bool
     requires alike { length sessions.old ≡ length turn.old.host.now.slots }
     ensures { ServerTurnDoes turn.old turn.new
-        (IsTurn (change S.contents S.may_give S.count) terms.now.silence came.entry terms.now.start
-        turn.old.now) sessions.old sessions.new store.old store.new result }
+        (IsTurnBy (logged_uses (change S.contents S.may_give S.count)) terms.now.silence came.entry
+        terms.now.start turn.old.now) sessions.old sessions.new (store.old, G.told log.old)
+        (store.new, G.told log.new) result }
 {
     let arrived = arrive_at_server(turn, came, terms.start);
-    let served = serve_slots(turn, sessions, store, terms.alloc);
+    let served = serve_slots(turn, sessions, store, terms.alloc, log);
     let ended = end_slots(turn, sessions, terms.silence);
     sessions.give_back(turn.host);
     any_of(arrived, served, ended)

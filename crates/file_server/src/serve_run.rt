@@ -118,7 +118,7 @@ pub fn run_serve_by<M: Moments, L: Link, S: Store, G: Log>(
     let mut watch = Watch::new();
     for turn in 0..options.turns {
         let now = moments.next()?;
-        let end = server.turn(store, link, moments.start(now), now, true);
+        let end = server.turn(store, link, moments.start(now), now, true, log);
         server.watch(&mut watch, log);
         if end == TurnEnd::LinkFault {
             return Err(RunFault::LinkFault);

@@ -38,6 +38,7 @@ impl Server {
     ghost use Rattle.chaos_turn.specs.declared.limits.TheConstants.{TURN_ROOM};
     ghost use Rattle.file_server.specs.Sessions.{new_serving};
     ghost use Rattle.file_server.specs.declared.limits.TheConstants.{SILENT_MILLIS};
+    ghost use Rattle.file_server.specs.Logged.{LogsTurn};
     ghost use Rattle.file_server.specs.Service.{listening_host, service_of};
     ghost use Rattle.file_server.specs.Turn.{RunsTurn};
     ghost use Rattle.file_server.specs.Waiting.{waits};
@@ -89,14 +90,15 @@ impl Server {
     /// One turn, as [`run_turn`](crate::run_turn) makes it. The turn also closes each connection
     /// whose peer acknowledged nothing in the first 30 seconds. A new connection numbers what it
     /// writes from `start` on. If nothing in front is to be served, the turn may wait for a
-    /// datagram, where `may_wait` allows it.
-    pub fn turn<S: Store, L: Link>(
+    /// datagram, where `may_wait` allows it. The log gets what each command changed.
+    pub fn turn<S: Store, L: Link, G: Log>(
         &mut self,
         store: &mut S,
         link: &mut L,
         start: PktNum,
         now: u64,
         may_wait: bool,
+        log: &mut G,
     ) -> TurnEnd
         // The turn ends by `LinkFault` exactly where the link's count of failures rose.
         ensures fault { (result ≡ TurnEnd.LinkFault) ↔ Rose (L.count link.old) (L.count link.new) }
@@ -109,6 +111,15 @@ impl Server {
             (Asks (L.asked link.old) (L.asked link.new)) (waits may_wait self.old.node.host)
             self.old.node.carriage start now (service_of self.old store.old (L.queue link.old))
             (service_of self.new store.new (L.queue link.new)) result }
+        // The turn logged what each command that it served changed, in the order in which it served
+        // them. The log has the peer of the connection whose command it was, the name that this
+        // connection's user gave, and the change by the whole promise of `Session::apply_into`. For
+        // all else that the turn did, it logged nothing.
+        ensures logs { LogsTurn (change S.contents S.may_give S.count) (Some SILENT_MILLIS)
+            (Asks (L.asked link.old) (L.asked link.new)) (waits may_wait self.old.node.host)
+            self.old.node.carriage start now
+            (service_of self.old (store.old, G.told log.old) (L.queue link.old))
+            (service_of self.new (store.new, G.told log.new) (L.queue link.new)) result }
         // The server keeps its carriage.
         ensures carriage { self.new.node.carriage ≡ self.old.node.carriage }
     {
@@ -128,7 +139,14 @@ impl Server {
             start,
             silence: Some(SILENT_MILLIS),
         };
-        let sent = take_turn(&mut turn, &mut self.sessions, store, begun.came, &terms);
+        let sent = take_turn(
+            &mut turn,
+            &mut self.sessions,
+            store,
+            begun.came,
+            &terms,
+            log,
+        );
         end_of(begun.failures, turn.link.failures(), begun.worked, sent)
     }
 

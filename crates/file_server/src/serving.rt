@@ -5,52 +5,59 @@ ghost use Rattle.chaos_file.specs.Store.{change};
 ghost use Rattle.chaos_serve.specs.Calls.{is_served};
 ghost use Rattle.chaos_serve.specs.Work.{work_of};
 ghost use Rattle.file_server.specs.InTurn.{ServerTurnDoes};
-ghost use Rattle.file_server.specs.Serve.{DoesKept, ServesSlot, ServesSlots, SessionServes};
+ghost use Rattle.file_server.specs.Logged.{logged_uses, report_use, told_made};
+ghost use Rattle.file_server.specs.Serve.{DoesKept, ServesSlotBy, ServesSlotsBy, SessionServesBy};
 ghost use Rattle.file_server.specs.Sessions.{serving_of};
 
+use crate::log::Log;
 use crate::sessions::{Kept, Sessions};
 use crate::terms::At;
-use chaos_conn::Conn;
-use chaos_file::Store;
+use crate::watch::peer_of;
+use chaos_conn::{Conn, End};
+use chaos_file::{Cause, Change, Store};
 use chaos_host::{ConnId, Host};
 use chaos_link::Link;
 use chaos_packet::Outbox;
-use chaos_serve::{can_serve_conn, serve_one};
+use chaos_serve::{can_serve_conn, serve_and_report};
 use chaos_turn::{Turn, send_all};
 use std::alloc::Global;
 
-/// Serves each slot once, in rising order. Says whether packets went out.
-pub fn serve_slots<S: Store, L: Link>(
+/// Serves each slot once, in rising order, and logs what each command changed. Says whether packets
+/// went out.
+pub fn serve_slots<S: Store, L: Link, G: Log>(
     turn: &mut Turn<'_, L>,
     sessions: &mut Sessions,
     store: &mut S,
     alloc: Global,
+    log: &mut G,
 ) -> bool
     requires alike { length sessions.old ≡ length turn.old.host.now.slots }
     ensures { ServerTurnDoes turn.old turn.new
-        (ServesSlots (change S.contents S.may_give S.count) turn.old.now
-        (length turn.old.host.now.slots)) sessions.old sessions.new store.old store.new result }
+        (ServesSlotsBy (logged_uses (change S.contents S.may_give S.count)) turn.old.now
+        (length turn.old.host.now.slots)) sessions.old sessions.new (store.old, G.told log.old)
+        (store.new, G.told log.new) result }
 {
     let mut sent = false;
     for place in 0..turn.host.conns() {
-        sent = serve_slot(turn, sessions, store, place, alloc) || sent;
+        sent = serve_slot(turn, sessions, store, place, alloc, log) || sent;
     }
     sent
 }
 
 /// Serves the connection in a slot once, where the slot is in use: with its own session, which is a
 /// new one where another connection was there before. Says whether packets went out.
-fn serve_slot<S: Store, L: Link>(
+fn serve_slot<S: Store, L: Link, G: Log>(
     turn: &mut Turn<'_, L>,
     sessions: &mut Sessions,
     store: &mut S,
     place: usize,
     alloc: Global,
+    log: &mut G,
 ) -> bool
     requires within { place < length sessions.old }
     ensures { ServerTurnDoes turn.old turn.new
-        (ServesSlot (change S.contents S.may_give S.count) turn.old.now place) sessions.old
-        sessions.new store.old store.new result }
+        (ServesSlotBy (logged_uses (change S.contents S.may_give S.count)) turn.old.now place)
+        sessions.old sessions.new (store.old, G.told log.old) (store.new, G.told log.new) result }
 {
     let Some(at) = turn.host.conn_at(place) else {
         return false;
@@ -65,7 +72,9 @@ fn serve_slot<S: Store, L: Link>(
         alloc,
         moment: turn.now,
     };
-    serve_kept(turn.host, id, kept, store, turn.out, &at);
+    let peer = peer_of(turn.host, id);
+    let made = serve_kept(turn.host, id, kept, store, turn.out, &at);
+    tell_made(log, peer, kept, &made, store.cause());
     send_all(turn.link, turn.out, turn.carriage)
 }
 
@@ -78,8 +87,23 @@ fn has_nothing(kept: &Kept, id: ConnId, conn: &Conn) -> bool
     kept.serves(id) && !can_serve_conn(conn)
 }
 
+/// Logs what a command changed, where it changed anything or was refused.
+fn tell_made<G: Log>(
+    log: &mut G,
+    peer: End,
+    kept: &Kept,
+    made: &Option<Change>,
+    cause: Option<Cause<'_>>,
+)
+    ensures { G.told log.new ≡ told_made peer kept.now.session.name made.now (G.told log.old) }
+{
+    if let Some(change) = made {
+        log.changed(peer, kept.session.name(), change, cause);
+    }
+}
+
 /// Serves a connection once by a slot's session, which is a new one where it served another
-/// connection before.
+/// connection before. Says what its command changed.
 fn serve_kept<S: Store>(
     host: &mut Host,
     id: ConnId,
@@ -87,9 +111,10 @@ fn serve_kept<S: Store>(
     store: &mut S,
     out: &mut Outbox,
     at: &At,
-)
+) -> Option<Change>
     requires { 2 ≤ room_of out.old }
-    ensures { SessionServes (change S.contents S.may_give S.count store.old store.new) at.now.moment id
+    ensures { SessionServesBy
+        (report_use (change S.contents S.may_give S.count store.old store.new) result) at.now.moment id
         (serving_of id at.now.moment kept.old)
         (λ serving acted. DoesKept serving kept.new host.old acted host.new out.old out.new)
         host.old }
@@ -97,6 +122,7 @@ fn serve_kept<S: Store>(
     kept.turn_to(id, at.moment);
     kept.may_hold = true;
     let session = &mut *kept.session;
-    let served = serve_one(at.alloc, host, id, session, store, at.moment, out);
+    let (served, made) = serve_and_report(at.alloc, host, id, session, store, at.moment, out);
     kept.note(served);
+    made
 }

@@ -10,6 +10,7 @@ ghost use Rattle.chaos_turn.specs.Station.{station};
 ghost use Rattle.file_server.specs.Server.{server};
 ghost use Rattle.file_server.specs.Turn.{RunsTurn};
 
+use crate::log::Silent;
 use crate::phases::take_turn;
 use crate::sessions::Sessions;
 use crate::terms::Terms;
@@ -101,6 +102,6 @@ pub fn run_turn<S: Store, L: Link>(
         start,
         silence: None,
     };
-    let sent = take_turn(&mut turn, sessions, store, begun.came, &terms);
+    let sent = take_turn(&mut turn, sessions, store, begun.came, &terms, &mut Silent);
     end_of(begun.failures, turn.link.failures(), begun.worked, sent)
 }

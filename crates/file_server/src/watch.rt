@@ -1,9 +1,8 @@
 //! Which connections of a server open and end.
 ghost use Rattle.std.specs.Prelude.{◌≡◌, ◌<◌, length};
-ghost use Rattle.chaos_conn.specs.Calls.{peer_of};
 ghost use Rattle.chaos_host.specs.View.{host_look};
 ghost use Rattle.file_server.specs.Sessions.{serving_at};
-ghost use Rattle.file_server.specs.Watch.{after_change, end_told, ending_of, is_down, is_same, is_unacknowledged, seen_at, watched, watched_at};
+ghost use Rattle.file_server.specs.Watch.{after_change, ending_of, is_down, is_same, is_unacknowledged, peer_at, seen_at, watched, watched_at};
 
 use crate::limits::SERVER_CONNS;
 use crate::log::{Ending, Log};
@@ -65,8 +64,8 @@ fn seen_at(host: &Host, place: usize) -> Option<Seen>
 
 /// The peer of a connection. A server's connections were asked for, so that the peer's index is
 /// known.
-fn peer_of(host: &Host, id: ConnId) -> End
-    ensures { result ≡ end_told (host_look host.now id (λ conn. peer_of conn)) }
+pub(crate) fn peer_of(host: &Host, id: ConnId) -> End
+    ensures { result ≡ peer_at host.now id }
 {
     match host.peer(id) {
         Ok(Some((address, index))) => End {

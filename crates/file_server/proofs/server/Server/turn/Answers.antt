@@ -9,28 +9,30 @@ use Rattle.chaos_turn.proofs.Whole.{goes_over}
 use Rattle.file_server.specs.InTurn.{server_in}
 use Rattle.file_server.specs.Server.{server}
 use Rattle.file_server.specs.Service.{service_of}
-use Rattle.file_server.specs.Turn.{RunsTurn}
+use Rattle.file_server.specs.Logged.{LogsTurn}
 use Rattle.file_server.specs.Waiting.{waits}
 use Rattle.file_server.specs.declared.limits.TheConstants.{SILENT_MILLIS}
+use Rattle.file_server.proofs.Logged.{runs_plain}
 use Rattle.file_server.proofs.server.Server.turn.Goals as goal
 
-pub returns-clause-serves : goal.returns-clause-serves
-returns-clause-serves g c =
+pub returns-clause-logs : goal.returns-clause-logs
+returns-clause-logs g c =
     let queue = g.L.Link.queue in
     let asked = g.L.Link.asked in
     let begun = c.begin-begun in
     let sent = c.take_turn-sent in
     let node = c.args.self.now.node in
+    let told = g.G.Log.told in
     let changes = change g.S.Store.contents g.S.Store.may_give g.S.Store.count in
-    let before = service_of c.args.self.now c.args.store.now (queue c.args.link.now) in
+    let before = service_of c.args.self.now (c.args.store.now, told c.args.log.now) (queue c.args.link.now) in
     left_as
-    (λ (h : HostView) l (o : OutboxView). RunsTurn changes (Some SILENT_MILLIS) (Asks (asked c.args.link.now) (asked l))
+    (λ (h : HostView) l (o : OutboxView). LogsTurn changes (Some SILENT_MILLIS) (Asks (asked c.args.link.now) (asked l))
     (waits c.args.may_wait node.host) node.carriage c.args.start c.args.now before
-    (station (server h sent.new.sessions sent.new.store) (queue l) o) c.end_of.result)
+    (station (server h sent.new.sessions (sent.new.store, told sent.new.log)) (queue l) o) c.end_of.result)
     sent.new.turn _ _ _ (search rules) (search rules) (search rules)
     (subst
-    (λ (w : Bool). RunsTurn changes (Some SILENT_MILLIS) (Asks (asked c.args.link.now) (asked sent.new.turn.link.now)) w
-    node.carriage c.args.start c.args.now before (server_in sent.new.turn sent.new.sessions sent.new.store)
+    (λ (w : Bool). LogsTurn changes (Some SILENT_MILLIS) (Asks (asked c.args.link.now) (asked sent.new.turn.link.now)) w
+    node.carriage c.args.start c.args.now before (server_in sent.new.turn sent.new.sessions (sent.new.store, told sent.new.log))
     c.end_of.result)
     c.waits-may_wait.ensures
     (record {
@@ -38,7 +40,11 @@ returns-clause-serves g c =
       lots = sent.ensures.0.lots;
       turn = sent.ensures.0.done;
       link =
-          goes_over node.carriage before (server_in sent.new.turn sent.new.sessions sent.new.store)
+          goes_over node.carriage before (server_in sent.new.turn sent.new.sessions (sent.new.store, told sent.new.log))
           (queue begun.new.link) sent.ensures.0.lots begun.result.came begun.result.worked sent.result c.end_of.result
           begun.ensures.begins sent.ensures.0.sends sent.ensures.0.told c.end_of.ensures.work;
     }))
+
+pub returns-clause-serves : goal.returns-clause-serves
+returns-clause-serves g c =
+    runs_plain (change g.S.Store.contents g.S.Store.may_give g.S.Store.count) _ _ _ _ _ _ _ _ _ (returns-clause-logs g c)
