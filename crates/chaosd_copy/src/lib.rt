@@ -22,7 +22,7 @@ pub use change::{delete_file, rename_file};
 pub use end::CopyEnd;
 pub use get::get_file;
 pub use laws::{law_get, law_got, law_login, law_pieces, law_put, law_put_broken, law_tids};
-pub use limits::{MAX_FIRST, law_limits};
+pub use limits::{MAX_FIRST, MOST_TURNS, law_limits};
 pub use local::{last_name, read_whole};
 pub use mem_talk::MemTalk;
 pub use observer::{Observer, Unobserved};

@@ -8,7 +8,7 @@ pub const REPLY_TURNS: u32 = 1_000;
 /// The milliseconds that a reply is waited for at least, where a talk has no patience of its own.
 pub const REPLY_MILLIS: u64 = 10_000;
 
-/// The turns that a reply is waited for at most, where the clock stands still.
+/// The turns that a reply is waited for at most, where a clock counts and stands still.
 pub const MOST_TURNS: u32 = u32::MAX;
 
 /// The greatest number from which on a file's commands may be named.

@@ -390,8 +390,9 @@ pub fn log_in<T: Talk, O: Observer>(
     // However it ended, nothing but this LOGIN was sent, and once at most.
     ensures begun { SentOrNot (T.talked talk.old) (T.talked talk.new) (login_command name.now) }
     // It got no reply only where the talk is over, where the observer says that nobody is there to
-    // reply, or where from some state of the talk on nothing was received, and the talk was patient: its patience went by, or, where it has none, 1,000 turns
-    // were made and 10 seconds went by. In each case 4,294,967,295 turns are enough.
+    // reply, or where from some state of the talk on nothing was received, and the talk was
+    // patient: its patience went by, or, where it has none, 1,000 turns were made and 10 seconds
+    // went by. In each case 4,294,967,295 turns are enough.
     ensures waited { IfUnanswered result
         ((t : T) × InVain (T.talked t) (T.course t) (T.talked talk.new) (over_where (O.gone observer.new) (T.course talk.new))) }
     // It ends well only where no failure was counted.

@@ -29,8 +29,10 @@ use std::alloc::Global;
 /// what its link was asked in these. No clause says what became of that in the network.
 #[derive(Drop)]
 pub struct Call<'a, C: Dial, L: Link> {
-    client: Client,
-    turns: Timed<'a, C, L>,
+    /// The client.
+    pub client: Client,
+    /// The turns that it takes.
+    pub turns: Timed<'a, C, L>,
     /// How many commands were sent over this connection to which no reply was received.
     unanswered: u64,
 }
@@ -238,7 +240,7 @@ impl<C: Dial, L: Link> Talk for Call<'_, C, L> {
     }
 
     fn moment(&self) -> u64 {
-        self.client.now
+        self.client.last_moment()
     }
 
     /// A call waits for a reply as long as the patience of its timing says.

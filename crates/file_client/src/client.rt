@@ -1,33 +1,80 @@
 //! A client of FILE: it asks for a connection, writes to it and reads from it, turn by turn.
-ghost use Rattle.std.specs.Prelude.{◌≡◌, ◌<◌, ◌≤◌, ◌⊎◌, ◌↔◌, [], Err, IfErr, IfOk, None, OnErr, OnOk, true};
+ghost use Rattle.std.specs.Prelude.{◌≡◌, ◌<◌, ◌≤◌, ◌⊎◌, ◌↔◌, [], Err, IfErr, IfOk, None, OnErr, OnOk, is_some, true};
 ghost use Rattle.chaos_link.specs.Link.{Asks};
 ghost use Rattle.chaosd_copy.specs.Talk.{Turned, counted, taken};
 ghost use Rattle.file_client.specs.Calls.{is_over};
-ghost use Rattle.file_client.specs.Caller.{Connects, HangsUp, Receives, Sends, TurnsAt, TurnsOrStops, all_read, asked_again, caller_by};
+ghost use Rattle.file_client.specs.Caller.{Connects, HangsUp, Receives, Sends, TurnsAt, TurnsOrStops, all_read, asked, asked_again, caller_by, closed, doubled, is_asking, is_late};
 ghost use Rattle.file_client.specs.Talk.{Exchanges, SendsFarewell, Talks, WritesAndTurns, receiving, silence, talker};
 ghost use Rattle.file_client.specs.Fault.{IsTurnFault};
 
-use crate::caller::Caller;
-use crate::limits::{END_TURNS, MOST_TURNS};
+use crate::calls::{is_over, take_reply, write_item};
+use crate::contact::Contact;
+use crate::indices::pass_indices;
+use crate::limits::END_TURNS;
 use crate::reply_timer::{NoReply, ReplyTimer};
 use crate::route::Route;
 use crate::turns::Turns;
+use chaos_conn::State;
 use chaos_file::Reply;
-use chaos_packet::Opcode;
+use chaos_host::{ConnId, Host};
+use chaos_link::Carriage;
+use chaos_packet::{Opcode, Outbox, PktNum};
+use chaos_turn::TURN_ROOM;
+use chaosd_copy::MOST_TURNS;
 use chaosd_io::RunFault;
 use std::alloc::Global;
+use std::marker::Model;
 
-/// A client of a FILE server. Its turns are lent to each call that takes some: what it does at the
-/// links that they go over is what `Host` and `client_turn` say.
+/// A client of a FILE server: a host with the one connection that it has asked for last, and what
+/// waits to be sent. Its turns are lent to each call that takes some: what it does at the links that
+/// they go over is what `Host` and `client_turn` say.
 #[derive(Drop)]
 pub struct Client {
-    pub(crate) caller: Caller,
+    host: Host,
+    out: Outbox,
+    /// The server's Chaosnet address.
+    to: u16,
+    /// What the server is asked for.
+    contact: Contact,
+    /// The form of the datagrams in which packets go out.
+    carriage: Carriage,
+    id: Option<ConnId>,
+    /// The moment at which a connection was asked for last.
+    since: u64,
+    /// For how many milliseconds its OPN is waited for.
+    wait: u64,
     /// The moment of the last turn, or of the last look at the clock.
-    pub(crate) now: u64,
+    now: u64,
     /// How many turns were begun.
-    pub(crate) count: u64,
+    count: u64,
     /// Since when a reply is waited for, and why none came.
-    pub(crate) reply_timer: ReplyTimer,
+    reply_timer: ReplyTimer,
+}
+
+impl Model for Client {
+    ghost use Rattle.std.specs.Prelude.{◌≡◌};
+    ghost use Rattle.file_client.specs.Client.{ClientView};
+    ghost use Rattle.chaos_turn.specs.declared.limits.TheConstants.{TURN_ROOM};
+
+    ghost Value = { ClientView };
+
+    ghost view = { λ c.
+        record {
+          caller = record {
+            host = c.host;
+            to = c.to;
+            contact = c.contact;
+            carriage = c.carriage;
+            id = c.id;
+            since = c.since;
+            wait = c.wait;
+            out = c.out;
+          };
+          now = c.now;
+          count = c.count;
+        } };
+
+    ghost invariant = { λ c. c.out.cap ≡ TURN_ROOM };
 }
 
 impl Client {
@@ -50,9 +97,22 @@ impl Client {
         ensures made { IfOk result
             (λ client. client.caller ≡ caller_by route.now (T.passed (T.time turns.now))) }
     {
-        let caller = Caller::new(alloc, route, turns.passed())?;
+        let Ok(mut host) = Host::new(alloc, route.me, 1, route.config) else {
+            return Err(RunFault::NoMemory);
+        };
+        let Ok(mut out) = Outbox::new(alloc, TURN_ROOM) else {
+            return Err(RunFault::NoMemory);
+        };
+        pass_indices(&mut host, route.to, turns.passed(), &mut out);
         Ok(Client {
-            caller,
+            host,
+            out,
+            to: route.to,
+            contact: route.contact,
+            carriage: route.carriage,
+            id: None,
+            since: 0,
+            wait: 0,
             now: 0,
             count: 0,
             reply_timer: ReplyTimer::new(),
@@ -86,10 +146,9 @@ impl Client {
     {
         self.hang_up(turns)?;
         self.look(turns)?;
-        self.reply_timer = ReplyTimer::new();
-        self.reply_timer.begin(self.now);
-        let start = turns.start(self.now);
-        self.caller.ask(start, self.now, turns.wait());
+        self.forget();
+        let start = turns.start(self.last_moment());
+        self.ask_for(start, turns.wait());
         Ok(())
     }
 
@@ -121,11 +180,11 @@ impl Client {
         ensures same_turns { (T.links turns.new ≡ T.links turns.old)
             × (T.time turns.new ≡ T.time turns.old) }
     {
-        if !self.caller.has_connection() {
+        if !self.has_connection() {
             return Ok(());
         }
-        self.caller.close();
-        if self.caller.has_sent_all() {
+        self.close();
+        if self.has_sent_all() {
             return Ok(());
         }
         self.look(turns)?;
@@ -146,7 +205,7 @@ impl Client {
         ensures same { self.new.caller ≡ self.old.caller }
     {
         self.look(turns)?;
-        self.reply_timer.begin(self.now);
+        self.await_reply();
         Ok(())
     }
 
@@ -160,7 +219,10 @@ impl Client {
         // The moment and the count of turns stay.
         ensures same { (self.new.now ≡ self.old.now) × (self.new.count ≡ self.old.count) }
     {
-        self.caller.write(op, bytes, self.now)
+        if self.out.room() < 2 {
+            return false;
+        }
+        write_item(&mut self.host, self.id, op, bytes, self.now, &mut self.out)
     }
 
     /// Reads the next item, if it is there. Says whether it is data, which are then left in the
@@ -173,7 +235,10 @@ impl Client {
         // The moment and the count of turns stay.
         ensures same { (self.new.now ≡ self.old.now) × (self.new.count ≡ self.old.count) }
     {
-        let came = self.caller.read(reply);
+        if self.out.room() == 0 {
+            return false;
+        }
+        let came = take_reply(&mut self.host, self.id, &mut self.out, reply);
         if came {
             self.reply_timer.begin(self.now);
         }
@@ -221,7 +286,7 @@ impl Client {
         ensures same_turns { (T.links turns.new ≡ T.links turns.old)
             × (T.time turns.new ≡ T.time turns.old) }
     {
-        self.count = self.count.saturating_add(1);
+        self.count_turn();
         self.look(turns)?;
         self.ask_again(turns);
         self.pass(turns, true)
@@ -232,7 +297,7 @@ impl Client {
         // A client is over exactly where its connection has ended or there is none.
         ensures { result ≡ is_over self.entry.now.caller.host self.entry.now.caller.id }
     {
-        self.caller.is_over()
+        is_over(&self.host, self.id)
     }
 
     /// Writes a command as soon as there is room, and takes turns until its reply comes, as many as
@@ -273,17 +338,18 @@ impl Client {
         self.call(turns)?;
         self.begin(turns)?;
         let patience = turns.patience();
-        let since = self.now;
+        let since = self.last_moment();
         let mut is_written = false;
         for turn in 0..MOST_TURNS {
-            if patience.is_spent(turn, self.now.saturating_sub(since)) {
+            let waited = self.last_moment().saturating_sub(since);
+            if patience.is_spent(turn, waited) {
                 return Ok(false);
             }
             is_written = self.turn_with(turns, Opcode::DATA, command, is_written)?;
             if self.take_behind(turns, is_written, reply) {
                 return Ok(true);
             }
-            if self.caller.is_over() {
+            if self.is_over() {
                 return Ok(false);
             }
         }
@@ -314,7 +380,7 @@ impl Client {
         ensures same_turns { (T.links turns.new ≡ T.links turns.old)
             × (T.time turns.new ≡ T.time turns.old) }
     {
-        if !self.caller.has_connection() {
+        if !self.has_connection() {
             return Ok(());
         }
         self.look(turns)?;
@@ -340,7 +406,7 @@ impl Client {
         ensures same_turns { (T.links turns.new ≡ T.links turns.old)
             × (T.time turns.new ≡ T.time turns.old) }
     {
-        if self.caller.has_connection() {
+        if self.has_connection() {
             return Ok(());
         }
         self.connect(turns)
@@ -368,7 +434,7 @@ impl Client {
             ⊎ ((is_written ≡ true)
             × (all_read self.entry.now.caller.host self.entry.now.caller.id ≡ true))) }
     {
-        self.caller.is_over() || (is_written && self.caller.is_drained())
+        self.is_over() || (is_written && self.is_drained())
     }
 
     /// One turn, before which the item is written where it isn't yet and there is room. Says
@@ -448,10 +514,11 @@ impl Client {
             ≡ asked_again (T.pace (T.time turns.now)) self.old.now self.old.caller }
         ensures same { (self.new.now ≡ self.old.now) × (self.new.count ≡ self.old.count) }
     {
-        if self.caller.is_late(self.now) {
-            let wait = self.caller.next_wait();
-            self.caller.close();
-            self.caller.ask(turns.start(self.now), self.now, wait);
+        if self.is_late() {
+            let wait = self.next_wait();
+            self.close();
+            let start = turns.start(self.last_moment());
+            self.ask_for(start, wait);
         }
     }
 
@@ -473,8 +540,129 @@ impl Client {
             × (T.time turns.new ≡ T.time turns.old) }
     {
         let mut told = None;
-        self.caller.turn(turns, self.now, &mut told, may_wait)?;
+        turns.turn(
+            &mut self.host,
+            self.now,
+            &mut self.out,
+            &mut told,
+            self.carriage,
+            may_wait,
+        )?;
         self.reply_timer.note(self.now, told);
         Ok(())
+    }
+
+    /// The moment of the last turn, or of the last look at the clock.
+    pub(crate) fn last_moment(&self) -> u64
+        ensures { result ≡ self.entry.now.now }
+    {
+        self.now
+    }
+
+    /// Waits for a reply from this moment on.
+    fn await_reply(&mut self)
+        ensures { self.new ≡ self.old }
+    {
+        self.reply_timer.begin(self.now);
+    }
+
+    /// A connection is to be asked for, over which nothing was said yet.
+    fn forget(&mut self)
+        ensures { self.new ≡ self.old }
+    {
+        self.reply_timer = ReplyTimer::new();
+        self.reply_timer.begin(self.now);
+    }
+
+    /// One turn more is begun.
+    pub(crate) fn count_turn(&mut self)
+        ensures counted { Turned 1 (counted self.old.count) (counted self.new.count) }
+        ensures same { (self.new.caller ≡ self.old.caller) × (self.new.now ≡ self.old.now) }
+    {
+        self.count = self.count.saturating_add(1);
+    }
+
+    /// Asks for a connection to the contact, where there is room for its RFC. For so many
+    /// milliseconds its OPN is waited for.
+    fn ask_for(&mut self, start: PktNum, wait: u64)
+        ensures asked { self.new.caller ≡ asked start self.old.now wait self.old.caller }
+        ensures same { (self.new.now ≡ self.old.now) × (self.new.count ≡ self.old.count) }
+    {
+        self.since = self.now;
+        self.wait = wait;
+        self.id = None;
+        if self.out.room() > 0 {
+            let contact = self.contact.bytes();
+            self.id = self
+                .host
+                .connect(self.to, contact, start, self.now, &mut self.out)
+                .ok();
+        }
+    }
+
+    /// Closes the connection, where there is one, with an empty text, where there is room for its
+    /// CLS.
+    fn close(&mut self)
+        ensures closed { self.new.caller ≡ closed self.old.caller }
+        ensures same { (self.new.now ≡ self.old.now) × (self.new.count ≡ self.old.count) }
+    {
+        let Some(id) = self.id else {
+            return;
+        };
+        self.id = None;
+        if self.out.room() > 0 {
+            let _ = self.host.close(id, b"", &mut self.out);
+        }
+    }
+
+    /// Whether a connection was asked for, and no OPN came.
+    fn is_asking(&self) -> bool
+        ensures { result ≡ is_asking self.entry.now.caller.host self.entry.now.caller.id }
+    {
+        match self.id {
+            Some(id) => matches!(self.host.state(id), Ok(State::RfcSent)),
+            None => false,
+        }
+    }
+
+    /// Whether a connection was asked for, and its OPN was waited for long enough.
+    fn is_late(&self) -> bool
+        ensures { result ≡ is_late self.entry.now.now self.entry.now.caller }
+    {
+        self.is_asking() && self.now.saturating_sub(self.since) >= self.wait
+    }
+
+    /// Twice as long as the last OPN was waited for.
+    fn next_wait(&self) -> u64
+        ensures { result ≡ doubled self.entry.now.caller.wait }
+    {
+        self.wait.saturating_add(self.wait)
+    }
+
+    /// Whether there is a connection.
+    pub(crate) fn has_connection(&self) -> bool
+        ensures { result ≡ is_some self.entry.now.caller.id }
+    {
+        self.id.is_some()
+    }
+
+    /// Whether nothing waits to be sent.
+    fn has_sent_all(&self) -> bool
+        ensures { result ≡ true ↔ (self.entry.now.caller.out.packets ≡ []) }
+    {
+        self.out.room() == TURN_ROOM
+    }
+
+    /// Whether the server read all that was written.
+    pub(crate) fn is_drained(&self) -> bool
+        ensures { result ≡ all_read self.entry.now.caller.host self.entry.now.caller.id }
+    {
+        let Some(id) = self.id else {
+            return false;
+        };
+        match self.host.drained(id) {
+            Ok(drained) => drained,
+            Err(_) => false,
+        }
     }
 }

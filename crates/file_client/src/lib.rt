@@ -2,8 +2,8 @@
 //! host after another, asked for, written to, read from and hung up, turn by turn.
 //!
 //! No sockets and no clock of its own, and no allocation but the host's. `client` is the client,
-//! and `call` one with turns over a link by a clock: a talk with a FILE server. `caller` has a
-//! client's host and connection, and `calls` what is done with that; `contact` is the name that a
+//! and `call` one with turns over a link by a clock: a talk with a FILE server. `calls` is what
+//! is done with a client's connection; `contact` is the name that a
 //! server is asked for. `turns` is what a client takes turns with, `timed` turns over a link by a
 //! clock. `indices` passes over indices that an older process may have had; `patience` says how
 //! long a reply is waited for, `reply_timer` why none came, and `text` has bytes in words for a
@@ -11,7 +11,6 @@
 #![tactic(auto)]
 
 mod call;
-mod caller;
 mod calls;
 mod client;
 mod contact;

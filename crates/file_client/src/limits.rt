@@ -1,6 +1,6 @@
 //! The times that a client keeps to.
 ghost use Rattle.std.specs.Prelude.{◌≡◌};
-ghost use Rattle.file_client.specs.declared.limits.TheConstants.{COMMAND_TURNS, END_TURNS, LEAST_RETRANSMIT, MOST_RETRANSMIT, MOST_TURNS, OPEN_MILLIS, OPEN_SHARE, TRAIN, TRAINS_OF_A_WINDOW, TRIP_MILLIS};
+ghost use Rattle.file_client.specs.declared.limits.TheConstants.{COMMAND_TURNS, END_TURNS, LEAST_RETRANSMIT, MOST_RETRANSMIT, OPEN_MILLIS, OPEN_SHARE, TRAIN, TRAINS_OF_A_WINDOW, TRIP_MILLIS};
 
 /// For how many milliseconds a client waits at most for the OPN of its first connection, before it
 /// asks for another connection. Its server may still hold this address and index for a client that
@@ -15,9 +15,6 @@ pub const OPEN_SHARE: u64 = 4;
 /// The turns that a command usually waits for its reply, those before the connection is open and
 /// has room among them.
 pub const COMMAND_TURNS: u32 = 1_000;
-
-/// The turns that a command waits for its reply at most, where the clock counts and stands still.
-pub const MOST_TURNS: u32 = u32::MAX;
 
 /// The turns that an EOF behind the last command waits to be read.
 pub const END_TURNS: u32 = 100;
@@ -46,8 +43,6 @@ pub fn law_limits()
     ensures share { OPEN_SHARE ≡ 4 }
     // A command usually waits for its reply for 1,000 turns.
     ensures command { COMMAND_TURNS ≡ 1000 }
-    // If the clock counts, a command waits for 4,294,967,295 turns at most.
-    ensures most { MOST_TURNS ≡ 4294967295 }
     // An EOF behind the last command waits for 100 turns.
     ensures end { END_TURNS ≡ 100 }
     // A round trip is measured by 16 requests.

@@ -14,9 +14,12 @@ use chaosd_io::RunFault;
 /// A client's turns over a link to another process, by a clock.
 #[derive(Drop)]
 pub struct Timed<'a, C: Dial, L: Link> {
-    clock: &'a C,
-    link: &'a mut L,
-    pub(crate) timing: Timing,
+    /// The clock that shows the moments.
+    pub clock: &'a C,
+    /// The link to the other process.
+    pub link: &'a mut L,
+    /// When the run began, and how long a reply is waited for.
+    pub timing: Timing,
     /// Where datagrams are received.
     buffer: [u8; LINK_ROOM],
 }

@@ -4,15 +4,14 @@ ghost use Rattle.file_client.specs.Fault.{IsTurnFault};
 ghost use Rattle.file_client.specs.RoundTrip.{IsTripBetween, IsUnderWay, retransmit_of};
 
 use crate::indices::pass_indices;
-use crate::limits::{
-    LEAST_RETRANSMIT, MOST_RETRANSMIT, MOST_TURNS, TRAIN, TRAINS_OF_A_WINDOW, TRIP_MILLIS,
-};
+use crate::limits::{LEAST_RETRANSMIT, MOST_RETRANSMIT, TRAIN, TRAINS_OF_A_WINDOW, TRIP_MILLIS};
 use crate::route::Route;
 use crate::turns::Turns;
 use chaos_conn::{ConnConfig, Delivered};
 use chaos_host::{Host, HostDelivered};
 use chaos_packet::Outbox;
 use chaos_turn::TURN_ROOM;
+use chaosd_copy::MOST_TURNS;
 use chaosd_io::RunFault;
 use std::alloc::Global;
 

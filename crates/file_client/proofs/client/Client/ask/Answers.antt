@@ -44,7 +44,7 @@ returns-then-is_spent-clause-talk g c =
     (spent pace.Shows c.patience-patience.result c.loop-turn.turn c.begin.new.self.now c.loop-turn.self.now
     c.loop-turn-test.true (rw c.call.ensures.same_turns.1 at c.in_ok-begin.ensures.moment)
     c.loop-turn.invariant.shown c.loop-turn.invariant.within
-    (rw c.saturating_sub.ensures at (sym c.is_spent.ensures ∙ c.if-is_spent.true)))))
+    (rw (c.saturating_sub-waited.ensures, c.last_moment.ensures, c.last_moment-since.ensures) at (sym c.is_spent.ensures ∙ c.if-is_spent.true)))))
 
 -- more turns than a u32 can count
 pub returns-clause-talk : goal.returns-clause-talk
