@@ -39,8 +39,14 @@ impl FarEnd {
     fn turn<B: Link>(&mut self, link: &mut B, now: u64) -> TurnEnd
         ensures fault { (result ≡ TurnEnd.LinkFault) ↔ Rose (B.count link.old) (B.count link.new) }
     {
-        self.server
-            .turn(&mut self.store, link, LOOP_SERVER_START, now, false, &mut Silent)
+        self.server.turn(
+            &mut self.store,
+            link,
+            LOOP_SERVER_START,
+            now,
+            false,
+            &mut Silent,
+        )
     }
 }
 
